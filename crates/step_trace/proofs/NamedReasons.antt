@@ -1,0 +1,136 @@
+-- What a reason against a step names.
+use Rattle.std.proofs.Common.{ℕ, ◌≡◌, ◌≢◌, ◌<◌, ◌⊎◌, inl, inr, List, [], ◌∷◌, ◌++◌, length, Option, Some, None, Bool, true, false, not, refl, sym, ◌∙◌, subst, suc, zero, arith}
+use Rattle.std.specs.Prelude.{slice_index_or, Contains, nat_lt, ◌&&◌, find, cond}
+use Rattle.std.proofs.lemmas.Option.{same_Some, none-some}
+use Rattle.std.proofs.lemmas.Bool.Decides.{nat_tests}
+use Rattle.step_trace.specs.declared.traces.PushError.{PushError}
+use Rattle.step_trace.specs.declared.traces.PushError.TheVariants.{Full, BadProc, BadDest, IdsNotRising, UnknownMessage, NotAddressed, Redelivered, Memory}
+use Rattle.step_trace.specs.declared.steps.Act.{Act}
+use Rattle.step_trace.specs.declared.steps.Act.TheVariants.{Send, Receive}
+use Rattle.step_trace.specs.declared.steps.Step.{Step}
+use Rattle.step_trace.specs.Configurations.{Setup, is_proc}
+use Rattle.step_trace.specs.Traces.{IsWellFormed}
+use Rattle.step_trace.specs.PushRefusals.{is_taken, is_message, is_sent_to, is_rising, is_rising_from, refusal, act_refusal, first_id, IsLeastFailing, NamesLeast, IsJustified}
+use Rattle.step_trace.proofs.Refusals.{none_from_well_formed}
+
+-- a reason is never want of memory, and the id that it names is the least of its kind
+pub record IsNamed (steps : List Step) (x : Step) (e : PushError) : Type 0 where
+  pub reason : e ≢ Memory
+  pub least : NamesLeast steps x e
+
+and-parts : (b d : Bool) → (b && d) ≡ true → (b ≡ true) × (d ≡ true)
+and-parts true d h = (refl, h)
+and-parts false d h = cc
+
+Contains-cons : (x i : ℕ) (xs : List ℕ) → Contains (x ∷ xs) i → (x ≡ i) ⊎ Contains xs i
+Contains-cons x i xs h = go h.0 h.1 h.2 where
+  go : (k : ℕ) → k < length (x ∷ xs) → slice_index_or (x ∷ xs) k i ≡ i → (x ≡ i) ⊎ Contains xs i
+  go zero l e = inl e
+  go (suc k) l e = inr (k, omega arith, e)
+
+-- the elements of a rising list are above what stands before it
+rising_above : (x : ℕ) (xs : List ℕ) → is_rising_from x xs ≡ true → (i : ℕ) → Contains xs i → x < i
+rising_above x [] h i d = absurd (let l = d.1 in omega arith)
+rising_above x (y ∷ ys) h i d =
+    let parts = and-parts (nat_lt x y) (is_rising_from y ys) h in
+    let test : nat_lt x y ≡ true = parts.0 in
+    let first : x < y = grind (arith, nat_tests) in
+    elim (Contains-cons y i ys d) [ inl e ↦ omega (arith, e, first) | inr f ↦ (let more = rising_above y ys parts.1 i f in omega (arith, more, first)) ]
+
+-- the first element of a rising list that a test finds is the least
+pub record IsFound (p : ℕ → Bool) (xs : List ℕ) (s : ℕ) : Type 0 where
+  pub member : Contains xs s
+  pub passes : p s ≡ true
+  pub least : (i : ℕ) → Contains xs i → i < s → p i ≡ false
+
+found-next : (p : ℕ → Bool) (x : ℕ) (xs : List ℕ) (s : ℕ) → is_rising_from x xs ≡ true → (find p xs ≡ Some s → IsFound p xs s) → find p (x ∷ xs) ≡ Some s → IsFound p (x ∷ xs) s
+found-next p x xs s rising rest h = go (p x) refl h where
+  go : (b : Bool) → p x ≡ b → cond b (Some x) (find p xs) ≡ Some s → IsFound p (x ∷ xs) s
+  go true e f = let same = same_Some x s f in record {
+    member = (0, omega arith, same);
+    passes = subst (λ (n : ℕ). p n ≡ true) same e;
+    least = λ i d l. elim (Contains-cons x i xs d) [ inl q ↦ absurd (omega (arith, q, same, l)) | inr q ↦ absurd (let above = rising_above x xs rising i q in omega (arith, above, same, l)) ];
+  }
+  go false e f = let more = rest f in record {
+    member = (let m = more.member in (suc m.0, let l = m.1 in omega arith, m.2));
+    passes = more.passes;
+    least = λ i d l. elim (Contains-cons x i xs d) [ inl q ↦ subst (λ (n : ℕ). p n ≡ false) q e | inr q ↦ more.least i q l ];
+  }
+
+found-from : (p : ℕ → Bool) (x : ℕ) (xs : List ℕ) (s : ℕ) → is_rising_from x xs ≡ true → find p (x ∷ xs) ≡ Some s → IsFound p (x ∷ xs) s
+found-from p x [] s rising h = found-next p x [] s rising (λ f. absurd (none-some s f)) h
+found-from p x (y ∷ ys) s rising h = found-next p x (y ∷ ys) s rising (found-from p y ys s (and-parts (nat_lt x y) (is_rising_from y ys) rising).1) h
+
+found : (p : ℕ → Bool) (xs : List ℕ) (s : ℕ) → is_rising xs ≡ true → find p xs ≡ Some s → IsFound p xs s
+found p [] s r h = absurd (none-some s h)
+found p (x ∷ xs) s r h = found-from p x xs s r h
+
+not-true : (b : Bool) → not b ≡ true → b ≡ false
+not-true true h = cc
+not-true false h = refl
+
+not-false : (b : Bool) → not b ≡ false → b ≡ true
+not-false true h = refl
+not-false false h = cc
+
+failing : (test : ℕ → Bool) (ids : List ℕ) (s : ℕ) → IsFound (λ i. not (test i)) ids s → IsLeastFailing test ids s
+failing test ids s f = record { member = f.member; fails = not-true _ f.passes; least = λ i d l. not-false _ (f.least i d l) }
+
+not-of-true : (b : Bool) → b ≡ true → not b ≡ false
+not-of-true true h = refl
+not-of-true false h = cc
+
+not-of-false : (b : Bool) → b ≡ false → not b ≡ true
+not-of-false true h = cc
+not-of-false false h = refl
+
+passing : (test : ℕ → Bool) (ids : List ℕ) (s : ℕ) → IsFound test ids s → IsLeastFailing (λ i. not (test i)) ids s
+passing test ids s f = record { member = f.member; fails = not-of-true _ f.passes; least = λ i d l. not-of-false _ (f.least i d l) }
+
+ids-named : (steps : List Step) (p : ℕ) (ids : List ℕ) (ends : Bool) (e : PushError)
+    (rising : Bool) (unknown unaddressed again : Option ℕ) → is_rising ids ≡ rising
+    → find (λ s. not (is_message steps s)) ids ≡ unknown → find (λ s. not (is_sent_to steps s p)) ids ≡ unaddressed → find (is_taken steps) ids ≡ again
+    → cond rising (first_id unknown (λ s. UnknownMessage s) (first_id unaddressed (λ s. NotAddressed s) (first_id again (λ s. Redelivered s) None))) (Some IdsNotRising) ≡ Some e
+    → IsNamed steps (record { proc = p; act = Receive ids ends }) e
+ids-named steps p ids ends e false unknown unaddressed again r u a t h =
+    subst (λ (z : PushError). IsNamed steps (record { proc = p; act = Receive ids ends }) z) (same_Some IdsNotRising e h) (record { reason = λ q. cc; least = tt })
+ids-named steps p ids ends e true (Some s) unaddressed again r u a t h =
+    subst (λ (z : PushError). IsNamed steps (record { proc = p; act = Receive ids ends }) z) (same_Some (UnknownMessage s) e h)
+    (record { reason = λ q. cc; least = failing (is_message steps) ids s (found _ ids s r u) })
+ids-named steps p ids ends e true None (Some s) again r u a t h =
+    subst (λ (z : PushError). IsNamed steps (record { proc = p; act = Receive ids ends }) z) (same_Some (NotAddressed s) e h)
+    (record { reason = λ q. cc; least = failing (λ i. is_sent_to steps i p) ids s (found _ ids s r a) })
+ids-named steps p ids ends e true None None (Some s) r u a t h =
+    subst (λ (z : PushError). IsNamed steps (record { proc = p; act = Receive ids ends }) z) (same_Some (Redelivered s) e h)
+    (record { reason = λ q. cc; least = passing (is_taken steps) ids s (found _ ids s r t) })
+ids-named steps p ids ends e true None None None r u a t h = absurd (none-some e h)
+
+act-named : (c : Setup) (steps : List Step) (p : ℕ) (a : Act) (e : PushError) → act_refusal c steps p a ≡ Some e → IsNamed steps (record { proc = p; act = a }) e
+act-named c steps p (Receive ids ends) e h = ids-named steps p ids ends e _ _ _ _ refl refl refl refl h
+act-named c steps p (Send to) e h = go (is_proc c to) h where
+  go : (b : Bool) → cond b None (Some BadDest) ≡ Some e → IsNamed steps (record { proc = p; act = Send to }) e
+  go true f = absurd (none-some e f)
+  go false f = subst (λ (z : PushError). IsNamed steps (record { proc = p; act = Send to }) z) (same_Some BadDest e f) (record { reason = λ q. cc; least = tt })
+
+pub refusal-named : (c : Setup) (steps : List Step) (x : Step) (e : PushError) → refusal c steps x ≡ Some e → IsNamed steps x e
+refusal-named c steps x e h = full (nat_lt (length steps) 1000000) h where
+  proc : (b : Bool) → cond b (act_refusal c steps x.proc x.act) (Some BadProc) ≡ Some e → IsNamed steps x e
+  proc true f = act-named c steps x.proc x.act e f
+  proc false f = subst (λ (z : PushError). IsNamed steps x z) (same_Some BadProc e f) (record { reason = λ q. cc; least = tt })
+
+  full : (b : Bool) → cond b (cond (is_proc c x.proc) (act_refusal c steps x.proc x.act) (Some BadProc)) (Some Full) ≡ Some e → IsNamed steps x e
+  full true f = proc (is_proc c x.proc) f
+  full false f = subst (λ (z : PushError). IsNamed steps x z) (same_Some Full e f) (record { reason = λ q. cc; least = tt })
+
+-- a reason stands only where the list of steps isn't well formed with the step
+pub refusal-justified : (c : Setup) (steps : List Step) (x : Step) (e : PushError) → refusal c steps x ≡ Some e → IsJustified c steps x e
+refusal-justified c steps x e h = go e (λ w. none-some e (sym (none_from_well_formed c steps x w) ∙ h)) (refusal-named c steps x e h).reason where
+  go : (e : PushError) → (IsWellFormed c (steps ++ x ∷ []) → ⊥) → e ≢ Memory → IsJustified c steps x e
+  go Memory n m = absurd (m refl)
+  go Full n m = n
+  go BadProc n m = n
+  go BadDest n m = n
+  go IdsNotRising n m = n
+  go (UnknownMessage s) n m = n
+  go (NotAddressed s) n m = n
+  go (Redelivered s) n m = n

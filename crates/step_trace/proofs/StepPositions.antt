@@ -1,0 +1,63 @@
+-- Steps by their numbers, as a list of steps grows at its end.
+use Rattle.std.proofs.Common.{ℕ, ◌≡◌, ◌+◌, ◌<◌, ◌≤◌, ◌⊎◌, inl, inr, List, [], ◌∷◌, ◌++◌, length, Some, true, ◌==◌, refl, ap, ◌∙◌, suc, zero, arith, eq-eqb}
+use Rattle.std.specs.Prelude.{slice_get, Contains}
+use Rattle.std.proofs.lemmas.Option.{same_Some, none-some, slice_get_within, slice_get-get_or}
+use Rattle.std.proofs.lemmas.List.{get_or_default}
+use Rattle.std.proofs.lemmas.List.Folds.{list_any_at, Any-from_list_any}
+use Rattle.std.proofs.lemmas.Map.Keys.{any_passes_from_place}
+use Rattle.std.proofs.lemmas.Bool.{eqb-true}
+use Rattle.step_trace.specs.declared.steps.Act.{Act}
+use Rattle.step_trace.specs.declared.steps.Step.{Step}
+use Rattle.step_trace.specs.Steps.{act_ids, act_takes}
+use Rattle.step_trace.specs.Traces.{step_at, TakesAt}
+use Rattle.step_trace.specs.PushRefusals.{is_taken}
+
+slice_get-push_cases : {X : Type 0} (xs : List X) (x y : X) (k : ℕ) → slice_get (xs ++ x ∷ []) k ≡ Some y → (slice_get xs k ≡ Some y) ⊎ ((k ≡ length xs) × (x ≡ y))
+slice_get-push_cases [] x y zero h = inr (refl, same_Some x y h)
+slice_get-push_cases [] x y (suc k) h = absurd (none-some y h)
+slice_get-push_cases (z ∷ xs) x y zero h = inl h
+slice_get-push_cases (z ∷ xs) x y (suc k) h = elim (slice_get-push_cases xs x y k h) [ inl e ↦ inl e | inr e ↦ inr (ap suc e.0, e.1) ]
+
+slice_get-push_old : {X : Type 0} (xs : List X) (x y : X) (k : ℕ) → slice_get xs k ≡ Some y → slice_get (xs ++ x ∷ []) k ≡ Some y
+slice_get-push_old [] x y k h = absurd (none-some y h)
+slice_get-push_old (z ∷ xs) x y zero h = h
+slice_get-push_old (z ∷ xs) x y (suc k) h = slice_get-push_old xs x y k h
+
+-- a step of the longer list is one of the shorter, or the new one
+pub step_at-push_cases : (steps : List Step) (x y : Step) (k : ℕ) → step_at (steps ++ x ∷ []) k ≡ Some y → (step_at steps k ≡ Some y) ⊎ ((k ≡ length steps + 1) × (x ≡ y))
+step_at-push_cases steps x y zero h = absurd (none-some y h)
+step_at-push_cases steps x y (suc k) h = elim (slice_get-push_cases steps x y k h) [ inl e ↦ inl e | inr e ↦ inr (let f : k ≡ length steps = e.0 in omega arith, e.1) ]
+
+pub step_at-push_old : (steps : List Step) (x y : Step) (k : ℕ) → step_at steps k ≡ Some y → step_at (steps ++ x ∷ []) k ≡ Some y
+step_at-push_old steps x y zero h = absurd (none-some y h)
+step_at-push_old steps x y (suc k) h = slice_get-push_old steps x y k h
+
+pub step_at_within : (steps : List Step) (k : ℕ) (x : Step) → step_at steps k ≡ Some x → (0 < k) × (k ≤ length steps)
+step_at_within steps zero x h = absurd (none-some x h)
+step_at_within steps (suc k) x h = let l : k < length steps = slice_get_within steps k x h in (omega arith, omega arith)
+
+act_takes_from_Contains : (a : Act) (s : ℕ) → Contains (act_ids a) s → act_takes a s ≡ true
+act_takes_from_Contains a s h = list_any_at (λ i. i == s) (act_ids a) h.0 s h.1 (eq-eqb _ _ h.2)
+
+pub taken_from_at : (steps : List Step) (m s : ℕ) → TakesAt steps m s → is_taken steps s ≡ true
+taken_from_at steps zero s h = absurd (none-some h.0 h.1)
+taken_from_at steps (suc m) s h = any_passes_from_place (λ x. act_takes x.act s) steps m h.0 h.1 (act_takes_from_Contains h.0.act s h.2)
+
+-- the step that was pushed stands at the next number
+slice_get-last : {X : Type 0} (xs : List X) (x : X) → slice_get (xs ++ x ∷ []) (length xs) ≡ Some x
+slice_get-last [] x = refl
+slice_get-last (y ∷ xs) x = slice_get-last xs x
+
+pub step_at_last : (steps : List Step) (x : Step) → step_at (steps ++ x ∷ []) (suc (length steps)) ≡ Some x
+step_at_last steps x = slice_get-last steps x
+
+Contains-from_takes : (a : Act) (s : ℕ) → act_takes a s ≡ true → Contains (act_ids a) s
+Contains-from_takes a s h =
+    let y = Any-from_list_any (λ i. i == s) (act_ids a) h in
+    (y.0, y.2, get_or_default (act_ids a) y.0 s y.1 y.2 ∙ y.3 ∙ eqb-true y.1 s y.4)
+
+-- where a message was taken there is a step that takes it
+pub taken_at-from_is_taken : (steps : List Step) (s : ℕ) → is_taken steps s ≡ true → (m : ℕ) × TakesAt steps m s
+taken_at-from_is_taken steps s h =
+    let y = Any-from_list_any (λ x. act_takes x.act s) steps h in
+    (suc y.0, (y.1, slice_get-get_or steps y.0 y.1 y.2 ∙ ap (λ (x : Step). Some x) y.3, Contains-from_takes y.1.act s y.4))

@@ -1,0 +1,9 @@
+pub mod Processors
+pub mod Configurations
+pub mod Steps
+pub mod Traces
+pub mod PushRefusals
+pub mod DeliveryIndex
+pub mod Bounds
+pub mod Witnesses
+pub mod Fronts

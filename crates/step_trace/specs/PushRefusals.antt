@@ -1,0 +1,81 @@
+-- The reasons against one more step, in their order.
+use Rattle.std.specs.Prelude.{ℕ, ◌≡◌, ◌<◌, List, [], ◌∷◌, ◌++◌, length, Option, Some, None, Bool, true, false, ◌&&◌, Contains, nat_lt, not, find, if◌then◌else◌}
+use Rattle.std.specs.List.{list_any}
+use Rattle.std.specs.Option.{option_map_or}
+use Rattle.step_trace.specs.declared.steps.Act.{Act}
+use Rattle.step_trace.specs.declared.steps.Act.TheVariants.{Send, Receive}
+use Rattle.step_trace.specs.declared.steps.Step.{Step}
+use Rattle.step_trace.specs.declared.traces.PushError.{PushError}
+use Rattle.step_trace.specs.declared.traces.PushError.TheVariants.{Full, BadProc, BadDest, IdsNotRising, UnknownMessage, NotAddressed, Redelivered, Memory}
+use Rattle.step_trace.specs.Configurations.{Setup, is_proc}
+use Rattle.step_trace.specs.Steps.{act_ids, act_sends_to, act_sends, act_takes}
+use Rattle.step_trace.specs.Traces.{step_at, IsWellFormed}
+
+-- whether some step takes message s
+abbrev pub is_taken : List Step → ℕ → Bool
+is_taken steps s = list_any (λ x. act_takes x.act s) steps
+
+-- whether the step of number s is a Send
+abbrev pub is_message : List Step → ℕ → Bool
+is_message steps s = option_map_or (λ x. act_sends x.act) (step_at steps s) false
+
+-- whether the step of number s is a Send to p
+abbrev pub is_sent_to : List Step → ℕ → ℕ → Bool
+is_sent_to steps s p = option_map_or (λ x. act_sends_to x.act p) (step_at steps s) false
+
+-- whether each id is above the one before
+abbrev pub is_rising_from : ℕ → List ℕ → Bool
+is_rising_from x [] = true
+is_rising_from x (y ∷ ys) = nat_lt x y && is_rising_from y ys
+
+abbrev pub is_rising : List ℕ → Bool
+is_rising [] = true
+is_rising (x ∷ xs) = is_rising_from x xs
+
+-- the reason that the first id gives, or else the next reason
+abbrev pub first_id : Option ℕ → (ℕ → PushError) → Option PushError → Option PushError
+first_id None why next = next
+first_id (Some s) why next = Some (why s)
+
+-- the first reason against a Receive of these ids by p, by a test of which messages were taken
+abbrev pub ids_refusal : List Step → (ℕ → Bool) → ℕ → List ℕ → Option PushError
+ids_refusal steps taken p ids =
+    if is_rising ids then
+    first_id (find (λ s. not (is_message steps s)) ids) (λ s. UnknownMessage s)
+    (first_id (find (λ s. not (is_sent_to steps s p)) ids) (λ s. NotAddressed s)
+    (first_id (find taken ids) (λ s. Redelivered s) None))
+    else Some IdsNotRising
+
+abbrev pub act_refusal : Setup → List Step → ℕ → Act → Option PushError
+act_refusal c steps p (Send to) = if is_proc c to then None else Some BadDest
+act_refusal c steps p (Receive ids ends) = ids_refusal steps (is_taken steps) p ids
+
+-- the first reason against one more step, want of memory aside
+abbrev pub refusal : Setup → List Step → Step → Option PushError
+refusal c steps x =
+    if nat_lt (length steps) 1000000 then
+    (if is_proc c x.proc then act_refusal c steps x.proc x.act else Some BadProc)
+    else Some Full
+
+-- the answer is this reason, or want of memory where there is none
+abbrev pub IsRefusal : PushError → Option PushError → Type 0
+IsRefusal Memory why = why ≡ None
+IsRefusal e why = why ≡ Some e
+
+-- s is the least of these ids that fails the test
+pub record IsLeastFailing (test : ℕ → Bool) (ids : List ℕ) (s : ℕ) : Type 0 where
+  pub member : Contains ids s
+  pub fails : test s ≡ false
+  pub least : (i : ℕ) → Contains ids i → i < s → test i ≡ true
+
+-- the id that a reason names is the least of its kind
+abbrev pub NamesLeast : List Step → Step → PushError → Type 0
+NamesLeast steps x (UnknownMessage s) = IsLeastFailing (is_message steps) (act_ids x.act) s
+NamesLeast steps x (NotAddressed s) = IsLeastFailing (λ i. is_sent_to steps i x.proc) (act_ids x.act) s
+NamesLeast steps x (Redelivered s) = IsLeastFailing (λ i. not (is_taken steps i)) (act_ids x.act) s
+NamesLeast steps x e = Unit {0}
+
+-- the answer is no reason exactly where the list of steps stays well formed with the step
+abbrev pub IsJustified : Setup → List Step → Step → PushError → Type 0
+IsJustified c steps x Memory = IsWellFormed c (steps ++ x ∷ [])
+IsJustified c steps x e = IsWellFormed c (steps ++ x ∷ []) → ⊥

@@ -1,0 +1,54 @@
+-- Traces (section 2, the runs of a set of processors; the numbering of all steps from 1 is own).
+use Rattle.std.specs.Prelude.{ℕ, ◌≡◌, ◌<◌, ◌≤◌, List, length, Option, Some, None, slice_get, Contains, IfSome, suc, zero, Bool}
+use Rattle.std.specs.List.Sorted.{IsStrictlyIncreasing}
+use Rattle.step_trace.specs.declared.steps.Act.{Act}
+use Rattle.step_trace.specs.declared.steps.Act.TheVariants.{Send, Receive}
+use Rattle.step_trace.specs.declared.steps.Step.{Step}
+use Rattle.step_trace.specs.Configurations.{Setup, IsProc}
+use Rattle.step_trace.specs.Steps.{act_ids, act_dest}
+
+-- a configuration and the steps in the order of real time
+pub record Recorded : Type 0 where
+  pub config : Setup
+  pub steps : List Step
+
+-- the step of this number, which counts from 1
+abbrev pub step_at : List Step → ℕ → Option Step
+step_at steps zero = None
+step_at steps (suc k) = slice_get steps k
+
+-- message s, which is the Send of that number, goes to p
+abbrev pub IsSentTo : List Step → ℕ → ℕ → Type 0
+IsSentTo steps s p = (a : ℕ) × (step_at steps s ≡ Some (record { proc = a; act = Send p }))
+
+-- step k takes message s
+abbrev pub TakesAt : List Step → ℕ → ℕ → Type 0
+TakesAt steps k s = (x : Step) × (step_at steps k ≡ Some x) × Contains (act_ids x.act) s
+
+-- A list of steps is well formed: at most 1,000,000 steps, each of a processor of the configuration;
+-- a Send goes to such a processor; the ids of a Receive rise, and each is the number of an earlier
+-- Send to the receiving processor; no message is taken twice.
+pub record IsWellFormed (c : Setup) (steps : List Step) : Type 0 where
+  pub short : length steps ≤ 1000000
+  pub procs : (k : ℕ) (x : Step) → step_at steps k ≡ Some x → IsProc c x.proc
+  pub dests : (k : ℕ) (x : Step) → step_at steps k ≡ Some x → IfSome (act_dest x.act) (IsProc c)
+  pub rising : (k : ℕ) (x : Step) → step_at steps k ≡ Some x → IsStrictlyIncreasing (act_ids x.act)
+  pub earlier : (k s : ℕ) (x : Step) → step_at steps k ≡ Some x → Contains (act_ids x.act) s → (s < k) × IsSentTo steps s x.proc
+  pub once : (m n s : ℕ) → TakesAt steps m s → TakesAt steps n s → m ≡ n
+
+-- Message s is delivered by r: some Receive after s, at r or before, takes it.
+pub record IsDelivered (steps : List Step) (s r : ℕ) : Type 0 where
+  pub place : ℕ
+  pub after : s < place
+  pub until : place ≤ r
+  pub takes : TakesAt steps place s
+
+-- step r is a Receive of p
+pub record IsReceiveOf (steps : List Step) (r p : ℕ) : Type 0 where
+  pub ids : List ℕ
+  pub ends : Bool
+  pub step : step_at steps r ≡ Some (record { proc = p; act = Receive ids ends })
+
+-- step x is one of processor p
+abbrev pub IsStepOf : List Step → ℕ → ℕ → Type 0
+IsStepOf steps x p = (a : Act) × (step_at steps x ≡ Some (record { proc = p; act = a }))

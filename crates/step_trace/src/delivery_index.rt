@@ -1,0 +1,40 @@
+//! The index of the messages that were taken, kept beside the steps so that no step is looked for.
+
+ghost use Rattle.std.specs.Prelude.{◌≡◌, ◌++◌, ◌∷◌, [], ◌+◌, ◌<◌, ◌≤◌, ◌||◌, ◌==◌, ℕ, length, All, vec_len, vec_capacity};
+ghost use Rattle.std.specs.List.{list_any};
+ghost use Rattle.step_trace.specs.Steps.{act_ids};
+ghost use Rattle.step_trace.specs.DeliveryIndex.{flag_of, IsIndex};
+
+use crate::steps::Step;
+
+/// Whether message `s` was taken.
+pub(crate) fn is_taken(taken: &[bool], s: u64) -> bool
+    ensures { result ≡ flag_of taken.now s }
+{
+    0 < s && s as usize <= taken.len() && taken[s as usize - 1]
+}
+
+/// Appends a step for which there is room, and marks the messages that it takes.
+pub(crate) fn append(steps: &mut Vec<Step>, taken: &mut Vec<bool>, step: Step)
+    requires steps_room { vec_len steps.old < vec_capacity steps.old }
+    requires taken_room { vec_len taken.old < vec_capacity taken.old }
+    requires index { IsIndex steps.old.items taken.old.items }
+    requires known { All (λ s. (0 < s) × (s ≤ length steps.old.items)) (act_ids step.act) }
+    ensures steps { steps.new.items ≡ steps.old.items ++ step ∷ [] }
+    ensures index { IsIndex steps.new.items taken.new.items }
+{
+    taken.push_reserved(false);
+    mark(taken, step.act.ids());
+    steps.push_reserved(step);
+}
+
+// Sets the flags of these messages.
+fn mark(taken: &mut Vec<bool>, ids: &[u64])
+    requires { All (λ s. (0 < s) × (s ≤ length taken.old.items)) ids.now }
+    ensures len { length taken.new.items ≡ length taken.old.items }
+    ensures flags { (s : ℕ) → flag_of taken.new.items s ≡ (flag_of taken.old.items s || list_any (λ i. i == s) ids.now) }
+{
+    for s in ids {
+        taken[*s as usize - 1] = true;
+    }
+}

@@ -1,0 +1,19 @@
+//! Traces of Send and Receive steps: sets of processors, configurations, well-formed lists of steps,
+//! and the plain data in which bounds are reported. `specs/` has the definitions of all of it.
+#![tactic(auto)]
+
+mod configurations;
+mod delivery_index;
+mod numbers;
+mod processors;
+mod push_refusals;
+mod rows;
+mod steps;
+mod traces;
+
+pub use configurations::{Config, ConfigError, MAX_PROCESSORS, MIN_PROCESSORS};
+pub use numbers::read_number;
+pub use processors::ProcSet;
+pub use rows::{Gap, Miss, Row};
+pub use steps::{Act, MessageIds, Step};
+pub use traces::{MAX_STEPS, PushError, Trace};
