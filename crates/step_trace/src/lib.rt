@@ -17,3 +17,6 @@ pub use processors::ProcSet;
 pub use rows::{Gap, Miss, Row};
 pub use steps::{Act, MessageIds, Step};
 pub use traces::{MAX_STEPS, PushError, Trace};
+
+#[cfg(test)]
+mod trace_tests;

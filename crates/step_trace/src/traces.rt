@@ -91,7 +91,7 @@ impl Trace {
     pub fn is_empty(&self) -> bool
         ensures { IsTrue result ↔ (self.now.steps ≡ []) }
     {
-        self.steps.len() == 0
+        self.steps.is_empty()
     }
 
     /// The step of this number, if there is one.
