@@ -4,3 +4,4 @@ pub mod Growth
 pub mod ProcessorSets
 pub mod Digits
 pub mod NamedReasons
+pub mod NumberLists

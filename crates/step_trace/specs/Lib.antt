@@ -1,4 +1,5 @@
 pub mod Processors
+pub mod ProcessorLists
 pub mod Configurations
 pub mod Steps
 pub mod Traces

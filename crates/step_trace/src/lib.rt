@@ -5,10 +5,14 @@
 mod configurations;
 mod delivery_index;
 mod numbers;
+mod processor_lists;
 mod processors;
+mod push_error_texts;
 mod push_refusals;
 mod rows;
 mod steps;
+#[cfg(test)]
+mod trace_tests;
 mod traces;
 
 pub use configurations::{Config, ConfigError, MAX_PROCESSORS, MIN_PROCESSORS};
@@ -17,6 +21,3 @@ pub use processors::ProcSet;
 pub use rows::{Gap, Miss, Row};
 pub use steps::{Act, MessageIds, Step};
 pub use traces::{MAX_STEPS, PushError, Trace};
-
-#[cfg(test)]
-mod trace_tests;

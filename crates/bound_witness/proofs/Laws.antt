@@ -1,0 +1,122 @@
+-- Laws of bounds and of their witnesses.
+use Rattle.std.proofs.Common.{ℕ, ◌≡◌, ◌<◌, ◌≤◌, List, Option, Some, None, refl, ap, sym, ◌∙◌, arith}
+use Rattle.std.proofs.lemmas.Option.{same_Some}
+use Rattle.step_trace.specs.declared.steps.Step.{Step}
+use Rattle.step_trace.specs.declared.rows.Miss.{Miss}
+use Rattle.step_trace.specs.declared.rows.Gap.{Gap}
+use Rattle.step_trace.specs.Steps.{act_dest}
+use Rattle.step_trace.specs.Bounds.{IsMessage, DeltaHolds, StepsWithin, PhiHolds, IsLeastBound}
+use Rattle.step_trace.specs.Witnesses.{MissRefutes, GapRefutes, IsNamedMiss, IsNamedGap, NamesMiss, NamesGap}
+use Rattle.step_trace.proofs.StepPositions.{step_at_within}
+
+-- what holds from g holds from every later h
+pub DeltaHolds-later : (set : ℕ) (steps : List Step) (g h d : ℕ) → g ≤ h → DeltaHolds set steps g d → DeltaHolds set steps h d
+DeltaHolds-later set steps g h d l b = record { each = λ s m. b.each s (omega arith) }
+
+pub PhiHolds-later : (set : ℕ) (steps : List Step) (g h f : ℕ) → g ≤ h → PhiHolds set steps g f → PhiHolds set steps h f
+PhiHolds-later set steps g h f l b = record { each = λ x m. b.each x (omega arith) }
+
+-- a larger bound holds where a smaller one does
+pub DeltaHolds-larger : (set : ℕ) (steps : List Step) (g d e : ℕ) → d ≤ e → DeltaHolds set steps g d → DeltaHolds set steps g e
+DeltaHolds-larger set steps g d e l h = record {
+  each = λ s m k. record { on_time = λ r b v w f. (h.each s m k).on_time r b v w (omega arith) };
+}
+
+pub StepsWithin-larger : (steps : List Step) (p x f e : ℕ) → f ≤ e → StepsWithin steps p x f → StepsWithin steps p x e
+StepsWithin-larger steps p x f e l w = let u = w.until in record { place = w.place; from = w.from; until = omega arith; step = w.step }
+
+pub PhiHolds-larger : (set : ℕ) (steps : List Step) (g f e : ℕ) → f ≤ e → PhiHolds set steps g f → PhiHolds set steps g e
+PhiHolds-larger set steps g f e l h = record {
+  each = λ x m k p q. StepsWithin-larger steps p x f e l (h.each x m (omega arith) p q);
+}
+
+-- there is one least bound
+pub IsLeastBound-unique : (Holds : ℕ → Type 0) (d e : ℕ) → IsLeastBound Holds d → IsLeastBound Holds e → d ≡ e
+IsLeastBound-unique Holds d e a b =
+    let l = a.least e b.positive b.holds in
+    let m = b.least d a.positive a.holds in
+    omega arith
+
+-- a bound that a witness refutes doesn't hold
+pub MissRefutes-sound : (set : ℕ) (steps : List Step) (g d : ℕ) (m : Miss) → MissRefutes set steps g d m → ¬ DeltaHolds set steps g d
+MissRefutes-sound set steps g d m r h =
+    let w = step_at_within steps m.sent _ r.miss.message.sent in
+    r.miss.undelivered ((h.each m.sent r.from w.1).on_time m.missed r.miss.to r.miss.message r.miss.receive r.long)
+
+pub GapRefutes-sound : (set : ℕ) (steps : List Step) (g f : ℕ) (w : Gap) → GapRefutes set steps g f w → ¬ PhiHolds set steps g f
+GapRefutes-sound set steps g f w r h =
+    let l = r.long in
+    let i = r.gap.inside in
+    let s = h.each w.from r.from (omega arith) w.proc r.gap.member in
+    let u = s.until in
+    r.gap.silent s.place s.from (omega arith) s.step
+
+-- a witness refutes each smaller bound, from each step up to its own beginning
+pub MissRefutes-smaller : (set : ℕ) (steps : List Step) (g h d e : ℕ) (m : Miss) → h ≤ m.sent → e ≤ d → MissRefutes set steps g d m → MissRefutes set steps h e m
+MissRefutes-smaller set steps g h d e m l k r = let q = r.long in record { miss = r.miss; from = l; long = omega arith }
+
+pub GapRefutes-smaller : (set : ℕ) (steps : List Step) (g h f e : ℕ) (w : Gap) → h ≤ w.from → e ≤ f → GapRefutes set steps g f w → GapRefutes set steps h e w
+GapRefutes-smaller set steps g h f e w l k r = let q = r.long in record { gap = r.gap; from = l; long = omega arith }
+
+-- a named witness refutes each bound below its own
+pub IsNamedMiss-refutes : (set : ℕ) (steps : List Step) (g d e : ℕ) (m : Miss) → e < d → IsNamedMiss set steps g d m → MissRefutes set steps g e m
+IsNamedMiss-refutes set steps g d e m l n = let q = n.long in record { miss = n.miss; from = n.from; long = omega arith }
+
+pub IsNamedGap-refutes : (set : ℕ) (steps : List Step) (g f e : ℕ) (w : Gap) → e < f → IsNamedGap set steps g f w → GapRefutes set steps g e w
+IsNamedGap-refutes set steps g f e w l n = let q = n.long in record { gap = n.gap; from = n.from; long = omega arith }
+
+pub Miss-same : (m o : Miss) → m.sent ≡ o.sent → m.missed ≡ o.missed → m ≡ o
+Miss-same m o p q = ap (λ (s : ℕ). let x : Miss = record { sent = s; missed = m.missed } in x) p ∙ ap (λ (r : ℕ). let x : Miss = record { sent = o.sent; missed = r } in x) q
+
+pub Gap-same : (v w : Gap) → v.proc ≡ w.proc → v.from ≡ w.from → v.to ≡ w.to → v ≡ w
+Gap-same v w p q r =
+    ap (λ (a : ℕ). let x : Gap = record { proc = a; from = v.from; to = v.to } in x) p
+    ∙ ap (λ (a : ℕ). let x : Gap = record { proc = w.proc; from = a; to = v.to } in x) q
+    ∙ ap (λ (a : ℕ). let x : Gap = record { proc = w.proc; from = w.from; to = a } in x) r
+
+-- a witness that is named from g, and the one named from a later h for the same bound, are one
+pub IsNamedMiss-steady : (set : ℕ) (steps : List Step) (g h d : ℕ) (m o : Miss) → g ≤ h → IsNamedMiss set steps g d m → IsNamedMiss set steps h d o → o ≡ m
+IsNamedMiss-steady set steps g h d m o l a b =
+    let from = b.from in
+    let p = a.long in
+    let q = b.long in
+    let below : o.sent ≤ m.sent = a.greatest o b.miss (omega arith) b.long in
+    let above : m.sent ≤ o.sent = b.greatest m a.miss (omega arith) a.long in
+    Miss-same o m (omega arith) (omega arith)
+
+pub IsNamedGap-steady : (set : ℕ) (steps : List Step) (g h f : ℕ) (v w : Gap) → g ≤ h → IsNamedGap set steps g f v → IsNamedGap set steps h f w → w ≡ v
+IsNamedGap-steady set steps g h f v w l a b =
+    let from = b.from in
+    let p = a.long in
+    let q = b.long in
+    let below : w.from ≤ v.from = a.greatest w b.gap (omega arith) b.long in
+    let above : v.from ≤ w.from = b.greatest v a.gap (omega arith) a.long in
+    let less : v.proc ≤ w.proc = a.least w b.gap (omega arith) b.long in
+    let more : w.proc ≤ v.proc = b.least v a.gap (omega arith) a.long in
+    Gap-same w v (omega arith) (omega arith) (omega arith)
+
+-- a bound has one named witness
+pub IsNamedMiss-unique : (set : ℕ) (steps : List Step) (g d : ℕ) (m o : Miss) → IsNamedMiss set steps g d m → IsNamedMiss set steps g d o → o ≡ m
+IsNamedMiss-unique set steps g d m o = IsNamedMiss-steady set steps g g d m o (omega arith)
+
+pub IsNamedGap-unique : (set : ℕ) (steps : List Step) (g f : ℕ) (v w : Gap) → IsNamedGap set steps g f v → IsNamedGap set steps g f w → w ≡ v
+IsNamedGap-unique set steps g f v w = IsNamedGap-steady set steps g g f v w (omega arith)
+
+-- where the bound from g is the bound from a later h too, so is the witness beside it
+pub NamesMiss-steady : (set : ℕ) (steps : List Step) (g h d : ℕ) (m o : Option Miss) → g ≤ h → NamesMiss set steps g d m → NamesMiss set steps h d o → o ≡ m
+NamesMiss-steady set steps g h d None None l a b = refl
+NamesMiss-steady set steps g h d None (Some o) l a b = absurd (let q : 1 < d = b.0 in omega arith)
+NamesMiss-steady set steps g h d (Some m) None l a b = absurd (let q : 1 < d = a.0 in omega arith)
+NamesMiss-steady set steps g h d (Some m) (Some o) l a b = ap (λ (x : Miss). Some x) (IsNamedMiss-steady set steps g h d m o l a.1 b.1)
+
+pub NamesGap-steady : (set : ℕ) (steps : List Step) (g h f : ℕ) (v w : Option Gap) → g ≤ h → NamesGap set steps g f v → NamesGap set steps h f w → w ≡ v
+NamesGap-steady set steps g h f None None l a b = refl
+NamesGap-steady set steps g h f None (Some w) l a b = absurd (let q : 1 < f = b.0 in omega arith)
+NamesGap-steady set steps g h f (Some v) None l a b = absurd (let q : 1 < f = a.0 in omega arith)
+NamesGap-steady set steps g h f (Some v) (Some w) l a b = ap (λ (x : Gap). Some x) (IsNamedGap-steady set steps g h f v w l a.1 b.1)
+
+-- a message has one receiver
+pub IsMessage-receiver : (set : ℕ) (steps : List Step) (s a b : ℕ) → IsMessage set steps s a → IsMessage set steps s b → a ≡ b
+IsMessage-receiver set steps s a b m n =
+    let same = same_Some _ _ (sym m.sent ∙ n.sent) in
+    same_Some a b (ap (λ (x : Step). act_dest x.act) same)

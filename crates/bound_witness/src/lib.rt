@@ -1,0 +1,12 @@
+//! The least bounds of a trace from one real-time step on, and the evidence against smaller ones.
+#![tactic(auto)]
+
+mod delays;
+mod silences;
+mod step_tests;
+#[cfg(test)]
+mod worked_rows;
+
+pub use delays::delta_at;
+pub use silences::phi_at;
+pub use step_trace::{Gap, Miss};

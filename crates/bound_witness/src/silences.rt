@@ -1,0 +1,111 @@
+//! Steps that members don't take, and the processor bound.
+
+ghost use Rattle.std.specs.Prelude.{◌≡◌, ℕ, ◌+◌, ◌^◌, ◌<◌, ◌≤◌, ◌↔◌, length, Option, IsTrue, IfSome, MatchOption};
+ghost use Rattle.step_trace.specs.Processors.{IsWithin};
+ghost use Rattle.step_trace.specs.Bounds.{StepsWithin, PhiHolds, IsPhi};
+ghost use Rattle.step_trace.specs.Witnesses.{IsNamedGap, GapRefutes, NamesGap};
+ghost use Rattle.bound_witness.specs.WitnessSearches.{AllStepWithin, IsFirstSilent};
+
+use crate::step_tests::is_step_of;
+use step_trace::{Gap, ProcSet, Trace};
+
+/// Whether processor `p` takes one of the `f` real-time steps from `x` on.
+fn steps_within(trace: &Trace, p: u64, x: u64, f: u64) -> bool
+    requires { x + f < 2 ^ 64 }
+    ensures { IsTrue result ↔ StepsWithin trace.now.steps p x f }
+{
+    for no in x..x + f {
+        if is_step_of(trace, no, p) {
+            return true;
+        }
+    }
+    false
+}
+
+/// The least member that takes none of the `f` real-time steps from `x` on.
+fn first_silent(trace: &Trace, set: ProcSet, x: u64, f: u64) -> Option<u64>
+    requires set { IsWithin set trace.now.config.n }
+    requires fits { x + f < 2 ^ 64 }
+    ensures { MatchOption result (AllStepWithin set trace.now.steps x f) (IsFirstSilent set trace.now.steps x f) }
+{
+    for p in 1..trace.config().n() + 1 {
+        if set.contains(p) && !steps_within(trace, p, x, f) {
+            return Some(p);
+        }
+    }
+    None
+}
+
+/// Whether the processor bound `f` holds from `g`.
+fn phi_holds(trace: &Trace, set: ProcSet, g: u64, f: u64) -> bool
+    requires set { IsWithin set trace.now.config.n }
+    requires bound { f ≤ length trace.now.steps }
+    ensures { IsTrue result ↔ PhiHolds set trace.now.steps g f }
+{
+    for x in g..trace.len() as u64 - f + 2 {
+        if first_silent(trace, set, x, f).is_some() {
+            return false;
+        }
+    }
+    true
+}
+
+/// The least processor bound that holds from `g`.
+fn least_phi(trace: &Trace, set: ProcSet, g: u64) -> u64
+    requires set { IsWithin set trace.now.config.n }
+    requires start { 1 ≤ g }
+    ensures least { IsPhi set trace.now.steps g result }
+    ensures limit { result ≤ length trace.now.steps + 1 }
+{
+    let end = trace.len() as u64 + 1;
+    for f in 1..end {
+        if phi_holds(trace, set, g, f) {
+            return f;
+        }
+    }
+    end
+}
+
+/// Of the gaps of this length that begin at `g` or later, the one with the greatest beginning, and of
+/// these the one of the least processor.
+fn last_gap_of_length(trace: &Trace, set: ProcSet, g: u64, span: u64) -> Option<Gap>
+    requires set { IsWithin set trace.now.config.n }
+    requires start { 1 ≤ g }
+    requires positive { 1 ≤ span }
+    requires bound { span ≤ length trace.now.steps }
+    ensures { MatchOption result (PhiHolds set trace.now.steps g span) (IsNamedGap set trace.now.steps g (span + 1)) }
+{
+    let mut found = None;
+    for from in g..trace.len() as u64 - span + 2 {
+        if let Some(proc) = first_silent(trace, set, from, span) {
+            found = Some(Gap {
+                proc,
+                from,
+                to: from + span - 1,
+            });
+        }
+    }
+    found
+}
+
+/// The least positive processor bound that holds from `g`, in real-time steps, and its witness
+/// (section 2 of the 1988 paper).
+///
+/// The witness of a bound above 1 refutes each smaller bound: of the gaps that begin at `g` or later and
+/// are one step shorter than the bound, the one with the greatest beginning, and of these the one of the
+/// least processor. At 1 there is none. Takes no memory.
+pub fn phi_at(trace: &Trace, set: ProcSet, g: u64) -> (u64, Option<Gap>)
+    requires set { IsWithin set trace.now.config.n }
+    requires start { 1 ≤ g }
+    requires end { g ≤ length trace.now.steps }
+    ensures phi { IsPhi set trace.now.steps g result.0 }
+    ensures gap { NamesGap set trace.now.steps g result.0 result.1 }
+    ensures steady { (o : Option Gap) → IsPhi set trace.now.steps (g + 1) result.0 → NamesGap set trace.now.steps (g + 1) result.0 o → o ≡ result.1 }
+    ensures refutes { IfSome result.1 (λ w. (f : ℕ) → f < result.0 → GapRefutes set trace.now.steps g f w) }
+{
+    let phi = least_phi(trace, set, g);
+    if phi == 1 {
+        return (phi, None);
+    }
+    (phi, last_gap_of_length(trace, set, g, phi - 1))
+}

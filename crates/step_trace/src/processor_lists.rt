@@ -1,0 +1,93 @@
+//! Sets of processors, as a command line writes them.
+
+ghost use Rattle.std.specs.Prelude.{◌≡◌, ◌≢◌, ℕ, List, IfSome, IfNone, codes};
+ghost use Rattle.step_trace.specs.ProcessorLists.{IsListOf, IsSetIn, HasMembers};
+
+use crate::numbers::read_number;
+use crate::processors::ProcSet;
+
+/// The greatest number that a processor of a set may have.
+const MAX_MEMBER: u64 = 64;
+
+impl ProcSet {
+    /// The set that a text lists: the word `none`, or numbers from 1 to 64 as `read_number` reads
+    /// them, with one comma between each two, in any order, repeats allowed. None where the text is
+    /// anything else.
+    pub fn parse_list(text: &str) -> Option<ProcSet>
+        ensures members { IfSome result (λ set. IsSetIn text.now set) }
+        ensures refused { IfNone result ((text.now ≢ codes "none") × ((numbers : List ℕ) → ¬ IsListOf text.now numbers)) }
+    {
+        if text == "none" {
+            return Some(ProcSet::empty());
+        }
+        read_members(text)
+    }
+}
+
+/// The set of the numbers that a text lists.
+fn read_members(text: &str) -> Option<ProcSet>
+    ensures members { IfSome result (λ set. (numbers : List ℕ) × IsListOf text.now numbers × HasMembers set numbers) }
+    ensures refused { IfNone result ((numbers : List ℕ) → ¬ IsListOf text.now numbers) }
+{
+    let mut set = ProcSet::empty();
+    for piece in text.split(',') {
+        let Some(p) = read_number(piece.as_bytes()) else {
+            return None;
+        };
+        if p < 1 || p > MAX_MEMBER {
+            return None;
+        }
+        set = set.with(p);
+    }
+    Some(set)
+}
+
+#[cfg(test)]
+mod tests {
+    use super::*;
+
+    fn lists(text: &str, p: u64) -> Option<bool> {
+        let set = ProcSet::parse_list(text)?;
+        Some(set.contains(p))
+    }
+
+    #[test]
+    fn reads_lists(rt: HostRuntime) {
+        for (text, p, is_member) in [
+            ("none", 1, false),
+            ("7", 7, true),
+            ("7", 6, false),
+            ("64,1,64", 1, true),
+            ("64,1,64", 64, true),
+            ("64,1,64", 2, false),
+        ] {
+            assert_eq!(rt; lists(text, p), Some(is_member), "{p} in {text:?}");
+        }
+    }
+
+    #[test]
+    fn refuses_other_texts(rt: HostRuntime) {
+        for text in [
+            "",
+            ",",
+            "1,",
+            ",1",
+            "1,,2",
+            "0",
+            "65",
+            "01",
+            "+1",
+            "-1",
+            "1, 2",
+            " 1",
+            "1;2",
+            "1,none",
+            "none,1",
+            "None",
+            "none ",
+            "18446744073709551617",
+        ] {
+            assert!(rt; ProcSet::parse_list(text).is_none(), "{text:?}");
+        }
+    }
+}

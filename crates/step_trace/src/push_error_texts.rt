@@ -1,0 +1,46 @@
+//! The reasons against a step, in words.
+
+use crate::traces::PushError;
+use std::fmt;
+
+impl fmt::Display for PushError {
+    fn fmt<W: fmt::Write>(&self, f: &mut fmt::Formatter<W>) -> fmt::Result {
+        match self {
+            PushError::Full => write!(f, "trace is full"),
+            PushError::BadProc => write!(f, "no such processor"),
+            PushError::BadDest => write!(f, "no such destination"),
+            PushError::IdsNotRising => write!(f, "ids do not rise"),
+            PushError::UnknownMessage(id) => write!(f, "message {id} unknown"),
+            PushError::NotAddressed(id) => write!(f, "message {id} is for another processor"),
+            PushError::Redelivered(id) => write!(f, "message {id} was received before"),
+            PushError::Memory => write!(f, "out of memory"),
+        }
+    }
+}
+
+#[cfg(test)]
+mod tests {
+    use super::*;
+    use std::test::Fail;
+
+    #[test]
+    fn prints_each_reason(rt: HostRuntime) -> Result<(), Fail> {
+        for (why, text) in [
+            (PushError::Full, "trace is full"),
+            (PushError::BadProc, "no such processor"),
+            (PushError::BadDest, "no such destination"),
+            (PushError::IdsNotRising, "ids do not rise"),
+            (PushError::UnknownMessage(2), "message 2 unknown"),
+            (
+                PushError::NotAddressed(3),
+                "message 3 is for another processor",
+            ),
+            (PushError::Redelivered(1), "message 1 was received before"),
+            (PushError::Memory, "out of memory"),
+        ] {
+            let printed = why.to_string(rt.alloc())?;
+            assert_eq!(rt; printed.as_str(), text);
+        }
+        Ok(())
+    }
+}
