@@ -1,3 +1,4 @@
 pub mod Decisions
 pub mod Laws
 pub mod LastWitnesses
+pub mod SilentIntervals

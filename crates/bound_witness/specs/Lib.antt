@@ -1,1 +1,3 @@
+pub mod LastMisses
+pub mod LongestGaps
 pub mod WitnessSearches

@@ -5,6 +5,7 @@ ghost use Rattle.step_trace.specs.Processors.{IsWithin};
 ghost use Rattle.step_trace.specs.Traces.{IsDelivered};
 ghost use Rattle.step_trace.specs.Bounds.{DeltaHolds, DeltaHoldsFor, IsDelta};
 ghost use Rattle.step_trace.specs.Witnesses.{IsMiss, IsNamedMiss, MissRefutes, NamesMiss};
+ghost use Rattle.bound_witness.specs.LastMisses.{HasNoMiss, IsLastMiss};
 ghost use Rattle.bound_witness.specs.WitnessSearches.{HasNoMissOf};
 
 use crate::step_tests::{is_receive_of, receiver, takes};
@@ -39,6 +40,26 @@ fn is_miss(trace: &Trace, set: ProcSet, miss: Miss) -> bool
         return false;
     }
     is_receive_of(trace, miss.missed, to) && miss.missed < delivery(trace, miss.sent)
+}
+
+/// The last miss of message `sent`: the one with the greatest `missed`. There is none where each
+/// Receive of the receiver after the Send finds the message delivered, or where `sent` is no message
+/// from a member to a member. Takes no memory.
+pub fn last_miss(trace: &Trace, set: ProcSet, sent: u64) -> Option<Miss>
+    requires { IsWithin set trace.now.config.n }
+    ensures { MatchOption result (HasNoMiss set trace.now.steps sent) (IsLastMiss set trace.now.steps sent) }
+{
+    let Some(to) = receiver(trace, set, sent) else {
+        return None;
+    };
+    let delivered = delivery(trace, sent);
+    let mut found = None;
+    for missed in sent + 1..delivered {
+        if is_receive_of(trace, missed, to) {
+            found = Some(Miss { sent, missed });
+        }
+    }
+    found
 }
 
 /// Whether the communication bound `d` holds for message `s`.

@@ -3,10 +3,12 @@
 
 mod delays;
 mod silences;
+mod silent_intervals;
 mod step_tests;
 #[cfg(test)]
 mod worked_rows;
 
-pub use delays::delta_at;
+pub use delays::{delta_at, last_miss};
 pub use silences::phi_at;
+pub use silent_intervals::gaps;
 pub use step_trace::{Gap, Miss};

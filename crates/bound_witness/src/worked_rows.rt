@@ -1,7 +1,5 @@
 //! Worked examples, with the bounds and the witnesses of each real-time step.
 
-ghost use Rattle.std.specs.Prelude.{◌≡◌, IfOk};
-
 use super::*;
 use std::alloc::{AllocError, Global};
 use std::process::Abort;
@@ -177,5 +175,35 @@ fn bounds_of_one_correct_processor(rt: HostRuntime) -> Result<(), Fail> {
             row(2, 1, None, 1, None),
         ],
     );
+    Ok(())
+}
+
+#[test]
+fn gaps_and_misses(rt: HostRuntime) -> Result<(), Fail> {
+    let alloc = rt.alloc();
+    let both = ProcSet::empty().with(1).with(2);
+    let trace = one_miss(alloc)?;
+    assert!(rt; both.within(trace.config().n()));
+    let listed = gaps(alloc, &trace, both)?;
+    let expected = [
+        Gap {
+            proc: 1,
+            from: 2,
+            to: 3,
+        },
+        Gap {
+            proc: 2,
+            from: 1,
+            to: 1,
+        },
+    ];
+    assert_eq!(rt; listed.as_slice(), expected.as_slice());
+    assert_eq!(rt; last_miss(&trace, both, 1), missed(1, 2));
+    let trace = never_delivered(alloc)?;
+    assert!(rt; both.within(trace.config().n()));
+    assert_eq!(rt; last_miss(&trace, both, 1), missed(1, 5));
+    for sent in [0, 2, 3, 6] {
+        assert_eq!(rt; last_miss(&trace, both, sent), None, "of {sent}");
+    }
     Ok(())
 }
