@@ -1,0 +1,222 @@
+-- Records that are accepted are the records of the trace that they give.
+use Rattle.std.proofs.Common.{ℕ, zero, suc, ◌≡◌, ◌+◌, ◌*◌, ◌==◌, ◌∙◌, List, [], ◌∷◌, ◌++◌, length, drop, Option, Some, None, Ok, Bool, true, false, ◌&&◌, ◌||◌, cond, refl, sym, ap, arith, codes, decimal, append_assoc}
+use Rattle.std.specs.Prelude.{nat_lt, is_none}
+use Rattle.std.specs.Str.{bytes_eq}
+use Rattle.std.specs.Option.{option_map}
+use Rattle.std.proofs.lemmas.Bool.{eqb-true}
+use Rattle.std.proofs.lemmas.Bool.Decides.{nat_tests}
+use Rattle.std.proofs.lemmas.List.{append-nil}
+use Rattle.step_trace.specs.declared.steps.Act.{Act}
+use Rattle.step_trace.specs.declared.steps.Act.TheVariants.{Send, Receive}
+use Rattle.step_trace.specs.declared.steps.Step.{Step}
+use Rattle.step_trace.specs.Configurations.{Setup, IsSetup, config_refusal}
+use Rattle.step_trace.specs.declared.configurations.ConfigError.TheVariants.{BadSize, BadFaults, BadInit}
+use Rattle.step_trace.specs.declared.traces.PushError.{PushError}
+use Rattle.step_trace.specs.Traces.{Recorded, IsWellFormed}
+use Rattle.step_trace.specs.PushRefusals.{refusal}
+use Rattle.step_trace.proofs.Refusals.{Fits-from_none}
+use Rattle.step_trace.proofs.Growth.{IsWellFormed-push}
+use Rattle.trace_text.specs.declared.records.Operation.{Operation}
+use Rattle.trace_text.specs.declared.records.Operation.TheVariants as op
+use Rattle.trace_text.specs.declared.reading.Stage.{Stage}
+use Rattle.trace_text.specs.declared.reading.Stage.TheVariants.{Opening, Sized, Recording, Ended}
+use Rattle.trace_text.specs.declared.refusals.TextError.TheVariants as why
+use Rattle.trace_text.specs.TraceTexts.{header_record, init_record, op_text, arg_text, step_record, step_records, end_record, trace_records, IsTrace}
+use Rattle.trace_text.specs.TextRefusals.{field_of, number_of, numbers_of, ids_of, operation_of, act_of, is_size, header_stage, init_stage, step_of, pushed, step_stage, end_stage, next_stage, stage_after, trace_at_end, trace_of_records}
+use Rattle.trace_text.proofs.Numbers.{number_of-some, same-from_bytes_eq}
+use Rattle.trace_text.proofs.NumberLists.{numbers_of-some, ids_of-some}
+use Rattle.trace_text.proofs.StageInversions.{passed, both, neither, read_part, read_result, four_are, two_are, append_one, first_field}
+
+-- the records that lead to a stage
+abbrev pub LeadsTo : List (List (List ℕ)) → Stage → Type 0
+LeadsTo rows Opening = rows ≡ []
+LeadsTo rows (Sized n t) = rows ≡ header_record n t ∷ []
+LeadsTo rows (Recording t) = IsTrace t × (rows ≡ header_record t.config.n t.config.t ∷ init_record t.config.init ∷ step_records 1 t.steps)
+LeadsTo rows (Ended t) = IsTrace t × (rows ≡ trace_records t)
+
+-- the header
+from_header : (row : List (List ℕ)) (s : Stage) → header_stage row ≡ Ok s → LeadsTo (row ∷ []) s
+from_header row s h =
+    let first = passed ((length row == 4) && bytes_eq (field_of row 0) (codes "dls-trace")) _ _ s h in
+    let two = both (length row == 4) _ first.0 in
+    let version = passed (bytes_eq (field_of row 1) (codes "1")) _ _ s first.1 in
+    let n = read_part (number_of (field_of row 2)) why.BadSize _ s version.1 in
+    let t = read_part (number_of (field_of row 3)) why.BadSize _ s n.2 in
+    let size = passed (is_size n.0 t.0) _ _ s t.2 in
+    let stage : Sized n.0 t.0 ≡ s = cc (size.1) in
+    let whole = four_are row (codes "dls-trace") (codes "1") (decimal n.0) (decimal t.0) (eqb-true (length row) 4 two.0)
+    (same-from_bytes_eq _ _ two.1) (same-from_bytes_eq _ _ version.0) (number_of-some _ n.0 n.1).0 (number_of-some _ t.0 t.1).0 in
+    rw (← stage) (ap (λ r. r ∷ []) whole)
+
+none_cond : {E : Type 0} (b : Bool) (e : E) (o : Option E) → cond b (Some e) o ≡ None → (b ≡ false) × (o ≡ None)
+none_cond true e o h = cc h
+none_cond false e o h = (refl, h)
+
+none_last : {E : Type 0} (b : Bool) (e : E) → cond b None (Some e) ≡ None → b ≡ true
+none_last true e h = refl
+none_last false e h = cc h
+
+-- a configuration that isn't refused is one
+IsSetup-from_none : (n t : ℕ) (values : List ℕ) → config_refusal n t (length values) ≡ None → IsSetup (record { n = n; t = t; init = values })
+IsSetup-from_none n t values h =
+    let size = none_cond (nat_lt n 2 || nat_lt 16 n) BadSize _ h in
+    let faults = none_cond (nat_lt n (2 * t + 1)) BadFaults _ size.1 in
+    let count = none_last (length values == n) BadInit faults.1 in
+    let ends = neither (nat_lt n 2) (nat_lt 16 n) size.0 in
+    let low = ends.0 in
+    let high = ends.1 in
+    let few = faults.0 in
+    record {
+      least = grind (arith, nat_tests);
+      most = grind (arith, nat_tests);
+      faults = grind (arith, nat_tests);
+      values = eqb-true (length values) n count;
+    }
+
+none_is : {E : Type 0} (o : Option E) → is_none o ≡ true → o ≡ None
+none_is None h = refl
+none_is (Some e) h = cc h
+
+IsWellFormed-none : (c : Setup) → IsWellFormed c []
+IsWellFormed-none c = record {
+  short = omega arith;
+  procs = λ k x h. absurd (nothing k x h);
+  dests = λ k x h. absurd (nothing k x h);
+  rising = λ k x h. absurd (nothing k x h);
+  earlier = λ k s x h t. absurd (nothing k x h);
+  once = λ m n s a b. absurd (nothing m a.0 a.1);
+} where
+  nothing : (k : ℕ) (x : Step) → Rattle.step_trace.specs.Traces.step_at [] k ≡ Some x → ⊥
+  nothing zero x h = cc h
+  nothing (suc k) x h = cc h
+
+-- the initial values
+from_init : (rows : List (List (List ℕ))) (n t : ℕ) (row : List (List ℕ)) (s : Stage) → LeadsTo rows (Sized n t) → init_stage n t row ≡ Ok s → LeadsTo (rows ++ row ∷ []) s
+from_init rows n t row s before h =
+    let first = passed (bytes_eq (field_of row 0) (codes "init")) _ _ s h in
+    let values = read_part (numbers_of (drop 1 row)) why.BadInit _ s first.1 in
+    let start = passed (is_none (config_refusal n t (length values.0))) _ _ s values.2 in
+    let config : Setup = record { n = n; t = t; init = values.0 } in
+    let stage : Recording (record { config = config; steps = [] }) ≡ s = cc (start.1) in
+    let numbers = numbers_of-some (drop 1 row) values.0 values.1 in
+    let name = same-from_bytes_eq (field_of row 0) (codes "init") first.0 in
+    let whole : row ≡ init_record values.0 = first_field row 105 (codes "nit") name ∙ ap (λ r. codes "init" ∷ r) numbers.0 in
+    rw (← stage) (
+      record { setup = IsSetup-from_none n t values.0 (none_is _ start.0); values = numbers.1; well_formed = IsWellFormed-none config },
+      append_one rows (header_record n t ∷ []) row (init_record values.0) before whole,
+    )
+
+-- the operation of a field is named by it
+operation_text : Operation → List ℕ
+operation_text op.Send = codes "S"
+operation_text op.Receive = codes "R"
+operation_text op.EndRound = codes "E"
+
+from_operation : (field : List ℕ) (o : Operation) → operation_of field ≡ Some o → field ≡ operation_text o
+unfolding operation_text
+from_operation field o h = go (bytes_eq field (codes "S")) (bytes_eq field (codes "R")) (bytes_eq field (codes "E")) refl refl refl h where
+  go : (s r e : Bool) → bytes_eq field (codes "S") ≡ s → bytes_eq field (codes "R") ≡ r → bytes_eq field (codes "E") ≡ e
+      → cond s (Some op.Send) (cond r (Some op.Receive) (cond e (Some op.EndRound) None)) ≡ Some o → field ≡ operation_text o
+  go true r e a b d k = let same : op.Send ≡ o = cc k in rw (← same) (same-from_bytes_eq field (codes "S") a)
+  go false true e a b d k = let same : op.Receive ≡ o = cc k in rw (← same) (same-from_bytes_eq field (codes "R") b)
+  go false false true a b d k = let same : op.EndRound ≡ o = cc k in rw (← same) (same-from_bytes_eq field (codes "E") d)
+  go false false false a b d k = cc k
+
+mapped : {A B : Type 0} (f : A → B) (o : Option A) (y : B) → option_map f o ≡ Some y → (x : A) × (o ≡ Some x) × (f x ≡ y)
+mapped f None y h = cc h
+mapped f (Some x) y h = (x, refl, cc h)
+
+-- an argument that an operation takes is that of the act
+from_act : (o : Operation) (arg : List ℕ) (a : Act) → act_of o arg ≡ Some a → (operation_text o ≡ op_text a) × (arg ≡ arg_text a)
+unfolding operation_text
+from_act op.Send arg a h =
+    let part = mapped (λ to. Send to) (number_of arg) a h in
+    rw (← part.2) (refl, (number_of-some arg part.0 part.1).0)
+from_act op.Receive arg a h =
+    let part = mapped (λ ids. Receive ids false) (ids_of arg) a h in
+    rw (← part.2) (refl, ids_of-some arg part.0 part.1)
+from_act op.EndRound arg a h =
+    let part = mapped (λ ids. Receive ids true) (ids_of arg) a h in
+    rw (← part.2) (refl, ids_of-some arg part.0 part.1)
+
+-- the fields of a step after its number
+from_fields : (at : ℕ) (row : List (List ℕ)) (x : Step) → step_of at row ≡ Ok x
+    → (field_of row 1 ≡ decimal x.proc) × (field_of row 2 ≡ op_text x.act) × (field_of row 3 ≡ arg_text x.act)
+from_fields at row x h =
+    let o = read_part (operation_of (field_of row 2)) (why.BadOp at) _ x h in
+    let p = read_part (number_of (field_of row 1)) (why.BadNumber at) _ x o.2 in
+    let a = read_part (act_of o.0 (field_of row 3)) (why.BadNumber at) _ x p.2 in
+    let step : ◌≡◌ {A = Step} (record { proc = p.0; act = a.0 }) x = cc (a.2) in
+    let act = from_act o.0 (field_of row 3) a.0 a.1 in
+    rw (← step) ((number_of-some (field_of row 1) p.0 p.1).0, from_operation (field_of row 2) o.0 o.1 ∙ act.0, act.1)
+
+-- a step that the trace takes
+from_push : (t : Recorded) (x : Step) (s : Stage) (r : Option PushError) → refusal t.config t.steps x ≡ r → pushed t x r ≡ Ok s
+    → (refusal t.config t.steps x ≡ None) × (Recording (record { config = t.config; steps = t.steps ++ x ∷ [] }) ≡ s)
+from_push t x s None e h = (e, cc h)
+from_push t x s (Some f) e h = cc h
+
+-- the records of the steps with one step more
+step_records-more : (at : ℕ) (xs : List Step) (x : Step) → step_records at (xs ++ x ∷ []) ≡ step_records at xs ++ step_record (at + length xs) x ∷ []
+step_records-more at [] x = let e : at + 0 ≡ at = omega arith in rw e refl
+step_records-more at (y ∷ xs) x =
+    let e : at + 1 + length xs ≡ at + suc (length xs) = omega arith in
+    ap (λ r. step_record at y ∷ r) (rw e at (step_records-more (at + 1) xs x))
+
+-- a step
+from_step : (rows : List (List (List ℕ))) (t : Recorded) (row : List (List ℕ)) (s : Stage) → LeadsTo rows (Recording t) → step_stage t row ≡ Ok s → LeadsTo (rows ++ row ∷ []) s
+from_step rows t row s before h =
+    let four = passed (length row == 4) _ _ s h in
+    let number = passed (bytes_eq (field_of row 0) (decimal (length t.steps + 1))) _ _ s four.1 in
+    let step = read_result (step_of (length t.steps + 1) row) _ s number.1 in
+    let push = from_push t step.0 s (refusal t.config t.steps step.0) refl step.2 in
+    let fields = from_fields (length t.steps + 1) row step.0 step.1 in
+    let first = same-from_bytes_eq (field_of row 0) (decimal (length t.steps + 1)) number.0 in
+    let e : length t.steps + 1 ≡ 1 + length t.steps = omega arith in
+    let whole : row ≡ step_record (1 + length t.steps) step.0 =
+    four_are row (decimal (1 + length t.steps)) (decimal step.0.proc) (op_text step.0.act) (arg_text step.0.act) (eqb-true (length row) 4 four.0) (first ∙ ap decimal e) fields.0 fields.1 fields.2 in
+    let trace = before.0 in
+    rw (← push.1) (
+      record { setup = trace.setup; values = trace.values; well_formed = IsWellFormed-push t.config t.steps step.0 trace.well_formed (Fits-from_none t.config t.steps step.0 push.0) },
+      append_one rows _ row (step_record (1 + length t.steps) step.0) before.1 whole
+          ∙ ap (λ r. header_record t.config.n t.config.t ∷ init_record t.config.init ∷ r) (sym (step_records-more 1 t.steps step.0)),
+    )
+
+-- the end
+from_end : (rows : List (List (List ℕ))) (t : Recorded) (row : List (List ℕ)) (s : Stage) → LeadsTo rows (Recording t) → field_of row 0 ≡ codes "end" → end_stage t row ≡ Ok s → LeadsTo (rows ++ row ∷ []) s
+from_end rows t row s before name h =
+    let two = passed (length row == 2) _ _ s h in
+    let number = passed (bytes_eq (field_of row 1) (decimal (length t.steps))) _ _ s two.1 in
+    let stage : Ended t ≡ s = cc (number.1) in
+    let count = same-from_bytes_eq (field_of row 1) (decimal (length t.steps)) number.0 in
+    let whole = two_are row (codes "end") (decimal (length t.steps)) (eqb-true (length row) 2 two.0) name count in
+    rw (← stage) (before.0, append_one rows _ row (end_record (length t.steps)) before.1 whole)
+
+-- one record more
+from_record : (rows : List (List (List ℕ))) (a : Stage) (row : List (List ℕ)) (s : Stage) → LeadsTo rows a → next_stage a row ≡ Ok s → LeadsTo (rows ++ row ∷ []) s
+from_record rows Opening row s before h = rw before (from_header row s h)
+from_record rows (Sized n t) row s before h = from_init rows n t row s before h
+from_record rows (Recording t) row s before h = go (bytes_eq (field_of row 0) (codes "end")) refl h where
+  go : (b : Bool) → bytes_eq (field_of row 0) (codes "end") ≡ b → cond b (end_stage t row) (step_stage t row) ≡ Ok s → LeadsTo (rows ++ row ∷ []) s
+  go true e k = from_end rows t row s before (same-from_bytes_eq (field_of row 0) (codes "end") e) k
+  go false e k = from_step rows t row s before k
+from_record rows (Ended t) row s before h = cc h
+
+-- and so all records
+from_records : (rows : List (List (List ℕ))) (a : Stage) (more : List (List (List ℕ))) (s : Stage) → LeadsTo rows a → stage_after a more ≡ Ok s → LeadsTo (rows ++ more) s
+from_records rows a [] s before h = let same : a ≡ s = cc h in rw (append-nil rows, ← same) before
+from_records rows a (row ∷ more) s before h =
+    let next = read_result (next_stage a row) _ s h in
+    rw (← append_assoc rows (row ∷ []) more) (from_records (rows ++ row ∷ []) next.0 more s (from_record rows a row next.0 before next.1) next.2)
+
+at_end : (rows : List (List (List ℕ))) (s : Stage) (t : Recorded) → LeadsTo rows s → trace_at_end s ≡ Ok t → IsTrace t × (rows ≡ trace_records t)
+at_end rows Opening t before h = cc h
+at_end rows (Sized n f) t before h = cc h
+at_end rows (Recording u) t before h = cc h
+at_end rows (Ended u) t before h = let same : u ≡ t = cc h in rw (← same) before
+
+-- records that give a trace are its records, and it is a trace
+pub accepted-records : (rows : List (List (List ℕ))) (t : Recorded) → trace_of_records rows ≡ Ok t → IsTrace t × (rows ≡ trace_records t)
+accepted-records rows t h =
+    let s = read_result (stage_after Opening rows) _ t h in
+    at_end rows s.0 t (from_records [] Opening rows s.0 refl s.1) s.2

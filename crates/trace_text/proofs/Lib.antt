@@ -1,0 +1,11 @@
+pub mod AcceptedRecords
+pub mod Bytes
+pub mod NumberLists
+pub mod Numbers
+pub mod Prefixes
+pub mod ReachedRecords
+pub mod StageInversions
+pub mod Stages
+pub mod TableReasons
+pub mod TextLaws
+pub mod TraceRecords

@@ -1,0 +1,112 @@
+-- The reasons that records give: never the size of the text, a fault of the reader or want of memory.
+use Rattle.std.proofs.Common.{ℕ, ◌≡◌, ◌≢◌, ◌+◌, ◌==◌, ◌&&◌, List, [], ◌∷◌, length, drop, codes, decimal, Option, Some, None, Result, Ok, Err, Bool, true, false, cond, refl}
+use Rattle.std.specs.Prelude.{MatchBool, ⊤, is_none}
+use Rattle.std.specs.Str.{bytes_eq}
+use Rattle.std.specs.Option.{ok_or}
+use Rattle.step_trace.specs.declared.traces.PushError.{PushError}
+use Rattle.step_trace.specs.declared.steps.Step.{Step}
+use Rattle.step_trace.specs.Configurations.{config_refusal}
+use Rattle.step_trace.specs.Traces.{Recorded}
+use Rattle.step_trace.specs.PushRefusals.{refusal}
+use Rattle.trace_text.specs.declared.reading.Stage.{Stage}
+use Rattle.trace_text.specs.declared.reading.Stage.TheVariants.{Opening, Sized, Recording, Ended}
+use Rattle.trace_text.specs.declared.refusals.TextError.{TextError}
+use Rattle.trace_text.specs.declared.refusals.TextError.TheVariants.{TooLarge, Read, BadHeader, BadVersion, BadSize, BadInit, BadFields, WrongNumber, BadOp, BadNumber, BadStep, NoEnd, WrongEnd, AfterEnd, Memory}
+use Rattle.trace_text.specs.TextRefusals.{field_of, number_of, numbers_of, operation_of, act_of, is_size, size_stage, started, header_stage, init_stage, step_of, pushed, step_stage, end_stage, next_stage, stage_after, trace_at_end, trace_of_records, is_memory, ◌>>=◌}
+
+-- whether records may give the reason
+abbrev pub is_of_records : TextError → Bool
+is_of_records TooLarge = false
+is_of_records Read = false
+is_of_records Memory = false
+is_of_records e = true
+
+abbrev Reason : {A : Type 0} → Result A TextError → Type 0
+Reason (Ok x) = ⊤
+Reason (Err e) = is_of_records e ≡ true
+
+-- the reason, if there is one, is one that records may give
+record IsOfRecords {A : Type 0} (r : Result A TextError) : Type 0 where
+  reason : Reason r
+
+good : {A : Type 0} (x : A) → IsOfRecords (Ok x)
+good x = record { reason = tt }
+
+bad : {A : Type 0} (e : TextError) → is_of_records e ≡ true → IsOfRecords {A = A} (Err e)
+bad e h = record { reason = h }
+
+either : {A : Type 0} (b : Bool) {x y : Result A TextError} → IsOfRecords x → IsOfRecords y → IsOfRecords (cond b x y)
+either true h k = h
+either false h k = k
+
+then : {A B : Type 0} (r : Result A TextError) (f : A → Result B TextError) → IsOfRecords r → ((x : A) → IsOfRecords (f x)) → IsOfRecords (r >>= f)
+then (Ok x) f h k = k x
+then (Err e) f h k = record { reason = h.reason }
+
+part : {A B : Type 0} (o : Option A) (e : TextError) (f : A → Result B TextError) → is_of_records e ≡ true → ((x : A) → IsOfRecords (f x)) → IsOfRecords (ok_or o e >>= f)
+part None e f h k = record { reason = h }
+part (Some x) e f h k = k x
+
+of_size : (row : List (List ℕ)) → IsOfRecords (size_stage row)
+of_size row = part (number_of (field_of row 2)) BadSize _ refl (λ n. part (number_of (field_of row 3)) BadSize _ refl (λ t. either (is_size n t) (good (Sized n t)) (bad BadSize refl)))
+
+of_header : (row : List (List ℕ)) → IsOfRecords (header_stage row)
+of_header row =
+    either ((length row == 4) && bytes_eq (field_of row 0) (codes "dls-trace"))
+    (either (bytes_eq (field_of row 1) (codes "1")) (of_size row) (bad BadVersion refl))
+    (bad BadHeader refl)
+
+of_values : (n t : ℕ) (values : List ℕ) → IsOfRecords (started n t values)
+of_values n t values = either (is_none (config_refusal n t (length values))) (good _) (bad BadInit refl)
+
+of_init : (n t : ℕ) (row : List (List ℕ)) → IsOfRecords (init_stage n t row)
+of_init n t row = either (bytes_eq (field_of row 0) (codes "init")) (part (numbers_of (drop 1 row)) BadInit _ refl (of_values n t)) (bad BadInit refl)
+
+of_fields : (at : ℕ) (row : List (List ℕ)) → IsOfRecords (step_of at row)
+of_fields at row =
+    part (operation_of (field_of row 2)) (BadOp at) _ refl (λ o. part (number_of (field_of row 1)) (BadNumber at) _ refl
+    (λ p. part (act_of o (field_of row 3)) (BadNumber at) _ refl (λ a. good _)))
+
+of_push : (t : Recorded) (x : Step) (o : Option PushError) → IsOfRecords (pushed t x o)
+of_push t x None = good _
+of_push t x (Some e) = bad (BadStep _ e) refl
+
+of_step : (t : Recorded) (row : List (List ℕ)) → IsOfRecords (step_stage t row)
+of_step t row =
+    either (length row == 4)
+    (either (bytes_eq (field_of row 0) (decimal (length t.steps + 1)))
+    (then (step_of (length t.steps + 1) row) _ (of_fields (length t.steps + 1) row) (λ x. of_push t x (refusal t.config t.steps x)))
+    (bad (WrongNumber (length t.steps + 1)) refl))
+    (bad (BadFields (length t.steps + 1)) refl)
+
+of_end : (t : Recorded) (row : List (List ℕ)) → IsOfRecords (end_stage t row)
+of_end t row =
+    either (length row == 2) (either (bytes_eq (field_of row 1) (decimal (length t.steps))) (good (Ended t)) (bad WrongEnd refl))
+    (bad (BadFields (length t.steps + 1)) refl)
+
+of_next : (s : Stage) (row : List (List ℕ)) → IsOfRecords (next_stage s row)
+of_next Opening row = of_header row
+of_next (Sized n t) row = of_init n t row
+of_next (Recording t) row = either (bytes_eq (field_of row 0) (codes "end")) (of_end t row) (of_step t row)
+of_next (Ended t) row = bad AfterEnd refl
+
+of_all : (s : Stage) (rows : List (List (List ℕ))) → IsOfRecords (stage_after s rows)
+of_all s [] = good s
+of_all s (row ∷ rows) = then (next_stage s row) _ (of_next s row) (λ next. of_all next rows)
+
+at_end : (s : Stage) → IsOfRecords (trace_at_end s)
+at_end Opening = bad BadHeader refl
+at_end (Sized n t) = bad BadInit refl
+at_end (Recording t) = bad NoEnd refl
+at_end (Ended t) = good t
+
+of_whole : (rows : List (List (List ℕ))) → IsOfRecords (trace_of_records rows)
+of_whole rows = then (stage_after Opening rows) _ (of_all Opening rows) at_end
+
+-- a reason that records don't give isn't the answer
+pub never-answered : (rows : List (List (List ℕ))) (e f : TextError) → is_of_records f ≡ false → is_memory f ≡ false → MatchBool (is_memory e) ⊤ (trace_of_records rows ≡ Err e) → e ≢ f
+never-answered rows e f other unless h same =
+    let g : MatchBool (is_memory f) ⊤ (trace_of_records rows ≡ Err f) = rw same at h in
+    let given : trace_of_records rows ≡ Err f = rw unless at g in
+    let of : is_of_records f ≡ true = (rw given at (of_whole rows)).reason in
+    cc (of, other)

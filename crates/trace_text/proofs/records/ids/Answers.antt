@@ -1,0 +1,33 @@
+use Rattle.std.proofs.Common.{◌==◌, ◌∙◌, ◌<◌, ◌∷◌, [], sym, ap, map, arith, rules, length}
+use Rattle.std.proofs.lemmas.Iterator.Splits.{YieldsList-from_slice_split}
+use Rattle.std.proofs.lemmas.Iterator.Consumers.{YieldsList-turn, YieldsList-end}
+use Rattle.std.proofs.lemmas.List.{map-append}
+use Rattle.std.specs.List.{slice_split}
+use borrow.Author.Tests.{tests}
+use Rattle.trace_text.specs.TextRefusals.{numbers_of}
+use Rattle.trace_text.proofs.NumberLists.{numbers_of-more, numbers_of-turn_none, ids_of-split}
+use Rattle.trace_text.proofs.records.ids.Goals as goal
+
+pub returns-in_default : goal.returns-in_default
+returns-in_default c =
+    let some : 0 < length c.args.field.now = omega arith in
+    let start = c.into_iter-part-iterator.ensures in
+    let split = c.split-part-items.ensures in
+    let road = YieldsList-from_slice_split _ (λ b. b == 32) c.args.field.now (cc) (cc) (cc) (λ x b q k. search (rules, tests)) in
+    let t = YieldsList-turn road c.loop-part.yielded _ c.loop-part.yielded_by _ _ c.in-Some.part c.in-Some.is c.next.ensures.steps in
+    let none = numbers_of-turn_none (slice_split (λ b. b == 32) c.args.field.now) (length c.loop-part.yielded) c.in-Some.part.now c.in-Some.part.now t.0 t.1 (sym c.number.ensures ∙ c.in_default.is) in
+    sym (ids_of-split c.args.field.now some ∙ none)
+
+pub loop-part-preserved : goal.loop-part-preserved
+loop-part-preserved c =
+    let more = numbers_of-more (map (λ x. x.now) c.loop-part.yielded) c.loop-part.ids.items c.in-Some.part.now c.in-Some-number.id c.loop-part.invariant.2 (sym c.number.ensures ∙ c.in-Some-number.is) in
+    (search rules, search rules, rw (c.in_ok-push.ensures.items, map-append (λ x. x.now) c.loop-part.yielded (c.in-Some.part ∷ [])) more)
+
+pub returns : goal.returns
+returns c =
+    let some : 0 < length c.args.field.now = omega arith in
+    let start = c.into_iter-part-iterator.ensures in
+    let split = c.split-part-items.ensures in
+    let road = YieldsList-from_slice_split _ (λ b. b == 32) c.args.field.now (cc) (cc) (cc) (λ x b q k. search (rules, tests)) in
+    let end = YieldsList-end road c.loop-part.yielded _ c.loop-part.yielded_by _ _ c.in-None.is c.next.ensures.steps in
+    sym (ids_of-split c.args.field.now some ∙ ap numbers_of (sym end.0) ∙ c.loop-part.invariant.2)

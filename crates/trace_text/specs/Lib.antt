@@ -1,0 +1,6 @@
+pub mod Faults
+pub mod ByteLoops
+pub mod FailingDevices
+pub mod Records
+pub mod TraceTexts
+pub mod TextRefusals

@@ -1,0 +1,162 @@
+//! A reader and a writer that fail where they are told to, for tests.
+
+ghost use Rattle.std.specs.Prelude.{◌≡◌, ◌⊎◌, [], length, min, max, Some, None, IfOk, IfErr, MatchResult};
+ghost use Rattle.std.specs.Io.{ReadsAtMost, WritesAtMost};
+ghost use Rattle.std.specs.Io.KnownBytes.{ReadConsumes, WriteAppends, Keeps};
+ghost use Rattle.std.specs.IoError.{error_kind};
+ghost use Rattle.std.specs.declared.io.ErrorKind.TheVariants.{OutOfMemory};
+ghost use Rattle.trace_text.specs.FailingDevices.{known_bytes, left_in, after_of, read_fault, taken_by, piece_of, failure_of, room_in, write_fault, flush_fault};
+
+use std::alloc::Global;
+use std::io;
+use std::io::{ErrorKind, Read, Write};
+
+/// What a reader does once its bytes are read.
+#[derive(Clone, Copy, Debug)]
+pub enum AfterBytes {
+    /// It is at its end.
+    End,
+    /// Each read answers a fault of this kind.
+    Fail(ErrorKind),
+    /// It gives this byte again and again, and never ends.
+    Repeat(u8),
+}
+
+/// A reader of given bytes, in pieces of at most a stated size.
+#[derive(Drop)]
+pub struct FailingReader<'a> {
+    bytes: &'a [u8],
+    piece: usize,
+    after: AfterBytes,
+}
+
+impl<'a> FailingReader<'a> {
+    /// A reader of these bytes, of which one read gives at most `piece`; 0 is taken as 1.
+    pub fn new(bytes: &'a [u8], piece: usize, after: AfterBytes) -> Self
+        ensures bytes { left_in result ≡ known_bytes bytes.entry.now after }
+        ensures after { after_of result ≡ after }
+    {
+        FailingReader {
+            bytes,
+            piece,
+            after,
+        }
+    }
+}
+
+impl<'a> Read for FailingReader<'a> {
+    ghost remaining = { λ r. left_in r };
+
+    fn read(&mut self, buf: &mut [u8]) -> io::Result<usize>
+        ensures bound { ReadsAtMost result buf.new }
+        ensures bytes { ReadConsumes (left_in self.old) (left_in self.new) result buf.new }
+        ensures fault { IfErr result (λ e. (read_fault (after_of self.old) ≡ Some (error_kind e)) × (left_in self.old ≡ Some [])) }
+        ensures after { after_of self.new ≡ after_of self.old }
+    {
+        let count = self.piece.max(1).min(buf.len());
+        let room = &mut buf[..count];
+        if !self.bytes.is_empty() {
+            return self.bytes.read(room);
+        }
+        match self.after {
+            AfterBytes::End => Ok(0),
+            AfterBytes::Fail(kind) => Err(io::Error::from(kind)),
+            AfterBytes::Repeat(byte) => {
+                room.fill(byte);
+                Ok(count)
+            }
+        }
+    }
+}
+
+/// Where a writer fails.
+#[derive(Clone, Copy, Debug)]
+pub enum WriteFailure {
+    /// Nowhere.
+    Never,
+    /// Once it took so many bytes, each write of some bytes answers a fault of this kind.
+    FailAfter(usize, ErrorKind),
+    /// Once it took so many bytes, each write takes none.
+    TakeNothingAfter(usize),
+    /// Each flush answers a fault of this kind.
+    FailFlush(ErrorKind),
+}
+
+/// A writer that keeps what it took, in pieces of at most a stated size.
+#[derive(Drop)]
+pub struct FailingWriter {
+    taken: Vec<u8>,
+    piece: usize,
+    failure: WriteFailure,
+}
+
+impl FailingWriter {
+    /// A writer of which one write takes at most `piece` bytes; 0 is taken as 1. Where memory is
+    /// refused, a write answers a fault of kind OutOfMemory.
+    pub fn new(alloc: Global, piece: usize, failure: WriteFailure) -> Self
+        ensures taken { taken_by result ≡ [] }
+        ensures piece { piece_of result ≡ piece }
+        ensures failure { failure_of result ≡ failure }
+    {
+        FailingWriter {
+            taken: Vec::new(alloc),
+            piece,
+            failure,
+        }
+    }
+
+    /// The bytes that it took.
+    pub fn taken(&self) -> &[u8]
+        ensures { result.now ≡ taken_by self.now }
+    {
+        &self.taken
+    }
+
+    /// How many more bytes it takes before its writes fail.
+    fn room(&self) -> usize
+        ensures { result ≡ room_in self.now }
+    {
+        let limit = match self.failure {
+            WriteFailure::FailAfter(limit, _) => limit,
+            WriteFailure::TakeNothingAfter(limit) => limit,
+            WriteFailure::Never | WriteFailure::FailFlush(_) => usize::MAX,
+        };
+        limit.saturating_sub(self.taken.len())
+    }
+}
+
+impl Write for FailingWriter {
+    ghost contents = { λ w. Some (taken_by w) };
+
+    fn write(&mut self, buf: &[u8]) -> io::Result<usize>
+        ensures bound { WritesAtMost result buf.now }
+        ensures bytes { WriteAppends (Some (taken_by self.old)) (Some (taken_by self.new)) result buf.now }
+        ensures count { IfOk result (λ n. n ≡ min (min (max (piece_of self.old) 1) (room_in self.old)) (length buf.now)) }
+        ensures fault { IfErr result (λ e. ((write_fault (failure_of self.old) ≡ Some (error_kind e)) × (room_in self.old ≡ 0))
+            ⊎ (error_kind e ≡ OutOfMemory)) }
+        ensures piece { piece_of self.new ≡ piece_of self.old }
+        ensures failure { failure_of self.new ≡ failure_of self.old }
+    {
+        let room = self.room();
+        if let WriteFailure::FailAfter(_, kind) = self.failure
+            && room == 0
+            && !buf.is_empty()
+        {
+            return Err(io::Error::from(kind));
+        }
+        let count = self.piece.max(1).min(room).min(buf.len());
+        self.taken.extend_from_slice(&buf[..count])?;
+        Ok(count)
+    }
+
+    fn flush(&mut self) -> io::Result<()>
+        ensures bytes { Keeps (Some (taken_by self.old)) (Some (taken_by self.new)) }
+        ensures fault { MatchResult result (λ _. flush_fault (failure_of self.old) ≡ None) (λ e. flush_fault (failure_of self.old) ≡ Some (error_kind e)) }
+        ensures failure { failure_of self.new ≡ failure_of self.old }
+    {
+        match self.failure {
+            WriteFailure::FailFlush(kind) => Err(io::Error::from(kind)),
+            _ => Ok(()),
+        }
+    }
+}

@@ -1,0 +1,19 @@
+//! Trace text: the records of a trace as comma-separated text, read or refused by name, and the byte
+//! loops by which texts are read and written. `specs/` has the definitions that the contracts cite.
+#![tactic(auto)]
+
+#[cfg(test)]
+mod byte_loop_tests;
+mod byte_loops;
+mod counting;
+pub mod failing_devices;
+mod reading;
+#[cfg(test)]
+mod reading_tests;
+mod records;
+mod refusals;
+
+pub use byte_loops::{MAX_TEXT_BYTES, read_all, write_text};
+pub use counting::Counting;
+pub use reading::read_trace;
+pub use refusals::{TextError, WriteError};
