@@ -1,0 +1,40 @@
+-- What a report is to its readers, and what a row says of the real-time steps that it serves.
+use Rattle.std.specs.Prelude.{ℕ, ◌≡◌, ◌<◌, ◌≤◌, List, [], ◌∷◌, Option, Some, None, IsSomeAnd, nat_le, ◌&&◌, if◌then◌else◌}
+use Rattle.step_trace.specs.declared.steps.Step.{Step}
+use Rattle.step_trace.specs.declared.rows.Row.{Row}
+use Rattle.step_trace.specs.Bounds.{IsDelta, IsPhi}
+use Rattle.step_trace.specs.Witnesses.{MissRefutes, GapRefutes, NamesMiss, NamesGap}
+
+-- the number of real-time steps, and the rows in rising stabilization time
+pub record Reported : Type 0 where
+  pub len : ℕ
+  pub rows : List Row
+
+-- the first that there is
+abbrev pub first_of : Option Row → Option Row → Option Row
+first_of (Some r) other = Some r
+first_of None other = other
+
+-- the last row that begins at g or before, if there is one
+abbrev pub last_begun : List Row → ℕ → Option Row
+last_begun [] g = None
+last_begun (r ∷ rest) g = first_of (last_begun rest g) (if nat_le r.gst g then Some r else None)
+
+-- the row that serves g: the last one that begins at g or before; none outside the trace
+abbrev pub row_at : Reported → ℕ → Option Row
+row_at report g = if nat_le 1 g && nat_le g report.len then last_begun report.rows g else None
+
+-- The row's bounds are the least ones from g, and its witnesses refute each smaller positive bound from g.
+pub record Serves (set : ℕ) (steps : List Step) (g : ℕ) (r : Row) : Type 0 where
+  pub delta : IsDelta set steps g r.delta
+  pub phi : IsPhi set steps g r.phi
+  pub miss : (d : ℕ) → 1 ≤ d → d < r.delta → IsSomeAnd r.miss (λ m. MissRefutes set steps g d m)
+  pub gap : (f : ℕ) → 1 ≤ f → f < r.phi → IsSomeAnd r.gap (λ w. GapRefutes set steps g f w)
+
+-- the least bounds from g with their named witnesses
+pub record IsRowFrom (set : ℕ) (steps : List Step) (g : ℕ) (r : Row) : Type 0 where
+  pub gst : r.gst ≡ g
+  pub delta : IsDelta set steps g r.delta
+  pub phi : IsPhi set steps g r.phi
+  pub miss : NamesMiss set steps g r.delta r.miss
+  pub gap : NamesGap set steps g r.phi r.gap

@@ -1,0 +1,18 @@
+//! Reports: the front of the triples of a stabilization time, a communication bound and a processor
+//! bound that a trace leaves possible, and the text in which reports are kept.
+#![tactic(auto)]
+
+mod refusals;
+mod report_reading;
+mod report_texts;
+mod report_writing;
+mod reports;
+mod row_records;
+
+pub use refusals::ReportError;
+pub use report_writing::write_report;
+pub use reports::{Report, front};
+pub use step_trace::Row;
+
+#[cfg(test)]
+mod front_tests;

@@ -1,0 +1,61 @@
+//! Reading of report text, record by record. The first record that is refused decides.
+
+ghost use Rattle.std.specs.Prelude.{◌≡◌, option_map};
+ghost use Rattle.csv.specs.Records.{fields_of};
+ghost use Rattle.trace_text.specs.Records.{records_of_text};
+ghost use Rattle.front.specs.ReportRefusals.{Gives, next_rows, rows_after, rows_of_records};
+
+use crate::refusals::ReportError;
+use crate::row_records::{is_header, row_of};
+use csv::{ByteRecord, ReaderBuilder};
+use std::alloc::Global;
+use step_trace::Row;
+
+// The rows of a text.
+pub(crate) fn rows_of_text(alloc: Global, text: &[u8]) -> Result<Vec<Row>, ReportError>
+    ensures { Gives (λ v. v.items) result (rows_of_records (records_of_text text.now)) }
+{
+    match read_records(alloc, text)? {
+        Some(rows) => Ok(rows),
+        None => Err(ReportError::BadHeader),
+    }
+}
+
+// The rows of all records, none where there is no header.
+fn read_records(alloc: Global, text: &[u8]) -> Result<Option<Vec<Row>>, ReportError>
+    ensures { Gives (option_map (λ v. v.items)) result (rows_after None (records_of_text text.now)) }
+{
+    let reader = ReaderBuilder::new()
+        .has_headers(false)
+        .flexible(true)
+        .from_reader(alloc, text);
+    let mut rows = None;
+    for row in reader.into_byte_records() {
+        let Ok(row) = row else {
+            return Err(ReportError::Memory);
+        };
+        rows = Some(read_record(alloc, rows, &row)?);
+    }
+    Ok(rows)
+}
+
+// The rows with that of one more record. The first record is the header.
+fn read_record(
+    alloc: Global,
+    rows: Option<Vec<Row>>,
+    fields: &ByteRecord,
+) -> Result<Vec<Row>, ReportError>
+    ensures { Gives (λ v. Some v.items) result (next_rows (option_map (λ v. v.items) rows) (fields_of fields.now)) }
+{
+    let Some(mut rows) = rows else {
+        if is_header(fields) {
+            return Ok(Vec::new(alloc));
+        }
+        return Err(ReportError::BadHeader);
+    };
+    let row = row_of(rows.len() as u64 + 1, fields)?;
+    match rows.push(row) {
+        Ok(()) => Ok(rows),
+        Err(_) => Err(ReportError::Memory),
+    }
+}

@@ -1,0 +1,112 @@
+//! The text of a report: a header and a record for each row, as csv writes them.
+
+ghost use Rattle.std.specs.Prelude.{◌≡◌, ◌≤◌, ◌∷◌, [], ◌++◌, IfOk, OnOk, length, map, decimal, string_bytes};
+ghost use Rattle.front.specs.CsvWriting.{IsReady, IsPlain, ArePlain, written};
+ghost use Rattle.trace_text.specs.Records.{record_line};
+ghost use Rattle.front.specs.ReportTexts.{report_header, report_text, row_record, miss_fields, gap_fields};
+
+use csv::{Writer, WriterBuilder};
+use std::alloc::{AllocError, Global};
+use step_trace::{Gap, Miss, Row};
+
+// The text of a report of these rows.
+pub(crate) fn report_text_of(alloc: Global, rows: &[Row]) -> Result<Vec<u8>, AllocError>
+    ensures { IfOk result (λ v. v.items ≡ report_text rows.now) }
+{
+    let mut writer = WriterBuilder::new()
+        .flexible(true)
+        .from_writer(Vec::new(alloc));
+    write_header(&mut writer)?;
+    for row in rows {
+        write_row(alloc, &mut writer, row)?;
+    }
+    match writer.into_inner() {
+        Ok(text) => Ok(text),
+        Err(_) => Err(AllocError),
+    }
+}
+
+fn write_header(writer: &mut Writer<Vec<u8>>) -> Result<(), AllocError>
+    requires { IsReady writer.old }
+    ensures ready { OnOk result (IsReady writer.new) }
+    ensures text { OnOk result (written writer.new ≡ written writer.old ++ record_line report_header) }
+{
+    write_plain(
+        writer,
+        &[
+            b"gst", b"delta", b"phi", b"sent", b"missed", b"proc", b"from", b"to",
+        ],
+    )
+}
+
+fn write_row(alloc: Global, writer: &mut Writer<Vec<u8>>, row: &Row) -> Result<(), AllocError>
+    requires { IsReady writer.old }
+    ensures ready { OnOk result (IsReady writer.new) }
+    ensures text { OnOk result (written writer.new ≡ written writer.old ++ record_line (row_record row.now)) }
+{
+    let gst = number_text(alloc, row.gst)?;
+    let delta = number_text(alloc, row.delta)?;
+    let phi = number_text(alloc, row.phi)?;
+    let (sent, missed) = miss_texts(alloc, row.miss)?;
+    let (proc, from, to) = gap_texts(alloc, row.gap)?;
+    write_plain(
+        writer,
+        &[
+            gst.as_bytes(),
+            delta.as_bytes(),
+            phi.as_bytes(),
+            sent.as_bytes(),
+            missed.as_bytes(),
+            proc.as_bytes(),
+            from.as_bytes(),
+            to.as_bytes(),
+        ],
+    )
+}
+
+// The fields of a miss, empty where there is none.
+fn miss_texts(alloc: Global, miss: Option<Miss>) -> Result<(String, String), AllocError>
+    ensures fields { IfOk result (λ t. string_bytes t.0 ∷ string_bytes t.1 ∷ [] ≡ miss_fields miss) }
+    ensures plain { IfOk result (λ t. ArePlain (string_bytes t.0 ∷ string_bytes t.1 ∷ [])) }
+{
+    match miss {
+        None => Ok((String::new(alloc), String::new(alloc))),
+        Some(Miss { sent, missed }) => Ok((number_text(alloc, sent)?, number_text(alloc, missed)?)),
+    }
+}
+
+// The fields of a gap, empty where there is none.
+fn gap_texts(alloc: Global, gap: Option<Gap>) -> Result<(String, String, String), AllocError>
+    ensures fields { IfOk result (λ t. string_bytes t.0 ∷ string_bytes t.1 ∷ string_bytes t.2 ∷ [] ≡ gap_fields gap) }
+    ensures plain { IfOk result (λ t. ArePlain (string_bytes t.0 ∷ string_bytes t.1 ∷ string_bytes t.2 ∷ [])) }
+{
+    match gap {
+        None => Ok((String::new(alloc), String::new(alloc), String::new(alloc))),
+        Some(Gap { proc, from, to }) => Ok((
+            number_text(alloc, proc)?,
+            number_text(alloc, from)?,
+            number_text(alloc, to)?,
+        )),
+    }
+}
+
+fn number_text(alloc: Global, n: u64) -> Result<String, AllocError>
+    ensures digits { IfOk result (λ t. string_bytes t ≡ decimal n) }
+    ensures plain { IfOk result (λ t. IsPlain (string_bytes t)) }
+{
+    n.to_string(alloc)
+}
+
+// Writes a record of more than one field, none of which calls for quotes.
+fn write_plain(writer: &mut Writer<Vec<u8>>, fields: &[&[u8]]) -> Result<(), AllocError>
+    requires ready { IsReady writer.old }
+    requires two { 2 ≤ length fields.now }
+    requires plain { ArePlain (map (λ f. f.now) fields.now) }
+    ensures ready { OnOk result (IsReady writer.new) }
+    ensures text { OnOk result (written writer.new ≡ written writer.old ++ record_line (map (λ f. f.now) fields.now)) }
+{
+    let Ok(()) = writer.write_fields(fields) else {
+        return Err(AllocError);
+    };
+    Ok(())
+}

@@ -1,0 +1,105 @@
+-- The causes of the faults of a report.
+use Rattle.std.proofs.Common.{◌≡◌, ◌≢◌, ◌∙◌, ◌<◌, ◌≤◌, ◌↔◌, ℕ, Bool, false, IsTrue, List, length, Option, Some, None, IfSome, take, ap, subst, sym, refl, arith}
+use Rattle.std.specs.Prelude.{nat_le}
+use Rattle.std.proofs.lemmas.Bool.{false≢true}
+use Rattle.std.proofs.lemmas.Bool.Decides.{nat_tests}
+use Rattle.std.specs.Io.KnownBytes.{Appends}
+use Rattle.front.specs.ReportTexts.{report_text}
+use Rattle.step_trace.specs.declared.rows.Row.{Row}
+use Rattle.step_trace.specs.Processors.{IsWithin}
+use Rattle.step_trace.specs.Traces.{Recorded}
+use Rattle.trace_text.specs.declared.counting.Counting.{Counting}
+use Rattle.trace_text.specs.declared.refusals.TextError.{TextError}
+use Rattle.trace_text.specs.declared.refusals.TextError.TheVariants as why
+use Rattle.trace_text.specs.ByteLoops.{ReadRefusedFor}
+use Rattle.trace_text.specs.TraceTexts.{IsTrace, StandsFor}
+use Rattle.trace_text.specs.TextRefusals.{IsFirstRefusal}
+use Rattle.synchrony.specs.declared.faults.Fault.{Fault}
+use Rattle.synchrony.specs.declared.faults.Fault.TheVariants as fault
+use Rattle.synchrony.specs.Faults.{fault_of_text}
+use Rattle.synchrony.specs.Reports.{AreRowsOf, IsTextFault, IsReportFault, IsReadFault, IsWriteFault}
+
+-- what holds of the text that was read holds of the bytes that are known
+of_known : (P : List ℕ → Type 0) (text : List ℕ) (known : Option (List ℕ)) → IfSome known (λ xs. text ≡ xs) → P text → IfSome known P
+of_known P text None same p = tt
+of_known P text (Some xs) same p = subst P same p
+
+too_large : (text : List ℕ) → 67108864 < length text → IsFirstRefusal text why.TooLarge
+too_large text h = let e : nat_le (length text) 67108864 ≡ false = grind (arith, nat_tests) in rw e refl
+
+-- a refusal of the reading has its cause
+pub unread_fault : (set old new : ℕ) (before after known : Option (List ℕ)) (e : TextError) → ReadRefusedFor e old new known
+    → IfSome known (λ text. IsReportFault set text before after (fault_of_text e))
+unread_fault set old new before after None e h = tt
+unread_fault set old new before after (Some xs) why.TooLarge h = too_large xs h
+unread_fault set old new before after (Some xs) why.Read h = tt
+unread_fault set old new before after (Some xs) why.Memory h = tt
+unread_fault set old new before after (Some xs) why.BadHeader h = absurd h
+unread_fault set old new before after (Some xs) why.BadVersion h = absurd h
+unread_fault set old new before after (Some xs) why.BadSize h = absurd h
+unread_fault set old new before after (Some xs) why.BadInit h = absurd h
+unread_fault set old new before after (Some xs) (why.BadFields at) h = absurd h
+unread_fault set old new before after (Some xs) (why.WrongNumber at) h = absurd h
+unread_fault set old new before after (Some xs) (why.BadOp at) h = absurd h
+unread_fault set old new before after (Some xs) (why.BadNumber at) h = absurd h
+unread_fault set old new before after (Some xs) (why.BadStep at e) h = absurd h
+unread_fault set old new before after (Some xs) why.NoEnd h = absurd h
+unread_fault set old new before after (Some xs) why.WrongEnd h = absurd h
+unread_fault set old new before after (Some xs) why.AfterEnd h = absurd h
+
+-- a refusal of the text is its first one
+pub refused_fault : (set : ℕ) (text : List ℕ) (e : TextError) → IsFirstRefusal text e → e ≢ why.Read → IsTextFault set text (fault_of_text e)
+refused_fault set text why.Read h other = absurd (other refl)
+refused_fault set text why.Memory h other = tt
+refused_fault set text why.TooLarge h other = h
+refused_fault set text why.BadHeader h other = h
+refused_fault set text why.BadVersion h other = h
+refused_fault set text why.BadSize h other = h
+refused_fault set text why.BadInit h other = h
+refused_fault set text (why.BadFields at) h other = h
+refused_fault set text (why.WrongNumber at) h other = h
+refused_fault set text (why.BadOp at) h other = h
+refused_fault set text (why.BadNumber at) h other = h
+refused_fault set text (why.BadStep at e) h other = h
+refused_fault set text why.NoEnd h other = h
+refused_fault set text why.WrongEnd h other = h
+refused_fault set text why.AfterEnd h other = h
+
+-- the set has a member that the trace hasn't
+pub set_fault : (set : ℕ) (text : List ℕ) (t : Recorded) (n : ℕ) (inside : Bool) → IsTrace t → StandsFor text t → n ≡ t.config.n
+    → IsTrue inside ↔ IsWithin set n → inside ≡ false → IsTextFault set text fault.Set
+set_fault set text t n inside sound stands same told outside =
+    (t, record { trace = sound; stands = stands }, λ h. false≢true (sym outside ∙ told.1 (subst (λ m. IsWithin set m) (sym same) h)))
+
+-- a fault of the text is one of the report, and none of the reader or the writer
+pub text_fault : (set : ℕ) (text : List ℕ) (before after : Option (List ℕ)) (w : Fault) → IsTextFault set text w → IsReportFault set text before after w
+text_fault set text before after (fault.Command words) h = h
+text_fault set text before after fault.Set h = h
+text_fault set text before after (fault.Trace e) h = h
+text_fault set text before after fault.Memory h = tt
+text_fault set text before after fault.Read h = tt
+text_fault set text before after (fault.Write n) h = absurd h
+
+pub text_fault_reads : (set old new : ℕ) (text : List ℕ) (w : Fault) → IsTextFault set text w → IsReadFault old new w
+text_fault_reads set old new text (fault.Command words) h = tt
+text_fault_reads set old new text fault.Set h = tt
+text_fault_reads set old new text (fault.Trace e) h = tt
+text_fault_reads set old new text fault.Memory h = tt
+text_fault_reads set old new text fault.Read h = absurd h
+text_fault_reads set old new text (fault.Write n) h = tt
+
+pub text_fault_writes : {T : Type 0} (old new : Counting T) (set : ℕ) (text : List ℕ) (w : Fault) → IsTextFault set text w → new ≡ old → IsWriteFault old new w
+text_fault_writes old new set text (fault.Command words) h same = same
+text_fault_writes old new set text fault.Set h same = same
+text_fault_writes old new set text (fault.Trace e) h same = same
+text_fault_writes old new set text fault.Memory h same = same
+text_fault_writes old new set text fault.Read h same = same
+text_fault_writes old new set text (fault.Write n) h same = absurd h
+
+-- a write that failed in the report's text
+pub write_fault : (set : ℕ) (text read : List ℕ) (rows shown : List Row) (before after known : Option (List ℕ)) (n : ℕ) → IfSome known (λ xs. text ≡ xs) → read ≡ text
+    → AreRowsOf set read rows → shown ≡ rows → (n ≤ length (report_text shown)) × Appends before after (take n (report_text shown))
+    → IfSome known (λ xs. IsReportFault set xs before after (fault.Write n))
+write_fault set text read rows shown before after known n whole same exact listed part =
+    of_known (λ xs. IsReportFault set xs before after (fault.Write n)) text known whole
+    (report_text shown, record { rows = rows; exact = subst (λ t. AreRowsOf set t rows) same exact; written = ap report_text listed }, part.0, part.1)

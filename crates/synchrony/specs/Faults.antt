@@ -1,0 +1,21 @@
+-- The faults that end the program.
+use Rattle.std.specs.Prelude.{ℕ}
+use Rattle.trace_text.specs.declared.refusals.TextError.{TextError}
+use Rattle.trace_text.specs.declared.refusals.TextError.TheVariants as why
+use Rattle.synchrony.specs.declared.faults.Fault.{Fault}
+use Rattle.synchrony.specs.declared.faults.Fault.TheVariants as fault
+
+-- the exit status of each fault
+abbrev pub status_of : Fault → ℕ
+status_of (fault.Command text) = 2
+status_of fault.Set = 2
+status_of (fault.Trace e) = 3
+status_of fault.Memory = 5
+status_of fault.Read = 6
+status_of (fault.Write written) = 6
+
+-- the fault that a refusal of a text is: want of memory and a failed read are faults of their own
+abbrev pub fault_of_text : TextError → Fault
+fault_of_text why.Read = fault.Read
+fault_of_text why.Memory = fault.Memory
+fault_of_text e = fault.Trace e

@@ -1,0 +1,56 @@
+//! The report of a trace text, from a reader to a writer.
+
+ghost use Rattle.std.specs.Prelude.{◌≡◌, ℕ, List, OnOk, IfOk, IfErr, IfSome};
+ghost use Rattle.std.specs.Io.KnownBytes.{IsAtEnd, Appends};
+ghost use Rattle.trace_text.specs.Faults.{inner_of, faults_of};
+ghost use Rattle.synchrony.specs.Reports.{AreRowsOf, IsReportOf, IsTextFault, IsReportFault, IsReadFault, IsWriteFault};
+
+use crate::faults::Fault;
+use front::{Report, front, write_report};
+use std::alloc::Global;
+use std::io::{Read, Write};
+use step_trace::ProcSet;
+use trace_text::{Counting, WriteError, read_all, read_trace};
+
+/// Reads a trace text to its end, and writes the report of its trace, for `set` as the correct
+/// processors. Nothing is written before the whole report stands.
+///
+/// Refuses, in this order: Read, or Trace for a text that is too large; Trace for any other refusal
+/// of the text; Set where a member is above the trace's number of processors; Write with the number
+/// of bytes that went out before. Memory may come at any step before the first write.
+pub fn run_report<R: Read, W: Write>(
+    alloc: Global,
+    reader: &mut Counting<R>,
+    writer: &mut Counting<W>,
+    set: ProcSet,
+) -> Result<(), Fault>
+    ensures end { OnOk result (IsAtEnd (R.remaining (inner_of reader.new))) }
+    ensures report { OnOk result ((text : List ℕ) × (report : List ℕ)
+        × IfSome (R.remaining (inner_of reader.old)) (λ known. text ≡ known)
+        × IsReportOf set text report
+        × Appends (W.contents (inner_of writer.old)) (W.contents (inner_of writer.new)) report) }
+    ensures refused { IfErr result (λ why. IfSome (R.remaining (inner_of reader.old)) (λ text.
+        IsReportFault set text (W.contents (inner_of writer.old)) (W.contents (inner_of writer.new)) why)) }
+    ensures read { IfErr result (IsReadFault (faults_of reader.old) (faults_of reader.new)) }
+    ensures unwritten { IfErr result (IsWriteFault writer.old writer.new) }
+{
+    let text = read_all(alloc, reader)?;
+    let report = report_of(alloc, &text, set)?;
+    match write_report(alloc, report.rows(), writer) {
+        Ok(()) => Ok(()),
+        Err(WriteError::Write(written)) => Err(Fault::Write(written)),
+        Err(WriteError::Memory) => Err(Fault::Memory),
+    }
+}
+
+/// The report of the trace that a text stands for.
+fn report_of(alloc: Global, text: &[u8], set: ProcSet) -> Result<Report, Fault>
+    ensures report { IfOk result (λ r. AreRowsOf set text.now r.rows) }
+    ensures refused { IfErr result (IsTextFault set text.now) }
+{
+    let trace = read_trace(alloc, text)?;
+    if !set.within(trace.config().n()) {
+        return Err(Fault::Set);
+    }
+    Ok(front(alloc, &trace, set)?)
+}
