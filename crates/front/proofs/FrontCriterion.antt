@@ -1,11 +1,12 @@
 -- Which triples are on the front: those of a real-time step and its least bounds, where the step is
 -- the first one or one of these bounds isn't the least one from the step before.
-use Rattle.std.proofs.Common.{ℕ, ◌≡◌, ◌-◌, ◌<◌, ◌≤◌, ◌⊎◌, inl, inr, List, length, subst, sym, arith}
-use Rattle.std.proofs.lemmas.Bool.{cases_lt, cases_eq}
+use Rattle.std.proofs.Common.{ℕ, ◌≡◌, ◌-◌, ◌<◌, ◌≤◌, inl, inr, List, length, subst, arith}
+use Rattle.std.proofs.lemmas.Bool.{cases_lt}
 use Rattle.step_trace.specs.declared.steps.Step.{Step}
 use Rattle.step_trace.specs.Bounds.{DeltaHolds, PhiHolds, IsDelta, IsPhi}
-use Rattle.step_trace.specs.Fronts.{Triple, IsFeasible, Dominates, IsOnFront}
-use Rattle.front.proofs.LeastBounds.{DeltaHolds-later, PhiHolds-later, IsDelta-earlier, IsPhi-earlier}
+use Rattle.step_trace.specs.Fronts.{Triple, IsOnFront}
+use Rattle.bound_witness.proofs.Laws.{DeltaHolds-later, PhiHolds-later}
+use Rattle.front.proofs.LeastBounds.{IsDelta-earlier, IsPhi-earlier}
 
 -- the bounds of a triple on the front are the least ones
 pub IsDelta-on_front : (set : ℕ) (steps : List Step) (t : Triple) → IsOnFront set steps t → IsDelta set steps t.gst t.delta
@@ -47,8 +48,8 @@ pub IsOnFront-from_change : (set : ℕ) (steps : List Step) (t : Triple) → 1 �
 IsOnFront-from_change set steps t start end d f change = record {
   feasible = record { start = start; end = end; delta_positive = d.positive; phi_positive = f.positive; delta = d.holds; phi = f.holds };
   undominated = λ o feasible dominates.
-      let delta : t.delta ≤ o.delta = d.least o.delta feasible.delta_positive (DeltaHolds-later set steps o.gst t.gst o.delta feasible.delta dominates.gst) in
-      let phi : t.phi ≤ o.phi = f.least o.phi feasible.phi_positive (PhiHolds-later set steps o.gst t.gst o.phi feasible.phi dominates.gst) in
+      let delta : t.delta ≤ o.delta = d.least o.delta feasible.delta_positive (DeltaHolds-later set steps o.gst t.gst o.delta dominates.gst feasible.delta) in
+      let phi : t.phi ≤ o.phi = f.least o.phi feasible.phi_positive (PhiHolds-later set steps o.gst t.gst o.phi dominates.gst feasible.phi) in
       let below_delta : o.delta ≤ t.delta = dominates.delta in
       let below_phi : o.phi ≤ t.phi = dominates.phi in
       let same_delta : o.delta ≡ t.delta = omega arith in
@@ -56,8 +57,8 @@ IsOnFront-from_change set steps t start end d f change = record {
       let earlier : o.gst < t.gst = elim dominates.smaller [ inl l ↦ l | inr m ↦ elim m [ inl l ↦ absurd (omega arith) | inr l ↦ absurd (omega arith) ] ] in
       let first : 1 ≤ o.gst = feasible.start in
       let before : o.gst ≤ t.gst - 1 = omega arith in
-      let delta_before : DeltaHolds set steps (t.gst - 1) t.delta = subst (λ e. DeltaHolds set steps (t.gst - 1) e) same_delta (DeltaHolds-later set steps o.gst (t.gst - 1) o.delta feasible.delta before) in
-      let phi_before : PhiHolds set steps (t.gst - 1) t.phi = subst (λ e. PhiHolds set steps (t.gst - 1) e) same_phi (PhiHolds-later set steps o.gst (t.gst - 1) o.phi feasible.phi before) in
+      let delta_before : DeltaHolds set steps (t.gst - 1) t.delta = subst (λ e. DeltaHolds set steps (t.gst - 1) e) same_delta (DeltaHolds-later set steps o.gst (t.gst - 1) o.delta before feasible.delta) in
+      let phi_before : PhiHolds set steps (t.gst - 1) t.phi = subst (λ e. PhiHolds set steps (t.gst - 1) e) same_phi (PhiHolds-later set steps o.gst (t.gst - 1) o.phi before feasible.phi) in
       change (omega arith)
       (IsDelta-earlier set steps (t.gst - 1) t.gst t.delta d (omega arith) delta_before)
       (IsPhi-earlier set steps (t.gst - 1) t.gst t.phi f (omega arith) phi_before);

@@ -1,11 +1,11 @@
 -- Where the rows that have begun end, in rows that rise.
-use Rattle.std.proofs.Common.{ℕ, ◌≡◌, ◌+◌, ◌-◌, ◌<◌, ◌≤◌, List, [], ◌∷◌, length, map, get_or, slice_get, Contains, Option, Some, None, true, false, leb, refl, sym, ap, suc, zero, arith}
-use Rattle.std.specs.Prelude.{slice_index_or, nat_le, cond}
+use Rattle.std.proofs.Common.{ℕ, ◌≡◌, ◌<◌, ◌≤◌, List, [], ◌∷◌, length, map, get_or, slice_get, None, true, false, refl, suc, zero, arith}
+use Rattle.std.specs.Prelude.{nat_le}
 use Rattle.std.specs.List.Sorted.{IsStrictlyIncreasing, IsNonDecreasingBy, IsPartitionPoint}
 use Rattle.std.proofs.lemmas.List.Elements.{Contains-get_or}
 use Rattle.std.proofs.lemmas.Option.{slice_get-get_or}
 use Rattle.step_trace.specs.declared.rows.Row.{Row}
-use Rattle.front.specs.Reports.{first_of, last_begun}
+use Rattle.front.specs.Reports.{last_begun}
 use Rattle.front.proofs.ListMembers.{Contains-mapped, rising-tail, rising-first}
 
 -- what rises doesn't fall

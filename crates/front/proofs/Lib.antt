@@ -1,13 +1,13 @@
 pub mod LeastBounds
 pub mod FrontCriterion
-pub mod Searches
 pub mod Stretches
 pub mod ListMembers
-pub mod GrowingFronts
+pub mod StartRows
 pub mod ServingRows
 pub mod LastBegun
 pub mod PlainFields
-pub mod Numbers
-pub mod WholeTexts
 pub mod RowsTaken
 pub mod RowsRead
+pub mod TextsRead
+pub mod OneReport
+pub mod ReportAnswers

@@ -1,11 +1,12 @@
 -- Fields that csv's writer writes with no quotes.
-use Rattle.std.proofs.Common.{ℕ, ◌≡◌, ◌+◌, ◌<◌, ◌≤◌, ◌^◌, ◌∙◌, List, [], ◌∷◌, ◌++◌, length, true, false, ap, refl, sym, decimal, ◌%◌, arith}
-use Rattle.std.specs.List.{list_any, join_with_byte}
+use Rattle.std.proofs.Common.{ℕ, ◌≡◌, ◌+◌, ◌<◌, ◌≤◌, ◌^◌, List, [], ◌∷◌, ◌++◌, length, Bool, false, ap, refl, decimal, ◌%◌, arith}
+use Rattle.std.specs.List.{join_with_byte}
 use Rattle.std.proofs.lemmas.Bool.{ne_eqb}
 use Rattle.std.proofs.lemmas.List.{append-nil}
 use Rattle.std.proofs.lemmas.Fmt.{decimal_by_steps}
 use Rattle.std.proofs.lemmas.List.Folds.{list_any-append}
-use Rattle.csv.specs.Writing.{needs_byte, field_text, fields_text, is_blank, row_text}
+use Rattle.csv.specs.declared.writer.WriterBuilder.{WriterBuilder}
+use Rattle.csv.specs.Writing.{default_writer, needs_byte, field_text, fields_text, is_blank, row_text}
 use Rattle.trace_text.specs.Records.{record_line}
 use Rattle.front.specs.CsvWriting.{our_writer, IsPlain, ArePlain}
 
@@ -21,18 +22,22 @@ IsPlain-decimal n h = decimal_by_steps (λ k ds. IsPlain ds)
     (λ k l. rw (plain_digit k l) refl)
     (λ k ds l p. rw (list_any-append (needs_byte our_writer) ds ((48 + k % 10) ∷ []), p, plain_digit (k % 10) (digit-modulo k)) refl) n h
 
-plain_text : (field : List ℕ) → IsPlain field → field_text our_writer field ≡ field
-plain_text field plain = rw plain refl
+-- the default writer, which asks for records of one length or not
+abbrev pub writer_of : Bool → WriterBuilder
+writer_of flexible = record default_writer { flexible = flexible }
 
-plain_rest : (field : List ℕ) (rest : List (List ℕ)) → ArePlain rest → field ++ fields_text our_writer rest ≡ join_with_byte 44 (field ∷ rest)
+plain_text : (flexible : Bool) (field : List ℕ) → IsPlain field → field_text (writer_of flexible) field ≡ field
+plain_text flexible field plain = rw plain refl
+
+plain_rest : (flexible : Bool) (field : List ℕ) (rest : List (List ℕ)) → ArePlain rest → field ++ fields_text (writer_of flexible) rest ≡ join_with_byte 44 (field ∷ rest)
 unfolding fields_text
-plain_rest field [] plain = append-nil field
-plain_rest field (next ∷ rest) plain = rw (plain_text next plain.0) (ap (λ (t : List ℕ). field ++ (44 ∷ t)) (plain_rest next rest plain.1))
+plain_rest flexible field [] plain = append-nil field
+plain_rest flexible field (next ∷ rest) plain = rw (plain_text flexible next plain.0) (ap (λ (t : List ℕ). field ++ (44 ∷ t)) (plain_rest flexible next rest plain.1))
 
 -- a record of plain fields, more than one, is written as its fields with commas
-pub row_text-plain : (fields : List (List ℕ)) → 2 ≤ length fields → ArePlain fields → row_text our_writer fields ≡ record_line fields
+pub row_text-plain : (flexible : Bool) (fields : List (List ℕ)) → 2 ≤ length fields → ArePlain fields → row_text (writer_of flexible) fields ≡ record_line fields
 unfolding is_blank
-row_text-plain [] two plain = absurd (omega arith)
-row_text-plain (field ∷ []) two plain = absurd (omega arith)
-row_text-plain (field ∷ next ∷ rest) two plain =
-    ap (λ (t : List ℕ). t ++ (10 ∷ [])) (rw (plain_text field plain.0) (plain_rest field (next ∷ rest) plain.1))
+row_text-plain flexible [] two plain = absurd (omega arith)
+row_text-plain flexible (field ∷ []) two plain = absurd (omega arith)
+row_text-plain flexible (field ∷ next ∷ rest) two plain =
+    ap (λ (t : List ℕ). t ++ (10 ∷ [])) (rw (plain_text flexible field plain.0) (plain_rest flexible field (next ∷ rest) plain.1))

@@ -1,12 +1,11 @@
 -- Records are read as the rows that they are the records of, and as no others.
-use Rattle.std.proofs.Common.{ℕ, ◌≡◌, ◌+◌, ◌<◌, ◌^◌, ◌∙◌, ◌==◌, ◌&&◌, List, [], ◌∷◌, ◌++◌, length, map, Option, Some, None, Result, Ok, Err, Bool, true, false, cond, All, IfSome, option_map, codes, decimal, append_assoc, refl, sym, ap, subst, arith}
-use Rattle.std.specs.Str.{bytes_eq}
-use Rattle.std.specs.Option.{option_and_then, ok_or}
+use Rattle.std.proofs.Common.{ℕ, ◌≡◌, ◌+◌, ◌<◌, ◌^◌, ◌∙◌, ◌==◌, ◌&&◌, List, [], ◌∷◌, ◌++◌, length, map, Option, Some, None, Result, Ok, Err, Bool, true, false, cond, All, option_map, codes, decimal, append_assoc, refl, sym, ap, subst, arith}
+use Rattle.std.specs.Option.{ok_or}
 use Rattle.std.proofs.lemmas.Bool.{eqb-true}
 use Rattle.std.proofs.lemmas.Fmt.{decimal_nonempty}
 use Rattle.std.proofs.lemmas.List.{append-nil}
 use Rattle.std.proofs.lemmas.List.Elements.{All-head, All-tail}
-use Rattle.std.proofs.lemmas.Option.{same_Some, none-some, option_and_then_some}
+use Rattle.std.proofs.lemmas.Option.{same_Some, option_and_then_some}
 use Rattle.csv.specs.Records.{field_at}
 use Rattle.step_trace.specs.declared.rows.Miss.{Miss}
 use Rattle.step_trace.specs.declared.rows.Gap.{Gap}
@@ -14,10 +13,10 @@ use Rattle.step_trace.specs.declared.rows.Row.{Row}
 use Rattle.front.specs.declared.row_records.Entries.{Entries}
 use Rattle.front.specs.declared.refusals.ReportError.{ReportError}
 use Rattle.front.specs.declared.refusals.ReportError.TheVariants.{HalfWitness, BadFields, BadHeader}
-use Rattle.front.specs.Fields.{field_of, number_of}
+use Rattle.trace_text.specs.TextRefusals.{field_of, number_of}
 use Rattle.front.specs.ReportTexts.{report_header, miss_fields, gap_fields, row_record, report_records, IsMiss64, IsGap64, IsRow64}
-use Rattle.front.specs.ReportRefusals.{is_header, entry_of, entries_of, miss_of, gap_of, whole_row, row_from, row_of, with_row, next_rows, go_on, rows_after, rows_at_end, rows_of_records}
-use Rattle.front.proofs.Numbers.{bytes_eq-same, same-from_bytes_eq, number_of-decimal, number_of-some}
+use Rattle.front.specs.ReportRefusals.{is_header, entry_of, entries_of, miss_of, gap_of, whole_row, row_from, row_of, with_row, go_on, rows_after, rows_at_end, rows_of_records}
+use Rattle.trace_text.proofs.Numbers.{same-from_bytes_eq, number_of-decimal, number_of-some}
 
 -- the text of what a field of a witness says
 entry_text : Option ℕ → List ℕ

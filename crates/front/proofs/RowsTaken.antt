@@ -1,9 +1,9 @@
 -- Records taken one after the other.
-use Rattle.std.proofs.Common.{◌≡◌, ◌∙◌, ℕ, List, [], ◌∷◌, ◌++◌, Option, Some, Result, Ok, Err, Bool, true, false, MatchBool, option_map, ap, refl, append_assoc}
+use Rattle.std.proofs.Common.{◌≡◌, ◌∙◌, ℕ, List, [], ◌∷◌, ◌++◌, Option, Result, Ok, Err, Bool, true, false, MatchBool, ap, append_assoc}
 use Rattle.std.specs.Prelude.{⊤}
 use Rattle.step_trace.specs.declared.rows.Row.{Row}
 use Rattle.front.specs.declared.refusals.ReportError.{ReportError}
-use Rattle.front.specs.ReportRefusals.{next_rows, rows_after, go_on, is_memory, Gives}
+use Rattle.front.specs.ReportRefusals.{next_rows, rows_after, go_on, is_memory}
 
 append-go : (b : Option (List Row)) (xs ys : List (List (List ℕ))) → ((n : Option (List Row)) → rows_after n xs ≡ Ok b → rows_after n (xs ++ ys) ≡ rows_after b ys)
     → (r : Result (Option (List Row)) ReportError) → go_on r (λ n. rows_after n xs) ≡ Ok b → go_on r (λ n. rows_after n (xs ++ ys)) ≡ rows_after b ys

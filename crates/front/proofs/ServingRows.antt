@@ -1,6 +1,6 @@
 -- The rows of a report serve every real-time step of the trace.
-use Rattle.std.proofs.Common.{ℕ, ◌≡◌, ◌+◌, ◌<◌, ◌≤◌, ◌⊎◌, inl, inr, List, [], ◌∷◌, length, map, Contains, Option, Some, None, Bool, true, false, refl, sym, subst, ap, ◌∙◌, suc, zero, arith}
-use Rattle.std.specs.Prelude.{IsSomeAnd, nat_le, ◌&&◌, cond}
+use Rattle.std.proofs.Common.{ℕ, ◌≡◌, ◌+◌, ◌<◌, ◌≤◌, inl, inr, List, [], ◌∷◌, length, map, Contains, Option, Some, None, Bool, true, false, refl, sym, subst, ap, suc, zero, arith}
+use Rattle.std.specs.Prelude.{IsSomeAnd, nat_le, cond}
 use Rattle.std.specs.List.Sorted.{IsStrictlyIncreasing}
 use Rattle.std.proofs.lemmas.Bool.{cases_lt}
 use Rattle.std.proofs.lemmas.Bool.Decides.{nat_tests}
@@ -11,7 +11,7 @@ use Rattle.step_trace.specs.Bounds.{DeltaHolds, PhiHolds, IsDelta, IsPhi}
 use Rattle.step_trace.specs.Fronts.{Triple, IsFeasible, IsOnFront, IsReport, triple_of}
 use Rattle.step_trace.proofs.StepPositions.{step_at_within}
 use Rattle.front.specs.Reports.{Reported, Serves, first_of, last_begun, row_at}
-use Rattle.front.proofs.LeastBounds.{DeltaHolds-later, PhiHolds-later}
+use Rattle.bound_witness.proofs.Laws.{DeltaHolds-later, PhiHolds-later}
 use Rattle.front.proofs.FrontCriterion.{IsDelta-on_front, IsPhi-on_front}
 use Rattle.front.proofs.Stretches.{miss-refutes, gap-refutes}
 use Rattle.front.proofs.ListMembers.{Contains-nil, Contains-first, Contains-later, Contains-mapped, Contains-cons_cases, Contains-unmapped, rising-tail, rising-first}
@@ -51,8 +51,8 @@ Serves-from_row set steps rows g r report member begun end latest =
     let start : 1 ≤ r.gst = row.front.feasible.start in
     let delta = IsDelta-on_front set steps (triple_of r) row.front in
     let phi = IsPhi-on_front set steps (triple_of r) row.front in
-    let delta_here : DeltaHolds set steps g r.delta = DeltaHolds-later set steps r.gst g r.delta delta.holds begun in
-    let phi_here : PhiHolds set steps g r.phi = PhiHolds-later set steps r.gst g r.phi phi.holds begun in
+    let delta_here : DeltaHolds set steps g r.delta = DeltaHolds-later set steps r.gst g r.delta begun delta.holds in
+    let phi_here : PhiHolds set steps g r.phi = PhiHolds-later set steps r.gst g r.phi begun phi.holds in
     let delta_positive : 1 ≤ r.delta = delta.positive in
     let phi_positive : 1 ≤ r.phi = phi.positive in
     let at_most = λ (o : Triple) (front : IsOnFront set steps o) (l : o.gst ≤ g).

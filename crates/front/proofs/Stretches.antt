@@ -1,5 +1,5 @@
 -- The named witnesses of a step reach to the end of the stretch over which its bounds stay the least.
-use Rattle.std.proofs.Common.{ℕ, ◌≡◌, ◌+◌, ◌-◌, ◌<◌, ◌≤◌, ◌⊎◌, inl, inr, List, length, Option, Some, None, arith}
+use Rattle.std.proofs.Common.{ℕ, ◌≡◌, ◌+◌, ◌-◌, ◌<◌, ◌≤◌, inl, inr, List, Option, Some, None, arith}
 use Rattle.std.specs.Prelude.{IsSomeAnd}
 use Rattle.std.proofs.lemmas.Bool.{cases_lt}
 use Rattle.step_trace.specs.declared.steps.Step.{Step}
@@ -7,7 +7,7 @@ use Rattle.step_trace.specs.declared.rows.Miss.{Miss}
 use Rattle.step_trace.specs.declared.rows.Gap.{Gap}
 use Rattle.step_trace.specs.Bounds.{DeltaHolds, PhiHolds, IsDelta, IsPhi}
 use Rattle.step_trace.specs.Witnesses.{IsNamedMiss, IsNamedGap, NamesMiss, NamesGap, MissRefutes, GapRefutes}
-use Rattle.front.proofs.Searches.{delivered_or_not, steps_within_or_not}
+use Rattle.bound_witness.proofs.Decisions.{delivered_or_not, steps_within_or_not}
 
 -- the named miss of h is of a message sent at g or later, where the bound is the least one from both
 pub named_miss-reaches : (set : ℕ) (steps : List Step) (h g d : ℕ) (m : Miss) → h ≤ g → 1 < d

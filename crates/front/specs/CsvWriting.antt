@@ -1,5 +1,5 @@
 -- How records are written by csv's writer.
-use Rattle.std.specs.Prelude.{◌≡◌, ◌≤◌, ℕ, List, [], ◌∷◌, ◌++◌, true, false, length, Vec}
+use Rattle.std.specs.Prelude.{◌≡◌, ℕ, List, [], ◌∷◌, ◌++◌, true, false, Vec}
 use Rattle.std.specs.List.{list_any}
 use Rattle.std.specs.Global.{Global}
 use Rattle.csv.specs.Writing.{default_writer, needs_byte, fields_written, has_written, writer_setup, writer_under, writer_pending}

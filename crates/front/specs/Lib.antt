@@ -1,6 +1,6 @@
 pub mod Reports
 pub mod CsvWriting
 pub mod ReportTexts
-pub mod Fields
 pub mod ReportRefusals
 pub mod ReportWriting
+pub mod ReportReading

@@ -7,8 +7,8 @@ use Rattle.step_trace.specs.declared.rows.Gap.{Gap}
 use Rattle.step_trace.specs.declared.rows.Row.{Row}
 use Rattle.front.specs.declared.row_records.Entries.{Entries}
 use Rattle.front.specs.declared.refusals.ReportError.{ReportError}
-use Rattle.front.specs.declared.refusals.ReportError.TheVariants.{TooLarge, Read, BadHeader, BadFields, BadNumber, HalfWitness, Memory}
-use Rattle.front.specs.Fields.{field_of, number_of}
+use Rattle.front.specs.declared.refusals.ReportError.TheVariants.{BadHeader, BadFields, BadNumber, HalfWitness, Memory}
+use Rattle.trace_text.specs.TextRefusals.{field_of, number_of}
 
 -- whether the record has the names of the fields
 abbrev pub is_header : List (List ℕ) → Bool

@@ -3,7 +3,8 @@ use Rattle.std.specs.Prelude.{ℕ, ◌≡◌, ◌<◌, ◌^◌, List, [], ◌∷
 use Rattle.step_trace.specs.declared.rows.Miss.{Miss}
 use Rattle.step_trace.specs.declared.rows.Gap.{Gap}
 use Rattle.step_trace.specs.declared.rows.Row.{Row}
-use Rattle.trace_text.specs.Records.{text_of_records, records_of_text}
+use Rattle.trace_text.specs.Records.{text_of_records}
+use Rattle.trace_text.specs.Records.{records_of_text}
 
 -- the names of the fields
 abbrev pub report_header : List (List ℕ)

@@ -1,9 +1,10 @@
 -- What a report is to its readers, and what a row says of the real-time steps that it serves.
-use Rattle.std.specs.Prelude.{ℕ, ◌≡◌, ◌<◌, ◌≤◌, List, [], ◌∷◌, Option, Some, None, IsSomeAnd, nat_le, ◌&&◌, if◌then◌else◌}
+use Rattle.std.specs.Prelude.{ℕ, ◌≡◌, ◌<◌, ◌≤◌, ◌-◌, List, [], ◌∷◌, map, Contains, slice_get, Option, Some, None, IsSomeAnd, nat_le, ◌&&◌, if◌then◌else◌}
 use Rattle.step_trace.specs.declared.steps.Step.{Step}
 use Rattle.step_trace.specs.declared.rows.Row.{Row}
 use Rattle.step_trace.specs.Bounds.{IsDelta, IsPhi}
-use Rattle.step_trace.specs.Witnesses.{MissRefutes, GapRefutes, NamesMiss, NamesGap}
+use Rattle.step_trace.specs.Witnesses.{MissRefutes, GapRefutes}
+use Rattle.suffix_staircase.specs.declared.levels.Level.{Level}
 
 -- the number of real-time steps, and the rows in rising stabilization time
 pub record Reported : Type 0 where
@@ -31,10 +32,11 @@ pub record Serves (set : ℕ) (steps : List Step) (g : ℕ) (r : Row) : Type 0 w
   pub miss : (d : ℕ) → 1 ≤ d → d < r.delta → IsSomeAnd r.miss (λ m. MissRefutes set steps g d m)
   pub gap : (f : ℕ) → 1 ≤ f → f < r.phi → IsSomeAnd r.gap (λ w. GapRefutes set steps g f w)
 
--- the least bounds from g with their named witnesses
-pub record IsRowFrom (set : ℕ) (steps : List Step) (g : ℕ) (r : Row) : Type 0 where
-  pub gst : r.gst ≡ g
-  pub delta : IsDelta set steps g r.delta
-  pub phi : IsPhi set steps g r.phi
-  pub miss : NamesMiss set steps g r.delta r.miss
-  pub gap : NamesGap set steps g r.phi r.gap
+-- the level that a row has from its stabilization time on
+abbrev pub level_of : Row → Level
+level_of r = record { delta = r.delta; miss = r.miss; phi = r.phi; gap = r.gap }
+
+-- the rows begin at these numbers, and each has the level that stands there
+pub record AreRowsAt (levels : List Level) (numbers : List ℕ) (rows : List Row) : Type 0 where
+  pub begin : map (λ r. r.gst) rows ≡ numbers
+  pub each : (r : Row) → Contains rows r → slice_get levels (r.gst - 1) ≡ Some (level_of r)

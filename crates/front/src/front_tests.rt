@@ -6,6 +6,7 @@ use std::alloc::Global;
 use std::process::Abort;
 use std::test::Fail;
 use step_trace::{Act, Config, MessageIds, ProcSet, Step, Trace};
+use suffix_staircase::Stairs;
 
 const HEADER: &str = "gst,delta,phi,sent,missed,proc,from,to\n";
 
@@ -57,7 +58,8 @@ fn trace_of(alloc: Global, t: u64, values: &[u64], steps: &[(u64, Does)]) -> Res
 fn report_of(rt: &impl Abort, alloc: Global, trace: &Trace, set: ProcSet) -> Result<Report, Fail> {
     let is_within = set.within(trace.config().n());
     assert!(rt; is_within);
-    Ok(front(alloc, trace, set)?)
+    let stairs = Stairs::of_trace(alloc, trace, set)?;
+    Ok(front(alloc, &stairs)?)
 }
 
 // Asserts the records of the report of a trace of two processors.

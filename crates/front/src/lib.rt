@@ -5,14 +5,16 @@
 mod refusals;
 mod report_reading;
 mod report_texts;
-mod report_writing;
 mod reports;
 mod row_records;
 
 pub use refusals::ReportError;
-pub use report_writing::write_report;
+pub use report_reading::read_report;
+pub use report_texts::write_report;
 pub use reports::{Report, front};
 pub use step_trace::Row;
 
 #[cfg(test)]
 mod front_tests;
+#[cfg(test)]
+mod report_tests;

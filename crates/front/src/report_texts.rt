@@ -1,13 +1,38 @@
 //! The text of a report: a header and a record for each row, as csv writes them.
 
-ghost use Rattle.std.specs.Prelude.{◌≡◌, ◌≤◌, ◌∷◌, [], ◌++◌, IfOk, OnOk, length, map, decimal, string_bytes};
+ghost use Rattle.std.specs.Prelude.{◌≡◌, ◌≤◌, ◌∷◌, [], ◌++◌, IfOk, OnOk, IfErr, All, length, map, decimal, string_bytes};
+ghost use Rattle.std.specs.Io.KnownBytes.{Appends};
+ghost use Rattle.trace_text.specs.Faults.{inner_of};
+ghost use Rattle.front.specs.ReportWriting.{WroteBefore, IsWriteCause};
 ghost use Rattle.front.specs.CsvWriting.{IsReady, IsPlain, ArePlain, written};
 ghost use Rattle.trace_text.specs.Records.{record_line};
-ghost use Rattle.front.specs.ReportTexts.{report_header, report_text, row_record, miss_fields, gap_fields};
+ghost use Rattle.front.specs.ReportTexts.{report_header, report_text, row_record, miss_fields, gap_fields, IsRow64, StandsFor};
 
 use csv::{Writer, WriterBuilder};
 use std::alloc::{AllocError, Global};
+use std::io::Write;
 use step_trace::{Gap, Miss, Row};
+use trace_text::{Counting, WriteError, write_text};
+
+/// Writes the text of a report of these rows, and flushes.
+///
+/// Refusals: Write with the number of bytes that went out before, the text's first, only where the
+/// writer answered a fault or took no byte; Memory, and nothing was written.
+pub fn write_report<W: Write>(
+    alloc: Global,
+    rows: &[Row],
+    writer: &mut Counting<W>,
+) -> Result<(), WriteError>
+    ensures whole { OnOk result (Appends (W.contents (inner_of writer.old)) (W.contents (inner_of writer.new)) (report_text rows.now)) }
+    ensures part { IfErr result (λ e. WroteBefore e (report_text rows.now) (W.contents (inner_of writer.old)) (W.contents (inner_of writer.new))) }
+    ensures cause { IfErr result (λ e. IsWriteCause e writer.old writer.new) }
+    ensures stands { All IsRow64 rows.now → StandsFor (report_text rows.now) rows.now }
+{
+    let Ok(text) = report_text_of(alloc, rows) else {
+        return Err(WriteError::Memory);
+    };
+    write_text(&text, writer)
+}
 
 // The text of a report of these rows.
 pub(crate) fn report_text_of(alloc: Global, rows: &[Row]) -> Result<Vec<u8>, AllocError>

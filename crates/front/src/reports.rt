@@ -1,15 +1,17 @@
 //! Reports: the rows of the front, and the row that serves each real-time step.
 
-ghost use Rattle.std.specs.Prelude.{◌≡◌, ◌≤◌, length, map, IfOk, IsSomeAnd, ℕ, List};
+ghost use Rattle.std.specs.Prelude.{◌≡◌, ◌-◌, ◌≤◌, length, map, slice_get, Some, IfOk, IsSomeAnd, ℕ, List};
 ghost use Rattle.std.specs.List.Sorted.{IsStrictlyIncreasing};
-ghost use Rattle.step_trace.specs.Processors.{IsWithin};
+ghost use Rattle.step_trace.specs.declared.steps.Step.{Step};
 ghost use Rattle.step_trace.specs.Fronts.{IsReport};
-ghost use Rattle.front.specs.Reports.{IsRowFrom, last_begun};
+ghost use Rattle.suffix_staircase.specs.Levels.{starts, AreStarts};
+ghost use Rattle.suffix_staircase.specs.Analysis.{AreLevels};
+ghost use Rattle.front.specs.Reports.{level_of, AreRowsAt, last_begun};
 
-use bound_witness::{delta_at, phi_at};
 use std::alloc::{AllocError, Global};
 use std::marker::Model;
-use step_trace::{ProcSet, Row, Trace};
+use step_trace::Row;
+use suffix_staircase::{Level, Stairs};
 
 /// The report of a trace and of a set of processors that are named as correct: the triples of a
 /// stabilization time, a communication bound and a processor bound that no other triple betters,
@@ -67,49 +69,48 @@ impl Report {
     }
 }
 
-/// The report of a trace, for the processors of `set` as the correct ones (definitions own, the
-/// bounds of section 2 of the 1988 paper).
-pub fn front(alloc: Global, trace: &Trace, set: ProcSet) -> Result<Report, AllocError>
-    requires { IsWithin set trace.now.config.n }
-    ensures report { IfOk result (λ r. IsReport set trace.now.steps r.rows) }
-    ensures len { IfOk result (λ r. r.len ≡ length trace.now.steps) }
+/// The report of a trace, from its stairs: a row for each start of a stretch of equal bounds.
+///
+/// Takes time that grows with the rows, not with the steps.
+pub fn front(alloc: Global, stairs: &Stairs) -> Result<Report, AllocError>
+    ensures report { IfOk result (λ r. (set : ℕ) (steps : List Step) → AreLevels set steps stairs.now → IsReport set steps r.rows) }
+    ensures only { IfOk result (λ r. (set : ℕ) (steps : List Step) (rows : List Row) → AreLevels set steps stairs.now → IsReport set steps rows → rows ≡ r.rows) }
+    ensures len { IfOk result (λ r. r.len ≡ length stairs.now) }
+    ensures rising { IfOk result (λ r. IsStrictlyIncreasing (map (λ row. row.gst) r.rows)) }
 {
-    let len = trace.len();
-    let rows = front_rows(alloc, trace, set)?;
-    Ok(Report { len, rows })
+    let rows = rows_of(alloc, stairs)?;
+    Ok(Report {
+        len: stairs.len(),
+        rows,
+    })
 }
 
-// A row for each step whose least bounds aren't those of the step before.
-fn front_rows(alloc: Global, trace: &Trace, set: ProcSet) -> Result<Vec<Row>, AllocError>
-    requires { IsWithin set trace.now.config.n }
-    ensures { IfOk result (λ v. IsReport set trace.now.steps v.items) }
+// The rows of all starts.
+fn rows_of(alloc: Global, stairs: &Stairs) -> Result<Vec<Row>, AllocError>
+    ensures { IfOk result (λ v. AreRowsAt stairs.now (starts stairs.now) v.items × AreStarts stairs.now (starts stairs.now)) }
 {
     let mut rows = Vec::new(alloc);
-    // No bound is 0: before the first step there is none.
-    let mut delta = 0;
-    let mut phi = 0;
-    for g in 1..trace.len() as u64 + 1 {
-        let row = row_from(trace, set, g);
-        if row.delta != delta || row.phi != phi {
-            rows.push(row)?;
-        }
-        delta = row.delta;
-        phi = row.phi;
+    while let Some(gst) = stairs.start(rows.len()) {
+        rows.push(row_at(stairs, gst))?;
     }
     Ok(rows)
 }
 
-// The least bounds from `g` with their witnesses.
-fn row_from(trace: &Trace, set: ProcSet, g: u64) -> Row
-    requires within { IsWithin set trace.now.config.n }
-    requires start { 1 ≤ g }
-    requires end { g ≤ length trace.now.steps }
-    ensures { IsRowFrom set trace.now.steps g result }
+// The row of a stretch that begins at `gst`.
+fn row_at(stairs: &Stairs, gst: u64) -> Row
+    requires low { 1 ≤ gst }
+    requires high { gst ≤ length stairs.now }
+    ensures gst { result.gst ≡ gst }
+    ensures level { slice_get stairs.now (gst - 1) ≡ Some (level_of result) }
 {
-    let (delta, miss) = delta_at(trace, set, g);
-    let (phi, gap) = phi_at(trace, set, g);
+    let Level {
+        delta,
+        miss,
+        phi,
+        gap,
+    } = stairs.at(gst);
     Row {
-        gst: g,
+        gst,
         delta,
         phi,
         miss,

@@ -3,7 +3,7 @@
 ghost use Rattle.std.specs.Prelude.{◌≡◌};
 ghost use Rattle.std.specs.Str.{bytes_eq};
 ghost use Rattle.csv.specs.Records.{fields_of};
-ghost use Rattle.front.specs.Fields.{field_of, number_of};
+ghost use Rattle.trace_text.specs.TextRefusals.{field_of, number_of};
 ghost use Rattle.front.specs.ReportRefusals.{is_header, entry_of, entries_of, miss_of, gap_of, whole_row, row_of};
 
 use crate::refusals::ReportError;

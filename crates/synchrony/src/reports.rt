@@ -10,6 +10,7 @@ use front::{Report, front, write_report};
 use std::alloc::Global;
 use std::io::{Read, Write};
 use step_trace::ProcSet;
+use suffix_staircase::Stairs;
 use trace_text::{Counting, WriteError, read_all, read_trace};
 
 /// Reads a trace text to its end, and writes the report of its trace, for `set` as the correct
@@ -52,5 +53,6 @@ fn report_of(alloc: Global, text: &[u8], set: ProcSet) -> Result<Report, Fault>
     if !set.within(trace.config().n()) {
         return Err(Fault::Set);
     }
-    Ok(front(alloc, &trace, set)?)
+    let stairs = Stairs::of_trace(alloc, &trace, set)?;
+    Ok(front(alloc, &stairs)?)
 }

@@ -1,10 +1,10 @@
-use Rattle.std.proofs.Common.{Bor, List, ℕ, ◌≡◌, ◌∙◌, sym, refl, rules, inl, inr, true, Some, None, ◌∷◌, [], ◌++◌}
+use Rattle.std.proofs.Common.{Bor, List, ℕ, ◌∙◌, sym, refl, inl, inr, Some, None, ◌∷◌, [], ◌++◌}
 use Rattle.std.proofs.lemmas.Result.{err_from_is_err_and}
 use Rattle.csv.specs.Reading.{Reached, default_config, strip_bom}
 use Rattle.csv.specs.Records.{fields_of}
 use Rattle.csv.specs.declared.parser.State.TheVariants as st
 use Rattle.csv.proofs.ReadFacts.{rows-end, rows-more}
-use Rattle.front.proofs.WholeTexts.{are-records, records-front}
+use Rattle.trace_text.proofs.ReachedRecords.{are-records, records-front}
 use Rattle.front.proofs.RowsTaken.{rows_after-more, rows_after-refused}
 use Rattle.front.proofs.report_reading.read_records.Goals as goal
 

@@ -1,4 +1,4 @@
-use Rattle.std.proofs.Common.{ℕ, ◌≡◌, ◌-◌, length, leb, subst, sym, ◌∙◌, suc, arith, rules}
+use Rattle.std.proofs.Common.{◌≡◌, ◌-◌, leb, subst, sym, ◌∙◌, suc, arith, rules}
 use Rattle.std.proofs.lemmas.List.Sorted.{IsPartitionPoint-from_clause, IsPartitionedBy-leb}
 use Rattle.std.proofs.lemmas.Option.{slice_get-get_or}
 use Rattle.step_trace.specs.declared.rows.Row.{Row}

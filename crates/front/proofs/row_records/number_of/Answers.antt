@@ -1,5 +1,5 @@
 use Rattle.std.proofs.Common.{rules}
-use Rattle.front.proofs.Numbers.{number_of-read}
+use Rattle.trace_text.proofs.Numbers.{number_of-read}
 use Rattle.front.proofs.row_records.number_of.Goals as goal
 
 pub returns : goal.returns

@@ -13,3 +13,11 @@ pub returns-then-not-within-clause-refused : goal.returns-then-not-within-clause
 returns-then-not-within-clause-refused c =
     set_fault c.args.set c.args.text.now c.in_ok-trace.trace c.n.result c.within.result c.in_ok-trace.ensures.sound c.in_ok-trace.ensures.stands
     (search rules) c.within.ensures (search rules)
+
+pub returns-clause-report : goal.returns-clause-report
+returns-clause-report c = record {
+  trace = c.in_ok-trace.trace;
+  read = record { trace = c.in_ok-trace.ensures.sound; stands = c.in_ok-trace.ensures.stands };
+  within = search rules;
+  exact = c.in_ok-front.ensures.report c.args.set c.in_ok-trace.trace.steps c.in_ok-stairs.ensures;
+}

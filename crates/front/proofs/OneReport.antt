@@ -1,0 +1,64 @@
+-- A trace and a set have one report.
+use Rattle.std.proofs.Common.{ℕ, ◌≡◌, List, [], ◌∷◌, map, Contains, Option, refl, sym, subst, ap, inl, inr, arith}
+use Rattle.std.specs.List.Sorted.{IsStrictlyIncreasing}
+use Rattle.bound_witness.proofs.Laws.{NamesMiss-steady, NamesGap-steady}
+use Rattle.step_trace.specs.declared.steps.Step.{Step}
+use Rattle.step_trace.specs.declared.rows.Miss.{Miss}
+use Rattle.step_trace.specs.declared.rows.Gap.{Gap}
+use Rattle.step_trace.specs.declared.rows.Row.{Row}
+use Rattle.step_trace.specs.Fronts.{Triple, IsReport, IsReportRow, triple_of}
+use Rattle.front.proofs.ListMembers.{Contains-nil, Contains-first, Contains-later, Contains-mapped, Contains-cons_cases, Contains-unmapped, rising-tail, rising-first}
+
+-- what rises and has the same members is the same
+rising-same : (xs ys : List Row) → IsStrictlyIncreasing (map (λ r. r.gst) xs) → IsStrictlyIncreasing (map (λ r. r.gst) ys)
+    → ((r : Row) → Contains xs r → Contains ys r) → ((r : Row) → Contains ys r → Contains xs r) → xs ≡ ys
+rising-same [] [] a b into back = refl
+rising-same [] (y ∷ ys) a b into back = absurd (Contains-nil y (back y (Contains-first y ys)))
+rising-same (x ∷ xs) [] a b into back = absurd (Contains-nil x (into x (Contains-first x xs)))
+rising-same (x ∷ xs) (y ∷ ys) a b into back =
+    let above_x = λ (r : Row) (c : Contains xs r). rising-first x.gst (map (λ z. z.gst) xs) a r.gst (Contains-mapped (λ (z : Row). z.gst) xs r c) in
+    let above_y = λ (r : Row) (c : Contains ys r). rising-first y.gst (map (λ z. z.gst) ys) b r.gst (Contains-mapped (λ (z : Row). z.gst) ys r c) in
+    let first : x ≡ y = elim (Contains-cons_cases y x ys (into x (Contains-first x xs))) [
+      | inl e ↦ sym e
+      | inr later ↦ elim (Contains-cons_cases x y xs (back y (Contains-first y ys))) [
+        | inl e ↦ e
+        | inr other ↦ absurd (let l = above_y x later in let m = above_x y other in omega arith)
+      ]
+    ] in
+    let gst : x.gst ≡ y.gst = ap (λ (z : Row). z.gst) first in
+    let rest = rising-same xs ys (rising-tail x.gst (map (λ z. z.gst) xs) a) (rising-tail y.gst (map (λ z. z.gst) ys) b)
+    (λ r c. elim (Contains-cons_cases y r ys (into r (Contains-later x r xs c))) [
+      | inl e ↦ absurd (let l = above_x r c in let same : y.gst ≡ r.gst = ap (λ (z : Row). z.gst) e in omega arith)
+      | inr later ↦ later
+    ])
+    (λ r c. elim (Contains-cons_cases x r xs (back r (Contains-later y r ys c))) [
+      | inl e ↦ absurd (let l = above_y r c in let same : x.gst ≡ r.gst = ap (λ (z : Row). z.gst) e in omega arith)
+      | inr later ↦ later
+    ]) in
+    rw (first, rest) refl
+
+row-parts : (a b : Row) → a.gst ≡ b.gst → a.delta ≡ b.delta → a.phi ≡ b.phi → a.miss ≡ b.miss → a.gap ≡ b.gap → a ≡ b
+row-parts a b gst delta phi miss gap = go a.gst a.delta a.phi a.miss a.gap gst delta phi miss gap where
+  go : (g d f : ℕ) (m : Option Miss) (w : Option Gap) → g ≡ b.gst → d ≡ b.delta → f ≡ b.phi → m ≡ b.miss → w ≡ b.gap
+      → record { gst = g; delta = d; phi = f; miss = m; gap = w } ≡ b
+  go g d f m w i j k l n = rw (i, j, k, l, n) refl
+
+-- rows of one triple, with its named witnesses, are one
+row-same : (set : ℕ) (steps : List Step) (a b : Row) → IsReportRow set steps a → IsReportRow set steps b → triple_of a ≡ triple_of b → a ≡ b
+row-same set steps a b x y e =
+    let gst : a.gst ≡ b.gst = ap (λ (t : Triple). t.gst) e in
+    let delta : a.delta ≡ b.delta = ap (λ (t : Triple). t.delta) e in
+    let phi : a.phi ≡ b.phi = ap (λ (t : Triple). t.phi) e in
+    row-parts a b gst delta phi
+    (NamesMiss-steady set steps b.gst b.gst b.delta b.miss a.miss (omega arith) y.miss (rw (gst, delta) at x.miss))
+    (NamesGap-steady set steps b.gst b.gst b.phi b.gap a.gap (omega arith) y.gap (rw (gst, phi) at x.gap))
+
+report-has : (set : ℕ) (steps : List Step) (xs ys : List Row) → IsReport set steps xs → IsReport set steps ys → (r : Row) → Contains xs r → Contains ys r
+report-has set steps xs ys a b r c =
+    let row = a.sound r c in
+    let m = Contains-unmapped triple_of ys (triple_of r) (b.complete (triple_of r) row.front) in
+    subst (Contains ys) (row-same set steps m.0 r (b.sound m.0 m.1) row m.2) m.1
+
+-- two reports of a trace and a set are the same
+pub IsReport-unique : (set : ℕ) (steps : List Step) (xs ys : List Row) → IsReport set steps xs → IsReport set steps ys → xs ≡ ys
+IsReport-unique set steps xs ys a b = rising-same xs ys a.rising b.rising (report-has set steps xs ys a b) (report-has set steps ys xs b a)

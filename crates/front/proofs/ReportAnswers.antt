@@ -1,0 +1,114 @@
+-- What the answer for the records of a text says of the text.
+use Rattle.std.proofs.Common.{ℕ, ◌≡◌, ◌+◌, ◌==◌, ◌∙◌, List, [], ◌∷◌, length, Option, Some, None, Result, Ok, Err, Bool, true, false, cond, All, IfOk, IfErr, IfSome, MatchResult, MatchBool, refl, sym, ap, subst}
+use Rattle.std.specs.Prelude.{⊤}
+use Rattle.std.specs.Option.{ok_or}
+use Rattle.step_trace.specs.declared.rows.Row.{Row}
+use Rattle.trace_text.specs.Records.{records_of_text}
+use Rattle.front.specs.declared.row_records.Entries.{Entries}
+use Rattle.front.specs.declared.refusals.ReportError.{ReportError}
+use Rattle.front.specs.declared.refusals.ReportError.TheVariants as why
+use Rattle.front.specs.ReportTexts.{StandsFor, IsRow64}
+use Rattle.front.specs.ReportReading.{RefusedFor, IsDeviceRefusal}
+use Rattle.front.specs.ReportRefusals.{is_header, entries_of, whole_row, row_from, row_of, with_row, next_rows, go_on, rows_after, rows_at_end, rows_of_records, is_memory, Gives}
+use Rattle.front.proofs.RowsRead.{rows_of_records-ok, rows_of_records-records}
+
+-- a refusal of the records
+IsRecordRefusal : ReportError → Type 0
+IsRecordRefusal why.TooLarge = ⊥
+IsRecordRefusal why.Read = ⊥
+IsRecordRefusal why.Memory = ⊥
+IsRecordRefusal e = ⊤
+
+whole-refusal : (at : ℕ) (o : Option Row) (e : ReportError) → ok_or o (why.HalfWitness at) ≡ Err e → IsRecordRefusal e
+unfolding IsRecordRefusal
+whole-refusal at None e h = let same : why.HalfWitness at ≡ e = cc h in subst IsRecordRefusal same tt
+whole-refusal at (Some r) e h = cc h
+
+entries-refusal : (at : ℕ) (o : Option Entries) (e : ReportError) → row_from at o ≡ Err e → IsRecordRefusal e
+unfolding IsRecordRefusal
+entries-refusal at None e h = let same : why.BadNumber at ≡ e = cc h in subst IsRecordRefusal same tt
+entries-refusal at (Some x) e h = whole-refusal at (whole_row x) e h
+
+row-refusal : (at : ℕ) (row : List (List ℕ)) (b : Bool) (e : ReportError) → cond b (row_from at (entries_of row)) (Err (why.BadFields at)) ≡ Err e → IsRecordRefusal e
+unfolding IsRecordRefusal
+row-refusal at row true e h = entries-refusal at (entries_of row) e h
+row-refusal at row false e h = let same : why.BadFields at ≡ e = cc h in subst IsRecordRefusal same tt
+
+next-refusal : (rows : Option (List Row)) (row : List (List ℕ)) (e : ReportError) → next_rows rows row ≡ Err e → IsRecordRefusal e
+unfolding IsRecordRefusal
+next-refusal None row e h = go (is_header row) h where
+  go : (b : Bool) → cond {A = Result (Option (List Row)) ReportError} b (Ok (Some [])) (Err why.BadHeader) ≡ Err e → IsRecordRefusal e
+  go true h = cc h
+  go false h = let same : why.BadHeader ≡ e = cc h in subst IsRecordRefusal same tt
+next-refusal (Some rows) row e h = go (row_of (length rows + 1) row) refl h where
+  go : (r : Result Row ReportError) → row_of (length rows + 1) row ≡ r → with_row rows r ≡ Err e → IsRecordRefusal e
+  go (Ok x) k h = cc h
+  go (Err f) k h = let same : f ≡ e = cc h in subst IsRecordRefusal same (row-refusal (length rows + 1) row (length row == 8) f k)
+
+after-refusal : (rows : Option (List Row)) (rs : List (List (List ℕ))) (e : ReportError) → rows_after rows rs ≡ Err e → IsRecordRefusal e
+after-refusal rows [] e h = cc h
+after-refusal rows (r ∷ rs) e h = go (next_rows rows r) refl (λ more. after-refusal more rs e) h where
+  go : (n : Result (Option (List Row)) ReportError) → next_rows rows r ≡ n → ((more : Option (List Row)) → rows_after more rs ≡ Err e → IsRecordRefusal e)
+      → go_on n (λ more. rows_after more rs) ≡ Err e → IsRecordRefusal e
+  go (Ok more) k rest h = rest more h
+  go (Err f) k rest h = let same : f ≡ e = cc h in subst IsRecordRefusal same (next-refusal rows r f k)
+
+records-refusal : (rs : List (List (List ℕ))) (e : ReportError) → rows_of_records rs ≡ Err e → IsRecordRefusal e
+unfolding IsRecordRefusal
+records-refusal rs e h = go (rows_after None rs) refl h where
+  go : (n : Result (Option (List Row)) ReportError) → rows_after None rs ≡ n → rows_at_end n ≡ Err e → IsRecordRefusal e
+  go (Ok None) k h = let same : why.BadHeader ≡ e = cc h in subst IsRecordRefusal same tt
+  go (Ok (Some rows)) k h = cc h
+  go (Err f) k h = let same : f ≡ e = cc h in subst IsRecordRefusal same (after-refusal None rs f k)
+
+-- rows that were answered are those of the text
+pub stands-from : {A : Type 0} (items : A → List Row) (r : Result A ReportError) (known : Option (List ℕ)) (text : List ℕ)
+    → Gives items r (rows_of_records (records_of_text text)) → IfSome known (λ xs. text ≡ xs) → IfOk r (λ v. IfSome known (λ t. StandsFor t (items v)))
+stands-from items (Err e) known text h k = tt
+stands-from items (Ok v) None text h k = tt
+stands-from items (Ok v) (Some t) text h k = subst (λ t. StandsFor t (items v)) k (rows_of_records-ok (records_of_text text) (items v) h)
+
+-- for a text that stands for rows they are answered, but for want of memory
+pub complete-from : {A : Type 0} (items : A → List Row) (r : Result A ReportError) (known : Option (List ℕ)) (text : List ℕ)
+    → Gives items r (rows_of_records (records_of_text text)) → IfSome known (λ xs. text ≡ xs)
+    → IfSome known (λ t. (rows : List Row) → All IsRow64 rows → StandsFor t rows → MatchResult r (λ v. items v ≡ rows) IsDeviceRefusal)
+complete-from {A = A} items r None text h k = tt
+complete-from {A = A} items r (Some t) text h k = λ rows small stands.
+    let same : records_of_text text ≡ records_of_text t = ap records_of_text k in
+    go r h rows (ap rows_of_records (same ∙ stands) ∙ rows_of_records-records rows small)
+  where
+    refused : (e : ReportError) → MatchBool (is_memory e) ⊤ (rows_of_records (records_of_text text) ≡ Err e) → (rows : List Row)
+        → rows_of_records (records_of_text text) ≡ Ok rows → IsDeviceRefusal e
+    refused why.TooLarge h rows k = tt
+    refused why.Read h rows k = tt
+    refused why.Memory h rows k = tt
+    refused why.BadHeader h rows k = cc (h, k)
+    refused (why.BadFields n) h rows k = cc (h, k)
+    refused (why.BadNumber n) h rows k = cc (h, k)
+    refused (why.HalfWitness n) h rows k = cc (h, k)
+
+    go : (r : Result A ReportError) → Gives items r (rows_of_records (records_of_text text)) → (rows : List Row)
+        → rows_of_records (records_of_text text) ≡ Ok rows → MatchResult r (λ v. items v ≡ rows) IsDeviceRefusal
+    go (Ok v) h rows k = let same : Ok (items v) ≡ Ok rows = sym h ∙ k in cc same
+    go (Err e) h rows k = refused e h rows k
+
+-- a refusal is the first of the records, or want of memory
+pub refused-from : {A : Type 0} (items : A → List Row) (r : Result A ReportError) (known : Option (List ℕ)) (text : List ℕ) (old new : ℕ)
+    → Gives items r (rows_of_records (records_of_text text)) → IfSome known (λ xs. text ≡ xs) → IfErr r (λ e. RefusedFor e old new known)
+unfolding IsRecordRefusal
+refused-from items (Ok v) known text old new h k = tt
+refused-from items (Err e) known text old new h k = go e h known k where
+  first : (e : ReportError) → rows_of_records (records_of_text text) ≡ Err e → (known : Option (List ℕ)) → IfSome known (λ xs. text ≡ xs)
+      → IfSome known (λ t. rows_of_records (records_of_text t) ≡ Err e)
+  first e h None k = tt
+  first e h (Some t) k = subst (λ t. rows_of_records (records_of_text t) ≡ Err e) k h
+
+  go : (e : ReportError) → MatchBool (is_memory e) ⊤ (rows_of_records (records_of_text text) ≡ Err e) → (known : Option (List ℕ)) → IfSome known (λ xs. text ≡ xs)
+      → RefusedFor e old new known
+  go why.TooLarge h known k = absurd (records-refusal (records_of_text text) why.TooLarge h)
+  go why.Read h known k = absurd (records-refusal (records_of_text text) why.Read h)
+  go why.Memory h known k = tt
+  go why.BadHeader h known k = first why.BadHeader h known k
+  go (why.BadFields n) h known k = first (why.BadFields n) h known k
+  go (why.BadNumber n) h known k = first (why.BadNumber n) h known k
+  go (why.HalfWitness n) h known k = first (why.HalfWitness n) h known k

@@ -1,0 +1,57 @@
+-- From round to round, and the node functions by the part of the round.
+use Rattle.std.proofs.Common.{ℕ, ◌≡◌, ◌+◌, ◌*◌, ◌<◌, ◌≤◌, List, ap, arith}
+use Rattle.std.specs.Prelude.{option_map}
+use Rattle.step_trace.specs.Configurations.{Setup}
+use Rattle.lock_phases.specs.Rounds.{phase_of, part_of, owner, Part, Listing, Locking, Acknowledging, Releasing, part_at}
+use Rattle.lock_phases.specs.Nodes.{State}
+use Rattle.lock_phases.specs.Messages.{Heard}
+use Rattle.lock_phases.specs.Values.{take_in}
+use Rattle.lock_phases.specs.NodeFunctions.{kind_sent, out, next_in, next}
+
+-- a round is this part of this phase
+pub round_is : (round : ℕ) → 1 ≤ round → round + 4 ≡ 4 * phase_of round + part_of round
+round_is round l = omega arith
+
+pub part_of-low : (round : ℕ) → 1 ≤ part_of round
+part_of-low round = omega arith
+
+pub part_of-high : (round : ℕ) → part_of round ≤ 4
+part_of-high round = omega arith
+
+-- the next round is the next part of the phase, or the first part of the next phase
+pub part_of-next : (round : ℕ) → 1 ≤ round → part_of round < 4 → (part_of (round + 1) ≡ part_of round + 1) × (phase_of (round + 1) ≡ phase_of round)
+part_of-next round l h = (omega arith, omega arith)
+
+pub phase_of-next : (round : ℕ) → 1 ≤ round → part_of round ≡ 4 → (part_of (round + 1) ≡ 1) × (phase_of (round + 1) ≡ phase_of round + 1)
+phase_of-next round l h = (omega arith, omega arith)
+
+-- an owner is a processor
+pub owner-low : (n phase : ℕ) → 1 ≤ owner n phase
+owner-low n phase = omega arith
+
+pub owner-high : (n phase : ℕ) → 1 ≤ n → owner n phase ≤ n
+owner-high n phase l = omega arith
+
+pub part_at-listing : (round : ℕ) → part_of round ≡ 1 → part_at (part_of round) ≡ Listing
+part_at-listing round e = ap part_at e
+
+pub part_at-locking : (round : ℕ) → part_of round ≡ 2 → part_at (part_of round) ≡ Locking
+part_at-locking round e = ap part_at e
+
+pub part_at-acknowledging : (round : ℕ) → part_of round ≡ 3 → part_at (part_of round) ≡ Acknowledging
+part_at-acknowledging round e = ap part_at e
+
+pub part_at-releasing : (round : ℕ) → part_of round ≡ 4 → part_at (part_of round) ≡ Releasing
+part_at-releasing round e = ap part_at e
+
+-- the state after a round of this part
+pub next-in : (part : Part) (c : Setup) (s : State) (me round : ℕ) (heard : List Heard) → part_at (part_of round) ≡ part
+    → next c s me round heard ≡ next_in part c (record s { proper = take_in s.proper heard }) me (phase_of round) heard
+unfolding next
+next-in part c s me round heard e = ap (λ p. next_in p c (record s { proper = take_in s.proper heard }) me (phase_of round) heard) e
+
+-- what is sent in a round of this part
+pub out-in : (part : Part) (c : Setup) (s : State) (me round to : ℕ) → part_at (part_of round) ≡ part
+    → out c s me round to ≡ option_map (λ kind. record { kind = kind; proper = s.proper }) (kind_sent part s (owner c.n (phase_of round)) me to)
+unfolding out
+out-in part c s me round to e = ap (λ p. option_map (λ kind. record { kind = kind; proper = s.proper }) (kind_sent p s (owner c.n (phase_of round)) me to)) e

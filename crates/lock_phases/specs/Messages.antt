@@ -1,0 +1,37 @@
+-- Messages (section 3: what a body says, beside the PROPER set that is attached to each).
+use Rattle.std.specs.Prelude.{ℕ, List, [], Option, Some, None, Bool, true, false}
+use Rattle.lock_phases.specs.declared.bodies.Kind.{Kind}
+use Rattle.lock_phases.specs.declared.bodies.Kind.TheVariants.{List as Listed, Lock, Ack, Locks}
+use Rattle.lock_phases.specs.declared.bodies.Body.{Body}
+
+-- a message that is heard: its sender and its body
+abbrev pub Heard : Type 0
+Heard = ℕ × Body
+
+-- the values that a List has
+abbrev pub listed_values : Kind → List ℕ
+listed_values (Listed values) = values
+listed_values (Lock value) = []
+listed_values Ack = []
+listed_values (Locks pairs) = []
+
+-- the value that a Lock asks to lock
+abbrev pub locked_value : Kind → Option ℕ
+locked_value (Listed values) = None
+locked_value (Lock value) = Some value
+locked_value Ack = None
+locked_value (Locks pairs) = None
+
+-- whether it is an acknowledgement
+abbrev pub is_ack : Kind → Bool
+is_ack (Listed values) = false
+is_ack (Lock value) = false
+is_ack Ack = true
+is_ack (Locks pairs) = false
+
+-- the locks that a message of a lock-release round tells
+abbrev pub told_locks : Kind → List (ℕ × ℕ)
+told_locks (Listed values) = []
+told_locks (Lock value) = []
+told_locks Ack = []
+told_locks (Locks pairs) = pairs

@@ -1,0 +1,17 @@
+//! One node of Algorithm 1 (section 3 of Dwork, Lynch and Stockmeyer, "Consensus in the Presence of
+//! Partial Synchrony", 1988): what it sends in a round, and its state after the round. `specs/` has both
+//! as functions over plain data.
+#![tactic(auto)]
+
+mod bodies;
+mod locks;
+mod nodes;
+mod quorums;
+mod rounds;
+#[cfg(test)]
+mod tests;
+mod values;
+
+pub use bodies::{Body, Kind, LockPairs, Values};
+pub use nodes::Node;
+pub use rounds::{owner, part_of, phase_of};

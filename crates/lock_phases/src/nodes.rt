@@ -1,0 +1,269 @@
+//! Nodes: what one sends in a round, and what becomes of it in the round.
+
+ghost use Rattle.std.specs.Prelude.{◌≡◌, ◌≤◌, ◌-◌, ◌&&◌, if◌then◌else◌, IfOk, OnOk, OnErr, All, map, filter, option_map, false};
+ghost use Rattle.std.specs.List.Sorted.{IsStrictlyIncreasing};
+
+use crate::bodies::{Body, Kind, LockPairs, Values};
+use crate::locks::{heard_lock, is_acceptable, put_lock, release};
+use crate::quorums::{acks, least_listed};
+use crate::rounds::{owner, part_of, phase_of};
+use crate::values::grown;
+use std::alloc::{AllocError, Global};
+use std::marker::Model;
+use step_trace::Config;
+
+/// One node of Algorithm 1 (section 3 of the 1988 paper): its PROPER values, its locks, its proposal,
+/// whether it owes an acknowledgement, and its decision.
+#[derive(Debug, Drop)]
+pub struct Node {
+    proper: Vec<u64>,
+    locks: Vec<(u64, u64)>,
+    proposal: Option<u64>,
+    ack: bool,
+    decision: Option<u64>,
+}
+
+impl Model for Node {
+    ghost use Rattle.lock_phases.specs.Nodes.{State, IsRising};
+
+    ghost Value = { State };
+
+    ghost view = { λ a. record { proper = a.proper.items; locks = a.locks.items; proposal = a.proposal; ack = a.ack; decision = a.decision } };
+
+    ghost invariant = { λ a. IsRising (record { proper = a.proper.items; locks = a.locks.items; proposal = a.proposal; ack = a.ack; decision = a.decision }) };
+}
+
+impl Node {
+    ghost use Rattle.step_trace.specs.Configurations.{IsProc};
+    ghost use Rattle.lock_phases.specs.Rounds.{phase_of, part_of, part_at, owner};
+    ghost use Rattle.lock_phases.specs.Nodes.{opening};
+    ghost use Rattle.lock_phases.specs.Locks.{is_acceptable, heard_lock, kept_locks};
+    ghost use Rattle.lock_phases.specs.Quorums.{least_listed};
+    ghost use Rattle.lock_phases.specs.NodeFunctions.{out, kind_sent, next, next_in, locked, decides};
+
+    /// The opening node of a processor with this initial value.
+    pub fn new(alloc: Global, value: u64) -> Result<Self, AllocError>
+        ensures { IfOk result (λ node. node ≡ opening value) }
+    {
+        let mut proper = Vec::new(alloc);
+        proper.push(value)?;
+        Ok(Node {
+            proper,
+            locks: Vec::new(alloc),
+            proposal: None,
+            ack: false,
+            decision: None,
+        })
+    }
+
+    /// The PROPER values, rising.
+    pub fn proper(&self) -> &[u64]
+        ensures value { result.now ≡ self.now.proper }
+        ensures rising { IsStrictlyIncreasing result.now }
+    {
+        &self.proper
+    }
+
+    /// The locks, each a value with the phase in which it was locked, rising by value.
+    pub fn locks(&self) -> &[(u64, u64)]
+        ensures value { result.now ≡ self.now.locks }
+        ensures rising { IsStrictlyIncreasing (map (λ lock. lock.0) result.now) }
+    {
+        &self.locks
+    }
+
+    /// The value that it proposes, if it does: only an owner does.
+    pub fn proposal(&self) -> Option<u64>
+        ensures { result ≡ self.now.proposal }
+    {
+        self.proposal
+    }
+
+    /// Whether it owes an acknowledgement.
+    pub fn ack(&self) -> bool
+        ensures { result ≡ self.now.ack }
+    {
+        self.ack
+    }
+
+    /// The value that it decided, if it did.
+    pub fn decision(&self) -> Option<u64>
+        ensures { result ≡ self.now.decision }
+    {
+        self.decision
+    }
+
+    /// What processor `me` with this node sends to processor `to` in a round, if anything; PROPER is
+    /// attached to whatever it sends (section 3 of the 1988 paper).
+    #[tactic(auto, unfolding(crate::specs::NodeFunctions::out))]
+    pub fn out(
+        &self,
+        alloc: Global,
+        cfg: &Config,
+        me: u64,
+        round: u64,
+        to: u64,
+    ) -> Result<Option<Body>, AllocError>
+        requires sender { IsProc cfg.now me }
+        requires receiver { IsProc cfg.now to }
+        requires positive { 1 ≤ round }
+        ensures { IfOk result (λ body. body ≡ out cfg.now self.now me round to) }
+    {
+        let Some(kind) = self.kind_sent(alloc, cfg, me, round, to)? else {
+            return Ok(None);
+        };
+        let proper = Values::new(Vec::from_slice(alloc, &self.proper)?);
+        Ok(Some(Body { kind, proper }))
+    }
+
+    fn kind_sent(
+        &self,
+        alloc: Global,
+        cfg: &Config,
+        me: u64,
+        round: u64,
+        to: u64,
+    ) -> Result<Option<Kind>, AllocError>
+        requires { 1 ≤ round }
+        ensures { IfOk result (λ kind. kind ≡ kind_sent (part_at (part_of round)) self.now (owner cfg.now.n (phase_of round)) me to) }
+    {
+        let owner = owner(cfg.n(), phase_of(round));
+        match part_of(round) {
+            1 => self.list_sent(alloc, to == owner),
+            2 => Ok(self.lock_sent(me == owner)),
+            3 => Ok(self.ack_sent(to == owner)),
+            _ => self.locks_sent(alloc),
+        }
+    }
+
+    fn list_sent(&self, alloc: Global, to_owner: bool) -> Result<Option<Kind>, AllocError>
+        ensures { IfOk result (λ kind. kind ≡ (if to_owner then Some (Kind.List (filter (is_acceptable self.now.locks) self.now.proper)) else None)) }
+    {
+        if !to_owner {
+            return Ok(None);
+        }
+        let locks = &self.locks;
+        let values = self
+            .proper
+            .iter()
+            .copied()
+            .filter(|v| is_acceptable(locks, *v))
+            .collect(alloc)?;
+        Ok(Some(Kind::List(Values::new(values))))
+    }
+
+    fn lock_sent(&self, from_owner: bool) -> Option<Kind>
+        ensures { result ≡ (if from_owner then option_map Kind.Lock self.now.proposal else None) }
+    {
+        if from_owner {
+            self.proposal.map(Kind::Lock)
+        } else {
+            None
+        }
+    }
+
+    fn ack_sent(&self, to_owner: bool) -> Option<Kind>
+        ensures { result ≡ (if self.now.ack && to_owner then Some Kind.Ack else None) }
+    {
+        if self.ack && to_owner {
+            Some(Kind::Ack)
+        } else {
+            None
+        }
+    }
+
+    fn locks_sent(&self, alloc: Global) -> Result<Option<Kind>, AllocError>
+        ensures { IfOk result (λ kind. kind ≡ Some (Kind.Locks self.now.locks)) }
+    {
+        let pairs = Vec::from_slice(alloc, &self.locks)?;
+        Ok(Some(Kind::Locks(LockPairs::new(pairs))))
+    }
+
+    /// Takes processor `me` with this node through a round in which it heard these messages, each with
+    /// its sender, in the order of the senders (section 3 of the 1988 paper).
+    ///
+    /// Each PROPER heard is taken in first. A body of another part of the phase, a Lock that isn't the
+    /// owner's, and a List or Ack heard by another than the owner do no more than that. Takes no memory
+    /// but for a value or a lock that is new to the node; without that memory the node stays as it was.
+    #[tactic(auto, unfolding(crate::specs::NodeFunctions::next))]
+    pub fn compute(
+        &mut self,
+        alloc: Global,
+        cfg: &Config,
+        me: u64,
+        round: u64,
+        heard: &[(u64, Body)],
+    ) -> Result<(), AllocError>
+        requires processor { IsProc cfg.now me }
+        requires positive { 1 ≤ round }
+        requires senders { All (λ m. IsProc cfg.now m.0) heard.now }
+        requires rising { IsStrictlyIncreasing (map (λ m. m.0) heard.now) }
+        ensures ok { OnOk result (self.new ≡ next cfg.now self.old me round heard.now) }
+        ensures err { OnErr result (self.new ≡ self.old) }
+    {
+        let grown = grown(alloc, &self.proper, heard)?;
+        self.compute_part(cfg, me, round, heard)?;
+        if let Some(proper) = grown {
+            self.proper = proper;
+        }
+        Ok(())
+    }
+
+    // The compute part of a round, PROPER aside.
+    fn compute_part(
+        &mut self,
+        cfg: &Config,
+        me: u64,
+        round: u64,
+        heard: &[(u64, Body)],
+    ) -> Result<(), AllocError>
+        requires { 1 ≤ round }
+        ensures ok { OnOk result (self.new ≡ next_in (part_at (part_of round)) cfg.now self.old me (phase_of round) heard.now) }
+        ensures err { OnErr result (self.new ≡ self.old) }
+    {
+        let phase = phase_of(round);
+        let owner = owner(cfg.n(), phase);
+        match part_of(round) {
+            1 => self.propose(cfg, me == owner, heard),
+            2 => self.lock(owner, phase, heard)?,
+            3 => self.decide(cfg, me == owner, heard),
+            _ => self.release(heard),
+        }
+        Ok(())
+    }
+
+    fn propose(&mut self, cfg: &Config, owns: bool, heard: &[(u64, Body)])
+        ensures { self.new ≡ record self.old { proposal = (if owns then least_listed (cfg.now.n - cfg.now.t) heard.now else self.old.proposal) } }
+    {
+        if owns {
+            self.proposal = least_listed(cfg.n() - cfg.t(), heard);
+        }
+    }
+
+    fn lock(&mut self, owner: u64, phase: u64, heard: &[(u64, Body)]) -> Result<(), AllocError>
+        ensures ok { OnOk result (self.new ≡ locked self.old phase (heard_lock owner heard.now)) }
+        ensures err { OnErr result (self.new ≡ self.old) }
+    {
+        if let Some(v) = heard_lock(owner, heard) {
+            put_lock(&mut self.locks, v, phase)?;
+            self.ack = true;
+        }
+        Ok(())
+    }
+
+    fn decide(&mut self, cfg: &Config, owns: bool, heard: &[(u64, Body)])
+        ensures { self.new ≡ record self.old { decision = (if decides cfg.now self.old owns heard.now then self.old.proposal else self.old.decision); proposal = None; ack = false } }
+    {
+        if owns && self.proposal.is_some() && self.decision.is_none() && cfg.t() < acks(heard) {
+            self.decision = self.proposal;
+        }
+        self.proposal = None;
+        self.ack = false;
+    }
+
+    fn release(&mut self, heard: &[(u64, Body)])
+        ensures { self.new ≡ record self.old { locks = kept_locks heard.now self.old.locks } }
+    {
+        release(&mut self.locks, heard);
+    }
+}

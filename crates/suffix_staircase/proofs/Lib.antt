@@ -1,0 +1,8 @@
+pub mod StretchLevels
+pub mod StartNumbers
+pub mod StartLaws
+pub mod Decisions
+pub mod MissBounds
+pub mod GapBounds
+pub mod ReceiveNotes
+pub mod LevelBounds

@@ -1,0 +1,47 @@
+-- What is known of the Receives after a step, in numbers from 1 with 0 for none.
+use Rattle.std.specs.Prelude.{ℕ, ◌≡◌, ◌+◌, ◌<◌, ◌≤◌, ◌==◌, List, length, slice_index, slice_set, if◌then◌else◌}
+use Rattle.std.specs.List.{list_any}
+use Rattle.step_trace.specs.declared.steps.Step.{Step}
+use Rattle.step_trace.specs.Traces.{TakesAt, IsReceiveOf}
+use Rattle.step_trace.specs.Witnesses.{IsMiss}
+use Rattle.suffix_staircase.specs.declared.receives.Receives.{Receives}
+
+-- the Receive after step x that takes message s
+pub record IsTaker (steps : List Step) (x s place : ℕ) : Type 0 where
+  pub found : 0 < place → (x < place) × TakesAt steps place s
+  pub none : place ≡ 0 → (y : ℕ) → x < y → ¬ TakesAt steps y s
+
+-- the last Receive of p strictly between two places
+pub record IsLastReceive (steps : List Step) (p low high r : ℕ) : Type 0 where
+  pub found : 0 < r → (low < r) × (r < high) × IsReceiveOf steps r p
+  pub last : (y : ℕ) → IsReceiveOf steps y p → low < y → y < high → y ≤ r
+
+-- the first Receive of p after a place
+pub record IsFirstReceive (steps : List Step) (p low r : ℕ) : Type 0 where
+  pub found : 0 < r → (low < r) × IsReceiveOf steps r p
+  pub first : (y : ℕ) → IsReceiveOf steps y p → low < y → (0 < r) × (r ≤ y)
+
+-- what is known of the Receives after step x
+pub record KnowsReceives (steps : List Step) (n x : ℕ) (r : Receives) : Type 0 where
+  pub taken_long : length r.taken_by.items ≡ length steps + 1
+  pub before_long : length r.before.items ≡ length steps + 1
+  pub first_long : length r.first.items ≡ n + 1
+  pub last_long : length r.last.items ≡ n + 1
+  pub taken : (s : ℕ) → IsTaker steps x s (slice_index r.taken_by.items s)
+  pub before : (p y : ℕ) → IsReceiveOf steps y p → x < y → IsLastReceive steps p x y (slice_index r.before.items y)
+  pub clear : (y : ℕ) → 1 ≤ y → y ≤ x → slice_index r.before.items y ≡ 0
+  pub first : (p : ℕ) → p ≤ n → IsFirstReceive steps p x (slice_index r.first.items p)
+  pub last : (p : ℕ) → p ≤ n → IsLastReceive steps p x (length steps + 1) (slice_index r.last.items p)
+
+-- what changes where the Receive x of p, which takes these messages, is gone over
+pub record NotesReceive (x p : ℕ) (ids : List ℕ) (old new : Receives) : Type 0 where
+  pub taken_long : length new.taken_by.items ≡ length old.taken_by.items
+  pub taken : (s : ℕ) → slice_index new.taken_by.items s ≡ (if list_any (λ i. i == s) ids then x else slice_index old.taken_by.items s)
+  pub before : new.before.items ≡ slice_set old.before.items (slice_index old.first.items p) x
+  pub first : new.first.items ≡ slice_set old.first.items p x
+  pub last : new.last.items ≡ (if slice_index old.last.items p == 0 then slice_set old.last.items p x else old.last.items)
+
+-- the last Receive that misses message s
+pub record IsLastMissOf (set : ℕ) (steps : List Step) (s r : ℕ) : Type 0 where
+  pub found : 0 < r → IsMiss set steps (record { sent = s; missed = r })
+  pub last : (y : ℕ) → IsMiss set steps (record { sent = s; missed = y }) → y ≤ r

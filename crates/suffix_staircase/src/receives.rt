@@ -1,0 +1,133 @@
+//! The Receives after a step, as far as the misses of earlier messages depend on them.
+//!
+//! Steps and processors are numbered from 1, and 0 stands for none.
+
+ghost use Rattle.std.specs.Prelude.{ℕ, ◌≡◌, ◌-◌, ◌<◌, ◌≤◌, ◌==◌, length, Some, All, IfOk, slice_index, slice_set, replicate, if◌then◌else◌};
+ghost use Rattle.std.specs.List.{list_any};
+ghost use Rattle.step_trace.specs.Traces.{step_at, IsWellFormed};
+ghost use Rattle.suffix_staircase.specs.Receives.{KnowsReceives, NotesReceive, IsLastMissOf};
+
+use std::alloc::{AllocError, Global};
+use step_trace::{Act, ProcSet, Step, Trace};
+
+/// What is known of the Receives after a step.
+#[derive(Debug, Drop)]
+pub(crate) struct Receives {
+    // For each message, the Receive after the step that takes it.
+    taken_by: Vec<u64>,
+    // For each Receive after the step, the one of the same processor right before it, if that comes
+    // after the step too.
+    before: Vec<u64>,
+    // For each processor, its first Receive after the step.
+    first: Vec<u64>,
+    // For each processor, its last Receive after the step.
+    last: Vec<u64>,
+}
+
+/// The step of this number.
+pub(crate) fn step_of(trace: &Trace, no: u64) -> &Step
+    requires low { 1 ≤ no }
+    requires high { no ≤ length trace.now.steps }
+    ensures step { step_at trace.now.steps no ≡ Some result.now }
+    ensures limit { length trace.now.steps ≤ 1000000 }
+    ensures sound { IsWellFormed trace.now.config trace.now.steps }
+{
+    // Read for its contract: the trace is well formed.
+    let _ = trace.len();
+    match trace.step(no) {
+        Some(step) => step,
+        None => unreachable!(),
+    }
+}
+
+// So many zeros.
+fn zeros(alloc: Global, count: usize) -> Result<Vec<u64>, AllocError>
+    ensures { IfOk result (λ v. v.items ≡ replicate count 0) }
+{
+    vec![in alloc; 0u64; count]
+}
+
+impl Receives {
+    /// What is known after the last step: there is none.
+    pub(crate) fn after_all(alloc: Global, trace: &Trace) -> Result<Self, AllocError>
+        ensures { IfOk result (λ r. KnowsReceives trace.now.steps trace.now.config.n (length trace.now.steps) r) }
+    {
+        let steps = trace.len() + 1;
+        let processors = trace.config().n() as usize + 1;
+        Ok(Receives {
+            taken_by: zeros(alloc, steps)?,
+            before: zeros(alloc, steps)?,
+            first: zeros(alloc, processors)?,
+            last: zeros(alloc, processors)?,
+        })
+    }
+
+    /// Goes back over a step, and gives the last Receive that misses its message: 0 if none does, or
+    /// if it is no message between members.
+    pub(crate) fn step_back(&mut self, trace: &Trace, set: ProcSet, no: u64) -> u64
+        requires low { 1 ≤ no }
+        requires high { no ≤ length trace.now.steps }
+        requires known { KnowsReceives trace.now.steps trace.now.config.n no self.old }
+        ensures known { KnowsReceives trace.now.steps trace.now.config.n (no - 1) self.new }
+        ensures missed { IsLastMissOf set trace.now.steps no result }
+    {
+        let step = step_of(trace, no);
+        match &step.act {
+            Act::Send { to } => {
+                if set.contains(step.proc) && set.contains(*to) {
+                    self.last_missed(no, *to)
+                } else {
+                    0
+                }
+            }
+            Act::Receive { ids, .. } => {
+                self.note(no, step.proc, ids.as_slice());
+                0
+            }
+        }
+    }
+
+    // The last Receive after the step that doesn't find the message delivered, which goes to `to`.
+    fn last_missed(&self, message: u64, to: u64) -> u64
+        requires message { message < length self.now.taken_by.items }
+        requires taken { slice_index self.now.taken_by.items message < length self.now.before.items }
+        requires to { to < length self.now.last.items }
+        ensures { result ≡ (if slice_index self.now.taken_by.items message == 0 then slice_index self.now.last.items to else slice_index self.now.before.items (slice_index self.now.taken_by.items message)) }
+    {
+        let taker = self.taken_by[message as usize];
+        if taker == 0 {
+            self.last[to as usize]
+        } else {
+            self.before[taker as usize]
+        }
+    }
+
+    // Notes a Receive that comes before those so far. Where there is none yet, `before` is written at
+    // number 0, which stands for no step.
+    fn note(&mut self, no: u64, proc: u64, ids: &[u64])
+        requires ids { All (λ s. s < length self.old.taken_by.items) ids.now }
+        requires first { proc < length self.old.first.items }
+        requires last { proc < length self.old.last.items }
+        requires before { slice_index self.old.first.items proc < length self.old.before.items }
+        ensures { NotesReceive no proc ids.now self.old self.new }
+    {
+        note_takes(&mut self.taken_by, no, ids);
+        let next = self.first[proc as usize];
+        self.before[next as usize] = no;
+        self.first[proc as usize] = no;
+        if self.last[proc as usize] == 0 {
+            self.last[proc as usize] = no;
+        }
+    }
+}
+
+// Notes that the Receive of number `no` takes these messages.
+fn note_takes(taken_by: &mut Vec<u64>, no: u64, ids: &[u64])
+    requires { All (λ s. s < length taken_by.old.items) ids.now }
+    ensures len { length taken_by.new.items ≡ length taken_by.old.items }
+    ensures taken { (s : ℕ) → slice_index taken_by.new.items s ≡ (if list_any (λ i. i == s) ids.now then no else slice_index taken_by.old.items s) }
+{
+    for s in ids {
+        taken_by[*s as usize] = no;
+    }
+}

@@ -1,0 +1,93 @@
+//! Levels kept as stretches of equal bounds, in the order in which they are built: from the last
+//! level to the first.
+
+ghost use Rattle.std.specs.Prelude.{◌≡◌, ◌∷◌, [], ◌+◌, ◌-◌, ◌<◌, ◌≤◌, length, Some, slice_get, OnOk, OnErr, vec_len};
+ghost use Rattle.suffix_staircase.specs.Levels.{CanStandBefore, starts};
+ghost use Rattle.suffix_staircase.specs.Stretches.{levels_of, AreStretches};
+
+use crate::levels::Level;
+use std::alloc::AllocError;
+
+/// A stretch of equal levels.
+#[derive(Clone, Copy, Debug)]
+pub(crate) struct Stretch {
+    pub(crate) level: Level,
+    // How many levels there are from the stretch's first to the last of all.
+    pub(crate) reach: u64,
+}
+
+/// How many levels there are.
+pub(crate) fn height(stretches: &[Stretch]) -> u64
+    requires { AreStretches stretches.now }
+    ensures { result ≡ length (levels_of stretches.now) }
+{
+    match top(stretches) {
+        Some(top) => top.reach,
+        None => 0,
+    }
+}
+
+// The stretch that was put before all others.
+fn top(stretches: &[Stretch]) -> Option<Stretch>
+    ensures { result ≡ slice_get stretches.now (length stretches.now - 1) }
+{
+    stretches.last().copied()
+}
+
+/// The level of number `g`, counted from 1.
+pub(crate) fn level_at(stretches: &[Stretch], g: u64) -> Level
+    requires stretches { AreStretches stretches.now }
+    requires low { 1 ≤ g }
+    requires high { g ≤ length (levels_of stretches.now) }
+    ensures { slice_get (levels_of stretches.now) (g - 1) ≡ Some result }
+{
+    let depth = height(stretches) - g + 1;
+    let holder = stretches.partition_point(|stretch| stretch.reach < depth);
+    stretches[holder].level
+}
+
+/// The number of the level at which the stretch begins that is number `i` from 0, in rising order.
+pub(crate) fn start_of(stretches: &[Stretch], i: usize) -> Option<u64>
+    requires { AreStretches stretches.now }
+    ensures { result ≡ slice_get (starts (levels_of stretches.now)) i }
+{
+    if i >= stretches.len() {
+        return None;
+    }
+    let stretch = stretches[stretches.len() - 1 - i];
+    Some(height(stretches) - stretch.reach + 1)
+}
+
+/// Puts a level before the others.
+pub(crate) fn put_before(stretches: &mut Vec<Stretch>, level: Level) -> Result<(), AllocError>
+    requires room { length (levels_of stretches.old.items) < 1000000 }
+    requires stretches { AreStretches stretches.old.items }
+    requires falling { CanStandBefore level (levels_of stretches.old.items) }
+    ensures ok { OnOk result (levels_of stretches.new.items ≡ level ∷ levels_of stretches.old.items) }
+    ensures err { OnErr result (stretches.new.items ≡ stretches.old.items) }
+    ensures stretches { AreStretches stretches.new.items }
+{
+    let reach = height(stretches) + 1;
+    let stretch = Stretch { level, reach };
+    if continues(stretches, &level) {
+        let last = stretches.len() - 1;
+        stretches[last] = stretch;
+    } else {
+        stretches.push(stretch)?;
+    }
+    Ok(())
+}
+
+ghost use Rattle.suffix_staircase.specs.Levels.{begins};
+ghost use Rattle.std.specs.Prelude.{not};
+
+// Whether a level that is put before the others has the bounds of the first of them.
+fn continues(stretches: &[Stretch], level: &Level) -> bool
+    requires { AreStretches stretches.now }
+    ensures { result ≡ not (begins level.now (levels_of stretches.now)) }
+{
+    match top(stretches) {
+        Some(top) => top.level.has_bounds_of(level),
+        None => false,
+    }
+}
