@@ -1,12 +1,11 @@
 -- What the program makes of a trace text.
-use Rattle.std.specs.Prelude.{ℕ, ◌≡◌, ◌<◌, ◌≤◌, List, length, take, Option, IfSome, ⊤}
+use Rattle.std.specs.Prelude.{ℕ, ◌≡◌, ◌≤◌, List, length, take, Option, ⊤}
 use Rattle.std.specs.Io.KnownBytes.{Appends}
 use Rattle.step_trace.specs.declared.rows.Row.{Row}
 use Rattle.step_trace.specs.Processors.{IsWithin}
 use Rattle.step_trace.specs.Traces.{Recorded}
 use Rattle.step_trace.specs.Fronts.{IsReport}
 use Rattle.trace_text.specs.declared.counting.Counting.{Counting}
-use Rattle.trace_text.specs.declared.refusals.TextError.{TextError}
 use Rattle.trace_text.specs.Faults.{Rose}
 use Rattle.trace_text.specs.ByteLoops.{MetOneFault}
 use Rattle.trace_text.specs.TraceTexts.{IsTrace, StandsFor}

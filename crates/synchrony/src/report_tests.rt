@@ -148,10 +148,7 @@ fn says_how_far_it_wrote(rt: HostRuntime) -> Result<(), Fail> {
             matches!(&ended, Err(Fault::Write(written)) if *written == count),
             "{ended:?}"
         );
-        assert!(rt;
-            writer.taken() == &whole[..writer.taken().len()],
-            "{failure:?}"
-        );
+        assert!(rt; whole.starts_with(writer.taken()), "{failure:?}");
         assert_eq!(rt; writer.taken().len() as u64, count);
     }
     Ok(())
