@@ -1,39 +1,33 @@
--- What parsing a text as a number has to do with the decimal digits of a number.
-use Rattle.std.proofs.Common.{◌≡◌, ◌≢◌, ◌<◌, ◌^◌, ◌∙◌, ℕ, zero, suc, List, length, Result, Ok, Err, decimal, get_or, sym, refl, arith, rules, IsUtf8}
-use Rattle.std.specs.Str.Parse.{AllDigits, digits_value, ParsesUnsigned, without_leading_plus}
-use Rattle.std.proofs.lemmas.Str.Parse.{IsNumeralModel}
-use Rattle.std.proofs.lemmas.Str.{IsUtf8-from_ascii}
-use Rattle.std.proofs.lemmas.Fmt.{decimal-digits_value, parse-decimal, first_decimal, decimal_digit, IsAscii-decimal}
-use Rattle.std.proofs.lemmas.Result.{OkIff-at_ok}
+-- Digits and the number that they write in decimal.
+use Rattle.std.proofs.Common.{◌≡◌, ◌<◌, ◌≤◌, ◌+◌, ◌*◌, ◌^◌, ℕ, zero, suc, List, length, decimal, get_or, take, sym, subst, refl, arith}
+use Rattle.std.specs.Char.{digit_value}
+use Rattle.std.specs.Int.{IsInRange}
+use Rattle.std.specs.Str.Parse.{AllDigits, digits_value}
+use Rattle.std.proofs.lemmas.Str.Parse.{IsNumeralModel, digit_at, digits_value-take-le}
+use Rattle.std.proofs.lemmas.Int.Digits.{digits_value_more}
+use Rattle.std.proofs.lemmas.Fmt.{decimal-digits_value, digits_decimal, digits_value-decimal, first_decimal, decimal_digit}
 
 own : IsNumeralModel (AllDigits 10) (digits_value 10)
 own = record { to = λ ds h. h; from = λ ds h. h; same = λ ds h. refl }
 
-no-plus : (bs : List ℕ) → get_or bs 0 0 ≢ 43 → without_leading_plus bs ≡ bs
-no-plus bs h = search rules
+-- digits with no leading zero are the text of their number
+pub digits-decimal : (bs : List ℕ) (n : ℕ) → AllDigits 10 bs → n ≡ digits_value 10 bs → n < 2 ^ 64 → 0 < length bs → (get_or bs 0 0 ≡ 48 → length bs ≡ 1) → bs ≡ decimal n
+digits-decimal bs n digits e h some lead = rw e (sym (decimal-digits_value own bs digits some lead (rw (← e) h)))
 
--- what parse read, with no plus and no leading zero, is written so
-pub reads-decimal : {E : Type 0} (bs text : List ℕ) (r : Result ℕ E) (n : ℕ) → text ≡ bs → ParsesUnsigned 64 10 text r → r ≡ Ok n
-    → get_or bs 0 0 ≢ 43 → (get_or bs 0 0 ≡ 48 → length bs ≡ 1) → bs ≡ decimal n
-reads-decimal bs text r n same p e plus lead =
-    let got = rw (no-plus bs plus) at (OkIff-at_ok r _ _ n (rw same at p) e) in
-    rw got.1 (sym (decimal-digits_value own bs got.0.0.1 got.0.0.0 lead got.0.1))
+-- a number's text has only digits
+pub decimal-digit : (n : ℕ) (bs : List ℕ) (i : ℕ) → n < 2 ^ 64 → bs ≡ decimal n → i < length bs → IsInRange 48 57 (get_or bs i 0)
+decimal-digit n bs i h e inside = digit_at bs i (subst (AllDigits 10) (sym e) (digits_decimal own n h)) inside
 
--- the text of a number is text
-pub decimal-text : (bs : List ℕ) (n : ℕ) → n < 2 ^ 64 → bs ≡ decimal n → IsUtf8 bs
-decimal-text bs n h e = rw e (IsUtf8-from_ascii _ (IsAscii-decimal n h))
+-- its first digits write no greater number
+pub decimal-first_digits : (n : ℕ) (bs : List ℕ) (i : ℕ) → n < 2 ^ 64 → bs ≡ decimal n → i < length bs → digits_value 10 (take i bs) * 10 + digit_value (get_or bs i 0) ≤ n
+decimal-first_digits n bs i h e inside =
+    let whole : digits_value 10 bs ≡ n = rw e (digits_value-decimal own n h) in
+    omega (arith, digits_value_more 10 bs i inside, digits_value-take-le 10 bs (i + 1) (omega arith), whole)
 
 zero-text : length (decimal 0) ≡ 1
 zero-text = rw (decimal_digit 0 (omega arith)) refl
 
-zero-first : get_or (decimal 0) 0 0 ≡ 48
-zero-first = rw (decimal_digit 0 (omega arith)) refl
-
--- a number's first byte is no plus, and no zero where there are more
-pub decimal-first : (n : ℕ) (bs : List ℕ) → n < 2 ^ 64 → bs ≡ decimal n → (get_or bs 0 0 ≢ 43) × (get_or bs 0 0 ≡ 48 → length bs ≡ 1)
-decimal-first zero bs h e = rw e (λ k. let f = zero-first in omega (arith, k, f), λ k. zero-text)
-decimal-first (suc n) bs h e = let f = first_decimal (suc n) (omega arith) h in rw e (λ k. omega (arith, k, f), λ k. absurd (omega (arith, k, f)))
-
--- parse fails on no number's text
-pub never-ok : {E : Type 0} (bs : List ℕ) (n : ℕ) (d : E) (text : List ℕ) (r : Result ℕ E) → n < 2 ^ 64 → bs ≡ decimal n → text ≡ bs → ParsesUnsigned 64 10 text r → r ≡ Err d → ⊥
-never-ok bs n d text r h e same p fails = let good = parse-decimal 64 n text r h h (same ∙ e) p in cc (good, fails)
+-- its first digit is no zero where there are more
+pub decimal-leading_zero : (n : ℕ) (bs : List ℕ) → n < 2 ^ 64 → bs ≡ decimal n → get_or bs 0 0 ≡ 48 → length bs ≡ 1
+decimal-leading_zero zero bs h e k = rw e zero-text
+decimal-leading_zero (suc n) bs h e k = let f = first_decimal (suc n) (omega arith) h in let same = rw e at k in absurd (omega (arith, same, f))

@@ -8,20 +8,20 @@ pub fn read_number(field: &[u8]) -> Option<u64>
     ensures some { IfSome result (λ n. field.now ≡ decimal n) }
     ensures none { IfNone result ((n : ℕ) → n < 2 ^ 64 → field.now ≢ decimal n) }
 {
-    let Ok(text) = str::from_utf8(field) else {
-        return None;
-    };
-    let Ok(n) = text.parse::<u64>() else {
-        return None;
-    };
     if field.len() == 0 {
-        return None;
-    }
-    if field[0] == b'+' {
         return None;
     }
     if field[0] == b'0' && field.len() > 1 {
         return None;
     }
-    Some(n)
+    let mut number = 0u64;
+    for byte in field {
+        if !byte.is_ascii_digit() {
+            return None;
+        }
+        number = number
+            .checked_mul(10)?
+            .checked_add(u64::from(*byte - b'0'))?;
+    }
+    Some(number)
 }
