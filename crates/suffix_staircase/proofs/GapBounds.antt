@@ -130,6 +130,29 @@ gap_until set steps n x next w within k gap e = elim (cases_lt w.to (get_or next
       absurd (gap.silent (get_or next w.proc 0) (omega (arith, from, e)) h (own.step (omega (arith, h, inside)))))
 ]
 
+-- no entry grows where one is lowered
+entry-lowered : (next : List ℕ) (p x r : ℕ) → p < length next → x ≤ get_or next p 0 → get_or (set next p x) r 0 ≤ get_or next r 0
+entry-lowered next p x r inside low = elim (cases_eq r p) [
+  | inl e ↦ subst (λ (m : ℕ). get_or (set next p x) m 0 ≤ get_or next m 0) (sym e) (rw (get_or-set_same next p x 0 inside) low)
+  | inr other ↦ rw (get_or-set_other next p r x 0 other) (omega arith)
+]
+
+-- the latest stays the latest where the next step of another processor comes earlier
+pub IsLatest-kept : (members q p x : ℕ) (next : List ℕ) → q ≢ p → p < length next → x ≤ get_or next p 0 → IsLatest members next (length next) q
+    → IsLatest members (set next p x) (length (set next p x)) q
+IsLatest-kept members q p x next other inside low latest = rw (length-set next p x) (record {
+  within = rw (length-set next p x) latest.within;
+  member = latest.member;
+  greatest = λ r below start member.
+      let most = latest.greatest r below start member in
+      let lowered = entry-lowered next p x r inside low in
+      rw (get_or-set_other next p q x 0 other) (omega (arith, most, lowered));
+  least = λ r below start member.
+      let less = latest.least r below start member in
+      let lowered = entry-lowered next p x r inside low in
+      rw (get_or-set_other next p q x 0 other) (omega (arith, less, lowered));
+})
+
 -- what the latest next step of a member says of the gaps from x on
 record IsLongest (set : ℕ) (steps : List Step) (x q until : ℕ) : Type 0 where
   gap : x < until → IsGap set steps (record { proc = q; from = x; to = until - 1 })

@@ -1,6 +1,7 @@
 -- The next step of each processor from a step on, in numbers from 1.
 use Rattle.std.specs.Prelude.{ℕ, ◌≡◌, ◌+◌, ◌<◌, ◌≤◌, List, length, slice_index, IsTrue}
 use Rattle.step_trace.specs.declared.steps.Step.{Step}
+use Rattle.suffix_staircase.specs.declared.silences.Silences.{Silences}
 use Rattle.step_trace.specs.Processors.{has_proc}
 use Rattle.step_trace.specs.Traces.{IsStepOf}
 
@@ -24,3 +25,8 @@ pub record IsLatest (set : ℕ) (next : List ℕ) (until latest : ℕ) : Type 0 
   pub member : 0 < latest → IsTrue (has_proc set latest)
   pub greatest : (p : ℕ) → p < until → 1 ≤ p → IsTrue (has_proc set p) → slice_index next p ≤ slice_index next latest
   pub least : (p : ℕ) → p < latest → 1 ≤ p → IsTrue (has_proc set p) → slice_index next p < slice_index next latest
+
+-- what is known of the silences that begin at step x
+pub record KnowsSilences (set : ℕ) (steps : List Step) (n x : ℕ) (known : Silences) : Type 0 where
+  pub next : KnowsNextSteps steps n x known.next_steps.items
+  pub latest : IsLatest set known.next_steps.items (length known.next_steps.items) known.latest

@@ -8,11 +8,11 @@ ghost use Rattle.step_trace.specs.Processors.{IsWithin};
 ghost use Rattle.suffix_staircase.specs.Levels.{StandsBefore};
 ghost use Rattle.suffix_staircase.specs.Analysis.{AreLevels, KnowsLevel, with_miss, with_gap};
 ghost use Rattle.suffix_staircase.specs.Receives.{KnowsReceives};
-ghost use Rattle.suffix_staircase.specs.Silences.{KnowsNextSteps};
+ghost use Rattle.suffix_staircase.specs.Silences.{KnowsSilences};
 
 use crate::levels::Level;
-use crate::receives::{Receives, step_of};
-use crate::silences::{latest_member, next_steps_after_all};
+use crate::receives::Receives;
+use crate::silences::Silences;
 use crate::staircases::{StairBuilder, Stairs};
 use std::alloc::{AllocError, Global};
 use step_trace::{Gap, Miss, ProcSet, Trace};
@@ -22,14 +22,14 @@ impl Stairs {
     /// bounds of section 2 of the 1988 paper from that step on, and their named witnesses.
     ///
     /// One pass from the last step to the first, in time that grows with the steps, the ids in them
-    /// and, for each step, the processors. Fails only for want of memory.
+    /// and, for some steps, the processors. Fails only for want of memory.
     pub fn of_trace(alloc: Global, trace: &Trace, set: ProcSet) -> Result<Stairs, AllocError>
         requires { IsWithin set trace.now.config.n }
         ensures { IfOk result (λ stairs. AreLevels set trace.now.steps stairs) }
     {
         let count = trace.len();
         let mut receives = Receives::after_all(alloc, trace)?;
-        let mut next_steps = next_steps_after_all(alloc, trace)?;
+        let mut silences = Silences::after_all(alloc, trace, set)?;
         let mut level = Level {
             delta: 1,
             miss: None,
@@ -39,7 +39,7 @@ impl Stairs {
         let mut builder = StairBuilder::new(alloc);
         for done in 0..count {
             let no = (count - done) as u64;
-            level = step_back(trace, set, no, &mut receives, &mut next_steps, level);
+            level = step_back(trace, set, no, &mut receives, &mut silences, level);
             builder.lower(level)?;
         }
         Ok(builder.build())
@@ -52,25 +52,24 @@ fn step_back(
     set: ProcSet,
     no: u64,
     receives: &mut Receives,
-    next_steps: &mut Vec<u64>,
+    silences: &mut Silences,
     level: Level,
 ) -> Level
     requires low { 1 ≤ no }
     requires high { no ≤ length trace.now.steps }
     requires within { IsWithin set trace.now.config.n }
     requires receives { KnowsReceives trace.now.steps trace.now.config.n no receives.old }
-    requires next_steps { KnowsNextSteps trace.now.steps trace.now.config.n (no + 1) next_steps.old.items }
+    requires silences { KnowsSilences set trace.now.steps trace.now.config.n (no + 1) silences.old }
     requires level { KnowsLevel set trace.now.steps (no + 1) level }
     ensures receives { KnowsReceives trace.now.steps trace.now.config.n (no - 1) receives.new }
-    ensures next_steps { KnowsNextSteps trace.now.steps trace.now.config.n no next_steps.new.items }
+    ensures silences { KnowsSilences set trace.now.steps trace.now.config.n no silences.new }
     ensures level { KnowsLevel set trace.now.steps no result }
     ensures falling { StandsBefore result level }
 {
     let missed = receives.step_back(trace, set, no);
-    next_steps[step_of(trace, no).proc as usize] = no;
-    let silent = latest_member(next_steps, set);
-    let until = next_steps[silent as usize];
-    with_gap(with_miss(level, no, missed), silent, no, until)
+    silences.step_back(trace, set, no);
+    let level = with_miss(level, no, missed);
+    with_gap(level, silences.latest(), no, silences.until())
 }
 
 // The level, or where the message `sent` is missed by a later bound than its own, the level with this.

@@ -70,6 +70,7 @@ impl Receives {
         requires known { KnowsReceives trace.now.steps trace.now.config.n no self.old }
         ensures known { KnowsReceives trace.now.steps trace.now.config.n (no - 1) self.new }
         ensures missed { IsLastMissOf set trace.now.steps no result }
+        ensures limit { length trace.now.steps ≤ 1000000 }
     {
         let step = step_of(trace, no);
         match &step.act {

@@ -2,14 +2,66 @@
 //!
 //! Processors are numbered from 1. The entry of number 0 is 0, so that each member comes later.
 
-ghost use Rattle.std.specs.Prelude.{◌≡◌, ◌+◌, ◌<◌, length, IfOk, slice_index};
-ghost use Rattle.suffix_staircase.specs.Silences.{KnowsNextSteps, IsLatest};
+ghost use Rattle.std.specs.Prelude.{◌≡◌, ◌+◌, ◌<◌, ◌≤◌, length, IfOk, slice_index};
+ghost use Rattle.step_trace.specs.Traces.{step_at};
+ghost use Rattle.suffix_staircase.specs.Silences.{KnowsNextSteps, IsLatest, KnowsSilences};
 
+use crate::receives::step_of;
 use std::alloc::{AllocError, Global};
 use step_trace::{ProcSet, Trace};
 
-/// The next steps from the end of a trace on: each is one after the last.
-pub(crate) fn next_steps_after_all(alloc: Global, trace: &Trace) -> Result<Vec<u64>, AllocError>
+/// What is known of the silences that begin at a step.
+#[derive(Debug, Drop)]
+pub(crate) struct Silences {
+    // For each processor, its next step: one after the last where there is none.
+    next_steps: Vec<u64>,
+    // The member whose next step comes last, and of these the least: 0 if there is no member.
+    latest: u64,
+}
+
+impl Silences {
+    /// What is known after the last step.
+    pub(crate) fn after_all(alloc: Global, trace: &Trace, set: ProcSet) -> Result<Self, AllocError>
+        ensures { IfOk result (λ s. KnowsSilences set trace.now.steps trace.now.config.n (length trace.now.steps + 1) s) }
+    {
+        let next_steps = next_steps_after_all(alloc, trace)?;
+        let latest = latest_member(&next_steps, set);
+        Ok(Silences { next_steps, latest })
+    }
+
+    /// Goes back over a step.
+    pub(crate) fn step_back(&mut self, trace: &Trace, set: ProcSet, no: u64)
+        requires low { 1 ≤ no }
+        requires high { no ≤ length trace.now.steps }
+        requires known { KnowsSilences set trace.now.steps trace.now.config.n (no + 1) self.old }
+        ensures { KnowsSilences set trace.now.steps trace.now.config.n no self.new }
+    {
+        let proc = step_of(trace, no).proc;
+        self.next_steps[proc as usize] = no;
+        // Another processor's next step came no later than the latest, and now comes earlier.
+        if proc == self.latest {
+            self.latest = latest_member(&self.next_steps, set);
+        }
+    }
+
+    /// The member whose next step comes last, and of these the least: 0 if there is no member.
+    pub(crate) fn latest(&self) -> u64
+        ensures { result ≡ self.now.latest }
+    {
+        self.latest
+    }
+
+    /// Its next step.
+    pub(crate) fn until(&self) -> u64
+        requires { self.now.latest < length self.now.next_steps.items }
+        ensures { result ≡ slice_index self.now.next_steps.items self.now.latest }
+    {
+        self.next_steps[self.latest as usize]
+    }
+}
+
+// The next steps from the end of a trace on: each is one after the last.
+fn next_steps_after_all(alloc: Global, trace: &Trace) -> Result<Vec<u64>, AllocError>
     ensures { IfOk result (λ next. KnowsNextSteps trace.now.steps trace.now.config.n (length trace.now.steps + 1) next.items) }
 {
     let processors = trace.config().n() as usize + 1;
@@ -18,8 +70,8 @@ pub(crate) fn next_steps_after_all(alloc: Global, trace: &Trace) -> Result<Vec<u
     Ok(next_steps)
 }
 
-/// The member whose next step comes last, and of these the least: 0 if there is no member.
-pub(crate) fn latest_member(next_steps: &[u64], set: ProcSet) -> u64
+// The member whose next step comes last, and of these the least: 0 if there is no member.
+fn latest_member(next_steps: &[u64], set: ProcSet) -> u64
     requires some { 0 < length next_steps.now }
     requires zero { slice_index next_steps.now 0 ≡ 0 }
     ensures { IsLatest set next_steps.now (length next_steps.now) result }

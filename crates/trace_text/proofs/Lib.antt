@@ -4,6 +4,7 @@ pub mod NumberLists
 pub mod Numbers
 pub mod Prefixes
 pub mod ReachedRecords
+pub mod RecordLoops
 pub mod StageInversions
 pub mod Stages
 pub mod TableReasons

@@ -1,6 +1,6 @@
 -- The records that csv reads one after the other are a front of all the records of the text, and at
 -- the end of the text they are all of them.
-use Rattle.std.proofs.Common.{◌≡◌, ◌≤◌, ◌<◌, ◌+◌, ℕ, zero, suc, List, [], ◌∷◌, ◌++◌, length, Option, Some, None, Bool, true, false, cond, refl, inl, inr, ◌⊎◌, ◌==◌, ◌||◌, arith}
+use Rattle.std.proofs.Common.{◌≡◌, ◌≤◌, ◌<◌, ◌+◌, ℕ, zero, suc, List, [], ◌∷◌, ◌++◌, length, Option, Some, None, Bool, true, false, cond, refl, subst, inl, inr, ◌⊎◌, ◌==◌, ◌||◌, arith}
 use Rattle.csv.specs.Machine.{Read, next_record, step, is_end, in_field, start_field, start_record, fields_after, field_after, ends_at_end, after_end}
 use Rattle.csv.specs.Reading.{AreRecords, Reached, default_config, records, records_from, records_next}
 use Rattle.csv.specs.declared.parser.State.{State}
@@ -140,3 +140,14 @@ reached-front (suc n) s xs (r ∷ rows) s2 ys start less h =
 pub records-front : (xs : List ℕ) (rows : List (List (List ℕ))) (s2 : State) (ys : List ℕ) → Reached default_config st.StartRecord xs rows s2 ys
     → (rest : List (List (List ℕ))) × (records default_config xs ≡ rows ++ rest)
 records-front xs rows s2 ys h = reached-front (length xs + 1) st.StartRecord xs rows s2 ys refl (omega arith) h
+
+-- reading stops where a record may begin
+pub reached-begins : (s : State) (xs : List ℕ) (rows : List (List (List ℕ))) (s2 : State) (ys : List ℕ) → IsStart s → Reached default_config s xs rows s2 ys → IsStart s2
+unfolding Reached
+reached-begins s xs [] s2 ys start h = subst IsStart h.0 start
+reached-begins s xs (r ∷ rows) s2 ys start h = reached-begins h.0.1 h.0.2 rows s2 ys (some-begins _ h.0 h.1 (next-begins s [] [] xs)) h.3
+
+-- to read a record takes a byte
+pub reached-less : (s : State) (xs : List ℕ) (row : List (List ℕ)) (s2 : State) (ys : List ℕ) → IsStart s → Reached default_config s xs (row ∷ []) s2 ys → length ys < length xs
+unfolding Reached
+reached-less s xs row s2 ys start h = subst (λ zs. length zs < length xs) h.3.1 (next-less default_config s [] [] xs h.0 start h.1)

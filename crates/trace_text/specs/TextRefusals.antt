@@ -149,6 +149,11 @@ abbrev pub Gives : {A : Type 0} → Result A TextError → Result A TextError �
 Gives (Ok x) table = table ≡ Ok x
 Gives (Err e) table = MatchBool (is_memory e) ⊤ (table ≡ Err e)
 
+-- the same of an answer beside which stands the stage that was reached
+abbrev pub LeadsTo : Result ⊤ TextError → Stage → Result Stage TextError → Type 0
+LeadsTo (Ok x) stage table = table ≡ Ok stage
+LeadsTo (Err e) stage table = MatchBool (is_memory e) ⊤ (table ≡ Err e)
+
 -- the refusal is the first of the table, or want of memory in a text that isn't too large
 abbrev pub IsFirstRefusal : List ℕ → TextError → Type 0
 IsFirstRefusal text e = MatchBool (is_memory e) (length text ≤ 67108864) (trace_of_text text ≡ Err e)

@@ -1,11 +1,11 @@
 //! Reading of trace text, record by record. The first record that is refused decides.
 
-ghost use Rattle.std.specs.Prelude.{◌≡◌, ◌≢◌, ◌<◌, ◌≤◌, ◌↔◌, IsErrOf, IfOk, OnOk, IfErr, MatchResult, length, option_map};
+ghost use Rattle.std.specs.Prelude.{◌≡◌, ◌≢◌, ◌<◌, ◌≤◌, ◌↔◌, IsErrOf, IfOk, OnOk, IfErr, MatchResult, length, option_map, Ok, Err};
 ghost use Rattle.csv.specs.Records.{fields_of};
 ghost use Rattle.step_trace.specs.Traces.{Recorded};
 ghost use Rattle.trace_text.specs.Records.{records_of_text};
 ghost use Rattle.trace_text.specs.TraceTexts.{StandsFor, IsTrace};
-ghost use Rattle.trace_text.specs.TextRefusals.{IsFirstRefusal, Gives, trace_of_records, stage_after, next_stage, header_stage, init_stage, step_stage, step_of, act_of, ids_of, end_stage};
+ghost use Rattle.trace_text.specs.TextRefusals.{IsFirstRefusal, Gives, LeadsTo, trace_of_records, stage_after, next_stage, header_stage, init_stage, step_stage, step_of, act_of, ids_of, end_stage};
 ghost use Rattle.std.specs.Option.{ok_or};
 
 use crate::records::{
@@ -14,6 +14,7 @@ use crate::records::{
 use crate::refusals::TextError;
 use csv::{ByteRecord, ReaderBuilder};
 use std::alloc::Global;
+use std::mem;
 use step_trace::{Act, Config, MAX_PROCESSORS, MIN_PROCESSORS, MessageIds, PushError, Step, Trace};
 
 /// How many bytes a trace text may have.
@@ -68,34 +69,48 @@ fn read_whole(alloc: Global, text: &[u8]) -> Result<Trace, TextError>
 fn read_records(alloc: Global, text: &[u8]) -> Result<Stage, TextError>
     ensures { Gives result (stage_after Stage.Opening (records_of_text text.now)) }
 {
-    let reader = ReaderBuilder::new()
+    let mut reader = ReaderBuilder::new()
         .has_headers(false)
         .flexible(true)
         .from_reader(alloc, text);
+    let mut row = ByteRecord::new(alloc);
     let mut stage = Stage::Opening;
-    for row in reader.into_byte_records() {
-        let Ok(row) = row else {
+    loop {
+        let Ok(found) = reader.read_byte_record(&mut row) else {
             return Err(TextError::Memory);
         };
-        stage = read_record(alloc, stage, &row)?;
+        if !found {
+            return Ok(stage);
+        }
+        read_record(alloc, &mut stage, &row)?;
     }
-    Ok(stage)
 }
 
-fn read_record(alloc: Global, stage: Stage, row: &ByteRecord) -> Result<Stage, TextError>
-    ensures { Gives result (next_stage stage (fields_of row.now)) }
+// Takes in one more record. Where it is refused, the stage is of no use.
+fn read_record(alloc: Global, stage: &mut Stage, row: &ByteRecord) -> Result<(), TextError>
+    ensures { LeadsTo result stage.new (next_stage stage.old (fields_of row.now)) }
 {
     match stage {
-        Stage::Opening => read_header(row),
-        Stage::Sized { n, t } => read_init(alloc, n, t, row),
+        Stage::Opening => *stage = read_header(row)?,
+        Stage::Sized { n, t } => *stage = read_init(alloc, *n, *t, row)?,
         Stage::Recording(trace) => {
-            if field_is(row, 0, b"end") {
-                read_end(trace, row)
-            } else {
-                read_step(alloc, trace, row)
+            if !field_is(row, 0, b"end") {
+                return read_step(alloc, trace, row);
             }
+            check_end(trace, row)?;
+            end(stage);
         }
-        Stage::Ended(_) => Err(TextError::AfterEnd),
+        Stage::Ended(_) => return Err(TextError::AfterEnd),
+    }
+    Ok(())
+}
+
+// Ends the trace, where one is being recorded.
+fn end(stage: &mut Stage)
+    ensures { (t : Recorded) → stage.old ≡ Stage.Recording t → stage.new ≡ Stage.Ended t }
+{
+    if let Stage::Recording(trace) = mem::replace(stage, Stage::Opening) {
+        *stage = Stage::Ended(trace);
     }
 }
 
@@ -141,8 +156,8 @@ fn read_init(alloc: Global, n: u64, t: u64, row: &ByteRecord) -> Result<Stage, T
 }
 
 // `no,proc,op,arg`
-fn read_step(alloc: Global, mut trace: Trace, row: &ByteRecord) -> Result<Stage, TextError>
-    ensures { Gives result (step_stage trace (fields_of row.now)) }
+fn read_step(alloc: Global, trace: &mut Trace, row: &ByteRecord) -> Result<(), TextError>
+    ensures { LeadsTo result (Stage.Recording trace.new) (step_stage trace.old (fields_of row.now)) }
 {
     let no = trace.len() as u64 + 1;
     if row.len() != 4 {
@@ -153,7 +168,7 @@ fn read_step(alloc: Global, mut trace: Trace, row: &ByteRecord) -> Result<Stage,
     }
     let step = step_of(alloc, no, row)?;
     match trace.push(step) {
-        Ok(()) => Ok(Stage::Recording(trace)),
+        Ok(()) => Ok(()),
         Err(PushError::Memory) => Err(TextError::Memory),
         Err(why) => Err(TextError::BadStep(no, why)),
     }
@@ -204,8 +219,8 @@ fn received(alloc: Global, no: u64, arg: &[u8], ends: bool) -> Result<Act, TextE
 }
 
 // `end,L`
-fn read_end(trace: Trace, row: &ByteRecord) -> Result<Stage, TextError>
-    ensures { result ≡ end_stage trace (fields_of row.now) }
+fn check_end(trace: &Trace, row: &ByteRecord) -> Result<(), TextError>
+    ensures { MatchResult result (λ _. end_stage trace.now (fields_of row.now) ≡ Ok (Stage.Ended trace.now)) (λ e. end_stage trace.now (fields_of row.now) ≡ Err e) }
 {
     let steps = trace.len() as u64;
     if row.len() != 2 {
@@ -214,5 +229,5 @@ fn read_end(trace: Trace, row: &ByteRecord) -> Result<Stage, TextError>
     if !field_is_number(row, 1, steps) {
         return Err(TextError::WrongEnd);
     }
-    Ok(Stage::Ended(trace))
+    Ok(())
 }

@@ -8,7 +8,7 @@ loop-done-init c =
     let all : length steps - 0 ≡ length steps = omega arith in
     record {
       receives = rw all c.in_ok-receives.ensures;
-      next_steps = rw all c.in_ok-next_steps.ensures;
+      silences = rw all c.in_ok-silences.ensures;
       level = rw all (KnowsLevel-after_all c.args.set steps);
       levels = rw (all, c.new-builder.ensures) (AreLevelsFrom-after_all c.args.set steps);
       falling = rw c.new-builder.ensures tt;
@@ -28,7 +28,7 @@ loop-done-preserved c =
     let start : 1 ≤ no = omega (arith, below) in
     record {
       receives = rw last back.receives;
-      next_steps = rw here back.next_steps;
+      silences = rw here back.silences;
       level = rw here back.level;
       levels = rw (here, c.in_ok-lower.ensures.ok)
           (AreLevelsFrom-before c.args.set steps no c.step_back-level.result c.loop-done.builder
