@@ -10,4 +10,5 @@ pub mod RowsTaken
 pub mod RowsRead
 pub mod TextsRead
 pub mod OneReport
+pub mod ShortTexts
 pub mod ReportAnswers

@@ -50,18 +50,21 @@ fn rows_of_text(alloc: Global, text: &[u8]) -> Result<Vec<Row>, ReportError>
 fn read_records(alloc: Global, text: &[u8]) -> Result<Option<Vec<Row>>, ReportError>
     ensures { Gives (option_map (λ v. v.items)) result (rows_after None (records_of_text text.now)) }
 {
-    let reader = ReaderBuilder::new()
+    let mut reader = ReaderBuilder::new()
         .has_headers(false)
         .flexible(true)
         .from_reader(alloc, text);
+    let mut record = ByteRecord::new(alloc);
     let mut rows = None;
-    for row in reader.into_byte_records() {
-        let Ok(row) = row else {
+    loop {
+        let Ok(found) = reader.read_byte_record(&mut record) else {
             return Err(ReportError::Memory);
         };
-        rows = Some(read_record(alloc, rows, &row)?);
+        if !found {
+            return Ok(rows);
+        }
+        rows = Some(read_record(alloc, rows, &record)?);
     }
-    Ok(rows)
 }
 
 // The rows with that of one more record. The first record is the header.

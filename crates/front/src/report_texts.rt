@@ -1,8 +1,10 @@
 //! The text of a report: a header and a record for each row, as csv writes them.
 
-ghost use Rattle.std.specs.Prelude.{◌≡◌, ◌≤◌, ◌∷◌, [], ◌++◌, IfOk, OnOk, IfErr, All, length, map, decimal, string_bytes};
+ghost use Rattle.std.specs.Prelude.{◌≡◌, ◌<◌, ◌≤◌, ℕ, List, ◌∷◌, [], ◌++◌, IfOk, OnOk, IfErr, All, length, map, decimal, string_bytes};
 ghost use Rattle.std.specs.Io.KnownBytes.{Appends};
 ghost use Rattle.trace_text.specs.Faults.{inner_of};
+ghost use Rattle.step_trace.specs.declared.steps.Step.{Step};
+ghost use Rattle.step_trace.specs.Fronts.{IsReport};
 ghost use Rattle.front.specs.ReportWriting.{WroteBefore, IsWriteCause};
 ghost use Rattle.front.specs.CsvWriting.{IsReady, IsPlain, ArePlain, written};
 ghost use Rattle.trace_text.specs.Records.{record_line};
@@ -27,6 +29,7 @@ pub fn write_report<W: Write>(
     ensures part { IfErr result (λ e. WroteBefore e (report_text rows.now) (W.contents (inner_of writer.old)) (W.contents (inner_of writer.new))) }
     ensures cause { IfErr result (λ e. IsWriteCause e writer.old writer.new) }
     ensures stands { All IsRow64 rows.now → StandsFor (report_text rows.now) rows.now }
+    ensures short { (set : ℕ) (steps : List Step) → IsReport set steps rows.now → length steps ≤ 1000000 → length (report_text rows.now) < 67108864 }
 {
     let Ok(text) = report_text_of(alloc, rows) else {
         return Err(WriteError::Memory);

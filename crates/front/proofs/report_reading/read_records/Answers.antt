@@ -1,50 +1,56 @@
-use Rattle.std.proofs.Common.{Bor, List, ℕ, ◌∙◌, sym, refl, inl, inr, Some, None, ◌∷◌, [], ◌++◌}
+use Rattle.std.proofs.Common.{◌∙◌, sym, refl, inr, None, ◌∷◌, [], ◌++◌}
 use Rattle.std.proofs.lemmas.Result.{err_from_is_err_and}
-use Rattle.csv.specs.Reading.{Reached, default_config, strip_bom}
+use Rattle.csv.specs.Reading.{Reached, strip_bom}
 use Rattle.csv.specs.Records.{fields_of}
-use Rattle.csv.specs.declared.parser.State.TheVariants as st
-use Rattle.csv.proofs.ReadFacts.{rows-end, rows-more}
-use Rattle.trace_text.proofs.ReachedRecords.{are-records, records-front}
+use Rattle.trace_text.proofs.RecordLoops.{HasRead-more, HasRead-less, HasRead-all, HasRead-front}
 use Rattle.front.proofs.RowsTaken.{rows_after-more, rows_after-refused}
 use Rattle.front.proofs.report_reading.read_records.Goals as goal
 
-pub loop-row-init : goal.loop-row-init
+pub loop-found-init : goal.loop-found-init
 unfolding Reached
-loop-row-init c =
-    let fr = c.from_reader-reader.ensures in
-    let start = c.into_iter-row-iterator.ensures.into_iter_gives ∙ refl in
-    let rdr = c.into_byte_records-row-items.ensures.rdr in
-    let left = c.into_byte_records-row-items.ensures.left in
-    rw (start, rdr) (
-      rw (c.flexible.ensures, c.has_headers.ensures) at fr.trim ∙ c.new.ensures.trim,
-      inr (inr (rw (c.flexible.ensures, c.has_headers.ensures) at fr.has_headers, fr.headers)),
-      left,
-      rw (c.flexible.ensures, c.has_headers.ensures) at fr.config ∙ c.new.ensures.config,
-      strip_bom c.args.text.now,
-      fr.source,
+loop-found-init c =
+    let reader = c.from_reader-reader.ensures in (
       [],
-      (sym fr.state, refl),
+      record {
+        plain = rw (c.flexible.ensures, c.has_headers.ensures) at reader.trim ∙ c.new.ensures.trim;
+        ready = inr (inr (rw (c.flexible.ensures, c.has_headers.ensures) at reader.has_headers, reader.headers));
+        config = rw (c.flexible.ensures, c.has_headers.ensures) at reader.config ∙ c.new.ensures.config;
+        left = strip_bom c.args.text.now;
+        source = reader.source;
+        reached = (sym reader.state, refl);
+      },
       refl,
     )
 
-pub loop-row-preserved : goal.loop-row-preserved
-loop-row-preserved c =
-    let inv = c.loop-row.invariant in
-    let s = rw (c.in-Some.is, c.in-Ok.is) at ((c.next.ensures.steps inv.2 inv.0).0 inv.1) in
-    let m = rows-more (λ (s : Bor (List ℕ)). Some s.now) c.loop-row.row-iterator.rdr c.next.new.self.rdr (fields_of c.in-Ok.row) default_config st.StartRecord (strip_bom c.args.text.now) inv.4 inv.6 inv.3 inv.5 inv.7 s.0 in
-    (s.0.3 ∙ inv.0, inl s.1, s.2, s.0.2 ∙ inv.3, m.0, m.1, inv.6 ++ (fields_of c.in-Ok.row ∷ []), m.2, rows_after-more None _ _ inv.6 _ inv.8 c.in_ok-read_record.ensures)
+pub returns-then-not-found : goal.returns-then-not-found
+returns-then-not-found c =
+    let inv = c.loop-found.invariant in
+    let r = (rw c.in-Ok.is at c.read_byte_record.ensures.reads) inv.1.plain inv.1.ready in
+    rw (HasRead-all c.args.text.now c.loop-found.reader c.read_byte_record.new.self inv.0 (fields_of c.read_byte_record.new.row) inv.1 (rw c.if-not-found.true at r)) inv.2
 
 pub returns-in_err-read_record : goal.returns-in_err-read_record
 returns-in_err-read_record c =
-    let inv = c.loop-row.invariant in
-    let s = rw (c.in-Some.is, c.in-Ok.is) at ((c.next.ensures.steps inv.2 inv.0).0 inv.1) in
-    let m = rows-more (λ (s : Bor (List ℕ)). Some s.now) c.loop-row.row-iterator.rdr c.next.new.self.rdr (fields_of c.in-Ok.row) default_config st.StartRecord (strip_bom c.args.text.now) inv.4 inv.6 inv.3 inv.5 inv.7 s.0 in
-    let front = records-front _ _ _ _ m.2 in
+    let inv = c.loop-found.invariant in
+    let r = (rw c.in-Ok.is at c.read_byte_record.ensures.reads) inv.1.plain inv.1.ready in
+    let first = (rw c.in-Ok.is at c.read_byte_record.ensures.ready) inv.1.plain in
+    let row = fields_of c.read_byte_record.new.row in
+    let more = HasRead-more c.args.text.now c.loop-found.reader c.read_byte_record.new.self inv.0 row inv.1 (rw c.if-not-found.false at r) first in
+    let front = HasRead-front c.args.text.now c.read_byte_record.new.self (inv.0 ++ (row ∷ [])) more in
     let p = err_from_is_err_and c.from_residual.result c.from_residual.ensures.1 in
-    rw (p.1, p.2) (rows_after-refused None _ _ inv.6 front.0 _ (fields_of c.in-Ok.row) inv.8 c.in_err-read_record.ensures front.1)
+    rw (p.1, p.2) (rows_after-refused None _ _ inv.0 front.0 _ row inv.2 c.in_err-read_record.ensures front.1)
 
-pub returns : goal.returns
-returns c =
-    let inv = c.loop-row.invariant in
-    let s = rw c.in-None.is at ((c.next.ensures.steps inv.2 inv.0).0 inv.1) in
-    rw (are-records _ _ (c.loop-row.row-iterator.rdr.state, inv.4, inv.7, rows-end (λ (s : Bor (List ℕ)). Some s.now) c.loop-row.row-iterator.rdr c.next.new.self.rdr [] default_config inv.4 inv.3 inv.5 s)) inv.8
+pub loop-found-smaller : goal.loop-found-smaller
+loop-found-smaller c =
+    let inv = c.loop-found.invariant in
+    let r = (rw c.in-Ok.is at c.read_byte_record.ensures.reads) inv.1.plain inv.1.ready in
+    HasRead-less c.args.text.now c.loop-found.reader c.read_byte_record.new.self inv.0 (fields_of c.read_byte_record.new.row) inv.1 (rw c.if-not-found.false at r)
+
+pub loop-found-preserved : goal.loop-found-preserved
+loop-found-preserved c =
+    let inv = c.loop-found.invariant in
+    let r = (rw c.in-Ok.is at c.read_byte_record.ensures.reads) inv.1.plain inv.1.ready in
+    let first = (rw c.in-Ok.is at c.read_byte_record.ensures.ready) inv.1.plain in (
+      inv.0 ++ (fields_of c.read_byte_record.new.row ∷ []),
+      HasRead-more c.args.text.now c.loop-found.reader c.read_byte_record.new.self inv.0 (fields_of c.read_byte_record.new.row) inv.1 (rw c.if-not-found.false at r) first,
+      rows_after-more None _ _ inv.0 _ inv.2 c.in_ok-read_record.ensures,
+    )

@@ -3,6 +3,7 @@ use Rattle.trace_text.specs.declared.refusals.WriteError.{WriteError}
 use Rattle.trace_text.specs.declared.refusals.WriteError.TheVariants as fault
 use Rattle.trace_text.specs.ByteLoops.{WroteFront}
 use Rattle.front.specs.ReportWriting.{WroteBefore}
+use Rattle.front.proofs.ShortTexts.{short-report_text}
 use Rattle.front.proofs.TextsRead.{StandsFor-report_text}
 use Rattle.front.proofs.report_texts.write_report.Goals as goal
 
@@ -19,3 +20,9 @@ returns-clause-part g c = wrote-before c.write_text.result _ _ _ (rw (c.deref.en
 
 pub returns-clause-stands : goal.returns-clause-stands
 returns-clause-stands g c = StandsFor-report_text c.args.rows.now
+
+pub returns-in_default-clause-short : goal.returns-in_default-clause-short
+returns-in_default-clause-short g c = λ members steps report limit. short-report_text members steps c.args.rows.now limit report
+
+pub returns-clause-short : goal.returns-clause-short
+returns-clause-short g c = λ members steps report limit. short-report_text members steps c.args.rows.now limit report

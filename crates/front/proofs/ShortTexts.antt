@@ -1,0 +1,138 @@
+-- The text of a report is shorter than a text may be: its rows are no more than the steps, and their
+-- numbers have at most seven digits.
+use Rattle.std.proofs.Common.{ℕ, ◌≡◌, ◌+◌, ◌*◌, ◌<◌, ◌≤◌, ◌^◌, List, [], ◌∷◌, ◌++◌, length, map, get_or, Option, Some, None, IsTrue, ◌&&◌, Contains, decimal, refl, subst, suc, zero, arith, length-append}
+use Rattle.std.specs.Prelude.{nat_le, nat_lt}
+use Rattle.std.specs.List.{join_with_byte}
+use Rattle.std.specs.List.Sorted.{IsStrictlyIncreasing}
+use Rattle.std.proofs.lemmas.Bool.{and_parts, leb-true}
+use Rattle.std.proofs.lemmas.Fmt.{length-decimal-le}
+use Rattle.std.proofs.lemmas.List.Elements.{Contains-get_or}
+use Rattle.std.proofs.lemmas.List.{length-map}
+use Rattle.step_trace.specs.declared.steps.Step.{Step}
+use Rattle.step_trace.specs.declared.rows.Miss.{Miss}
+use Rattle.step_trace.specs.declared.rows.Gap.{Gap}
+use Rattle.step_trace.specs.declared.rows.Row.{Row}
+use Rattle.step_trace.specs.Processors.{has_proc}
+use Rattle.step_trace.specs.Witnesses.{NamesMiss, NamesGap}
+use Rattle.step_trace.specs.Fronts.{IsReport, IsReportRow}
+use Rattle.step_trace.proofs.StepPositions.{step_at_within}
+use Rattle.trace_text.specs.Records.{record_line, text_of_records}
+use Rattle.front.specs.ReportTexts.{report_header, report_text, row_record, miss_fields, gap_fields}
+use Rattle.front.proofs.ListMembers.{Contains-first, Contains-later, Contains-unmapped}
+
+-- fields of at most seven bytes
+abbrev AreShort : List (List ℕ) → Type 0
+AreShort [] = Unit {0}
+AreShort (field ∷ rest) = (length field ≤ 7) × AreShort rest
+
+short-append : (xs ys : List (List ℕ)) → AreShort xs → AreShort ys → AreShort (xs ++ ys)
+short-append [] ys a b = b
+short-append (x ∷ xs) ys a b = (a.0, short-append xs ys a.1 b)
+
+length-joined : (fields : List (List ℕ)) → AreShort fields → length (join_with_byte 44 fields) ≤ 8 * length fields
+length-joined [] short = omega arith
+length-joined (x ∷ []) short = let l = short.0 in omega (arith, l)
+length-joined (x ∷ y ∷ rest) short =
+    let l = short.0 in
+    let more = length-joined (y ∷ rest) short.1 in
+    rw (length-append x (44 ∷ join_with_byte 44 (y ∷ rest))) (omega (arith, l, more))
+
+length-line : (fields : List (List ℕ)) → AreShort fields → length (record_line fields) ≤ 8 * length fields + 1
+length-line fields short =
+    let joined = length-joined fields short in
+    rw (length-append (join_with_byte 44 fields) (10 ∷ [])) (omega (arith, joined))
+
+short-decimal : (n : ℕ) → n < 10 ^ 7 → length (decimal n) ≤ 7
+short-decimal n l = length-decimal-le 7 n (omega arith) l (omega arith)
+
+member_high : (members p : ℕ) → IsTrue (has_proc members p) → p ≤ 64
+member_high members p m =
+    let range = (and_parts (nat_lt 0 p && nat_le p 64) _ m).0 in
+    leb-true p 64 (and_parts (nat_lt 0 p) _ range).1
+
+-- the fields of a witness, and the bound beside it
+record IsShortBeside (d n : ℕ) (fields : List (List ℕ)) : Type 0 where
+  bound : d < 10 ^ 7
+  short : AreShort fields
+  count : length fields ≡ n
+
+short-miss : (members : ℕ) (steps : List Step) (g d : ℕ) (o : Option Miss) → length steps ≤ 1000000 → NamesMiss members steps g d o → IsShortBeside d 2 (miss_fields o)
+short-miss members steps g d None limit named = record { bound = omega (arith, named); short = (omega arith, (omega arith, tt)); count = refl }
+short-miss members steps g d (Some m) limit named =
+    let miss = named.1.miss in
+    let long = named.1.long in
+    let sent = step_at_within steps m.sent _ miss.message.sent in
+    let missed = step_at_within steps m.missed _ miss.receive.step in
+    record {
+      bound = omega (arith, limit, long, missed);
+      short = (short-decimal m.sent (omega (arith, limit, sent)), (short-decimal m.missed (omega (arith, limit, missed)), tt));
+      count = refl;
+    }
+
+short-gap : (members : ℕ) (steps : List Step) (g f : ℕ) (o : Option Gap) → length steps ≤ 1000000 → NamesGap members steps g f o → IsShortBeside f 3 (gap_fields o)
+short-gap members steps g f None limit named = record { bound = omega (arith, named); short = (omega arith, (omega arith, (omega arith, tt))); count = refl }
+short-gap members steps g f (Some w) limit named =
+    let gap = named.1.gap in
+    let long = named.1.long in
+    let inside = gap.inside in
+    let order = gap.order in
+    let proc = member_high members w.proc gap.member in
+    record {
+      bound = omega (arith, limit, long, inside);
+      short = (short-decimal w.proc (omega (arith, proc)), (short-decimal w.from (omega (arith, limit, order, inside)), (short-decimal w.to (omega (arith, limit, inside)), tt)));
+      count = refl;
+    }
+
+length-row_line : (members : ℕ) (steps : List Step) (r : Row) → length steps ≤ 1000000 → IsReportRow members steps r → length (record_line (row_record r)) ≤ 65
+length-row_line members steps r limit row =
+    let miss = short-miss members steps r.gst r.delta r.miss limit row.miss in
+    let gap = short-gap members steps r.gst r.phi r.gap limit row.gap in
+    let end = row.front.feasible.end in
+    let bounds : List (List ℕ) = decimal r.gst ∷ decimal r.delta ∷ decimal r.phi ∷ [] in
+    let short = short-append bounds (miss_fields r.miss ++ gap_fields r.gap)
+    (short-decimal r.gst (omega (arith, limit, end)), (short-decimal r.delta miss.bound, (short-decimal r.phi gap.bound, tt)))
+    (short-append (miss_fields r.miss) (gap_fields r.gap) miss.short gap.short) in
+    let line = length-line (row_record r) short in
+    let rest = length-append (miss_fields r.miss) (gap_fields r.gap) in
+    let two = miss.count in
+    let three = gap.count in
+    omega (arith, line, rest, two, three)
+
+length-lines : (rows : List Row) → ((r : Row) → Contains rows r → length (record_line (row_record r)) ≤ 65) → length (text_of_records (map row_record rows)) ≤ 65 * length rows
+length-lines [] short = omega arith
+length-lines (r ∷ rows) short =
+    let line = short r (Contains-first r rows) in
+    let more = length-lines rows (λ s c. short s (Contains-later r s rows c)) in
+    rw (length-append (record_line (row_record r)) (text_of_records (map row_record rows))) (omega (arith, line, more))
+
+-- positive numbers that rise
+rising-at : (ns : List ℕ) → IsStrictlyIncreasing ns → ((n : ℕ) → Contains ns n → 1 ≤ n) → (k : ℕ) → k < length ns → k < get_or ns k 0
+rising-at ns rising positive zero inside = let first = positive (get_or ns 0 0) (Contains-get_or ns 0 0 inside) in omega (arith, first)
+rising-at ns rising positive (suc k) inside =
+    let before = rising-at ns rising positive k (omega arith) in
+    let step = subst (λ (j : ℕ). get_or ns k 0 < get_or ns j 0) (let next : k + 1 ≡ suc k = omega arith in next) (rising k (omega arith)) in
+    omega (arith, before, step)
+
+-- a report has no more rows than the trace has steps
+length-rows : (members : ℕ) (steps : List Step) (rows : List Row) → IsReport members steps rows → length rows ≤ length steps
+length-rows members steps [] report = omega arith
+length-rows members steps (r ∷ rest) report =
+    let numbers = map (λ (row : Row). row.gst) (r ∷ rest) in
+    let size : length numbers ≡ suc (length rest) = length-map (r ∷ rest) (λ (row : Row). row.gst) in
+    let feasible = λ (n : ℕ) (c : Contains numbers n).
+    let row = Contains-unmapped (λ (row : Row). row.gst) (r ∷ rest) n c in
+    let is = row.2 in
+    let start = (report.sound row.0 row.1).front.feasible.start in
+    let end = (report.sound row.0 row.1).front.feasible.end in
+    let both : (1 ≤ n) × (n ≤ length steps) = (omega (arith, is, start), omega (arith, is, end)) in both in
+    let above = rising-at numbers report.rising (λ n c. (feasible n c).0) (length rest) (omega (arith, size)) in
+    let last = (feasible (get_or numbers (length rest) 0) (Contains-get_or numbers (length rest) 0 (omega (arith, size)))).1 in
+    omega (arith, above, last)
+
+-- the text of a report is shorter than 64 MiB
+pub short-report_text : (members : ℕ) (steps : List Step) (rows : List Row) → length steps ≤ 1000000 → IsReport members steps rows → length (report_text rows) < 67108864
+short-report_text members steps rows limit report =
+    let lines = length-lines rows (λ r c. length-row_line members steps r limit (report.sound r c)) in
+    let count = length-rows members steps rows report in
+    let header : length (record_line report_header) ≡ 39 = refl in
+    rw (length-append (record_line report_header) (text_of_records (map row_record rows))) (omega (arith, lines, count, header, limit))
