@@ -1,8 +1,8 @@
 -- Elements of a list: by its head and its rest, after a filter, and found by a test.
-use Rattle.std.proofs.Common.{ℕ, ◌≡◌, ◌<◌, ◌≤◌, ◌⊎◌, inl, inr, Bool, true, false, cond, List, [], ◌∷◌, ◌++◌, length, get_or, filter, refl, sym, ap, subst, ◌∙◌, zero, suc, arith}
-use Rattle.std.specs.Prelude.{Contains, count_by}
-use Rattle.std.specs.List.{list_any, flat_map}
-use Rattle.std.proofs.lemmas.List.Elements.{Contains-append_left, Contains-append_right}
+use Rattle.std.proofs.Common.{ℕ, ◌≡◌, ◌<◌, ◌≤◌, ◌⊎◌, inl, inr, Bool, true, false, cond, List, [], ◌∷◌, ◌++◌, length, get_or, filter, map, Option, Some, None, refl, sym, ap, subst, ◌∙◌, zero, suc, arith}
+use Rattle.std.specs.Prelude.{Contains, count_by, filter_map}
+use Rattle.std.specs.List.{list_any, flat_map, cons_option}
+use Rattle.std.proofs.lemmas.List.Elements.{Contains-append_left, Contains-append_right, Contains-append_cases}
 use Rattle.std.proofs.lemmas.List.Sums.{length-filter}
 use Rattle.std.proofs.lemmas.List.Folds.{Any-from_list_any, list_any-from_Any}
 
@@ -68,3 +68,45 @@ Contains-flat_map {A = A} f (y ∷ ys) x a c d = go (Contains-cons_cases y x ys 
     go : (x ≡ y) ⊎ Contains ys x → (Contains ys x → Contains (flat_map f ys) a) → Contains (f y ++ flat_map f ys) a
     go (inl e) g = Contains-append_left (f y) (flat_map f ys) a (subst (λ z. Contains (f z) a) e d)
     go (inr h) g = Contains-append_right (f y) (flat_map f ys) a (g h)
+
+-- what is given comes from an element
+pub Contains-from_filter_map : {X Y : Type 0} (h : X → Option Y) (xs : List X) (y : Y) → Contains (filter_map h xs) y → (x : X) × Contains xs x × (h x ≡ Some y)
+Contains-from_filter_map h [] y c = absurd (Contains-nil y c)
+Contains-from_filter_map {X} {Y} h (x ∷ xs) y c = go (h x) refl c (λ d. Contains-from_filter_map h xs y d)
+  where
+    rest : (z : X) × Contains xs z × (h z ≡ Some y) → (z : X) × Contains (x ∷ xs) z × (h z ≡ Some y)
+    rest r = (r.0, Contains-rest x r.0 xs r.1, r.2)
+
+    go : (o : Option Y) → h x ≡ o → Contains (cons_option o (filter_map h xs)) y
+        → (Contains (filter_map h xs) y → (z : X) × Contains xs z × (h z ≡ Some y)) → (z : X) × Contains (x ∷ xs) z × (h z ≡ Some y)
+    go None e d f = rest (f d)
+    go (Some w) e d f = elim (Contains-cons_cases w y (filter_map h xs) d) [
+      | inl s ↦ (x, Contains-head x xs, e ∙ ap Some (sym s))
+      | inr k ↦ rest (f k)
+    ]
+
+-- an element gives what is given
+pub Contains-filter_map : {X Y : Type 0} (h : X → Option Y) (xs : List X) (x : X) (y : Y) → Contains xs x → h x ≡ Some y → Contains (filter_map h xs) y
+Contains-filter_map h [] x y c e = absurd (Contains-nil x c)
+Contains-filter_map {X} {Y} h (z ∷ xs) x y c e = go (h z) refl (Contains-cons_cases z x xs c) (λ d. Contains-filter_map h xs x y d e)
+  where
+    go : (o : Option Y) → h z ≡ o → (x ≡ z) ⊎ Contains xs x → (Contains xs x → Contains (filter_map h xs) y) → Contains (cons_option o (filter_map h xs)) y
+    go None s (inl d) f = let clash = sym s ∙ ap h (sym d) ∙ e in cc
+    go None s (inr d) f = f d
+    go (Some w) s (inl d) f = let g : Some w ≡ Some y = sym s ∙ ap h (sym d) ∙ e in let same : w ≡ y = cc in (zero, omega arith, same)
+    go (Some w) s (inr d) f = Contains-rest w y (filter_map h xs) (f d)
+
+-- an element of a list of images is the image of an element
+pub Contains-from_map : {X Y : Type 0} (f : X → Y) (xs : List X) (y : Y) → Contains (map f xs) y → (x : X) × Contains xs x × (f x ≡ y)
+Contains-from_map f [] y c = absurd (Contains-nil y c)
+Contains-from_map f (x ∷ xs) y c = elim (Contains-cons_cases (f x) y (map f xs) c) [
+  | inl s ↦ (x, Contains-head x xs, sym s)
+  | inr k ↦ let r = Contains-from_map f xs y k in (r.0, Contains-rest x r.0 xs r.1, r.2)
+]
+
+pub Contains-from_flat_map : {X A : Type 0} (f : X → List A) (xs : List X) (a : A) → Contains (flat_map f xs) a → (x : X) × Contains xs x × Contains (f x) a
+Contains-from_flat_map f [] a c = absurd (Contains-nil a c)
+Contains-from_flat_map f (x ∷ xs) a c = elim (Contains-append_cases (f x) (flat_map f xs) a c) [
+  | inl d ↦ (x, Contains-head x xs, d)
+  | inr d ↦ let r = Contains-from_flat_map f xs a d in (r.0, Contains-rest x r.0 xs r.1, r.2)
+]

@@ -6,7 +6,7 @@ use Rattle.std.proofs.lemmas.Bool.{eqb-true, leb-true, le-leb, cases_lt}
 use Rattle.std.proofs.Common.{eq-eqb}
 use Rattle.lock_phases.specs.Messages.{Heard, listed_values}
 use Rattle.lock_phases.specs.Quorums.{lists, has_quorum, lesser, least, least_listed}
-use Rattle.lock_phases.proofs.Membership.{Contains-rest, Contains-cons_cases, Contains-nil, Contains-filter, Contains-from_filter, list_any-found, list_any-at, count_by-found, Contains-flat_map}
+use Rattle.lock_phases.proofs.Membership.{Contains-rest, Contains-cons_cases, Contains-nil, Contains-filter, Contains-from_filter, list_any-found, list_any-at, count_by-found, Contains-flat_map, Contains-from_flat_map}
 
 -- v is in at least so many of the lists that were heard, and no lesser value is
 pub record IsLeastListed (quorum : ℕ) (heard : List Heard) (v : ℕ) : Type 0 where
@@ -83,3 +83,10 @@ pub least_listed-not_None : (quorum : ℕ) (heard : List Heard) (u : ℕ) → 1 
 least_listed-not_None quorum heard u l q e =
     let values = filter (has_quorum quorum heard) (flat_map (λ m. listed_values m.1.kind) heard) in
     Contains-nil u (subst (λ xs. Contains xs u) (least-none values e) (candidate quorum heard u l q))
+
+-- a proposed value is in a list that was heard
+pub least_listed-listed : (quorum : ℕ) (heard : List Heard) (v : ℕ) → least_listed quorum heard ≡ Some v → (m : Heard) × Contains heard m × Contains (listed_values m.1.kind) v
+least_listed-listed quorum heard v e =
+    let values = flat_map (λ m. listed_values m.1.kind) heard in
+    Contains-from_flat_map (λ m. listed_values m.1.kind) heard v
+    (Contains-from_filter (has_quorum quorum heard) values v (least-member (filter (has_quorum quorum heard) values) v e)).0

@@ -1,5 +1,5 @@
 -- From round to round, and the node functions by the part of the round.
-use Rattle.std.proofs.Common.{ℕ, ◌≡◌, ◌+◌, ◌*◌, ◌<◌, ◌≤◌, List, ap, arith}
+use Rattle.std.proofs.Common.{ℕ, ◌≡◌, ◌+◌, ◌*◌, ◌<◌, ◌≤◌, ◌⊎◌, inl, inr, zero, suc, List, ap, arith}
 use Rattle.std.specs.Prelude.{option_map}
 use Rattle.step_trace.specs.Configurations.{Setup}
 use Rattle.lock_phases.specs.Rounds.{phase_of, part_of, owner, Part, Listing, Locking, Acknowledging, Releasing, part_at}
@@ -17,6 +17,16 @@ part_of-low round = omega arith
 
 pub part_of-high : (round : ℕ) → part_of round ≤ 4
 part_of-high round = omega arith
+
+pub part_of-cases : (round : ℕ) → (part_of round ≡ 1) ⊎ ((part_of round ≡ 2) ⊎ ((part_of round ≡ 3) ⊎ (part_of round ≡ 4)))
+part_of-cases round = go (part_of round) (part_of-low round) (part_of-high round)
+  where
+    go : (p : ℕ) → 1 ≤ p → p ≤ 4 → (p ≡ 1) ⊎ ((p ≡ 2) ⊎ ((p ≡ 3) ⊎ (p ≡ 4)))
+    go zero l h = absurd (omega arith)
+    go (suc zero) l h = inl (omega arith)
+    go (suc (suc zero)) l h = inr (inl (omega arith))
+    go (suc (suc (suc zero))) l h = inr (inr (inl (omega arith)))
+    go (suc (suc (suc (suc p)))) l h = inr (inr (inr (omega arith)))
 
 -- the next round is the next part of the phase, or the first part of the next phase
 pub part_of-next : (round : ℕ) → 1 ≤ round → part_of round < 4 → (part_of (round + 1) ≡ part_of round + 1) × (phase_of (round + 1) ≡ phase_of round)

@@ -1,0 +1,95 @@
+-- The invariants of the rounds from which agreement follows. The coming round is a part, from 1 to 4, of a
+-- phase; each invariant holds of the nodes before it, whatever messages were lost.
+use Rattle.std.proofs.Common.{ℕ, ◌≡◌, ◌+◌, ◌≤◌, ◌<◌, inl, inr, Bool, true, List, Some, nat_le, ◌&&◌, refl, sym, ◌∙◌, eq-eqb, arith}
+use Rattle.std.specs.Prelude.{Contains, count_by, ◌==◌}
+use Rattle.std.specs.List.{list_any}
+use Rattle.std.proofs.lemmas.Bool.{eqb-true, leb-true, le-leb, cases_lt, and_parts}
+use Rattle.step_trace.specs.Configurations.{Setup}
+use Rattle.lock_phases.specs.Rounds.{owner}
+use Rattle.lock_phases.specs.Nodes.{State}
+use Rattle.lock_phases.proofs.Membership.{list_any-found, list_any-at, count_by-found}
+use Rattle.lock_phases.proofs.Counting.{count_by-le}
+use Rattle.round_model.specs.RoundStates.{processors}
+
+-- Each lock is of a phase that has begun; before the locking round is over, of an earlier one.
+pub record LocksArePast (nodes : ℕ → State) (phase part : ℕ) : Type 0 where
+  pub begun : (j : ℕ) (lock : ℕ × ℕ) → Contains (nodes j).locks lock → lock.1 ≤ phase
+  pub earlier : part ≤ 2 → (j : ℕ) (lock : ℕ × ℕ) → Contains (nodes j).locks lock → lock.1 < phase
+
+-- Before the acknowledging round, each lock of this phase is on the proposal of its owner.
+pub record FreshLocksAreProposed (c : Setup) (nodes : ℕ → State) (phase part : ℕ) : Type 0 where
+  pub proposed : part ≡ 3 → (j : ℕ) (lock : ℕ × ℕ) → Contains (nodes j).locks lock → lock.1 ≡ phase → (nodes (owner c.n phase)).proposal ≡ Some lock.0
+
+-- A flag is set only before the acknowledging round, and who has it set holds a lock of this phase.
+pub record FlagsMeanFreshLocks (nodes : ℕ → State) (phase part : ℕ) : Type 0 where
+  pub acknowledging : (j : ℕ) → (nodes j).ack ≡ true → part ≡ 3
+  pub locked : (j : ℕ) → (nodes j).ack ≡ true → (v : ℕ) × Contains (nodes j).locks (v, phase)
+
+-- whether v is locked, with this phase or a later one
+abbrev pub is_locked_since : ℕ → ℕ → List (ℕ × ℕ) → Bool
+is_locked_since phase v locks = list_any (λ lock. lock.0 == v && nat_le phase lock.1) locks
+
+-- A value is anchored at a phase whose acknowledging round is over: more than t processors hold it locked
+-- since that phase, nobody holds another value so, and no other value is proposed.
+pub record IsAnchored (c : Setup) (nodes : ℕ → State) (phase part v : ℕ) : Type 0 where
+  pub anchor : ℕ
+  pub begun : anchor ≤ phase
+  pub earlier : part ≤ 3 → anchor < phase
+  pub holders : c.t + 1 ≤ count_by (λ j. is_locked_since anchor v (nodes j).locks) (processors c)
+  pub sole : (j : ℕ) (lock : ℕ × ℕ) → Contains (nodes j).locks lock → anchor ≤ lock.1 → lock.0 ≡ v
+  pub proposed : 2 ≤ part → part ≤ 3 → (w : ℕ) → (nodes (owner c.n phase)).proposal ≡ Some w → w ≡ v
+
+-- Each decision is anchored.
+pub record DecisionsAreAnchored (c : Setup) (nodes : ℕ → State) (phase part : ℕ) : Type 0 where
+  pub each : (j v : ℕ) → (nodes j).decision ≡ Some v → IsAnchored c nodes phase part v
+
+-- all of these
+pub record IsSafe (c : Setup) (nodes : ℕ → State) (phase part : ℕ) : Type 0 where
+  pub past : LocksArePast nodes phase part
+  pub fresh : FreshLocksAreProposed c nodes phase part
+  pub flags : FlagsMeanFreshLocks nodes phase part
+  pub decisions : DecisionsAreAnchored c nodes phase part
+
+-- a lock held since a phase
+pub record IsLockSince (phase v : ℕ) (locks : List (ℕ × ℕ)) : Type 0 where
+  pub lock : ℕ × ℕ
+  pub held : Contains locks lock
+  pub value : lock.0 ≡ v
+  pub since : phase ≤ lock.1
+
+pub IsLockSince-from_test : (phase v : ℕ) (locks : List (ℕ × ℕ)) → is_locked_since phase v locks ≡ true → IsLockSince phase v locks
+IsLockSince-from_test phase v locks e =
+    let f = list_any-found (λ lock. lock.0 == v && nat_le phase lock.1) locks e in
+    let b = and_parts (f.0.0 == v) (nat_le phase f.0.1) f.2 in
+    record { lock = f.0; held = f.1; value = eqb-true f.0.0 v b.0; since = leb-true phase f.0.1 b.1 }
+
+pub is_locked_since-lock : (phase v : ℕ) (locks : List (ℕ × ℕ)) (lock : ℕ × ℕ) → Contains locks lock → lock.0 ≡ v → phase ≤ lock.1
+    → is_locked_since phase v locks ≡ true
+is_locked_since-lock phase v locks lock d e l =
+    list_any-at (λ x. x.0 == v && nat_le phase x.1) locks lock d (rw (eq-eqb lock.0 v e, le-leb phase lock.1 l) refl)
+
+-- those who hold a value go on holding it, where each does
+pub holders-kept : (c : Setup) (nodes after : ℕ → State) (phase v : ℕ)
+    → ((j : ℕ) → is_locked_since phase v (nodes j).locks ≡ true → is_locked_since phase v (after j).locks ≡ true)
+    → c.t + 1 ≤ count_by (λ j. is_locked_since phase v (nodes j).locks) (processors c)
+    → c.t + 1 ≤ count_by (λ j. is_locked_since phase v (after j).locks) (processors c)
+holders-kept c nodes after phase v kept l =
+    let more = count_by-le (λ j. is_locked_since phase v (nodes j).locks) (λ j. is_locked_since phase v (after j).locks) (processors c) kept in
+    omega arith
+
+-- of two anchored values the one at the earlier phase is the only one that is held since
+same-earlier : (c : Setup) (nodes : ℕ → State) (phase part v w : ℕ) (a : IsAnchored c nodes phase part v) (b : IsAnchored c nodes phase part w)
+    → a.anchor ≤ b.anchor → w ≡ v
+same-earlier c nodes phase part v w a b l =
+    let more = b.holders in
+    let j = count_by-found (λ i. is_locked_since b.anchor w (nodes i).locks) (processors c) (omega arith) in
+    let h = IsLockSince-from_test b.anchor w (nodes j.0).locks j.2 in
+    let since = h.since in
+    sym h.value ∙ a.sole j.0 h.lock h.held (omega arith)
+
+-- any two anchored values are equal
+pub IsAnchored-same : (c : Setup) (nodes : ℕ → State) (phase part v w : ℕ) → IsAnchored c nodes phase part v → IsAnchored c nodes phase part w → v ≡ w
+IsAnchored-same c nodes phase part v w a b = elim (cases_lt a.anchor b.anchor) [
+  | inl l ↦ sym (same-earlier c nodes phase part v w a b (omega arith))
+  | inr l ↦ same-earlier c nodes phase part w v b a (omega arith)
+]

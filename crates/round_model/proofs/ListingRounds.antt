@@ -1,0 +1,79 @@
+-- A listing round keeps the invariants: no value is proposed beside one that is anchored.
+use Rattle.std.proofs.Common.{ℕ, ◌≡◌, Bool, true, false, eqb, Some, refl, sym, ap, subst, ◌∙◌, eq-eqb, arith}
+use Rattle.std.specs.Prelude.{Contains}
+use Rattle.std.proofs.lemmas.Bool.{eqb-true}
+use Rattle.step_trace.specs.Configurations.{Setup, IsSetup}
+use Rattle.lock_phases.specs.Rounds.{phase_of, part_of, owner}
+use Rattle.lock_phases.specs.Nodes.{State}
+use Rattle.lock_phases.specs.Messages.{Heard}
+use Rattle.lock_phases.specs.Quorums.{lists}
+use Rattle.lock_phases.proofs.LockLaws.{is_acceptable-locked}
+use Rattle.lock_phases.proofs.QuorumLaws.{Contains-from_lists}
+use Rattle.lock_phases.proofs.AgreementLaws.{ListingKeeps, listing-keeps, quorum-step}
+use Rattle.lock_phases.proofs.SentBodies.{listed-said_by}
+use Rattle.round_model.specs.RoundStates.{Table, messages_heard}
+use Rattle.round_model.proofs.HeardMessages.{heard_of, heard_of-sender, nodes_after}
+use Rattle.round_model.proofs.Invariants.{is_locked_since, IsLockSince-from_test, IsAnchored, holders-kept, IsSafe}
+
+-- an owner proposes no other value than one that is anchored
+proposed-anchored : (c : Setup) (table : Table) (nodes : ℕ → State) (round v w : ℕ) → IsSetup c → part_of round ≡ 1
+    → IsAnchored c nodes (phase_of round) 1 v
+    → (nodes_after c table nodes round (owner c.n (phase_of round))).proposal ≡ Some w → w ≡ v
+proposed-anchored c table nodes round v w setup e a proposes = go (eqb w v) refl
+  where
+    o : ℕ
+    o = owner c.n (phase_of round)
+
+    -- who holds v since its anchor lists no other value
+    silent : (w ≡ v → ⊥) → (j : ℕ) (m : Heard) → heard_of c table nodes o round j ≡ Some m → lists m w ≡ true
+        → is_locked_since a.anchor v (nodes j).locks ≡ true → ⊥
+    silent other j m h l s =
+        let said = (heard_of-sender c table nodes o round j m h).said in
+        let acceptable = (listed-said_by (nodes j) m.1 w said (Contains-from_lists m w l)).1 in
+        let lock = IsLockSince-from_test a.anchor v (nodes j).locks s in
+        other (sym (is_acceptable-locked (nodes j).locks w lock.lock acceptable lock.held) ∙ lock.value)
+
+    go : (b : Bool) → eqb w v ≡ b → w ≡ v
+    go true t = eqb-true w v t
+    go false t =
+        let quiet = silent (λ s. let clash = sym (eq-eqb w v s) ∙ t in cc) in
+        let few = quorum-step c (nodes o) o round (heard_of c table nodes o round) w (λ j. is_locked_since a.anchor v (nodes j).locks) setup e refl proposes quiet in
+        let many = a.holders in
+        absurd (omega arith)
+
+pub IsSafe-listing : (c : Setup) (table : Table) (nodes : ℕ → State) (round : ℕ) → IsSetup c → part_of round ≡ 1 → IsSafe c nodes (phase_of round) 1
+    → IsSafe c (nodes_after c table nodes round) (phase_of round) 2
+IsSafe-listing c table nodes round setup e safe = record {
+  past = record {
+    begun = λ j lock d. safe.past.begun j lock (held j lock d);
+    earlier = λ l j lock d. safe.past.earlier (omega arith) j lock (held j lock d);
+  };
+  fresh = record { proposed = λ h. absurd (omega arith) };
+  flags = record {
+    acknowledging = λ j f. absurd (unflagged j f);
+    locked = λ j f. absurd (unflagged j f);
+  };
+  decisions = record { each = λ j v d. anchored v (safe.decisions.each j v (sym (keeps j).decision ∙ d)) };
+}
+  where
+    after : ℕ → State
+    after = nodes_after c table nodes round
+
+    keeps : (j : ℕ) → ListingKeeps (nodes j) (after j)
+    keeps j = listing-keeps c (nodes j) j round (messages_heard c table nodes j round) e
+
+    held : (j : ℕ) (lock : ℕ × ℕ) → Contains (after j).locks lock → Contains (nodes j).locks lock
+    held j lock d = subst (λ xs. Contains xs lock) (keeps j).locks d
+
+    unflagged : (j : ℕ) → (after j).ack ≡ true → ⊥
+    unflagged j f = let p = safe.flags.acknowledging j (sym (keeps j).ack ∙ f) in omega arith
+
+    anchored : (v : ℕ) → IsAnchored c nodes (phase_of round) 1 v → IsAnchored c after (phase_of round) 2 v
+    anchored v a = record {
+      anchor = a.anchor;
+      begun = a.begun;
+      earlier = λ l. a.earlier (omega arith);
+      holders = holders-kept c nodes after a.anchor v (λ j h. ap (is_locked_since a.anchor v) (keeps j).locks ∙ h) a.holders;
+      sole = λ j lock d l. a.sole j lock (held j lock d) l;
+      proposed = λ l h w p. proposed-anchored c table nodes round v w setup e a p;
+    }

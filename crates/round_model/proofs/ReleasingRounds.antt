@@ -1,0 +1,60 @@
+-- A lock-release round keeps the invariants: no lock on an anchored value is released, held since its anchor.
+use Rattle.std.proofs.Common.{ℕ, ◌≡◌, ◌+◌, ◌≤◌, true, sym, ◌∙◌, arith}
+use Rattle.step_trace.specs.Configurations.{Setup}
+use Rattle.lock_phases.specs.Rounds.{phase_of, part_of}
+use Rattle.lock_phases.specs.Nodes.{State}
+use Rattle.lock_phases.proofs.LockLaws.{IsTold}
+use Rattle.lock_phases.proofs.AgreementLaws.{ReleasingKeeps, releasing-keeps}
+use Rattle.lock_phases.proofs.SentBodies.{told-said_by}
+use Rattle.round_model.specs.RoundStates.{Table, messages_heard}
+use Rattle.round_model.proofs.HeardMessages.{nodes_after, messages_heard-said}
+use Rattle.round_model.proofs.Invariants.{is_locked_since, IsLockSince-from_test, is_locked_since-lock, IsAnchored, holders-kept, IsSafe}
+
+pub IsSafe-releasing : (c : Setup) (table : Table) (nodes : ℕ → State) (round : ℕ) → part_of round ≡ 4 → IsSafe c nodes (phase_of round) 4
+    → IsSafe c (nodes_after c table nodes round) (phase_of round + 1) 1
+IsSafe-releasing c table nodes round e safe = record {
+  past = record {
+    begun = λ j lock d. let l = safe.past.begun j lock ((keeps j).locks lock d) in omega arith;
+    earlier = λ _ j lock d. let l = safe.past.begun j lock ((keeps j).locks lock d) in omega arith;
+  };
+  fresh = record { proposed = λ h. absurd (omega arith) };
+  flags = record {
+    acknowledging = λ j f. absurd (unflagged j f);
+    locked = λ j f. absurd (unflagged j f);
+  };
+  decisions = record { each = λ j v d. anchored v (safe.decisions.each j v (sym (keeps j).decision ∙ d)) };
+}
+  where
+    after : ℕ → State
+    after = nodes_after c table nodes round
+
+    keeps : (j : ℕ) → ReleasingKeeps (nodes j) (after j) (messages_heard c table nodes j round)
+    keeps j = releasing-keeps c (nodes j) j round (messages_heard c table nodes j round) e
+
+    unflagged : (j : ℕ) → (after j).ack ≡ true → ⊥
+    unflagged j f = let p = safe.flags.acknowledging j (sym (keeps j).ack ∙ f) in omega arith
+
+    -- what is told since the anchor is the anchored value
+    told : (v : ℕ) (a : IsAnchored c nodes (phase_of round) 4 v) (j : ℕ) (lock : ℕ × ℕ) → IsTold (messages_heard c table nodes j round) lock
+        → a.anchor ≤ lock.1 → lock.0 ≡ v
+    told v a j lock t l =
+        let h = messages_heard-said c table nodes j round t.0 t.1 in
+        a.sole t.0.0 lock (told-said_by (nodes t.0.0) t.0.1 lock h.said t.2) l
+
+    still : (v : ℕ) (a : IsAnchored c nodes (phase_of round) 4 v) (j : ℕ) → is_locked_since a.anchor v (nodes j).locks ≡ true
+        → is_locked_since a.anchor v (after j).locks ≡ true
+    still v a j h =
+        let x = IsLockSince-from_test a.anchor v (nodes j).locks h in
+        let since = x.since in
+        let kept = (keeps j).held x.lock x.held (λ lock t l. told v a j lock t (omega arith) ∙ sym x.value) in
+        is_locked_since-lock a.anchor v (after j).locks x.lock kept x.value x.since
+
+    anchored : (v : ℕ) → IsAnchored c nodes (phase_of round) 4 v → IsAnchored c after (phase_of round + 1) 1 v
+    anchored v a = record {
+      anchor = a.anchor;
+      begun = (let l = a.begun in omega arith);
+      earlier = λ _. let l = a.begun in omega arith;
+      holders = holders-kept c nodes after a.anchor v (λ j h. still v a j h) a.holders;
+      sole = λ j lock d l. a.sole j lock ((keeps j).locks lock d) l;
+      proposed = λ l h. absurd (omega arith);
+    }

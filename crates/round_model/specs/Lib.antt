@@ -1,0 +1,2 @@
+pub mod RoundStates
+pub mod Agreement
