@@ -14,7 +14,7 @@ use Rattle.step_trace.proofs.StepPositions.{step_at_within}
 use Rattle.suffix_staircase.specs.declared.levels.Level.{Level}
 use Rattle.suffix_staircase.specs.Silences.{IsNextStep, KnowsNextSteps, IsLatest}
 use Rattle.suffix_staircase.specs.Analysis.{KnowsGaps, with_gap}
-use Rattle.suffix_staircase.proofs.Decisions.{window_cases}
+use Rattle.bound_witness.proofs.Decisions.{PhiHolds-unrefuted}
 
 pub phi_positive : (set : ℕ) (steps : List Step) (g f : ℕ) (o : Option Gap) → NamesGap set steps g f o → 1 ≤ f
 phi_positive set steps g f None h = omega arith
@@ -39,19 +39,10 @@ IsPhi-from_gaps set steps g f o start k =
     let positive = phi_positive set steps g f o k.named in
     record {
       positive = positive;
-      holds = record {
-        each = λ x l h p m. elim (window_cases steps p x f) [
-          | inl s ↦ s
-          | inr n ↦ absurd (let short = k.shorter (record { proc = p; from = x; to = x + f - 1 }) (record {
-            member = m;
-            start = omega (arith, start, l);
-            order = omega (arith, positive);
-            inside = omega (arith, positive, h);
-            silent = λ z a b. n z a (omega (arith, positive, b));
-          }) l in
-              omega (arith, positive, short))
-        ];
-      };
+      holds = PhiHolds-unrefuted set steps g f start positive (λ w r.
+          let short = k.shorter w r.gap r.from in
+          let long = r.long in
+          omega (arith, short, long));
       least = phi_least set steps g f o k.named;
     }
 

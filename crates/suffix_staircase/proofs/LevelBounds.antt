@@ -3,9 +3,7 @@ use Rattle.std.proofs.Common.{ℕ, ◌≡◌, ◌+◌, ◌-◌, ◌≤◌, List,
 use Rattle.std.specs.Prelude.{slice_get}
 use Rattle.std.proofs.lemmas.Option.{same_Some, none-some}
 use Rattle.step_trace.specs.declared.steps.Step.{Step}
-use Rattle.step_trace.specs.Configurations.{Setup}
 use Rattle.step_trace.specs.Processors.{IsWithin}
-use Rattle.step_trace.specs.Traces.{IsWellFormed}
 use Rattle.step_trace.proofs.StepPositions.{step_at_within}
 use Rattle.suffix_staircase.specs.declared.levels.Level.{Level}
 use Rattle.suffix_staircase.specs.Levels.{StandsBefore, CanStandBefore}
@@ -57,9 +55,9 @@ KnowsLevel-after_all set steps = record {
   };
 }
 
-pub IsLevelAt-from_known : (c : Setup) (set : ℕ) (steps : List Step) (g : ℕ) (level : Level) → IsWellFormed c steps → 1 ≤ g → KnowsLevel set steps g level → IsLevelAt set steps g level
-IsLevelAt-from_known c set steps g level w start k = record {
-  delta = IsDelta-from_misses c set steps g level.delta level.miss w k.misses;
+pub IsLevelAt-from_known : (set : ℕ) (steps : List Step) (g : ℕ) (level : Level) → 1 ≤ g → KnowsLevel set steps g level → IsLevelAt set steps g level
+IsLevelAt-from_known set steps g level start k = record {
+  delta = IsDelta-from_misses set steps g level.delta level.miss k.misses;
   miss = k.misses.named;
   phi = IsPhi-from_gaps set steps g level.phi level.gap start k.gaps;
   gap = k.gaps.named;

@@ -1,7 +1,6 @@
 pub mod StretchLevels
 pub mod StartNumbers
 pub mod StartLaws
-pub mod Decisions
 pub mod MissBounds
 pub mod GapBounds
 pub mod ReceiveNotes

@@ -4,15 +4,13 @@ use Rattle.std.specs.Prelude.{nat_le}
 use Rattle.std.proofs.lemmas.Bool.{cases_eq, cases_lt, leb-true, leb-false}
 use Rattle.step_trace.specs.declared.steps.Step.{Step}
 use Rattle.step_trace.specs.declared.rows.Miss.{Miss}
-use Rattle.step_trace.specs.Configurations.{Setup}
-use Rattle.step_trace.specs.Traces.{IsWellFormed}
 use Rattle.step_trace.specs.Bounds.{DeltaHolds, IsDelta}
 use Rattle.step_trace.specs.Witnesses.{IsMiss, NamesMiss}
 use Rattle.step_trace.proofs.StepPositions.{step_at_within}
 use Rattle.suffix_staircase.specs.declared.levels.Level.{Level}
 use Rattle.suffix_staircase.specs.Receives.{IsLastMissOf}
 use Rattle.suffix_staircase.specs.Analysis.{KnowsMisses, with_miss}
-use Rattle.suffix_staircase.proofs.Decisions.{delivered_cases}
+use Rattle.bound_witness.proofs.Decisions.{DeltaHolds-unrefuted}
 
 pub delta_positive : (set : ℕ) (steps : List Step) (g d : ℕ) (o : Option Miss) → NamesMiss set steps g d o → 1 ≤ d
 delta_positive set steps g d None h = omega arith
@@ -30,21 +28,15 @@ delta_least set steps g d (Some m) h e p holds = elim (cases_lt e d) [
 ]
 
 -- the bound above all misses, of which one is shorter by one only, is the least
-pub IsDelta-from_misses : (c : Setup) (set : ℕ) (steps : List Step) (g d : ℕ) (o : Option Miss) → IsWellFormed c steps → KnowsMisses set steps g d o → IsDelta set steps g d
-IsDelta-from_misses c set steps g d o w k =
+pub IsDelta-from_misses : (set : ℕ) (steps : List Step) (g d : ℕ) (o : Option Miss) → KnowsMisses set steps g d o → IsDelta set steps g d
+IsDelta-from_misses set steps g d o k =
     let positive = delta_positive set steps g d o k.named in
     record {
       positive = positive;
-      holds = record {
-        each = λ s l h. record {
-          on_time = λ r b m v f. elim (delivered_cases c steps s r w) [
-            | inl y ↦ y
-            | inr n ↦ absurd (let late : s < r = omega (arith, positive, f) in
-                let short = k.shorter (record { sent = s; missed = r }) (record { to = b; message = m; receive = v; late = late; undelivered = n }) l in
-                omega (arith, short, f))
-          ];
-        };
-      };
+      holds = DeltaHolds-unrefuted set steps g d positive (λ m r.
+          let short = k.shorter m r.miss r.from in
+          let long = r.long in
+          omega (arith, short, long));
       least = delta_least set steps g d o k.named;
     }
 

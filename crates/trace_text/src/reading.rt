@@ -8,6 +8,7 @@ ghost use Rattle.trace_text.specs.TraceTexts.{StandsFor, IsTrace};
 ghost use Rattle.trace_text.specs.TextRefusals.{IsFirstRefusal, Gives, LeadsTo, trace_of_records, stage_after, next_stage, header_stage, init_stage, step_stage, step_of, act_of, ids_of, end_stage};
 ghost use Rattle.std.specs.Option.{ok_or};
 
+use crate::byte_loops::MAX_TEXT_BYTES;
 use crate::records::{
     Operation, field, field_is, field_is_number, ids, number, operation_of, values,
 };
@@ -16,9 +17,6 @@ use csv::{ByteRecord, ReaderBuilder};
 use std::alloc::Global;
 use std::mem;
 use step_trace::{Act, Config, MAX_PROCESSORS, MIN_PROCESSORS, MessageIds, PushError, Step, Trace};
-
-/// How many bytes a trace text may have.
-const MAX_TEXT: usize = 67_108_864;
 
 // How far a text was read.
 #[derive(Drop)]
@@ -47,7 +45,7 @@ pub fn read_trace(alloc: Global, text: &[u8]) -> Result<Trace, TextError>
     ensures refused { IfErr result (λ e. IsFirstRefusal text.now e) }
     ensures unique { (t u : Recorded) → IsTrace t → IsTrace u → StandsFor text.now t → StandsFor text.now u → t ≡ u }
 {
-    if text.len() > MAX_TEXT {
+    if text.len() > MAX_TEXT_BYTES {
         return Err(TextError::TooLarge);
     }
     read_whole(alloc, text)

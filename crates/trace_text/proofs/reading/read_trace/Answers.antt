@@ -3,8 +3,8 @@ use Rattle.trace_text.specs.declared.refusals.TextError.TheVariants.{Read}
 use Rattle.trace_text.proofs.TextLaws.{gives-stands, gives-sound, gives-complete, gives-refused, gives-never, gives-not_large, stands-one}
 use Rattle.trace_text.proofs.reading.read_trace.Goals as goal
 
-pub returns-then-text-gt-MAX_TEXT-clause-unique : goal.returns-then-text-gt-MAX_TEXT-clause-unique
-returns-then-text-gt-MAX_TEXT-clause-unique c = λ t u h k s r. stands-one c.args.text.now t u h k s r
+pub returns-then-text-gt-MAX_TEXT_BYTES-clause-unique : goal.returns-then-text-gt-MAX_TEXT_BYTES-clause-unique
+returns-then-text-gt-MAX_TEXT_BYTES-clause-unique c = λ t u h k s r. stands-one c.args.text.now t u h k s r
 
 pub returns-clause-stands : goal.returns-clause-stands
 returns-clause-stands c = gives-stands c.args.text.now c.read_whole.result c.read_whole.ensures

@@ -32,7 +32,7 @@ loop-done-preserved c =
       level = rw here back.level;
       levels = rw (here, c.in_ok-lower.ensures.ok)
           (AreLevelsFrom-before c.args.set steps no c.step_back-level.result c.loop-done.builder
-          (IsLevelAt-from_known c.args.trace.now.config c.args.set steps no c.step_back-level.result c.len-count.ensures.sound start back.level)
+          (IsLevelAt-from_known c.args.set steps no c.step_back-level.result start back.level)
           (rw next at known.levels));
       falling = rw c.in_ok-lower.ensures.ok (StandsBefore-itself c.step_back-level.result);
     }
