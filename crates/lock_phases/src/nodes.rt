@@ -56,6 +56,19 @@ impl Node {
         })
     }
 
+    /// An equal node.
+    pub fn copy(&self, alloc: Global) -> Result<Self, AllocError>
+        ensures { IfOk result (λ node. node ≡ self.now) }
+    {
+        Ok(Node {
+            proper: Vec::from_slice(alloc, &self.proper)?,
+            locks: Vec::from_slice(alloc, &self.locks)?,
+            proposal: self.proposal,
+            ack: self.ack,
+            decision: self.decision,
+        })
+    }
+
     /// The PROPER values, rising.
     pub fn proper(&self) -> &[u64]
         ensures value { result.now ≡ self.now.proper }

@@ -269,6 +269,22 @@ fn decides(rt: HostRuntime) -> Result<(), Fail> {
 }
 
 #[test]
+fn copies(rt: HostRuntime) -> Result<(), Fail> {
+    let alloc = rt.alloc();
+    let cfg = config(alloc, 3, 1)?;
+    let mut node = proposer(alloc, &cfg)?;
+    let own = body(alloc, Kind::Lock(7), &[5, 7])?;
+    hear(&mut node, alloc, &cfg, 1, 2, (1, own))?;
+    let copy = node.copy(alloc)?;
+    assert_eq!(rt; copy.proper(), [5, 7].as_slice());
+    assert_eq!(rt; copy.locks(), [(7, 1)].as_slice());
+    assert_eq!(rt; copy.proposal(), Some(7));
+    assert!(rt; copy.ack());
+    assert_eq!(rt; copy.decision(), None);
+    Ok(())
+}
+
+#[test]
 fn waits_for_a_quorum_of_acks(rt: HostRuntime) -> Result<(), Fail> {
     let alloc = rt.alloc();
     let cfg = config(alloc, 3, 1)?;

@@ -1,3 +1,8 @@
+pub mod NumberedElements
+pub mod HeardTables
+pub mod ProcessorRanges
+pub mod SendersHeard
+pub mod RoundEquations
 pub mod HeardMessages
 pub mod Validity
 pub mod Invariants

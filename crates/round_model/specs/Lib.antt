@@ -1,2 +1,4 @@
 pub mod RoundStates
 pub mod Agreement
+pub mod HeardSets
+pub mod NodeLists

@@ -3,5 +3,11 @@
 #![tactic(auto)]
 
 mod agreements;
+mod heard_sets;
+mod rounds;
+#[cfg(test)]
+mod tests;
 
 pub use agreements::agreement;
+pub use heard_sets::{Heard, MAX_ROUNDS};
+pub use rounds::{decided, run_rounds};

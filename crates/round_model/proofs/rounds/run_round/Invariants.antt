@@ -1,0 +1,14 @@
+use Rattle.std.proofs.Common.{ℕ, ◌≡◌, ◌+◌, ◌<◌, ◌≤◌, get_or}
+use Rattle.lock_phases.specs.Nodes.{opening}
+use Rattle.lock_phases.specs.NodeFunctions.{next}
+use Rattle.round_model.specs.RoundStates.{messages_heard}
+use Rattle.round_model.specs.HeardSets.{table_of}
+use Rattle.round_model.specs.NodeLists.{node_of}
+use Rattle.round_model.proofs.rounds.run_round.Given as goal
+
+abbrev pub invariant-loop-i : goal.invariant-loop-i
+invariant-loop-i l = record {
+  done : (k : ℕ) → k < l.i →
+      get_or l.nodes k (opening 0) ≡ next l.cfg (get_or l.fn.nodes k (opening 0)) (k + 1) l.round (messages_heard l.cfg (table_of l.heard) (node_of l.fn.nodes) (k + 1) l.round);
+  left : (k : ℕ) → l.i ≤ k → get_or l.nodes k (opening 0) ≡ get_or l.fn.nodes k (opening 0);
+}

@@ -1,0 +1,7 @@
+use Rattle.std.proofs.Common.{◌≡◌}
+use Rattle.round_model.specs.RoundStates.{states_after}
+use Rattle.round_model.specs.HeardSets.{table_of}
+use Rattle.round_model.proofs.rounds.run_rounds.Given as goal
+
+abbrev pub invariant-loop-passed : goal.invariant-loop-passed
+invariant-loop-passed l = l.nodes.items ≡ states_after l.cfg (table_of l.heard) l.passed
