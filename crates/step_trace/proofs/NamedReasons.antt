@@ -91,22 +91,22 @@ ids-named : (steps : List Step) (p : ℕ) (ids : List ℕ) (ends : Bool) (e : Pu
     (rising : Bool) (unknown unaddressed again : Option ℕ) → is_rising ids ≡ rising
     → find (λ s. not (is_message steps s)) ids ≡ unknown → find (λ s. not (is_sent_to steps s p)) ids ≡ unaddressed → find (is_taken steps) ids ≡ again
     → cond rising (first_id unknown (λ s. UnknownMessage s) (first_id unaddressed (λ s. NotAddressed s) (first_id again (λ s. Redelivered s) None))) (Some IdsNotRising) ≡ Some e
-    → IsNamed steps (record { proc = p; act = Receive ids ends }) e
+    → IsNamed steps (record { proc = p; act = Receive ends ids }) e
 ids-named steps p ids ends e false unknown unaddressed again r u a t h =
-    subst (λ (z : PushError). IsNamed steps (record { proc = p; act = Receive ids ends }) z) (same_Some IdsNotRising e h) (record { reason = λ q. cc; least = tt })
+    subst (λ (z : PushError). IsNamed steps (record { proc = p; act = Receive ends ids }) z) (same_Some IdsNotRising e h) (record { reason = λ q. cc; least = tt })
 ids-named steps p ids ends e true (Some s) unaddressed again r u a t h =
-    subst (λ (z : PushError). IsNamed steps (record { proc = p; act = Receive ids ends }) z) (same_Some (UnknownMessage s) e h)
+    subst (λ (z : PushError). IsNamed steps (record { proc = p; act = Receive ends ids }) z) (same_Some (UnknownMessage s) e h)
     (record { reason = λ q. cc; least = failing (is_message steps) ids s (found _ ids s r u) })
 ids-named steps p ids ends e true None (Some s) again r u a t h =
-    subst (λ (z : PushError). IsNamed steps (record { proc = p; act = Receive ids ends }) z) (same_Some (NotAddressed s) e h)
+    subst (λ (z : PushError). IsNamed steps (record { proc = p; act = Receive ends ids }) z) (same_Some (NotAddressed s) e h)
     (record { reason = λ q. cc; least = failing (λ i. is_sent_to steps i p) ids s (found _ ids s r a) })
 ids-named steps p ids ends e true None None (Some s) r u a t h =
-    subst (λ (z : PushError). IsNamed steps (record { proc = p; act = Receive ids ends }) z) (same_Some (Redelivered s) e h)
+    subst (λ (z : PushError). IsNamed steps (record { proc = p; act = Receive ends ids }) z) (same_Some (Redelivered s) e h)
     (record { reason = λ q. cc; least = passing (is_taken steps) ids s (found _ ids s r t) })
 ids-named steps p ids ends e true None None None r u a t h = absurd (none-some e h)
 
 act-named : (c : Setup) (steps : List Step) (p : ℕ) (a : Act) (e : PushError) → act_refusal c steps p a ≡ Some e → IsNamed steps (record { proc = p; act = a }) e
-act-named c steps p (Receive ids ends) e h = ids-named steps p ids ends e _ _ _ _ refl refl refl refl h
+act-named c steps p (Receive ends ids) e h = ids-named steps p ids ends e _ _ _ _ refl refl refl refl h
 act-named c steps p (Send to) e h = go (is_proc c to) h where
   go : (b : Bool) → cond b None (Some BadDest) ≡ Some e → IsNamed steps (record { proc = p; act = Send to }) e
   go true f = absurd (none-some e f)

@@ -68,7 +68,7 @@ proc_from c p h = (grind (arith, nat_tests), grind (arith, nat_tests))
 
 send_from : (a : Act) (p : ℕ) → act_sends_to a p ≡ true → a ≡ Send p
 send_from (Send to) p h = ap (λ (q : ℕ). Send q) (grind (arith, nat_tests))
-send_from (Receive ids ends) p h = cc
+send_from (Receive ends ids) p h = cc
 
 sent_from : (o : Option Step) (p : ℕ) → option_map_or (λ x. act_sends_to x.act p) o false ≡ true → (a : ℕ) × (o ≡ Some (record { proc = a; act = Send p }))
 sent_from None p h = absurd (let e : false ≡ true = h in cc)
@@ -76,7 +76,7 @@ sent_from (Some x) p h = (x.proc, ap (λ (a : Act). let y : Step = record { proc
 
 act_fits : (c : Setup) (steps : List Step) (p : ℕ) (a : Act) → act_refusal c steps p a ≡ None → (IfSome (act_dest a) (IsProc c)) × IsStrictlyIncreasing (act_ids a) × ((s : ℕ) → Contains (act_ids a) s → IsSentTo steps s p) × ((s : ℕ) → Contains (act_ids a) s → is_taken steps s ≡ false)
 act_fits c steps p (Send to) h = (proc_from c to (cond_none (is_proc c to) None _ h).0, λ k l. absurd (omega arith), λ s t. absurd (let l = t.1 in omega arith), λ s t. absurd (let l = t.1 in omega arith))
-act_fits c steps p (Receive ids ends) h =
+act_fits c steps p (Receive ends ids) h =
     let r = cond_none (is_rising ids) _ _ h in
     let u = first_id_none (find (λ s. not (is_message steps s)) ids) _ _ r.1 in
     let a = first_id_none (find (λ s. not (is_sent_to steps s p)) ids) _ _ u.1 in
@@ -102,7 +102,7 @@ Fits-from_none c steps x h =
     }
 
 -- the refusal of a Receive, by any test that tells the taken messages
-pub refusal_receive : (c : Setup) (steps : List Step) (x : Step) (ids : List ℕ) (ends : Bool) (t : ℕ → Bool) → length steps < 1000000 → is_proc c x.proc ≡ true → x.act ≡ Receive ids ends → ((s : ℕ) → t s ≡ is_taken steps s) → ids_refusal steps t x.proc ids ≡ refusal c steps x
+pub refusal_receive : (c : Setup) (steps : List Step) (x : Step) (ids : List ℕ) (ends : Bool) (t : ℕ → Bool) → length steps < 1000000 → is_proc c x.proc ≡ true → x.act ≡ Receive ends ids → ((s : ℕ) → t s ≡ is_taken steps s) → ids_refusal steps t x.proc ids ≡ refusal c steps x
 refusal_receive c steps x ids ends t l p e h =
     let q : nat_lt (length steps) 1000000 ≡ true = grind (arith, nat_tests) in
     rw (q, p, e) (ap (λ (u : ℕ → Bool). ids_refusal steps u x.proc ids) (λ i s. h s i))
@@ -176,7 +176,7 @@ Fits-from_well_formed c steps x w =
 act_refusal-none : (c : Setup) (steps : List Step) (p : ℕ) (a : Act) → IfSome (act_dest a) (IsProc c) → IsStrictlyIncreasing (act_ids a)
     → ((s : ℕ) → Contains (act_ids a) s → IsSentTo steps s p) → ((s : ℕ) → Contains (act_ids a) s → is_taken steps s ≡ false) → act_refusal c steps p a ≡ None
 act_refusal-none c steps p (Send to) dest rising sent fresh = rw (is_proc-true c to dest) refl
-act_refusal-none c steps p (Receive ids ends) dest rising sent fresh =
+act_refusal-none c steps p (Receive ends ids) dest rising sent fresh =
     let known = find-none (λ s. not (is_message steps s)) ids (λ s d. not-of _ (is_message-true steps s p (sent s d))) in
     let addressed = find-none (λ s. not (is_sent_to steps s p)) ids (λ s d. not-of _ (is_sent_to-true steps s p (sent s d))) in
     let untaken = find-none (is_taken steps) ids fresh in

@@ -48,7 +48,7 @@ ids_refusal steps taken p ids =
 
 abbrev pub act_refusal : Setup → List Step → ℕ → Act → Option PushError
 act_refusal c steps p (Send to) = if is_proc c to then None else Some BadDest
-act_refusal c steps p (Receive ids ends) = ids_refusal steps (is_taken steps) p ids
+act_refusal c steps p (Receive ends ids) = ids_refusal steps (is_taken steps) p ids
 
 -- the first reason against one more step, want of memory aside
 abbrev pub refusal : Setup → List Step → Step → Option PushError

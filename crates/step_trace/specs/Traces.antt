@@ -47,7 +47,7 @@ pub record IsDelivered (steps : List Step) (s r : ℕ) : Type 0 where
 pub record IsReceiveOf (steps : List Step) (r p : ℕ) : Type 0 where
   pub ids : List ℕ
   pub ends : Bool
-  pub step : step_at steps r ≡ Some (record { proc = p; act = Receive ids ends })
+  pub step : step_at steps r ≡ Some (record { proc = p; act = Receive ends ids })
 
 -- step x is one of processor p
 abbrev pub IsStepOf : List Step → ℕ → ℕ → Type 0

@@ -53,7 +53,7 @@ pub enum Act {
     /// It sends one message to a processor.
     Send { to: u64 },
     /// It takes messages out of its buffer, possibly none; `ends` says that its round ends here.
-    Receive { ids: MessageIds, ends: bool },
+    Receive { ends: bool, ids: MessageIds },
 }
 
 impl Act {

@@ -112,12 +112,12 @@ any_from_contains : (ids : List ℕ) (s : ℕ) → Contains ids s → list_any (
 any_from_contains ids s h = list_any_at (λ i. i == s) ids h.0 s h.1 (eq-eqb _ _ h.2)
 
 -- the notes of taken messages
-IsTaker-noted : (steps : List Step) (x p s old : ℕ) (ids : List ℕ) (ends : Bool) → 1 ≤ x → step_at steps x ≡ Some (record { proc = p; act = Receive ids ends }) → IsTaker steps x s old
+IsTaker-noted : (steps : List Step) (x p s old : ℕ) (ids : List ℕ) (ends : Bool) → 1 ≤ x → step_at steps x ≡ Some (record { proc = p; act = Receive ends ids }) → IsTaker steps x s old
     → IsTaker steps (x - 1) s (cond (list_any (λ i. i == s) ids) x old)
 IsTaker-noted steps x p s old ids ends low h k = go (list_any (λ i. i == s) ids) refl where
   go : (t : Bool) → list_any (λ i. i == s) ids ≡ t → IsTaker steps (x - 1) s (cond t x old)
   go true e = record {
-    found = λ q. (omega arith, (record { proc = p; act = Receive ids ends }, h, contains_from_any ids s e));
+    found = λ q. (omega arith, (record { proc = p; act = Receive ends ids }, h, contains_from_any ids s e));
     none = λ z. absurd (omega (arith, z, low));
   }
   go false e = IsTaker-lower steps x s old low (λ t.
@@ -210,7 +210,7 @@ noted_clear steps x p next before low first clear y a b = elim (cases_eq y next)
   | inr ne ↦ (let apart : y ≢ next = ne in get_or-set_other before next y x 0 apart ∙ clear y a (omega (arith, b)))
 ]
 
-pub KnowsReceives-receive : (steps : List Step) (n x p : ℕ) (ids : List ℕ) (ends : Bool) (old new : Receives) → p ≤ n → step_at steps x ≡ Some (record { proc = p; act = Receive ids ends })
+pub KnowsReceives-receive : (steps : List Step) (n x p : ℕ) (ids : List ℕ) (ends : Bool) (old new : Receives) → p ≤ n → step_at steps x ≡ Some (record { proc = p; act = Receive ends ids })
     → KnowsReceives steps n x old → NotesReceive x p ids old new → KnowsReceives steps n (x - 1) new
 KnowsReceives-receive steps n x p ids ends old new within h k notes =
     let inside = step_at_within steps x _ h in
@@ -242,10 +242,10 @@ taker_receives c steps x b place a w h t = go t.0.act refl t.2 where
 
   go : (act : Act) → t.0.act ≡ act → Contains (act_ids act) x → IsReceiveOf steps place b
   go (Send q) e m = absurd (let l = m.1 in omega arith)
-  go (Receive ids ends) e m = record {
+  go (Receive ends ids) e m = record {
     ids = ids;
     ends = ends;
-    step = t.1 ∙ ap (λ (v : Act). let z : Step = record { proc = t.0.proc; act = v } in Some z) e ∙ ap (λ (q : ℕ). let z : Step = record { proc = q; act = Receive ids ends } in Some z) proc;
+    step = t.1 ∙ ap (λ (v : Act). let z : Step = record { proc = t.0.proc; act = v } in Some z) e ∙ ap (λ (q : ℕ). let z : Step = record { proc = q; act = Receive ends ids } in Some z) proc;
   }
 
 message_unique : (set : ℕ) (steps : List Step) (x a b q : ℕ) → step_at steps x ≡ Some (record { proc = a; act = Send b }) → IsMessage set steps x q → q ≡ b
@@ -283,7 +283,7 @@ IsLastMissOf-from_known c set steps n x b r w within m k = go (get_or r.taken_by
 pub IsLastMissOf-none : (set : ℕ) (steps : List Step) (x : ℕ) → ((q : ℕ) → IsMessage set steps x q → ⊥) → IsLastMissOf set steps x 0
 IsLastMissOf-none set steps x none = record { found = λ h. absurd (omega arith); last = λ y i. absurd (none i.to i.message) }
 
-pub receive_is_no_message : (set : ℕ) (steps : List Step) (x p : ℕ) (ids : List ℕ) (ends : Bool) → step_at steps x ≡ Some (record { proc = p; act = Receive ids ends }) → (q : ℕ) → IsMessage set steps x q → ⊥
+pub receive_is_no_message : (set : ℕ) (steps : List Step) (x p : ℕ) (ids : List ℕ) (ends : Bool) → step_at steps x ≡ Some (record { proc = p; act = Receive ends ids }) → (q : ℕ) → IsMessage set steps x q → ⊥
 receive_is_no_message set steps x p ids ends h q m =
     let same = ap (λ (z : Step). z.act) (act_of steps x _ _ m.sent h) in
     cc
@@ -296,10 +296,10 @@ with_act steps x s a h e = h ∙ ap (λ (b : Act). let z : Step = record { proc 
 pub dest_bound : (c : Setup) (steps : List Step) (x a b : ℕ) → IsWellFormed c steps → step_at steps x ≡ Some (record { proc = a; act = Send b }) → b ≤ c.n
 dest_bound c steps x a b w h = (w.dests x (record { proc = a; act = Send b }) h).1
 
-pub ids_bound : (c : Setup) (steps : List Step) (x p : ℕ) (ids taken : List ℕ) (ends : Bool) → IsWellFormed c steps → step_at steps x ≡ Some (record { proc = p; act = Receive ids ends })
+pub ids_bound : (c : Setup) (steps : List Step) (x p : ℕ) (ids taken : List ℕ) (ends : Bool) → IsWellFormed c steps → step_at steps x ≡ Some (record { proc = p; act = Receive ends ids })
     → length taken ≡ length steps + 1 → All (λ s. s < length taken) ids
 ids_bound c steps x p ids taken ends w h long = λ k d l.
-    let earlier = (w.earlier x (get_or ids k d) (record { proc = p; act = Receive ids ends }) h (k, l, get_or_default ids k (get_or ids k d) d l)).0 in
+    let earlier = (w.earlier x (get_or ids k d) (record { proc = p; act = Receive ends ids }) h (k, l, get_or_default ids k (get_or ids k d) d l)).0 in
     let inside = step_at_within steps x _ h in
     omega (arith, earlier, inside, long)
 

@@ -10,18 +10,19 @@ ghost use Rattle.suffix_staircase.specs.Receives.{KnowsReceives, NotesReceive, I
 use std::alloc::{AllocError, Global};
 use step_trace::{Act, ProcSet, Step, Trace};
 
-/// What is known of the Receives after a step.
+/// What is known of the Receives after a step. Two of the lists have an entry for each step, so the
+/// entries are no wider than a number of a step needs.
 #[derive(Debug, Drop)]
 pub(crate) struct Receives {
     // For each message, the Receive after the step that takes it.
-    taken_by: Vec<u64>,
+    taken_by: Vec<u32>,
     // For each Receive after the step, the one of the same processor right before it, if that comes
     // after the step too.
-    before: Vec<u64>,
+    before: Vec<u32>,
     // For each processor, its first Receive after the step.
-    first: Vec<u64>,
+    first: Vec<u32>,
     // For each processor, its last Receive after the step.
-    last: Vec<u64>,
+    last: Vec<u32>,
 }
 
 /// The step of this number.
@@ -41,10 +42,10 @@ pub(crate) fn step_of(trace: &Trace, no: u64) -> &Step
 }
 
 // So many zeros.
-fn zeros(alloc: Global, count: usize) -> Result<Vec<u64>, AllocError>
+fn zeros(alloc: Global, count: usize) -> Result<Vec<u32>, AllocError>
     ensures { IfOk result (λ v. v.items ≡ replicate count 0) }
 {
-    vec![in alloc; 0u64; count]
+    vec![in alloc; 0u32; count]
 }
 
 impl Receives {
@@ -97,15 +98,16 @@ impl Receives {
     {
         let taker = self.taken_by[message as usize];
         if taker == 0 {
-            self.last[to as usize]
+            u64::from(self.last[to as usize])
         } else {
-            self.before[taker as usize]
+            u64::from(self.before[taker as usize])
         }
     }
 
     // Notes a Receive that comes before those so far. Where there is none yet, `before` is written at
     // number 0, which stands for no step.
     fn note(&mut self, no: u64, proc: u64, ids: &[u64])
+        requires limit { no ≤ 1000000 }
         requires ids { All (λ s. s < length self.old.taken_by.items) ids.now }
         requires first { proc < length self.old.first.items }
         requires last { proc < length self.old.last.items }
@@ -114,21 +116,22 @@ impl Receives {
     {
         note_takes(&mut self.taken_by, no, ids);
         let next = self.first[proc as usize];
-        self.before[next as usize] = no;
-        self.first[proc as usize] = no;
+        self.before[next as usize] = no as u32;
+        self.first[proc as usize] = no as u32;
         if self.last[proc as usize] == 0 {
-            self.last[proc as usize] = no;
+            self.last[proc as usize] = no as u32;
         }
     }
 }
 
 // Notes that the Receive of number `no` takes these messages.
-fn note_takes(taken_by: &mut Vec<u64>, no: u64, ids: &[u64])
-    requires { All (λ s. s < length taken_by.old.items) ids.now }
+fn note_takes(taken_by: &mut Vec<u32>, no: u64, ids: &[u64])
+    requires limit { no ≤ 1000000 }
+    requires ids { All (λ s. s < length taken_by.old.items) ids.now }
     ensures len { length taken_by.new.items ≡ length taken_by.old.items }
     ensures taken { (s : ℕ) → slice_index taken_by.new.items s ≡ (if list_any (λ i. i == s) ids.now then no else slice_index taken_by.old.items s) }
 {
     for s in ids {
-        taken_by[*s as usize] = no;
+        taken_by[*s as usize] = no as u32;
     }
 }

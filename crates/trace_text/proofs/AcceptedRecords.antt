@@ -133,10 +133,10 @@ from_act op.Send arg a h =
     let part = mapped (λ to. Send to) (number_of arg) a h in
     rw (← part.2) (refl, (number_of-some arg part.0 part.1).0)
 from_act op.Receive arg a h =
-    let part = mapped (λ ids. Receive ids false) (ids_of arg) a h in
+    let part = mapped (λ ids. Receive false ids) (ids_of arg) a h in
     rw (← part.2) (refl, ids_of-some arg part.0 part.1)
 from_act op.EndRound arg a h =
-    let part = mapped (λ ids. Receive ids true) (ids_of arg) a h in
+    let part = mapped (λ ids. Receive true ids) (ids_of arg) a h in
     rw (← part.2) (refl, ids_of-some arg part.0 part.1)
 
 -- the fields of a step after its number

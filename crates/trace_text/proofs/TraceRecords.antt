@@ -62,8 +62,8 @@ reads-init c s h = rw (numbers_of-decimals c.init h, none_from_IsSetup c s) refl
 -- the act of its own operation and argument
 reads-act : (a : Act) → IfSome (act_dest a) (λ p. p < 2 ^ 64) → All (λ n. n < 2 ^ 64) (act_ids a) → (o : Operation) × (operation_of (op_text a) ≡ Some o) × (act_of o (arg_text a) ≡ Some a)
 reads-act (Send to) d h = (op.Send, refl, rw (number_of-decimal to d) refl)
-reads-act (Receive ids false) d h = (op.Receive, refl, rw (ids_of-joined ids h) refl)
-reads-act (Receive ids true) d h = (op.EndRound, refl, rw (ids_of-joined ids h) refl)
+reads-act (Receive false ids) d h = (op.Receive, refl, rw (ids_of-joined ids h) refl)
+reads-act (Receive true ids) d h = (op.EndRound, refl, rw (ids_of-joined ids h) refl)
 
 -- a step of its own fields
 reads-fields : (at : ℕ) (x : Step) → x.proc < 2 ^ 64 → IfSome (act_dest x.act) (λ p. p < 2 ^ 64) → All (λ n. n < 2 ^ 64) (act_ids x.act) → step_of at (step_record at x) ≡ Ok x

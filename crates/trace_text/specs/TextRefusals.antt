@@ -48,8 +48,8 @@ operation_of field =
 -- what an operation and its argument say, if the argument is what the operation asks for
 abbrev pub act_of : Operation → List ℕ → Option Act
 act_of op.Send arg = option_map (λ to. Send to) (number_of arg)
-act_of op.Receive arg = option_map (λ ids. Receive ids false) (ids_of arg)
-act_of op.EndRound arg = option_map (λ ids. Receive ids true) (ids_of arg)
+act_of op.Receive arg = option_map (λ ids. Receive false ids) (ids_of arg)
+act_of op.EndRound arg = option_map (λ ids. Receive true ids) (ids_of arg)
 
 infixl 10 ◌>>=◌
 abbrev pub ◌>>=◌ : {A B : Type 0} → Result A TextError → (A → Result B TextError) → Result B TextError

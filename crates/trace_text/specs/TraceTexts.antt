@@ -19,13 +19,13 @@ init_record values = codes "init" ∷ map decimal values
 -- S for a Send, R for a Receive, E for a Receive that ends the round
 abbrev pub op_text : Act → List ℕ
 op_text (Send to) = codes "S"
-op_text (Receive ids false) = codes "R"
-op_text (Receive ids true) = codes "E"
+op_text (Receive false ids) = codes "R"
+op_text (Receive true ids) = codes "E"
 
 -- the destination of a Send, or the ids of a Receive with one space between them
 abbrev pub arg_text : Act → List ℕ
 arg_text (Send to) = decimal to
-arg_text (Receive ids ends) = join_with_byte 32 (map decimal ids)
+arg_text (Receive ends ids) = join_with_byte 32 (map decimal ids)
 
 -- no,proc,op,arg
 abbrev pub step_record : ℕ → Step → List (List ℕ)

@@ -202,7 +202,7 @@ fn act_of(alloc: Global, no: u64, operation: Operation, arg: &[u8]) -> Result<Ac
 }
 
 fn received(alloc: Global, no: u64, arg: &[u8], ends: bool) -> Result<Act, TextError>
-    ensures { Gives result (ok_or (option_map (λ ids. Act.Receive ids ends) (ids_of arg.now)) (TextError.BadNumber no)) }
+    ensures { Gives result (ok_or (option_map (λ ids. Act.Receive ends ids) (ids_of arg.now)) (TextError.BadNumber no)) }
 {
     let Ok(ids) = ids(alloc, arg) else {
         return Err(TextError::Memory);
