@@ -8,7 +8,7 @@ use Rattle.front.specs.declared.row_records.Entries.{Entries}
 use Rattle.front.specs.declared.refusals.ReportError.{ReportError}
 use Rattle.front.specs.declared.refusals.ReportError.TheVariants as why
 use Rattle.front.specs.ReportTexts.{StandsFor, IsRow64}
-use Rattle.front.specs.ReportReading.{RefusedFor, IsDeviceRefusal}
+use Rattle.front.specs.ReportReading.{RefusedFor, IsDeviceRefusal, faults_after_report}
 use Rattle.front.specs.ReportRefusals.{is_header, entries_of, whole_row, row_from, row_of, with_row, next_rows, go_on, rows_after, rows_at_end, rows_of_records, is_memory, Gives}
 use Rattle.front.proofs.RowsRead.{rows_of_records-ok, rows_of_records-records}
 
@@ -112,3 +112,16 @@ refused-from items (Err e) known text old new h k = go e h known k where
   go (why.BadFields n) h known k = first (why.BadFields n) h known k
   go (why.BadNumber n) h known k = first (why.BadNumber n) h known k
   go (why.HalfWitness n) h known k = first (why.HalfWitness n) h known k
+
+-- an answer for the records counts no fault
+pub faultless-from : {A : Type 0} (items : A → List Row) (r : Result A ReportError) (text : List ℕ) (n : ℕ)
+    → Gives items r (rows_of_records (records_of_text text)) → faults_after_report r n ≡ n
+unfolding IsRecordRefusal
+faultless-from items (Ok v) text n h = refl
+faultless-from items (Err why.TooLarge) text n h = refl
+faultless-from items (Err why.Read) text n h = absurd (records-refusal (records_of_text text) why.Read h)
+faultless-from items (Err why.Memory) text n h = refl
+faultless-from items (Err why.BadHeader) text n h = refl
+faultless-from items (Err (why.BadFields at)) text n h = refl
+faultless-from items (Err (why.BadNumber at)) text n h = refl
+faultless-from items (Err (why.HalfWitness at)) text n h = refl

@@ -1,6 +1,6 @@
 -- For which causes `read_report` refuses.
-use Rattle.std.specs.Prelude.{◌≡◌, ◌<◌, ℕ, List, length, Option, IfSome, Err, ⊤}
-use Rattle.trace_text.specs.Faults.{Rose}
+use Rattle.std.specs.Prelude.{◌≡◌, ◌<◌, ℕ, List, length, Option, IfSome, Result, Err, ⊤}
+use Rattle.trace_text.specs.Faults.{Rose, one_more}
 use Rattle.front.specs.declared.refusals.ReportError.{ReportError}
 use Rattle.front.specs.declared.refusals.ReportError.TheVariants as why
 use Rattle.trace_text.specs.Records.{records_of_text}
@@ -19,3 +19,8 @@ IsDeviceRefusal why.TooLarge = ⊤
 IsDeviceRefusal why.Read = ⊤
 IsDeviceRefusal why.Memory = ⊤
 IsDeviceRefusal e = ⊥
+
+-- the count of faults after `read_report`: one more where it answers Read
+abbrev pub faults_after_report : {A : Type 0} → Result A ReportError → ℕ → ℕ
+faults_after_report (Err why.Read) n = one_more n
+faults_after_report _ n = n

@@ -1,11 +1,12 @@
 //! Reading of report text, record by record. The first record that is refused decides.
 
-ghost use Rattle.std.specs.Prelude.{◌≡◌, All, List, IfOk, IfErr, IfSome, MatchResult, option_map};
+ghost use Rattle.std.specs.Prelude.{◌≡◌, ◌≤◌, All, List, IfOk, IfErr, IfSome, MatchResult, OnOk, length, option_map};
+ghost use Rattle.std.specs.Io.KnownBytes.{IsAtEnd};
 ghost use Rattle.csv.specs.Records.{fields_of};
 ghost use Rattle.trace_text.specs.Records.{records_of_text};
 ghost use Rattle.trace_text.specs.Faults.{inner_of, faults_of};
 ghost use Rattle.front.specs.ReportTexts.{StandsFor, IsRow64};
-ghost use Rattle.front.specs.ReportReading.{RefusedFor, IsDeviceRefusal};
+ghost use Rattle.front.specs.ReportReading.{RefusedFor, IsDeviceRefusal, faults_after_report};
 ghost use Rattle.front.specs.ReportRefusals.{Gives, next_rows, rows_after, rows_of_records};
 
 use crate::refusals::ReportError;
@@ -26,6 +27,9 @@ pub fn read_report<R: Read>(
 ) -> Result<Vec<Row>, ReportError>
     ensures stands { IfOk result (λ v. IfSome (R.remaining (inner_of reader.old)) (λ text. StandsFor text v.items)) }
     ensures complete { IfSome (R.remaining (inner_of reader.old)) (λ text. (rows : List Row) → All IsRow64 rows → StandsFor text rows → MatchResult result (λ v. v.items ≡ rows) IsDeviceRefusal) }
+    ensures size { OnOk result (IfSome (R.remaining (inner_of reader.old)) (λ text. length text ≤ 67108864)) }
+    ensures end { OnOk result (IsAtEnd (R.remaining (inner_of reader.new))) }
+    ensures faults { faults_of reader.new ≡ faults_after_report result (faults_of reader.old) }
     ensures refused { IfErr result (λ e. RefusedFor e (faults_of reader.old) (faults_of reader.new) (R.remaining (inner_of reader.old))) }
 {
     match read_all(alloc, reader) {

@@ -1,8 +1,9 @@
 //! The text of a report: a header and a record for each row, as csv writes them.
 
-ghost use Rattle.std.specs.Prelude.{◌≡◌, ◌<◌, ◌≤◌, ℕ, List, ◌∷◌, [], ◌++◌, IfOk, OnOk, IfErr, All, length, map, decimal, string_bytes};
+ghost use Rattle.std.specs.Prelude.{◌≡◌, ◌<◌, ◌≤◌, ℕ, List, ◌∷◌, [], ◌++◌, IfOk, OnOk, IfErr, IsTrue, All, length, map, decimal, string_bytes};
 ghost use Rattle.std.specs.Io.KnownBytes.{Appends};
-ghost use Rattle.trace_text.specs.Faults.{inner_of};
+ghost use Rattle.trace_text.specs.ByteLoops.{WasFaultless};
+ghost use Rattle.trace_text.specs.Faults.{inner_of, is_flushed};
 ghost use Rattle.step_trace.specs.declared.steps.Step.{Step};
 ghost use Rattle.step_trace.specs.Fronts.{IsReport};
 ghost use Rattle.front.specs.ReportWriting.{WroteBefore, IsWriteCause};
@@ -26,6 +27,8 @@ pub fn write_report<W: Write>(
     writer: &mut Counting<W>,
 ) -> Result<(), WriteError>
     ensures whole { OnOk result (Appends (W.contents (inner_of writer.old)) (W.contents (inner_of writer.new)) (report_text rows.now)) }
+    ensures flushed { OnOk result (IsTrue (is_flushed writer.new)) }
+    ensures faultless { OnOk result (WasFaultless writer.old writer.new) }
     ensures part { IfErr result (λ e. WroteBefore e (report_text rows.now) (W.contents (inner_of writer.old)) (W.contents (inner_of writer.new))) }
     ensures cause { IfErr result (λ e. IsWriteCause e writer.old writer.new) }
     ensures stands { All IsRow64 rows.now → StandsFor (report_text rows.now) rows.now }

@@ -9,3 +9,4 @@ pub mod SentBodies
 mod ValuePlaces
 mod LockPlaces
 mod Rising
+mod Growing

@@ -1,6 +1,6 @@
 //! Nodes: what one sends in a round, and what becomes of it in the round.
 
-ghost use Rattle.std.specs.Prelude.{◌≡◌, ◌≤◌, ◌-◌, ◌&&◌, if◌then◌else◌, IfOk, OnOk, OnErr, All, map, filter, option_map, false};
+ghost use Rattle.std.specs.Prelude.{◌≡◌, ◌<◌, ◌≤◌, ◌-◌, length, ◌&&◌, if◌then◌else◌, IfOk, OnOk, OnErr, All, map, filter, option_map, false};
 ghost use Rattle.std.specs.List.Sorted.{IsStrictlyIncreasing};
 
 use crate::bodies::{Body, Kind, LockPairs, Values};
@@ -36,7 +36,7 @@ impl Model for Node {
 impl Node {
     ghost use Rattle.step_trace.specs.Configurations.{IsProc};
     ghost use Rattle.lock_phases.specs.Rounds.{phase_of, part_of, part_at, owner};
-    ghost use Rattle.lock_phases.specs.Nodes.{opening};
+    ghost use Rattle.lock_phases.specs.Nodes.{Grows, opening};
     ghost use Rattle.lock_phases.specs.Locks.{is_acceptable, heard_lock, kept_locks};
     ghost use Rattle.lock_phases.specs.Quorums.{least_listed};
     ghost use Rattle.lock_phases.specs.NodeFunctions.{out, kind_sent, next, next_in, locked, decides};
@@ -213,6 +213,7 @@ impl Node {
         requires rising { IsStrictlyIncreasing (map (λ m. m.0) heard.now) }
         ensures ok { OnOk result (self.new ≡ next cfg.now self.old me round heard.now) }
         ensures err { OnErr result (self.new ≡ self.old) }
+        ensures more { OnErr result (Grows self.old (next cfg.now self.old me round heard.now)) }
     {
         let grown = grown(alloc, &self.proper, heard)?;
         self.compute_part(cfg, me, round, heard)?;
@@ -233,6 +234,7 @@ impl Node {
         requires { 1 ≤ round }
         ensures ok { OnOk result (self.new ≡ next_in (part_at (part_of round)) cfg.now self.old me (phase_of round) heard.now) }
         ensures err { OnErr result (self.new ≡ self.old) }
+        ensures more { OnErr result (length self.old.locks < length (next_in (part_at (part_of round)) cfg.now self.old me (phase_of round) heard.now).locks) }
     {
         let phase = phase_of(round);
         let owner = owner(cfg.n(), phase);
@@ -256,6 +258,7 @@ impl Node {
     fn lock(&mut self, owner: u64, phase: u64, heard: &[(u64, Body)]) -> Result<(), AllocError>
         ensures ok { OnOk result (self.new ≡ locked self.old phase (heard_lock owner heard.now)) }
         ensures err { OnErr result (self.new ≡ self.old) }
+        ensures more { OnErr result (length self.old.locks < length (locked self.old phase (heard_lock owner heard.now)).locks) }
     {
         if let Some(v) = heard_lock(owner, heard) {
             put_lock(&mut self.locks, v, phase)?;

@@ -1,1 +1,3 @@
+pub mod CommandJobs
 pub mod ReportFaults
+pub mod ReportLines

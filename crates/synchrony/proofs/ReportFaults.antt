@@ -80,13 +80,13 @@ text_fault set text before after fault.Memory h = tt
 text_fault set text before after fault.Read h = tt
 text_fault set text before after (fault.Write n) h = absurd h
 
-pub text_fault_reads : (set old new : ℕ) (text : List ℕ) (w : Fault) → IsTextFault set text w → IsReadFault old new w
-text_fault_reads set old new text (fault.Command words) h = tt
-text_fault_reads set old new text fault.Set h = tt
-text_fault_reads set old new text (fault.Trace e) h = tt
-text_fault_reads set old new text fault.Memory h = tt
-text_fault_reads set old new text fault.Read h = absurd h
-text_fault_reads set old new text (fault.Write n) h = tt
+pub text_fault_reads : (set old new : ℕ) (text : List ℕ) (w : Fault) → IsTextFault set text w → new ≡ old → IsReadFault old new w
+text_fault_reads set old new text (fault.Command words) h same = same
+text_fault_reads set old new text fault.Set h same = same
+text_fault_reads set old new text (fault.Trace e) h same = same
+text_fault_reads set old new text fault.Memory h same = same
+text_fault_reads set old new text fault.Read h same = absurd h
+text_fault_reads set old new text (fault.Write n) h same = same
 
 pub text_fault_writes : {T : Type 0} (old new : Counting T) (set : ℕ) (text : List ℕ) (w : Fault) → IsTextFault set text w → new ≡ old → IsWriteFault old new w
 text_fault_writes old new set text (fault.Command words) h same = same
@@ -97,9 +97,9 @@ text_fault_writes old new set text fault.Read h same = same
 text_fault_writes old new set text (fault.Write n) h same = absurd h
 
 -- a write that failed in the report's text
-pub write_fault : (set : ℕ) (text read : List ℕ) (rows shown : List Row) (before after known : Option (List ℕ)) (n : ℕ) → IfSome known (λ xs. text ≡ xs) → read ≡ text
-    → AreRowsOf set read rows → shown ≡ rows → (n ≤ length (report_text shown)) × Appends before after (take n (report_text shown))
+pub write_fault : (set : ℕ) (text : List ℕ) (rows shown : List Row) (before after known : Option (List ℕ)) (n : ℕ) → IfSome known (λ xs. text ≡ xs)
+    → AreRowsOf set text rows → shown ≡ rows → (n ≤ length (report_text shown)) × Appends before after (take n (report_text shown))
     → IfSome known (λ xs. IsReportFault set xs before after (fault.Write n))
-write_fault set text read rows shown before after known n whole same exact listed part =
+write_fault set text rows shown before after known n whole exact listed part =
     of_known (λ xs. IsReportFault set xs before after (fault.Write n)) text known whole
-    (report_text shown, record { rows = rows; exact = subst (λ t. AreRowsOf set t rows) same exact; written = ap report_text listed }, part.0, part.1)
+    (report_text shown, record { rows = rows; exact = exact; written = ap report_text listed }, part.0, part.1)

@@ -51,10 +51,10 @@ IsReportFault set text before after fault.Memory = ⊤
 IsReportFault set text before after fault.Read = ⊤
 IsReportFault set text before after (fault.Write n) = (report : List ℕ) × IsReportOf set text report × (n ≤ length report) × Appends before after (take n report)
 
--- where the fault is a failed read, a call of the reader answered a fault
+-- where the fault is a failed read, a call of the reader answered a fault; else none did
 abbrev pub IsReadFault : ℕ → ℕ → Fault → Type 0
 IsReadFault old new fault.Read = Rose old new
-IsReadFault old new _ = ⊤
+IsReadFault old new _ = new ≡ old
 
 -- where the fault is a failed write, one call of the writer answered a fault or took no byte; after any
 -- other fault the writer is as it was

@@ -1,8 +1,10 @@
 //! The command line, read into a job.
 
-ghost use Rattle.std.specs.Prelude.{◌≡◌, IfOk, IfErr, MatchResult, string_bytes};
-ghost use Rattle.step_trace.specs.ProcessorLists.{IsSetIn};
-ghost use Rattle.synchrony.specs.Jobs.{IsReadJob, IsReport, IsCommandFault, IsListFault};
+ghost use Rattle.std.specs.Prelude.{◌≡◌, ℕ, List, None, false, IfOk, IfErr, IfSome, MatchResult, map, string_bytes};
+ghost use Rattle.clap.specs.Words.{app_of, kind_of, subcommand_rows_of};
+ghost use Rattle.clap.specs.declared.builder.Command.TheViews.{out-Command};
+ghost use Rattle.synchrony.specs.Commands.{NamesReport, is_flag, program, report_app, report_line};
+ghost use Rattle.synchrony.specs.Jobs.{IsJobOf, IsJobIn, IsHelpFor, IsReport, IsLineFault, IsListFault, IsRefusalOf, IsRefusalIn, IsRefusalFor};
 
 use crate::faults::Fault;
 use clap::error::ErrorKind;
@@ -28,29 +30,41 @@ pub enum Job {
 /// The job that a command line asks for; its first word is the program's name.
 ///
 /// Refuses what the reader of the command line refuses, in its words; a list that isn't one, by
-/// `bad --correct`; and Memory.
+/// `bad --correct`; and Memory. The line `report FILE --correct LIST` asks for the report of FILE for
+/// LIST, where neither begins with a hyphen and goes on.
 pub fn read_command(alloc: Global, words: Vec<String>) -> Result<Job, Fault>
-    ensures job { IfOk result IsReadJob }
-    ensures refused { IfErr result IsCommandFault }
+    ensures job { IfOk result (IsJobOf (map string_bytes words.items)) }
+    ensures refused { IfErr result (IsRefusalOf (map string_bytes words.items)) }
+    ensures line { (name file list : List ℕ) → map string_bytes words.items ≡ report_line name file list
+        → is_flag file ≡ false → is_flag list ≡ false → MatchResult result (IsReport file list) (IsListFault list) }
+{
+    read_words(alloc, words.as_slice())
+}
+
+fn read_words(alloc: Global, words: &[String]) -> Result<Job, Fault>
+    ensures job { IfOk result (IsJobOf (map string_bytes words.now)) }
+    ensures refused { IfErr result (IsRefusalOf (map string_bytes words.now)) }
 {
     let command = command(alloc)?;
-    match command.try_get_matches_from(words.as_slice()) {
-        Ok(matches) => match matches.subcommand() {
-            Some(("report", found)) => report_found(alloc, found),
-            _ => Err(unknown(alloc)?),
-        },
+    match command.try_get_matches_from(words) {
+        Ok(matches) => job_found(alloc, &matches),
         Err(error) => told(alloc, error),
     }
 }
 
-fn command<'a>(alloc: Global) -> Result<Command<'a>, AllocError> {
+fn command<'a>(alloc: Global) -> Result<Command<'a>, AllocError>
+    ensures { IfOk result (λ c. app_of c ≡ program) }
+{
     Command::new(alloc, "synchrony")
         .about("Communication and processor bounds of recorded traces")
         .subcommand_required(true)
         .subcommand(report_command(alloc)?)
 }
 
-fn report_command<'a>(alloc: Global) -> Result<Command<'a>, AllocError> {
+fn report_command<'a>(alloc: Global) -> Result<Command<'a>, AllocError>
+    ensures app { IfOk result (λ c. app_of c ≡ report_app) }
+    ensures local { IfOk result (λ c. (out-Command c).has_globals ≡ false) }
+{
     let file = Arg::new(alloc, "file")
         .value_name("FILE")
         .help("The trace text; - is standard input")
@@ -71,7 +85,7 @@ fn report_command<'a>(alloc: Global) -> Result<Command<'a>, AllocError> {
 
 /// The refusal of a command line with an argument that isn't text.
 pub fn refuse_bytes(alloc: Global) -> Result<Fault, AllocError>
-    ensures { IfOk result IsCommandFault }
+    ensures { IfOk result IsLineFault }
 {
     let mut command = command(alloc)?;
     let error = command.error(
@@ -83,8 +97,8 @@ pub fn refuse_bytes(alloc: Global) -> Result<Fault, AllocError>
 
 /// What a command line that gives no matches asks for: a help text, or else a refusal.
 fn told(alloc: Global, error: clap::Error) -> Result<Job, Fault>
-    ensures job { IfOk result IsReadJob }
-    ensures refused { IfErr result IsCommandFault }
+    ensures job { IfOk result (IsHelpFor (kind_of error)) }
+    ensures refused { IfErr result (IsRefusalFor (kind_of error)) }
 {
     if error.kind() == ErrorKind::OutOfMemory {
         return Err(Fault::Memory);
@@ -97,14 +111,29 @@ fn told(alloc: Global, error: clap::Error) -> Result<Job, Fault>
     }
 }
 
-fn report_found(alloc: Global, found: &ArgMatches<'_>) -> Result<Job, Fault>
-    ensures job { IfOk result IsReadJob }
-    ensures refused { IfErr result IsCommandFault }
+/// The job that the matches name.
+fn job_found(alloc: Global, matches: &ArgMatches<'_>) -> Result<Job, Fault>
+    ensures job { IfOk result (IsJobIn (subcommand_rows_of matches.now)) }
+    ensures refused { IfErr result (IsRefusalIn (subcommand_rows_of matches.now)) }
 {
-    let (Some(file), Some(list)) = (found.get_str("file"), found.get_str("correct")) else {
+    let Some((file, list)) = report_values(matches) else {
         return Err(unknown(alloc)?);
     };
     report_job(alloc, file, list)
+}
+
+/// The file and the list of the command `report`, where the matches name it and have both.
+fn report_values<'a>(matches: &ArgMatches<'a>) -> Option<(&'a str, &'a str)>
+    ensures some { IfSome result (λ p. NamesReport (subcommand_rows_of matches.now) p.0.now p.1.now) }
+    ensures none { result ≡ None → (file list : List ℕ) → ¬ NamesReport (subcommand_rows_of matches.now) file list }
+{
+    let Some(("report", found)) = matches.subcommand() else {
+        return None;
+    };
+    let (Some(file), Some(list)) = (found.get_str("file"), found.get_str("correct")) else {
+        return None;
+    };
+    Some((file, list))
 }
 
 /// The job of a report of this file, for the set that this list is.
@@ -123,7 +152,7 @@ fn report_job(alloc: Global, file: &str, list: &str) -> Result<Job, Fault>
 
 /// The refusal of a command line that has none of the commands above.
 fn unknown(alloc: Global) -> Result<Fault, AllocError>
-    ensures { IfOk result IsCommandFault }
+    ensures { IfOk result IsLineFault }
 {
     let text = String::from_str(alloc, "synchrony: bad command line")?;
     Ok(Fault::Command(text))

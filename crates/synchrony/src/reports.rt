@@ -1,8 +1,9 @@
 //! The report of a trace text, from a reader to a writer.
 
-ghost use Rattle.std.specs.Prelude.{◌≡◌, ℕ, List, OnOk, IfOk, IfErr, IfSome};
+ghost use Rattle.std.specs.Prelude.{◌≡◌, ◌≤◌, ℕ, List, length, OnOk, IfOk, IfErr, IfSome, IsTrue};
 ghost use Rattle.std.specs.Io.KnownBytes.{IsAtEnd, Appends};
-ghost use Rattle.trace_text.specs.Faults.{inner_of, faults_of};
+ghost use Rattle.trace_text.specs.ByteLoops.{WasFaultless};
+ghost use Rattle.trace_text.specs.Faults.{inner_of, faults_of, is_flushed};
 ghost use Rattle.synchrony.specs.Reports.{AreRowsOf, IsReportOf, IsTextFault, IsReportFault, IsReadFault, IsWriteFault};
 
 use crate::faults::Fault;
@@ -30,13 +31,16 @@ pub fn run_report<R: Read, W: Write>(
         × IfSome (R.remaining (inner_of reader.old)) (λ known. text ≡ known)
         × IsReportOf set text report
         × Appends (W.contents (inner_of writer.old)) (W.contents (inner_of writer.new)) report) }
+    ensures size { OnOk result (IfSome (R.remaining (inner_of reader.old)) (λ text. length text ≤ 67108864)) }
+    ensures flushed { OnOk result (IsTrue (is_flushed writer.new)) }
+    ensures faultless { OnOk result ((faults_of reader.new ≡ faults_of reader.old) × WasFaultless writer.old writer.new) }
     ensures refused { IfErr result (λ why. IfSome (R.remaining (inner_of reader.old)) (λ text.
         IsReportFault set text (W.contents (inner_of writer.old)) (W.contents (inner_of writer.new)) why)) }
     ensures read { IfErr result (IsReadFault (faults_of reader.old) (faults_of reader.new)) }
     ensures unwritten { IfErr result (IsWriteFault writer.old writer.new) }
 {
     let text = read_all(alloc, reader)?;
-    let report = report_of(alloc, &text, set)?;
+    let report = report_of(alloc, text, set)?;
     match write_report(alloc, report.rows(), writer) {
         Ok(()) => Ok(()),
         Err(WriteError::Write(written)) => Err(Fault::Write(written)),
@@ -45,11 +49,13 @@ pub fn run_report<R: Read, W: Write>(
 }
 
 /// The report of the trace that a text stands for.
-fn report_of(alloc: Global, text: &[u8], set: ProcSet) -> Result<Report, Fault>
-    ensures report { IfOk result (λ r. AreRowsOf set text.now r.rows) }
-    ensures refused { IfErr result (IsTextFault set text.now) }
+fn report_of(alloc: Global, text: Vec<u8>, set: ProcSet) -> Result<Report, Fault>
+    ensures report { IfOk result (λ r. AreRowsOf set text.items r.rows) }
+    ensures refused { IfErr result (IsTextFault set text.items) }
 {
-    let trace = read_trace(alloc, text)?;
+    let trace = read_trace(alloc, &text)?;
+    // The text of a long trace takes much memory, and the trace says all that it does.
+    drop(text);
     if !set.within(trace.config().n()) {
         return Err(Fault::Set);
     }

@@ -1,5 +1,5 @@
 -- What the failing devices have left and what they took.
-use Rattle.std.specs.Prelude.{ℕ, ◌-◌, ◌^◌, List, Option, Some, None, vec_len}
+use Rattle.std.specs.Prelude.{ℕ, ◌-◌, ◌^◌, List, [], ◌∷◌, length, min, max, Option, Some, None, vec_len}
 use Rattle.std.specs.declared.io.ErrorKind.{ErrorKind}
 use Rattle.trace_text.specs.declared.failing_devices.AfterBytes.{AfterBytes}
 use Rattle.trace_text.specs.declared.failing_devices.AfterBytes.TheVariants.{End, Fail, Repeat}
@@ -14,6 +14,10 @@ known_bytes bytes End = Some bytes
 known_bytes bytes (Fail _) = Some bytes
 known_bytes bytes (Repeat _) = None
 
+-- the bytes that a reader was given and didn't give yet
+abbrev pub held_by : FailingReader → List ℕ
+held_by r = r.bytes.now
+
 -- the bytes that a reader has left, where it ends
 abbrev pub left_in : FailingReader → Option (List ℕ)
 left_in r = known_bytes r.bytes.now r.after
@@ -21,6 +25,26 @@ left_in r = known_bytes r.bytes.now r.after
 -- what a reader does once its bytes are read
 abbrev pub after_of : FailingReader → AfterBytes
 after_of r = r.after
+
+-- the most bytes that one read gives, where 0 stands for 1
+abbrev pub read_piece_of : FailingReader → ℕ
+read_piece_of r = r.piece
+
+-- the byte that a reader gives again and again, if it does
+abbrev pub repeated_by : AfterBytes → Option ℕ
+repeated_by (Repeat byte) = Some byte
+repeated_by _ = None
+
+-- how many bytes a reader has for a read of so many
+abbrev pub ready_for : List ℕ → AfterBytes → ℕ → ℕ
+ready_for [] (Repeat byte) room = room
+ready_for [] End room = 0
+ready_for [] (Fail kind) room = 0
+ready_for (b ∷ bs) after room = length (b ∷ bs)
+
+-- how many bytes a read gives into a buffer of this length
+abbrev pub read_count : FailingReader → ℕ → ℕ
+read_count r room = min (min (max r.piece 1) room) (ready_for r.bytes.now r.after room)
 
 -- the kind of the faults of reads
 abbrev pub read_fault : AfterBytes → Option ErrorKind

@@ -1,11 +1,11 @@
 //! A reader and a writer that fail where they are told to, for tests.
 
-ghost use Rattle.std.specs.Prelude.{◌≡◌, ◌⊎◌, [], length, min, max, Some, None, IfOk, IfErr, MatchResult};
+ghost use Rattle.std.specs.Prelude.{◌≡◌, ◌⊎◌, [], length, take, drop, replicate, min, max, Some, None, IfOk, IfErr, IfSome, MatchResult};
 ghost use Rattle.std.specs.Io.{ReadsAtMost, WritesAtMost};
 ghost use Rattle.std.specs.Io.KnownBytes.{ReadConsumes, WriteAppends, Keeps};
 ghost use Rattle.std.specs.IoError.{error_kind};
 ghost use Rattle.std.specs.declared.io.ErrorKind.TheVariants.{OutOfMemory};
-ghost use Rattle.trace_text.specs.FailingDevices.{known_bytes, left_in, after_of, read_fault, taken_by, piece_of, failure_of, room_in, write_fault, flush_fault};
+ghost use Rattle.trace_text.specs.FailingDevices.{known_bytes, held_by, left_in, read_piece_of, read_count, repeated_by, after_of, read_fault, taken_by, piece_of, failure_of, room_in, write_fault, flush_fault};
 
 use std::alloc::Global;
 use std::io;
@@ -34,6 +34,8 @@ impl<'a> FailingReader<'a> {
     /// A reader of these bytes, of which one read gives at most `piece`; 0 is taken as 1.
     pub fn new(bytes: &'a [u8], piece: usize, after: AfterBytes) -> Self
         ensures bytes { left_in result ≡ known_bytes bytes.entry.now after }
+        ensures held { held_by result ≡ bytes.entry.now }
+        ensures piece { read_piece_of result ≡ piece }
         ensures after { after_of result ≡ after }
     {
         FailingReader {
@@ -50,7 +52,11 @@ impl<'a> Read for FailingReader<'a> {
     fn read(&mut self, buf: &mut [u8]) -> io::Result<usize>
         ensures bound { ReadsAtMost result buf.new }
         ensures bytes { ReadConsumes (left_in self.old) (left_in self.new) result buf.new }
+        ensures count { IfOk result (λ n. n ≡ read_count self.old (length buf.new)) }
+        ensures held { IfOk result (λ n. held_by self.new ≡ drop n (held_by self.old)) }
+        ensures repeated { IfOk result (λ n. held_by self.old ≡ [] → IfSome (repeated_by (after_of self.old)) (λ byte. take n buf.new ≡ replicate n byte)) }
         ensures fault { IfErr result (λ e. (read_fault (after_of self.old) ≡ Some (error_kind e)) × (left_in self.old ≡ Some [])) }
+        ensures piece { read_piece_of self.new ≡ read_piece_of self.old }
         ensures after { after_of self.new ≡ after_of self.old }
     {
         let count = self.piece.max(1).min(buf.len());
@@ -152,6 +158,7 @@ impl Write for FailingWriter {
     fn flush(&mut self) -> io::Result<()>
         ensures bytes { Keeps (Some (taken_by self.old)) (Some (taken_by self.new)) }
         ensures fault { MatchResult result (λ _. flush_fault (failure_of self.old) ≡ None) (λ e. flush_fault (failure_of self.old) ≡ Some (error_kind e)) }
+        ensures piece { piece_of self.new ≡ piece_of self.old }
         ensures failure { failure_of self.new ≡ failure_of self.old }
     {
         match self.failure {

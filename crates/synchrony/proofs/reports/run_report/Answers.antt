@@ -9,5 +9,5 @@ returns-in_err-text-clause-refused g c =
 
 pub returns-in-Err-Write-clause-refused : goal.returns-in-Err-Write-clause-refused
 returns-in-Err-Write-clause-refused g c =
-    write_fault c.args.set c.in_ok-text.text.items _ c.in_ok-report.report.rows _ _ _ _ c.in-Err-Write.written c.in_ok-text.ensures.text c.deref.ensures.value
+    write_fault c.args.set c.in_ok-text.text.items c.in_ok-report.report.rows _ _ _ _ c.in-Err-Write.written c.in_ok-text.ensures.text
     c.in_ok-report.ensures.report c.rows.ensures (rw c.in-Err-Write.field-0-is at c.in-Err-Write.ensures.part)

@@ -1,0 +1,160 @@
+-- What the matches and the faults of a command line say of its job and of its refusals.
+use Rattle.std.proofs.Common.{◌≡◌, ◌≢◌, ◌∙◌, ◌⊎◌, inl, inr, ap, sym, subst, refl, false, true, List, [], Option, Some, None, Result, Ok, Err, IfOk, IfErr, MatchResult, option_map, codes, string_bytes}
+use Rattle.std.specs.Borrow.{Bor}
+use Rattle.clap.proofs.OnLiterals.{clap_on_literals}
+use Rattle.clap.proofs.WalkLemmas.{first_value-rows}
+use Rattle.clap.specs.Faults.{is_simple_and_free}
+use Rattle.clap.specs.Kinds.{HasKind, IsAmong, Kinds}
+use Rattle.clap.specs.Words.{App, HasMatchesOf, Row, Text, fault_of, first_of, first_value, found_of, is_simple, rows_of, subcommand_name_of, subcommand_of, subcommand_rows_of}
+use Rattle.clap.specs.declared.error.Error.{Error}
+use Rattle.clap.specs.declared.error.ErrorKind.{ErrorKind}
+use Rattle.clap.specs.declared.error.ErrorKind.TheVariants.{OutOfMemory}
+use Rattle.clap.specs.declared.parser.ArgMatches.{ArgMatches}
+use Rattle.step_trace.specs.ProcessorLists.{IsSetIn}
+use Rattle.synchrony.specs.declared.command_line.Job.{Job}
+use Rattle.synchrony.specs.declared.command_line.Job.TheVariants as job
+use Rattle.synchrony.specs.declared.faults.Fault.{Fault}
+use Rattle.synchrony.specs.declared.faults.Fault.TheVariants as fault
+use Rattle.synchrony.specs.Commands.{AsksForReport, NamesReport, is_flag, program, report_line}
+use Rattle.synchrony.specs.Jobs.{IsHelpFor, IsJobIn, IsJobOf, IsLineFault, IsListFault, IsNoList, IsRefusalFor, IsRefusalIn, IsRefusalOf, IsReport}
+use Rattle.synchrony.proofs.ReportLines.{asks_for_report, faultless}
+
+same_some : {A : Type 0} (a b : A) → Some a ≡ Some b → a ≡ b
+same_some a b e = cc
+
+no_some : {A : Type 0} (o : Option A) (a : A) → o ≡ None → o ≡ Some a → ⊥
+no_some o a e h = cc
+
+-- what an option has, by the two sides of a pair
+both_sides : {X A B : Type 0} (o : Option X) (f : X → A) (g : X → B) (a : A) (b : B) → option_map f o ≡ Some a
+    → option_map (λ (p : A × B). p.1) (option_map {U = A × B} (λ x. (f x, g x)) o) ≡ Some b → option_map {U = A × B} (λ x. (f x, g x)) o ≡ Some (a, b)
+both_sides None f g a b left right = absurd (no_some None a refl left)
+both_sides (Some x) f g a b left right = rw (same_some (f x) a left, same_some (g x) b right) refl
+
+-- the subcommand of matches, by its name and its rows
+pub named_rows : (m : ArgMatches) (name : Text) (rows : List Row) → subcommand_name_of m ≡ Some name
+    → option_map (λ (p : Text × List Row). p.1) (subcommand_rows_of m) ≡ Some rows → subcommand_rows_of m ≡ Some (name, rows)
+named_rows m name rows named has = both_sides _ _ _ name rows named has
+
+-- the command `report`, by the matches below it
+pub report_rows : (m : ArgMatches) (sub : Option (Bor Text × Bor ArgMatches)) (name : Bor Text) (found : Bor ArgMatches)
+    → option_map (λ (p : Bor Text × Bor ArgMatches). p.0.now) sub ≡ subcommand_name_of m
+    → option_map (λ (p : Bor Text × Bor ArgMatches). rows_of (found_of p.1.now)) sub ≡ option_map (λ (p : Text × List Row). p.1) (subcommand_rows_of m)
+    → sub ≡ Some (name, found) → name.now ≡ codes "report" → subcommand_rows_of m ≡ Some (codes "report", rows_of (found_of found.now))
+report_rows m sub name found named rows is is_report = named_rows m (codes "report") (rows_of (found_of found.now))
+    (sym named ∙ ap (option_map (λ (p : Bor Text × Bor ArgMatches). p.0.now)) is ∙ ap Some is_report)
+    (sym rows ∙ ap (option_map (λ (p : Bor Text × Bor ArgMatches). rows_of (found_of p.1.now))) is)
+
+-- a value that a getter reads is that of the rows
+pub has_value : (m : ArgMatches) (id : Text) (a : Option (Bor Text)) (v : Bor Text) → option_map (λ s. s.now) a ≡ first_value (found_of m) id
+    → a ≡ Some v → first_of id (rows_of (found_of m)) ≡ Some v.now
+has_value m id a v in_rows is = sym (first_value-rows (found_of m) id) ∙ sym in_rows ∙ ap (option_map (λ s. s.now)) is
+
+-- where a getter finds no value, the rows have none
+pub lacks_value : (m : ArgMatches) (id : Text) (a : Option (Bor Text)) (v : Text) → option_map (λ s. s.now) a ≡ first_value (found_of m) id → a ≡ None
+    → first_of id (rows_of (found_of m)) ≡ Some v → ⊥
+lacks_value m id a v in_rows is_none has =
+    no_some (first_of id (rows_of (found_of m))) v (sym (first_value-rows (found_of m) id) ∙ sym in_rows ∙ ap (option_map (λ s. s.now)) is_none) has
+
+-- where `report` is named, its rows have the file and the list
+pub values_in : (sub : Option (Text × List Row)) (rows : List Row) → sub ≡ Some (codes "report", rows) → (file list : Text) → NamesReport sub file list
+    → (first_of (codes "file") rows ≡ Some file) × (first_of (codes "correct") rows ≡ Some list)
+values_in sub rows named file list h =
+    let same = ap (λ (p : Text × List Row). p.1) (same_some (codes "report", h.rows) (codes "report", rows) (sym h.named ∙ named)) in
+    (ap (first_of (codes "file")) (sym same) ∙ h.file_is, ap (first_of (codes "correct")) (sym same) ∙ h.list_is)
+
+-- so one file is named, and one list
+one_file : (sub : Option (Text × List Row)) (f l g m : Text) → NamesReport sub f l → NamesReport sub g m → (f ≡ g) × (l ≡ m)
+one_file sub f l g m a b =
+    let other = values_in sub a.rows a.named g m b in (same_some f g (sym a.file_is ∙ other.0), same_some l m (sym a.list_is ∙ other.1))
+
+-- a refusal where no report is named
+pub nothing_named : (sub : Option (Text × List Row)) (w : Fault) → IsLineFault w → ((file list : Text) → ¬ NamesReport sub file list) → IsRefusalIn sub w
+nothing_named sub (fault.Command text) h none = inr none
+nothing_named sub fault.Set h none = absurd h
+nothing_named sub (fault.Trace e) h none = absurd h
+nothing_named sub fault.Memory h none = absurd h
+nothing_named sub fault.Read h none = absurd h
+nothing_named sub (fault.Write n) h none = absurd h
+
+-- the parse of the program's command line is known
+is_simple_program : is_simple program ≡ true
+unfolding clap_on_literals
+is_simple_program = refl
+
+is_free_program : is_simple_and_free program ≡ true
+unfolding clap_on_literals
+is_free_program = refl
+
+pub matches_known : (a : App) (words : List Text) (m : ArgMatches) → a ≡ program → HasMatchesOf a words m → subcommand_rows_of m ≡ subcommand_of program words
+matches_known a words m e h = (h (ap is_simple e ∙ is_simple_program)).1 ∙ ap (λ b. subcommand_of b words) e
+
+pub kinds_known : (a : App) (words : List Text) (error : Error) → a ≡ program → (is_simple_and_free a ≡ true → HasKind (fault_of a words) error)
+    → HasKind (fault_of program words) error
+kinds_known a words error e h = subst (λ b. HasKind (fault_of b words) error) e (h (ap is_simple_and_free e ∙ is_free_program))
+
+-- what the matches name, the words ask for
+pub job_of : (words : List Text) (sub : Option (Text × List Row)) → sub ≡ subcommand_of program words → (j : Job) → IsJobIn sub j → IsJobOf words j
+job_of words sub e (job.Report name set) h = subst (λ s. IsJobIn s (job.Report name set)) e h
+job_of words sub e (job.Help text) h = absurd h
+
+-- and what is refused in them is refused in the words
+pub refusal_of : (words : List Text) (sub : Option (Text × List Row)) → sub ≡ subcommand_of program words → (w : Fault) → IsRefusalIn sub w → IsRefusalOf words w
+refusal_of words sub e (fault.Command text) h = inr (subst (λ s. IsRefusalIn s (fault.Command text)) e h)
+refusal_of words sub e fault.Set h = h
+refusal_of words sub e (fault.Trace why) h = h
+refusal_of words sub e fault.Memory h = h
+refusal_of words sub e fault.Read h = h
+refusal_of words sub e (fault.Write n) h = h
+
+-- a kind of error that isn't want of memory is one of the words' faults
+among : (words : List Text) (kind : ErrorKind) → kind ≢ OutOfMemory → (kind ≡ OutOfMemory) ⊎ IsAmong kind (fault_of program words) → IsAmong kind (fault_of program words)
+among words kind other (inl e) = absurd (other e)
+among words kind other (inr h) = h
+
+-- a text for an error of the words that asks for help
+pub help_of : (words : List Text) (kind : ErrorKind) → (kind ≡ OutOfMemory) ⊎ IsAmong kind (fault_of program words) → (j : Job) → IsHelpFor kind j → IsJobOf words j
+help_of words kind has (job.Report file set) h = absurd h
+help_of words kind has (job.Help text) h = record { kind = kind; among = among words kind h.0 has; help = h.1 }
+
+-- a refusal for an error of the words that asks for none
+pub misread_of : (words : List Text) (kind : ErrorKind) → (kind ≡ OutOfMemory) ⊎ IsAmong kind (fault_of program words) → (w : Fault) → IsRefusalFor kind w → IsRefusalOf words w
+misread_of words kind has (fault.Command text) h = inl (record { kind = kind; among = among words kind h.0 has; no_help = h.1 })
+misread_of words kind has fault.Set h = h
+misread_of words kind has (fault.Trace e) h = h
+misread_of words kind has fault.Memory h = h
+misread_of words kind has fault.Read h = h
+misread_of words kind has (fault.Write n) h = h
+
+-- no error is among those of words that have none
+none_among : (kind : ErrorKind) (kinds : Kinds) → kinds ≡ [] → ¬ IsAmong kind kinds
+none_among kind kinds none h = subst (λ ks. IsAmong kind ks) none h
+
+-- the job of words that ask for a report and have no fault
+line_job : (words : List Text) (file list : Text) → fault_of program words ≡ [] → AsksForReport words file list → (j : Job) → IsJobOf words j → IsReport file list j
+line_job words file list none asks (job.Report name set) h =
+    let same = one_file (subcommand_of program words) (string_bytes name) h.0 file list h.1 asks in
+    (same.0, subst (λ l. IsSetIn l set) same.1 h.2)
+line_job words file list none asks (job.Help text) h = absurd (none_among h.kind (fault_of program words) none h.among)
+
+-- and their refusals
+line_refusal : (words : List Text) (file list : Text) → fault_of program words ≡ [] → AsksForReport words file list → (w : Fault) → IsRefusalOf words w → IsListFault list w
+line_refusal words file list none asks (fault.Command text) (inl h) = absurd (none_among h.kind (fault_of program words) none h.among)
+line_refusal words file list none asks (fault.Command text) (inr (inl h)) =
+    (h.told, subst IsNoList (one_file (subcommand_of program words) h.file h.list file list h.named asks).1 h.no_list)
+line_refusal words file list none asks (fault.Command text) (inr (inr h)) = absurd (h file list asks)
+line_refusal words file list none asks fault.Set h = h
+line_refusal words file list none asks (fault.Trace e) h = h
+line_refusal words file list none asks fault.Memory h = h
+line_refusal words file list none asks fault.Read h = h
+line_refusal words file list none asks (fault.Write n) h = h
+
+-- the line `report FILE --correct LIST` gives the report of that file for that list, unless the list is none
+pub line_is : (words : List Text) (r : Result Job Fault) → IfOk r (IsJobOf words) → IfErr r (IsRefusalOf words) → (name file list : Text)
+    → words ≡ report_line name file list → is_flag file ≡ false → is_flag list ≡ false → MatchResult r (IsReport file list) (IsListFault list)
+line_is words (Ok j) h _ name file list line plain_file plain_list =
+    line_job words file list (ap (fault_of program) line ∙ faultless name file list plain_file plain_list)
+    (subst (λ ws. AsksForReport ws file list) (sym line) (asks_for_report name file list plain_file plain_list)) j h
+line_is words (Err w) _ h name file list line plain_file plain_list =
+    line_refusal words file list (ap (fault_of program) line ∙ faultless name file list plain_file plain_list)
+    (subst (λ ws. AsksForReport ws file list) (sym line) (asks_for_report name file list plain_file plain_list)) w h

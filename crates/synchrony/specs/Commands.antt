@@ -1,0 +1,62 @@
+-- What the program takes on its command line, and what words ask for, by the matches and the faults that
+-- the reader of command lines gives them.
+use Rattle.std.specs.Prelude.{◌≡◌, ◌⊎◌, Bool, false, true, ◌==◌, List, [], ◌∷◌, Option, Some, codes}
+use Rattle.clap.specs.Kinds.{IsAmong}
+use Rattle.clap.specs.Simple.{on_top}
+use Rattle.clap.specs.Words.{App, Row, Rule, Text, fault_of, first_of, new_app, new_rule, subcommand_of, with_rule, with_subcommand}
+use Rattle.clap.specs.declared.builder.ArgAction.TheVariants.{Set}
+use Rattle.clap.specs.declared.error.kind.ErrorKind.{ErrorKind}
+use Rattle.clap.specs.declared.error.kind.ErrorKind.TheVariants.{DisplayHelp, DisplayVersion}
+
+-- FILE
+abbrev pub file_rule : Rule
+file_rule = record (new_rule (codes "file")) { action = Some Set; value_names = 1; required = true }
+
+-- --correct LIST
+abbrev pub correct_rule : Rule
+correct_rule = record (new_rule (codes "correct")) { long = Some (codes "correct"); action = Some Set; value_names = 1; required = true }
+
+-- report FILE --correct LIST
+abbrev pub report_app : App
+report_app = with_rule (with_rule (new_app (codes "report")) file_rule) correct_rule
+
+-- the program, whose one command is `report`
+abbrev pub program : App
+program = with_subcommand (on_top (λ s. record s { subcommand_required = true }) (new_app (codes "synchrony"))) report_app.top
+
+-- a subcommand and its matches are `report` with this file and this list
+pub record NamesReport (sub : Option (Text × List Row)) (file list : Text) : Type 0 where
+  pub rows : List Row
+  pub named : sub ≡ Some (codes "report", rows)
+  pub file_is : first_of (codes "file") rows ≡ Some file
+  pub list_is : first_of (codes "correct") rows ≡ Some list
+
+-- the words ask for the report of this file, for this list
+abbrev pub AsksForReport : List Text → Text → Text → Type 0
+AsksForReport words file list = NamesReport (subcommand_of program words) file list
+
+-- an answer of this kind is a text that was asked for
+abbrev pub IsHelp : ErrorKind → Type 0
+IsHelp kind = (kind ≡ DisplayHelp) ⊎ (kind ≡ DisplayVersion)
+
+-- the words ask for a help text
+pub record AsksForHelp (words : List Text) : Type 0 where
+  pub kind : ErrorKind
+  pub among : IsAmong kind (fault_of program words)
+  pub help : IsHelp kind
+
+-- the words are refused, and not for a help text that they ask for
+pub record IsMisread (words : List Text) : Type 0 where
+  pub kind : ErrorKind
+  pub among : IsAmong kind (fault_of program words)
+  pub no_help : ¬ IsHelp kind
+
+-- the word begins with a hyphen and goes on
+abbrev pub is_flag : Text → Bool
+is_flag [] = false
+is_flag (b ∷ []) = false
+is_flag (b ∷ c ∷ rest) = b == 45
+
+-- the line `report FILE --correct LIST`, after the program's name
+abbrev pub report_line : Text → Text → Text → List Text
+report_line name file list = name ∷ codes "report" ∷ file ∷ codes "--correct" ∷ list ∷ []
