@@ -34,11 +34,11 @@ fn one_miss_is_read(rt: HostRuntime) -> Result<(), Fail> {
         (1, "Some(Step { proc: 1, act: Send { to: 2 } })"),
         (
             2,
-            "Some(Step { proc: 2, act: Receive { ids: MessageIds { items: [] }, ends: false } })",
+            "Some(Step { proc: 2, act: Receive { ends: false, ids: MessageIds { items: [] } } })",
         ),
         (
             3,
-            "Some(Step { proc: 2, act: Receive { ids: MessageIds { items: [1] }, ends: false } })",
+            "Some(Step { proc: 2, act: Receive { ends: false, ids: MessageIds { items: [1] } } })",
         ),
         (4, "None"),
     ];
