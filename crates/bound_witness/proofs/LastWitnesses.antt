@@ -9,8 +9,8 @@ use Rattle.step_trace.specs.Traces.{IsReceiveOf, IsDelivered}
 use Rattle.step_trace.specs.Bounds.{IsMessage, PhiHolds, StepsWithin, IsDelta}
 use Rattle.step_trace.specs.Witnesses.{IsMiss, IsGap, IsNamedMiss, IsNamedGap, NamesMiss}
 use Rattle.step_trace.proofs.StepPositions.{step_at_within}
-use Rattle.bound_witness.proofs.Laws.{IsMessage-receiver, Miss-same, MissRefutes-sound}
-use Rattle.bound_witness.proofs.Decisions.{DeltaHolds-unrefuted}
+use Rattle.step_trace.proofs.BoundLaws.{IsMessage-receiver, Miss-same, MissRefutes-sound}
+use Rattle.step_trace.proofs.BoundDecisions.{DeltaHolds-unrefuted}
 use Rattle.bound_witness.specs.LastMisses.{HasNoMiss, IsLastMiss}
 use Rattle.bound_witness.specs.WitnessSearches.{HasNoMissOf, AllStepWithin, IsFirstSilent}
 

@@ -1,4 +1,2 @@
-pub mod Decisions
-pub mod Laws
 pub mod LastWitnesses
 pub mod SilentIntervals

@@ -12,7 +12,7 @@ use Rattle.step_trace.specs.Processors.{has_proc, IsWithin}
 use Rattle.step_trace.specs.Traces.{IsStepOf}
 use Rattle.step_trace.specs.Witnesses.{IsGap}
 use Rattle.bound_witness.specs.LongestGaps.{IsLongestGap, Precedes, BeginsBy, ListsGapsBy, silence}
-use Rattle.bound_witness.proofs.Laws.{Gap-same}
+use Rattle.step_trace.proofs.BoundLaws.{Gap-same}
 
 -- no gap of p has step k in it
 pub record IsEdge (set : ℕ) (steps : List Step) (p k : ℕ) : Type 0 where

@@ -5,7 +5,7 @@ use Rattle.std.proofs.lemmas.Bool.{cases_lt}
 use Rattle.step_trace.specs.declared.steps.Step.{Step}
 use Rattle.step_trace.specs.Bounds.{DeltaHolds, PhiHolds, IsDelta, IsPhi}
 use Rattle.step_trace.specs.Fronts.{Triple, IsOnFront}
-use Rattle.bound_witness.proofs.Laws.{DeltaHolds-later, PhiHolds-later}
+use Rattle.step_trace.proofs.BoundLaws.{DeltaHolds-later, PhiHolds-later}
 use Rattle.front.proofs.LeastBounds.{IsDelta-earlier, IsPhi-earlier}
 
 -- the bounds of a triple on the front are the least ones

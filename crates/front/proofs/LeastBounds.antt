@@ -2,7 +2,7 @@
 use Rattle.std.proofs.Common.{ℕ, ◌≤◌, List}
 use Rattle.step_trace.specs.declared.steps.Step.{Step}
 use Rattle.step_trace.specs.Bounds.{DeltaHolds, PhiHolds, IsDelta, IsPhi}
-use Rattle.bound_witness.proofs.Laws.{DeltaHolds-later, PhiHolds-later}
+use Rattle.step_trace.proofs.BoundLaws.{DeltaHolds-later, PhiHolds-later}
 
 -- a bound that is least from a step on, and holds from an earlier one, is least from there
 pub IsDelta-earlier : (set : ℕ) (steps : List Step) (g h d : ℕ) → IsDelta set steps h d → g ≤ h → DeltaHolds set steps g d → IsDelta set steps g d

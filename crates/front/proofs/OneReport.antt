@@ -1,7 +1,7 @@
 -- A trace and a set have one report.
 use Rattle.std.proofs.Common.{ℕ, ◌≡◌, List, [], ◌∷◌, map, Contains, Option, refl, sym, subst, ap, inl, inr, arith}
 use Rattle.std.specs.List.Sorted.{IsStrictlyIncreasing}
-use Rattle.bound_witness.proofs.Laws.{NamesMiss-steady, NamesGap-steady}
+use Rattle.step_trace.proofs.BoundLaws.{NamesMiss-steady, NamesGap-steady}
 use Rattle.step_trace.specs.declared.steps.Step.{Step}
 use Rattle.step_trace.specs.declared.rows.Miss.{Miss}
 use Rattle.step_trace.specs.declared.rows.Gap.{Gap}

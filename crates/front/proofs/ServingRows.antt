@@ -11,7 +11,7 @@ use Rattle.step_trace.specs.Bounds.{DeltaHolds, PhiHolds, IsDelta, IsPhi}
 use Rattle.step_trace.specs.Fronts.{Triple, IsFeasible, IsOnFront, IsReport, triple_of}
 use Rattle.step_trace.proofs.StepPositions.{step_at_within}
 use Rattle.front.specs.Reports.{Reported, Serves, first_of, last_begun, row_at}
-use Rattle.bound_witness.proofs.Laws.{DeltaHolds-later, PhiHolds-later}
+use Rattle.step_trace.proofs.BoundLaws.{DeltaHolds-later, PhiHolds-later}
 use Rattle.front.proofs.FrontCriterion.{IsDelta-on_front, IsPhi-on_front}
 use Rattle.front.proofs.Stretches.{miss-refutes, gap-refutes}
 use Rattle.front.proofs.ListMembers.{Contains-nil, Contains-first, Contains-later, Contains-mapped, Contains-cons_cases, Contains-unmapped, rising-tail, rising-first}

@@ -9,7 +9,7 @@ use Rattle.step_trace.specs.declared.steps.Step.{Step}
 use Rattle.step_trace.specs.declared.rows.Row.{Row}
 use Rattle.step_trace.specs.Bounds.{IsDelta, IsPhi, DeltaHolds, PhiHolds}
 use Rattle.step_trace.specs.Fronts.{Triple, IsOnFront, IsReport, triple_of}
-use Rattle.bound_witness.proofs.Laws.{IsLeastBound-unique}
+use Rattle.step_trace.proofs.BoundLaws.{IsLeastBound-unique}
 use Rattle.suffix_staircase.specs.declared.levels.Level.{Level}
 use Rattle.suffix_staircase.specs.Levels.{IsStart, AreStarts, same_bounds}
 use Rattle.suffix_staircase.specs.Analysis.{IsLevelAt, AreLevels}

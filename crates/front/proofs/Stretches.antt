@@ -7,7 +7,7 @@ use Rattle.step_trace.specs.declared.rows.Miss.{Miss}
 use Rattle.step_trace.specs.declared.rows.Gap.{Gap}
 use Rattle.step_trace.specs.Bounds.{DeltaHolds, PhiHolds, IsDelta, IsPhi}
 use Rattle.step_trace.specs.Witnesses.{IsNamedMiss, IsNamedGap, NamesMiss, NamesGap, MissRefutes, GapRefutes}
-use Rattle.bound_witness.proofs.Decisions.{delivered_or_not, steps_within_or_not}
+use Rattle.step_trace.proofs.BoundDecisions.{delivered_or_not, steps_within_or_not}
 
 -- the named miss of h is of a message sent at g or later, where the bound is the least one from both
 pub named_miss-reaches : (set : ℕ) (steps : List Step) (h g d : ℕ) (m : Miss) → h ≤ g → 1 < d

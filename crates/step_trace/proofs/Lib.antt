@@ -5,3 +5,5 @@ pub mod ProcessorSets
 pub mod Digits
 pub mod NamedReasons
 pub mod NumberLists
+pub mod BoundLaws
+pub mod BoundDecisions

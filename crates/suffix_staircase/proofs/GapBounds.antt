@@ -14,7 +14,7 @@ use Rattle.step_trace.proofs.StepPositions.{step_at_within}
 use Rattle.suffix_staircase.specs.declared.levels.Level.{Level}
 use Rattle.suffix_staircase.specs.Silences.{IsNextStep, KnowsNextSteps, IsLatest}
 use Rattle.suffix_staircase.specs.Analysis.{KnowsGaps, with_gap}
-use Rattle.bound_witness.proofs.Decisions.{PhiHolds-unrefuted}
+use Rattle.step_trace.proofs.BoundDecisions.{PhiHolds-unrefuted}
 
 pub phi_positive : (set : ℕ) (steps : List Step) (g f : ℕ) (o : Option Gap) → NamesGap set steps g f o → 1 ≤ f
 phi_positive set steps g f None h = omega arith

@@ -10,7 +10,7 @@ use Rattle.step_trace.proofs.StepPositions.{step_at_within}
 use Rattle.suffix_staircase.specs.declared.levels.Level.{Level}
 use Rattle.suffix_staircase.specs.Receives.{IsLastMissOf}
 use Rattle.suffix_staircase.specs.Analysis.{KnowsMisses, with_miss}
-use Rattle.bound_witness.proofs.Decisions.{DeltaHolds-unrefuted}
+use Rattle.step_trace.proofs.BoundDecisions.{DeltaHolds-unrefuted}
 
 pub delta_positive : (set : ℕ) (steps : List Step) (g d : ℕ) (o : Option Miss) → NamesMiss set steps g d o → 1 ≤ d
 delta_positive set steps g d None h = omega arith

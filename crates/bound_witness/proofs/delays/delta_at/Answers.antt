@@ -1,6 +1,6 @@
 use Rattle.std.proofs.Common.{◌+◌, arith}
 use Rattle.bound_witness.proofs.LastWitnesses.{NamesMiss-found}
-use Rattle.bound_witness.proofs.Laws.{NamesMiss-steady}
+use Rattle.step_trace.proofs.BoundLaws.{NamesMiss-steady}
 use Rattle.bound_witness.proofs.delays.delta_at.Goals as goal
 
 pub returns-clause-miss : goal.returns-clause-miss

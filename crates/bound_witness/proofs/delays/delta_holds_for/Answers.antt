@@ -2,7 +2,7 @@ use Rattle.std.proofs.Common.{inl, inr, arith, subst, refl}
 use Rattle.std.proofs.lemmas.Bool.{cases_lt}
 use Rattle.step_trace.specs.Traces.{IsReceiveOf}
 use Rattle.step_trace.proofs.StepPositions.{step_at_within}
-use Rattle.bound_witness.proofs.Laws.{IsMessage-receiver}
+use Rattle.step_trace.proofs.BoundLaws.{IsMessage-receiver}
 use Rattle.bound_witness.proofs.delays.delta_holds_for.Goals as goal
 
 pub returns-in_default : goal.returns-in_default
