@@ -4,6 +4,7 @@ pub mod Configurations
 pub mod Steps
 pub mod Traces
 pub mod PushRefusals
+pub mod PushErrorTexts
 pub mod DeliveryIndex
 pub mod Bounds
 pub mod Witnesses

@@ -4,6 +4,11 @@ use crate::traces::PushError;
 use std::fmt;
 
 impl fmt::Display for PushError {
+    ghost use Rattle.std.specs.Prelude.{Some};
+    ghost use Rattle.step_trace.specs.PushErrorTexts.{push_error_text};
+
+    ghost output = { λ e. Some (push_error_text e) };
+
     fn fmt<W: fmt::Write>(&self, f: &mut fmt::Formatter<W>) -> fmt::Result {
         match self {
             PushError::Full => write!(f, "trace is full"),

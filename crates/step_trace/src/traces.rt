@@ -96,7 +96,9 @@ impl Trace {
 
     /// The step of this number, if there is one.
     pub fn step(&self, no: u64) -> Option<&Step>
-        ensures { option_copied result ≡ step_at self.now.steps no }
+        ensures value { option_copied result ≡ step_at self.now.steps no }
+        ensures limit { length self.now.steps ≤ 1000000 }
+        ensures sound { IsWellFormed self.now.config self.now.steps }
     {
         step_of(&self.steps, no)
     }
