@@ -3,6 +3,7 @@ use Rattle.std.proofs.Common.{ℕ, ◌≡◌, ◌≢◌, ◌<◌, ◌⊎◌, inl
 use Rattle.std.specs.Prelude.{slice_index_or, Contains, nat_lt, ◌&&◌, find, cond}
 use Rattle.std.proofs.lemmas.Option.{same_Some, none-some}
 use Rattle.std.proofs.lemmas.Bool.Decides.{nat_tests}
+use Rattle.step_trace.specs.declared.traces.TheConstants.{MAX_STEPS}
 use Rattle.step_trace.specs.declared.traces.PushError.{PushError}
 use Rattle.step_trace.specs.declared.traces.PushError.TheVariants.{Full, BadProc, BadDest, IdsNotRising, UnknownMessage, NotAddressed, Redelivered, Memory}
 use Rattle.step_trace.specs.declared.steps.Act.{Act}
@@ -113,7 +114,7 @@ act-named c steps p (Send to) e h = go (is_proc c to) h where
   go false f = subst (λ (z : PushError). IsNamed steps (record { proc = p; act = Send to }) z) (same_Some BadDest e f) (record { reason = λ q. cc; least = tt })
 
 pub refusal-named : (c : Setup) (steps : List Step) (x : Step) (e : PushError) → refusal c steps x ≡ Some e → IsNamed steps x e
-refusal-named c steps x e h = full (nat_lt (length steps) 1000000) h where
+refusal-named c steps x e h = full (nat_lt (length steps) MAX_STEPS) h where
   proc : (b : Bool) → cond b (act_refusal c steps x.proc x.act) (Some BadProc) ≡ Some e → IsNamed steps x e
   proc true f = act-named c steps x.proc x.act e f
   proc false f = subst (λ (z : PushError). IsNamed steps x z) (same_Some BadProc e f) (record { reason = λ q. cc; least = tt })

@@ -6,6 +6,7 @@ use Rattle.std.proofs.lemmas.Fmt.{decimal_by_steps, decimal_injective}
 use Rattle.std.proofs.lemmas.List.{get_or-map, map-append, length-map}
 use Rattle.std.proofs.lemmas.List.Elements.{All-nil, All-cons, All-push, Contains-get_or, Contains-append_left, Contains-append_right, Contains-push, Contains-push_cases}
 use Rattle.std.proofs.lemmas.List.Splits.{slice_split_none, slice_split_at, join_with_byte-slice_split, length-slice_split}
+use Rattle.step_trace.specs.declared.processors.TheConstants.{MAX_MEMBER}
 use Rattle.step_trace.specs.Processors.{has_proc}
 use Rattle.step_trace.specs.ProcessorLists.{IsListOf, HasMembers}
 
@@ -24,11 +25,11 @@ decimal_no_comma n h = decimal_by_steps (λ _ ds. All NoComma ds)
     (λ d _. All-cons NoComma _ [] (digit_no_comma d) (All-nil NoComma))
     (λ d ds _ all. All-push NoComma ds _ all (digit_no_comma _)) n h
 
-small : (n : ℕ) → n ≤ 64 → n < 2 ^ 64
+small : (n : ℕ) → n ≤ MAX_MEMBER → n < 2 ^ 64
 small n h = omega arith
 
 -- the parts of a list's text are its numbers' texts
-parts-of_list : (n : ℕ) (numbers : List ℕ) → ((p : ℕ) → Contains (n ∷ numbers) p → p ≤ 64)
+parts-of_list : (n : ℕ) (numbers : List ℕ) → ((p : ℕ) → Contains (n ∷ numbers) p → p ≤ MAX_MEMBER)
     → parts_of (join_with_byte 44 (map decimal (n ∷ numbers))) ≡ map decimal (n ∷ numbers)
 parts-of_list n [] high = slice_split_none _ (decimal n) (decimal_no_comma n (small n (high n (0, omega arith, refl))))
 parts-of_list n (m ∷ numbers) high = slice_split_at _ (decimal n) 44 _ (decimal_no_comma n (small n (high n (0, omega arith, refl)))) refl
@@ -38,11 +39,11 @@ parts_are_numbers : (text numbers : List ℕ) → IsListOf text numbers → part
 parts_are_numbers text [] h = absurd (omega (arith, h.some))
 parts_are_numbers text (n ∷ numbers) h = rw (h.written) (parts-of_list n numbers h.high)
 
--- a part of a list's text is the text of a number from 1 to 64
+-- a part of a list's text is the text of a number within the limits of a member
 pub record IsMemberText (part : List ℕ) : Type 0 where
   pub number : ℕ
   pub low : 1 ≤ number
-  pub high : number ≤ 64
+  pub high : number ≤ MAX_MEMBER
   pub written : part ≡ decimal number
 
 pub part_is_member : (text numbers part : List ℕ) (k : ℕ) → IsListOf text numbers → (k < length (parts_of text)) × (part ≡ get_or (parts_of text) k part) → IsMemberText part
@@ -61,7 +62,7 @@ part_is_member text numbers part k list at =
 pub unread_is_no_member : (part bytes : List ℕ) → bytes ≡ part → ((n : ℕ) → n < 2 ^ 64 → bytes ≢ decimal n) → IsMemberText part → ⊥
 unread_is_no_member part bytes same none member = none member.number (small member.number member.high) (same ∙ member.written)
 
--- a number outside 1 to 64 is the text of no such number
+-- the text of a number outside these limits is no such part
 pub outside_is_no_member : (part : List ℕ) (p : ℕ) → p < 2 ^ 64 → part ≡ decimal p → (p < 1) ⊎ ((1 ≤ p) × (64 < p)) → IsMemberText part → ⊥
 outside_is_no_member part p fits e out member =
     let same : p ≡ member.number = decimal_injective p member.number fits (small member.number member.high) (sym e ∙ member.written) in
@@ -74,7 +75,7 @@ no_member p h = absurd (omega (arith, h.1))
 pub record IsRead (parts : List (List ℕ)) (set : ℕ) : Type 0 where
   pub numbers : List ℕ
   pub low : (p : ℕ) → Contains numbers p → 1 ≤ p
-  pub high : (p : ℕ) → Contains numbers p → p ≤ 64
+  pub high : (p : ℕ) → Contains numbers p → p ≤ MAX_MEMBER
   pub written : parts ≡ map decimal numbers
   pub members : HasMembers set numbers
 
@@ -97,12 +98,12 @@ member_more numbers set more p q before added others = elim (cases_eq q p) [
   )
 ]
 
-pub one_more_read : (parts : List (List ℕ)) (part : List ℕ) (set more p : ℕ) → IsRead parts set → part ≡ decimal p → 1 ≤ p → p ≤ 64
+pub one_more_read : (parts : List (List ℕ)) (part : List ℕ) (set more p : ℕ) → IsRead parts set → part ≡ decimal p → 1 ≤ p → p ≤ MAX_MEMBER
     → IsTrue (has_proc more p) → ((q : ℕ) → q ≢ p → has_proc more q ≡ has_proc set q) → IsRead (parts ++ part ∷ []) more
 one_more_read parts part set more p read e low high added others = record {
   numbers = read.numbers ++ p ∷ [];
   low = λ q h. elim (Contains-push_cases read.numbers p q h) [ inl old ↦ read.low q old | inr new ↦ subst (λ m. 1 ≤ m) new low ];
-  high = λ q h. elim (Contains-push_cases read.numbers p q h) [ inl old ↦ read.high q old | inr new ↦ subst (λ m. m ≤ 64) new high ];
+  high = λ q h. elim (Contains-push_cases read.numbers p q h) [ inl old ↦ read.high q old | inr new ↦ subst (λ m. m ≤ MAX_MEMBER) new high ];
   written = rw (map-append, ← e, ← read.written) refl;
   members = λ q. member_more read.numbers set more p q (read.members q) added (others q);
 }

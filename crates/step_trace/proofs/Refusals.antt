@@ -6,6 +6,7 @@ use Rattle.std.specs.List.Sorted.{IsStrictlyIncreasing}
 use Rattle.std.proofs.lemmas.List.Elements.{All-nil, All-cons, All-contains, All-weaker, All-contains_itself}
 use Rattle.std.proofs.lemmas.Grind.{common_steps}
 use Rattle.std.proofs.lemmas.Bool.Decides.{nat_tests}
+use Rattle.step_trace.specs.declared.traces.TheConstants.{MAX_STEPS}
 use Rattle.step_trace.specs.declared.traces.PushError.{PushError}
 use Rattle.step_trace.specs.declared.steps.Act.{Act}
 use Rattle.step_trace.specs.declared.steps.Act.TheVariants.{Send, Receive}
@@ -18,7 +19,7 @@ use Rattle.step_trace.proofs.StepPositions.{step_at_within, taken_at-from_is_tak
 
 -- what a step that is not refused has
 pub record Fits (c : Setup) (steps : List Step) (x : Step) : Type 0 where
-  pub room : length steps < 1000000
+  pub room : length steps < MAX_STEPS
   pub proc : IsProc c x.proc
   pub dest : IfSome (act_dest x.act) (IsProc c)
   pub rising : IsStrictlyIncreasing (act_ids x.act)
@@ -89,7 +90,7 @@ act_fits c steps p (Receive ends ids) h =
 
 pub Fits-from_none : (c : Setup) (steps : List Step) (x : Step) → refusal c steps x ≡ None → Fits c steps x
 Fits-from_none c steps x h =
-    let r = cond_none (nat_lt (length steps) 1000000) _ _ h in
+    let r = cond_none (nat_lt (length steps) MAX_STEPS) _ _ h in
     let p = cond_none (is_proc c x.proc) _ _ r.1 in
     let a = act_fits c steps x.proc x.act p.1 in
     record {
@@ -102,9 +103,9 @@ Fits-from_none c steps x h =
     }
 
 -- the refusal of a Receive, by any test that tells the taken messages
-pub refusal_receive : (c : Setup) (steps : List Step) (x : Step) (ids : List ℕ) (ends : Bool) (t : ℕ → Bool) → length steps < 1000000 → is_proc c x.proc ≡ true → x.act ≡ Receive ends ids → ((s : ℕ) → t s ≡ is_taken steps s) → ids_refusal steps t x.proc ids ≡ refusal c steps x
+pub refusal_receive : (c : Setup) (steps : List Step) (x : Step) (ids : List ℕ) (ends : Bool) (t : ℕ → Bool) → length steps < MAX_STEPS → is_proc c x.proc ≡ true → x.act ≡ Receive ends ids → ((s : ℕ) → t s ≡ is_taken steps s) → ids_refusal steps t x.proc ids ≡ refusal c steps x
 refusal_receive c steps x ids ends t l p e h =
-    let q : nat_lt (length steps) 1000000 ≡ true = grind (arith, nat_tests) in
+    let q : nat_lt (length steps) MAX_STEPS ≡ true = grind (arith, nat_tests) in
     rw (q, p, e) (ap (λ (u : ℕ → Bool). ids_refusal steps u x.proc ids) (λ i s. h s i))
 
 -- the ids of a step that is not refused name messages
@@ -183,7 +184,7 @@ act_refusal-none c steps p (Receive ends ids) dest rising sent fresh =
     rw (is_rising-from_increasing ids rising, known, addressed, untaken) refl
 
 pub none_from_Fits : (c : Setup) (steps : List Step) (x : Step) → Fits c steps x → refusal c steps x ≡ None
-none_from_Fits c steps x f = rw (true_if (length steps) 1000000 f.room, is_proc-true c x.proc f.proc) (act_refusal-none c steps x.proc x.act f.dest f.rising f.sent f.fresh)
+none_from_Fits c steps x f = rw (true_if (length steps) MAX_STEPS f.room, is_proc-true c x.proc f.proc) (act_refusal-none c steps x.proc x.act f.dest f.rising f.sent f.fresh)
 
 -- no reason stands against the last step of a well-formed list
 pub none_from_well_formed : (c : Setup) (steps : List Step) (x : Step) → IsWellFormed c (steps ++ x ∷ []) → refusal c steps x ≡ None

@@ -5,6 +5,7 @@ use Rattle.std.specs.Option.{option_map_or}
 use Rattle.step_trace.specs.declared.steps.Act.{Act}
 use Rattle.step_trace.specs.declared.steps.Act.TheVariants.{Send, Receive}
 use Rattle.step_trace.specs.declared.steps.Step.{Step}
+use Rattle.step_trace.specs.declared.traces.TheConstants.{MAX_STEPS}
 use Rattle.step_trace.specs.declared.traces.PushError.{PushError}
 use Rattle.step_trace.specs.declared.traces.PushError.TheVariants.{Full, BadProc, BadDest, IdsNotRising, UnknownMessage, NotAddressed, Redelivered, Memory}
 use Rattle.step_trace.specs.Configurations.{Setup, is_proc}
@@ -53,7 +54,7 @@ act_refusal c steps p (Receive ends ids) = ids_refusal steps (is_taken steps) p 
 -- the first reason against one more step, want of memory aside
 abbrev pub refusal : Setup → List Step → Step → Option PushError
 refusal c steps x =
-    if nat_lt (length steps) 1000000 then
+    if nat_lt (length steps) MAX_STEPS then
     (if is_proc c x.proc then act_refusal c steps x.proc x.act else Some BadProc)
     else Some Full
 

@@ -1,6 +1,7 @@
 -- Traces (section 2, the runs of a set of processors; the numbering of all steps from 1 is own).
 use Rattle.std.specs.Prelude.{ℕ, ◌≡◌, ◌<◌, ◌≤◌, List, length, Option, Some, None, slice_get, Contains, IfSome, suc, zero, Bool}
 use Rattle.std.specs.List.Sorted.{IsStrictlyIncreasing}
+use Rattle.step_trace.specs.declared.traces.TheConstants.{MAX_STEPS}
 use Rattle.step_trace.specs.declared.steps.Act.{Act}
 use Rattle.step_trace.specs.declared.steps.Act.TheVariants.{Send, Receive}
 use Rattle.step_trace.specs.declared.steps.Step.{Step}
@@ -25,11 +26,11 @@ IsSentTo steps s p = (a : ℕ) × (step_at steps s ≡ Some (record { proc = a; 
 abbrev pub TakesAt : List Step → ℕ → ℕ → Type 0
 TakesAt steps k s = (x : Step) × (step_at steps k ≡ Some x) × Contains (act_ids x.act) s
 
--- A list of steps is well formed: at most 1,000,000 steps, each of a processor of the configuration;
+-- A list of steps is well formed: at most MAX_STEPS steps, each of a processor of the configuration;
 -- a Send goes to such a processor; the ids of a Receive rise, and each is the number of an earlier
 -- Send to the receiving processor; no message is taken twice.
 pub record IsWellFormed (c : Setup) (steps : List Step) : Type 0 where
-  pub short : length steps ≤ 1000000
+  pub short : length steps ≤ MAX_STEPS
   pub procs : (k : ℕ) (x : Step) → step_at steps k ≡ Some x → IsProc c x.proc
   pub dests : (k : ℕ) (x : Step) → step_at steps k ≡ Some x → IfSome (act_dest x.act) (IsProc c)
   pub rising : (k : ℕ) (x : Step) → step_at steps k ≡ Some x → IsStrictlyIncreasing (act_ids x.act)

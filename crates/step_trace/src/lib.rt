@@ -17,7 +17,7 @@ mod traces;
 
 pub use configurations::{Config, ConfigError, MAX_PROCESSORS, MIN_PROCESSORS};
 pub use numbers::read_number;
-pub use processors::ProcSet;
+pub use processors::{MAX_MEMBER, ProcSet};
 pub use rows::{Gap, Miss, Row};
 pub use steps::{Act, MessageIds, Step};
 pub use traces::{MAX_STEPS, PushError, Trace};

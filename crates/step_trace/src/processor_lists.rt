@@ -4,15 +4,12 @@ ghost use Rattle.std.specs.Prelude.{◌≡◌, ◌≢◌, ℕ, List, IfSome, IfN
 ghost use Rattle.step_trace.specs.ProcessorLists.{IsListOf, IsSetIn, HasMembers};
 
 use crate::numbers::read_number;
-use crate::processors::ProcSet;
-
-/// The greatest number that a processor of a set may have.
-const MAX_MEMBER: u64 = 64;
+use crate::processors::{MAX_MEMBER, ProcSet};
 
 impl ProcSet {
-    /// The set that a text lists: the word `none`, or numbers from 1 to 64 as `read_number` reads
-    /// them, with one comma between each two, in any order, repeats allowed. None where the text is
-    /// anything else.
+    /// The set that a text lists: the word `none`, or numbers from 1 to `MAX_MEMBER` as `read_number`
+    /// reads them, with one comma between each two, in any order, repeats allowed. None where the text
+    /// is anything else.
     pub fn parse_list(text: &str) -> Option<ProcSet>
         ensures members { IfSome result (λ set. IsSetIn text.now set) }
         ensures refused { IfNone result ((text.now ≢ codes "none") × ((numbers : List ℕ) → ¬ IsListOf text.now numbers)) }

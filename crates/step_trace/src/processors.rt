@@ -4,7 +4,10 @@ ghost use Rattle.std.specs.Prelude.{◌≡◌, ◌≢◌, ℕ, ◌≤◌, ◌↔
 
 use std::marker::Model;
 
-/// A set of processors from 1 to 64, kept as a bit mask.
+/// The greatest number that a member of a set may have: a set is kept in 64 bits.
+pub const MAX_MEMBER: u64 = 64;
+
+/// A set of processors from 1 to `MAX_MEMBER`, kept as a bit mask.
 #[derive(Clone, Copy, Debug)]
 pub struct ProcSet {
     mask: u64,
@@ -33,7 +36,7 @@ impl ProcSet {
     /// The set with one more processor.
     pub fn with(self, p: u64) -> Self
         requires low { 1 ≤ p }
-        requires high { p ≤ 64 }
+        requires high { p ≤ MAX_MEMBER }
         ensures added { IsTrue (has_proc result p) }
         ensures others { (q : ℕ) → q ≢ p → has_proc result q ≡ has_proc self q }
     {
@@ -46,14 +49,14 @@ impl ProcSet {
     pub fn contains(self, p: u64) -> bool
         ensures { result ≡ has_proc self p }
     {
-        0 < p && p <= 64 && (self.mask >> (p - 1)) & 1 == 1
+        0 < p && p <= MAX_MEMBER && (self.mask >> (p - 1)) & 1 == 1
     }
 
     /// Whether no member is above `n`.
     pub fn within(self, n: u64) -> bool
         ensures { IsTrue result ↔ IsWithin self n }
     {
-        for p in 1..65u64 {
+        for p in 1..MAX_MEMBER + 1 {
             if p > n && self.contains(p) {
                 return false;
             }

@@ -15,7 +15,7 @@ pub const MAX_STEPS: usize = 1_000_000;
 /// Why a step is refused, in the order in which the reasons are tested.
 #[derive(Clone, Copy, Debug, PartialEq, Eq)]
 pub enum PushError {
-    /// The trace has 1,000,000 steps.
+    /// The trace has `MAX_STEPS` steps.
     Full,
     /// The step is of no processor of the configuration.
     BadProc,
@@ -81,7 +81,7 @@ impl Trace {
     /// The number of its steps, and so the number of its last real-time step.
     pub fn len(&self) -> usize
         ensures value { result ≡ length self.now.steps }
-        ensures limit { result ≤ 1000000 }
+        ensures limit { result ≤ MAX_STEPS }
         ensures sound { IsWellFormed self.now.config self.now.steps }
     {
         self.steps.len()
@@ -97,7 +97,7 @@ impl Trace {
     /// The step of this number, if there is one.
     pub fn step(&self, no: u64) -> Option<&Step>
         ensures value { option_copied result ≡ step_at self.now.steps no }
-        ensures limit { length self.now.steps ≤ 1000000 }
+        ensures limit { length self.now.steps ≤ MAX_STEPS }
         ensures sound { IsWellFormed self.now.config self.now.steps }
     {
         step_of(&self.steps, no)
