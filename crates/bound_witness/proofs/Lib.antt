@@ -1,2 +1,2 @@
 pub mod LastWitnesses
-pub mod SilentIntervals
+pub mod GapLists
