@@ -1,5 +1,5 @@
 -- A list of the longest gaps that grows by the interval between two steps of a processor.
-use Rattle.std.proofs.Common.{ℕ, ◌≡◌, ◌+◌, ◌-◌, ◌<◌, ◌≤◌, ◌↔◌, inl, inr, List, [], ◌∷◌, ◌++◌, length, get_or, Bool, true, false, IsTrue, refl, sym, arith, subst}
+use Rattle.std.proofs.Common.{ℕ, ◌≡◌, ◌+◌, ◌<◌, ◌≤◌, ◌↔◌, inl, inr, List, [], ◌∷◌, ◌++◌, length, get_or, Bool, true, false, IsTrue, refl, sym, arith, subst}
 use Rattle.std.specs.Prelude.{Contains, nat_lt, if◌then◌else◌}
 use Rattle.std.proofs.lemmas.Bool.{cases_lt, cases_eq}
 use Rattle.std.proofs.lemmas.Bool.Decides.{nat_tests}
@@ -12,61 +12,13 @@ use Rattle.step_trace.specs.Processors.{has_proc, IsWithin}
 use Rattle.step_trace.specs.Traces.{IsStepOf}
 use Rattle.step_trace.specs.Witnesses.{IsGap}
 use Rattle.bound_witness.specs.LongestGaps.{IsLongestGap, Precedes, BeginsBy, ListsGapsBy, gap_between}
-use Rattle.step_trace.proofs.BoundLaws.{Gap-same}
+use Rattle.bound_witness.proofs.GapsBetween.{IsEdge, IsEdge-start, IsEdge-end, IsEdge-step, SilentBetween, between, between-IsLongestGap, same_between}
 
--- no gap of p has step k in it
-pub record IsEdge (set : ℕ) (steps : List Step) (p k : ℕ) : Type 0 where
-  pub apart : (o : Gap) → IsGap set steps o → o.proc ≡ p → o.from ≤ k → k ≤ o.to → ⊥
-
-pub IsEdge-start : (set : ℕ) (steps : List Step) (p : ℕ) → IsEdge set steps p 0
-IsEdge-start set steps p = record { apart = λ o i q a b. absurd (let s = i.start in omega arith) }
-
-pub IsEdge-end : (set : ℕ) (steps : List Step) (p k : ℕ) → length steps < k → IsEdge set steps p k
-IsEdge-end set steps p k l = record { apart = λ o i q a b. absurd (let s = i.inside in omega arith) }
-
-pub IsEdge-step : (set : ℕ) (steps : List Step) (p k : ℕ) → IsStepOf steps k p → IsEdge set steps p k
-IsEdge-step set steps p k s = record { apart = λ o i q a b. i.silent k a b (subst (λ n. IsStepOf steps k n) (sym q) s) }
-
--- the interval between two edges with no step between them, where it isn't empty
-pub record SilentBetween (set : ℕ) (steps : List Step) (p last next : ℕ) : Type 0 where
-  pub member : IsTrue (has_proc set p)
-  pub begin : IsEdge set steps p last
-  pub finish : IsEdge set steps p next
-  pub inside : next ≤ length steps + 1
-  pub silent : (z : ℕ) → last < z → z < next → IsStepOf steps z p → ⊥
-
-abbrev pub between : ℕ → ℕ → ℕ → Gap
-between p last next = record { proc = p; from = last + 1; to = next - 1 }
-
-between-IsGap : (set : ℕ) (steps : List Step) (p last next : ℕ) → last + 1 < next → SilentBetween set steps p last next → IsGap set steps (between p last next)
-between-IsGap set steps p last next l s = let i = s.inside in record {
-  member = s.member;
-  start = omega arith;
-  order = omega arith;
-  inside = omega arith;
-  silent = λ z a b. s.silent z (omega arith) (omega arith);
-}
-
-between-IsLongestGap : (set : ℕ) (steps : List Step) (p last next : ℕ) → last + 1 < next → SilentBetween set steps p last next → IsLongestGap set steps (between p last next)
-between-IsLongestGap set steps p last next l s = record {
-  gap = between-IsGap set steps p last next l s;
-  longest = λ o i q a b.
-      let from : last < o.from = elim (cases_lt last o.from) [ inl k ↦ k | inr k ↦ absurd (s.begin.apart o i q k (omega arith)) ] in
-      let to : o.to < next = elim (cases_lt o.to next) [ inl k ↦ k | inr k ↦ absurd (s.finish.apart o i q (omega arith) k) ] in
-      Gap-same o (between p last next) q (omega arith) (omega arith);
-}
-
--- a longest gap that begins between the two edges is the interval between them
-same_between : (set : ℕ) (steps : List Step) (p last next : ℕ) (w : Gap) → SilentBetween set steps p last next → IsLongestGap set steps w → w.proc ≡ p → last < w.from → w.from ≤ next → (last + 1 < next) × (between p last next ≡ w)
-same_between set steps p last next w s g q a b =
-    let order = g.gap.order in
-    let to : w.to < next = elim (cases_lt w.to next) [ inl k ↦ k | inr k ↦ absurd (s.finish.apart w g.gap q b k) ] in
-    let l : last + 1 < next = (elim (cases_lt (last + 1) next) [ inl k ↦ k | inr k ↦ absurd (omega arith) ]) in
-    (l, g.longest (between p last next) (between-IsGap set steps p last next l s) (sym q) (omega arith) (omega arith))
-
+-- what begins by step k begins by each later step
 later : (w : Gap) (p k j : ℕ) → k ≤ j → BeginsBy w p k → BeginsBy w p j
 later w p k j l b = elim b [ inl a ↦ inl a | inr a ↦ inr (a.0, let q : w.from ≤ k = a.1 in omega arith) ]
 
+-- a gap that begins by `last` precedes the interval after it
 precedes_between : (w : Gap) (p last next : ℕ) → BeginsBy w p last → Precedes w (between p last next)
 precedes_between w p last next b = elim b [ inl a ↦ inl a | inr a ↦ inr (a.0, let q : w.from ≤ last = a.1 in omega arith) ]
 
@@ -125,6 +77,7 @@ ListsGapsBy-next set steps p k ws all l = record {
 pub ListsGapsBy-pass : (set : ℕ) (steps : List Step) (p : ℕ) (ws : List Gap) → has_proc set p ≡ false → ListsGapsBy set steps p 0 ws → ListsGapsBy set steps (p + 1) 0 ws
 ListsGapsBy-pass set steps p ws n = ListsGapsBy-next set steps p 0 ws (λ w i q. absurd (let m = subst (λ k. has_proc set k ≡ true) q i.member in cc))
 
+-- after the last step the list has all gaps of p
 pub ListsGapsBy-end : (set : ℕ) (steps : List Step) (p k : ℕ) (ws : List Gap) → length steps < k → ListsGapsBy set steps p k ws → ListsGapsBy set steps (p + 1) 0 ws
 ListsGapsBy-end set steps p k ws l = ListsGapsBy-next set steps p k ws (λ w i q. let a = i.order in let b = i.inside in omega arith)
 
@@ -152,6 +105,7 @@ pub record IsScanned (set : ℕ) (steps : List Step) (p last next : ℕ) (ws : L
   pub silent : (z : ℕ) → z < next → last < z → IsStepOf steps z p → ⊥
   pub listed : ListsGapsBy set steps p last ws
 
+-- before the first step nothing was read
 pub IsScanned-begin : (set : ℕ) (steps : List Step) (p : ℕ) (ws : List Gap) → ListsGapsBy set steps p 0 ws → IsScanned set steps p 0 1 ws
 IsScanned-begin set steps p ws l = record { below = omega arith; edge = IsEdge-start set steps p; silent = λ z a b. absurd (omega arith); listed = l }
 
@@ -162,6 +116,7 @@ IsScanned-gap set steps p last next ws m e n l i = (
   between-IsLongestGap set steps p last next l (record { member = m; begin = i.edge; finish = e; inside = n; silent = λ z a b. i.silent z b a }),
 )
 
+-- at a step of p the list gets the gap before it
 pub IsScanned-step : (set : ℕ) (steps : List Step) (p last next : ℕ) (ws : List Gap) → IsTrue (has_proc set p) → next ≤ length steps → IsStepOf steps next p → IsScanned set steps p last next ws → IsScanned set steps p next (next + 1) (ws ++ gap_between p last next)
 IsScanned-step set steps p last next ws m n s i = record {
   below = omega arith;
@@ -170,6 +125,7 @@ IsScanned-step set steps p last next ws m n s i = record {
   listed = ListsGapsBy-between set steps p last next ws i.below (record { member = m; begin = i.edge; finish = IsEdge-step set steps p next s; inside = omega arith; silent = λ z a b. i.silent z b a }) i.listed;
 }
 
+-- at a step of another processor the list stays
 pub IsScanned-pass : (set : ℕ) (steps : List Step) (p last next : ℕ) (ws : List Gap) → (¬ IsStepOf steps next p) → IsScanned set steps p last next ws → IsScanned set steps p last (next + 1) ws
 IsScanned-pass set steps p last next ws n i = let b = i.below in record {
   below = omega arith;
@@ -178,6 +134,7 @@ IsScanned-pass set steps p last next ws n i = let b = i.below in record {
   listed = i.listed;
 }
 
+-- at the end the list gets the gap after the last step of p
 pub IsScanned-end : (set : ℕ) (steps : List Step) (p last end : ℕ) (ws : List Gap) → IsTrue (has_proc set p) → end ≡ length steps + 1 → IsScanned set steps p last end ws → ListsGapsBy set steps (p + 1) 0 (ws ++ gap_between p last end)
 IsScanned-end set steps p last end ws m n i =
     let edge = IsEdge-end set steps p end (omega arith) in

@@ -1,5 +1,7 @@
 -- Laws of bounds and of their witnesses.
-use Rattle.std.proofs.Common.{ℕ, ◌≡◌, ◌<◌, ◌≤◌, List, Option, Some, None, refl, ap, sym, ◌∙◌, arith}
+use Rattle.std.proofs.Common.{ℕ, ◌≡◌, ◌<◌, ◌≤◌, inl, inr, List, length, Option, Some, None, refl, ap, sym, ◌∙◌, arith}
+use Rattle.std.specs.Prelude.{IfSome}
+use Rattle.std.proofs.lemmas.Bool.{cases_lt}
 use Rattle.std.proofs.lemmas.Option.{same_Some}
 use Rattle.step_trace.specs.declared.steps.Step.{Step}
 use Rattle.step_trace.specs.declared.rows.Miss.{Miss}
@@ -28,6 +30,24 @@ StepsWithin-larger steps p x f e l w = let u = w.until in record { place = w.pla
 pub PhiHolds-larger : (set : ℕ) (steps : List Step) (g f e : ℕ) → f ≤ e → PhiHolds set steps g f → PhiHolds set steps g e
 PhiHolds-larger set steps g f e l h = record {
   each = λ x m k p q. StepsWithin-larger steps p x f e l (h.each x m (omega arith) p q);
+}
+
+-- past the length of the trace each communication bound holds
+pub DeltaHolds-past_end : (set : ℕ) (steps : List Step) (g d : ℕ) → length steps < d → DeltaHolds set steps g d
+DeltaHolds-past_end set steps g d l = record {
+  each = λ s m k. record { on_time = λ r b v w f. absurd (let q = step_at_within steps r _ w.step in omega arith) };
+}
+
+-- and each processor bound
+pub PhiHolds-past_end : (set : ℕ) (steps : List Step) (g f : ℕ) → 1 ≤ g → length steps < f → PhiHolds set steps g f
+PhiHolds-past_end set steps g f o l = record { each = λ x m k p q. absurd (omega arith) }
+
+-- a positive bound that holds, below which no positive one does, is the least
+pub IsLeastBound-none_below : (Holds : ℕ → Type 0) (d : ℕ) → 1 ≤ d → Holds d → ((e : ℕ) → e < d → 1 ≤ e → Holds e → ⊥) → IsLeastBound Holds d
+IsLeastBound-none_below Holds d p h n = record {
+  positive = p;
+  holds = h;
+  least = λ e q k. elim (cases_lt e d) [ inl l ↦ absurd (n e l q k) | inr l ↦ l ];
 }
 
 -- there is one least bound
@@ -65,9 +85,20 @@ IsNamedMiss-refutes set steps g d e m l n = let q = n.long in record { miss = n.
 pub IsNamedGap-refutes : (set : ℕ) (steps : List Step) (g f e : ℕ) (w : Gap) → e < f → IsNamedGap set steps g f w → GapRefutes set steps g e w
 IsNamedGap-refutes set steps g f e w l n = let q = n.long in record { gap = n.gap; from = n.from; long = omega arith }
 
+-- so the witness beside a bound refutes each smaller one, where there is a witness
+pub NamesMiss-refutes : (set : ℕ) (steps : List Step) (g d : ℕ) (o : Option Miss) → NamesMiss set steps g d o → IfSome o (λ m. (e : ℕ) → e < d → MissRefutes set steps g e m)
+NamesMiss-refutes set steps g d None n = tt
+NamesMiss-refutes set steps g d (Some m) n = λ e l. IsNamedMiss-refutes set steps g d e m l n.1
+
+pub NamesGap-refutes : (set : ℕ) (steps : List Step) (g f : ℕ) (o : Option Gap) → NamesGap set steps g f o → IfSome o (λ w. (e : ℕ) → e < f → GapRefutes set steps g e w)
+NamesGap-refutes set steps g f None n = tt
+NamesGap-refutes set steps g f (Some w) n = λ e l. IsNamedGap-refutes set steps g f e w l n.1
+
+-- misses with equal fields are one
 pub Miss-same : (m o : Miss) → m.sent ≡ o.sent → m.missed ≡ o.missed → m ≡ o
 Miss-same m o p q = ap (λ (s : ℕ). let x : Miss = record { sent = s; missed = m.missed } in x) p ∙ ap (λ (r : ℕ). let x : Miss = record { sent = o.sent; missed = r } in x) q
 
+-- and so are gaps
 pub Gap-same : (v w : Gap) → v.proc ≡ w.proc → v.from ≡ w.from → v.to ≡ w.to → v ≡ w
 Gap-same v w p q r =
     ap (λ (a : ℕ). let x : Gap = record { proc = a; from = v.from; to = v.to } in x) p

@@ -1,6 +1,6 @@
 use Rattle.std.proofs.Common.{◌+◌, arith}
-use Rattle.bound_witness.proofs.LastWitnesses.{NamesMiss-found}
-use Rattle.step_trace.proofs.BoundLaws.{NamesMiss-steady}
+use Rattle.bound_witness.proofs.MissSearches.{NamesMiss-found}
+use Rattle.step_trace.proofs.BoundLaws.{NamesMiss-steady, NamesMiss-refutes}
 use Rattle.bound_witness.proofs.communication_bounds.delta_at.Goals as goal
 
 pub returns-clause-miss : goal.returns-clause-miss
@@ -8,3 +8,6 @@ returns-clause-miss c = NamesMiss-found c.args.set c.args.trace.now.steps c.args
 
 pub returns-clause-steady : goal.returns-clause-steady
 returns-clause-steady c = λ o _ n. NamesMiss-steady c.args.set c.args.trace.now.steps c.args.g (c.args.g + 1) c.least_delta-delta.result c.last_miss_of_length.result o (omega arith) (returns-clause-miss c) n
+
+pub returns-clause-refutes : goal.returns-clause-refutes
+returns-clause-refutes c = NamesMiss-refutes c.args.set c.args.trace.now.steps c.args.g c.least_delta-delta.result c.last_miss_of_length.result (returns-clause-miss c)

@@ -2,7 +2,7 @@ use Rattle.std.proofs.Common.{◌+◌, Option, arith, subst, sym, refl}
 use Rattle.step_trace.specs.declared.rows.Miss.{Miss}
 use Rattle.step_trace.specs.Bounds.{IsMessage}
 use Rattle.step_trace.proofs.StepPositions.{step_at_within}
-use Rattle.bound_witness.proofs.LastWitnesses.{LastReceiveBelow, LastReceiveBelow-hit, LastReceiveBelow-pass, LastReceiveBelow-end}
+use Rattle.bound_witness.proofs.ReceiveSearches.{LastReceiveBelow, LastReceiveBelow-hit, LastReceiveBelow-pass, LastReceiveBelow-end}
 use Rattle.bound_witness.proofs.communication_bounds.last_miss.Goals as goal
 use Rattle.bound_witness.proofs.communication_bounds.last_miss.Goals.{then-is_receive_of, else-is_receive_of}
 

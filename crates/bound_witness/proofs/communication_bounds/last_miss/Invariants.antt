@@ -1,4 +1,4 @@
-use Rattle.bound_witness.proofs.LastWitnesses.{LastReceiveBelow}
+use Rattle.bound_witness.proofs.ReceiveSearches.{LastReceiveBelow}
 use Rattle.bound_witness.proofs.communication_bounds.last_miss.Given as goal
 
 abbrev pub invariant-loop-missed : goal.invariant-loop-missed

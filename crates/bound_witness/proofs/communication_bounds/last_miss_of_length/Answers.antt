@@ -1,6 +1,6 @@
 use Rattle.std.proofs.Common.{◌+◌, Option, arith, subst, sym, refl}
 use Rattle.step_trace.specs.declared.rows.Miss.{Miss}
-use Rattle.bound_witness.proofs.LastWitnesses.{LastMissBelow, LastMissBelow-hit, LastMissBelow-pass, LastMissBelow-end}
+use Rattle.bound_witness.proofs.MissSearches.{LastMissBelow, LastMissBelow-hit, LastMissBelow-pass, LastMissBelow-end}
 use Rattle.bound_witness.proofs.communication_bounds.last_miss_of_length.Goals as goal
 use Rattle.bound_witness.proofs.communication_bounds.last_miss_of_length.Goals.{then-is_miss, else-is_miss}
 

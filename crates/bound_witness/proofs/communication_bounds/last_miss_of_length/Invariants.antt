@@ -1,4 +1,4 @@
-use Rattle.bound_witness.proofs.LastWitnesses.{LastMissBelow}
+use Rattle.bound_witness.proofs.MissSearches.{LastMissBelow}
 use Rattle.bound_witness.proofs.communication_bounds.last_miss_of_length.Given as goal
 
 abbrev pub invariant-loop-sent : goal.invariant-loop-sent

@@ -1,6 +1,7 @@
 use Rattle.std.proofs.Common.{◌≡◌, ◌+◌, arith, refl, sym, subst}
 use Rattle.std.proofs.lemmas.Result.{on_ok_weaker, on_err_weaker, err_from_is_err_and}
-use Rattle.bound_witness.proofs.GapLists.{IsEdge-step, IsEdge-end, IsScanned, IsScanned-begin, IsScanned-gap, IsScanned-step, IsScanned-pass, IsScanned-end, ListsGapsBy-pass}
+use Rattle.bound_witness.proofs.GapsBetween.{IsEdge-step, IsEdge-end}
+use Rattle.bound_witness.proofs.GapLists.{IsScanned, IsScanned-begin, IsScanned-gap, IsScanned-step, IsScanned-pass, IsScanned-end, ListsGapsBy-pass}
 use Rattle.bound_witness.proofs.longest_gaps.push_gaps_of.Goals as goal
 use Rattle.bound_witness.proofs.longest_gaps.push_gaps_of.Goals.{then-is_step_of+in_ok-push_gap_between, else-is_step_of}
 

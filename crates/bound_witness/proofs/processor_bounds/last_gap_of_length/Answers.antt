@@ -1,6 +1,6 @@
 use Rattle.std.proofs.Common.{◌+◌, Option, arith, subst, sym}
 use Rattle.step_trace.specs.declared.rows.Gap.{Gap}
-use Rattle.bound_witness.proofs.LastWitnesses.{LastGapBelow, LastGapBelow-hit, LastGapBelow-pass, LastGapBelow-end}
+use Rattle.bound_witness.proofs.GapSearches.{LastGapBelow, LastGapBelow-hit, LastGapBelow-pass, LastGapBelow-end}
 use Rattle.bound_witness.proofs.processor_bounds.last_gap_of_length.Goals as goal
 use Rattle.bound_witness.proofs.processor_bounds.last_gap_of_length.Goals.{in-Some, in_default}
 

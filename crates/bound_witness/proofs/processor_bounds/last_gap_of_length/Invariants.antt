@@ -1,4 +1,4 @@
-use Rattle.bound_witness.proofs.LastWitnesses.{LastGapBelow}
+use Rattle.bound_witness.proofs.GapSearches.{LastGapBelow}
 use Rattle.bound_witness.proofs.processor_bounds.last_gap_of_length.Given as goal
 
 abbrev pub invariant-loop-from : goal.invariant-loop-from

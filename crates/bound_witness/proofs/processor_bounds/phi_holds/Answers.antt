@@ -1,6 +1,6 @@
 use Rattle.std.proofs.Common.{◌≤◌, below_more, arith, refl, sym}
 use Rattle.bound_witness.specs.WitnessSearches.{AllStepWithin}
-use Rattle.bound_witness.proofs.LastWitnesses.{all_step}
+use Rattle.bound_witness.proofs.GapSearches.{all_step}
 use Rattle.bound_witness.proofs.processor_bounds.phi_holds.Goals as goal
 
 pub loop-x-preserved : goal.loop-x-preserved
