@@ -16,13 +16,14 @@ use Rattle.step_trace.specs.Traces.{Recorded, IsWellFormed}
 use Rattle.step_trace.specs.PushRefusals.{refusal}
 use Rattle.step_trace.proofs.Refusals.{Fits-from_none}
 use Rattle.step_trace.proofs.Growth.{IsWellFormed-push}
-use Rattle.trace_text.specs.declared.records.Operation.{Operation}
-use Rattle.trace_text.specs.declared.records.Operation.TheVariants as op
+use Rattle.trace_text.specs.declared.step_records.Operation.{Operation}
+use Rattle.trace_text.specs.declared.step_records.Operation.TheVariants as op
 use Rattle.trace_text.specs.declared.reading.Stage.{Stage}
 use Rattle.trace_text.specs.declared.reading.Stage.TheVariants.{Opening, Sized, Recording, Ended}
 use Rattle.trace_text.specs.declared.refusals.TextError.TheVariants as why
 use Rattle.trace_text.specs.TraceTexts.{header_record, init_record, op_text, arg_text, step_record, step_records, end_record, trace_records, IsTrace}
-use Rattle.trace_text.specs.TextRefusals.{field_of, number_of, numbers_of, ids_of, operation_of, act_of, is_size, header_stage, init_stage, step_of, pushed, step_stage, end_stage, next_stage, stage_after, trace_at_end, trace_of_records}
+use Rattle.trace_text.specs.Records.{field_of, number_of, after_records}
+use Rattle.trace_text.specs.TextRefusals.{numbers_of, ids_of, operation_of, act_of, is_size, header_stage, init_stage, step_of, pushed, step_stage, end_stage, next_stage, trace_at_end, trace_of_records}
 use Rattle.trace_text.proofs.Numbers.{number_of-some, same-from_bytes_eq}
 use Rattle.trace_text.proofs.NumberLists.{numbers_of-some, ids_of-some}
 use Rattle.trace_text.proofs.StageInversions.{passed, both, neither, read_part, read_result, four_are, two_are, append_one, first_field}
@@ -203,7 +204,7 @@ from_record rows (Recording t) row s before h = go (bytes_eq (field_of row 0) (c
 from_record rows (Ended t) row s before h = cc h
 
 -- and so all records
-from_records : (rows : List (List (List ℕ))) (a : Stage) (more : List (List (List ℕ))) (s : Stage) → LeadsTo rows a → stage_after a more ≡ Ok s → LeadsTo (rows ++ more) s
+from_records : (rows : List (List (List ℕ))) (a : Stage) (more : List (List (List ℕ))) (s : Stage) → LeadsTo rows a → after_records next_stage a more ≡ Ok s → LeadsTo (rows ++ more) s
 from_records rows a [] s before h = let same : a ≡ s = cc h in rw (append-nil rows, ← same) before
 from_records rows a (row ∷ more) s before h =
     let next = read_result (next_stage a row) _ s h in
@@ -218,5 +219,5 @@ at_end rows (Ended u) t before h = let same : u ≡ t = cc h in rw (← same) be
 -- records that give a trace are its records, and it is a trace
 pub accepted-records : (rows : List (List (List ℕ))) (t : Recorded) → trace_of_records rows ≡ Ok t → IsTrace t × (rows ≡ trace_records t)
 accepted-records rows t h =
-    let s = read_result (stage_after Opening rows) _ t h in
+    let s = read_result (after_records next_stage Opening rows) _ t h in
     at_end rows s.0 t (from_records [] Opening rows s.0 refl s.1) s.2

@@ -1,9 +1,10 @@
 -- What the reads and the writes of the byte loops add up to.
-use Rattle.std.proofs.Common.{◌≡◌, ◌∙◌, ◌++◌, ◌&&◌, nat_eq, ◌≤◌, ◌<◌, ℕ, List, [], Option, Some, None, IfSome, Bool, true, if◌then◌else◌, take, drop, ◌+◌, take_all, length, length-drop, length-append, ◌-◌, arith, append_assoc, ap, sym, refl, rules}
+use Rattle.std.proofs.Common.{◌≡◌, ◌∙◌, ◌++◌, ◌&&◌, nat_eq, ◌≤◌, ◌<◌, ℕ, List, [], Option, Some, None, IfSome, Bool, true, if◌then◌else◌, take, drop, ◌+◌, take_all, length, length-drop, length-append, ◌-◌, arith, append_assoc, ap, subst, sym, refl, rules}
 use Rattle.std.proofs.Math.Seq.{take-add}
 use Rattle.std.proofs.lemmas.Bool.{ne_eqb}
 use Rattle.std.proofs.lemmas.List.{length-take-le, take_at}
 use Rattle.std.specs.Io.KnownBytes.{Appends, Consumes, IsAtEnd}
+use Rattle.trace_text.specs.ByteLoops.{bytes_read}
 use Rattle.trace_text.specs.Faults.{one_more, Rose}
 
 -- what was read, up to a read of nothing at the end, is all there was
@@ -40,6 +41,16 @@ too_many (Some xs) None c text buf n limit h k bound more = absurd h
 too_many (Some xs) (Some ys) None text buf n limit h k bound more = absurd k
 too_many (Some xs) (Some ys) (Some zs) text buf n limit h k bound more =
     omega (arith, simp length-append at (ap length h), simp length-append at (ap length k), length-take-le n buf bound)
+
+-- what was read is the text so far and the first n bytes of the buffer
+pub read_so_far : (a b c : Option (List ℕ)) (text buf : List ℕ) (n : ℕ) (P : ℕ → Type 0) → Consumes a b text → Consumes b c (take n buf) → n ≤ length buf → P (length text + n) → IfSome (bytes_read a c) P
+read_so_far None b c text buf n P h k bound holds = tt
+read_so_far (Some xs) None c text buf n P h k bound holds = absurd h
+read_so_far (Some xs) (Some ys) None text buf n P h k bound holds = absurd k
+read_so_far (Some xs) (Some ys) (Some zs) text buf n P h k bound holds =
+    let count : length xs - length zs ≡ length text + n =
+    omega (arith, simp length-append at (ap length h), simp length-append at (ap length k), length-take-le n buf bound) in
+    subst P (sym count) holds
 
 -- the text grows by what was read into the front of the buffer
 pub text_grows : (a b c : Option (List ℕ)) (text grown buf old whole : List ℕ) (n len : ℕ) (taken : Bool) → Consumes a b text → Consumes b c (take n buf) → length buf ≡ len → whole ≡ take len (buf ++ drop (length buf) old) → taken ≡ true → grown ≡ (if taken then text ++ take n whole else text) → Consumes a c grown

@@ -6,7 +6,7 @@ pub mod Prefixes
 pub mod ReachedRecords
 pub mod RecordLoops
 pub mod StageInversions
-pub mod Stages
+pub mod TakenRecords
 pub mod TableReasons
 pub mod TextLaws
 pub mod TraceRecords

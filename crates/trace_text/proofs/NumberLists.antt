@@ -1,6 +1,6 @@
 -- Lists of numbers: those of the fields of a record, and those with one space between them.
 use Rattle.std.proofs.Common.{ℕ, zero, suc, ◌≡◌, ◌+◌, ◌-◌, ◌<◌, ◌≤◌, ◌^◌, ◌==◌, ◌∙◌, List, [], ◌∷◌, ◌++◌, length, map, take, drop, get_or, Option, Some, None, Bool, true, false, refl, sym, ap, arith, decimal, drop-cons}
-use Rattle.std.specs.Prelude.{All}
+use Rattle.std.specs.Prelude.{All, IsTrue}
 use Rattle.std.specs.List.{slice_split, join_with_byte}
 use Rattle.std.specs.Option.{option_and_then, option_map}
 use Rattle.std.specs.Char.{digit_value}
@@ -13,7 +13,8 @@ use Rattle.std.proofs.lemmas.List.Elements.{All-nil, All-cons, All-head, All-tai
 use Rattle.std.proofs.lemmas.List.Splits.{slice_split_at, slice_split_none, join_with_byte-slice_split}
 use Rattle.std.proofs.lemmas.Grind.{common_steps}
 use Rattle.csv.specs.Records.{field_at}
-use Rattle.trace_text.specs.TextRefusals.{field_of, number_of, numbers_of, ids_of}
+use Rattle.trace_text.specs.Records.{field_of, number_of}
+use Rattle.trace_text.specs.TextRefusals.{numbers_of, begins_with_number, parts_of, ids_of}
 use Rattle.trace_text.proofs.Numbers.{own, number_of-decimal, number_of-some}
 
 -- one more field that is a number
@@ -86,7 +87,7 @@ slice_split-decimals n (m ∷ ns) h =
     ∙ ap (λ r. decimal n ∷ r) (slice_split-decimals m ns (All-tail (λ n. n < 2 ^ 64) n (m ∷ ns) h))
 
 -- the ids of a field that isn't empty
-pub ids_of-split : (arg : List ℕ) → 0 < length arg → ids_of arg ≡ numbers_of (slice_split (λ c. c == 32) arg)
+pub ids_of-split : (arg : List ℕ) → 0 < length arg → ids_of arg ≡ numbers_of (parts_of arg)
 ids_of-split [] h = absurd (omega (arith, h))
 ids_of-split (b ∷ bs) h = refl
 
@@ -123,3 +124,16 @@ values-turn fs i ns items f n low high same before this e =
 
 pub values-turn_none : (fs : List (List ℕ)) (i : ℕ) (f : List ℕ) → 1 ≤ i → i < length fs → f ≡ field_of fs i → number_of f ≡ None → numbers_of (drop 1 fs) ≡ None
 values-turn_none fs i f low high same none = numbers_of-turn_none (drop 1 fs) (i - 1) f [] (after_first-within fs i low high) (same ∙ field_of-after_first fs i low) none
+
+-- where a number was read, the first text is a number: it is this one, or it was read before
+pub begins_with_number-turn : (fs : List (List ℕ)) (k : ℕ) (f : List ℕ) (n : ℕ) (d : List ℕ) → (0 < k → IsTrue (begins_with_number fs)) → k < length fs
+    → f ≡ get_or fs k d → number_of f ≡ Some n → IsTrue (begins_with_number fs)
+begins_with_number-turn [] k f n d before l e h = absurd (omega (arith, l))
+begins_with_number-turn (g ∷ fs) zero f n d before l e h = let same : number_of g ≡ Some n = sym (ap number_of e) ∙ h in rw same refl
+begins_with_number-turn (g ∷ fs) (suc k) f n d before l e h = before (omega arith)
+
+-- the same, of the fields after the first
+pub begins_after_first-turn : (fs : List (List ℕ)) (i : ℕ) (f : List ℕ) (n : ℕ) → (1 < i → IsTrue (begins_with_number (drop 1 fs))) → 1 ≤ i → i < length fs
+    → f ≡ field_of fs i → number_of f ≡ Some n → IsTrue (begins_with_number (drop 1 fs))
+begins_after_first-turn fs i f n before low high e h =
+    begins_with_number-turn (drop 1 fs) (i - 1) f n [] (λ some. before (omega (arith, some))) (after_first-within fs i low high) (e ∙ field_of-after_first fs i low) h

@@ -8,7 +8,7 @@ use Rattle.std.proofs.lemmas.Fmt.{digits_value-decimal}
 use Rattle.std.proofs.lemmas.Slice.Eq.{bytes_eq-Decides}
 use Rattle.std.proofs.lemmas.Bool.{eqb-true}
 use Rattle.std.proofs.lemmas.Bool.Decides.{nat_tests}
-use Rattle.trace_text.specs.TextRefusals.{number_of}
+use Rattle.trace_text.specs.Records.{number_of}
 
 pub own : IsNumeralModel (AllDigits 10) (digits_value 10)
 own = record { to = λ ds h. h; from = λ ds h. h; same = λ ds h. refl }

@@ -15,6 +15,7 @@ bytes_of text = Some text.now
 -- the reader has read the records `done` of a text, and has the bytes `left` before it
 pub record HasRead (text : List ℕ) (reader : Reader (Bor (List ℕ))) (done : List (List (List ℕ))) : Type 0 where
   pub plain : reader.trim ≡ trim.None
+  pub flexible : reader.flexible ≡ true
   pub ready : Ready reader
   pub config : reader.config ≡ default_config
   pub left : List ℕ
@@ -31,10 +32,10 @@ bytes_left reader = length_of (source_of bytes_of reader)
 
 -- one more record
 pub HasRead-more : (text : List ℕ) (a b : Reader (Bor (List ℕ))) (done : List (List (List ℕ))) (row : List (List ℕ))
-    → HasRead text a done → ReadRecord bytes_of a b true row → b.first ≡ true → HasRead text b (done ++ (row ∷ []))
-HasRead-more text a b done row h r first =
+    → HasRead text a done → ReadRecord bytes_of a b true row → b.first ≡ true → b.flexible ≡ a.flexible → HasRead text b (done ++ (row ∷ []))
+HasRead-more text a b done row h r first same =
     let m = rows-more bytes_of a b row default_config st.StartRecord (strip_bom text) h.left done h.config h.source h.reached r in
-    record { plain = r.3 ∙ h.plain; ready = inl first; config = r.2 ∙ h.config; left = m.0; source = m.1; reached = m.2 }
+    record { plain = r.3 ∙ h.plain; flexible = same ∙ h.flexible; ready = inl first; config = r.2 ∙ h.config; left = m.0; source = m.1; reached = m.2 }
 
 -- a record takes a byte
 pub HasRead-less : (text : List ℕ) (a b : Reader (Bor (List ℕ))) (done : List (List (List ℕ))) (row : List (List ℕ))

@@ -3,7 +3,7 @@ use Rattle.std.proofs.Common.{ℕ, suc, ◌≡◌, List, [], ◌∷◌, ◌++◌
 use Rattle.std.specs.Option.{ok_or}
 use Rattle.csv.specs.Records.{field_at}
 use Rattle.trace_text.specs.declared.refusals.TextError.{TextError}
-use Rattle.trace_text.specs.TextRefusals.{field_of, ◌>>=◌}
+use Rattle.trace_text.specs.Records.{field_of, ◌>>=◌}
 
 -- a test that was passed
 pub passed : {A : Type 0} (b : Bool) (r : Result A TextError) (e : TextError) (x : A) → cond b r (Err e) ≡ Ok x → (b ≡ true) × (r ≡ Ok x)

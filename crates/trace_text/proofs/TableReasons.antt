@@ -12,7 +12,8 @@ use Rattle.trace_text.specs.declared.reading.Stage.{Stage}
 use Rattle.trace_text.specs.declared.reading.Stage.TheVariants.{Opening, Sized, Recording, Ended}
 use Rattle.trace_text.specs.declared.refusals.TextError.{TextError}
 use Rattle.trace_text.specs.declared.refusals.TextError.TheVariants.{TooLarge, Read, BadHeader, BadVersion, BadSize, BadInit, BadFields, WrongNumber, BadOp, BadNumber, BadStep, NoEnd, WrongEnd, AfterEnd, Memory}
-use Rattle.trace_text.specs.TextRefusals.{field_of, number_of, numbers_of, operation_of, act_of, is_size, size_stage, started, header_stage, init_stage, step_of, pushed, step_stage, end_stage, next_stage, stage_after, trace_at_end, trace_of_records, is_memory, ◌>>=◌}
+use Rattle.trace_text.specs.Records.{field_of, number_of, after_records, ◌>>=◌}
+use Rattle.trace_text.specs.TextRefusals.{numbers_of, operation_of, act_of, is_size, size_stage, started, header_stage, init_stage, step_of, pushed, step_stage, end_stage, next_stage, trace_at_end, trace_of_records, is_memory}
 
 -- whether records may give the reason
 abbrev pub is_of_records : TextError → Bool
@@ -90,7 +91,7 @@ of_next (Sized n t) row = of_init n t row
 of_next (Recording t) row = either (bytes_eq (field_of row 0) (codes "end")) (of_end t row) (of_step t row)
 of_next (Ended t) row = bad AfterEnd refl
 
-of_all : (s : Stage) (rows : List (List (List ℕ))) → IsOfRecords (stage_after s rows)
+of_all : (s : Stage) (rows : List (List (List ℕ))) → IsOfRecords (after_records next_stage s rows)
 of_all s [] = good s
 of_all s (row ∷ rows) = then (next_stage s row) _ (of_next s row) (λ next. of_all next rows)
 
@@ -101,7 +102,7 @@ at_end (Recording t) = bad NoEnd refl
 at_end (Ended t) = good t
 
 of_whole : (rows : List (List (List ℕ))) → IsOfRecords (trace_of_records rows)
-of_whole rows = then (stage_after Opening rows) _ (of_all Opening rows) at_end
+of_whole rows = then (after_records next_stage Opening rows) _ (of_all Opening rows) at_end
 
 -- a reason that records don't give isn't the answer
 pub never-answered : (rows : List (List (List ℕ))) (e f : TextError) → is_of_records f ≡ false → is_memory f ≡ false → MatchBool (is_memory e) ⊤ (trace_of_records rows ≡ Err e) → e ≢ f

@@ -3,6 +3,7 @@ use Rattle.std.proofs.Common.{ℕ, ◌≡◌, ◌≢◌, ◌≤◌, ◌∙◌, L
 use Rattle.std.specs.Prelude.{IfOk, IfErr, MatchResult, MatchBool, ⊤, nat_le}
 use Rattle.std.proofs.lemmas.Bool.Decides.{nat_tests}
 use Rattle.step_trace.specs.Traces.{Recorded}
+use Rattle.trace_text.specs.declared.byte_loops.TheConstants.{MAX_TEXT_BYTES}
 use Rattle.trace_text.specs.declared.refusals.TextError.{TextError}
 use Rattle.trace_text.specs.declared.refusals.TextError.TheVariants as why
 use Rattle.trace_text.specs.Records.{records_of_text}
@@ -56,11 +57,11 @@ first-refusal true P Q R r f h = r
 first-refusal false P Q R r f h = f h
 
 -- a refusal of a text that isn't too large is the first of the table
-pub gives-refused : (text : List ℕ) (r : Result Recorded TextError) → length text ≤ 67108864 → Gives r (trace_of_records (records_of_text text)) → IfErr r (λ e. IsFirstRefusal text e)
+pub gives-refused : (text : List ℕ) (r : Result Recorded TextError) → length text ≤ MAX_TEXT_BYTES → Gives r (trace_of_records (records_of_text text)) → IfErr r (λ e. IsFirstRefusal text e)
 gives-refused text (Ok t) l h = tt
 gives-refused text (Err e) l h =
-    let short : nat_le (length text) 67108864 ≡ true = grind (arith, nat_tests) in
-    first-refusal (is_memory e) (trace_of_records (records_of_text text) ≡ Err e) (trace_of_text text ≡ Err e) (length text ≤ 67108864) l (λ k. rw short k) h
+    let short : nat_le (length text) MAX_TEXT_BYTES ≡ true = grind (arith, nat_tests) in
+    first-refusal (is_memory e) (trace_of_records (records_of_text text) ≡ Err e) (trace_of_text text ≡ Err e) (length text ≤ MAX_TEXT_BYTES) l (λ k. rw short k) h
 
 -- a reason that records don't give isn't answered
 pub gives-never : (text : List ℕ) (r : Result Recorded TextError) (f : TextError) → is_of_records f ≡ false → is_memory f ≡ false → Gives r (trace_of_records (records_of_text text)) → IfErr r (λ e. e ≢ f)

@@ -19,10 +19,11 @@ use Rattle.step_trace.specs.Traces.{Recorded, IsWellFormed}
 use Rattle.step_trace.proofs.StepPositions.{step_at_within}
 use Rattle.step_trace.proofs.Refusals.{Fits-from_well_formed, none_from_Fits}
 use Rattle.trace_text.specs.declared.reading.Stage.TheVariants.{Opening, Sized, Recording, Ended}
-use Rattle.trace_text.specs.declared.records.Operation.{Operation}
-use Rattle.trace_text.specs.declared.records.Operation.TheVariants as op
+use Rattle.trace_text.specs.declared.step_records.Operation.{Operation}
+use Rattle.trace_text.specs.declared.step_records.Operation.TheVariants as op
 use Rattle.trace_text.specs.TraceTexts.{header_record, init_record, op_text, arg_text, step_record, step_records, end_record, trace_records, IsTrace}
-use Rattle.trace_text.specs.TextRefusals.{operation_of, act_of, step_of, next_stage, stage_after, trace_of_records, ◌>>=◌}
+use Rattle.trace_text.specs.Records.{after_records, ◌>>=◌}
+use Rattle.trace_text.specs.TextRefusals.{operation_of, act_of, step_of, next_stage, trace_of_records}
 use Rattle.trace_text.proofs.Numbers.{own, number_of-decimal, bytes_eq-same, bytes_eq-other}
 use Rattle.trace_text.proofs.NumberLists.{numbers_of-decimals, ids_of-joined}
 use Rattle.trace_text.proofs.Prefixes.{IsWellFormed-front}
@@ -100,14 +101,14 @@ reads-end t = rw (bytes_eq-same (decimal (length t.steps)) (decimal (length t.st
 
 -- the steps are read
 reads-steps : (c : Setup) (done xs : List Step) (rest : List (List (List ℕ))) → IsSetup c → IsWellFormed c (done ++ xs)
-    → stage_after (Recording (record { config = c; steps = done })) (step_records (length done + 1) xs ++ rest) ≡ stage_after (Recording (record { config = c; steps = done ++ xs })) rest
+    → after_records next_stage (Recording (record { config = c; steps = done })) (step_records (length done + 1) xs ++ rest) ≡ after_records next_stage (Recording (record { config = c; steps = done ++ xs })) rest
 reads-steps c done [] rest s w = rw (append-nil done) refl
 reads-steps c done (x ∷ xs) rest s w =
     let whole : IsWellFormed c ((done ++ x ∷ []) ++ xs) = rw (append_assoc done (x ∷ []) xs) w in
     let one = reads-step (record { config = c; steps = done }) x s (IsWellFormed-front c (done ++ x ∷ []) xs whole) in
     let at : length (done ++ x ∷ []) + 1 ≡ length done + 1 + 1 = grind (arith, common_steps) in
     let more = rw (at, append_assoc done (x ∷ []) xs) at (reads-steps c (done ++ x ∷ []) xs rest s whole) in
-    ap (λ r. r >>= λ next. stage_after next (step_records (length done + 1 + 1) xs ++ rest)) one ∙ more
+    ap (λ r. r >>= λ next. after_records next_stage next (step_records (length done + 1 + 1) xs ++ rest)) one ∙ more
 
 -- the records of a trace give it
 pub reads-trace : (t : Recorded) → IsTrace t → trace_of_records (trace_records t) ≡ Ok t

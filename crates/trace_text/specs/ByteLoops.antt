@@ -1,6 +1,7 @@
 -- What `read_all` and `write_text` answer.
-use Rattle.std.specs.Prelude.{◌≡◌, ◌⊎◌, ◌≤◌, ◌<◌, ℕ, List, length, take, ⊤, Option, IfSome, Result, Err}
+use Rattle.std.specs.Prelude.{◌≡◌, ◌⊎◌, ◌≤◌, ◌<◌, ◌-◌, ℕ, List, length, take, ⊤, Option, Some, None, IfSome, Result, Err}
 use Rattle.std.specs.Io.KnownBytes.{Appends}
+use Rattle.trace_text.specs.declared.byte_loops.TheConstants.{MAX_TEXT_BYTES}
 use Rattle.trace_text.specs.declared.counting.Counting.{Counting}
 use Rattle.trace_text.specs.declared.refusals.TextError.{TextError}
 use Rattle.trace_text.specs.declared.refusals.TextError.TheVariants as why
@@ -8,13 +9,21 @@ use Rattle.trace_text.specs.declared.refusals.WriteError.{WriteError}
 use Rattle.trace_text.specs.declared.refusals.WriteError.TheVariants as fault
 use Rattle.trace_text.specs.Faults.{faults_of, idle_writes_of, one_more, Rose}
 
--- the greatest number of bytes of a text
-abbrev pub max_text_bytes : ℕ
-max_text_bytes = 67108864
+-- the refusals of `read_all`
+abbrev pub IsReadRefusal : TextError → Type 0
+IsReadRefusal why.TooLarge = ⊤
+IsReadRefusal why.Read = ⊤
+IsReadRefusal why.Memory = ⊤
+IsReadRefusal _ = ⊥
+
+-- how many bytes were read, where those that a reader has left are known before and after
+abbrev pub bytes_read : Option (List ℕ) → Option (List ℕ) → Option ℕ
+bytes_read (Some before) (Some after) = Some (length before - length after)
+bytes_read _ _ = None
 
 -- `read_all` refuses for a cause: too many bytes, a fault that was counted, or want of memory
 abbrev pub ReadRefusedFor : TextError → ℕ → ℕ → Option (List ℕ) → Type 0
-ReadRefusedFor why.TooLarge old new known = IfSome known (λ xs. max_text_bytes < length xs)
+ReadRefusedFor why.TooLarge old new known = IfSome known (λ xs. MAX_TEXT_BYTES < length xs)
 ReadRefusedFor why.Read old new known = Rose old new
 ReadRefusedFor why.Memory old new known = ⊤
 ReadRefusedFor _ old new known = ⊥

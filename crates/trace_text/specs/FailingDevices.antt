@@ -1,5 +1,5 @@
 -- What the failing devices have left and what they took.
-use Rattle.std.specs.Prelude.{ℕ, ◌-◌, ◌^◌, List, [], ◌∷◌, length, min, max, Option, Some, None, vec_len}
+use Rattle.std.specs.Prelude.{ℕ, ◌-◌, ◌^◌, ◌&&◌, nat_eq, nat_lt, if◌then◌else◌, List, [], ◌∷◌, length, take, replicate, min, max, Option, Some, None, vec_len}
 use Rattle.std.specs.declared.io.ErrorKind.{ErrorKind}
 use Rattle.trace_text.specs.declared.failing_devices.AfterBytes.{AfterBytes}
 use Rattle.trace_text.specs.declared.failing_devices.AfterBytes.TheVariants.{End, Fail, Repeat}
@@ -30,10 +30,9 @@ after_of r = r.after
 abbrev pub read_piece_of : FailingReader → ℕ
 read_piece_of r = r.piece
 
--- the byte that a reader gives again and again, if it does
-abbrev pub repeated_by : AfterBytes → Option ℕ
-repeated_by (Repeat byte) = Some byte
-repeated_by _ = None
+-- how many reads were made, up to the greatest u64
+abbrev pub reads_made : FailingReader → ℕ
+reads_made r = r.reads
 
 -- how many bytes a reader has for a read of so many
 abbrev pub ready_for : List ℕ → AfterBytes → ℕ → ℕ
@@ -46,10 +45,15 @@ ready_for (b ∷ bs) after room = length (b ∷ bs)
 abbrev pub read_count : FailingReader → ℕ → ℕ
 read_count r room = min (min (max r.piece 1) room) (ready_for r.bytes.now r.after room)
 
--- the kind of the faults of reads
-abbrev pub read_fault : AfterBytes → Option ErrorKind
-read_fault (Fail kind) = Some kind
-read_fault _ = None
+-- the next so many bytes of a reader: of those that it was given, or the one that it repeats after them
+abbrev pub next_bytes : List ℕ → AfterBytes → ℕ → List ℕ
+next_bytes [] (Repeat byte) n = replicate n byte
+next_bytes held after n = take n held
+
+-- the kind of the fault that a read answers, if it fails
+abbrev pub read_fault : List ℕ → AfterBytes → Option ErrorKind
+read_fault [] (Fail kind) = Some kind
+read_fault held after = None
 
 -- the bytes that a writer took
 abbrev pub taken_by : FailingWriter → List ℕ
@@ -63,6 +67,14 @@ piece_of w = w.piece
 abbrev pub failure_of : FailingWriter → WriteFailure
 failure_of w = w.failure
 
+-- how many writes were made, up to the greatest u64
+abbrev pub writes_made : FailingWriter → ℕ
+writes_made w = w.writes
+
+-- how many flushes were made, up to the greatest u64
+abbrev pub flushes_made : FailingWriter → ℕ
+flushes_made w = w.flushes
+
 -- how many bytes a writer takes before its writes fail
 abbrev pub write_limit : WriteFailure → ℕ
 write_limit (failure.FailAfter limit _) = limit
@@ -73,10 +85,18 @@ write_limit _ = 2 ^ 64 - 1
 abbrev pub room_in : FailingWriter → ℕ
 room_in w = write_limit w.failure - vec_len w.taken
 
--- the kind of the faults of writes, but for those of want of memory
-abbrev pub write_fault : WriteFailure → Option ErrorKind
-write_fault (failure.FailAfter _ kind) = Some kind
-write_fault _ = None
+-- how many bytes a write takes of so many
+abbrev pub write_count : FailingWriter → ℕ → ℕ
+write_count w offered = min (min (max w.piece 1) (room_in w)) offered
+
+-- the kind of the faults of writes without room, but for those of want of memory
+abbrev pub fault_without_room : WriteFailure → Option ErrorKind
+fault_without_room (failure.FailAfter _ kind) = Some kind
+fault_without_room _ = None
+
+-- the kind of the fault that a write of so many bytes answers, if it should fail
+abbrev pub write_fault : FailingWriter → ℕ → Option ErrorKind
+write_fault w offered = if nat_eq (room_in w) 0 && nat_lt 0 offered then fault_without_room w.failure else None
 
 -- the kind of the faults of flushes
 abbrev pub flush_fault : WriteFailure → Option ErrorKind

@@ -1,9 +1,9 @@
 //! Reading to the end within a limit, and writing a whole text.
 
-ghost use Rattle.std.specs.Prelude.{◌≡◌, ◌+◌, ◌≤◌, IfOk, OnOk, IfErr, OnErr, IsOk, IfSome, is_ok, vec_len, length};
+ghost use Rattle.std.specs.Prelude.{◌≡◌, ◌+◌, ◌≤◌, IfOk, OnOk, IfErr, OnErr, IsOk, IsErrOf, IfSome, is_ok, vec_len};
 ghost use Rattle.std.specs.Io.KnownBytes.{Appends, IsAtEnd};
 ghost use Rattle.trace_text.specs.Faults.{inner_of, faults_of, idle_writes_of, reads_of, is_flushed, Rose};
-ghost use Rattle.trace_text.specs.ByteLoops.{max_text_bytes, ReadRefusedFor, faults_after_reading, WroteFront, WasFaultless, MetOneFault};
+ghost use Rattle.trace_text.specs.ByteLoops.{IsReadRefusal, ReadRefusedFor, bytes_read, faults_after_reading, WroteFront, WasFaultless, MetOneFault};
 
 use crate::counting::Counting;
 use crate::refusals::{TextError, WriteError};
@@ -26,9 +26,14 @@ const PIECE_BYTES: usize = 65_536;
 pub fn read_all<R: Read>(alloc: Global, reader: &mut Counting<R>) -> Result<Vec<u8>, TextError>
     ensures text { IfOk result (λ text. IfSome (R.remaining (inner_of reader.old)) (λ xs. text.items ≡ xs)) }
     ensures end { OnOk result (IsAtEnd (R.remaining (inner_of reader.new))) }
-    ensures limit { IfOk result (λ text. vec_len text ≤ max_text_bytes) }
+    ensures limit { IfOk result (λ text. vec_len text ≤ MAX_TEXT_BYTES) }
+    ensures refusals { IfErr result IsReadRefusal }
     ensures cause { IfErr result (λ e. ReadRefusedFor e (faults_of reader.old) (faults_of reader.new) (R.remaining (inner_of reader.old))) }
-    ensures reads { reads_of reader.new ≤ reads_of reader.old + 67108866 }
+    ensures within { IsErrOf result TextError.Memory
+        → IfSome (bytes_read (R.remaining (inner_of reader.old)) (R.remaining (inner_of reader.new))) (λ n. n ≤ MAX_TEXT_BYTES) }
+    ensures more { IsErrOf result TextError.Memory
+        → IfSome (bytes_read (R.remaining (inner_of reader.old)) (R.remaining (inner_of reader.new))) (λ n. reads_of reader.new ≤ reads_of reader.old + n) }
+    ensures reads { reads_of reader.new ≤ reads_of reader.old + (MAX_TEXT_BYTES + 2) }
     ensures faults { faults_of reader.new ≡ faults_after_reading result (faults_of reader.old) }
 {
     let Ok(mut piece) = vec![in alloc; 0u8; PIECE_BYTES] else {

@@ -119,7 +119,7 @@ impl<W: Write> Write for Counting<W> {
 }
 
 /// Adds one, up to `u64::MAX`.
-fn raise(count: &mut u64)
+pub(crate) fn raise(count: &mut u64)
     ensures { count.new ≡ one_more count.old }
 {
     *count = count.saturating_add(1);

@@ -1,12 +1,15 @@
-//! A reader and a writer that fail where they are told to, for tests.
+//! A reader and a writer that fail where they are told to, and count the calls that reach them, for
+//! tests.
 
-ghost use Rattle.std.specs.Prelude.{◌≡◌, ◌⊎◌, [], length, take, drop, replicate, min, max, Some, None, IfOk, IfErr, IfSome, MatchResult};
+ghost use Rattle.std.specs.Prelude.{◌≡◌, ◌<◌, [], length, take, drop, None, Some, unwrap_or, IfOk, IfErr, OnOk, OnErr, MatchResult};
 ghost use Rattle.std.specs.Io.{ReadsAtMost, WritesAtMost};
 ghost use Rattle.std.specs.Io.KnownBytes.{ReadConsumes, WriteAppends, Keeps};
 ghost use Rattle.std.specs.IoError.{error_kind};
 ghost use Rattle.std.specs.declared.io.ErrorKind.TheVariants.{OutOfMemory};
-ghost use Rattle.trace_text.specs.FailingDevices.{known_bytes, held_by, left_in, read_piece_of, read_count, repeated_by, after_of, read_fault, taken_by, piece_of, failure_of, room_in, write_fault, flush_fault};
+ghost use Rattle.trace_text.specs.Faults.{one_more};
+ghost use Rattle.trace_text.specs.FailingDevices.{known_bytes, held_by, left_in, read_piece_of, read_count, next_bytes, after_of, read_fault, reads_made, taken_by, piece_of, failure_of, room_in, write_count, write_fault, flush_fault, writes_made, flushes_made};
 
+use crate::counting::raise;
 use std::alloc::Global;
 use std::io;
 use std::io::{ErrorKind, Read, Write};
@@ -28,6 +31,7 @@ pub struct FailingReader<'a> {
     bytes: &'a [u8],
     piece: usize,
     after: AfterBytes,
+    reads: u64,
 }
 
 impl<'a> FailingReader<'a> {
@@ -37,12 +41,21 @@ impl<'a> FailingReader<'a> {
         ensures held { held_by result ≡ bytes.entry.now }
         ensures piece { read_piece_of result ≡ piece }
         ensures after { after_of result ≡ after }
+        ensures reads { reads_made result ≡ 0 }
     {
         FailingReader {
             bytes,
             piece,
             after,
+            reads: 0,
         }
+    }
+
+    /// How many reads were made, up to `u64::MAX`.
+    pub fn reads(&self) -> u64
+        ensures { result ≡ reads_made self.now }
+    {
+        self.reads
     }
 }
 
@@ -54,11 +67,15 @@ impl<'a> Read for FailingReader<'a> {
         ensures bytes { ReadConsumes (left_in self.old) (left_in self.new) result buf.new }
         ensures count { IfOk result (λ n. n ≡ read_count self.old (length buf.new)) }
         ensures held { IfOk result (λ n. held_by self.new ≡ drop n (held_by self.old)) }
-        ensures repeated { IfOk result (λ n. held_by self.old ≡ [] → IfSome (repeated_by (after_of self.old)) (λ byte. take n buf.new ≡ replicate n byte)) }
-        ensures fault { IfErr result (λ e. (read_fault (after_of self.old) ≡ Some (error_kind e)) × (left_in self.old ≡ Some [])) }
+        ensures given { IfOk result (λ n. take n buf.new ≡ next_bytes (held_by self.old) (after_of self.old) n) }
+        ensures fault { MatchResult result
+            (λ _. read_fault (held_by self.old) (after_of self.old) ≡ None)
+            (λ e. read_fault (held_by self.old) (after_of self.old) ≡ Some (error_kind e)) }
         ensures piece { read_piece_of self.new ≡ read_piece_of self.old }
         ensures after { after_of self.new ≡ after_of self.old }
+        ensures reads { reads_made self.new ≡ one_more (reads_made self.old) }
     {
+        raise(&mut self.reads);
         let count = self.piece.max(1).min(buf.len());
         let room = &mut buf[..count];
         if !self.bytes.is_empty() {
@@ -94,6 +111,8 @@ pub struct FailingWriter {
     taken: Vec<u8>,
     piece: usize,
     failure: WriteFailure,
+    writes: u64,
+    flushes: u64,
 }
 
 impl FailingWriter {
@@ -103,11 +122,15 @@ impl FailingWriter {
         ensures taken { taken_by result ≡ [] }
         ensures piece { piece_of result ≡ piece }
         ensures failure { failure_of result ≡ failure }
+        ensures writes { writes_made result ≡ 0 }
+        ensures flushes { flushes_made result ≡ 0 }
     {
         FailingWriter {
             taken: Vec::new(alloc),
             piece,
             failure,
+            writes: 0,
+            flushes: 0,
         }
     }
 
@@ -116,6 +139,20 @@ impl FailingWriter {
         ensures { result.now ≡ taken_by self.now }
     {
         &self.taken
+    }
+
+    /// How many writes were made, up to `u64::MAX`.
+    pub fn writes(&self) -> u64
+        ensures { result ≡ writes_made self.now }
+    {
+        self.writes
+    }
+
+    /// How many flushes were made, up to `u64::MAX`.
+    pub fn flushes(&self) -> u64
+        ensures { result ≡ flushes_made self.now }
+    {
+        self.flushes
     }
 
     /// How many more bytes it takes before its writes fail.
@@ -137,12 +174,16 @@ impl Write for FailingWriter {
     fn write(&mut self, buf: &[u8]) -> io::Result<usize>
         ensures bound { WritesAtMost result buf.now }
         ensures bytes { WriteAppends (Some (taken_by self.old)) (Some (taken_by self.new)) result buf.now }
-        ensures count { IfOk result (λ n. n ≡ min (min (max (piece_of self.old) 1) (room_in self.old)) (length buf.now)) }
-        ensures fault { IfErr result (λ e. ((write_fault (failure_of self.old) ≡ Some (error_kind e)) × (room_in self.old ≡ 0))
-            ⊎ (error_kind e ≡ OutOfMemory)) }
+        ensures count { IfOk result (λ n. n ≡ write_count self.old (length buf.now)) }
+        ensures fails { OnOk result (write_fault self.old (length buf.now) ≡ None) }
+        ensures fault { IfErr result (λ e. error_kind e ≡ unwrap_or (write_fault self.old (length buf.now)) OutOfMemory) }
+        ensures more { OnErr result (write_fault self.old (length buf.now) ≡ None → 0 < write_count self.old (length buf.now)) }
         ensures piece { piece_of self.new ≡ piece_of self.old }
         ensures failure { failure_of self.new ≡ failure_of self.old }
+        ensures writes { writes_made self.new ≡ one_more (writes_made self.old) }
+        ensures flushes { flushes_made self.new ≡ flushes_made self.old }
     {
+        raise(&mut self.writes);
         let room = self.room();
         if let WriteFailure::FailAfter(_, kind) = self.failure
             && room == 0
@@ -160,7 +201,10 @@ impl Write for FailingWriter {
         ensures fault { MatchResult result (λ _. flush_fault (failure_of self.old) ≡ None) (λ e. flush_fault (failure_of self.old) ≡ Some (error_kind e)) }
         ensures piece { piece_of self.new ≡ piece_of self.old }
         ensures failure { failure_of self.new ≡ failure_of self.old }
+        ensures writes { writes_made self.new ≡ writes_made self.old }
+        ensures flushes { flushes_made self.new ≡ one_more (flushes_made self.old) }
     {
+        raise(&mut self.flushes);
         match self.failure {
             WriteFailure::FailFlush(kind) => Err(io::Error::from(kind)),
             _ => Ok(()),

@@ -10,8 +10,9 @@ pub mod failing_devices;
 mod reading;
 #[cfg(test)]
 mod reading_tests;
-mod records;
+pub mod records;
 mod refusals;
+mod step_records;
 
 pub use byte_loops::{MAX_TEXT_BYTES, read_all, write_text};
 pub use counting::Counting;

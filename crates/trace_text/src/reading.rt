@@ -1,19 +1,18 @@
 //! Reading of trace text, record by record. The first record that is refused decides.
 
-ghost use Rattle.std.specs.Prelude.{◌≡◌, ◌≢◌, ◌<◌, ◌≤◌, ◌↔◌, IsErrOf, IfOk, OnOk, IfErr, MatchResult, length, option_map, Ok, Err};
+ghost use Rattle.std.specs.Prelude.{◌≡◌, ◌≢◌, ◌<◌, ◌≤◌, ◌↔◌, ◌+◌, ◌&&◌, ◌||◌, drop, IsErrOf, IfOk, OnOk, IfErr, MatchResult, length, option_map, is_ok, Ok, Err};
 ghost use Rattle.csv.specs.Records.{fields_of};
 ghost use Rattle.step_trace.specs.Traces.{Recorded};
-ghost use Rattle.trace_text.specs.Records.{records_of_text};
+ghost use Rattle.trace_text.specs.Records.{WantsOnlyWhere, records_of_text};
 ghost use Rattle.trace_text.specs.TraceTexts.{StandsFor, IsTrace};
-ghost use Rattle.trace_text.specs.TextRefusals.{IsFirstRefusal, Gives, LeadsTo, trace_of_records, stage_after, next_stage, header_stage, init_stage, step_stage, step_of, act_of, ids_of, end_stage};
+ghost use Rattle.trace_text.specs.TextRefusals.{IsFirstRefusal, Gives, LeadsTo, is_memory, trace_of_records, trace_at_end, next_stage, header_stage, init_stage, step_stage, step_of, act_of, ids_of, end_stage, record_keeps, init_keeps, step_record_keeps, step_keeps, act_keeps, parts_of, begins_with_number};
 ghost use Rattle.std.specs.Option.{ok_or};
 
 use crate::byte_loops::MAX_TEXT_BYTES;
-use crate::records::{
-    Operation, field, field_is, field_is_number, ids, number, operation_of, values,
-};
+use crate::records::{TakeRecords, field, field_is, field_is_number, number, read_records};
 use crate::refusals::TextError;
-use csv::{ByteRecord, ReaderBuilder};
+use crate::step_records::{Operation, ids, operation_of, values};
+use csv::ByteRecord;
 use std::alloc::Global;
 use std::mem;
 use step_trace::{Act, Config, MAX_PROCESSORS, MIN_PROCESSORS, MessageIds, PushError, Step, Trace};
@@ -37,10 +36,10 @@ enum Stage {
 /// decides, and within a record the first refusal.
 pub fn read_trace(alloc: Global, text: &[u8]) -> Result<Trace, TextError>
     ensures stands { IfOk result (λ t. StandsFor text.now t) }
-    ensures size { OnOk result (length text.now ≤ 67108864) }
+    ensures size { OnOk result (length text.now ≤ MAX_TEXT_BYTES) }
     ensures sound { IfOk result (λ t. IsTrace t) }
-    ensures complete { (t : Recorded) → IsTrace t → StandsFor text.now t → length text.now ≤ 67108864 → MatchResult result (λ u. u ≡ t) (λ e. e ≡ TextError.Memory) }
-    ensures too_large { IsErrOf result TextError.TooLarge ↔ (67108864 < length text.now) }
+    ensures complete { (t : Recorded) → IsTrace t → StandsFor text.now t → length text.now ≤ MAX_TEXT_BYTES → MatchResult result (λ u. u ≡ t) (λ e. e ≡ TextError.Memory) }
+    ensures too_large { IsErrOf result TextError.TooLarge ↔ (MAX_TEXT_BYTES < length text.now) }
     ensures no_fault { IfErr result (λ e. e ≢ TextError.Read) }
     ensures refused { IfErr result (λ e. IsFirstRefusal text.now e) }
     ensures unique { (t u : Recorded) → IsTrace t → IsTrace u → StandsFor text.now t → StandsFor text.now u → t ≡ u }
@@ -55,7 +54,16 @@ pub fn read_trace(alloc: Global, text: &[u8]) -> Result<Trace, TextError>
 fn read_whole(alloc: Global, text: &[u8]) -> Result<Trace, TextError>
     ensures { Gives result (trace_of_records (records_of_text text.now)) }
 {
-    match read_records(alloc, text)? {
+    let mut stage = Stage::Opening;
+    read_records(alloc, text, &mut stage)?;
+    trace_at_end(stage)
+}
+
+// What the end of the text says.
+fn trace_at_end(stage: Stage) -> Result<Trace, TextError>
+    ensures { result ≡ trace_at_end stage }
+{
+    match stage {
         Stage::Opening => Err(TextError::BadHeader),
         Stage::Sized { .. } => Err(TextError::BadInit),
         Stage::Recording(_) => Err(TextError::NoEnd),
@@ -63,44 +71,34 @@ fn read_whole(alloc: Global, text: &[u8]) -> Result<Trace, TextError>
     }
 }
 
-// How far all records lead.
-fn read_records(alloc: Global, text: &[u8]) -> Result<Stage, TextError>
-    ensures { Gives result (stage_after Stage.Opening (records_of_text text.now)) }
-{
-    let mut reader = ReaderBuilder::new()
-        .has_headers(false)
-        .flexible(true)
-        .from_reader(alloc, text);
-    let mut row = ByteRecord::new(alloc);
-    let mut stage = Stage::Opening;
-    loop {
-        let Ok(found) = reader.read_byte_record(&mut row) else {
-            return Err(TextError::Memory);
-        };
-        if !found {
-            return Ok(stage);
-        }
-        read_record(alloc, &mut stage, &row)?;
-    }
-}
+impl TakeRecords for Stage {
+    type Error = TextError;
 
-// Takes in one more record. Where it is refused, the stage is of no use.
-fn read_record(alloc: Global, stage: &mut Stage, row: &ByteRecord) -> Result<(), TextError>
-    ensures { LeadsTo result stage.new (next_stage stage.old (fields_of row.now)) }
-{
-    match stage {
-        Stage::Opening => *stage = read_header(row)?,
-        Stage::Sized { n, t } => *stage = read_init(alloc, *n, *t, row)?,
-        Stage::Recording(trace) => {
-            if !field_is(row, 0, b"end") {
-                return read_step(alloc, trace, row);
+    ghost next = { next_stage };
+
+    ghost is_memory = { is_memory };
+
+    ghost keeps = { record_keeps };
+
+    fn take(&mut self, alloc: Global, fields: &ByteRecord) -> Result<(), TextError> {
+        match self {
+            Stage::Opening => *self = read_header(fields)?,
+            Stage::Sized { n, t } => *self = read_init(alloc, *n, *t, fields)?,
+            Stage::Recording(trace) => {
+                if !field_is(fields, 0, b"end") {
+                    return read_step(alloc, trace, fields);
+                }
+                check_end(trace, fields)?;
+                end(self);
             }
-            check_end(trace, row)?;
-            end(stage);
+            Stage::Ended(_) => return Err(TextError::AfterEnd),
         }
-        Stage::Ended(_) => return Err(TextError::AfterEnd),
+        Ok(())
     }
-    Ok(())
+
+    fn out_of_memory() -> TextError {
+        TextError::Memory
+    }
 }
 
 // Ends the trace, where one is being recorded.
@@ -113,19 +111,19 @@ fn end(stage: &mut Stage)
 }
 
 // `dls-trace,1,N,t`
-fn read_header(row: &ByteRecord) -> Result<Stage, TextError>
-    ensures { result ≡ header_stage (fields_of row.now) }
+fn read_header(fields: &ByteRecord) -> Result<Stage, TextError>
+    ensures { result ≡ header_stage (fields_of fields.now) }
 {
-    if row.len() != 4 || !field_is(row, 0, b"dls-trace") {
+    if fields.len() != 4 || !field_is(fields, 0, b"dls-trace") {
         return Err(TextError::BadHeader);
     }
-    if !field_is(row, 1, b"1") {
+    if !field_is(fields, 1, b"1") {
         return Err(TextError::BadVersion);
     }
-    let Some(n) = number(field(row, 2)) else {
+    let Some(n) = number(field(fields, 2)) else {
         return Err(TextError::BadSize);
     };
-    let Some(t) = number(field(row, 3)) else {
+    let Some(t) = number(field(fields, 3)) else {
         return Err(TextError::BadSize);
     };
     if n < MIN_PROCESSORS || MAX_PROCESSORS < n || n <= t || n < t + t + 1 {
@@ -135,13 +133,14 @@ fn read_header(row: &ByteRecord) -> Result<Stage, TextError>
 }
 
 // `init,v1,..,vN`
-fn read_init(alloc: Global, n: u64, t: u64, row: &ByteRecord) -> Result<Stage, TextError>
-    ensures { Gives result (init_stage n t (fields_of row.now)) }
+fn read_init(alloc: Global, n: u64, t: u64, fields: &ByteRecord) -> Result<Stage, TextError>
+    ensures stage { Gives result (init_stage n t (fields_of fields.now)) }
+    ensures more { WantsOnlyWhere is_memory result (init_keeps (fields_of fields.now)) }
 {
-    if !field_is(row, 0, b"init") {
+    if !field_is(fields, 0, b"init") {
         return Err(TextError::BadInit);
     }
-    let Ok(init) = values(alloc, row) else {
+    let Ok(init) = values(alloc, fields) else {
         return Err(TextError::Memory);
     };
     let Some(init) = init else {
@@ -154,17 +153,18 @@ fn read_init(alloc: Global, n: u64, t: u64, row: &ByteRecord) -> Result<Stage, T
 }
 
 // `no,proc,op,arg`
-fn read_step(alloc: Global, trace: &mut Trace, row: &ByteRecord) -> Result<(), TextError>
-    ensures { LeadsTo result (Stage.Recording trace.new) (step_stage trace.old (fields_of row.now)) }
+fn read_step(alloc: Global, trace: &mut Trace, fields: &ByteRecord) -> Result<(), TextError>
+    ensures stage { LeadsTo result (Stage.Recording trace.new) (step_stage trace.old (fields_of fields.now)) }
+    ensures more { WantsOnlyWhere is_memory result (step_record_keeps trace.old (fields_of fields.now)) }
 {
     let no = trace.len() as u64 + 1;
-    if row.len() != 4 {
+    if fields.len() != 4 {
         return Err(TextError::BadFields(no));
     }
-    if !field_is_number(row, 0, no) {
+    if !field_is_number(fields, 0, no) {
         return Err(TextError::WrongNumber(no));
     }
-    let step = step_of(alloc, no, row)?;
+    let step = step_of(alloc, no, fields)?;
     match trace.push(step) {
         Ok(()) => Ok(()),
         Err(PushError::Memory) => Err(TextError::Memory),
@@ -173,21 +173,23 @@ fn read_step(alloc: Global, trace: &mut Trace, row: &ByteRecord) -> Result<(), T
 }
 
 // The step of a record of four fields that bears its number.
-fn step_of(alloc: Global, no: u64, row: &ByteRecord) -> Result<Step, TextError>
-    ensures { Gives result (step_of no (fields_of row.now)) }
+fn step_of(alloc: Global, no: u64, fields: &ByteRecord) -> Result<Step, TextError>
+    ensures step { Gives result (step_of no (fields_of fields.now)) }
+    ensures more { WantsOnlyWhere is_memory result (step_keeps (fields_of fields.now)) }
 {
-    let Some(operation) = operation_of(field(row, 2)) else {
+    let Some(operation) = operation_of(field(fields, 2)) else {
         return Err(TextError::BadOp(no));
     };
-    let Some(proc) = number(field(row, 1)) else {
+    let Some(proc) = number(field(fields, 1)) else {
         return Err(TextError::BadNumber(no));
     };
-    let act = act_of(alloc, no, operation, field(row, 3))?;
+    let act = act_of(alloc, no, operation, field(fields, 3))?;
     Ok(Step { proc, act })
 }
 
 fn act_of(alloc: Global, no: u64, operation: Operation, arg: &[u8]) -> Result<Act, TextError>
-    ensures { Gives result (ok_or (act_of operation arg.now) (TextError.BadNumber no)) }
+    ensures act { Gives result (ok_or (act_of operation arg.now) (TextError.BadNumber no)) }
+    ensures more { WantsOnlyWhere is_memory result (act_keeps operation arg.now) }
 {
     match operation {
         Operation::Send => {
@@ -202,7 +204,8 @@ fn act_of(alloc: Global, no: u64, operation: Operation, arg: &[u8]) -> Result<Ac
 }
 
 fn received(alloc: Global, no: u64, arg: &[u8], ends: bool) -> Result<Act, TextError>
-    ensures { Gives result (ok_or (option_map (λ ids. Act.Receive ends ids) (ids_of arg.now)) (TextError.BadNumber no)) }
+    ensures act { Gives result (ok_or (option_map (λ ids. Act.Receive ends ids) (ids_of arg.now)) (TextError.BadNumber no)) }
+    ensures more { WantsOnlyWhere is_memory result (begins_with_number (parts_of arg.now)) }
 {
     let Ok(ids) = ids(alloc, arg) else {
         return Err(TextError::Memory);
@@ -217,14 +220,14 @@ fn received(alloc: Global, no: u64, arg: &[u8], ends: bool) -> Result<Act, TextE
 }
 
 // `end,L`
-fn check_end(trace: &Trace, row: &ByteRecord) -> Result<(), TextError>
-    ensures { MatchResult result (λ _. end_stage trace.now (fields_of row.now) ≡ Ok (Stage.Ended trace.now)) (λ e. end_stage trace.now (fields_of row.now) ≡ Err e) }
+fn check_end(trace: &Trace, fields: &ByteRecord) -> Result<(), TextError>
+    ensures { MatchResult result (λ _. end_stage trace.now (fields_of fields.now) ≡ Ok (Stage.Ended trace.now)) (λ e. end_stage trace.now (fields_of fields.now) ≡ Err e) }
 {
     let steps = trace.len() as u64;
-    if row.len() != 2 {
+    if fields.len() != 2 {
         return Err(TextError::BadFields(steps + 1));
     }
-    if !field_is_number(row, 1, steps) {
+    if !field_is_number(fields, 1, steps) {
         return Err(TextError::WrongEnd);
     }
     Ok(())

@@ -1,96 +1,92 @@
-//! The fields of a record: numbers, lists of numbers and operations.
+//! The records of a text, taken in one after the other, and their fields. A reader of texts says by
+//! `TakeRecords` what it makes of a record, and `read_records` gives it the records of a text.
 
-ghost use Rattle.std.specs.Prelude.{◌≡◌, IfOk, option_map, drop, decimal};
+ghost use Rattle.std.specs.Prelude.{◌≡◌, ℕ, List, Bool, Result, IsTrue, decimal};
 ghost use Rattle.std.specs.Str.{bytes_eq};
 ghost use Rattle.csv.specs.Records.{fields_of};
-ghost use Rattle.trace_text.specs.TextRefusals.{field_of, number_of, numbers_of, ids_of, operation_of};
+ghost use Rattle.trace_text.specs.Records.{ReachesUnless, WantsOnlyWhere, after_records, field_of, number_of, records_of_text};
 
-use csv::ByteRecord;
-use std::alloc::{AllocError, Global};
+use csv::{ByteRecord, ErrorKind, ReaderBuilder};
+use std::alloc::Global;
 use step_trace::read_number;
 
-/// What a step's record says that the processor does.
-#[derive(Clone, Copy)]
-pub(crate) enum Operation {
-    /// `S`
-    Send,
-    /// `R`
-    Receive,
-    /// `E`
-    EndRound,
+/// What takes in the records of a text.
+pub trait TakeRecords {
+    /// Why a record is refused.
+    type Error: Drop;
+
+    // what one more record makes of it, or why the record is refused
+    ghost next: { Self → List (List ℕ) → Result Self Self.Error };
+
+    // whether a refusal is want of memory
+    ghost is_memory: { Self.Error → Bool };
+
+    // whether something has to be kept for a record
+    ghost keeps: { Self → List (List ℕ) → Bool };
+
+    /// Takes in one more record. Where it is refused, what it was taken into is of no more use.
+    fn take(&mut self, alloc: Global, fields: &ByteRecord) -> Result<(), Self::Error>
+        ensures next { ReachesUnless is_memory result self.new (next self.old (fields_of fields.now)) }
+        ensures more { WantsOnlyWhere is_memory result (keeps self.old (fields_of fields.now)) };
+
+    /// The refusal for want of memory.
+    fn out_of_memory() -> Self::Error
+        ensures { IsTrue (is_memory result) };
+}
+
+/// Takes in all records that csv reads from a text: those of its default reader, without a header
+/// row, of any length. The first record that is refused decides.
+pub fn read_records<T: TakeRecords>(
+    alloc: Global,
+    text: &[u8],
+    taker: &mut T,
+) -> Result<(), T::Error>
+    ensures { ReachesUnless T.is_memory result taker.new (after_records T.next taker.old (records_of_text text.now)) }
+{
+    let mut reader = ReaderBuilder::new()
+        .has_headers(false)
+        .flexible(true)
+        .from_reader(alloc, text);
+    let mut record = ByteRecord::new(alloc);
+    loop {
+        match reader.read_byte_record(&mut record) {
+            Ok(true) => taker.take(alloc, &record)?,
+            Ok(false) => return Ok(()),
+            Err(why) => match why.kind() {
+                ErrorKind::OutOfMemory | ErrorKind::Io(_) => return Err(T::out_of_memory()),
+                _ => unreachable!(),
+            },
+        }
+    }
 }
 
 /// The field at a place, or nothing.
-pub(crate) fn field(row: &ByteRecord, i: usize) -> &[u8]
-    ensures { result.now ≡ field_of (fields_of row.now) i }
+pub fn field(fields: &ByteRecord, i: usize) -> &[u8]
+    ensures { result.now ≡ field_of (fields_of fields.now) i }
 {
-    row.get(i).unwrap_or(&[])
+    fields.get(i).unwrap_or(&[])
 }
 
 /// Whether the field at a place is this word.
-pub(crate) fn field_is(row: &ByteRecord, i: usize, word: &[u8]) -> bool
-    ensures { result ≡ bytes_eq (field_of (fields_of row.now) i) word.now }
+pub fn field_is(fields: &ByteRecord, i: usize, word: &[u8]) -> bool
+    ensures { result ≡ bytes_eq (field_of (fields_of fields.now) i) word.now }
 {
-    field(row, i) == word
+    field(fields, i) == word
 }
 
-/// The number that a field writes.
-pub(crate) fn number(field: &[u8]) -> Option<u64>
+/// The number that a field writes: decimal digits of 64 bits, without a leading zero.
+pub fn number(field: &[u8]) -> Option<u64>
     ensures { result ≡ number_of field.now }
 {
     read_number(field)
 }
 
 /// Whether the field at a place is the text of this number.
-pub(crate) fn field_is_number(row: &ByteRecord, i: usize, n: u64) -> bool
-    ensures { result ≡ bytes_eq (field_of (fields_of row.now) i) (decimal n) }
+pub fn field_is_number(fields: &ByteRecord, i: usize, n: u64) -> bool
+    ensures { result ≡ bytes_eq (field_of (fields_of fields.now) i) (decimal n) }
 {
-    match number(field(row, i)) {
+    match number(field(fields, i)) {
         Some(value) => value == n,
         None => false,
-    }
-}
-
-/// The numbers of all fields but the first, unless one isn't a number.
-pub(crate) fn values(alloc: Global, row: &ByteRecord) -> Result<Option<Vec<u64>>, AllocError>
-    ensures { IfOk result (λ o. option_map (λ v. v.items) o ≡ numbers_of (drop 1 (fields_of row.now))) }
-{
-    let mut values = Vec::new(alloc);
-    for i in 1..row.len() {
-        let Some(value) = number(field(row, i)) else {
-            return Ok(None);
-        };
-        values.push(value)?;
-    }
-    Ok(Some(values))
-}
-
-/// The numbers of a field that have one space between them, unless a part isn't a number. An empty
-/// field has none.
-pub(crate) fn ids(alloc: Global, field: &[u8]) -> Result<Option<Vec<u64>>, AllocError>
-    ensures { IfOk result (λ o. option_map (λ v. v.items) o ≡ ids_of field.now) }
-{
-    let mut ids = Vec::new(alloc);
-    if field.len() == 0 {
-        return Ok(Some(ids));
-    }
-    for part in field.split(|byte| *byte == b' ') {
-        let Some(id) = number(part) else {
-            return Ok(None);
-        };
-        ids.push(id)?;
-    }
-    Ok(Some(ids))
-}
-
-/// The operation that a field names.
-pub(crate) fn operation_of(field: &[u8]) -> Option<Operation>
-    ensures { result ≡ operation_of field.now }
-{
-    match field {
-        b"S" => Some(Operation::Send),
-        b"R" => Some(Operation::Receive),
-        b"E" => Some(Operation::EndRound),
-        _ => None,
     }
 }

@@ -4,12 +4,14 @@ use Rattle.std.proofs.lemmas.Iterator.Consumers.{YieldsList-turn, YieldsList-end
 use Rattle.std.proofs.lemmas.List.{map-append}
 use Rattle.std.specs.List.{slice_split}
 use borrow.Author.Tests.{tests}
-use Rattle.trace_text.specs.TextRefusals.{numbers_of}
-use Rattle.trace_text.proofs.NumberLists.{numbers_of-more, numbers_of-turn_none, ids_of-split}
-use Rattle.trace_text.proofs.records.ids.Goals as goal
+use Rattle.std.specs.Prelude.{IsTrue}
+use Rattle.trace_text.specs.TextRefusals.{numbers_of, begins_with_number, parts_of}
+use Rattle.trace_text.proofs.NumberLists.{numbers_of-more, numbers_of-turn_none, begins_with_number-turn, ids_of-split}
+use Rattle.trace_text.proofs.step_records.ids.Goals.{In-Some-number}
+use Rattle.trace_text.proofs.step_records.ids.Goals as goal
 
-pub returns-in_default : goal.returns-in_default
-returns-in_default c =
+pub returns-in_default-clause-numbers : goal.returns-in_default-clause-numbers
+returns-in_default-clause-numbers c =
     let some : 0 < length c.args.field.now = omega arith in
     let start = c.into_iter-part-iterator.ensures in
     let split = c.split-part-items.ensures in
@@ -18,13 +20,25 @@ returns-in_default c =
     let none = numbers_of-turn_none (slice_split (λ b. b == 32) c.args.field.now) (length c.loop-part.yielded) c.in-Some.part.now c.in-Some.part.now t.0 t.1 (sym c.number.ensures ∙ c.in_default.is) in
     sym (ids_of-split c.args.field.now some ∙ none)
 
+-- where a part was a number, so is the first
+first-part : (c : In-Some-number) → IsTrue (begins_with_number (parts_of c.args.field.now))
+first-part c =
+    let start = c.into_iter-part-iterator.ensures in
+    let split = c.split-part-items.ensures in
+    let road = YieldsList-from_slice_split _ (λ b. b == 32) c.args.field.now (cc) (cc) (cc) (λ x b q k. search (rules, tests)) in
+    let t = YieldsList-turn road c.loop-part.yielded _ c.loop-part.yielded_by _ _ c.in-Some.part c.in-Some.is c.next.ensures.steps in
+    begins_with_number-turn (parts_of c.args.field.now) (length c.loop-part.yielded) c.in-Some.part.now c.in-Some-number.id c.in-Some.part.now c.loop-part.invariant.3 t.0 t.1 (sym c.number.ensures ∙ c.in-Some-number.is)
+
 pub loop-part-preserved : goal.loop-part-preserved
 loop-part-preserved c =
     let more = numbers_of-more (map (λ x. x.now) c.loop-part.yielded) c.loop-part.ids.items c.in-Some.part.now c.in-Some-number.id c.loop-part.invariant.2 (sym c.number.ensures ∙ c.in-Some-number.is) in
-    (search rules, search rules, rw (c.in_ok-push.ensures.items, map-append (λ x. x.now) c.loop-part.yielded (c.in-Some.part ∷ [])) more)
+    (search rules, search rules, rw (c.in_ok-push.ensures.items, map-append (λ x. x.now) c.loop-part.yielded (c.in-Some.part ∷ [])) more, λ _. first-part (goal.at.loop-part-preserved c).In-Some-number)
 
-pub returns : goal.returns
-returns c =
+pub returns-in_err-push-clause-more : goal.returns-in_err-push-clause-more
+returns-in_err-push-clause-more c = λ _. first-part (goal.at.returns-in_err-push-clause-more c).In-Some-number
+
+pub returns-clause-numbers : goal.returns-clause-numbers
+returns-clause-numbers c =
     let some : 0 < length c.args.field.now = omega arith in
     let start = c.into_iter-part-iterator.ensures in
     let split = c.split-part-items.ensures in
