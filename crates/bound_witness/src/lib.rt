@@ -5,8 +5,6 @@ mod communication_bounds;
 mod longest_gaps;
 mod processor_bounds;
 mod step_tests;
-#[cfg(test)]
-mod worked_rows;
 
 pub use communication_bounds::{delta_at, last_miss};
 pub use longest_gaps::gaps;
