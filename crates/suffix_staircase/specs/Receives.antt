@@ -2,7 +2,7 @@
 use Rattle.std.specs.Prelude.{ℕ, ◌≡◌, ◌+◌, ◌<◌, ◌≤◌, ◌==◌, List, length, slice_index, slice_set, if◌then◌else◌}
 use Rattle.std.specs.List.{list_any}
 use Rattle.step_trace.specs.declared.steps.Step.{Step}
-use Rattle.step_trace.specs.Traces.{TakesAt, IsReceiveOf}
+use Rattle.step_trace.specs.Traces.{Recorded, TakesAt, IsReceiveOf}
 use Rattle.step_trace.specs.Witnesses.{IsMiss}
 use Rattle.suffix_staircase.specs.declared.receives.Receives.{Receives}
 
@@ -22,16 +22,16 @@ pub record IsFirstReceive (steps : List Step) (p low r : ℕ) : Type 0 where
   pub first : (y : ℕ) → IsReceiveOf steps y p → low < y → (0 < r) × (r ≤ y)
 
 -- what is known of the Receives after step x
-pub record KnowsReceives (steps : List Step) (n x : ℕ) (r : Receives) : Type 0 where
-  pub taken_long : length r.taken_by.items ≡ length steps + 1
-  pub before_long : length r.before.items ≡ length steps + 1
-  pub first_long : length r.first.items ≡ n + 1
-  pub last_long : length r.last.items ≡ n + 1
-  pub taken : (s : ℕ) → IsTaker steps x s (slice_index r.taken_by.items s)
-  pub before : (p y : ℕ) → IsReceiveOf steps y p → x < y → IsLastReceive steps p x y (slice_index r.before.items y)
+pub record KnowsReceives (trace : Recorded) (x : ℕ) (r : Receives) : Type 0 where
+  pub taken_long : length r.taken_by.items ≡ length trace.steps + 1
+  pub before_long : length r.before.items ≡ length trace.steps + 1
+  pub first_long : length r.first.items ≡ trace.config.n + 1
+  pub last_long : length r.last.items ≡ trace.config.n + 1
+  pub taken : (s : ℕ) → IsTaker trace.steps x s (slice_index r.taken_by.items s)
+  pub before : (p y : ℕ) → IsReceiveOf trace.steps y p → x < y → IsLastReceive trace.steps p x y (slice_index r.before.items y)
   pub clear : (y : ℕ) → 1 ≤ y → y ≤ x → slice_index r.before.items y ≡ 0
-  pub first : (p : ℕ) → p ≤ n → IsFirstReceive steps p x (slice_index r.first.items p)
-  pub last : (p : ℕ) → p ≤ n → IsLastReceive steps p x (length steps + 1) (slice_index r.last.items p)
+  pub first : (p : ℕ) → p ≤ trace.config.n → IsFirstReceive trace.steps p x (slice_index r.first.items p)
+  pub last : (p : ℕ) → p ≤ trace.config.n → IsLastReceive trace.steps p x (length trace.steps + 1) (slice_index r.last.items p)
 
 -- what changes where the Receive x of p, which takes these messages, is gone over
 pub record NotesReceive (x p : ℕ) (ids : List ℕ) (old new : Receives) : Type 0 where
