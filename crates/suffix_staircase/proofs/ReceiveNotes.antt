@@ -1,9 +1,9 @@
 -- What is known of the Receives after a step, back over a Receive.
-use Rattle.std.proofs.Common.{ℕ, ◌≡◌, ◌≢◌, ◌+◌, ◌-◌, ◌<◌, ◌≤◌, ◌==◌, ◌⊎◌, inl, inr, List, length, get_or, set, Some, Bool, true, false, cond, refl, sym, ap, subst, ◌∙◌, arith, get_or-set_same, get_or-set_other, eq-eqb}
+use Rattle.std.proofs.Common.{ℕ, ◌≡◌, ◌≢◌, ◌+◌, ◌-◌, ◌<◌, ◌≤◌, ◌==◌, ◌||◌, take, ◌⊎◌, inl, inr, List, length, get_or, set, Some, Bool, true, false, cond, refl, sym, ap, subst, ◌∙◌, arith, get_or-set_same, get_or-set_other, eq-eqb}
 use Rattle.std.specs.Prelude.{Contains}
 use Rattle.std.specs.List.{list_any}
 use Rattle.std.proofs.lemmas.List.{length-set, get_or_default}
-use Rattle.std.proofs.lemmas.List.Folds.{list_any_at, Any-from_list_any}
+use Rattle.std.proofs.lemmas.List.Folds.{list_any_more, list_any_at, Any-from_list_any}
 use Rattle.std.proofs.lemmas.Bool.{cases_eq, cases_lt, eqb-true, eqb-false}
 use Rattle.step_trace.specs.declared.steps.Act.TheVariants.{Receive}
 use Rattle.step_trace.specs.declared.steps.Step.{Step}
@@ -23,6 +23,17 @@ contains_from_any ids s h =
 -- the test finds an id of a list
 any_from_contains : (ids : List ℕ) (s : ℕ) → Contains ids s → list_any (λ i. i == s) ids ≡ true
 any_from_contains ids s h = list_any_at (λ i. i == s) ids h.0 s h.1 (eq-eqb _ _ h.2)
+
+-- one id more, as at a step of a loop
+pub taken_noted : (old now ids : List ℕ) (x i s : ℕ) → i < length ids → length now ≡ length old → get_or ids i 0 < length old → get_or now s 0 ≡ cond (list_any (λ k. k == s) (take i ids)) x (get_or old s 0)
+    → get_or (set now (get_or ids i 0) x) s 0 ≡ cond (list_any (λ k. k == s) (take (i + 1) ids)) x (get_or old s 0)
+taken_noted old now ids x i s below long inside known = rw (list_any_more (λ k. k == s) ids i 0 below) (go (list_any (λ k. k == s) (take i ids)) (get_or ids i 0 == s) known refl) where
+  go : (before here : Bool) → get_or now s 0 ≡ cond before x (get_or old s 0) → (get_or ids i 0 == s) ≡ here
+      → get_or (set now (get_or ids i 0) x) s 0 ≡ cond (before || here) x (get_or old s 0)
+  go true true k e = subst (λ (m : ℕ). get_or (set now (get_or ids i 0) x) m 0 ≡ x) (eqb-true (get_or ids i 0) s e) (get_or-set_same now (get_or ids i 0) x 0 (omega (arith, long, inside)))
+  go false true k e = subst (λ (m : ℕ). get_or (set now (get_or ids i 0) x) m 0 ≡ x) (eqb-true (get_or ids i 0) s e) (get_or-set_same now (get_or ids i 0) x 0 (omega (arith, long, inside)))
+  go true false k e = get_or-set_other now (get_or ids i 0) s x 0 (λ q. eqb-false (get_or ids i 0) s e (sym q)) ∙ k
+  go false false k e = get_or-set_other now (get_or ids i 0) s x 0 (λ q. eqb-false (get_or ids i 0) s e (sym q)) ∙ k
 
 -- the notes of taken messages
 IsTaker-noted : (steps : List Step) (x p s old : ℕ) (ids : List ℕ) (ends : Bool) → 1 ≤ x → step_at steps x ≡ Some (record { proc = p; act = Receive ends ids }) → IsTaker steps x s old
