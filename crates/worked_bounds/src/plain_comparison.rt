@@ -1,12 +1,13 @@
 //! The backward pass beside the plain searches, on small traces of a fixed seed.
 
-ghost use Rattle.std.specs.Prelude.{◌<◌};
+ghost use Rattle.std.specs.Prelude.{◌<◌, ◌≤◌, length};
+ghost use Rattle.step_trace.specs.Processors.{IsWithin};
 
-use crate::Stairs;
 use bound_witness::{delta_at, phi_at};
 use std::alloc::Global;
 use std::test::Fail;
 use step_trace::{Act, Config, MessageIds, ProcSet, Step, Trace};
+use suffix_staircase::{Level, Stairs};
 
 // A linear congruential generator.
 #[derive(Drop)]
@@ -57,20 +58,24 @@ fn some_act(alloc: Global, draws: &mut Draws, trace: &Trace, proc: u64) -> Resul
     Ok(Act::Receive { ids, ends: false })
 }
 
-// Up to 12 steps of three processors; a step that is refused becomes an empty Receive.
+// Appends a step of this act, or where it is refused an empty Receive.
+fn push_or_receive(alloc: Global, trace: &mut Trace, proc: u64, act: Act) -> Result<(), Fail> {
+    if trace.push(Step { proc, act }).is_err() {
+        let ids = MessageIds::new(Vec::new(alloc));
+        let act = Act::Receive { ids, ends: false };
+        trace.push(Step { proc, act })?;
+    }
+    Ok(())
+}
+
+// Up to 12 steps of three processors.
 fn some_trace(alloc: Global, draws: &mut Draws) -> Result<Trace, Fail> {
     let config = Config::new(3, 1, Vec::from_slice(alloc, &[5, 7, 9])?)?;
     let mut trace = Trace::new(alloc, config);
     for _ in 0..draws.below_four() * 4 {
         let proc = draws.below_four().max(1);
         let act = some_act(alloc, draws, &trace, proc)?;
-        if trace.push(Step { proc, act }).is_err() {
-            let ids = MessageIds::new(Vec::new(alloc));
-            trace.push(Step {
-                proc,
-                act: Act::Receive { ids, ends: false },
-            })?;
-        }
+        push_or_receive(alloc, &mut trace, proc, act)?;
     }
     Ok(trace)
 }
@@ -85,22 +90,54 @@ fn some_set(draws: &mut Draws) -> ProcSet {
     set
 }
 
+// Whether a level is the one that the plain searches give.
+fn is_searched(trace: &Trace, set: ProcSet, g: u64, level: Level) -> bool
+    requires set { IsWithin set trace.now.config.n }
+    requires start { 1 ≤ g }
+    requires end { g ≤ length trace.now.steps }
+{
+    let (delta, miss) = delta_at(trace, set, g);
+    let (phi, gap) = phi_at(trace, set, g);
+    let searched = Level {
+        delta,
+        miss,
+        phi,
+        gap,
+    };
+    level == searched
+}
+
+fn all_searched(stairs: &Stairs, trace: &Trace, set: ProcSet) -> bool
+    requires set { IsWithin set trace.now.config.n }
+{
+    if stairs.len() != trace.len() {
+        return false;
+    }
+    for g in 1..trace.len() as u64 + 1 {
+        if !is_searched(trace, set, g, stairs.at(g)) {
+            return false;
+        }
+    }
+    true
+}
+
+// Whether the pass agrees with the plain searches on one more trace and set.
+fn agrees(alloc: Global, draws: &mut Draws) -> Result<bool, Fail> {
+    let trace = some_trace(alloc, draws)?;
+    let set = some_set(draws);
+    if !set.within(trace.config().n()) {
+        return Ok(false);
+    }
+    let stairs = Stairs::of_trace(alloc, &trace, set)?;
+    Ok(all_searched(&stairs, &trace, set))
+}
+
 #[test]
 fn agrees_with_the_plain_searches(rt: HostRuntime) -> Result<(), Fail> {
     let mut draws = Draws { state: 1988 };
-    for _ in 0..400 {
-        let trace = some_trace(rt.alloc(), &mut draws)?;
-        let set = some_set(&mut draws);
-        assert!(rt; set.within(trace.config().n()));
-        let stairs = Stairs::of_trace(rt.alloc(), &trace, set)?;
-        assert_eq!(rt; stairs.len(), trace.len());
-        for g in 1..trace.len() as u64 + 1 {
-            let level = stairs.at(g);
-            let (delta, miss) = delta_at(&trace, set, g);
-            let (phi, gap) = phi_at(&trace, set, g);
-            assert_eq!(rt; (level.delta, level.miss), (delta, miss), "at {g}");
-            assert_eq!(rt; (level.phi, level.gap), (phi, gap), "at {g}");
-        }
+    for round in 0..400 {
+        let found = agrees(rt.alloc(), &mut draws)?;
+        assert!(rt; found, "trace {round}");
     }
     Ok(())
 }
