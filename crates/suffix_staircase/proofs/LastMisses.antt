@@ -12,7 +12,7 @@ use Rattle.step_trace.specs.Bounds.{IsMessage}
 use Rattle.step_trace.specs.Witnesses.{IsMiss}
 use Rattle.step_trace.proofs.StepPositions.{step_at_within}
 use Rattle.suffix_staircase.specs.declared.receives.Receives.{Receives}
-use Rattle.suffix_staircase.specs.Receives.{IsLastReceive, KnowsReceives, IsLastMissOf}
+use Rattle.suffix_staircase.specs.Receives.{last_missed, IsLastReceive, KnowsReceives, IsLastMissOf}
 use Rattle.suffix_staircase.proofs.ReceivesLowered.{same_step}
 
 -- who takes a message is its receiver
@@ -47,7 +47,7 @@ IsLastMissOf-from_last set steps x b high r m undelivered below l = record {
 
 -- the last miss of a message stands in the notes
 pub IsLastMissOf-from_known : (set : ℕ) (t : Recorded) (x b : ℕ) (r : Receives) → IsWellFormed t.config t.steps → b ≤ t.config.n → IsMessage set t.steps x b → KnowsReceives t x r
-    → IsLastMissOf set t.steps x (cond (get_or r.taken_by.items x 0 == 0) (get_or r.last.items b 0) (get_or r.before.items (get_or r.taken_by.items x 0) 0))
+    → IsLastMissOf set t.steps x (last_missed r x b)
 IsLastMissOf-from_known set t x b r w within m k = go (get_or r.taken_by.items x 0 == 0) refl where
   go : (none : Bool) → (get_or r.taken_by.items x 0 == 0) ≡ none → IsLastMissOf set t.steps x (cond none (get_or r.last.items b 0) (get_or r.before.items (get_or r.taken_by.items x 0) 0))
   go true e =

@@ -25,6 +25,8 @@ AreStretchesFrom after (s ∷ rest) = (length after < s.reach) × IsTrue (begins
 abbrev pub AreStretches : List Stretch → Type 0
 AreStretches stretches = AreStretchesFrom [] stretches
 
--- stretches whose levels are those of a trace's steps by their order and number
+-- stretches that are stairs: their levels fall, and are no more than a trace has steps
 abbrev pub AreStairs : List Stretch → Type 0
-AreStairs stretches = AreStretches stretches × IsStaircase (levels_of stretches) × (length (levels_of stretches) ≤ MAX_STEPS)
+AreStairs stretches =
+    let levels = levels_of stretches in
+    AreStretches stretches × IsStaircase levels × (length levels ≤ MAX_STEPS)

@@ -1,7 +1,7 @@
 //! The backward pass: from the last step to the first, the level of each step from that of the next.
 //!
-//! Going back over a step adds at most one miss that counts, the last one of the step's message, and
-//! one gap, the longest that begins there. An equal length keeps the witness that comes later.
+//! Going back over a step adds at most one miss that counts, the last one of the step's message,
+//! and one gap, the longest that begins there. An equal length keeps the witness that comes later.
 
 ghost use Rattle.std.specs.Prelude.{◌≡◌, ◌-◌, ◌≤◌, length, IfOk};
 ghost use Rattle.step_trace.specs.Processors.{IsWithin};
@@ -26,7 +26,7 @@ pub(crate) struct Pass {
 impl Pass {
     /// A pass that has gone over no step.
     pub(crate) fn after_all(alloc: Global, trace: &Trace, set: ProcSet) -> Result<Self, AllocError>
-        ensures { IfOk result (λ pass. KnowsStepsAfter set trace.now (length trace.now.steps) pass) }
+        ensures { IfOk result (λ p. KnowsStepsAfter set trace.now (length trace.now.steps) p) }
     {
         Ok(Pass {
             receives: Receives::after_all(alloc, trace)?,
@@ -59,8 +59,7 @@ impl Pass {
     }
 }
 
-// The level, or where the message `sent` is missed by a later bound than its own, the level with this
-// miss.
+// The level with the miss of message `sent` at `missed`, where its bound allows no such miss.
 fn with_miss(level: Level, sent: u64, missed: u64) -> Level
     requires positive { 1 ≤ level.delta }
     requires sent { 1 ≤ sent }
@@ -77,8 +76,7 @@ fn with_miss(level: Level, sent: u64, missed: u64) -> Level
     }
 }
 
-// The level, or where `proc` takes no step from `from` to before `until` for longer than its bound
-// allows, the level with this gap.
+// The level with the gap of `proc` from `from` to before `until`, where its bound allows no such gap.
 fn with_gap(level: Level, proc: u64, from: u64, until: u64) -> Level
     requires positive { 1 ≤ level.phi }
     requires from { 1 ≤ from }

@@ -22,7 +22,7 @@ pub(crate) struct NextSteps {
 impl NextSteps {
     /// What is known after the last step.
     pub(crate) fn after_all(alloc: Global, trace: &Trace, set: ProcSet) -> Result<Self, AllocError>
-        ensures { IfOk result (λ next. KnowsNextSteps set trace.now (length trace.now.steps + 1) next) }
+        ensures { IfOk result (λ n. KnowsNextSteps set trace.now (length trace.now.steps + 1) n) }
     {
         let by_processor = no_next_steps(alloc, trace)?;
         let latest = latest_member(&by_processor, set);
@@ -65,7 +65,7 @@ impl NextSteps {
 
 // The next steps from the end of a trace on: each is one after the last.
 fn no_next_steps(alloc: Global, trace: &Trace) -> Result<Vec<u64>, AllocError>
-    ensures { IfOk result (λ next. AreNextSteps trace.now (length trace.now.steps + 1) next.items) }
+    ensures { IfOk result (λ n. AreNextSteps trace.now (length trace.now.steps + 1) n.items) }
 {
     let processors = trace.config().n() as usize + 1;
     let mut next_steps = vec![in alloc; trace.len() as u64 + 1; processors]?;

@@ -2,11 +2,10 @@
 //!
 //! Steps and processors are numbered from 1, and 0 stands for none.
 
-ghost use Rattle.std.specs.Prelude.{ℕ, ◌≡◌, ◌-◌, ◌<◌, ◌≤◌, ◌==◌, length, Some, All, IfOk, slice_index, slice_set, replicate, if◌then◌else◌};
-ghost use Rattle.std.specs.List.{list_any};
+ghost use Rattle.std.specs.Prelude.{◌≡◌, ◌-◌, ◌<◌, ◌≤◌, length, Some, All, IfOk, slice_index, replicate};
 ghost use Rattle.step_trace.specs.declared.traces.TheConstants.{MAX_STEPS};
 ghost use Rattle.step_trace.specs.Traces.{step_at, IsWellFormed};
-ghost use Rattle.suffix_staircase.specs.Receives.{KnowsReceives, NotesReceive, IsLastMissOf};
+ghost use Rattle.suffix_staircase.specs.Receives.{KnowsReceives, NotesReceive, NotesTakes, IsLastMissOf, last_missed};
 
 use std::alloc::{AllocError, Global};
 use step_trace::{Act, ProcSet, Step, Trace};
@@ -87,13 +86,13 @@ impl Receives {
     }
 
     // The last Receive after the step that doesn't find the message delivered, which goes to `to`.
-    fn last_missed(&self, message: u64, to: u64) -> u64
-        requires message { message < length self.now.taken_by.items }
-        requires taken { slice_index self.now.taken_by.items message < length self.now.before.items }
+    fn last_missed(&self, sent: u64, to: u64) -> u64
+        requires sent { sent < length self.now.taken_by.items }
+        requires taken { slice_index self.now.taken_by.items sent < length self.now.before.items }
         requires to { to < length self.now.last.items }
-        ensures { result ≡ (if slice_index self.now.taken_by.items message == 0 then slice_index self.now.last.items to else slice_index self.now.before.items (slice_index self.now.taken_by.items message)) }
+        ensures { result ≡ last_missed self.now sent to }
     {
-        let taker = self.taken_by[message as usize];
+        let taker = self.taken_by[sent as usize];
         if taker == 0 {
             u64::from(self.last[to as usize])
         } else {
@@ -126,7 +125,7 @@ fn note_takes(taken_by: &mut Vec<u32>, no: u64, ids: &[u64])
     requires limit { no ≤ MAX_STEPS }
     requires ids { All (λ s. s < length taken_by.old.items) ids.now }
     ensures len { length taken_by.new.items ≡ length taken_by.old.items }
-    ensures taken { (s : ℕ) → slice_index taken_by.new.items s ≡ (if list_any (λ i. i == s) ids.now then no else slice_index taken_by.old.items s) }
+    ensures taken { NotesTakes no ids.now taken_by.old.items taken_by.new.items }
 {
     for s in ids {
         taken_by[*s as usize] = no as u32;
