@@ -1,7 +1,14 @@
-pub mod StretchLevels
+pub mod StretchTops
+pub mod StretchGrowth
+pub mod StretchDepths
 pub mod StartNumbers
 pub mod StartLaws
 pub mod MissBounds
+pub mod NextSteps
+pub mod LongestGaps
 pub mod GapBounds
+pub mod ReceivesLowered
 pub mod ReceiveNotes
+pub mod LastMisses
+pub mod ReceiveBounds
 pub mod LevelBounds

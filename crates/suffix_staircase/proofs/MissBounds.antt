@@ -1,4 +1,4 @@
--- The least communication bound from the misses, and one step back.
+-- The least communication bound from the misses, one step back.
 use Rattle.std.proofs.Common.{ℕ, ◌≡◌, ◌+◌, ◌-◌, ◌<◌, ◌≤◌, inl, inr, List, Option, Some, None, Bool, true, false, cond, refl, subst, arith}
 use Rattle.std.specs.Prelude.{nat_le}
 use Rattle.std.proofs.lemmas.Bool.{cases_eq, cases_lt, leb-true, leb-false}
@@ -12,10 +12,12 @@ use Rattle.suffix_staircase.specs.Receives.{IsLastMissOf}
 use Rattle.suffix_staircase.specs.Analysis.{KnowsMisses, with_miss}
 use Rattle.step_trace.proofs.BoundDecisions.{DeltaHolds-unrefuted}
 
+-- a bound with its named miss is positive
 pub delta_positive : (set : ℕ) (steps : List Step) (g d : ℕ) (o : Option Miss) → NamesMiss set steps g d o → 1 ≤ d
 delta_positive set steps g d None h = omega arith
 delta_positive set steps g d (Some m) h = let l = h.0 in omega arith
 
+-- no smaller bound holds than the one beside its named miss
 delta_least : (set : ℕ) (steps : List Step) (g d : ℕ) (o : Option Miss) → NamesMiss set steps g d o → (e : ℕ) → 1 ≤ e → DeltaHolds set steps g e → d ≤ e
 delta_least set steps g d None h e p holds = omega arith
 delta_least set steps g d (Some m) h e p holds = elim (cases_lt e d) [
@@ -40,6 +42,7 @@ IsDelta-from_misses set steps g d o k =
       least = delta_least set steps g d o k.named;
     }
 
+-- a miss by its two numbers
 same_sent : (set : ℕ) (steps : List Step) (x : ℕ) (m : Miss) → IsMiss set steps m → m.sent ≡ x → IsMiss set steps (record { sent = x; missed = m.missed })
 same_sent set steps x m i e = subst (λ (n : ℕ). IsMiss set steps (record { sent = n; missed = m.missed })) e i
 
@@ -68,6 +71,7 @@ misses_longer set steps x d r o k l h =
       );
     }
 
+-- no miss of message x is as long as the named one
 misses_kept : (set : ℕ) (steps : List Step) (x d r : ℕ) (o : Option Miss) → KnowsMisses set steps (x + 1) d o → IsLastMissOf set steps x r → r - x < d → KnowsMisses set steps x d o
 misses_kept set steps x d r o k l h = record {
   shorter = λ m i f. elim (cases_eq m.sent x) [
@@ -96,6 +100,7 @@ pub record MissesLowered (set : ℕ) (steps : List Step) (x : ℕ) (old new : Le
   pub phi : new.phi ≡ old.phi
   pub gap : new.gap ≡ old.gap
 
+-- one step back, the level takes the last miss of the message where its bound allows it no more
 pub MissesLowered-with_miss : (set : ℕ) (steps : List Step) (x r : ℕ) (level : Level) → KnowsMisses set steps (x + 1) level.delta level.miss → IsLastMissOf set steps x r
     → MissesLowered set steps x level (with_miss level x r)
 MissesLowered-with_miss set steps x r level k l = go (nat_le level.delta (r - x)) refl where

@@ -9,7 +9,7 @@ use Rattle.suffix_staircase.specs.declared.levels.Level.{Level}
 use Rattle.suffix_staircase.specs.declared.stretches.Stretch.{Stretch}
 use Rattle.suffix_staircase.specs.Levels.{begins, same_bounds, starts, starts_after, starts_from}
 use Rattle.suffix_staircase.specs.Stretches.{with_stretch, levels_from, levels_of, AreStretchesFrom, AreStretches}
-use Rattle.suffix_staircase.proofs.StretchLevels.{length-with_stretch}
+use Rattle.suffix_staircase.proofs.StretchTops.{length-with_stretch}
 
 same_bounds-itself : (level : Level) → same_bounds level level ≡ true
 same_bounds-itself level = rw (eq-eqb level.delta level.delta refl, eq-eqb level.phi level.phi refl) refl

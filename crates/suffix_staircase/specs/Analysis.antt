@@ -4,8 +4,12 @@ use Rattle.step_trace.specs.declared.steps.Step.{Step}
 use Rattle.step_trace.specs.declared.rows.Miss.{Miss}
 use Rattle.step_trace.specs.declared.rows.Gap.{Gap}
 use Rattle.step_trace.specs.Bounds.{IsDelta, IsPhi}
+use Rattle.step_trace.specs.Traces.{Recorded}
 use Rattle.step_trace.specs.Witnesses.{IsMiss, IsGap, NamesMiss, NamesGap}
+use Rattle.suffix_staircase.specs.declared.backward_pass.Pass.{Pass}
 use Rattle.suffix_staircase.specs.declared.levels.Level.{Level}
+use Rattle.suffix_staircase.specs.NextSteps.{KnowsNextSteps}
+use Rattle.suffix_staircase.specs.Receives.{KnowsReceives}
 
 -- the least bounds from g on, with their named witnesses
 pub record IsLevelAt (set : ℕ) (steps : List Step) (g : ℕ) (level : Level) : Type 0 where
@@ -38,6 +42,12 @@ pub record KnowsGaps (set : ℕ) (steps : List Step) (g f : ℕ) (witness : Opti
 pub record KnowsLevel (set : ℕ) (steps : List Step) (g : ℕ) (level : Level) : Type 0 where
   pub misses : KnowsMisses set steps g level.delta level.miss
   pub gaps : KnowsGaps set steps g level.phi level.gap
+
+-- what a pass knows that has gone back over the steps after x
+pub record KnowsStepsAfter (set : ℕ) (trace : Recorded) (x : ℕ) (pass : Pass) : Type 0 where
+  pub receives : KnowsReceives trace x pass.receives
+  pub next_steps : KnowsNextSteps set trace (x + 1) pass.next_steps
+  pub level : KnowsLevel set trace.steps (x + 1) pass.level
 
 -- the level, with this miss where it refutes the communication bound
 abbrev pub with_miss : Level → ℕ → ℕ → Level

@@ -1,5 +1,5 @@
 pub mod Levels
 pub mod Stretches
 pub mod Receives
-pub mod Silences
+pub mod NextSteps
 pub mod Analysis

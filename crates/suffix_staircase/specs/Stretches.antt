@@ -1,8 +1,9 @@
 -- Levels as stretches of equal bounds, from the last stretch to the first.
-use Rattle.std.specs.Prelude.{◌-◌, ◌<◌, List, [], ◌∷◌, ◌++◌, length, replicate, IsTrue}
+use Rattle.std.specs.Prelude.{◌-◌, ◌<◌, ◌≤◌, List, [], ◌∷◌, ◌++◌, length, replicate, IsTrue}
 use Rattle.suffix_staircase.specs.declared.levels.Level.{Level}
 use Rattle.suffix_staircase.specs.declared.stretches.Stretch.{Stretch}
-use Rattle.suffix_staircase.specs.Levels.{begins}
+use Rattle.step_trace.specs.declared.traces.TheConstants.{MAX_STEPS}
+use Rattle.suffix_staircase.specs.Levels.{begins, IsStaircase}
 
 -- the levels of a stretch, put before these
 abbrev pub with_stretch : List Level → Stretch → List Level
@@ -23,3 +24,9 @@ AreStretchesFrom after (s ∷ rest) = (length after < s.reach) × IsTrue (begins
 
 abbrev pub AreStretches : List Stretch → Type 0
 AreStretches stretches = AreStretchesFrom [] stretches
+
+-- stretches that are stairs: their levels fall, and are no more than a trace has steps
+abbrev pub AreStairs : List Stretch → Type 0
+AreStairs stretches =
+    let levels = levels_of stretches in
+    AreStretches stretches × IsStaircase levels × (length levels ≤ MAX_STEPS)

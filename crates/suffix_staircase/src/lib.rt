@@ -1,17 +1,12 @@
 //! The least bounds of every step of a trace, found by one backward pass.
 #![tactic(auto)]
 
-mod analysis;
+mod backward_pass;
 mod levels;
+mod next_steps;
 mod receives;
-mod silences;
 mod staircases;
 mod stretches;
 
 pub use levels::Level;
 pub use staircases::{StairBuilder, Stairs};
-
-#[cfg(test)]
-mod plain_comparison;
-#[cfg(test)]
-mod stair_tests;

@@ -2,10 +2,10 @@
 //!
 //! Steps and processors are numbered from 1, and 0 stands for none.
 
-ghost use Rattle.std.specs.Prelude.{ℕ, ◌≡◌, ◌-◌, ◌<◌, ◌≤◌, ◌==◌, length, Some, All, IfOk, slice_index, slice_set, replicate, if◌then◌else◌};
-ghost use Rattle.std.specs.List.{list_any};
+ghost use Rattle.std.specs.Prelude.{◌≡◌, ◌-◌, ◌<◌, ◌≤◌, length, Some, All, IfOk, slice_index, replicate};
+ghost use Rattle.step_trace.specs.declared.traces.TheConstants.{MAX_STEPS};
 ghost use Rattle.step_trace.specs.Traces.{step_at, IsWellFormed};
-ghost use Rattle.suffix_staircase.specs.Receives.{KnowsReceives, NotesReceive, IsLastMissOf};
+ghost use Rattle.suffix_staircase.specs.Receives.{KnowsReceives, NotesReceive, NotesTakes, IsLastMissOf, last_missed};
 
 use std::alloc::{AllocError, Global};
 use step_trace::{Act, ProcSet, Step, Trace};
@@ -30,11 +30,8 @@ pub(crate) fn step_of(trace: &Trace, no: u64) -> &Step
     requires low { 1 ≤ no }
     requires high { no ≤ length trace.now.steps }
     ensures step { step_at trace.now.steps no ≡ Some result.now }
-    ensures limit { length trace.now.steps ≤ 1000000 }
     ensures sound { IsWellFormed trace.now.config trace.now.steps }
 {
-    // Read for its contract: the trace is well formed.
-    let _ = trace.len();
     match trace.step(no) {
         Some(step) => step,
         None => unreachable!(),
@@ -51,7 +48,7 @@ fn zeros(alloc: Global, count: usize) -> Result<Vec<u32>, AllocError>
 impl Receives {
     /// What is known after the last step: there is none.
     pub(crate) fn after_all(alloc: Global, trace: &Trace) -> Result<Self, AllocError>
-        ensures { IfOk result (λ r. KnowsReceives trace.now.steps trace.now.config.n (length trace.now.steps) r) }
+        ensures { IfOk result (λ r. KnowsReceives trace.now (length trace.now.steps) r) }
     {
         let steps = trace.len() + 1;
         let processors = trace.config().n() as usize + 1;
@@ -68,10 +65,9 @@ impl Receives {
     pub(crate) fn step_back(&mut self, trace: &Trace, set: ProcSet, no: u64) -> u64
         requires low { 1 ≤ no }
         requires high { no ≤ length trace.now.steps }
-        requires known { KnowsReceives trace.now.steps trace.now.config.n no self.old }
-        ensures known { KnowsReceives trace.now.steps trace.now.config.n (no - 1) self.new }
+        requires known { KnowsReceives trace.now no self.old }
+        ensures known { KnowsReceives trace.now (no - 1) self.new }
         ensures missed { IsLastMissOf set trace.now.steps no result }
-        ensures limit { length trace.now.steps ≤ 1000000 }
     {
         let step = step_of(trace, no);
         match &step.act {
@@ -90,13 +86,13 @@ impl Receives {
     }
 
     // The last Receive after the step that doesn't find the message delivered, which goes to `to`.
-    fn last_missed(&self, message: u64, to: u64) -> u64
-        requires message { message < length self.now.taken_by.items }
-        requires taken { slice_index self.now.taken_by.items message < length self.now.before.items }
+    fn last_missed(&self, sent: u64, to: u64) -> u64
+        requires sent { sent < length self.now.taken_by.items }
+        requires taken { slice_index self.now.taken_by.items sent < length self.now.before.items }
         requires to { to < length self.now.last.items }
-        ensures { result ≡ (if slice_index self.now.taken_by.items message == 0 then slice_index self.now.last.items to else slice_index self.now.before.items (slice_index self.now.taken_by.items message)) }
+        ensures { result ≡ last_missed self.now sent to }
     {
-        let taker = self.taken_by[message as usize];
+        let taker = self.taken_by[sent as usize];
         if taker == 0 {
             u64::from(self.last[to as usize])
         } else {
@@ -107,7 +103,7 @@ impl Receives {
     // Notes a Receive that comes before those so far. Where there is none yet, `before` is written at
     // number 0, which stands for no step.
     fn note(&mut self, no: u64, proc: u64, ids: &[u64])
-        requires limit { no ≤ 1000000 }
+        requires limit { no ≤ MAX_STEPS }
         requires ids { All (λ s. s < length self.old.taken_by.items) ids.now }
         requires first { proc < length self.old.first.items }
         requires last { proc < length self.old.last.items }
@@ -126,10 +122,10 @@ impl Receives {
 
 // Notes that the Receive of number `no` takes these messages.
 fn note_takes(taken_by: &mut Vec<u32>, no: u64, ids: &[u64])
-    requires limit { no ≤ 1000000 }
+    requires limit { no ≤ MAX_STEPS }
     requires ids { All (λ s. s < length taken_by.old.items) ids.now }
     ensures len { length taken_by.new.items ≡ length taken_by.old.items }
-    ensures taken { (s : ℕ) → slice_index taken_by.new.items s ≡ (if list_any (λ i. i == s) ids.now then no else slice_index taken_by.old.items s) }
+    ensures taken { NotesTakes no ids.now taken_by.old.items taken_by.new.items }
 {
     for s in ids {
         taken_by[*s as usize] = no as u32;

@@ -1,12 +1,17 @@
 //! The levels of a whole trace.
 
-ghost use Rattle.std.specs.Prelude.{◌≡◌, ◌∷◌, [], ◌-◌, ◌<◌, ◌≤◌, length, Some, slice_get, OnOk, OnErr};
-ghost use Rattle.suffix_staircase.specs.Levels.{CanStandBefore, IsStaircase, starts, AreStarts};
+ghost use Rattle.std.specs.Prelude.{◌≡◌, ◌∷◌, [], ◌-◌, ◌<◌, ◌≤◌, length, Some, slice_get, IfOk, OnOk, OnErr, IsTrue};
+ghost use Rattle.step_trace.specs.declared.traces.TheConstants.{MAX_STEPS};
+ghost use Rattle.step_trace.specs.Processors.{IsWithin};
+ghost use Rattle.suffix_staircase.specs.Analysis.{AreLevels};
+ghost use Rattle.suffix_staircase.specs.Levels.{CanStandBefore, IsStaircase, begins, starts, AreStarts};
 
+use crate::backward_pass::Pass;
 use crate::levels::Level;
 use crate::stretches::{Stretch, height, level_at, put_before, start_of};
 use std::alloc::{AllocError, Global};
 use std::marker::Model;
+use step_trace::{ProcSet, Trace};
 
 /// The level of each real-time step g of a trace, from 1 to its last. Neither bound rises with g, and
 /// a bound that stays keeps its witness.
@@ -18,24 +23,40 @@ pub struct Stairs {
 }
 
 impl Model for Stairs {
-    ghost use Rattle.std.specs.Prelude.{◌≤◌, List, length};
+    ghost use Rattle.std.specs.Prelude.{List};
     ghost use Rattle.suffix_staircase.specs.declared.levels.Level.{Level};
 
     ghost Value = { List Level };
 
-    ghost use Rattle.suffix_staircase.specs.Levels.{IsStaircase};
-    ghost use Rattle.suffix_staircase.specs.Stretches.{levels_of, AreStretches};
+    ghost use Rattle.suffix_staircase.specs.Stretches.{levels_of, AreStairs};
 
     ghost view = { λ a. levels_of a.stretches.items };
 
-    ghost invariant = { λ a. AreStretches a.stretches.items × IsStaircase (levels_of a.stretches.items) × (length (levels_of a.stretches.items) ≤ 1000000) };
+    ghost invariant = { λ a. AreStairs a.stretches.items };
 }
 
 impl Stairs {
+    /// The level of each step of a trace, where the members of a set count as correct: the least
+    /// bounds of section 2 of the 1988 paper from that step on, and their named witnesses.
+    ///
+    /// One pass from the last step to the first, in time that grows with the steps, the ids in them
+    /// and, for some steps, the processors. Fails only for want of memory.
+    pub fn of_trace(alloc: Global, trace: &Trace, set: ProcSet) -> Result<Stairs, AllocError>
+        requires { IsWithin set trace.now.config.n }
+        ensures { IfOk result (λ stairs. AreLevels set trace.now.steps stairs) }
+    {
+        let mut pass = Pass::after_all(alloc, trace, set)?;
+        let mut builder = StairBuilder::new(alloc);
+        for no in (1..trace.len() as u64 + 1).rev() {
+            builder.lower(pass.step_back(trace, set, no))?;
+        }
+        Ok(builder.build())
+    }
+
     /// The number of its levels, and so of the trace's steps.
     pub fn len(&self) -> usize
         ensures value { result ≡ length self.now }
-        ensures limit { result ≤ 1000000 }
+        ensures limit { result ≤ MAX_STEPS }
         ensures falling { IsStaircase self.now }
     {
         height(&self.stretches) as usize
@@ -63,21 +84,16 @@ impl Stairs {
 /// Stairs that are built from their last level to their first.
 #[derive(Debug, Drop)]
 pub struct StairBuilder {
-    stretches: Vec<Stretch>,
+    stairs: Stairs,
 }
 
 impl Model for StairBuilder {
-    ghost use Rattle.std.specs.Prelude.{◌≤◌, List, length};
+    ghost use Rattle.std.specs.Prelude.{List};
     ghost use Rattle.suffix_staircase.specs.declared.levels.Level.{Level};
 
     ghost Value = { List Level };
 
-    ghost use Rattle.suffix_staircase.specs.Levels.{IsStaircase};
-    ghost use Rattle.suffix_staircase.specs.Stretches.{levels_of, AreStretches};
-
-    ghost view = { λ a. levels_of a.stretches.items };
-
-    ghost invariant = { λ a. AreStretches a.stretches.items × IsStaircase (levels_of a.stretches.items) × (length (levels_of a.stretches.items) ≤ 1000000) };
+    ghost view = { λ a. a.stairs };
 }
 
 impl StairBuilder {
@@ -86,27 +102,29 @@ impl StairBuilder {
         ensures { result ≡ [] }
     {
         StairBuilder {
-            stretches: Vec::new(alloc),
+            stairs: Stairs {
+                stretches: Vec::new(alloc),
+            },
         }
     }
 
     /// Puts a level before those so far, which it may not be below: neither bound is below that of
-    /// the level that stands first, and a bound equal to it has the same witness.
+    /// the level that stands first, and a bound equal to it has the same witness. Takes memory only
+    /// where one of the bounds is another than that of the level that stands first.
     pub fn lower(&mut self, level: Level) -> Result<(), AllocError>
-        requires room { length self.old < 1000000 }
+        requires room { length self.old < MAX_STEPS }
         requires falling { CanStandBefore level self.old }
         ensures ok { OnOk result (self.new ≡ level ∷ self.old) }
         ensures err { OnErr result (self.new ≡ self.old) }
+        ensures more { OnErr result (IsTrue (begins level self.old)) }
     {
-        put_before(&mut self.stretches, level)
+        put_before(&mut self.stairs.stretches, level)
     }
 
     /// The stairs of these levels. Takes no memory.
     pub fn build(self) -> Stairs
         ensures { result ≡ self }
     {
-        Stairs {
-            stretches: self.stretches,
-        }
+        self.stairs
     }
 }

@@ -1,8 +1,9 @@
 //! Levels kept as stretches of equal bounds, in the order in which they are built: from the last
 //! level to the first.
 
-ghost use Rattle.std.specs.Prelude.{◌≡◌, ◌∷◌, [], ◌+◌, ◌-◌, ◌<◌, ◌≤◌, length, Some, slice_get, OnOk, OnErr, vec_len};
-ghost use Rattle.suffix_staircase.specs.Levels.{CanStandBefore, starts};
+ghost use Rattle.std.specs.Prelude.{◌≡◌, ◌∷◌, [], ◌+◌, ◌-◌, ◌<◌, ◌≤◌, length, Some, slice_get, OnOk, OnErr, IsTrue};
+ghost use Rattle.step_trace.specs.declared.traces.TheConstants.{MAX_STEPS};
+ghost use Rattle.suffix_staircase.specs.Levels.{CanStandBefore, begins, starts};
 ghost use Rattle.suffix_staircase.specs.Stretches.{levels_of, AreStretches};
 
 use crate::levels::Level;
@@ -60,34 +61,32 @@ pub(crate) fn start_of(stretches: &[Stretch], i: usize) -> Option<u64>
 
 /// Puts a level before the others.
 pub(crate) fn put_before(stretches: &mut Vec<Stretch>, level: Level) -> Result<(), AllocError>
-    requires room { length (levels_of stretches.old.items) < 1000000 }
+    requires room { length (levels_of stretches.old.items) < MAX_STEPS }
     requires stretches { AreStretches stretches.old.items }
     requires falling { CanStandBefore level (levels_of stretches.old.items) }
     ensures ok { OnOk result (levels_of stretches.new.items ≡ level ∷ levels_of stretches.old.items) }
     ensures err { OnErr result (stretches.new.items ≡ stretches.old.items) }
+    ensures more { OnErr result (IsTrue (begins level (levels_of stretches.old.items))) }
     ensures stretches { AreStretches stretches.new.items }
 {
     let reach = height(stretches) + 1;
     let stretch = Stretch { level, reach };
-    if continues(stretches, &level) {
+    if begins(stretches, &level) {
+        stretches.push(stretch)?;
+    } else {
         let last = stretches.len() - 1;
         stretches[last] = stretch;
-    } else {
-        stretches.push(stretch)?;
     }
     Ok(())
 }
 
-ghost use Rattle.suffix_staircase.specs.Levels.{begins};
-ghost use Rattle.std.specs.Prelude.{not};
-
-// Whether a level that is put before the others has the bounds of the first of them.
-fn continues(stretches: &[Stretch], level: &Level) -> bool
+// Whether a level that is put before the others has another bound than the first of them.
+fn begins(stretches: &[Stretch], level: &Level) -> bool
     requires { AreStretches stretches.now }
-    ensures { result ≡ not (begins level.now (levels_of stretches.now)) }
+    ensures { result ≡ begins level.now (levels_of stretches.now) }
 {
     match top(stretches) {
-        Some(top) => top.level.has_bounds_of(level),
-        None => false,
+        Some(top) => !top.level.has_bounds_of(level),
+        None => true,
     }
 }

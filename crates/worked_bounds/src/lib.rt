@@ -1,4 +1,5 @@
-//! Worked examples of traces and of bounds: tests of the crates below, by their public items.
+//! Worked examples of traces, of bounds and of stairs, and the backward pass beside the plain searches:
+//! tests of the crates below, by their public items.
 #![tactic(auto)]
 
 #[cfg(test)]
@@ -8,8 +9,18 @@ mod full_size;
 #[cfg(test)]
 mod gaps_by_hand;
 #[cfg(test)]
+mod long_stairs;
+#[cfg(test)]
+mod plain_comparison;
+#[cfg(test)]
 mod pushes_by_hand;
+#[cfg(test)]
+mod stair_levels;
+#[cfg(test)]
+mod stairs_by_hand;
 #[cfg(test)]
 mod texts_by_hand;
 #[cfg(test)]
 mod traces;
+#[cfg(test)]
+mod traces_by_hand;

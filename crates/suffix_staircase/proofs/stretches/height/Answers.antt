@@ -1,7 +1,7 @@
 use Rattle.std.proofs.Common.{sym, ap, length, List}
 use Rattle.suffix_staircase.specs.declared.stretches.Stretch.{Stretch}
 use Rattle.suffix_staircase.specs.Stretches.{levels_of}
-use Rattle.suffix_staircase.proofs.StretchLevels.{HasTop-from_top, empty_from_top}
+use Rattle.suffix_staircase.proofs.StretchTops.{HasTop-from_top, empty_from_top}
 use Rattle.suffix_staircase.proofs.stretches.height.Goals as goal
 
 pub returns-in-Some : goal.returns-in-Some

@@ -1,7 +1,7 @@
 use Rattle.std.proofs.Common.{◌+◌, ◌-◌, arith, rules}
 use Rattle.std.specs.Prelude.{nat_lt}
 use Rattle.std.proofs.lemmas.List.Sorted.{IsPartitionPoint-from_clause}
-use Rattle.suffix_staircase.proofs.StretchLevels.{parted_by_depth, HoldsDepth, HoldsDepth-from_point, level_from_depth}
+use Rattle.suffix_staircase.proofs.StretchDepths.{parted_by_depth, HoldsDepth, HoldsDepth-from_point, level_from_depth}
 use Rattle.suffix_staircase.proofs.stretches.level_at.Goals as goal
 use Rattle.suffix_staircase.proofs.stretches.level_at.Goals.{After-partition_point-holder}
 

@@ -1,5 +1,5 @@
 use Rattle.std.proofs.Common.{Fits, w64, ℕ, ◌<◌, ◌≤◌, ◌^◌, ◌+◌, ◌-◌, arith, length}
-use Rattle.suffix_staircase.proofs.StretchLevels.{reach_within}
+use Rattle.suffix_staircase.proofs.StretchDepths.{reach_within}
 use Rattle.suffix_staircase.proofs.StartNumbers.{no_start, start_at}
 use Rattle.suffix_staircase.proofs.stretches.start_of.Goals as goal
 

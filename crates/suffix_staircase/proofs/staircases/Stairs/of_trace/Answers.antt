@@ -1,46 +1,35 @@
-use Rattle.std.proofs.Common.{◌≡◌, ◌+◌, ◌-◌, ◌≤◌, length, arith}
-use Rattle.suffix_staircase.proofs.LevelBounds.{KnowsLevel-after_all, AreLevelsFrom-after_all, AreLevelsFrom-before, AreLevels-from_first, IsLevelAt-from_known, StandsBefore-itself}
+use Rattle.std.proofs.Common.{◌≡◌, ◌+◌, ◌-◌, length, ap, ℕ, arith}
+use Rattle.suffix_staircase.proofs.LevelBounds.{AreLevelsFrom-after_all, AreLevelsFrom-before, AreLevels-from_first, StandsBefore-itself}
 use Rattle.suffix_staircase.proofs.staircases.Stairs.of_trace.Goals as goal
 
-pub loop-done-init : goal.loop-done-init
-loop-done-init c =
-    let steps = c.args.trace.now.steps in
-    let all : length steps - 0 ≡ length steps = omega arith in
+pub loop-no-init : goal.loop-no-init
+loop-no-init c =
+    let count : c.len.result + 1 ≡ length c.args.trace.now.steps + 1 = ap (λ (n : ℕ). n + 1) c.len.ensures.value in
+    let last : c.len.result + 1 - 1 ≡ length c.args.trace.now.steps = omega (arith, count) in
     record {
-      receives = rw all c.in_ok-receives.ensures;
-      silences = rw all c.in_ok-silences.ensures;
-      level = rw all (KnowsLevel-after_all c.args.set steps);
-      levels = rw (all, c.new-builder.ensures) (AreLevelsFrom-after_all c.args.set steps);
+      start = omega arith;
+      known = rw last c.in_ok-pass.ensures;
+      levels = rw (count, c.new-builder.ensures) (AreLevelsFrom-after_all c.args.set c.args.trace.now.steps);
       falling = rw c.new-builder.ensures tt;
     }
 
-pub loop-done-preserved : goal.loop-done-preserved
-loop-done-preserved c =
-    let steps = c.args.trace.now.steps in
-    let no = c.len-count.result - c.loop-done.done in
-    let known = c.loop-done.invariant in
-    let back = c.step_back-level.ensures in
-    let count = c.len-count.ensures.value in
-    let below = c.loop-done-test.true in
-    let last : length steps - (c.loop-done.done + 1) ≡ no - 1 = omega (arith, count, below) in
-    let here : length steps - (c.loop-done.done + 1) + 1 ≡ no = omega (arith, count, below) in
-    let next : length steps - c.loop-done.done + 1 ≡ no + 1 = omega (arith, count) in
-    let start : 1 ≤ no = omega (arith, below) in
+pub loop-no-preserved : goal.loop-no-preserved
+loop-no-preserved c =
+    let no = c.loop-no.no - 1 in
+    let back = c.step_back.ensures in
+    let below = c.loop-no-test.true in
+    let next : c.loop-no.no ≡ no + 1 = omega (arith, below) in
     record {
-      receives = rw last back.receives;
-      silences = rw here back.silences;
-      level = rw here back.level;
-      levels = rw (here, c.in_ok-lower.ensures.ok)
-          (AreLevelsFrom-before c.args.set steps no c.step_back-level.result c.loop-done.builder
-          (IsLevelAt-from_known c.args.set steps no c.step_back-level.result start back.level)
-          (rw next at known.levels));
-      falling = rw c.in_ok-lower.ensures.ok (StandsBefore-itself c.step_back-level.result);
+      start = omega (arith, below);
+      known = back.known;
+      levels = rw c.in_ok-lower.ensures.ok
+          (AreLevelsFrom-before c.args.set c.args.trace.now.steps no c.step_back.result c.loop-no.builder back.level (rw next at c.loop-no.invariant.levels));
+      falling = rw (c.in_ok-lower.ensures.ok, back.kept) (StandsBefore-itself c.step_back.result);
     }
 
 pub returns : goal.returns
 returns c =
-    let steps = c.args.trace.now.steps in
-    let count = c.len-count.ensures.value in
-    let end = c.loop-done-test.false in
-    let first : length steps - c.loop-done.done + 1 ≡ 1 = omega (arith, count, end) in
-    rw c.build.ensures (AreLevels-from_first c.args.set steps c.loop-done.builder (rw first at c.loop-done.invariant.levels))
+    let start = c.loop-no.invariant.start in
+    let end = c.loop-no-test.false in
+    let first : c.loop-no.no ≡ 1 = omega (arith, start, end) in
+    rw c.build.ensures (AreLevels-from_first c.args.set c.args.trace.now.steps c.loop-no.builder (rw first at c.loop-no.invariant.levels))

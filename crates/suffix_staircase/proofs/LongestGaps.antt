@@ -1,0 +1,66 @@
+-- The longest of the gaps that begin at a step is that of the member whose next step comes last.
+use Rattle.std.proofs.Common.{ℕ, ◌≡◌, ◌+◌, ◌-◌, ◌<◌, ◌≤◌, inl, inr, List, length, get_or, set, IsTrue, ◌&&◌, suc, zero, arith}
+use Rattle.std.specs.Prelude.{nat_le, nat_lt}
+use Rattle.std.proofs.lemmas.Bool.{cases_lt, ltb-true, and_parts}
+use Rattle.step_trace.specs.declared.steps.Step.{Step}
+use Rattle.step_trace.specs.declared.rows.Gap.{Gap}
+use Rattle.step_trace.specs.Processors.{has_proc, IsWithin}
+use Rattle.step_trace.specs.Traces.{Recorded}
+use Rattle.step_trace.specs.Witnesses.{IsGap}
+use Rattle.suffix_staircase.specs.NextSteps.{AreNextSteps, IsLatest}
+use Rattle.step_trace.specs.declared.processors.TheConstants.{MAX_MEMBER}
+
+-- members are numbered from 1
+member_low : (set p : ℕ) → IsTrue (has_proc set p) → 1 ≤ p
+member_low mask p m =
+    let range = (and_parts (nat_lt 0 p && nat_le p MAX_MEMBER) _ m).0 in
+    let low = ltb-true 0 p (and_parts (nat_lt 0 p) _ range).0 in
+    omega arith
+
+-- a gap from x on ends before the next step of its processor
+gap_until : (set : ℕ) (t : Recorded) (x : ℕ) (next : List ℕ) (w : Gap) → IsWithin set t.config.n → AreNextSteps t x next → IsGap set t.steps w → w.from ≡ x → w.to < get_or next w.proc 0
+gap_until set t x next w within k gap e = elim (cases_lt w.to (get_or next w.proc 0)) [
+  | inl l ↦ l
+  | inr h ↦ (let own = k.each w.proc (member_low set w.proc gap.member) (within w.proc gap.member) in
+      let inside = gap.inside in
+      let from = own.from in
+      absurd (gap.silent (get_or next w.proc 0) (omega (arith, from, e)) h (own.step (omega (arith, h, inside)))))
+]
+
+-- what the latest next step of a member says of the gaps that begin at x
+pub record IsLongest (set : ℕ) (steps : List Step) (x q until : ℕ) : Type 0 where
+  pub gap : x < until → IsGap set steps (record { proc = q; from = x; to = until - 1 })
+  pub longest : (w : Gap) → IsGap set steps w → w.from ≡ x → w.to < until
+  pub least : (w : Gap) → IsGap set steps w → w.from ≡ x → w.to + 1 ≡ until → q ≤ w.proc
+
+-- the member whose next step comes last has the longest gap
+pub IsLongest-from_latest : (set : ℕ) (t : Recorded) (x q : ℕ) (next : List ℕ) → 1 ≤ x → IsWithin set t.config.n → AreNextSteps t x next → IsLatest set next (length next) q
+    → IsLongest set t.steps x q (get_or next q 0)
+IsLongest-from_latest set t x q next start within k latest = record {
+  gap = gap q latest;
+  longest = λ w i e.
+      let own = gap_until set t x next w within k i e in
+      let high = within w.proc i.member in
+      let wide = k.long in
+      let most = latest.greatest w.proc (omega (arith, high, wide)) (member_low set w.proc i.member) i.member in
+      omega (arith, own, most);
+  least = λ w i e until. elim (cases_lt w.proc q) [
+    | inl below ↦ absurd (let own = gap_until set t x next w within k i e in
+        let less = latest.least w.proc below (member_low set w.proc i.member) i.member in
+        omega (arith, own, less, until))
+    | inr h ↦ h
+  ];
+} where
+  gap : (p : ℕ) → IsLatest set next (length next) p → x < get_or next p 0 → IsGap set t.steps (record { proc = p; from = x; to = get_or next p 0 - 1 })
+  gap zero l h = absurd (let z = k.zero in omega (arith, z, h))
+  gap (suc p) l h =
+      let member = l.member (omega arith) in
+      let own = k.each (suc p) (omega arith) (within (suc p) member) in
+      let until = own.until in
+      record {
+        member = member;
+        start = start;
+        order = omega arith;
+        inside = omega (arith, until, h);
+        silent = λ z a b. own.silent z a (omega (arith, b, h));
+      }

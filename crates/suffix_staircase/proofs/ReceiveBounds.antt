@@ -1,0 +1,49 @@
+-- The numbers in a step, and those noted of Receives, are within the lists of notes.
+use Rattle.std.proofs.Common.{ℕ, ◌≡◌, ◌+◌, ◌<◌, ◌≤◌, inl, inr, List, length, get_or, Some, Bool, ap, ◌∙◌, arith}
+use Rattle.std.specs.Prelude.{All}
+use Rattle.std.proofs.lemmas.List.{get_or_default}
+use Rattle.std.proofs.lemmas.Bool.{cases_lt}
+use Rattle.step_trace.specs.declared.steps.Act.{Act}
+use Rattle.step_trace.specs.declared.steps.Act.TheVariants.{Send, Receive}
+use Rattle.step_trace.specs.declared.steps.Step.{Step}
+use Rattle.step_trace.specs.Configurations.{Setup}
+use Rattle.step_trace.specs.Traces.{Recorded, step_at, IsWellFormed}
+use Rattle.step_trace.proofs.StepPositions.{step_at_within}
+use Rattle.suffix_staircase.specs.declared.receives.Receives.{Receives}
+use Rattle.suffix_staircase.specs.Receives.{KnowsReceives}
+
+-- a step by its processor and its act
+pub with_act : (steps : List Step) (x : ℕ) (s : Step) (a : Act) → step_at steps x ≡ Some s → s.act ≡ a → step_at steps x ≡ Some (record { proc = s.proc; act = a })
+with_act steps x s a h e = h ∙ ap (λ (b : Act). let z : Step = record { proc = s.proc; act = b } in Some z) e
+
+-- a destination is a processor
+pub dest_bound : (c : Setup) (steps : List Step) (x a b : ℕ) → IsWellFormed c steps → step_at steps x ≡ Some (record { proc = a; act = Send b }) → b ≤ c.n
+dest_bound c steps x a b w h = (w.dests x (record { proc = a; act = Send b }) h).1
+
+-- the ids of a Receive are numbers of steps
+pub ids_bound : (c : Setup) (steps : List Step) (x p : ℕ) (ids taken : List ℕ) (ends : Bool) → IsWellFormed c steps → step_at steps x ≡ Some (record { proc = p; act = Receive ends ids })
+    → length taken ≡ length steps + 1 → All (λ s. s < length taken) ids
+ids_bound c steps x p ids taken ends w h long = λ k d l.
+    let earlier = (w.earlier x (get_or ids k d) (record { proc = p; act = Receive ends ids }) h (k, l, get_or_default ids k (get_or ids k d) d l)).0 in
+    let inside = step_at_within steps x _ h in
+    omega (arith, earlier, inside, long)
+
+-- the first Receive of a processor is the number of a step
+pub first_bound : (t : Recorded) (x p : ℕ) (r : Receives) → KnowsReceives t x r → p ≤ t.config.n → get_or r.first.items p 0 < length r.before.items
+first_bound t x p r k l = elim (cases_lt 0 (get_or r.first.items p 0)) [
+  | inl some ↦ (let f = (k.first p l).found some in
+      let inside = step_at_within t.steps _ _ f.1.step in
+      let long = k.before_long in
+      omega (arith, inside, long))
+  | inr none ↦ (let long = k.before_long in omega (arith, none, long))
+]
+
+-- the Receive that takes a message is the number of a step
+pub taker_bound : (t : Recorded) (x s : ℕ) (r : Receives) → KnowsReceives t x r → get_or r.taken_by.items s 0 < length r.before.items
+taker_bound t x s r k = elim (cases_lt 0 (get_or r.taken_by.items s 0)) [
+  | inl some ↦ (let f = (k.taken s).found some in
+      let inside = step_at_within t.steps _ _ f.1.1 in
+      let long = k.before_long in
+      omega (arith, inside, long))
+  | inr none ↦ (let long = k.before_long in omega (arith, none, long))
+]

@@ -1,0 +1,35 @@
+use Rattle.std.proofs.Common.{set, sym, arith}
+use Rattle.suffix_staircase.specs.NextSteps.{AreNextSteps}
+use Rattle.suffix_staircase.proofs.NextSteps.{AreNextSteps-back, IsLatest-kept}
+use Rattle.suffix_staircase.proofs.next_steps.NextSteps.step_back.Goals as goal
+use Rattle.suffix_staircase.proofs.next_steps.NextSteps.step_back.Goals.{After-step_of}
+
+-- the next steps with that of the processor whose step it is
+known_next : (c : After-step_of) → AreNextSteps c.args.trace.now c.args.no (set c.args.self.now.by_processor.items c.step_of.result.now.proc c.args.no)
+known_next c =
+    let proc = c.step_of.ensures.sound.procs c.args.no c.step_of.result.now c.step_of.ensures.step in
+    AreNextSteps-back c.args.trace.now c.args.no c.step_of.result.now c.args.self.now.by_processor.items proc.0 proc.1 c.step_of.ensures.step c.requires.known.next
+
+pub index_mut-requires : goal.index_mut-requires
+index_mut-requires c =
+    let proc = c.step_of.ensures.sound.procs c.args.no c.step_of.result.now c.step_of.ensures.step in
+    let long = c.requires.known.next.long in
+    omega (arith, proc, long, c.args.self.now.by_processor.ok.0)
+
+pub returns-then-proc-self : goal.returns-then-proc-self
+returns-then-proc-self c = record {
+  next = known_next (goal.at.returns-then-proc-self c).After-step_of;
+  latest = rw c.deref.ensures.value at c.latest_member-self.ensures;
+}
+
+pub returns-else-proc-self : goal.returns-else-proc-self
+returns-else-proc-self c =
+    let proc = c.step_of.ensures.sound.procs c.args.no c.step_of.result.now c.step_of.ensures.step in
+    let known = c.requires.known.next in
+    let long = known.long in
+    let later = (known.each c.step_of.result.now.proc proc.0 proc.1).from in
+    record {
+      next = known_next (goal.at.returns-else-proc-self c).After-step_of;
+      latest = IsLatest-kept c.args.set c.args.self.now.latest c.step_of.result.now.proc c.args.no c.args.self.now.by_processor.items
+          (λ e. c.if-proc-self.false (sym e)) (omega (arith, proc, long)) (omega (arith, later)) c.requires.known.latest;
+    }

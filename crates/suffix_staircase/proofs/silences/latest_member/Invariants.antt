@@ -1,5 +1,0 @@
-use Rattle.suffix_staircase.specs.Silences.{IsLatest}
-use Rattle.suffix_staircase.proofs.silences.latest_member.Given as goal
-
-abbrev pub invariant-loop-p : goal.invariant-loop-p
-invariant-loop-p l = IsLatest l.set l.next_steps l.p l.latest
