@@ -14,6 +14,9 @@ use std::io::{Read, Write};
 ///
 /// For contracts it keeps as well how many reads were made, how often a write took no byte of a
 /// buffer that had some, and whether the last write or flush was a flush without a fault.
+///
+/// Each call is passed on once, as it is. The contracts see the bytes of a device and not its calls, so
+/// that is tested, over `failing_devices`, which count the calls that reach them.
 #[derive(Drop)]
 pub struct Counting<T> {
     inner: T,

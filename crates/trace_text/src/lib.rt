@@ -2,8 +2,6 @@
 //! loops by which texts are read and written. `specs/` has the definitions that the contracts cite.
 #![tactic(auto)]
 
-#[cfg(test)]
-mod byte_loop_tests;
 mod byte_loops;
 mod counting;
 pub mod failing_devices;
