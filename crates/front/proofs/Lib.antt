@@ -6,7 +6,6 @@ pub mod StartRows
 pub mod ServingRows
 pub mod LastBegun
 pub mod PlainFields
-pub mod RowsTaken
 pub mod RowsRead
 pub mod TextsRead
 pub mod OneReport

@@ -1,16 +1,18 @@
 -- What the answer for the records of a text says of the text.
-use Rattle.std.proofs.Common.{ℕ, ◌≡◌, ◌+◌, ◌==◌, ◌∙◌, List, [], ◌∷◌, length, Option, Some, None, Result, Ok, Err, Bool, true, false, cond, All, IfOk, IfErr, IfSome, MatchResult, MatchBool, refl, sym, ap, subst}
-use Rattle.std.specs.Prelude.{⊤}
+use Rattle.std.proofs.Common.{ℕ, ◌≡◌, ◌+◌, ◌<◌, ◌≤◌, ◌==◌, ◌∙◌, List, [], ◌∷◌, length, Option, Some, None, Result, Ok, Err, Bool, true, false, cond, All, IfOk, IfErr, IfSome, MatchResult, MatchBool, refl, sym, ap, subst, arith}
+use Rattle.std.specs.Prelude.{⊤, nat_le}
+use Rattle.std.proofs.lemmas.Bool.Decides.{nat_tests}
 use Rattle.std.specs.Option.{ok_or}
 use Rattle.step_trace.specs.declared.rows.Row.{Row}
-use Rattle.trace_text.specs.Records.{records_of_text}
+use Rattle.trace_text.specs.declared.byte_loops.TheConstants.{MAX_TEXT_BYTES}
+use Rattle.trace_text.specs.Records.{◌>>=◌, after_records, records_of_text}
 use Rattle.front.specs.declared.row_records.Entries.{Entries}
 use Rattle.front.specs.declared.refusals.ReportError.{ReportError}
 use Rattle.front.specs.declared.refusals.ReportError.TheVariants as why
 use Rattle.front.specs.ReportTexts.{StandsFor, IsRow64}
 use Rattle.front.specs.ReportReading.{RefusedFor, IsDeviceRefusal, faults_after_report}
-use Rattle.front.specs.ReportRefusals.{is_header, entries_of, whole_row, row_from, row_of, with_row, next_rows, go_on, rows_after, rows_at_end, rows_of_records, is_memory, Gives}
-use Rattle.front.proofs.RowsRead.{rows_of_records-ok, rows_of_records-records}
+use Rattle.front.specs.ReportRefusals.{is_header, entries_of, whole_row, row_from, row_of, with_row, next_rows, rows_at_end, rows_of_records, rows_of_text, is_memory, Gives}
+use Rattle.front.proofs.RowsRead.{rows_of_records-ok, rows_of_records-records, report_records-injective}
 
 -- a refusal of the records
 IsRecordRefusal : ReportError → Type 0
@@ -45,18 +47,18 @@ next-refusal (Some rows) row e h = go (row_of (length rows + 1) row) refl h wher
   go (Ok x) k h = cc h
   go (Err f) k h = let same : f ≡ e = cc h in subst IsRecordRefusal same (row-refusal (length rows + 1) row (length row == 8) f k)
 
-after-refusal : (rows : Option (List Row)) (rs : List (List (List ℕ))) (e : ReportError) → rows_after rows rs ≡ Err e → IsRecordRefusal e
+after-refusal : (rows : Option (List Row)) (rs : List (List (List ℕ))) (e : ReportError) → after_records next_rows rows rs ≡ Err e → IsRecordRefusal e
 after-refusal rows [] e h = cc h
 after-refusal rows (r ∷ rs) e h = go (next_rows rows r) refl (λ more. after-refusal more rs e) h where
-  go : (n : Result (Option (List Row)) ReportError) → next_rows rows r ≡ n → ((more : Option (List Row)) → rows_after more rs ≡ Err e → IsRecordRefusal e)
-      → go_on n (λ more. rows_after more rs) ≡ Err e → IsRecordRefusal e
+  go : (n : Result (Option (List Row)) ReportError) → next_rows rows r ≡ n → ((more : Option (List Row)) → after_records next_rows more rs ≡ Err e → IsRecordRefusal e)
+      → n >>= (λ more. after_records next_rows more rs) ≡ Err e → IsRecordRefusal e
   go (Ok more) k rest h = rest more h
   go (Err f) k rest h = let same : f ≡ e = cc h in subst IsRecordRefusal same (next-refusal rows r f k)
 
 records-refusal : (rs : List (List (List ℕ))) (e : ReportError) → rows_of_records rs ≡ Err e → IsRecordRefusal e
 unfolding IsRecordRefusal
-records-refusal rs e h = go (rows_after None rs) refl h where
-  go : (n : Result (Option (List Row)) ReportError) → rows_after None rs ≡ n → rows_at_end n ≡ Err e → IsRecordRefusal e
+records-refusal rs e h = go (after_records next_rows None rs) refl h where
+  go : (n : Result (Option (List Row)) ReportError) → after_records next_rows None rs ≡ n → n >>= rows_at_end ≡ Err e → IsRecordRefusal e
   go (Ok None) k h = let same : why.BadHeader ≡ e = cc h in subst IsRecordRefusal same tt
   go (Ok (Some rows)) k h = cc h
   go (Err f) k h = let same : f ≡ e = cc h in subst IsRecordRefusal same (after-refusal None rs f k)
@@ -92,16 +94,25 @@ complete-from {A = A} items r (Some t) text h k = λ rows small stands.
     go (Ok v) h rows k = let same : Ok (items v) ≡ Ok rows = sym h ∙ k in cc same
     go (Err e) h rows k = refused e h rows k
 
--- a refusal is the first of the records, or want of memory
+-- a text that isn't too large has the rows of its records
+small-rows : (text : List ℕ) → length text ≤ MAX_TEXT_BYTES → rows_of_text text ≡ rows_of_records (records_of_text text)
+small-rows text l = let small : nat_le (length text) MAX_TEXT_BYTES ≡ true = grind (arith, nat_tests) in rw small refl
+
+-- a text that is too large is refused for it
+pub large-from : (known : Option (List ℕ)) → IfSome known (λ xs. MAX_TEXT_BYTES < length xs) → IfSome known (λ t. rows_of_text t ≡ Err why.TooLarge)
+large-from None l = tt
+large-from (Some t) l = let large : nat_le (length t) MAX_TEXT_BYTES ≡ false = grind (arith, nat_tests) in rw large refl
+
+-- a refusal is the first of the text, or want of memory
 pub refused-from : {A : Type 0} (items : A → List Row) (r : Result A ReportError) (known : Option (List ℕ)) (text : List ℕ) (old new : ℕ)
-    → Gives items r (rows_of_records (records_of_text text)) → IfSome known (λ xs. text ≡ xs) → IfErr r (λ e. RefusedFor e old new known)
+    → length text ≤ MAX_TEXT_BYTES → Gives items r (rows_of_records (records_of_text text)) → IfSome known (λ xs. text ≡ xs) → IfErr r (λ e. RefusedFor e old new known)
 unfolding IsRecordRefusal
-refused-from items (Ok v) known text old new h k = tt
-refused-from items (Err e) known text old new h k = go e h known k where
+refused-from items (Ok v) known text old new l h k = tt
+refused-from items (Err e) known text old new l h k = go e h known k where
   first : (e : ReportError) → rows_of_records (records_of_text text) ≡ Err e → (known : Option (List ℕ)) → IfSome known (λ xs. text ≡ xs)
-      → IfSome known (λ t. rows_of_records (records_of_text t) ≡ Err e)
+      → IfSome known (λ t. rows_of_text t ≡ Err e)
   first e h None k = tt
-  first e h (Some t) k = subst (λ t. rows_of_records (records_of_text t) ≡ Err e) k h
+  first e h (Some t) k = subst (λ t. rows_of_text t ≡ Err e) k (small-rows text l ∙ h)
 
   go : (e : ReportError) → MatchBool (is_memory e) ⊤ (rows_of_records (records_of_text text) ≡ Err e) → (known : Option (List ℕ)) → IfSome known (λ xs. text ≡ xs)
       → RefusedFor e old new known
@@ -125,3 +136,7 @@ faultless-from items (Err why.BadHeader) text n h = refl
 faultless-from items (Err (why.BadFields at)) text n h = refl
 faultless-from items (Err (why.BadNumber at)) text n h = refl
 faultless-from items (Err (why.HalfWitness at)) text n h = refl
+
+-- a text stands for at most one list of rows
+pub stands-one : (text : List ℕ) (xs ys : List Row) → All IsRow64 xs → All IsRow64 ys → StandsFor text xs → StandsFor text ys → xs ≡ ys
+stands-one text xs ys h k s r = report_records-injective xs ys h k (sym s ∙ r)

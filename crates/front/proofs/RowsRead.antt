@@ -13,9 +13,9 @@ use Rattle.step_trace.specs.declared.rows.Row.{Row}
 use Rattle.front.specs.declared.row_records.Entries.{Entries}
 use Rattle.front.specs.declared.refusals.ReportError.{ReportError}
 use Rattle.front.specs.declared.refusals.ReportError.TheVariants.{HalfWitness, BadFields, BadHeader}
-use Rattle.trace_text.specs.TextRefusals.{field_of, number_of}
+use Rattle.trace_text.specs.Records.{◌>>=◌, after_records, field_of, number_of}
 use Rattle.front.specs.ReportTexts.{report_header, miss_fields, gap_fields, row_record, report_records, IsMiss64, IsGap64, IsRow64}
-use Rattle.front.specs.ReportRefusals.{is_header, entry_of, entries_of, miss_of, gap_of, whole_row, row_from, row_of, with_row, go_on, rows_after, rows_at_end, rows_of_records}
+use Rattle.front.specs.ReportRefusals.{is_header, entry_of, entries_of, miss_of, gap_of, whole_row, row_from, row_of, with_row, next_rows, rows_at_end, rows_of_records}
 use Rattle.trace_text.proofs.Numbers.{same-from_bytes_eq, number_of-decimal, number_of-some}
 
 -- the text of what a field of a witness says
@@ -119,13 +119,13 @@ row_of-ok at row r h = eight (length row == 8) refl h where
   eight false t h = cc h
 
 -- the rows that were taken after others are those whose records were read
-rows_after-ok : (taken : List Row) (rs : List (List (List ℕ))) (o : Option (List Row)) → rows_after (Some taken) rs ≡ Ok o
+rows_after-ok : (taken : List Row) (rs : List (List (List ℕ))) (o : Option (List Row)) → after_records next_rows (Some taken) rs ≡ Ok o
     → (new : List Row) × (o ≡ Some (taken ++ new)) × (rs ≡ map row_record new)
 rows_after-ok taken [] o h = ([], let same : Some taken ≡ o = cc h in sym same ∙ ap (λ (t : List Row). Some t) (sym (append-nil taken)), refl)
 rows_after-ok taken (r ∷ rs) o h = go (row_of (length taken + 1) r) refl (λ x. rows_after-ok (taken ++ x ∷ []) rs o) h where
   go : (t : Result Row ReportError) → row_of (length taken + 1) r ≡ t
-      → ((x : Row) → rows_after (Some (taken ++ x ∷ [])) rs ≡ Ok o → (new : List Row) × (o ≡ Some ((taken ++ x ∷ []) ++ new)) × (rs ≡ map row_record new))
-      → go_on (with_row taken t) (λ more. rows_after more rs) ≡ Ok o → (new : List Row) × (o ≡ Some (taken ++ new)) × (r ∷ rs ≡ map row_record new)
+      → ((x : Row) → after_records next_rows (Some (taken ++ x ∷ [])) rs ≡ Ok o → (new : List Row) × (o ≡ Some ((taken ++ x ∷ []) ++ new)) × (rs ≡ map row_record new))
+      → with_row taken t >>= (λ more. after_records next_rows more rs) ≡ Ok o → (new : List Row) × (o ≡ Some (taken ++ new)) × (r ∷ rs ≡ map row_record new)
   go (Err e) k more h = cc h
   go (Ok x) k more h =
       let m = more x h in
@@ -161,7 +161,7 @@ header-same row h =
 pub rows_of_records-ok : (rs : List (List (List ℕ))) (rows : List Row) → rows_of_records rs ≡ Ok rows → rs ≡ report_records rows
 rows_of_records-ok [] rows h = cc h
 rows_of_records-ok (r ∷ rs) rows h = go (is_header r) refl h where
-  end : r ≡ report_header → (o : Result (Option (List Row)) ReportError) → rows_after (Some []) rs ≡ o → rows_at_end o ≡ Ok rows → r ∷ rs ≡ report_records rows
+  end : r ≡ report_header → (o : Result (Option (List Row)) ReportError) → after_records next_rows (Some []) rs ≡ o → o >>= rows_at_end ≡ Ok rows → r ∷ rs ≡ report_records rows
   end e (Err f) k h = cc h
   end e (Ok None) k h = cc h
   end e (Ok (Some ys)) k h =
@@ -169,8 +169,8 @@ rows_of_records-ok (r ∷ rs) rows h = go (is_header r) refl h where
       let new : m.0 ≡ rows = sym (same_Some ys m.0 m.1) ∙ cc h in
       rw (e, m.2, new) refl
 
-  go : (t : Bool) → is_header r ≡ t → rows_at_end (go_on (cond t (Ok (Some [])) (Err BadHeader)) (λ more. rows_after more rs)) ≡ Ok rows → r ∷ rs ≡ report_records rows
-  go true t h = end (header-same r t) (rows_after (Some []) rs) refl h
+  go : (t : Bool) → is_header r ≡ t → (cond t (Ok (Some [])) (Err BadHeader) >>= λ more. after_records next_rows more rs) >>= rows_at_end ≡ Ok rows → r ∷ rs ≡ report_records rows
+  go true t h = end (header-same r t) (after_records next_rows (Some []) rs) refl h
   go false t h = cc h
 
 -- the record of a row is read as the row
@@ -206,7 +206,7 @@ row_of-record at r h = go r.gst r.delta r.phi r.miss r.gap h.gst h.delta h.phi h
     entry_of-decimal w.to e.2,
   ) refl
 
-rows_after-records : (taken rows : List Row) → All IsRow64 rows → rows_after (Some taken) (map row_record rows) ≡ Ok (Some (taken ++ rows))
+rows_after-records : (taken rows : List Row) → All IsRow64 rows → after_records next_rows (Some taken) (map row_record rows) ≡ Ok (Some (taken ++ rows))
 rows_after-records taken [] h = ap (λ (t : List Row). Ok (Some t)) (sym (append-nil taken))
 rows_after-records taken (r ∷ rows) h =
     rw (row_of-record (length taken + 1) r (All-head IsRow64 r rows h))

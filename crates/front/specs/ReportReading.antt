@@ -1,19 +1,17 @@
 -- For which causes `read_report` refuses.
-use Rattle.std.specs.Prelude.{◌≡◌, ◌<◌, ℕ, List, length, Option, IfSome, Result, Err, ⊤}
+use Rattle.std.specs.Prelude.{◌≡◌, ℕ, List, Option, IfSome, Result, Err, ⊤}
 use Rattle.trace_text.specs.Faults.{Rose, one_more}
 use Rattle.front.specs.declared.refusals.ReportError.{ReportError}
 use Rattle.front.specs.declared.refusals.ReportError.TheVariants as why
-use Rattle.trace_text.specs.Records.{records_of_text}
-use Rattle.front.specs.ReportRefusals.{rows_of_records}
+use Rattle.front.specs.ReportRefusals.{rows_of_text}
 
--- too many bytes, a fault of the reader, the first refusal of the records, or want of memory
+-- a fault of the reader that was counted, want of memory, or the first refusal of the text
 abbrev pub RefusedFor : ReportError → ℕ → ℕ → Option (List ℕ) → Type 0
-RefusedFor why.TooLarge old new known = IfSome known (λ text. 67108864 < length text)
 RefusedFor why.Read old new known = Rose old new
 RefusedFor why.Memory old new known = ⊤
-RefusedFor e old new known = IfSome known (λ text. rows_of_records (records_of_text text) ≡ Err e)
+RefusedFor e old new known = IfSome known (λ text. rows_of_text text ≡ Err e)
 
--- the refusals that no text of at most 64 MiB deserves
+-- the refusals that may come of a text that stands for rows: its size, a fault, and want of memory
 abbrev pub IsDeviceRefusal : ReportError → Type 0
 IsDeviceRefusal why.TooLarge = ⊤
 IsDeviceRefusal why.Read = ⊤

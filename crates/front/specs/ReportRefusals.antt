@@ -1,5 +1,5 @@
 -- The first refusal of a report text, record by record.
-use Rattle.std.specs.Prelude.{ℕ, ◌≡◌, ◌+◌, List, [], ◌∷◌, ◌++◌, length, Option, Some, None, Result, Ok, Err, Bool, true, false, ◌==◌, ◌&&◌, if◌then◌else◌, codes, option_map, MatchBool, ⊤}
+use Rattle.std.specs.Prelude.{ℕ, ◌≡◌, ◌+◌, List, [], ◌∷◌, ◌++◌, length, Option, Some, None, Result, Ok, Err, Bool, true, false, ◌==◌, ◌&&◌, if◌then◌else◌, codes, option_map, nat_le, is_ok}
 use Rattle.std.specs.Str.{bytes_eq}
 use Rattle.std.specs.Option.{option_and_then, ok_or}
 use Rattle.step_trace.specs.declared.rows.Miss.{Miss}
@@ -7,15 +7,17 @@ use Rattle.step_trace.specs.declared.rows.Gap.{Gap}
 use Rattle.step_trace.specs.declared.rows.Row.{Row}
 use Rattle.front.specs.declared.row_records.Entries.{Entries}
 use Rattle.front.specs.declared.refusals.ReportError.{ReportError}
-use Rattle.front.specs.declared.refusals.ReportError.TheVariants.{BadHeader, BadFields, BadNumber, HalfWitness, Memory}
-use Rattle.trace_text.specs.TextRefusals.{field_of, number_of}
+use Rattle.front.specs.declared.refusals.ReportError.TheVariants.{TooLarge, BadHeader, BadFields, BadNumber, HalfWitness, Memory}
+use Rattle.trace_text.specs.declared.byte_loops.TheConstants.{MAX_TEXT_BYTES}
+use Rattle.trace_text.specs.Records.{GivesUnless, after_records, field_of, number_of, records_of_text}
+use Rattle.trace_text.specs.Records as texts
 
 -- whether the record has the names of the fields
 abbrev pub is_header : List (List ℕ) → Bool
-is_header row =
-    (length row == 8) && bytes_eq (field_of row 0) (codes "gst") && bytes_eq (field_of row 1) (codes "delta")
-    && bytes_eq (field_of row 2) (codes "phi") && bytes_eq (field_of row 3) (codes "sent") && bytes_eq (field_of row 4) (codes "missed")
-    && bytes_eq (field_of row 5) (codes "proc") && bytes_eq (field_of row 6) (codes "from") && bytes_eq (field_of row 7) (codes "to")
+is_header fields =
+    (length fields == 8) && bytes_eq (field_of fields 0) (codes "gst") && bytes_eq (field_of fields 1) (codes "delta")
+    && bytes_eq (field_of fields 2) (codes "phi") && bytes_eq (field_of fields 3) (codes "sent") && bytes_eq (field_of fields 4) (codes "missed")
+    && bytes_eq (field_of fields 5) (codes "proc") && bytes_eq (field_of fields 6) (codes "from") && bytes_eq (field_of fields 7) (codes "to")
 
 infixl 10 ◌>>=◌
 abbrev pub ◌>>=◌ : {A B : Type 0} → Option A → (A → Option B) → Option B
@@ -28,10 +30,10 @@ entry_of (b ∷ bs) = option_map (λ n. Some n) (number_of (b ∷ bs))
 
 -- what the fields say, if each is what it has to be
 abbrev pub entries_of : List (List ℕ) → Option Entries
-entries_of row =
-    number_of (field_of row 0) >>= λ gst. number_of (field_of row 1) >>= λ delta. number_of (field_of row 2) >>= λ phi.
-    entry_of (field_of row 3) >>= λ sent. entry_of (field_of row 4) >>= λ missed.
-    entry_of (field_of row 5) >>= λ proc. entry_of (field_of row 6) >>= λ from. entry_of (field_of row 7) >>= λ to.
+entries_of fields =
+    number_of (field_of fields 0) >>= λ gst. number_of (field_of fields 1) >>= λ delta. number_of (field_of fields 2) >>= λ phi.
+    entry_of (field_of fields 3) >>= λ sent. entry_of (field_of fields 4) >>= λ missed.
+    entry_of (field_of fields 5) >>= λ proc. entry_of (field_of fields 6) >>= λ from. entry_of (field_of fields 7) >>= λ to.
     Some (record { gst = gst; delta = delta; phi = phi; sent = sent; missed = missed; proc = proc; from = from; to = to })
 
 -- a miss of both numbers, or none where both are empty
@@ -62,7 +64,7 @@ row_from at (Some e) = ok_or (whole_row e) (HalfWitness at)
 
 -- the row of this number that a record says
 abbrev pub row_of : ℕ → List (List ℕ) → Result Row ReportError
-row_of at row = if length row == 8 then row_from at (entries_of row) else Err (BadFields at)
+row_of at fields = if length fields == 8 then row_from at (entries_of fields) else Err (BadFields at)
 
 -- the rows with one more
 abbrev pub with_row : List Row → Result Row ReportError → Result (Option (List Row)) ReportError
@@ -71,27 +73,21 @@ with_row rows (Err e) = Err e
 
 -- what one more record makes of the rows; before the header there are none
 abbrev pub next_rows : Option (List Row) → List (List ℕ) → Result (Option (List Row)) ReportError
-next_rows None row = if is_header row then Ok (Some []) else Err BadHeader
-next_rows (Some rows) row = with_row rows (row_of (length rows + 1) row)
-
--- what all records make of them, up to the first that is refused
-abbrev pub go_on : Result (Option (List Row)) ReportError → (Option (List Row) → Result (Option (List Row)) ReportError) → Result (Option (List Row)) ReportError
-go_on (Ok rows) next = next rows
-go_on (Err e) next = Err e
-
-abbrev pub rows_after : Option (List Row) → List (List (List ℕ)) → Result (Option (List Row)) ReportError
-rows_after rows [] = Ok rows
-rows_after rows (r ∷ rs) = go_on (next_rows rows r) (λ more. rows_after more rs)
+next_rows None fields = if is_header fields then Ok (Some []) else Err BadHeader
+next_rows (Some rows) fields = with_row rows (row_of (length rows + 1) fields)
 
 -- there has to be a header
-abbrev pub rows_at_end : Result (Option (List Row)) ReportError → Result (List Row) ReportError
-rows_at_end (Ok None) = Err BadHeader
-rows_at_end (Ok (Some rows)) = Ok rows
-rows_at_end (Err e) = Err e
+abbrev pub rows_at_end : Option (List Row) → Result (List Row) ReportError
+rows_at_end None = Err BadHeader
+rows_at_end (Some rows) = Ok rows
 
 -- the rows of these records, or the first refusal
 abbrev pub rows_of_records : List (List (List ℕ)) → Result (List Row) ReportError
-rows_of_records records = rows_at_end (rows_after None records)
+rows_of_records records = texts.◌>>=◌ (after_records next_rows None records) rows_at_end
+
+-- the rows of a text, or the first refusal
+abbrev pub rows_of_text : List ℕ → Result (List Row) ReportError
+rows_of_text text = if nat_le (length text) MAX_TEXT_BYTES then rows_of_records (records_of_text text) else Err TooLarge
 
 abbrev pub is_memory : ReportError → Bool
 is_memory Memory = true
@@ -99,5 +95,9 @@ is_memory e = false
 
 -- the answer, seen by view, is what the table gives, or want of memory
 abbrev pub Gives : {X Y : Type 0} → (X → Y) → Result X ReportError → Result Y ReportError → Type 0
-Gives view (Ok x) table = table ≡ Ok (view x)
-Gives view (Err e) table = MatchBool (is_memory e) ⊤ (table ≡ Err e)
+Gives view result table = GivesUnless is_memory view result table
+
+-- whether a row has to be kept for a record: the header is past, and the record is a row's
+abbrev pub record_keeps : Option (List Row) → List (List ℕ) → Bool
+record_keeps None fields = false
+record_keeps (Some rows) fields = is_ok (row_of (length rows + 1) fields)

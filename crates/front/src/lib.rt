@@ -13,8 +13,3 @@ pub use report_reading::read_report;
 pub use report_texts::write_report;
 pub use reports::{Report, front};
 pub use step_trace::Row;
-
-#[cfg(test)]
-mod front_tests;
-#[cfg(test)]
-mod report_tests;

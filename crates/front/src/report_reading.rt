@@ -1,21 +1,40 @@
 //! Reading of report text, record by record. The first record that is refused decides.
 
-ghost use Rattle.std.specs.Prelude.{◌≡◌, ◌≤◌, All, List, IfOk, IfErr, IfSome, MatchResult, OnOk, length, option_map};
+ghost use Rattle.std.specs.Prelude.{◌≡◌, ◌+◌, ◌≤◌, ◌∷◌, [], ◌++◌, ℕ, All, List, IfOk, IfErr, IfSome, IsErrOf, MatchResult, OnOk, Some, Ok, Err, length, is_ok};
 ghost use Rattle.std.specs.Io.KnownBytes.{IsAtEnd};
 ghost use Rattle.csv.specs.Records.{fields_of};
-ghost use Rattle.trace_text.specs.Records.{records_of_text};
+ghost use Rattle.trace_text.specs.ByteLoops.{bytes_read};
+ghost use Rattle.trace_text.specs.Records.{ReachesUnless, WantsOnlyWhere, records_of_text};
 ghost use Rattle.trace_text.specs.Faults.{inner_of, faults_of};
 ghost use Rattle.front.specs.ReportTexts.{StandsFor, IsRow64};
 ghost use Rattle.front.specs.ReportReading.{RefusedFor, IsDeviceRefusal, faults_after_report};
-ghost use Rattle.front.specs.ReportRefusals.{Gives, next_rows, rows_after, rows_of_records};
+ghost use Rattle.front.specs.ReportRefusals.{Gives, is_memory, next_rows, record_keeps, row_of, rows_at_end, rows_of_records, with_row};
 
 use crate::refusals::ReportError;
 use crate::row_records::{is_header, row_of};
-use csv::{ByteRecord, ReaderBuilder};
+use csv::ByteRecord;
 use std::alloc::Global;
 use std::io::Read;
+use std::marker::Model;
 use step_trace::Row;
-use trace_text::{Counting, TextError, read_all};
+use trace_text::records::{TakeRecords, read_records};
+use trace_text::{Counting, MAX_TEXT_BYTES, TextError, read_all};
+
+// What the records of a report give so far.
+#[derive(Drop)]
+struct ReportRows {
+    // None before the header.
+    rows: Option<Vec<Row>>,
+}
+
+impl Model for ReportRows {
+    ghost use Rattle.std.specs.Prelude.{List, Option, option_map};
+    ghost use Rattle.step_trace.specs.declared.rows.Row.{Row};
+
+    ghost Value = { Option (List Row) };
+
+    ghost view = { λ a. option_map (λ v. v.items) a.rows };
+}
 
 /// The rows of the report text that the reader has left.
 ///
@@ -27,16 +46,20 @@ pub fn read_report<R: Read>(
 ) -> Result<Vec<Row>, ReportError>
     ensures stands { IfOk result (λ v. IfSome (R.remaining (inner_of reader.old)) (λ text. StandsFor text v.items)) }
     ensures complete { IfSome (R.remaining (inner_of reader.old)) (λ text. (rows : List Row) → All IsRow64 rows → StandsFor text rows → MatchResult result (λ v. v.items ≡ rows) IsDeviceRefusal) }
-    ensures size { OnOk result (IfSome (R.remaining (inner_of reader.old)) (λ text. length text ≤ 67108864)) }
+    ensures size { OnOk result (IfSome (R.remaining (inner_of reader.old)) (λ text. length text ≤ MAX_TEXT_BYTES)) }
     ensures end { OnOk result (IsAtEnd (R.remaining (inner_of reader.new))) }
     ensures faults { faults_of reader.new ≡ faults_after_report result (faults_of reader.old) }
     ensures refused { IfErr result (λ e. RefusedFor e (faults_of reader.old) (faults_of reader.new) (R.remaining (inner_of reader.old))) }
+    ensures within { IsErrOf result ReportError.Memory
+        → IfSome (bytes_read (R.remaining (inner_of reader.old)) (R.remaining (inner_of reader.new))) (λ n. n ≤ MAX_TEXT_BYTES) }
+    ensures unique { (text : List ℕ) (xs ys : List Row) → All IsRow64 xs → All IsRow64 ys → StandsFor text xs → StandsFor text ys → xs ≡ ys }
 {
     match read_all(alloc, reader) {
         Ok(text) => rows_of_text(alloc, &text),
         Err(TextError::TooLarge) => Err(ReportError::TooLarge),
         Err(TextError::Read) => Err(ReportError::Read),
-        Err(_) => Err(ReportError::Memory),
+        Err(TextError::Memory) => Err(ReportError::Memory),
+        Err(_) => unreachable!(),
     }
 }
 
@@ -44,50 +67,56 @@ pub fn read_report<R: Read>(
 fn rows_of_text(alloc: Global, text: &[u8]) -> Result<Vec<Row>, ReportError>
     ensures { Gives (λ v. v.items) result (rows_of_records (records_of_text text.now)) }
 {
-    match read_records(alloc, text)? {
+    let mut rows = ReportRows { rows: None };
+    read_records(alloc, text, &mut rows)?;
+    rows_at_end(rows)
+}
+
+// What the end of the text says.
+fn rows_at_end(taken: ReportRows) -> Result<Vec<Row>, ReportError>
+    ensures rows { MatchResult result (λ v. rows_at_end taken ≡ Ok v.items) (λ e. rows_at_end taken ≡ Err e) }
+{
+    match taken.rows {
         Some(rows) => Ok(rows),
         None => Err(ReportError::BadHeader),
     }
 }
 
-// The rows of all records, none where there is no header.
-fn read_records(alloc: Global, text: &[u8]) -> Result<Option<Vec<Row>>, ReportError>
-    ensures { Gives (option_map (λ v. v.items)) result (rows_after None (records_of_text text.now)) }
-{
-    let mut reader = ReaderBuilder::new()
-        .has_headers(false)
-        .flexible(true)
-        .from_reader(alloc, text);
-    let mut record = ByteRecord::new(alloc);
-    let mut rows = None;
-    loop {
-        let Ok(found) = reader.read_byte_record(&mut record) else {
-            return Err(ReportError::Memory);
-        };
-        if !found {
-            return Ok(rows);
+impl TakeRecords for ReportRows {
+    type Error = ReportError;
+
+    ghost next = { next_rows };
+
+    ghost is_memory = { is_memory };
+
+    ghost keeps = { record_keeps };
+
+    fn take(&mut self, alloc: Global, fields: &ByteRecord) -> Result<(), ReportError> {
+        match &mut self.rows {
+            Some(rows) => take_row(rows, fields),
+            None => {
+                if !is_header(fields) {
+                    return Err(ReportError::BadHeader);
+                }
+                self.rows = Some(Vec::new(alloc));
+                Ok(())
+            }
         }
-        rows = Some(read_record(alloc, rows, &record)?);
+    }
+
+    fn out_of_memory() -> ReportError {
+        ReportError::Memory
     }
 }
 
-// The rows with that of one more record. The first record is the header.
-fn read_record(
-    alloc: Global,
-    rows: Option<Vec<Row>>,
-    fields: &ByteRecord,
-) -> Result<Vec<Row>, ReportError>
-    ensures { Gives (λ v. Some v.items) result (next_rows (option_map (λ v. v.items) rows) (fields_of fields.now)) }
+// Takes in the row of one more record.
+fn take_row(rows: &mut Vec<Row>, fields: &ByteRecord) -> Result<(), ReportError>
+    ensures row { ReachesUnless is_memory result (Some rows.new.items) (with_row rows.old.items (row_of (length rows.old.items + 1) (fields_of fields.now))) }
+    ensures more { WantsOnlyWhere is_memory result (is_ok (row_of (length rows.old.items + 1) (fields_of fields.now))) }
 {
-    let Some(mut rows) = rows else {
-        if is_header(fields) {
-            return Ok(Vec::new(alloc));
-        }
-        return Err(ReportError::BadHeader);
-    };
     let row = row_of(rows.len() as u64 + 1, fields)?;
     match rows.push(row) {
-        Ok(()) => Ok(rows),
+        Ok(()) => Ok(()),
         Err(_) => Err(ReportError::Memory),
     }
 }

@@ -1,14 +1,14 @@
 //! The records of a report: the header, and the row of a record.
 
-ghost use Rattle.std.specs.Prelude.{◌≡◌};
-ghost use Rattle.std.specs.Str.{bytes_eq};
+ghost use Rattle.std.specs.Prelude.{◌≡◌, false};
 ghost use Rattle.csv.specs.Records.{fields_of};
-ghost use Rattle.trace_text.specs.TextRefusals.{field_of, number_of};
-ghost use Rattle.front.specs.ReportRefusals.{is_header, entry_of, entries_of, miss_of, gap_of, whole_row, row_of};
+ghost use Rattle.trace_text.specs.Records.{WantsOnlyWhere};
+ghost use Rattle.front.specs.ReportRefusals.{is_header, is_memory, entry_of, entries_of, miss_of, gap_of, whole_row, row_of};
 
 use crate::refusals::ReportError;
 use csv::ByteRecord;
-use step_trace::{Gap, Miss, Row, read_number};
+use step_trace::{Gap, Miss, Row};
+use trace_text::records::{field, field_is, number};
 
 // What the fields of a record say, none where a field of a witness is empty.
 #[derive(Clone, Copy)]
@@ -24,28 +24,29 @@ pub(crate) struct Entries {
 }
 
 /// Whether the record has the names of the fields.
-pub(crate) fn is_header(row: &ByteRecord) -> bool
-    ensures { result ≡ is_header (fields_of row.now) }
+pub(crate) fn is_header(fields: &ByteRecord) -> bool
+    ensures { result ≡ is_header (fields_of fields.now) }
 {
-    row.len() == 8
-        && field_is(row, 0, b"gst")
-        && field_is(row, 1, b"delta")
-        && field_is(row, 2, b"phi")
-        && field_is(row, 3, b"sent")
-        && field_is(row, 4, b"missed")
-        && field_is(row, 5, b"proc")
-        && field_is(row, 6, b"from")
-        && field_is(row, 7, b"to")
+    fields.len() == 8
+        && field_is(fields, 0, b"gst")
+        && field_is(fields, 1, b"delta")
+        && field_is(fields, 2, b"phi")
+        && field_is(fields, 3, b"sent")
+        && field_is(fields, 4, b"missed")
+        && field_is(fields, 5, b"proc")
+        && field_is(fields, 6, b"from")
+        && field_is(fields, 7, b"to")
 }
 
 /// The row of this number, from 1, that a record says.
-pub(crate) fn row_of(no: u64, row: &ByteRecord) -> Result<Row, ReportError>
-    ensures { result ≡ row_of no (fields_of row.now) }
+pub(crate) fn row_of(no: u64, fields: &ByteRecord) -> Result<Row, ReportError>
+    ensures row { result ≡ row_of no (fields_of fields.now) }
+    ensures more { WantsOnlyWhere is_memory result false }
 {
-    if row.len() != 8 {
+    if fields.len() != 8 {
         return Err(ReportError::BadFields(no));
     }
-    let Some(entries) = entries_of(row) else {
+    let Some(entries) = entries_of(fields) else {
         return Err(ReportError::BadNumber(no));
     };
     let Some(whole) = whole_row(entries) else {
@@ -54,18 +55,18 @@ pub(crate) fn row_of(no: u64, row: &ByteRecord) -> Result<Row, ReportError>
     Ok(whole)
 }
 
-fn entries_of(row: &ByteRecord) -> Option<Entries>
-    ensures { result ≡ entries_of (fields_of row.now) }
+fn entries_of(fields: &ByteRecord) -> Option<Entries>
+    ensures { result ≡ entries_of (fields_of fields.now) }
 {
     Some(Entries {
-        gst: number_of(field(row, 0))?,
-        delta: number_of(field(row, 1))?,
-        phi: number_of(field(row, 2))?,
-        sent: entry_of(field(row, 3))?,
-        missed: entry_of(field(row, 4))?,
-        proc: entry_of(field(row, 5))?,
-        from: entry_of(field(row, 6))?,
-        to: entry_of(field(row, 7))?,
+        gst: number(field(fields, 0))?,
+        delta: number(field(fields, 1))?,
+        phi: number(field(fields, 2))?,
+        sent: entry_of(field(fields, 3))?,
+        missed: entry_of(field(fields, 4))?,
+        proc: entry_of(field(fields, 5))?,
+        from: entry_of(field(fields, 6))?,
+        to: entry_of(field(fields, 7))?,
     })
 }
 
@@ -109,26 +110,6 @@ fn entry_of(field: &[u8]) -> Option<Option<u64>>
     if field.len() == 0 {
         return Some(None);
     }
-    let n = number_of(field)?;
+    let n = number(field)?;
     Some(Some(n))
-}
-
-fn number_of(field: &[u8]) -> Option<u64>
-    ensures { result ≡ number_of field.now }
-{
-    read_number(field)
-}
-
-// Whether the field at a place is this word.
-fn field_is(row: &ByteRecord, i: usize, word: &[u8]) -> bool
-    ensures { result ≡ bytes_eq (field_of (fields_of row.now) i) word.now }
-{
-    field(row, i) == word
-}
-
-// The field at a place, or nothing.
-fn field(row: &ByteRecord, i: usize) -> &[u8]
-    ensures { result.now ≡ field_of (fields_of row.now) i }
-{
-    row.get(i).unwrap_or(&[])
 }

@@ -6,8 +6,6 @@ mod byte_loops;
 mod counting;
 pub mod failing_devices;
 mod reading;
-#[cfg(test)]
-mod reading_tests;
 pub mod records;
 mod refusals;
 mod step_records;

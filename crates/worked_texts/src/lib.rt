@@ -1,7 +1,14 @@
-//! Worked texts: tests of `trace_text` over worked values, and no items.
+//! Worked examples of trace texts, reports and the loops over bytes: tests of the crates below, by their
+//! public items.
 #![tactic(auto)]
 
 #[cfg(test)]
 mod byte_loops;
 #[cfg(test)]
 mod counted_calls;
+#[cfg(test)]
+mod report_texts;
+#[cfg(test)]
+mod trace_reports;
+#[cfg(test)]
+mod trace_texts;

@@ -1,72 +1,84 @@
-use crate::read_trace;
+//! Trace texts: those that stand for a trace, and the refusals of others.
+
 use std::alloc::{AllocError, Global};
 use std::test::Fail;
-use step_trace::Trace;
+use step_trace::{Act, Trace};
+use trace_text::{MAX_TEXT_BYTES, read_trace};
 
 const ONE_MISS: &str = "dls-trace,1,2,0\ninit,5,7\n1,1,S,2\n2,2,R,\n3,2,R,1\nend,3\n";
 
-// `accepted`, or the refusal of a text.
-fn answer(alloc: Global, text: &[u8]) -> Result<String, AllocError> {
+/// Whether the answer for a text is this: `accepted`, or the name of the refusal.
+fn is_answer(alloc: Global, text: &[u8], wanted: &str) -> Result<bool, AllocError> {
     match read_trace(alloc, text) {
-        Ok(_) => String::from_str(alloc, "accepted"),
-        Err(why) => format!(in alloc; "{why:?}"),
+        Ok(_) => Ok(wanted == "accepted"),
+        Err(why) => Ok(format!(in alloc; "{why:?}")?.as_str() == wanted),
     }
 }
 
-// The answer for a text that begins as one-miss does.
-fn answer_after_init(alloc: Global, rest: &str) -> Result<String, AllocError> {
+/// The same for a text that begins as one-miss does.
+fn is_answer_after_init(alloc: Global, rest: &str, wanted: &str) -> Result<bool, AllocError> {
     let text = format!(in alloc; "dls-trace,1,2,0\ninit,5,7\n{rest}")?;
-    answer(alloc, text.as_bytes())
+    is_answer(alloc, text.as_bytes(), wanted)
 }
 
-fn shown(alloc: Global, trace: &Trace) -> Result<String, AllocError> {
-    format!(in alloc; "{trace:?}")
-}
-
-#[test]
-fn one_miss_is_read(rt: HostRuntime) -> Result<(), Fail> {
-    let trace = read_trace(rt.alloc(), ONE_MISS.as_bytes())?;
-    assert_eq!(rt; trace.config().n(), 2);
-    assert_eq!(rt; trace.config().t(), 0);
-    assert_eq!(rt; trace.config().init(), [5, 7].as_slice());
-    assert_eq!(rt; trace.len(), 3);
-    let wanted = [
-        (1, "Some(Step { proc: 1, act: Send { to: 2 } })"),
-        (
-            2,
-            "Some(Step { proc: 2, act: Receive { ends: false, ids: MessageIds { items: [] } } })",
-        ),
-        (
-            3,
-            "Some(Step { proc: 2, act: Receive { ends: false, ids: MessageIds { items: [1] } } })",
-        ),
-        (4, "None"),
-    ];
-    for (no, step) in wanted {
-        let text = format!(in rt.alloc(); "{:?}", trace.step(no))?;
-        assert_eq!(rt; text.as_str(), step);
+/// Whether a step is a Send of this processor to that one.
+fn is_send(trace: &Trace, no: u64, proc: u64, to: u64) -> bool {
+    match trace.step(no) {
+        Some(step) => step.proc == proc
+            && matches!(&step.act, Act::Send { to: dest } if *dest == to),
+        None => false,
     }
-    Ok(())
+}
+
+/// Whether a step is a Receive of this processor, of these ids, and ends no round.
+fn is_receive(trace: &Trace, no: u64, proc: u64, ids: &[u64]) -> bool {
+    match trace.step(no) {
+        Some(step) => {
+            let is_plain = matches!(&step.act, Act::Receive { ends: false, .. });
+            is_plain && step.proc == proc && step.act.ids() == ids
+        }
+        None => false,
+    }
+}
+
+/// Whether the text stands for one-miss: its configuration and its three steps.
+fn is_one_miss(alloc: Global, text: &[u8]) -> Result<bool, Fail> {
+    let trace = read_trace(alloc, text)?;
+    let config = trace.config();
+    let is_configured = config.n() == 2 && config.t() == 0 && config.init() == [5, 7].as_slice();
+    let is_sent = is_send(&trace, 1, 1, 2);
+    let is_received = is_receive(&trace, 2, 2, &[]) && is_receive(&trace, 3, 2, &[1]);
+    Ok(is_configured && is_sent && is_received && trace.len() == 3)
+}
+
+/// A text of so many empty Receives, which names 1,000,000 as their number.
+fn empty_receives(alloc: Global, steps: u64) -> Result<String, AllocError> {
+    let mut text = String::from_str(alloc, "dls-trace,1,2,0\ninit,5,7\n")?;
+    for no in 0..steps {
+        let number = no.saturating_add(1).to_string(alloc)?;
+        text.push_str(number.as_str())?;
+        text.push_str(",1,R,\n")?;
+    }
+    text.push_str("end,1000000\n")?;
+    Ok(text)
 }
 
 #[test]
-fn other_forms_of_one_miss(rt: HostRuntime) -> Result<(), Fail> {
-    let trace = read_trace(rt.alloc(), ONE_MISS.as_bytes())?;
-    let wanted = shown(rt.alloc(), &trace)?;
+fn forms_of_one_miss(rt: HostRuntime) -> Result<(), Fail> {
     let forms = [
+        ONE_MISS,
         "dls-trace,1,2,0\r\ninit,5,7\r\n1,1,S,2\r\n2,2,R,\r\n3,2,R,1\r\nend,3\r\n",
         "dls-trace,1,2,0\ninit,5,7\n\"1\",\"1\",\"S\",2\n2,2,R,\"\"\n3,2,R,1\n\"end\",3",
         "\n\ndls-trace,1,2,0\n\ninit,5,7\n1,1,S,2\n2,2,R,\n3,2,R,1\nend,3\n\n\n",
     ];
     for form in forms {
-        let trace = read_trace(rt.alloc(), form.as_bytes())?;
-        assert_eq!(rt; shown(rt.alloc(), &trace)?, wanted, "{form}");
+        assert!(rt; is_one_miss(rt.alloc(), form.as_bytes())?, "{form}");
     }
     Ok(())
 }
 
 #[test]
-fn texts_with_a_bad_start(rt: HostRuntime) -> Result<(), Fail> {
+fn bad_starts(rt: HostRuntime) -> Result<(), AllocError> {
     let rows = [
         ("", "BadHeader"),
         ("\n\n", "BadHeader"),
@@ -84,6 +96,16 @@ fn texts_with_a_bad_start(rt: HostRuntime) -> Result<(), Fail> {
         ("dls-trace,1,,0", "BadSize"),
         ("dls-trace,1,18446744073709551615,0", "BadSize"),
         ("dls-trace,1,3,18446744073709551615", "BadSize"),
+    ];
+    for (text, wanted) in rows {
+        assert!(rt; is_answer(rt.alloc(), text.as_bytes(), wanted)?, "{text}");
+    }
+    Ok(())
+}
+
+#[test]
+fn initial_values(rt: HostRuntime) -> Result<(), AllocError> {
+    let rows = [
         ("dls-trace,1,2,0\n", "BadInit"),
         ("dls-trace,1,2,0\ninit,5", "BadInit"),
         ("dls-trace,1,2,0\ninit,5,7,9", "BadInit"),
@@ -100,17 +122,13 @@ fn texts_with_a_bad_start(rt: HostRuntime) -> Result<(), Fail> {
         ),
     ];
     for (text, wanted) in rows {
-        assert_eq!(rt;
-            answer(rt.alloc(), text.as_bytes())?.as_str(),
-            wanted,
-            "{text}"
-        );
+        assert!(rt; is_answer(rt.alloc(), text.as_bytes(), wanted)?, "{text}");
     }
     Ok(())
 }
 
 #[test]
-fn texts_with_a_bad_record(rt: HostRuntime) -> Result<(), Fail> {
+fn ends(rt: HostRuntime) -> Result<(), AllocError> {
     let rows = [
         ("1,1,S,2\n2,2,R,\n3,2,R,1\n", "NoEnd"),
         ("1,1,S,2\n2,2,R,\n3,2,R,1\nend,4\n", "WrongEnd"),
@@ -121,6 +139,16 @@ fn texts_with_a_bad_record(rt: HostRuntime) -> Result<(), Fail> {
         ("end,0\n\"\"\n", "AfterEnd"),
         ("1,1,S,2\nend\n", "BadFields(2)"),
         ("1,1,S,2\nend,1,2,3\n", "BadFields(2)"),
+    ];
+    for (rest, wanted) in rows {
+        assert!(rt; is_answer_after_init(rt.alloc(), rest, wanted)?, "{rest}");
+    }
+    Ok(())
+}
+
+#[test]
+fn bad_steps(rt: HostRuntime) -> Result<(), AllocError> {
+    let rows = [
         ("1,1,S\n", "BadFields(1)"),
         ("01,1,S\n", "BadFields(1)"),
         ("1,1,S,2,\n", "BadFields(1)"),
@@ -142,19 +170,15 @@ fn texts_with_a_bad_record(rt: HostRuntime) -> Result<(), Fail> {
         ("1,1,S,2\n2,1,S,2\n3,2,E,1 2\nend,3\n", "accepted"),
     ];
     for (rest, wanted) in rows {
-        assert_eq!(rt;
-            answer_after_init(rt.alloc(), rest)?.as_str(),
-            wanted,
-            "{rest}"
-        );
+        assert!(rt; is_answer_after_init(rt.alloc(), rest, wanted)?, "{rest}");
     }
     let no_text = b"dls-trace,1,2,0\ninit,5,7\n1,1,\xff,2\n";
-    assert_eq!(rt; answer(rt.alloc(), no_text)?.as_str(), "BadOp(1)");
+    assert!(rt; is_answer(rt.alloc(), no_text, "BadOp(1)")?);
     Ok(())
 }
 
 #[test]
-fn refused_steps(rt: HostRuntime) -> Result<(), Fail> {
+fn steps_that_the_trace_refuses(rt: HostRuntime) -> Result<(), AllocError> {
     let rows = [
         ("1,3,S,2\n", "BadStep(1, BadProc)"),
         ("1,0,R,\n", "BadStep(1, BadProc)"),
@@ -166,16 +190,12 @@ fn refused_steps(rt: HostRuntime) -> Result<(), Fail> {
         ("1,1,S,1\n2,2,R,2\n", "BadStep(2, UnknownMessage(2))"),
     ];
     for (rest, wanted) in rows {
-        assert_eq!(rt;
-            answer_after_init(rt.alloc(), rest)?.as_str(),
-            wanted,
-            "{rest}"
-        );
+        assert!(rt; is_answer_after_init(rt.alloc(), rest, wanted)?, "{rest}");
     }
     Ok(())
 }
 
-// The answer for the first k bytes of one-miss.
+/// The answer for the first k bytes of one-miss.
 fn answer_of_cut(k: usize) -> &'static str {
     match k {
         0..=13 => "BadHeader",
@@ -193,45 +213,41 @@ fn answer_of_cut(k: usize) -> &'static str {
 }
 
 #[test]
-fn cut_texts(rt: HostRuntime) -> Result<(), Fail> {
+fn cut_texts(rt: HostRuntime) -> Result<(), AllocError> {
     let text = ONE_MISS.as_bytes();
     assert_eq!(rt; text.len(), 54);
     for k in 0..55 {
         let cut = text.get(..k).unwrap_or(text);
-        assert_eq!(rt; answer(rt.alloc(), cut)?.as_str(), answer_of_cut(k), "{k}");
+        assert!(rt; is_answer(rt.alloc(), cut, answer_of_cut(k))?, "{k}");
     }
     Ok(())
 }
 
-// A text of so many empty Receives.
-fn empty_receives(alloc: Global, steps: u64) -> Result<String, AllocError> {
-    let mut text = String::from_str(alloc, "dls-trace,1,2,0\ninit,5,7\n")?;
-    for no in 0..steps {
-        let number = no.saturating_add(1).to_string(alloc)?;
-        text.push_str(number.as_str())?;
-        text.push_str(",1,R,\n")?;
-    }
-    text.push_str("end,1000000\n")?;
-    Ok(text)
-}
-
 #[test]
-fn a_full_trace(rt: HostRuntime) -> Result<(), Fail> {
-    let whole = empty_receives(rt.alloc(), 1_000_000)?;
-    assert_eq!(rt; answer(rt.alloc(), whole.as_bytes())?.as_str(), "accepted");
-    let longer = empty_receives(rt.alloc(), 1_000_001)?;
-    assert_eq!(rt;
-        answer(rt.alloc(), longer.as_bytes())?.as_str(),
-        "BadStep(1000001, Full)"
-    );
+fn a_full_trace(rt: HostRuntime) -> Result<(), AllocError> {
+    let text = empty_receives(rt.alloc(), 1_000_000)?;
+    assert!(rt; is_answer(rt.alloc(), text.as_bytes(), "accepted")?);
     Ok(())
 }
 
 #[test]
-fn a_text_that_is_too_large(rt: HostRuntime) -> Result<(), Fail> {
-    let limit = vec![in rt.alloc(); b'x'; 67_108_864]?;
-    assert_eq!(rt; answer(rt.alloc(), limit.as_slice())?.as_str(), "BadHeader");
-    let over = vec![in rt.alloc(); b'x'; 67_108_865]?;
-    assert_eq!(rt; answer(rt.alloc(), over.as_slice())?.as_str(), "TooLarge");
+fn a_step_too_many(rt: HostRuntime) -> Result<(), AllocError> {
+    let text = empty_receives(rt.alloc(), 1_000_001)?;
+    let wanted = "BadStep(1000001, Full)";
+    assert!(rt; is_answer(rt.alloc(), text.as_bytes(), wanted)?);
+    Ok(())
+}
+
+#[test]
+fn the_longest_text(rt: HostRuntime) -> Result<(), AllocError> {
+    let text = vec![in rt.alloc(); b'x'; MAX_TEXT_BYTES]?;
+    assert!(rt; is_answer(rt.alloc(), &text, "BadHeader")?);
+    Ok(())
+}
+
+#[test]
+fn a_text_too_long(rt: HostRuntime) -> Result<(), AllocError> {
+    let text = vec![in rt.alloc(); b'x'; MAX_TEXT_BYTES + 1]?;
+    assert!(rt; is_answer(rt.alloc(), &text, "TooLarge")?);
     Ok(())
 }

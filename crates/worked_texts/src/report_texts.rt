@@ -1,0 +1,232 @@
+//! Report texts, read and written.
+
+use front::{ReportError, read_report, write_report};
+use std::alloc::{AllocError, Global};
+use std::io::ErrorKind;
+use std::test::Fail;
+use step_trace::{Gap, Miss, Row};
+use trace_text::failing_devices::{AfterBytes, FailingReader};
+use trace_text::{Counting, MAX_TEXT_BYTES};
+
+/// The report of a trace with one miss, 83 bytes.
+const ONE_MISS: &str =
+    "gst,delta,phi,sent,missed,proc,from,to\n1,2,3,1,2,1,2,3\n2,1,3,,,1,2,3\n3,1,2,,,1,3,3\n";
+
+const HEADER: &str = "gst,delta,phi,sent,missed,proc,from,to\n";
+
+/// The rows of that report.
+const ONE_MISS_ROWS: [Row; 3] = [
+    Row {
+        gst: 1,
+        delta: 2,
+        phi: 3,
+        miss: Some(Miss { sent: 1, missed: 2 }),
+        gap: Some(Gap {
+            proc: 1,
+            from: 2,
+            to: 3,
+        }),
+    },
+    Row {
+        gst: 2,
+        delta: 1,
+        phi: 3,
+        miss: None,
+        gap: Some(Gap {
+            proc: 1,
+            from: 2,
+            to: 3,
+        }),
+    },
+    Row {
+        gst: 3,
+        delta: 1,
+        phi: 2,
+        miss: None,
+        gap: Some(Gap {
+            proc: 1,
+            from: 3,
+            to: 3,
+        }),
+    },
+];
+
+/// Whether the answer for a text is this: how many rows are read, or the name of the refusal.
+fn is_answer(alloc: Global, text: &[u8], wanted: &str) -> Result<bool, AllocError> {
+    let answer = match read_report(alloc, &mut Counting::new(text)) {
+        Ok(rows) => format!(in alloc; "{} rows", rows.len())?,
+        Err(why) => format!(in alloc; "{why:?}")?,
+    };
+    Ok(answer.as_str() == wanted)
+}
+
+/// Whether these rows are read from a text.
+fn is_read_as(alloc: Global, text: &[u8], rows: &[Row]) -> bool {
+    match read_report(alloc, &mut Counting::new(text)) {
+        Ok(read) => read.as_slice() == rows,
+        Err(_) => false,
+    }
+}
+
+/// The text that is written of these rows.
+fn written(alloc: Global, rows: &[Row]) -> Result<Vec<u8>, Fail> {
+    let mut text = Vec::new(alloc);
+    write_report(alloc, rows, &mut Counting::new(&mut text))?;
+    Ok(text)
+}
+
+/// A row of large numbers, with each kind of evidence or without.
+fn row_of(no: u64) -> Row {
+    let number = u64::MAX - no;
+    Row {
+        gst: no,
+        delta: number,
+        phi: number / 2,
+        miss: (no % 2 == 0).then_some(Miss {
+            sent: number,
+            missed: no,
+        }),
+        gap: (no % 3 == 0).then_some(Gap {
+            proc: no,
+            from: number,
+            to: 0,
+        }),
+    }
+}
+
+/// So many rows.
+fn many_rows(alloc: Global, count: u64) -> Result<Vec<Row>, AllocError> {
+    let mut rows = Vec::new(alloc);
+    for no in 0..count {
+        rows.push(row_of(no))?;
+    }
+    Ok(rows)
+}
+
+#[test]
+fn one_miss(rt: HostRuntime) -> Result<(), Fail> {
+    assert_eq!(rt; ONE_MISS.len(), 83);
+    assert!(rt; is_read_as(rt.alloc(), ONE_MISS.as_bytes(), &ONE_MISS_ROWS));
+    let text = written(rt.alloc(), &ONE_MISS_ROWS)?;
+    assert!(rt; text.as_slice() == ONE_MISS.as_bytes());
+    Ok(())
+}
+
+#[test]
+fn many_rows_are_read_as_they_were_written(rt: HostRuntime) -> Result<(), Fail> {
+    let rows = many_rows(rt.alloc(), 1_001)?;
+    let text = written(rt.alloc(), &rows)?;
+    assert!(rt; is_read_as(rt.alloc(), &text, &rows));
+    Ok(())
+}
+
+#[test]
+fn bad_headers(rt: HostRuntime) -> Result<(), AllocError> {
+    let texts = [
+        "",
+        "1,2,3,1,,1,2,3\n",
+        "gst,delta,phi,sent,missed,proc,from\n",
+        "gst,delta,phi,sent,missed,proc,from,to,\n",
+        "gst,delta,phi,sent,missed,proc,to,from\n",
+    ];
+    for text in texts {
+        assert!(rt;
+            is_answer(rt.alloc(), text.as_bytes(), "BadHeader")?,
+            "{text}"
+        );
+    }
+    Ok(())
+}
+
+#[test]
+fn records_of_rows(rt: HostRuntime) -> Result<(), AllocError> {
+    let rows = [
+        ("1,2,3,1,,1,2,3\n", "HalfWitness(1)"),
+        ("1,2,3,,,1,2,\n", "HalfWitness(1)"),
+        ("1,x,3,,,,,\n", "BadNumber(1)"),
+        ("1,01,3,,,,,\n", "BadNumber(1)"),
+        ("1,2,3,1,x,,,\n", "BadNumber(1)"),
+        ("1,2,18446744073709551616,,,,,\n", "BadNumber(1)"),
+        ("1,2,3,,,,\n", "BadFields(1)"),
+        ("1,2,3,,,,,\n1,2,3,,,,,,\n", "BadFields(2)"),
+        ("1,2,3,,,,,\n1,2,3,4,x,1,,\n", "BadNumber(2)"),
+        (
+            "\r\n0,0,18446744073709551615,2,1,99,7,3\r\n\"1\",2,3,,,,,",
+            "2 rows",
+        ),
+    ];
+    for (records, wanted) in rows {
+        let text = format!(in rt.alloc(); "{HEADER}{records}")?;
+        assert!(rt; is_answer(rt.alloc(), text.as_bytes(), wanted)?, "{text}");
+    }
+    Ok(())
+}
+
+/// The answer for the first k bytes of one-miss's report.
+fn answer_of_cut(k: usize) -> &'static str {
+    match k {
+        0..=37 => "BadHeader",
+        38 | 39 => "0 rows",
+        40..=52 => "BadFields(1)",
+        53 => "HalfWitness(1)",
+        54 | 55 => "1 rows",
+        56..=66 => "BadFields(2)",
+        67 => "HalfWitness(2)",
+        68 | 69 => "2 rows",
+        70..=80 => "BadFields(3)",
+        81 => "HalfWitness(3)",
+        _ => "3 rows",
+    }
+}
+
+#[test]
+fn cut_reports(rt: HostRuntime) -> Result<(), AllocError> {
+    let text = ONE_MISS.as_bytes();
+    for k in 0..84 {
+        let cut = text.get(..k).unwrap_or(text);
+        assert!(rt; is_answer(rt.alloc(), cut, answer_of_cut(k))?, "{k}");
+    }
+    Ok(())
+}
+
+/// Whether the report's first `count` bytes, and then faults of this kind, are refused as Read.
+fn fails_after(alloc: Global, count: usize, kind: ErrorKind) -> bool {
+    let Some(bytes) = ONE_MISS.as_bytes().get(..count) else {
+        return false;
+    };
+    let device = FailingReader::new(bytes, 7, AfterBytes::Fail(kind));
+    matches!(
+        &read_report(alloc, &mut Counting::new(device)),
+        Err(ReportError::Read)
+    )
+}
+
+#[test]
+fn readers_that_fail(rt: HostRuntime) {
+    for count in 0..84 {
+        for kind in [ErrorKind::Other, ErrorKind::Interrupted] {
+            assert!(rt; fails_after(rt.alloc(), count, kind), "at {count}");
+        }
+    }
+}
+
+#[test]
+fn readers_that_never_end(rt: HostRuntime) {
+    let device = FailingReader::new(ONE_MISS.as_bytes(), 65_536, AfterBytes::Repeat(b'x'));
+    let answer = read_report(rt.alloc(), &mut Counting::new(device));
+    assert!(rt; matches!(&answer, Err(ReportError::TooLarge)));
+}
+
+#[test]
+fn the_longest_text(rt: HostRuntime) -> Result<(), AllocError> {
+    let text = vec![in rt.alloc(); b'x'; MAX_TEXT_BYTES]?;
+    assert!(rt; is_answer(rt.alloc(), &text, "BadHeader")?);
+    Ok(())
+}
+
+#[test]
+fn a_text_too_long(rt: HostRuntime) -> Result<(), AllocError> {
+    let text = vec![in rt.alloc(); b'x'; MAX_TEXT_BYTES + 1]?;
+    assert!(rt; is_answer(rt.alloc(), &text, "TooLarge")?);
+    Ok(())
+}
