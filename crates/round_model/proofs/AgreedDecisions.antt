@@ -5,7 +5,7 @@ use Rattle.step_trace.specs.Configurations.{Setup, IsSetup, IsProc}
 use Rattle.lock_phases.specs.Rounds.{phase_of, part_of}
 use Rattle.lock_phases.specs.Nodes.{State, opening}
 use Rattle.lock_phases.proofs.RoundLaws.{part_of-cases}
-use Rattle.lock_phases.proofs.AgreementLaws.{decision-stays}
+use Rattle.lock_phases.proofs.OriginLaws.{decision-stays}
 use Rattle.lock_phases.proofs.Membership.{Contains-nil, Contains-from_map, Contains-from_filter_map}
 use Rattle.round_model.specs.RoundStates.{Table, processors, initial_value, state_after, states_after}
 use Rattle.round_model.specs.Agreement.{decisions, AgreeAll, AreInitialValues}
