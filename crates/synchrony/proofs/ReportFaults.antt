@@ -1,23 +1,24 @@
 -- The causes of the faults of a report.
-use Rattle.std.proofs.Common.{◌≡◌, ◌≢◌, ◌∙◌, ◌<◌, ◌≤◌, ◌↔◌, ℕ, Bool, false, IsTrue, List, length, Option, Some, None, IfSome, take, ap, subst, sym, refl, arith}
+use Rattle.std.proofs.Common.{◌≡◌, ◌≢◌, ◌<◌, ℕ, false, List, length, Option, Some, None, IfSome, ap, subst, sym, refl, arith}
 use Rattle.std.specs.Prelude.{nat_le}
-use Rattle.std.proofs.lemmas.Bool.{false≢true}
 use Rattle.std.proofs.lemmas.Bool.Decides.{nat_tests}
-use Rattle.std.specs.Io.KnownBytes.{Appends}
 use Rattle.front.specs.ReportTexts.{report_text}
+use Rattle.front.specs.ReportWriting.{WroteBefore}
 use Rattle.step_trace.specs.declared.rows.Row.{Row}
 use Rattle.step_trace.specs.Processors.{IsWithin}
 use Rattle.step_trace.specs.Traces.{Recorded}
 use Rattle.trace_text.specs.declared.counting.Counting.{Counting}
 use Rattle.trace_text.specs.declared.refusals.TextError.{TextError}
 use Rattle.trace_text.specs.declared.refusals.TextError.TheVariants as why
+use Rattle.trace_text.specs.declared.refusals.WriteError.{WriteError}
+use Rattle.trace_text.specs.declared.refusals.WriteError.TheVariants as unwritten
 use Rattle.trace_text.specs.ByteLoops.{ReadRefusedFor}
-use Rattle.trace_text.specs.TraceTexts.{IsTrace, StandsFor}
 use Rattle.trace_text.specs.TextRefusals.{IsFirstRefusal}
 use Rattle.synchrony.specs.declared.faults.Fault.{Fault}
 use Rattle.synchrony.specs.declared.faults.Fault.TheVariants as fault
-use Rattle.synchrony.specs.Faults.{fault_of_text}
-use Rattle.synchrony.specs.Reports.{AreRowsOf, IsTextFault, IsReportFault, IsReadFault, IsWriteFault}
+use Rattle.synchrony.specs.Faults.{fault_of_text, fault_of_write}
+use Rattle.synchrony.specs.Printing.{IsWriteFault}
+use Rattle.synchrony.specs.Reports.{AreRowsOf, IsFaultOfReport, IsReadFault, IsReportFault, IsTextFault, IsTextOf}
 
 -- what holds of the text that was read holds of the bytes that are known
 of_known : (P : List ℕ → Type 0) (text : List ℕ) (known : Option (List ℕ)) → IfSome known (λ xs. text ≡ xs) → P text → IfSome known P
@@ -34,42 +35,25 @@ unread_fault set old new before after None e h = tt
 unread_fault set old new before after (Some xs) why.TooLarge h = too_large xs h
 unread_fault set old new before after (Some xs) why.Read h = tt
 unread_fault set old new before after (Some xs) why.Memory h = tt
-unread_fault set old new before after (Some xs) why.BadHeader h = absurd h
-unread_fault set old new before after (Some xs) why.BadVersion h = absurd h
-unread_fault set old new before after (Some xs) why.BadSize h = absurd h
-unread_fault set old new before after (Some xs) why.BadInit h = absurd h
-unread_fault set old new before after (Some xs) (why.BadFields at) h = absurd h
-unread_fault set old new before after (Some xs) (why.WrongNumber at) h = absurd h
-unread_fault set old new before after (Some xs) (why.BadOp at) h = absurd h
-unread_fault set old new before after (Some xs) (why.BadNumber at) h = absurd h
-unread_fault set old new before after (Some xs) (why.BadStep at e) h = absurd h
-unread_fault set old new before after (Some xs) why.NoEnd h = absurd h
-unread_fault set old new before after (Some xs) why.WrongEnd h = absurd h
-unread_fault set old new before after (Some xs) why.AfterEnd h = absurd h
+unread_fault set old new before after (Some xs) e h = absurd h
 
 -- a refusal of the text is its first one
 pub refused_fault : (set : ℕ) (text : List ℕ) (e : TextError) → IsFirstRefusal text e → e ≢ why.Read → IsTextFault set text (fault_of_text e)
 refused_fault set text why.Read h other = absurd (other refl)
 refused_fault set text why.Memory h other = tt
-refused_fault set text why.TooLarge h other = h
-refused_fault set text why.BadHeader h other = h
-refused_fault set text why.BadVersion h other = h
-refused_fault set text why.BadSize h other = h
-refused_fault set text why.BadInit h other = h
-refused_fault set text (why.BadFields at) h other = h
-refused_fault set text (why.WrongNumber at) h other = h
-refused_fault set text (why.BadOp at) h other = h
-refused_fault set text (why.BadNumber at) h other = h
-refused_fault set text (why.BadStep at e) h other = h
-refused_fault set text why.NoEnd h other = h
-refused_fault set text why.WrongEnd h other = h
-refused_fault set text why.AfterEnd h other = h
+refused_fault set text e h other = h
+
+-- want of memory and a failed read are no refusals of a trace
+pub own_fault : (e : TextError) → IsFaultOfReport (fault_of_text e)
+own_fault why.Read = tt
+own_fault why.Memory = tt
+own_fault e = (λ h. cc, λ h. cc)
 
 -- the set has a member that the trace hasn't
-pub set_fault : (set : ℕ) (text : List ℕ) (t : Recorded) (n : ℕ) (inside : Bool) → IsTrace t → StandsFor text t → n ≡ t.config.n
-    → IsTrue inside ↔ IsWithin set n → inside ≡ false → IsTextFault set text fault.Set
-set_fault set text t n inside sound stands same told outside =
-    (t, record { trace = sound; stands = stands }, λ h. false≢true (sym outside ∙ told.1 (subst (λ m. IsWithin set m) (sym same) h)))
+pub set_fault : (set : ℕ) (text : List ℕ) (t : Recorded) (n : ℕ) (w : Fault) → IsTextOf text t → n ≡ t.config.n
+    → (w ≡ fault.Set) × (¬ IsWithin set n) → IsTextFault set text w
+set_fault set text t n w read same told =
+    rw told.0 (record { trace = t; read = read; outside = λ h. told.1 (subst (λ m. IsWithin set m) (sym same) h) })
 
 -- a fault of the text is one of the report, and none of the reader or the writer
 pub text_fault : (set : ℕ) (text : List ℕ) (before after : Option (List ℕ)) (w : Fault) → IsTextFault set text w → IsReportFault set text before after w
@@ -81,25 +65,19 @@ text_fault set text before after fault.Read h = tt
 text_fault set text before after (fault.Write n) h = absurd h
 
 pub text_fault_reads : (set old new : ℕ) (text : List ℕ) (w : Fault) → IsTextFault set text w → new ≡ old → IsReadFault old new w
-text_fault_reads set old new text (fault.Command words) h same = same
-text_fault_reads set old new text fault.Set h same = same
-text_fault_reads set old new text (fault.Trace e) h same = same
-text_fault_reads set old new text fault.Memory h same = same
 text_fault_reads set old new text fault.Read h same = absurd h
-text_fault_reads set old new text (fault.Write n) h same = same
+text_fault_reads set old new text w h same = same
 
 pub text_fault_writes : {T : Type 0} (old new : Counting T) (set : ℕ) (text : List ℕ) (w : Fault) → IsTextFault set text w → new ≡ old → IsWriteFault old new w
-text_fault_writes old new set text (fault.Command words) h same = same
-text_fault_writes old new set text fault.Set h same = same
-text_fault_writes old new set text (fault.Trace e) h same = same
-text_fault_writes old new set text fault.Memory h same = same
-text_fault_writes old new set text fault.Read h same = same
 text_fault_writes old new set text (fault.Write n) h same = absurd h
+text_fault_writes old new set text w h same = same
 
--- a write that failed in the report's text
-pub write_fault : (set : ℕ) (text : List ℕ) (rows shown : List Row) (before after known : Option (List ℕ)) (n : ℕ) → IfSome known (λ xs. text ≡ xs)
-    → AreRowsOf set text rows → shown ≡ rows → (n ≤ length (report_text shown)) × Appends before after (take n (report_text shown))
-    → IfSome known (λ xs. IsReportFault set xs before after (fault.Write n))
-write_fault set text rows shown before after known n whole exact listed part =
+-- a report that wasn't written whole: so many bytes of its text went out, or there was no memory
+pub write_fault : (set : ℕ) (text : List ℕ) (rows shown : List Row) (before after known : Option (List ℕ)) (e : WriteError) → IfSome known (λ xs. text ≡ xs)
+    → AreRowsOf set text rows → shown ≡ rows → WroteBefore e (report_text shown) before after
+    → IfSome known (λ xs. IsReportFault set xs before after (fault_of_write e))
+write_fault set text rows shown before after known (unwritten.Write n) whole exact listed part =
     of_known (λ xs. IsReportFault set xs before after (fault.Write n)) text known whole
     (report_text shown, record { rows = rows; exact = exact; written = ap report_text listed }, part.0, part.1)
+write_fault set text rows shown before after known unwritten.Memory whole exact listed part =
+    of_known (λ xs. IsReportFault set xs before after fault.Memory) text known whole tt

@@ -20,9 +20,9 @@ correct_rule = record (new_rule (codes "correct")) { long = Some (codes "correct
 abbrev pub report_app : App
 report_app = with_rule (with_rule (new_app (codes "report")) file_rule) correct_rule
 
--- the program, whose one command is `report`
+-- the program, whose one command is `report`, and which has a version
 abbrev pub program : App
-program = with_subcommand (on_top (λ s. record s { subcommand_required = true }) (new_app (codes "synchrony"))) report_app.top
+program = with_subcommand (on_top (λ s. record s { has_version = true; subcommand_required = true }) (new_app (codes "synchrony"))) report_app.top
 
 -- a subcommand and its matches are `report` with this file and this list
 pub record NamesReport (sub : Option (Text × List Row)) (file list : Text) : Type 0 where

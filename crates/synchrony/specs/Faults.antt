@@ -1,7 +1,11 @@
 -- The faults that end the program.
 use Rattle.std.specs.Prelude.{ℕ}
+use Rattle.std.specs.declared.io.ErrorKind.{ErrorKind}
+use Rattle.std.specs.declared.io.ErrorKind.TheVariants.{OutOfMemory}
 use Rattle.trace_text.specs.declared.refusals.TextError.{TextError}
 use Rattle.trace_text.specs.declared.refusals.TextError.TheVariants as why
+use Rattle.trace_text.specs.declared.refusals.WriteError.{WriteError}
+use Rattle.trace_text.specs.declared.refusals.WriteError.TheVariants as unwritten
 use Rattle.synchrony.specs.declared.faults.Fault.{Fault}
 use Rattle.synchrony.specs.declared.faults.Fault.TheVariants as fault
 
@@ -19,3 +23,13 @@ abbrev pub fault_of_text : TextError → Fault
 fault_of_text why.Read = fault.Read
 fault_of_text why.Memory = fault.Memory
 fault_of_text e = fault.Trace e
+
+-- the fault that a text which wasn't written whole is
+abbrev pub fault_of_write : WriteError → Fault
+fault_of_write (unwritten.Write written) = fault.Write written
+fault_of_write unwritten.Memory = fault.Memory
+
+-- the fault that a file which can't be opened is, by the kind of the error
+abbrev pub fault_of_opening : ErrorKind → Fault
+fault_of_opening OutOfMemory = fault.Memory
+fault_of_opening kind = fault.Read

@@ -1,15 +1,19 @@
 //! The command line, read into a job.
 
-ghost use Rattle.std.specs.Prelude.{◌≡◌, ℕ, List, None, false, IfOk, IfErr, IfSome, MatchResult, map, string_bytes};
+ghost use Rattle.std.specs.Prelude.{◌≡◌, ◌≢◌, ℕ, List, None, false, IfOk, IfErr, IfSome, MatchResult, map, string_bytes, codes, IsTrue, ◌↔◌};
+ghost use Rattle.std.specs.IoError.{error_kind};
+ghost use Rattle.std.specs.declared.io.ErrorKind.TheVariants.{OutOfMemory};
 ghost use Rattle.clap.specs.Words.{app_of, kind_of, subcommand_rows_of};
 ghost use Rattle.clap.specs.declared.builder.Command.TheViews.{out-Command};
 ghost use Rattle.synchrony.specs.Commands.{NamesReport, is_flag, program, report_app, report_line};
 ghost use Rattle.synchrony.specs.Jobs.{IsJobOf, IsJobIn, IsHelpFor, IsReport, IsLineFault, IsListFault, IsRefusalOf, IsRefusalIn, IsRefusalFor};
 
 use crate::faults::Fault;
+use crate::help_texts::{program_help, report_help};
 use clap::error::ErrorKind;
 use clap::{Arg, ArgAction, ArgMatches, Command};
 use std::alloc::{AllocError, Global};
+use std::io;
 use step_trace::ProcSet;
 
 /// What the program is to do.
@@ -56,7 +60,9 @@ fn command<'a>(alloc: Global) -> Result<Command<'a>, AllocError>
     ensures { IfOk result (λ c. app_of c ≡ program) }
 {
     Command::new(alloc, "synchrony")
-        .about("Communication and processor bounds of recorded traces")
+        .about("Tells how synchronous a recorded run was")
+        .version("0.1.0")
+        .after_help(program_help())
         .subcommand_required(true)
         .subcommand(report_command(alloc)?)
 }
@@ -73,20 +79,31 @@ fn report_command<'a>(alloc: Global) -> Result<Command<'a>, AllocError>
     let correct = Arg::new(alloc, "correct")
         .long("correct")
         .value_name("LIST")
-        .help("The correct processors, as 1,2,5, or none")
+        .help("The correct processors: numbers 1 to 64, as 1,2,5, or none")
         .required(true)
         .action(ArgAction::Set);
     Command::new(alloc, "report")
         .about("Prints the report of a trace, for a set of correct processors")
-        .after_help("Example: synchrony report trace.csv --correct 1,2,3")
+        .after_help(report_help())
         .arg(file)?
         .arg(correct)
 }
 
-/// The refusal of a command line with an argument that isn't text.
-pub fn refuse_bytes(alloc: Global) -> Result<Fault, AllocError>
-    ensures { IfOk result IsLineFault }
+/// Whether the file of a job is standard input.
+pub fn names_standard_input(file: &str) -> bool
+    ensures { IsTrue result ↔ (file.now ≡ codes "-") }
 {
+    file == "-"
+}
+
+/// The refusal of a command line whose words can't be had: where `error` isn't want of memory, one of
+/// them isn't text.
+pub fn refuse_words(alloc: Global, error: io::Error) -> Result<Fault, AllocError>
+    ensures { IfOk result (λ fault. IsLineFault fault × (error_kind error ≢ OutOfMemory)) }
+{
+    if error.kind() == io::ErrorKind::OutOfMemory {
+        return Err(AllocError);
+    }
     let mut command = command(alloc)?;
     let error = command.error(
         ErrorKind::InvalidValue,

@@ -1,8 +1,10 @@
 //! Command lines, and the jobs and refusals that they give.
 
-use crate::command_line::{Job, read_command, refuse_bytes};
-use crate::faults::{Fault, fault_text, status};
+use crate::command_line::{Job, read_command, refuse_words};
+use crate::fault_lines::{fault_text, told_line};
+use crate::faults::{Fault, status};
 use std::alloc::{AllocError, Global};
+use std::io;
 use std::test::Fail;
 use step_trace::ProcSet;
 
@@ -15,116 +17,95 @@ fn line(alloc: Global, words: &[&str]) -> Result<Vec<String>, AllocError> {
     Ok(line)
 }
 
+/// What the line gives of which these are the words after the program's name.
 fn read(alloc: Global, words: &[&str]) -> Result<Job, Fault> {
     read_command(alloc, line(alloc, words)?)
 }
 
-fn is_report(job: &Job, name: &str, members: &str) -> bool {
-    let Job::Report { file, set } = job else {
-        return false;
-    };
-    let Some(wanted) = ProcSet::parse_list(members) else {
-        return false;
-    };
-    file.as_str() == name && (1..65u64).all(|p| set.contains(p) == wanted.contains(p))
+fn is_same_set(set: ProcSet, wanted: ProcSet) -> bool {
+    (1..65u64).all(|p| set.contains(p) == wanted.contains(p))
+}
+
+fn asks_for_report(alloc: Global, words: &[&str], name: &str, members: ProcSet) -> bool {
+    match read(alloc, words) {
+        Ok(Job::Report { file, set }) => file.as_str() == name && is_same_set(set, members),
+        _ => false,
+    }
 }
 
 #[test]
-fn reads_jobs(rt: HostRuntime) -> Result<(), Fail> {
+fn reads_reports(rt: HostRuntime) -> Result<(), Fail> {
+    let empty = ProcSet::empty();
     for (words, name, members) in [
-        (["report", "-", "--correct", "1,2"], "-", "2,1"),
-        (["report", "--correct", "none", "t.csv"], "t.csv", "none"),
-        (["report", "a b", "--correct", "64"], "a b", "64"),
+        (
+            ["report", "-", "--correct", "1,2"],
+            "-",
+            empty.with(1).with(2),
+        ),
+        (["report", "--correct", "none", "t.csv"], "t.csv", empty),
+        (["report", "a b", "--correct", "64"], "a b", empty.with(64)),
     ] {
-        let job = read(rt.alloc(), &words)?;
-        assert!(rt; is_report(&job, name, members), "{words:?}");
-    }
-    Ok(())
-}
-
-fn help(alloc: Global, words: &[&str]) -> Result<Option<String>, Fault> {
-    match read(alloc, words)? {
-        Job::Help(text) => Ok(Some(text)),
-        Job::Report { .. } => Ok(None),
-    }
-}
-
-#[test]
-fn gives_help(rt: HostRuntime) -> Result<(), Fail> {
-    let whole = help(rt.alloc(), &["--help"])?;
-    assert!(rt; whole.is_some_and(|text| text.contains("Usage: synchrony <COMMAND>")));
-    let report = help(rt.alloc(), &["report", "--help"])?;
-    assert!(rt; report.is_some_and(|text| text.contains("Example: synchrony report")));
-    Ok(())
-}
-
-fn refusal(alloc: Global, words: &[&str]) -> Option<Fault> {
-    read(alloc, words).err()
-}
-
-#[test]
-fn refuses_other_lines(rt: HostRuntime) -> Result<(), Fail> {
-    let lines: [(&[&str], &str); 9] = [
-        (&[], "'synchrony' requires a subcommand"),
-        (&["report", "-"], "--correct <LIST>"),
-        (&["report", "--correct", "1"], "<FILE>"),
-        (
-            &["report", "-", "--correct", "1", "--workers", "65"],
-            "unexpected argument '--workers'",
-        ),
-        (
-            &["report", "-", "-", "--correct", "1"],
-            "unexpected argument '-'",
-        ),
-        (
-            &["run", "--nodes", "3", "--values", "5,7"],
-            "unrecognized subcommand 'run'",
-        ),
-        (&["replay", "t.csv"], "unrecognized subcommand 'replay'"),
-        (
-            &["check", "t.csv", "c.csv"],
-            "unrecognized subcommand 'check'",
-        ),
-        (
-            &["report", "-", "--correct", "1", "--correct", "2"],
-            "cannot be used multiple times",
-        ),
-    ];
-    for (words, told) in lines {
-        let Some(fault) = refusal(rt.alloc(), words) else {
-            assert!(rt; false, "{words:?}");
-            return Ok(());
-        };
-        assert_eq!(rt; status(&fault), 2, "{words:?}");
-        let text = fault_text(rt.alloc(), &fault)?;
-        assert!(rt; text.contains(told), "{words:?} {text}");
         assert!(rt;
-            text.starts_with("error: ") && text.ends_with('\n'),
-            "{text}"
+            asks_for_report(rt.alloc(), &words, name, members),
+            "{words:?}"
         );
     }
     Ok(())
 }
 
+fn asks_for_text(alloc: Global, words: &[&str], begins: &str) -> bool {
+    match read(alloc, words) {
+        Ok(Job::Help(text)) => text.as_str().starts_with(begins),
+        _ => false,
+    }
+}
+
 #[test]
-fn refuses_other_lists(rt: HostRuntime) -> Result<(), Fail> {
-    for list in ["1,,2", "", "0", "65", "1 2", "all"] {
-        let Some(fault) = refusal(rt.alloc(), &["report", "none.csv", "--correct", list]) else {
-            assert!(rt; false, "{list:?}");
-            return Ok(());
-        };
-        assert_eq!(rt; status(&fault), 2, "{list:?}");
-        let text = fault_text(rt.alloc(), &fault)?;
-        assert_eq!(rt; text.as_str(), "synchrony: bad --correct");
+fn reads_requests_for_texts(rt: HostRuntime) -> Result<(), Fail> {
+    assert!(rt; asks_for_text(rt.alloc(), &["--help"], "Tells how synchronous"));
+    assert!(rt; asks_for_text(rt.alloc(), &["report", "--help"], "Prints the report"));
+    assert!(rt; asks_for_text(rt.alloc(), &["--version"], "synchrony 0.1.0\n"));
+    Ok(())
+}
+
+/// Whether the line is refused with status 2, and its text begins so.
+fn is_refused(alloc: Global, words: &[&str], begins: &str) -> Result<bool, AllocError> {
+    let Err(fault) = read(alloc, words) else {
+        return Ok(false);
+    };
+    let text = fault_text(alloc, &fault)?;
+    Ok(status(&fault) == 2 && text.as_str().starts_with(begins))
+}
+
+#[test]
+fn refuses_other_lines(rt: HostRuntime) -> Result<(), Fail> {
+    let lines: [(&[&str], &str); 4] = [
+        (&["report", "-"], "error: the following required arguments"),
+        (
+            &["report", "-", "--correct", "1", "--workers", "65"],
+            "error: unexpected argument '--workers'",
+        ),
+        (
+            &["run", "--values", "5,7"],
+            "error: unrecognized subcommand 'run'",
+        ),
+        (
+            &["report", "-", "--correct", "1,,2"],
+            "synchrony: bad --correct",
+        ),
+    ];
+    for (words, begins) in lines {
+        assert!(rt; is_refused(rt.alloc(), words, begins)?, "{words:?}");
     }
     Ok(())
 }
 
 #[test]
-fn refuses_bytes_that_are_no_text(rt: HostRuntime) -> Result<(), Fail> {
-    let fault = refuse_bytes(rt.alloc())?;
-    assert_eq!(rt; status(&fault), 2);
-    let text = fault_text(rt.alloc(), &fault)?;
-    assert!(rt; text.starts_with("error: invalid UTF-8"), "{text}");
+fn tells_words_that_are_no_text(rt: HostRuntime) -> Result<(), Fail> {
+    let error = io::Error::from(io::ErrorKind::InvalidData);
+    let fault = refuse_words(rt.alloc(), error)?;
+    let line = told_line(rt.alloc(), &fault)?;
+    assert!(rt; line.as_str().starts_with("error: invalid UTF-8"), "{line}");
+    assert!(rt; line.as_str().ends_with(".\n"), "{line}");
     Ok(())
 }

@@ -1,34 +1,31 @@
-//! Why the program stops, with the line and the exit status that each reason has.
+//! Why the program stops, and the exit status that each reason has.
 
 ghost use Rattle.std.specs.Prelude.{◌≡◌};
-ghost use Rattle.synchrony.specs.Faults.{status_of, fault_of_text};
+ghost use Rattle.std.specs.IoError.{error_kind};
+ghost use Rattle.synchrony.specs.Faults.{status_of, fault_of_opening};
 
-use std::alloc::{AllocError, Global};
-use thiserror::Error;
-use trace_text::TextError;
+use std::alloc::AllocError;
+use std::io;
+use trace_text::{TextError, WriteError};
 
 /// Why the program stops before it is done.
-#[derive(Debug, Drop, Error)]
+#[derive(Debug, Drop)]
 pub enum Fault {
     /// The command line is refused, in these words.
-    #[error("{0}")]
     Command(String),
     /// The set of correct processors has a member that the trace hasn't.
-    #[error("synchrony: no such processor in --correct")]
     Set,
     /// The trace text is refused. `Read` and `Memory` are faults of their own.
-    #[error("synchrony: trace: {0}")]
     Trace(TextError),
     /// There was no memory.
-    #[error("synchrony: out of memory")]
     Memory,
     /// The input can't be opened or read.
-    #[error("synchrony: cannot read")]
     Read,
     /// The output can't be written; so many bytes of it went out before.
-    #[error("synchrony: cannot write")]
     Write(u64),
 }
+
+impl std::error::Error for Fault {}
 
 impl From<AllocError> for Fault {
     ghost use Rattle.synchrony.specs.declared.faults.Fault.TheVariants as fault;
@@ -41,6 +38,8 @@ impl From<AllocError> for Fault {
 }
 
 impl From<TextError> for Fault {
+    ghost use Rattle.synchrony.specs.Faults.{fault_of_text};
+
     ghost from_gives = { λ why made. made ≡ fault_of_text why };
 
     fn from(why: TextError) -> Fault {
@@ -49,6 +48,29 @@ impl From<TextError> for Fault {
             TextError::Memory => Fault::Memory,
             why => Fault::Trace(why),
         }
+    }
+}
+
+impl From<WriteError> for Fault {
+    ghost use Rattle.synchrony.specs.Faults.{fault_of_write};
+
+    ghost from_gives = { λ why made. made ≡ fault_of_write why };
+
+    fn from(why: WriteError) -> Fault {
+        match why {
+            WriteError::Write(written) => Fault::Write(written),
+            WriteError::Memory => Fault::Memory,
+        }
+    }
+}
+
+/// The fault of a file that can't be opened.
+pub fn unopened(error: io::Error) -> Fault
+    ensures { result ≡ fault_of_opening (error_kind error) }
+{
+    match error.kind() {
+        io::ErrorKind::OutOfMemory => Fault::Memory,
+        _ => Fault::Read,
     }
 }
 
@@ -62,10 +84,4 @@ pub fn status(fault: &Fault) -> u8
         Fault::Memory => 5,
         Fault::Read | Fault::Write(_) => 6,
     }
-}
-
-/// The line that the program prints on standard error, without its line feed, or the words of the
-/// command line's reader, which end in one.
-pub fn fault_text(alloc: Global, fault: &Fault) -> Result<String, AllocError> {
-    fault.to_string(alloc)
 }

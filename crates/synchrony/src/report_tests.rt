@@ -1,8 +1,9 @@
 //! Reports of worked traces, refused traces, and devices that fail.
 
-use crate::faults::{Fault, fault_text, status};
+use crate::fault_lines::fault_text;
+use crate::faults::{Fault, status};
 use crate::reports::run_report;
-use std::alloc::Global;
+use std::alloc::{AllocError, Global};
 use std::io::ErrorKind;
 use std::test::Fail;
 use step_trace::ProcSet;
@@ -25,7 +26,7 @@ fn first_two() -> ProcSet {
     ProcSet::empty().with(1).with(2)
 }
 
-/// What a report of this text, for this set, ends with, written to this writer.
+/// Reports a text to a writer, in reads of 7 bytes.
 fn report(
     alloc: Global,
     text: &str,
@@ -42,9 +43,15 @@ fn report(
     )
 }
 
+fn is_reported(alloc: Global, text: &str, set: ProcSet, wanted: &str) -> bool {
+    let mut writer = FailingWriter::new(alloc, 40, WriteFailure::Never);
+    let ended = report(alloc, text, AfterBytes::End, set, &mut writer);
+    ended.is_ok() && writer.taken() == wanted.as_bytes()
+}
+
 #[test]
 fn prints_reports(rt: HostRuntime) -> Result<(), Fail> {
-    let empty = ProcSet::empty();
+    let second = ProcSet::empty().with(2);
     for (text, set, wanted) in [
         (ONE_MISS, first_two(), ONE_MISS_REPORT),
         (
@@ -59,97 +66,116 @@ fn prints_reports(rt: HostRuntime) -> Result<(), Fail> {
         ),
         (
             ONE_MISS,
-            empty.with(2),
+            second,
             "gst,delta,phi,sent,missed,proc,from,to\n1,1,2,,,2,1,1\n2,1,1,,,,,\n",
         ),
         (
             ONE_MISS,
-            empty,
+            ProcSet::empty(),
             "gst,delta,phi,sent,missed,proc,from,to\n1,1,1,,,,,\n",
         ),
     ] {
-        let mut writer = FailingWriter::new(rt.alloc(), 40, WriteFailure::Never);
-        report(rt.alloc(), text, AfterBytes::End, set, &mut writer)?;
-        assert!(rt; writer.taken() == wanted.as_bytes(), "{text}");
+        assert!(rt; is_reported(rt.alloc(), text, set, wanted), "{wanted}");
     }
     Ok(())
+}
+
+/// A trace of 100,000 steps: processors 1 and 2 take turns, each message is taken at once, but for the
+/// first one, which is taken at the last step.
+fn long_trace(alloc: Global) -> Result<String, AllocError> {
+    let mut text = String::from_str(alloc, "dls-trace,1,2,0\ninit,5,7\n1,1,S,2\n2,2,R,\n")?;
+    for turn in 1..49_999u64 {
+        let sent = 2 * turn + 1;
+        let taken = sent + 1;
+        writeln!(text, "{sent},1,S,2")?;
+        writeln!(text, "{taken},2,R,{sent}")?;
+    }
+    text.push_str("99999,1,S,2\n100000,2,R,1 99999\nend,100000\n")?;
+    Ok(text)
+}
+
+/// Message 1 is missed from step 2 on, last at step 99,998, so Δ is 99,998 from step 1 and 1 from
+/// step 2. No processor is silent for more than one step, the last one that is being 1 at step 100,000.
+const LONG_REPORT: &str = "gst,delta,phi,sent,missed,proc,from,to\n\
+    1,99998,2,1,99998,1,100000,100000\n2,1,2,,,1,100000,100000\n";
+
+#[test]
+fn prints_the_report_of_100_000_steps(rt: HostRuntime) -> Result<(), Fail> {
+    let text = long_trace(rt.alloc())?;
+    assert!(rt; is_reported(rt.alloc(), text.as_str(), first_two(), LONG_REPORT));
+    Ok(())
+}
+
+fn is_refused(
+    alloc: Global,
+    text: &str,
+    after: AfterBytes,
+    set: ProcSet,
+    told: (u8, &str),
+) -> Result<bool, AllocError> {
+    let mut writer = FailingWriter::new(alloc, 40, WriteFailure::Never);
+    let Err(fault) = report(alloc, text, after, set, &mut writer) else {
+        return Ok(false);
+    };
+    let line = fault_text(alloc, &fault)?;
+    let (code, wanted) = told;
+    Ok(status(&fault) == code && line.as_str() == wanted && writer.taken().is_empty())
 }
 
 #[test]
 fn writes_nothing_on_a_fault(rt: HostRuntime) -> Result<(), Fail> {
-    for (text, after, set, code, line) in [
+    let third = ProcSet::empty().with(3);
+    for (text, after, set, told) in [
         (
             REDELIVERED,
             AfterBytes::End,
-            first_two(),
-            3,
-            "synchrony: trace: step 3: message 1 was received before",
-        ),
-        (
-            "",
-            AfterBytes::End,
-            first_two(),
-            3,
-            "synchrony: trace: bad header",
+            third,
+            (3, "synchrony: trace: step 3: message 1 was received before"),
         ),
         (
             ONE_MISS,
             AfterBytes::End,
-            ProcSet::empty().with(3),
-            2,
-            "synchrony: no such processor in --correct",
+            third,
+            (2, "synchrony: no such processor in --correct"),
         ),
         (
             ONE_MISS,
             AfterBytes::Fail(ErrorKind::Other),
-            first_two(),
-            6,
-            "synchrony: cannot read",
+            third,
+            (6, "synchrony: cannot read"),
         ),
         (
             ONE_MISS,
             AfterBytes::Fail(ErrorKind::Interrupted),
-            first_two(),
-            6,
-            "synchrony: cannot read",
+            third,
+            (6, "synchrony: cannot read"),
         ),
     ] {
-        let mut writer = FailingWriter::new(rt.alloc(), 40, WriteFailure::Never);
-        let Err(fault) = report(rt.alloc(), text, after, set, &mut writer) else {
-            assert!(rt; false, "{line}");
-            return Ok(());
-        };
-        assert_eq!(rt; status(&fault), code, "{line}");
-        let told = fault_text(rt.alloc(), &fault)?;
-        assert_eq!(rt; told.as_str(), line);
-        assert!(rt; writer.taken().is_empty(), "{line}");
+        assert!(rt; is_refused(rt.alloc(), text, after, set, told)?, "{told:?}");
     }
     Ok(())
 }
 
+/// Whether the report of one-miss, in writes of 16 bytes, ends with Write(count), and its first `count`
+/// bytes went out.
+fn is_cut(alloc: Global, failure: WriteFailure, count: usize) -> bool {
+    let mut writer = FailingWriter::new(alloc, 16, failure);
+    let ended = report(alloc, ONE_MISS, AfterBytes::End, first_two(), &mut writer);
+    matches!(&ended, Err(Fault::Write(written)) if *written == count as u64)
+        && writer.taken().len() == count
+        && ONE_MISS_REPORT.as_bytes().starts_with(writer.taken())
+}
+
 #[test]
 fn says_how_far_it_wrote(rt: HostRuntime) -> Result<(), Fail> {
-    let whole = ONE_MISS_REPORT.as_bytes();
     for (failure, count) in [
         (WriteFailure::FailAfter(40, ErrorKind::Other), 40),
         (WriteFailure::FailAfter(0, ErrorKind::Other), 0),
         (WriteFailure::TakeNothingAfter(82), 82),
         (WriteFailure::FailFlush(ErrorKind::Other), 83),
     ] {
-        let mut writer = FailingWriter::new(rt.alloc(), 16, failure);
-        let ended = report(
-            rt.alloc(),
-            ONE_MISS,
-            AfterBytes::End,
-            first_two(),
-            &mut writer,
-        );
-        assert!(rt;
-            matches!(&ended, Err(Fault::Write(written)) if *written == count),
-            "{ended:?}"
-        );
-        assert!(rt; whole.starts_with(writer.taken()), "{failure:?}");
-        assert_eq!(rt; writer.taken().len() as u64, count);
+        assert!(rt; is_cut(rt.alloc(), failure, count), "{failure:?}");
     }
+    assert_eq!(rt; status(&Fault::Write(40)), 6);
     Ok(())
 }

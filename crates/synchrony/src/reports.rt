@@ -1,10 +1,12 @@
 //! The report of a trace text, from a reader to a writer.
 
-ghost use Rattle.std.specs.Prelude.{◌≡◌, ◌≤◌, ℕ, List, length, OnOk, IfOk, IfErr, IfSome, IsTrue};
+ghost use Rattle.std.specs.Prelude.{◌≡◌, ◌≤◌, ℕ, List, OnOk, IfOk, IfErr, IfSome, IsTrue, MatchResult};
 ghost use Rattle.std.specs.Io.KnownBytes.{IsAtEnd, Appends};
+ghost use Rattle.step_trace.specs.Processors.{IsWithin};
 ghost use Rattle.trace_text.specs.ByteLoops.{WasFaultless};
 ghost use Rattle.trace_text.specs.Faults.{inner_of, faults_of, is_flushed};
-ghost use Rattle.synchrony.specs.Reports.{AreRowsOf, IsReportOf, IsTextFault, IsReportFault, IsReadFault, IsWriteFault};
+ghost use Rattle.synchrony.specs.Printing.{IsWriteFault};
+ghost use Rattle.synchrony.specs.Reports.{AreRowsOf, IsReportOf, IsFaultOfReport, IsTextFault, IsReportFault, IsReadFault};
 
 use crate::faults::Fault;
 use front::{Report, front, write_report};
@@ -12,7 +14,7 @@ use std::alloc::Global;
 use std::io::{Read, Write};
 use step_trace::ProcSet;
 use suffix_staircase::Stairs;
-use trace_text::{Counting, WriteError, read_all, read_trace};
+use trace_text::{Counting, read_all, read_trace};
 
 /// Reads a trace text to its end, and writes the report of its trace, for `set` as the correct
 /// processors. Nothing is written before the whole report stands.
@@ -31,34 +33,40 @@ pub fn run_report<R: Read, W: Write>(
         × IfSome (R.remaining (inner_of reader.old)) (λ known. text ≡ known)
         × IsReportOf set text report
         × Appends (W.contents (inner_of writer.old)) (W.contents (inner_of writer.new)) report) }
-    ensures size { OnOk result (IfSome (R.remaining (inner_of reader.old)) (λ text. length text ≤ 67108864)) }
     ensures flushed { OnOk result (IsTrue (is_flushed writer.new)) }
     ensures faultless { OnOk result ((faults_of reader.new ≡ faults_of reader.old) × WasFaultless writer.old writer.new) }
     ensures refused { IfErr result (λ why. IfSome (R.remaining (inner_of reader.old)) (λ text.
         IsReportFault set text (W.contents (inner_of writer.old)) (W.contents (inner_of writer.new)) why)) }
+    ensures own { IfErr result IsFaultOfReport }
     ensures read { IfErr result (IsReadFault (faults_of reader.old) (faults_of reader.new)) }
     ensures unwritten { IfErr result (IsWriteFault writer.old writer.new) }
 {
     let text = read_all(alloc, reader)?;
     let report = report_of(alloc, text, set)?;
-    match write_report(alloc, report.rows(), writer) {
-        Ok(()) => Ok(()),
-        Err(WriteError::Write(written)) => Err(Fault::Write(written)),
-        Err(WriteError::Memory) => Err(Fault::Memory),
-    }
+    Ok(write_report(alloc, report.rows(), writer)?)
 }
 
 /// The report of the trace that a text stands for.
 fn report_of(alloc: Global, text: Vec<u8>, set: ProcSet) -> Result<Report, Fault>
     ensures report { IfOk result (λ r. AreRowsOf set text.items r.rows) }
     ensures refused { IfErr result (IsTextFault set text.items) }
+    ensures own { IfErr result IsFaultOfReport }
 {
     let trace = read_trace(alloc, &text)?;
     // The text of a long trace takes much memory, and the trace says all that it does.
     drop(text);
-    if !set.within(trace.config().n()) {
-        return Err(Fault::Set);
-    }
+    test_set(set, trace.config().n())?;
     let stairs = Stairs::of_trace(alloc, &trace, set)?;
     Ok(front(alloc, &stairs)?)
+}
+
+/// Refuses a set that has a member above `n`, and no other.
+fn test_set(set: ProcSet, n: u64) -> Result<(), Fault>
+    ensures { MatchResult result (λ _. IsWithin set n) (λ why. (why ≡ Fault.Set) × (¬ IsWithin set n)) }
+{
+    if set.within(n) {
+        Ok(())
+    } else {
+        Err(Fault::Set)
+    }
 }

@@ -1,0 +1,78 @@
+//! What `--help` says below the usage, in lines of at most 80 columns.
+
+/// What the program does, and how it is used.
+pub fn program_help() -> &'static str {
+    "\
+A trace has the Send and Receive steps of a run in the order of real time, and
+a step's number, from 1 on, is its real-time step. You say which processors
+were correct. For each stabilization time, `report` finds the least
+communication bound and the least processor bound that hold from there to the
+end of the trace, and evidence against each smaller bound.
+
+A row of the report, all of it but proc in real-time steps:
+  gst           a stabilization time: the row holds from step gst to the end
+  delta         the least communication bound from there
+  phi           the least processor bound from there
+  sent,missed   against a smaller delta: what was sent at step sent was not yet
+                delivered when its receiver received at step missed
+  proc,from,to  against a smaller phi: processor proc takes no step from step
+                from to step to
+`synchrony report --help` says more of how it is read.
+
+Examples, at the top of the repository:
+  ./synchrony report examples/one-miss.trace --correct 1,2
+  ./synchrony report - --correct 1,2 <examples/one-miss.trace
+  printf '%s\\n' dls-trace,1,2,0 init,5,7 1,1,S,2 2,2,R, 3,2,R,1 end,3 |
+    ./synchrony report - --correct 1,2
+
+Exit status:
+  0  it is done, or a help text or the version was asked for
+  2  the command line, the list or the set of correct processors is refused
+  3  the trace is refused
+  5  out of memory
+  6  the trace can't be read, or the output can't be written
+A fault is told on standard error. No report is begun before it stands whole."
+}
+
+/// How a report is asked for, and how it is read.
+pub fn report_help() -> &'static str {
+    "\
+The report has a header and a row for each triple (gst, delta, phi) of the
+front: no other triple that holds is as small in all three. gst rises from row
+to row, and a row serves up to the step before the next row's gst, the last one
+to the end of the trace. All numbers but proc are counted in real-time steps.
+
+  gst           the stabilization time: what the row says holds from real-time
+                step gst to the end of the trace
+  delta         the least communication bound: what a correct processor sends
+                to a correct one at a step s is delivered by each Receive of
+                its receiver at step s + delta or later
+  phi           the least processor bound: of any phi steps in a row, each
+                correct processor takes one
+  sent,missed   why no smaller delta holds: the message sent at step sent was
+                not yet delivered when its receiver received at step missed;
+                empty where delta is 1
+  proc,from,to  why no smaller phi holds: processor proc takes no step from
+                step from to step to; empty where phi is 1
+
+Example, at the top of the repository:
+  ./synchrony report examples/one-miss.trace --correct 1,2
+prints
+  gst,delta,phi,sent,missed,proc,from,to
+  1,2,3,1,2,1,2,3
+  2,1,3,,,1,2,3
+  3,1,2,,,1,3,3
+From step 1 on, delta 2 and phi 3 are the least bounds: the message sent at
+step 1 was not yet delivered when its receiver received at step 2, and
+processor 1 takes no step from 2 to 3. From step 2 on delta 1 holds, and from
+step 3 on phi 2.
+
+Exit status:
+  0  the report is printed, or this text
+  2  the command line is refused, LIST is no list, or it has a processor above
+     the trace's number of processors
+  3  the trace is refused
+  5  out of memory
+  6  FILE can't be opened or read, or the output can't be written
+A fault is told on standard error. No report is begun before it stands whole."
+}
