@@ -1,12 +1,12 @@
 //! Messages that are taken late, and the communication bound.
 
-ghost use Rattle.std.specs.Prelude.{◌≡◌, ℕ, ◌+◌, ◌^◌, ◌<◌, ◌≤◌, ◌↔◌, length, Option, IsTrue, IfSome, MatchOption};
+ghost use Rattle.std.specs.Prelude.{◌≡◌, ℕ, ◌+◌, ◌^◌, ◌<◌, ◌≤◌, ◌↔◌, length, IsTrue, IfSome, MatchOption};
 ghost use Rattle.step_trace.specs.Processors.{IsWithin};
 ghost use Rattle.step_trace.specs.Traces.{IsDelivered};
 ghost use Rattle.step_trace.specs.Bounds.{DeltaHolds, DeltaHoldsFor, IsDelta};
 ghost use Rattle.step_trace.specs.Witnesses.{IsMiss, IsNamedMiss, MissRefutes, NamesMiss};
 ghost use Rattle.bound_witness.specs.LastMisses.{HasNoMiss, IsLastMiss};
-ghost use Rattle.bound_witness.specs.WitnessSearches.{HasNoMissOf};
+ghost use Rattle.bound_witness.specs.WitnessSearches.{HasNoMissOf, IsSteadyMiss};
 
 use crate::step_tests::{is_receive_of, receiver, takes};
 use step_trace::{Miss, ProcSet, Trace};
@@ -43,8 +43,8 @@ fn is_miss(trace: &Trace, set: ProcSet, miss: Miss) -> bool
 }
 
 /// The last miss of message `sent`: the one with the greatest `missed`. There is none where each
-/// Receive of the receiver after the Send finds the message delivered, or where `sent` is no message
-/// from a member to a member. Takes no memory.
+/// Receive of the receiver after the Send finds the message delivered, or where `sent` is no
+/// message from a member to a member. Takes no memory.
 pub fn last_miss(trace: &Trace, set: ProcSet, sent: u64) -> Option<Miss>
     requires { IsWithin set trace.now.config.n }
     ensures { MatchOption result (HasNoMiss set trace.now.steps sent) (IsLastMiss set trace.now.steps sent) }
@@ -127,16 +127,16 @@ fn last_miss_of_length(trace: &Trace, set: ProcSet, g: u64, span: u64) -> Option
 /// The least positive communication bound that holds from `g`, in real-time steps, and its witness
 /// (section 2 of the 1988 paper).
 ///
-/// The witness of a bound above 1 refutes each smaller bound: of the misses of messages sent at `g` or
-/// later that are one step shorter than the bound, the one with the greatest Send. At 1 there is none.
-/// Takes no memory.
+/// The witness of a bound above 1 refutes each smaller bound: of the misses of messages sent at `g`
+/// or later that are one step shorter than the bound, the one with the greatest Send. At 1 there is
+/// none. Takes no memory.
 pub fn delta_at(trace: &Trace, set: ProcSet, g: u64) -> (u64, Option<Miss>)
     requires set { IsWithin set trace.now.config.n }
     requires start { 1 ≤ g }
     requires end { g ≤ length trace.now.steps }
     ensures delta { IsDelta set trace.now.steps g result.0 }
     ensures miss { NamesMiss set trace.now.steps g result.0 result.1 }
-    ensures steady { (o : Option Miss) → IsDelta set trace.now.steps (g + 1) result.0 → NamesMiss set trace.now.steps (g + 1) result.0 o → o ≡ result.1 }
+    ensures steady { IsSteadyMiss set trace.now.steps g result.0 result.1 }
     ensures refutes { IfSome result.1 (λ m. (d : ℕ) → d < result.0 → MissRefutes set trace.now.steps g d m) }
 {
     let delta = least_delta(trace, set, g);

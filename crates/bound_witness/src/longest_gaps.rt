@@ -8,8 +8,8 @@ use crate::step_tests::is_step_of;
 use std::alloc::{AllocError, Global};
 use step_trace::{Gap, ProcSet, Trace};
 
-/// Appends the gap between two steps of processor `proc`, if they aren't neighbours. Refuses only where
-/// they aren't.
+/// Appends the gap between two steps of processor `proc`, if they aren't neighbours. Refuses only
+/// where they aren't.
 fn push_gap_between(found: &mut Vec<Gap>, proc: u64, last: u64, next: u64) -> Result<(), AllocError>
     requires { last < next }
     ensures appended { OnOk result (found.new.items ≡ found.old.items ++ gap_between proc last next) }
@@ -45,8 +45,8 @@ fn push_gaps_of(trace: &Trace, set: ProcSet, p: u64, found: &mut Vec<Gap>) -> Re
     push_gap_between(found, p, last, end)
 }
 
-/// The gaps of the members that no longer gap covers: the longest intervals within the trace in which a
-/// member takes no step. They are listed by processor, then by beginning.
+/// The gaps of the members that no longer gap covers: the longest intervals within the trace in
+/// which a member takes no step. They are listed by processor, then by beginning.
 ///
 /// Refuses only for want of memory, and only where there is a gap to list.
 pub fn gaps(alloc: Global, trace: &Trace, set: ProcSet) -> Result<Vec<Gap>, AllocError>

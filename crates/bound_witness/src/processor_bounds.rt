@@ -1,10 +1,10 @@
 //! Steps that members don't take, and the processor bound.
 
-ghost use Rattle.std.specs.Prelude.{◌≡◌, ℕ, ◌+◌, ◌^◌, ◌<◌, ◌≤◌, ◌↔◌, length, Option, IsTrue, IfSome, MatchOption};
+ghost use Rattle.std.specs.Prelude.{◌≡◌, ℕ, ◌+◌, ◌^◌, ◌<◌, ◌≤◌, ◌↔◌, length, IsTrue, IfSome, MatchOption};
 ghost use Rattle.step_trace.specs.Processors.{IsWithin};
 ghost use Rattle.step_trace.specs.Bounds.{StepsWithin, PhiHolds, IsPhi};
 ghost use Rattle.step_trace.specs.Witnesses.{IsNamedGap, GapRefutes, NamesGap};
-ghost use Rattle.bound_witness.specs.WitnessSearches.{AllStepWithin, IsFirstSilent};
+ghost use Rattle.bound_witness.specs.WitnessSearches.{AllStepWithin, IsFirstSilent, IsSteadyGap};
 
 use crate::step_tests::is_step_of;
 use step_trace::{Gap, ProcSet, Trace};
@@ -66,8 +66,8 @@ fn least_phi(trace: &Trace, set: ProcSet, g: u64) -> u64
     end
 }
 
-/// Of the gaps of this length that begin at `g` or later, the one with the greatest beginning, and of
-/// these the one of the least processor.
+/// Of the gaps of this length that begin at `g` or later, the one with the greatest beginning, and
+/// of these the one of the least processor.
 fn last_gap_of_length(trace: &Trace, set: ProcSet, g: u64, span: u64) -> Option<Gap>
     requires set { IsWithin set trace.now.config.n }
     requires start { 1 ≤ g }
@@ -91,16 +91,16 @@ fn last_gap_of_length(trace: &Trace, set: ProcSet, g: u64, span: u64) -> Option<
 /// The least positive processor bound that holds from `g`, in real-time steps, and its witness
 /// (section 2 of the 1988 paper).
 ///
-/// The witness of a bound above 1 refutes each smaller bound: of the gaps that begin at `g` or later and
-/// are one step shorter than the bound, the one with the greatest beginning, and of these the one of the
-/// least processor. At 1 there is none. Takes no memory.
+/// The witness of a bound above 1 refutes each smaller bound: of the gaps that begin at `g` or later
+/// and are one step shorter than the bound, the one with the greatest beginning, and of these the one
+/// of the least processor. At 1 there is none. Takes no memory.
 pub fn phi_at(trace: &Trace, set: ProcSet, g: u64) -> (u64, Option<Gap>)
     requires set { IsWithin set trace.now.config.n }
     requires start { 1 ≤ g }
     requires end { g ≤ length trace.now.steps }
     ensures phi { IsPhi set trace.now.steps g result.0 }
     ensures gap { NamesGap set trace.now.steps g result.0 result.1 }
-    ensures steady { (o : Option Gap) → IsPhi set trace.now.steps (g + 1) result.0 → NamesGap set trace.now.steps (g + 1) result.0 o → o ≡ result.1 }
+    ensures steady { IsSteadyGap set trace.now.steps g result.0 result.1 }
     ensures refutes { IfSome result.1 (λ w. (f : ℕ) → f < result.0 → GapRefutes set trace.now.steps g f w) }
 {
     let phi = least_phi(trace, set, g);

@@ -1,5 +1,5 @@
-//! The list of steps and the index of the messages that were taken, which is kept beside it so that no
-//! step is looked for.
+//! The list of steps, and the index of the messages that were taken, kept beside it so that no step
+//! is looked for.
 
 ghost use Rattle.std.specs.Prelude.{◌≡◌, ◌++◌, ◌∷◌, [], ◌<◌, ◌≤◌, ◌⊎◌, ◌||◌, ◌==◌, ℕ, length, All, OnOk, OnErr, vec_len, vec_capacity};
 ghost use Rattle.std.specs.List.{list_any};

@@ -10,15 +10,16 @@ impl fmt::Display for PushError {
     ghost output = { λ e. Some (push_error_text e) };
 
     fn fmt<W: fmt::Write>(&self, f: &mut fmt::Formatter<W>) -> fmt::Result {
-        match self {
-            PushError::Full => write!(f, "trace is full"),
-            PushError::BadProc => write!(f, "no such processor"),
-            PushError::BadDest => write!(f, "no such destination"),
-            PushError::IdsNotRising => write!(f, "ids do not rise"),
-            PushError::UnknownMessage(id) => write!(f, "message {id} unknown"),
-            PushError::NotAddressed(id) => write!(f, "message {id} is for another processor"),
-            PushError::Redelivered(id) => write!(f, "message {id} was received before"),
-            PushError::Memory => write!(f, "out of memory"),
-        }
+        let (id, rest) = match self {
+            PushError::Full => return f.write_str("trace is full"),
+            PushError::BadProc => return f.write_str("no such processor"),
+            PushError::BadDest => return f.write_str("no such destination"),
+            PushError::IdsNotRising => return f.write_str("ids do not rise"),
+            PushError::UnknownMessage(id) => (id, " unknown"),
+            PushError::NotAddressed(id) => (id, " is for another processor"),
+            PushError::Redelivered(id) => (id, " was received before"),
+            PushError::Memory => return f.write_str("out of memory"),
+        };
+        write!(f, "message {id}{rest}")
     }
 }

@@ -106,7 +106,8 @@ impl Trace {
     /// Appends a step, in time that grows with the ids that it takes.
     ///
     /// Refuses in the order of `PushError`, and names the least id of the kind that is refused. No
-    /// refusal but want of memory is answered exactly where the trace stays well formed with the step.
+    /// refusal but want of memory is answered exactly where the trace stays well formed with the
+    /// step.
     pub fn push(&mut self, step: Step) -> Result<(), PushError>
         ensures appended { OnOk result (self.new.steps ≡ self.old.steps ++ step ∷ []) }
         ensures config { self.new.config ≡ self.old.config }

@@ -57,9 +57,9 @@ fn has_gap_at(listed: &[Gap], place: usize, proc: u64, from: u64, to: u64) -> bo
     }
 }
 
-// Of 100,000 steps, processor 1 misses the even ones outside the middle: 20,000 before it, and 20,000
-// after. Processor 2 misses the 20,000 odd ones before the middle, then the middle and the step after
-// it in one gap, and the 19,999 odd ones from there on.
+// Of 100,000 steps, processor 1 misses the even ones outside the middle: 20,000 before it, and
+// 20,000 after. Processor 2 misses the 20,000 odd ones before the middle, then the middle and the
+// step after it in one gap, and the 19,999 odd ones from there on.
 #[test]
 fn gaps_of_a_long_trace(rt: HostRuntime) -> Result<(), Fail> {
     let listed = gaps_of_turns(rt.alloc(), 100_000)?;

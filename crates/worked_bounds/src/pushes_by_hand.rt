@@ -73,8 +73,8 @@ fn no_steps(rt: HostRuntime) -> Result<(), Fail> {
     Ok(())
 }
 
-// Whether the trace, which has four steps, takes or refuses one more step so. It keeps the step that it
-// takes.
+// Whether the trace, which has four steps, takes or refuses one more step so. It keeps the step that
+// it takes.
 fn answers(
     alloc: Global,
     trace: &mut Trace,

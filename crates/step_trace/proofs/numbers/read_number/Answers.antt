@@ -20,14 +20,14 @@ returns-then-not-is_ascii_digit-clause-none c = λ n h e.
 
 pub returns-in_err-checked_mul-clause-none : goal.returns-in_err-checked_mul-clause-none
 returns-in_err-checked_mul-clause-none c = rw c.from_residual.ensures (λ n h e.
-    let front = decimal-first_digits n _ c.loop-byte.byte-index h e c.loop-byte-test.true in
-    omega (arith, front, c.in_err-checked_mul.ensures, c.loop-byte.invariant.1))
+    let first = decimal-first_digits n _ c.loop-byte.byte-index h e c.loop-byte-test.true in
+    omega (arith, first, c.in_err-checked_mul.ensures, c.loop-byte.invariant.1))
 
 pub returns-in_err-number-clause-none : goal.returns-in_err-number-clause-none
 returns-in_err-number-clause-none c = rw c.from_residual-in_err-number.ensures (λ n h e.
     let digit : digit_value (get_or c.args.field.now c.loop-byte.byte-index 0) ≡ c.from.result = grind (arith, nat_tests) in
-    let front = decimal-first_digits n _ c.loop-byte.byte-index h e c.loop-byte-test.true in
-    omega (arith, front, digit, c.in_err-number.ensures, c.in_ok-checked_mul.ensures.1, c.loop-byte.invariant.1))
+    let first = decimal-first_digits n _ c.loop-byte.byte-index h e c.loop-byte-test.true in
+    omega (arith, first, digit, c.in_err-number.ensures, c.in_ok-checked_mul.ensures.1, c.loop-byte.invariant.1))
 
 pub loop-byte-preserved : goal.loop-byte-preserved
 loop-byte-preserved c =
