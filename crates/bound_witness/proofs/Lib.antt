@@ -1,2 +1,5 @@
-pub mod LastWitnesses
-pub mod SilentIntervals
+pub mod MissSearches
+pub mod GapSearches
+pub mod ReceiveSearches
+pub mod GapsBetween
+pub mod GapLists

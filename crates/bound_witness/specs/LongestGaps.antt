@@ -1,4 +1,4 @@
--- The longest silent intervals of the members of a set.
+-- The longest gaps of the members of a set (own).
 use Rattle.std.specs.Prelude.{ℕ, ◌≡◌, ◌-◌, ◌+◌, ◌<◌, ◌≤◌, ◌↔◌, ◌⊎◌, List, [], ◌∷◌, Contains, AllPairs, nat_lt, if◌then◌else◌}
 use Rattle.step_trace.specs.declared.steps.Step.{Step}
 use Rattle.step_trace.specs.declared.rows.Gap.{Gap}
@@ -22,6 +22,6 @@ pub record ListsGapsBy (set : ℕ) (steps : List Step) (p k : ℕ) (ws : List Ga
   pub listed : (w : Gap) → Contains ws w ↔ (IsLongestGap set steps w × BeginsBy w p k)
   pub ordered : AllPairs Precedes ws
 
--- the interval between two steps, if it isn't empty
-abbrev pub silence : ℕ → ℕ → ℕ → List Gap
-silence p last next = if nat_lt (last + 1) next then record { proc = p; from = last + 1; to = next - 1 } ∷ [] else []
+-- the gap between two steps of p, if they aren't neighbours
+abbrev pub gap_between : ℕ → ℕ → ℕ → List Gap
+gap_between p last next = if nat_lt (last + 1) next then record { proc = p; from = last + 1; to = next - 1 } ∷ [] else []

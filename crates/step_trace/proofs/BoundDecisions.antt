@@ -1,26 +1,15 @@
 -- Deliveries and steps can be decided, so a bound holds where no witness refutes it.
-use Rattle.std.proofs.Common.{ℕ, ◌≡◌, ◌+◌, ◌-◌, ◌≤◌, ◌⊎◌, inl, inr, List, Option, Some, None, Bool, true, false, ◌==◌, refl, ap, sym, ◌∙◌, subst, suc, zero, arith, eq-eqb}
-use Rattle.std.specs.Prelude.{Contains}
-use Rattle.std.proofs.lemmas.Bool.{eqb-true, cases_lt, cases_eq}
+use Rattle.std.proofs.Common.{ℕ, ◌≡◌, ◌+◌, ◌-◌, ◌≤◌, ◌⊎◌, inl, inr, List, Option, Some, None, Bool, true, false, refl, ap, sym, ◌∙◌, subst, suc, zero, arith}
+use Rattle.std.proofs.lemmas.Bool.{cases_lt, cases_eq}
 use Rattle.std.proofs.lemmas.Option.{none-some, same_Some}
-use Rattle.std.proofs.lemmas.List.{get_or_default}
-use Rattle.std.proofs.lemmas.List.Folds.{list_any_at, Any-from_list_any}
-use Rattle.step_trace.specs.declared.steps.Act.{Act}
 use Rattle.step_trace.specs.declared.steps.Step.{Step}
 use Rattle.step_trace.specs.declared.rows.Miss.{Miss}
 use Rattle.step_trace.specs.declared.rows.Gap.{Gap}
-use Rattle.step_trace.specs.Steps.{act_ids, act_takes}
+use Rattle.step_trace.specs.Steps.{act_takes}
 use Rattle.step_trace.specs.Traces.{step_at, TakesAt, IsDelivered, IsStepOf}
 use Rattle.step_trace.specs.Bounds.{DeltaHolds, StepsWithin, PhiHolds}
 use Rattle.step_trace.specs.Witnesses.{MissRefutes, GapRefutes}
-
-contains_from_takes : (a : Act) (s : ℕ) → act_takes a s ≡ true → Contains (act_ids a) s
-contains_from_takes a s h =
-    let y = Any-from_list_any (λ i. i == s) (act_ids a) h in
-    (y.0, y.2, get_or_default (act_ids a) y.0 s y.1 y.2 ∙ y.3 ∙ eqb-true y.1 s y.4)
-
-takes_from_contains : (a : Act) (s : ℕ) → Contains (act_ids a) s → act_takes a s ≡ true
-takes_from_contains a s h = list_any_at (λ i. i == s) (act_ids a) h.0 s h.1 (eq-eqb _ _ h.2)
+use Rattle.step_trace.proofs.StepPositions.{Contains-from_takes, act_takes-from_Contains}
 
 -- step k takes message s, or it doesn't
 pub takes_or_not : (steps : List Step) (k s : ℕ) → TakesAt steps k s ⊎ (¬ TakesAt steps k s)
@@ -29,8 +18,8 @@ takes_or_not steps k s = at (step_at steps k) refl where
   at None e = inr (λ t. none-some t.0 (sym e ∙ t.1))
   at (Some x) e = by (act_takes x.act s) refl where
     by : (b : Bool) → act_takes x.act s ≡ b → TakesAt steps k s ⊎ (¬ TakesAt steps k s)
-    by true h = inl (x, e, contains_from_takes x.act s h)
-    by false h = inr (λ t. let y = takes_from_contains t.0.act s t.2 in let q : t.0 ≡ x = same_Some t.0 x (sym t.1 ∙ e) in cc)
+    by true h = inl (x, e, Contains-from_takes x.act s h)
+    by false h = inr (λ t. let y = act_takes-from_Contains t.0.act s t.2 in let q : t.0 ≡ x = same_Some t.0 x (sym t.1 ∙ e) in cc)
 
 -- message s is delivered by r, or it isn't
 pub delivered_or_not : (steps : List Step) (s r : ℕ) → IsDelivered steps s r ⊎ (¬ IsDelivered steps s r)

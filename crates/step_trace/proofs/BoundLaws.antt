@@ -1,5 +1,7 @@
 -- Laws of bounds and of their witnesses.
-use Rattle.std.proofs.Common.{ℕ, ◌≡◌, ◌<◌, ◌≤◌, List, Option, Some, None, refl, ap, sym, ◌∙◌, arith}
+use Rattle.std.proofs.Common.{ℕ, ◌≡◌, ◌<◌, ◌≤◌, inl, inr, List, length, Option, Some, None, refl, ap, sym, ◌∙◌, arith}
+use Rattle.std.specs.Prelude.{IfSome}
+use Rattle.std.proofs.lemmas.Bool.{cases_lt}
 use Rattle.std.proofs.lemmas.Option.{same_Some}
 use Rattle.step_trace.specs.declared.steps.Step.{Step}
 use Rattle.step_trace.specs.declared.rows.Miss.{Miss}
@@ -13,6 +15,7 @@ use Rattle.step_trace.proofs.StepPositions.{step_at_within}
 pub DeltaHolds-later : (set : ℕ) (steps : List Step) (g h d : ℕ) → g ≤ h → DeltaHolds set steps g d → DeltaHolds set steps h d
 DeltaHolds-later set steps g h d l b = record { each = λ s m. b.each s (omega arith) }
 
+-- and so does a processor bound
 pub PhiHolds-later : (set : ℕ) (steps : List Step) (g h f : ℕ) → g ≤ h → PhiHolds set steps g f → PhiHolds set steps h f
 PhiHolds-later set steps g h f l b = record { each = λ x m. b.each x (omega arith) }
 
@@ -22,12 +25,32 @@ DeltaHolds-larger set steps g d e l h = record {
   each = λ s m k. record { on_time = λ r b v w f. (h.each s m k).on_time r b v w (omega arith) };
 }
 
+-- who takes a step among some real-time steps takes one among more of them
 pub StepsWithin-larger : (steps : List Step) (p x f e : ℕ) → f ≤ e → StepsWithin steps p x f → StepsWithin steps p x e
 StepsWithin-larger steps p x f e l w = let u = w.until in record { place = w.place; from = w.from; until = omega arith; step = w.step }
 
+-- a larger processor bound holds where a smaller one does
 pub PhiHolds-larger : (set : ℕ) (steps : List Step) (g f e : ℕ) → f ≤ e → PhiHolds set steps g f → PhiHolds set steps g e
 PhiHolds-larger set steps g f e l h = record {
   each = λ x m k p q. StepsWithin-larger steps p x f e l (h.each x m (omega arith) p q);
+}
+
+-- past the length of the trace each communication bound holds
+pub DeltaHolds-past_end : (set : ℕ) (steps : List Step) (g d : ℕ) → length steps < d → DeltaHolds set steps g d
+DeltaHolds-past_end set steps g d l = record {
+  each = λ s m k. record { on_time = λ r b v w f. absurd (let q = step_at_within steps r _ w.step in omega arith) };
+}
+
+-- and each processor bound
+pub PhiHolds-past_end : (set : ℕ) (steps : List Step) (g f : ℕ) → 1 ≤ g → length steps < f → PhiHolds set steps g f
+PhiHolds-past_end set steps g f o l = record { each = λ x m k p q. absurd (omega arith) }
+
+-- a positive bound that holds, below which no positive one does, is the least
+pub IsLeastBound-none_below : (Holds : ℕ → Type 0) (d : ℕ) → 1 ≤ d → Holds d → ((e : ℕ) → e < d → 1 ≤ e → Holds e → ⊥) → IsLeastBound Holds d
+IsLeastBound-none_below Holds d p h n = record {
+  positive = p;
+  holds = h;
+  least = λ e q k. elim (cases_lt e d) [ inl l ↦ absurd (n e l q k) | inr l ↦ l ];
 }
 
 -- there is one least bound
@@ -43,6 +66,7 @@ MissRefutes-sound set steps g d m r h =
     let w = step_at_within steps m.sent _ r.miss.message.sent in
     r.miss.undelivered ((h.each m.sent r.from w.1).on_time m.missed r.miss.to r.miss.message r.miss.receive r.long)
 
+-- and neither does one that a gap refutes
 pub GapRefutes-sound : (set : ℕ) (steps : List Step) (g f : ℕ) (w : Gap) → GapRefutes set steps g f w → ¬ PhiHolds set steps g f
 GapRefutes-sound set steps g f w r h =
     let l = r.long in
@@ -55,6 +79,7 @@ GapRefutes-sound set steps g f w r h =
 pub MissRefutes-smaller : (set : ℕ) (steps : List Step) (g h d e : ℕ) (m : Miss) → h ≤ m.sent → e ≤ d → MissRefutes set steps g d m → MissRefutes set steps h e m
 MissRefutes-smaller set steps g h d e m l k r = let q = r.long in record { miss = r.miss; from = l; long = omega arith }
 
+-- and so does a gap
 pub GapRefutes-smaller : (set : ℕ) (steps : List Step) (g h f e : ℕ) (w : Gap) → h ≤ w.from → e ≤ f → GapRefutes set steps g f w → GapRefutes set steps h e w
 GapRefutes-smaller set steps g h f e w l k r = let q = r.long in record { gap = r.gap; from = l; long = omega arith }
 
@@ -62,12 +87,25 @@ GapRefutes-smaller set steps g h f e w l k r = let q = r.long in record { gap = 
 pub IsNamedMiss-refutes : (set : ℕ) (steps : List Step) (g d e : ℕ) (m : Miss) → e < d → IsNamedMiss set steps g d m → MissRefutes set steps g e m
 IsNamedMiss-refutes set steps g d e m l n = let q = n.long in record { miss = n.miss; from = n.from; long = omega arith }
 
+-- and so does a named gap
 pub IsNamedGap-refutes : (set : ℕ) (steps : List Step) (g f e : ℕ) (w : Gap) → e < f → IsNamedGap set steps g f w → GapRefutes set steps g e w
 IsNamedGap-refutes set steps g f e w l n = let q = n.long in record { gap = n.gap; from = n.from; long = omega arith }
 
+-- so the witness beside a bound refutes each smaller one, where there is a witness
+pub NamesMiss-refutes : (set : ℕ) (steps : List Step) (g d : ℕ) (o : Option Miss) → NamesMiss set steps g d o → IfSome o (λ m. (e : ℕ) → e < d → MissRefutes set steps g e m)
+NamesMiss-refutes set steps g d None n = tt
+NamesMiss-refutes set steps g d (Some m) n = λ e l. IsNamedMiss-refutes set steps g d e m l n.1
+
+-- and so does the gap beside a processor bound
+pub NamesGap-refutes : (set : ℕ) (steps : List Step) (g f : ℕ) (o : Option Gap) → NamesGap set steps g f o → IfSome o (λ w. (e : ℕ) → e < f → GapRefutes set steps g e w)
+NamesGap-refutes set steps g f None n = tt
+NamesGap-refutes set steps g f (Some w) n = λ e l. IsNamedGap-refutes set steps g f e w l n.1
+
+-- misses with equal fields are one
 pub Miss-same : (m o : Miss) → m.sent ≡ o.sent → m.missed ≡ o.missed → m ≡ o
 Miss-same m o p q = ap (λ (s : ℕ). let x : Miss = record { sent = s; missed = m.missed } in x) p ∙ ap (λ (r : ℕ). let x : Miss = record { sent = o.sent; missed = r } in x) q
 
+-- and so are gaps
 pub Gap-same : (v w : Gap) → v.proc ≡ w.proc → v.from ≡ w.from → v.to ≡ w.to → v ≡ w
 Gap-same v w p q r =
     ap (λ (a : ℕ). let x : Gap = record { proc = a; from = v.from; to = v.to } in x) p
@@ -84,6 +122,7 @@ IsNamedMiss-steady set steps g h d m o l a b =
     let above : m.sent ≤ o.sent = b.greatest m a.miss (omega arith) a.long in
     Miss-same o m (omega arith) (omega arith)
 
+-- and so are gaps
 pub IsNamedGap-steady : (set : ℕ) (steps : List Step) (g h f : ℕ) (v w : Gap) → g ≤ h → IsNamedGap set steps g f v → IsNamedGap set steps h f w → w ≡ v
 IsNamedGap-steady set steps g h f v w l a b =
     let from = b.from in
@@ -99,6 +138,7 @@ IsNamedGap-steady set steps g h f v w l a b =
 pub IsNamedMiss-unique : (set : ℕ) (steps : List Step) (g d : ℕ) (m o : Miss) → IsNamedMiss set steps g d m → IsNamedMiss set steps g d o → o ≡ m
 IsNamedMiss-unique set steps g d m o = IsNamedMiss-steady set steps g g d m o (omega arith)
 
+-- and one named gap
 pub IsNamedGap-unique : (set : ℕ) (steps : List Step) (g f : ℕ) (v w : Gap) → IsNamedGap set steps g f v → IsNamedGap set steps g f w → w ≡ v
 IsNamedGap-unique set steps g f v w = IsNamedGap-steady set steps g g f v w (omega arith)
 
@@ -109,6 +149,7 @@ NamesMiss-steady set steps g h d None (Some o) l a b = absurd (let q : 1 < d = b
 NamesMiss-steady set steps g h d (Some m) None l a b = absurd (let q : 1 < d = a.0 in omega arith)
 NamesMiss-steady set steps g h d (Some m) (Some o) l a b = ap (λ (x : Miss). Some x) (IsNamedMiss-steady set steps g h d m o l a.1 b.1)
 
+-- and so is the gap
 pub NamesGap-steady : (set : ℕ) (steps : List Step) (g h f : ℕ) (v w : Option Gap) → g ≤ h → NamesGap set steps g f v → NamesGap set steps h f w → w ≡ v
 NamesGap-steady set steps g h f None None l a b = refl
 NamesGap-steady set steps g h f None (Some w) l a b = absurd (let q : 1 < f = b.0 in omega arith)

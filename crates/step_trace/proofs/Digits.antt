@@ -7,6 +7,7 @@ use Rattle.std.proofs.lemmas.Str.Parse.{IsNumeralModel, digit_at, digits_value-t
 use Rattle.std.proofs.lemmas.Int.Digits.{digits_value_more}
 use Rattle.std.proofs.lemmas.Fmt.{decimal-digits_value, digits_decimal, digits_value-decimal, first_decimal, decimal_digit}
 
+-- the digits of base 10, as std's laws of numerals want them
 own : IsNumeralModel (AllDigits 10) (digits_value 10)
 own = record { to = λ ds h. h; from = λ ds h. h; same = λ ds h. refl }
 
@@ -24,6 +25,7 @@ decimal-first_digits n bs i h e inside =
     let whole : digits_value 10 bs ≡ n = rw e (digits_value-decimal own n h) in
     omega (arith, digits_value_more 10 bs i inside, digits_value-take-le 10 bs (i + 1) (omega arith), whole)
 
+-- zero has one digit
 zero-text : length (decimal 0) ≡ 1
 zero-text = rw (decimal_digit 0 (omega arith)) refl
 

@@ -1,7 +1,8 @@
 -- A well-formed list of steps, and the index of its taken messages, with one step more.
-use Rattle.std.proofs.Common.{ℕ, ◌≡◌, ◌+◌, ◌⊎◌, inl, inr, List, [], ◌∷◌, ◌++◌, length, Bool, true, false, ◌||◌, refl, ap, sym, ◌∙◌, subst, suc, zero, get_or, arith}
+use Rattle.std.proofs.Common.{ℕ, ◌≡◌, ◌+◌, ◌⊎◌, inl, inr, List, [], ◌∷◌, ◌++◌, length, Bool, false, ◌||◌, refl, ap, sym, ◌∙◌, subst, suc, zero, get_or, arith}
 use Rattle.std.specs.Prelude.{Contains, IfSome}
 use Rattle.std.specs.List.Sorted.{IsStrictlyIncreasing}
+use Rattle.std.proofs.Math.Bool.{or-false}
 use Rattle.std.proofs.lemmas.List.Folds.{list_any-append}
 use Rattle.std.proofs.lemmas.Grind.{common_steps}
 use Rattle.step_trace.specs.declared.steps.Step.{Step}
@@ -11,14 +12,17 @@ use Rattle.step_trace.specs.Traces.{IsSentTo, TakesAt, IsWellFormed}
 use Rattle.step_trace.specs.PushRefusals.{is_taken}
 use Rattle.step_trace.specs.DeliveryIndex.{IsIndex, flag_of}
 use Rattle.step_trace.proofs.StepPositions.{step_at-push_cases, step_at-push_old, step_at_within, taken_from_at}
-use Rattle.step_trace.proofs.Refusals.{Fits}
+use Rattle.step_trace.proofs.FittingSteps.{Fits}
 
+-- a message stays with its receiver
 IsSentTo-push : (steps : List Step) (x : Step) (s p : ℕ) → IsSentTo steps s p → IsSentTo (steps ++ x ∷ []) s p
 IsSentTo-push steps x s p h = (h.0, step_at-push_old steps x _ s h.1)
 
+-- what is taken is taken by an old step, or by the new one
 TakesAt-push_cases : (steps : List Step) (x : Step) (m s : ℕ) → TakesAt (steps ++ x ∷ []) m s → TakesAt steps m s ⊎ ((m ≡ length steps + 1) × Contains (act_ids x.act) s)
 TakesAt-push_cases steps x m s h = elim (step_at-push_cases steps x h.0 m h.1) [ inl e ↦ inl (h.0, e, h.2) | inr e ↦ inr (e.0, subst (λ (z : Step). Contains (act_ids z.act) s) (sym e.1) h.2) ]
 
+-- a list of steps stays well formed with a step that fits
 pub IsWellFormed-push : (c : Setup) (steps : List Step) (x : Step) → IsWellFormed c steps → Fits c steps x → IsWellFormed c (steps ++ x ∷ [])
 IsWellFormed-push c steps x w f = record {
   short = let r = f.room in grind (arith, common_steps);
@@ -48,13 +52,10 @@ flag_of-push taken (suc k) = go taken k where
   go (b ∷ t) zero = refl
   go (b ∷ t) (suc k) = go t k
 
-or_false : (b : Bool) → (b || false) ≡ b
-or_false true = refl
-or_false false = refl
-
+-- the index with the ids of the new step marked is that of the longer list
 pub IsIndex-push : (steps : List Step) (x : Step) (taken new : List Bool) → IsIndex steps taken → length new ≡ length taken + 1
     → ((s : ℕ) → flag_of new s ≡ (flag_of (taken ++ false ∷ []) s || act_takes x.act s)) → IsIndex (steps ++ x ∷ []) new
 IsIndex-push steps x taken new i l m = record {
   long = let e = i.long in grind (arith, common_steps);
-  each = λ s. m s ∙ ap (λ b. b || act_takes x.act s) (flag_of-push taken s ∙ i.each s) ∙ ap (λ b. is_taken steps s || b) (sym (or_false (act_takes x.act s))) ∙ sym (list_any-append (λ x. act_takes x.act s) steps (x ∷ []));
+  each = λ s. m s ∙ ap (λ b. b || act_takes x.act s) (flag_of-push taken s ∙ i.each s) ∙ ap (λ b. is_taken steps s || b) (sym (or-false (act_takes x.act s))) ∙ sym (list_any-append (λ x. act_takes x.act s) steps (x ∷ []));
 }

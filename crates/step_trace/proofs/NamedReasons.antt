@@ -1,7 +1,8 @@
 -- What a reason against a step names.
 use Rattle.std.proofs.Common.{ℕ, ◌≡◌, ◌≢◌, ◌<◌, ◌⊎◌, inl, inr, List, [], ◌∷◌, ◌++◌, length, Option, Some, None, Bool, true, false, not, refl, sym, ◌∙◌, subst, suc, zero, arith}
-use Rattle.std.specs.Prelude.{slice_index_or, Contains, nat_lt, ◌&&◌, find, cond}
+use Rattle.std.specs.Prelude.{slice_index_or, Contains, nat_lt, find, cond}
 use Rattle.std.proofs.lemmas.Option.{same_Some, none-some}
+use Rattle.std.proofs.lemmas.Bool.{and_parts, not-true, not-false, not_from_true, not_from_false}
 use Rattle.std.proofs.lemmas.Bool.Decides.{nat_tests}
 use Rattle.step_trace.specs.declared.traces.TheConstants.{MAX_STEPS}
 use Rattle.step_trace.specs.declared.traces.PushError.{PushError}
@@ -12,17 +13,14 @@ use Rattle.step_trace.specs.declared.steps.Step.{Step}
 use Rattle.step_trace.specs.Configurations.{Setup, is_proc}
 use Rattle.step_trace.specs.Traces.{IsWellFormed}
 use Rattle.step_trace.specs.PushRefusals.{is_taken, is_message, is_sent_to, is_rising, is_rising_from, refusal, act_refusal, first_id, IsLeastFailing, NamesLeast, IsJustified}
-use Rattle.step_trace.proofs.Refusals.{none_from_well_formed}
+use Rattle.step_trace.proofs.FittingSteps.{none_from_well_formed}
 
 -- a reason is never want of memory, and the id that it names is the least of its kind
 pub record IsNamed (steps : List Step) (x : Step) (e : PushError) : Type 0 where
   pub reason : e ≢ Memory
   pub least : NamesLeast steps x e
 
-and-parts : (b d : Bool) → (b && d) ≡ true → (b ≡ true) × (d ≡ true)
-and-parts true d h = (refl, h)
-and-parts false d h = cc
-
+-- an element of a list is its first or one of the others
 Contains-cons : (x i : ℕ) (xs : List ℕ) → Contains (x ∷ xs) i → (x ≡ i) ⊎ Contains xs i
 Contains-cons x i xs h = go h.0 h.1 h.2 where
   go : (k : ℕ) → k < length (x ∷ xs) → slice_index_or (x ∷ xs) k i ≡ i → (x ≡ i) ⊎ Contains xs i
@@ -33,7 +31,7 @@ Contains-cons x i xs h = go h.0 h.1 h.2 where
 rising_above : (x : ℕ) (xs : List ℕ) → is_rising_from x xs ≡ true → (i : ℕ) → Contains xs i → x < i
 rising_above x [] h i d = absurd (let l = d.1 in omega arith)
 rising_above x (y ∷ ys) h i d =
-    let parts = and-parts (nat_lt x y) (is_rising_from y ys) h in
+    let parts = and_parts (nat_lt x y) (is_rising_from y ys) h in
     let test : nat_lt x y ≡ true = parts.0 in
     let first : x < y = grind (arith, nat_tests) in
     elim (Contains-cons y i ys d) [ inl e ↦ omega (arith, e, first) | inr f ↦ (let more = rising_above y ys parts.1 i f in omega (arith, more, first)) ]
@@ -44,6 +42,7 @@ pub record IsFound (p : ℕ → Bool) (xs : List ℕ) (s : ℕ) : Type 0 where
   pub passes : p s ≡ true
   pub least : (i : ℕ) → Contains xs i → i < s → p i ≡ false
 
+-- where the first element is found it is the least; else the others decide
 found-next : (p : ℕ → Bool) (x : ℕ) (xs : List ℕ) (s : ℕ) → is_rising_from x xs ≡ true → (find p xs ≡ Some s → IsFound p xs s) → find p (x ∷ xs) ≡ Some s → IsFound p (x ∷ xs) s
 found-next p x xs s rising rest h = go (p x) refl h where
   go : (b : Bool) → p x ≡ b → cond b (Some x) (find p xs) ≡ Some s → IsFound p (x ∷ xs) s
@@ -58,36 +57,25 @@ found-next p x xs s rising rest h = go (p x) refl h where
     least = λ i d l. elim (Contains-cons x i xs d) [ inl q ↦ subst (λ (n : ℕ). p n ≡ false) q e | inr q ↦ more.least i q l ];
   }
 
+-- so it is for a list that rises from its first element
 found-from : (p : ℕ → Bool) (x : ℕ) (xs : List ℕ) (s : ℕ) → is_rising_from x xs ≡ true → find p (x ∷ xs) ≡ Some s → IsFound p (x ∷ xs) s
 found-from p x [] s rising h = found-next p x [] s rising (λ f. absurd (none-some s f)) h
-found-from p x (y ∷ ys) s rising h = found-next p x (y ∷ ys) s rising (found-from p y ys s (and-parts (nat_lt x y) (is_rising_from y ys) rising).1) h
+found-from p x (y ∷ ys) s rising h = found-next p x (y ∷ ys) s rising (found-from p y ys s (and_parts (nat_lt x y) (is_rising_from y ys) rising).1) h
 
+-- and for each rising list
 found : (p : ℕ → Bool) (xs : List ℕ) (s : ℕ) → is_rising xs ≡ true → find p xs ≡ Some s → IsFound p xs s
 found p [] s r h = absurd (none-some s h)
 found p (x ∷ xs) s r h = found-from p x xs s r h
 
-not-true : (b : Bool) → not b ≡ true → b ≡ false
-not-true true h = cc
-not-true false h = refl
-
-not-false : (b : Bool) → not b ≡ false → b ≡ true
-not-false true h = refl
-not-false false h = cc
-
+-- an element that the opposite test finds fails the test
 failing : (test : ℕ → Bool) (ids : List ℕ) (s : ℕ) → IsFound (λ i. not (test i)) ids s → IsLeastFailing test ids s
 failing test ids s f = record { member = f.member; fails = not-true _ f.passes; least = λ i d l. not-false _ (f.least i d l) }
 
-not-of-true : (b : Bool) → b ≡ true → not b ≡ false
-not-of-true true h = refl
-not-of-true false h = cc
-
-not-of-false : (b : Bool) → b ≡ false → not b ≡ true
-not-of-false true h = cc
-not-of-false false h = refl
-
+-- and one that the test finds fails the opposite test
 passing : (test : ℕ → Bool) (ids : List ℕ) (s : ℕ) → IsFound test ids s → IsLeastFailing (λ i. not (test i)) ids s
-passing test ids s f = record { member = f.member; fails = not-of-true _ f.passes; least = λ i d l. not-of-false _ (f.least i d l) }
+passing test ids s f = record { member = f.member; fails = not_from_true _ f.passes; least = λ i d l. not_from_false _ (f.least i d l) }
 
+-- the first reason against a Receive names the least id of its kind
 ids-named : (steps : List Step) (p : ℕ) (ids : List ℕ) (ends : Bool) (e : PushError)
     (rising : Bool) (unknown unaddressed again : Option ℕ) → is_rising ids ≡ rising
     → find (λ s. not (is_message steps s)) ids ≡ unknown → find (λ s. not (is_sent_to steps s p)) ids ≡ unaddressed → find (is_taken steps) ids ≡ again
@@ -106,6 +94,7 @@ ids-named steps p ids ends e true None None (Some s) r u a t h =
     (record { reason = λ q. cc; least = passing (is_taken steps) ids s (found _ ids s r t) })
 ids-named steps p ids ends e true None None None r u a t h = absurd (none-some e h)
 
+-- and so does the first reason against an act
 act-named : (c : Setup) (steps : List Step) (p : ℕ) (a : Act) (e : PushError) → act_refusal c steps p a ≡ Some e → IsNamed steps (record { proc = p; act = a }) e
 act-named c steps p (Receive ends ids) e h = ids-named steps p ids ends e _ _ _ _ refl refl refl refl h
 act-named c steps p (Send to) e h = go (is_proc c to) h where
@@ -113,6 +102,7 @@ act-named c steps p (Send to) e h = go (is_proc c to) h where
   go true f = absurd (none-some e f)
   go false f = subst (λ (z : PushError). IsNamed steps (record { proc = p; act = Send to }) z) (same_Some BadDest e f) (record { reason = λ q. cc; least = tt })
 
+-- and against a step
 pub refusal-named : (c : Setup) (steps : List Step) (x : Step) (e : PushError) → refusal c steps x ≡ Some e → IsNamed steps x e
 refusal-named c steps x e h = full (nat_lt (length steps) MAX_STEPS) h where
   proc : (b : Bool) → cond b (act_refusal c steps x.proc x.act) (Some BadProc) ≡ Some e → IsNamed steps x e

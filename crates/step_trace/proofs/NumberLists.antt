@@ -14,17 +14,21 @@ use Rattle.step_trace.specs.ProcessorLists.{IsListOf, HasMembers}
 abbrev pub parts_of : List ℕ → List (List ℕ)
 parts_of text = slice_split (λ b. eqb b 44) text
 
+-- the byte is no comma
 abbrev NoComma : ℕ → Type 0
 NoComma b = eqb b 44 ≡ false
 
+-- a digit is no comma
 digit_no_comma : (d : ℕ) → NoComma (48 + d)
 digit_no_comma d = ne_eqb (48 + d) 44 (λ e. omega arith)
 
+-- there is none in the text of a number
 decimal_no_comma : (n : ℕ) → n < 2 ^ 64 → All NoComma (decimal n)
 decimal_no_comma n h = decimal_by_steps (λ _ ds. All NoComma ds)
     (λ d _. All-cons NoComma _ [] (digit_no_comma d) (All-nil NoComma))
     (λ d ds _ all. All-push NoComma ds _ all (digit_no_comma _)) n h
 
+-- a member's number has 64 bits
 small : (n : ℕ) → n ≤ MAX_MEMBER → n < 2 ^ 64
 small n h = omega arith
 
@@ -35,6 +39,7 @@ parts-of_list n [] high = slice_split_none _ (decimal n) (decimal_no_comma n (sm
 parts-of_list n (m ∷ numbers) high = slice_split_at _ (decimal n) 44 _ (decimal_no_comma n (small n (high n (0, omega arith, refl)))) refl
     ∙ ap (λ parts. decimal n ∷ parts) (parts-of_list m numbers (λ p h. high p (Contains-append_right (n ∷ []) (m ∷ numbers) p h)))
 
+-- so it is for each text that lists numbers
 parts_are_numbers : (text numbers : List ℕ) → IsListOf text numbers → parts_of text ≡ map decimal numbers
 parts_are_numbers text [] h = absurd (omega (arith, h.some))
 parts_are_numbers text (n ∷ numbers) h = rw (h.written) (parts-of_list n numbers h.high)
@@ -46,6 +51,7 @@ pub record IsMemberText (part : List ℕ) : Type 0 where
   pub high : number ≤ MAX_MEMBER
   pub written : part ≡ decimal number
 
+-- each part of a list's text is the text of a member
 pub part_is_member : (text numbers part : List ℕ) (k : ℕ) → IsListOf text numbers → (k < length (parts_of text)) × (part ≡ get_or (parts_of text) k part) → IsMemberText part
 part_is_member text numbers part k list at =
     let parts = parts_are_numbers text numbers list in
@@ -68,6 +74,7 @@ outside_is_no_member part p fits e out member =
     let same : p ≡ member.number = decimal_injective p member.number fits (small member.number member.high) (sym e ∙ member.written) in
     elim out [ inl low ↦ omega arith | inr high ↦ omega arith ]
 
+-- an empty list has no element
 no_member : (p : ℕ) → Contains [] p → ⊥
 no_member p h = absurd (omega (arith, h.1))
 
@@ -79,6 +86,7 @@ pub record IsRead (parts : List (List ℕ)) (set : ℕ) : Type 0 where
   pub written : parts ≡ map decimal numbers
   pub members : HasMembers set numbers
 
+-- before the first part nothing was read
 pub nothing_read : (set : ℕ) → ((p : ℕ) → has_proc set p ≡ false) → IsRead [] set
 nothing_read set none = record {
   numbers = [];
@@ -88,6 +96,7 @@ nothing_read set none = record {
   members = λ p. (λ h. absurd (false≢true (sym (none p) ∙ h)), λ h. absurd (no_member p h));
 }
 
+-- with one member more the set has one number more
 member_more : (numbers : List ℕ) (set more p q : ℕ) → IsTrue (has_proc set q) ↔ Contains numbers q → IsTrue (has_proc more p) → (q ≢ p → has_proc more q ≡ has_proc set q)
     → IsTrue (has_proc more q) ↔ Contains (numbers ++ p ∷ []) q
 member_more numbers set more p q before added others = elim (cases_eq q p) [
@@ -98,6 +107,7 @@ member_more numbers set more p q before added others = elim (cases_eq q p) [
   )
 ]
 
+-- one more part is read, and its number put into the set
 pub one_more_read : (parts : List (List ℕ)) (part : List ℕ) (set more p : ℕ) → IsRead parts set → part ≡ decimal p → 1 ≤ p → p ≤ MAX_MEMBER
     → IsTrue (has_proc more p) → ((q : ℕ) → q ≢ p → has_proc more q ≡ has_proc set q) → IsRead (parts ++ part ∷ []) more
 one_more_read parts part set more p read e low high added others = record {
@@ -108,6 +118,7 @@ one_more_read parts part set more p read e low high added others = record {
   members = λ q. member_more read.numbers set more p q (read.members q) added (others q);
 }
 
+-- once all parts are read the set is what the text lists
 pub all_read : (text : List ℕ) (parts : List (List ℕ)) (set : ℕ) → IsRead parts set → parts ≡ parts_of text → (numbers : List ℕ) × IsListOf text numbers × HasMembers set numbers
 all_read text parts set read e = (
   read.numbers,

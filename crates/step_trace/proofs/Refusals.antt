@@ -1,10 +1,10 @@
--- What the first reason against a step says of the step, and its absence.
-use Rattle.std.proofs.Common.{ℕ, ◌≡◌, ◌+◌, ◌<◌, ◌≤◌, inl, inr, List, [], ◌∷◌, ◌++◌, length, Option, Some, None, Bool, true, false, not, refl, ap, suc, zero, arith, eq-eqb}
-use Rattle.std.specs.Prelude.{Contains, All, nat_lt, nat_le, ◌&&◌, IfSome, find, cond}
+-- What a step has where no reason stands against it.
+use Rattle.std.proofs.Common.{ℕ, ◌≡◌, ◌+◌, ◌<◌, ◌≤◌, List, [], ◌∷◌, length, Option, Some, None, Bool, true, false, not, refl, ap, suc, zero, arith}
+use Rattle.std.specs.Prelude.{Contains, All, nat_lt, ◌&&◌, IfSome, find, cond}
 use Rattle.std.specs.Option.{option_map_or}
 use Rattle.std.specs.List.Sorted.{IsStrictlyIncreasing}
 use Rattle.std.proofs.lemmas.List.Elements.{All-nil, All-cons, All-contains, All-weaker, All-contains_itself}
-use Rattle.std.proofs.lemmas.Grind.{common_steps}
+use Rattle.std.proofs.lemmas.Bool.{not-false}
 use Rattle.std.proofs.lemmas.Bool.Decides.{nat_tests}
 use Rattle.step_trace.specs.declared.traces.TheConstants.{MAX_STEPS}
 use Rattle.step_trace.specs.declared.traces.PushError.{PushError}
@@ -13,39 +13,32 @@ use Rattle.step_trace.specs.declared.steps.Act.TheVariants.{Send, Receive}
 use Rattle.step_trace.specs.declared.steps.Step.{Step}
 use Rattle.step_trace.specs.Configurations.{Setup, IsProc, is_proc}
 use Rattle.step_trace.specs.Steps.{act_ids, act_dest, act_sends_to}
-use Rattle.step_trace.specs.Traces.{step_at, IsSentTo, IsWellFormed}
+use Rattle.step_trace.specs.Traces.{step_at, IsSentTo}
 use Rattle.step_trace.specs.PushRefusals.{is_taken, is_message, is_sent_to, is_rising, is_rising_from, refusal, ids_refusal, act_refusal, first_id}
-use Rattle.step_trace.proofs.StepPositions.{step_at_within, taken_at-from_is_taken, step_at_last, step_at-push_old, step_at-push_cases}
+use Rattle.step_trace.proofs.StepPositions.{step_at_within}
+use Rattle.step_trace.proofs.FittingSteps.{Fits}
 
--- what a step that is not refused has
-pub record Fits (c : Setup) (steps : List Step) (x : Step) : Type 0 where
-  pub room : length steps < MAX_STEPS
-  pub proc : IsProc c x.proc
-  pub dest : IfSome (act_dest x.act) (IsProc c)
-  pub rising : IsStrictlyIncreasing (act_ids x.act)
-  pub sent : (s : ℕ) → Contains (act_ids x.act) s → IsSentTo steps s x.proc
-  pub fresh : (s : ℕ) → Contains (act_ids x.act) s → is_taken steps s ≡ false
-
+-- a reason that doesn't stand was passed
 cond_none : {E : Type 0} (b : Bool) (o : Option E) (e : E) → cond b o (Some e) ≡ None → (b ≡ true) × (o ≡ None)
 cond_none true o e h = (refl, h)
 cond_none false o e h = cc
 
+-- and so it is for a test the other way round
 cond_some_none : {E : Type 0} (b : Bool) (o : Option E) (e : E) → cond b (Some e) o ≡ None → (b ≡ false) × (o ≡ None)
 cond_some_none true o e h = cc
 cond_some_none false o e h = (refl, h)
 
+-- no id gives a reason, and neither does what comes after
 first_id_none : (o : Option ℕ) (why : ℕ → PushError) (next : Option PushError) → first_id o why next ≡ None → (o ≡ None) × (next ≡ None)
 first_id_none None why next h = (refl, h)
 first_id_none (Some s) why next h = cc
 
+-- where nothing is found all elements fail
 find_all : {X : Type 0} (p : X → Bool) (xs : List X) → find p xs ≡ None → All (λ x. p x ≡ false) xs
 find_all p [] h = All-nil (λ x. p x ≡ false)
 find_all p (x ∷ xs) h = let e = cond_some_none (p x) (find p xs) x h in All-cons (λ x. p x ≡ false) x xs e.0 (find_all p xs e.1)
 
-not_false : (b : Bool) → not b ≡ false → b ≡ true
-not_false true h = refl
-not_false false h = cc
-
+-- ids that rise by the test do so by the definition
 rising_from : (x : ℕ) (xs : List ℕ) → is_rising_from x xs ≡ true → IsStrictlyIncreasing (x ∷ xs)
 rising_from x [] h k l = absurd (omega arith)
 rising_from x (y ∷ ys) h zero l = step (nat_lt x y) (is_rising_from y ys) refl h where
@@ -60,21 +53,26 @@ rising_from x (y ∷ ys) h (suc k) l =
       rest true d h = h
       rest false d h = cc
 
+-- and so it is for a whole list
 is_rising-true : (xs : List ℕ) → is_rising xs ≡ true → IsStrictlyIncreasing xs
 is_rising-true [] h = λ k l. absurd (omega arith)
 is_rising-true (x ∷ xs) h = rising_from x xs h
 
+-- the test of processors is their definition
 proc_from : (c : Setup) (p : ℕ) → is_proc c p ≡ true → IsProc c p
 proc_from c p h = (grind (arith, nat_tests), grind (arith, nat_tests))
 
+-- an act that sends to p is a Send to p
 send_from : (a : Act) (p : ℕ) → act_sends_to a p ≡ true → a ≡ Send p
 send_from (Send to) p h = ap (λ (q : ℕ). Send q) (grind (arith, nat_tests))
 send_from (Receive ends ids) p h = cc
 
+-- a step that sends to p is a Send to p of somebody
 sent_from : (o : Option Step) (p : ℕ) → option_map_or (λ x. act_sends_to x.act p) o false ≡ true → (a : ℕ) × (o ≡ Some (record { proc = a; act = Send p }))
 sent_from None p h = absurd (let e : false ≡ true = h in cc)
 sent_from (Some x) p h = (x.proc, ap (λ (a : Act). let y : Step = record { proc = x.proc; act = a } in Some y) (send_from x.act p h))
 
+-- an act without a reason against it has all that is asked of it
 act_fits : (c : Setup) (steps : List Step) (p : ℕ) (a : Act) → act_refusal c steps p a ≡ None → (IfSome (act_dest a) (IsProc c)) × IsStrictlyIncreasing (act_ids a) × ((s : ℕ) → Contains (act_ids a) s → IsSentTo steps s p) × ((s : ℕ) → Contains (act_ids a) s → is_taken steps s ≡ false)
 act_fits c steps p (Send to) h = (proc_from c to (cond_none (is_proc c to) None _ h).0, λ k l. absurd (omega arith), λ s t. absurd (let l = t.1 in omega arith), λ s t. absurd (let l = t.1 in omega arith))
 act_fits c steps p (Receive ends ids) h =
@@ -84,10 +82,11 @@ act_fits c steps p (Receive ends ids) h =
     let t = first_id_none (find (is_taken steps) ids) _ _ a.1 in (
       tt,
       is_rising-true ids r.0,
-      λ s d. sent_from (step_at steps s) p (not_false (is_sent_to steps s p) (All-contains (λ s. not (is_sent_to steps s p) ≡ false) ids s (find_all _ ids a.0) d)),
+      λ s d. sent_from (step_at steps s) p (not-false (is_sent_to steps s p) (All-contains (λ s. not (is_sent_to steps s p) ≡ false) ids s (find_all _ ids a.0) d)),
       λ s d. All-contains (λ s. is_taken steps s ≡ false) ids s (find_all (is_taken steps) ids t.0) d,
     )
 
+-- a step without a reason against it fits
 pub Fits-from_none : (c : Setup) (steps : List Step) (x : Step) → refusal c steps x ≡ None → Fits c steps x
 Fits-from_none c steps x h =
     let r = cond_none (nat_lt (length steps) MAX_STEPS) _ _ h in
@@ -113,79 +112,3 @@ pub known_from_none : (c : Setup) (steps : List Step) (x : Step) → refusal c s
 known_from_none c steps x h =
     let f = Fits-from_none c steps x h in
     All-weaker (Contains (act_ids x.act)) (λ s. (0 < s) × (s ≤ length steps)) (λ s d. step_at_within steps s _ (f.sent s d).1) (act_ids x.act) (All-contains_itself (act_ids x.act))
-
--- a list of steps that is well formed with one step more gives no reason against it
-
-true_if : (n m : ℕ) → n < m → nat_lt n m ≡ true
-true_if n m h = grind (arith, nat_tests)
-
-is_proc-true : (c : Setup) (p : ℕ) → IsProc c p → is_proc c p ≡ true
-is_proc-true c p h =
-    let low : nat_lt 0 p ≡ true = grind (arith, nat_tests) in
-    let high : nat_le p c.n ≡ true = grind (arith, nat_tests) in
-    rw (low, high) refl
-
-rising_from-true : (x : ℕ) (xs : List ℕ) → IsStrictlyIncreasing (x ∷ xs) → is_rising_from x xs ≡ true
-rising_from-true x [] h = refl
-rising_from-true x (y ∷ ys) h =
-    let first : x < y = h 0 (omega arith) in
-    let test : nat_lt x y ≡ true = grind (arith, nat_tests) in
-    rw (test, rising_from-true y ys (λ k l. let e : suc k + 1 ≡ suc (k + 1) = omega arith in rw e at (h (suc k) (let l' : k + 1 < length (y ∷ ys) = l in omega arith)))) refl
-
-is_rising-from_increasing : (xs : List ℕ) → IsStrictlyIncreasing xs → is_rising xs ≡ true
-is_rising-from_increasing [] h = refl
-is_rising-from_increasing (x ∷ xs) h = rising_from-true x xs h
-
--- nothing is found where the test fails on each element
-find-none : {X : Type 0} (p : X → Bool) (xs : List X) → ((x : X) → Contains xs x → p x ≡ false) → find p xs ≡ None
-find-none p [] h = refl
-find-none p (x ∷ xs) h = rw (h x (0, omega arith, refl), find-none p xs (λ y d. h y (suc d.0, let l = d.1 in omega arith, d.2))) refl
-
-is_sent_to-true : (steps : List Step) (s p : ℕ) → IsSentTo steps s p → is_sent_to steps s p ≡ true
-is_sent_to-true steps s p h = rw (h.1, eq-eqb p p refl) refl
-
-is_message-true : (steps : List Step) (s p : ℕ) → IsSentTo steps s p → is_message steps s ≡ true
-is_message-true steps s p h = rw h.1 refl
-
-not-of : (b : Bool) → b ≡ true → not b ≡ false
-not-of true h = refl
-not-of false h = cc
-
--- the last step of a well-formed list fits the list before it
-pub Fits-from_well_formed : (c : Setup) (steps : List Step) (x : Step) → IsWellFormed c (steps ++ x ∷ []) → Fits c steps x
-Fits-from_well_formed c steps x w =
-    let last = step_at_last steps x in
-    record {
-      room = let short = w.short in grind (arith, common_steps);
-      proc = w.procs (suc (length steps)) x last;
-      dest = w.dests (suc (length steps)) x last;
-      rising = w.rising (suc (length steps)) x last;
-      sent = λ s d. sent s d (w.earlier (suc (length steps)) s x last d);
-      fresh = λ s d. fresh s d (is_taken steps s) refl;
-    } where
-      sent : (s : ℕ) → Contains (act_ids x.act) s → (s < suc (length steps)) × IsSentTo (steps ++ x ∷ []) s x.proc → IsSentTo steps s x.proc
-      sent s d e = (e.1.0, elim (step_at-push_cases steps x _ s e.1.1) [ inl f ↦ f | inr f ↦ absurd (let l = e.0 in let q = f.0 in omega arith) ])
-
-      fresh : (s : ℕ) → Contains (act_ids x.act) s → (t : Bool) → is_taken steps s ≡ t → t ≡ false
-      fresh s d false e = refl
-      fresh s d true e =
-          let m = taken_at-from_is_taken steps s e in
-          let within = step_at_within steps m.0 _ m.1.1 in
-          let same = w.once m.0 (suc (length steps)) s (m.1.0, step_at-push_old steps x m.1.0 m.0 m.1.1, m.1.2) (x, step_at_last steps x, d) in
-          absurd (omega (arith, same, within.1))
-
-act_refusal-none : (c : Setup) (steps : List Step) (p : ℕ) (a : Act) → IfSome (act_dest a) (IsProc c) → IsStrictlyIncreasing (act_ids a)
-    → ((s : ℕ) → Contains (act_ids a) s → IsSentTo steps s p) → ((s : ℕ) → Contains (act_ids a) s → is_taken steps s ≡ false) → act_refusal c steps p a ≡ None
-act_refusal-none c steps p (Send to) dest rising sent fresh = rw (is_proc-true c to dest) refl
-act_refusal-none c steps p (Receive ends ids) dest rising sent fresh =
-    let known = find-none (λ s. not (is_message steps s)) ids (λ s d. not-of _ (is_message-true steps s p (sent s d))) in
-    let addressed = find-none (λ s. not (is_sent_to steps s p)) ids (λ s d. not-of _ (is_sent_to-true steps s p (sent s d))) in
-    let untaken = find-none (is_taken steps) ids fresh in
-    rw (is_rising-from_increasing ids rising, known, addressed, untaken) refl
-
-pub none_from_Fits : (c : Setup) (steps : List Step) (x : Step) → Fits c steps x → refusal c steps x ≡ None
-none_from_Fits c steps x f = rw (true_if (length steps) MAX_STEPS f.room, is_proc-true c x.proc f.proc) (act_refusal-none c steps x.proc x.act f.dest f.rising f.sent f.fresh)
-
--- no reason stands against the last step of a well-formed list
-pub none_from_well_formed : (c : Setup) (steps : List Step) (x : Step) → IsWellFormed c (steps ++ x ∷ []) → refusal c steps x ≡ None
-none_from_well_formed c steps x w = none_from_Fits c steps x (Fits-from_well_formed c steps x w)

@@ -12,12 +12,14 @@ use Rattle.step_trace.specs.Steps.{act_ids, act_takes}
 use Rattle.step_trace.specs.Traces.{step_at, TakesAt}
 use Rattle.step_trace.specs.PushRefusals.{is_taken}
 
+-- an element of the longer list is one of the shorter, or the new one
 slice_get-push_cases : {X : Type 0} (xs : List X) (x y : X) (k : ℕ) → slice_get (xs ++ x ∷ []) k ≡ Some y → (slice_get xs k ≡ Some y) ⊎ ((k ≡ length xs) × (x ≡ y))
 slice_get-push_cases [] x y zero h = inr (refl, same_Some x y h)
 slice_get-push_cases [] x y (suc k) h = absurd (none-some y h)
 slice_get-push_cases (z ∷ xs) x y zero h = inl h
 slice_get-push_cases (z ∷ xs) x y (suc k) h = elim (slice_get-push_cases xs x y k h) [ inl e ↦ inl e | inr e ↦ inr (ap suc e.0, e.1) ]
 
+-- an element keeps its place as the list grows
 slice_get-push_old : {X : Type 0} (xs : List X) (x y : X) (k : ℕ) → slice_get xs k ≡ Some y → slice_get (xs ++ x ∷ []) k ≡ Some y
 slice_get-push_old [] x y k h = absurd (none-some y h)
 slice_get-push_old (z ∷ xs) x y zero h = h
@@ -28,30 +30,36 @@ pub step_at-push_cases : (steps : List Step) (x y : Step) (k : ℕ) → step_at 
 step_at-push_cases steps x y zero h = absurd (none-some y h)
 step_at-push_cases steps x y (suc k) h = elim (slice_get-push_cases steps x y k h) [ inl e ↦ inl e | inr e ↦ inr (let f : k ≡ length steps = e.0 in omega arith, e.1) ]
 
+-- a step keeps its number
 pub step_at-push_old : (steps : List Step) (x y : Step) (k : ℕ) → step_at steps k ≡ Some y → step_at (steps ++ x ∷ []) k ≡ Some y
 step_at-push_old steps x y zero h = absurd (none-some y h)
 step_at-push_old steps x y (suc k) h = slice_get-push_old steps x y k h
 
+-- numbers of steps go from 1 to the length
 pub step_at_within : (steps : List Step) (k : ℕ) (x : Step) → step_at steps k ≡ Some x → (0 < k) × (k ≤ length steps)
 step_at_within steps zero x h = absurd (none-some x h)
 step_at_within steps (suc k) x h = let l : k < length steps = slice_get_within steps k x h in (omega arith, omega arith)
 
-act_takes_from_Contains : (a : Act) (s : ℕ) → Contains (act_ids a) s → act_takes a s ≡ true
-act_takes_from_Contains a s h = list_any_at (λ i. i == s) (act_ids a) h.0 s h.1 (eq-eqb _ _ h.2)
+-- an act takes a message exactly where its ids have it
+pub act_takes-from_Contains : (a : Act) (s : ℕ) → Contains (act_ids a) s → act_takes a s ≡ true
+act_takes-from_Contains a s h = list_any_at (λ i. i == s) (act_ids a) h.0 s h.1 (eq-eqb _ _ h.2)
 
+-- a message that some step takes was taken
 pub taken_from_at : (steps : List Step) (m s : ℕ) → TakesAt steps m s → is_taken steps s ≡ true
 taken_from_at steps zero s h = absurd (none-some h.0 h.1)
-taken_from_at steps (suc m) s h = any_passes_from_place (λ x. act_takes x.act s) steps m h.0 h.1 (act_takes_from_Contains h.0.act s h.2)
+taken_from_at steps (suc m) s h = any_passes_from_place (λ x. act_takes x.act s) steps m h.0 h.1 (act_takes-from_Contains h.0.act s h.2)
 
 -- the step that was pushed stands at the next number
 slice_get-last : {X : Type 0} (xs : List X) (x : X) → slice_get (xs ++ x ∷ []) (length xs) ≡ Some x
 slice_get-last [] x = refl
 slice_get-last (y ∷ xs) x = slice_get-last xs x
 
+-- its number is one more than the length
 pub step_at_last : (steps : List Step) (x : Step) → step_at (steps ++ x ∷ []) (suc (length steps)) ≡ Some x
 step_at_last steps x = slice_get-last steps x
 
-Contains-from_takes : (a : Act) (s : ℕ) → act_takes a s ≡ true → Contains (act_ids a) s
+-- an id that an act takes is one of its ids
+pub Contains-from_takes : (a : Act) (s : ℕ) → act_takes a s ≡ true → Contains (act_ids a) s
 Contains-from_takes a s h =
     let y = Any-from_list_any (λ i. i == s) (act_ids a) h in
     (y.0, y.2, get_or_default (act_ids a) y.0 s y.1 y.2 ∙ y.3 ∙ eqb-true y.1 s y.4)

@@ -1,17 +1,31 @@
-//! The index of the messages that were taken, kept beside the steps so that no step is looked for.
+//! The list of steps and the index of the messages that were taken, which is kept beside it so that no
+//! step is looked for.
 
-ghost use Rattle.std.specs.Prelude.{◌≡◌, ◌++◌, ◌∷◌, [], ◌+◌, ◌<◌, ◌≤◌, ◌||◌, ◌==◌, ℕ, length, All, vec_len, vec_capacity};
+ghost use Rattle.std.specs.Prelude.{◌≡◌, ◌++◌, ◌∷◌, [], ◌<◌, ◌≤◌, ◌⊎◌, ◌||◌, ◌==◌, ℕ, length, All, OnOk, OnErr, vec_len, vec_capacity};
 ghost use Rattle.std.specs.List.{list_any};
 ghost use Rattle.step_trace.specs.Steps.{act_ids};
 ghost use Rattle.step_trace.specs.DeliveryIndex.{flag_of, IsIndex};
 
 use crate::steps::Step;
+use std::alloc::AllocError;
 
 /// Whether message `s` was taken.
 pub(crate) fn is_taken(taken: &[bool], s: u64) -> bool
     ensures { result ≡ flag_of taken.now s }
 {
     0 < s && s as usize <= taken.len() && taken[s as usize - 1]
+}
+
+/// Makes room for one step more and for its flag. Refuses only where one of the two lists was full.
+pub(crate) fn make_room(steps: &mut Vec<Step>, taken: &mut Vec<bool>) -> Result<(), AllocError>
+    ensures steps { steps.new.items ≡ steps.old.items }
+    ensures flags { taken.new.items ≡ taken.old.items }
+    ensures steps_room { OnOk result (vec_len steps.new < vec_capacity steps.new) }
+    ensures taken_room { OnOk result (vec_len taken.new < vec_capacity taken.new) }
+    ensures more { OnErr result ((vec_capacity steps.old ≤ vec_len steps.old) ⊎ (vec_capacity taken.old ≤ vec_len taken.old)) }
+{
+    steps.reserve(1)?;
+    taken.reserve(1)
 }
 
 /// Appends a step for which there is room, and marks the messages that it takes.

@@ -11,8 +11,6 @@ mod push_error_texts;
 mod push_refusals;
 mod rows;
 mod steps;
-#[cfg(test)]
-mod trace_tests;
 mod traces;
 
 pub use configurations::{Config, ConfigError, MAX_PROCESSORS, MIN_PROCESSORS};

@@ -22,30 +22,3 @@ impl fmt::Display for PushError {
         }
     }
 }
-
-#[cfg(test)]
-mod tests {
-    use super::*;
-    use std::test::Fail;
-
-    #[test]
-    fn prints_each_reason(rt: HostRuntime) -> Result<(), Fail> {
-        for (why, text) in [
-            (PushError::Full, "trace is full"),
-            (PushError::BadProc, "no such processor"),
-            (PushError::BadDest, "no such destination"),
-            (PushError::IdsNotRising, "ids do not rise"),
-            (PushError::UnknownMessage(2), "message 2 unknown"),
-            (
-                PushError::NotAddressed(3),
-                "message 3 is for another processor",
-            ),
-            (PushError::Redelivered(1), "message 1 was received before"),
-            (PushError::Memory, "out of memory"),
-        ] {
-            let printed = why.to_string(rt.alloc())?;
-            assert_eq!(rt; printed.as_str(), text);
-        }
-        Ok(())
-    }
-}

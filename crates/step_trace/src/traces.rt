@@ -3,7 +3,7 @@
 ghost use Rattle.std.specs.Prelude.{◌≡◌, [], ◌++◌, ◌∷◌, ◌≤◌, length, option_copied, OnOk, OnErr, IfErr, IsTrue, ◌↔◌, None};
 
 use crate::configurations::Config;
-use crate::delivery_index::append;
+use crate::delivery_index::{append, make_room};
 use crate::push_refusals::{ids_refusal, step_of};
 use crate::steps::{Act, Step};
 use std::alloc::Global;
@@ -120,7 +120,7 @@ impl Trace {
         if let Some(why) = self.refusal(&step) {
             return Err(why);
         }
-        if self.steps.reserve(1).is_err() || self.taken.reserve(1).is_err() {
+        if make_room(&mut self.steps, &mut self.taken).is_err() {
             return Err(PushError::Memory);
         }
         append(&mut self.steps, &mut self.taken, step);

@@ -17,7 +17,7 @@ use Rattle.step_trace.specs.Configurations.{Setup, IsSetup, IsProc, config_refus
 use Rattle.step_trace.specs.Steps.{act_dest, act_ids}
 use Rattle.step_trace.specs.Traces.{Recorded, IsWellFormed}
 use Rattle.step_trace.proofs.StepPositions.{step_at_within}
-use Rattle.step_trace.proofs.Refusals.{Fits-from_well_formed, none_from_Fits}
+use Rattle.step_trace.proofs.FittingSteps.{Fits-from_well_formed, none_from_Fits}
 use Rattle.trace_text.specs.declared.reading.Stage.TheVariants.{Opening, Sized, Recording, Ended}
 use Rattle.trace_text.specs.declared.records.Operation.{Operation}
 use Rattle.trace_text.specs.declared.records.Operation.TheVariants as op

@@ -1,13 +1,23 @@
-//! Worked examples of stairs, and the backward pass beside the plain searches.
+//! Worked examples of traces, bounds and stairs: tests of the crates below, by their public items.
 #![tactic(auto)]
 
+#[cfg(test)]
+mod bounds_by_hand;
+#[cfg(test)]
+mod full_size;
+#[cfg(test)]
+mod gaps_by_hand;
 #[cfg(test)]
 mod long_stairs;
 #[cfg(test)]
 mod plain_comparison;
 #[cfg(test)]
+mod pushes_by_hand;
+#[cfg(test)]
 mod stair_levels;
 #[cfg(test)]
 mod stairs_by_hand;
 #[cfg(test)]
-mod traces_by_hand;
+mod texts_by_hand;
+#[cfg(test)]
+mod traces;

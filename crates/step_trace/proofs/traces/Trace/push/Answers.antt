@@ -7,12 +7,12 @@ use Rattle.step_trace.proofs.traces.Trace.push.Goals as goal
 pub append-requires-clause-known : goal.append-requires-clause-known
 append-requires-clause-known c =
     let none = rw (← c.self.view_is) at c.in_default.ensures.exact in
-    rw c.reserve.ensures.items (known_from_none c.self.inside.config c.self.inside.steps.items c.args.step (sym none))
+    rw c.make_room.ensures.steps (known_from_none c.self.inside.config c.self.inside.steps.items c.args.step (sym none))
 
 pub invariant_of-self-2 : goal.invariant_of-self-2
 invariant_of-self-2 c =
     let none = rw (← c.self.view_is) at c.in_default.ensures.exact in (
-      rw (c.append.ensures.steps, c.reserve.ensures.items) (IsWellFormed-push c.self.inside.config c.self.inside.steps.items c.args.step c.self.invariant.0 (Fits-from_none c.self.inside.config c.self.inside.steps.items c.args.step (sym none))),
+      rw (c.append.ensures.steps, c.make_room.ensures.steps) (IsWellFormed-push c.self.inside.config c.self.inside.steps.items c.args.step c.self.invariant.0 (Fits-from_none c.self.inside.config c.self.inside.steps.items c.args.step (sym none))),
       c.append.ensures.index,
     )
 

@@ -1,0 +1,5 @@
+use Rattle.bound_witness.proofs.ReceiveSearches.{LastReceiveBelow}
+use Rattle.bound_witness.proofs.communication_bounds.last_miss.Given as goal
+
+abbrev pub invariant-loop-missed : goal.invariant-loop-missed
+invariant-loop-missed l = LastReceiveBelow l.trace.steps l.sent l.to l.missed l.found

@@ -1,0 +1,9 @@
+use Rattle.std.proofs.Common.{◌+◌, arith}
+use Rattle.step_trace.specs.Bounds.{DeltaHolds}
+use Rattle.step_trace.proofs.BoundLaws.{IsLeastBound-none_below, DeltaHolds-past_end}
+use Rattle.bound_witness.proofs.communication_bounds.least_delta.Goals as goal
+
+pub returns-clause-least : goal.returns-clause-least
+returns-clause-least c = IsLeastBound-none_below (DeltaHolds c.args.set c.args.trace.now.steps c.args.g) (c.len.result + 1) (omega arith)
+    (DeltaHolds-past_end c.args.set c.args.trace.now.steps c.args.g (c.len.result + 1) (omega arith))
+    (λ e l. c.loop-d.invariant e (omega arith))

@@ -1,6 +1,0 @@
-use Rattle.std.proofs.Common.{ℕ, ◌<◌}
-use Rattle.step_trace.specs.Traces.{IsDelivered}
-use Rattle.bound_witness.proofs.delays.delivery.Given as goal
-
-abbrev pub invariant-loop-no : goal.invariant-loop-no
-invariant-loop-no l = (r : ℕ) → r < l.no → IsDelivered l.trace.steps l.s r → ⊥

@@ -1,6 +1,0 @@
-use Rattle.std.proofs.Common.{ℕ, ◌<◌, ◌≤◌}
-use Rattle.step_trace.specs.Bounds.{DeltaHoldsFor}
-use Rattle.bound_witness.proofs.delays.delta_holds.Given as goal
-
-abbrev pub invariant-loop-s : goal.invariant-loop-s
-invariant-loop-s l = (s : ℕ) → s < l.s → l.g ≤ s → DeltaHoldsFor l.set l.trace.steps s l.d

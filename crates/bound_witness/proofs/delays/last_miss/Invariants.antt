@@ -1,5 +1,0 @@
-use Rattle.bound_witness.proofs.LastWitnesses.{LastReceiveBelow}
-use Rattle.bound_witness.proofs.delays.last_miss.Given as goal
-
-abbrev pub invariant-loop-missed : goal.invariant-loop-missed
-invariant-loop-missed l = LastReceiveBelow l.trace.steps l.sent l.to l.missed l.found

@@ -1,6 +1,0 @@
-use Rattle.std.proofs.Common.{ℕ, ◌<◌, ◌≤◌}
-use Rattle.step_trace.specs.Bounds.{DeltaHolds}
-use Rattle.bound_witness.proofs.delays.least_delta.Given as goal
-
-abbrev pub invariant-loop-d : goal.invariant-loop-d
-invariant-loop-d l = (e : ℕ) → e < l.d → 1 ≤ e → DeltaHolds l.set l.trace.steps l.g e → ⊥

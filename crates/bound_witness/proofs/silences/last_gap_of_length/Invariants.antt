@@ -1,5 +1,0 @@
-use Rattle.bound_witness.proofs.LastWitnesses.{LastGapBelow}
-use Rattle.bound_witness.proofs.silences.last_gap_of_length.Given as goal
-
-abbrev pub invariant-loop-from : goal.invariant-loop-from
-invariant-loop-from l = LastGapBelow l.set l.trace.steps l.g l.span l.from l.found

@@ -1,5 +1,0 @@
-use Rattle.bound_witness.proofs.SilentIntervals.{IsScanned}
-use Rattle.bound_witness.proofs.silent_intervals.push_gaps_of.Given as goal
-
-abbrev pub invariant-loop-no : goal.invariant-loop-no
-invariant-loop-no l = IsScanned l.fn.set l.trace.steps l.p l.last l.no l.found.items

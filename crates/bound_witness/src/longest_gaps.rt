@@ -1,0 +1,63 @@
+//! The longest gaps of the members.
+
+ghost use Rattle.std.specs.Prelude.{◌≡◌, ℕ, ◌+◌, ◌<◌, ◌↔◌, ◌++◌, Contains, AllPairs, OnOk, OnErr, IfOk};
+ghost use Rattle.step_trace.specs.Processors.{IsWithin};
+ghost use Rattle.bound_witness.specs.LongestGaps.{IsLongestGap, ListsGapsBy, Precedes, gap_between};
+
+use crate::step_tests::is_step_of;
+use std::alloc::{AllocError, Global};
+use step_trace::{Gap, ProcSet, Trace};
+
+/// Appends the gap between two steps of processor `proc`, if they aren't neighbours. Refuses only where
+/// they aren't.
+fn push_gap_between(found: &mut Vec<Gap>, proc: u64, last: u64, next: u64) -> Result<(), AllocError>
+    requires { last < next }
+    ensures appended { OnOk result (found.new.items ≡ found.old.items ++ gap_between proc last next) }
+    ensures more { OnErr result (last + 1 < next) }
+{
+    if last + 1 < next {
+        found.push(Gap {
+            proc,
+            from: last + 1,
+            to: next - 1,
+        })?;
+    }
+    Ok(())
+}
+
+/// Appends the longest gaps of processor `p`, if it is a member.
+fn push_gaps_of(trace: &Trace, set: ProcSet, p: u64, found: &mut Vec<Gap>) -> Result<(), AllocError>
+    requires { ListsGapsBy set trace.now.steps p 0 found.old.items }
+    ensures listed { OnOk result (ListsGapsBy set trace.now.steps (p + 1) 0 found.new.items) }
+    ensures more { OnErr result ((w : Gap) × IsLongestGap set trace.now.steps w) }
+{
+    if !set.contains(p) {
+        return Ok(());
+    }
+    let end = trace.len() as u64 + 1;
+    let mut last = 0;
+    for no in 1..end {
+        if is_step_of(trace, no, p) {
+            push_gap_between(found, p, last, no)?;
+            last = no;
+        }
+    }
+    push_gap_between(found, p, last, end)
+}
+
+/// The gaps of the members that no longer gap covers: the longest intervals within the trace in which a
+/// member takes no step. They are listed by processor, then by beginning.
+///
+/// Refuses only for want of memory, and only where there is a gap to list.
+pub fn gaps(alloc: Global, trace: &Trace, set: ProcSet) -> Result<Vec<Gap>, AllocError>
+    requires { IsWithin set trace.now.config.n }
+    ensures listed { IfOk result (λ v. (w : Gap) → (Contains v.items w ↔ IsLongestGap set trace.now.steps w)) }
+    ensures ordered { IfOk result (λ v. AllPairs Precedes v.items) }
+    ensures more { OnErr result ((w : Gap) × IsLongestGap set trace.now.steps w) }
+{
+    let mut found = Vec::new(alloc);
+    for p in 1..trace.config().n() + 1 {
+        push_gaps_of(trace, set, p, &mut found)?;
+    }
+    Ok(found)
+}

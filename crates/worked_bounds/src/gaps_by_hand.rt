@@ -1,0 +1,63 @@
+//! The longest gaps of worked traces, and the last misses of their messages.
+
+use crate::traces::trace_of;
+use bound_witness::{gaps, last_miss};
+use std::alloc::{AllocError, Global};
+use std::test::Fail;
+use step_trace::{Gap, Miss, ProcSet, Trace};
+
+fn both() -> ProcSet {
+    ProcSet::empty().with(1).with(2)
+}
+
+// Whether these are the longest gaps, each as its processor, its first and its last step.
+fn lists_gaps(
+    alloc: Global,
+    trace: &Trace,
+    set: ProcSet,
+    want: &[(u64, u64, u64)],
+) -> Result<bool, AllocError> {
+    if !set.within(trace.config().n()) {
+        return Ok(false);
+    }
+    let listed = gaps(alloc, trace, set)?;
+    if listed.len() != want.len() {
+        return Ok(false);
+    }
+    for (gap, (proc, from, to)) in listed.iter().zip(want.iter()) {
+        if gap.proc != *proc || gap.from != *from || gap.to != *to {
+            return Ok(false);
+        }
+    }
+    Ok(true)
+}
+
+// Whether the last miss of the message is at this Receive; None stands for no miss.
+fn misses_at(trace: &Trace, set: ProcSet, sent: u64, missed: Option<u64>) -> bool {
+    let want = missed.map(|missed| Miss { sent, missed });
+    set.within(trace.config().n()) && last_miss(trace, set, sent) == want
+}
+
+#[test]
+fn one_miss(rt: HostRuntime) -> Result<(), Fail> {
+    let trace = trace_of(rt.alloc(), 2, &[(1, 2, &[]), (2, 0, &[]), (2, 0, &[1])])?;
+    assert!(rt; lists_gaps(rt.alloc(), &trace, both(), &[(1, 2, 3), (2, 1, 1)])?);
+    assert!(rt; misses_at(&trace, both(), 1, Some(2)));
+    Ok(())
+}
+
+#[test]
+fn never_delivered(rt: HostRuntime) -> Result<(), Fail> {
+    let steps: [(u64, u64, &[u64]); 5] = [
+        (1, 2, &[]),
+        (2, 0, &[]),
+        (1, 2, &[]),
+        (2, 0, &[3]),
+        (2, 0, &[]),
+    ];
+    let trace = trace_of(rt.alloc(), 2, &steps)?;
+    for (sent, missed) in [(0, None), (1, Some(5)), (2, None), (3, None), (6, None)] {
+        assert!(rt; misses_at(&trace, both(), sent, missed), "of {sent}");
+    }
+    Ok(())
+}

@@ -1,0 +1,106 @@
+//! Numbers, sets and reasons as texts, and the members of a set.
+
+use std::alloc::{AllocError, Global};
+use step_trace::{ProcSet, PushError, read_number};
+
+#[test]
+fn numbers(rt: HostRuntime) {
+    let cases: [(&[u8], Option<u64>); 9] = [
+        (b"0", Some(0)),
+        (b"18446744073709551615", Some(u64::MAX)),
+        (b"18446744073709551616", None),
+        (b"", None),
+        (b"01", None),
+        (b"+1", None),
+        (b"-1", None),
+        (b" 1", None),
+        (b"\xff", None),
+    ];
+    for (field, number) in cases {
+        assert!(rt; read_number(field) == number, "{field:?}");
+    }
+}
+
+#[test]
+fn members(rt: HostRuntime) {
+    let set = ProcSet::empty().with(1).with(64);
+    for p in 0..70u64 {
+        assert!(rt; set.contains(p) == (p == 1 || p == 64), "at {p}");
+    }
+    assert!(rt; set.within(64) && !set.within(63));
+    assert!(rt; ProcSet::empty().within(0));
+}
+
+// Whether a list has this processor, where it is one.
+fn lists(text: &str, p: u64) -> Option<bool> {
+    let set = ProcSet::parse_list(text)?;
+    Some(set.contains(p))
+}
+
+#[test]
+fn lists_of_processors(rt: HostRuntime) {
+    let cases = [
+        ("none", 1, false),
+        ("7", 7, true),
+        ("7", 6, false),
+        ("64,1,64", 1, true),
+        ("64,1,64", 64, true),
+        ("64,1,64", 2, false),
+    ];
+    for (text, p, is_member) in cases {
+        assert!(rt; lists(text, p) == Some(is_member), "{p} in {text:?}");
+    }
+}
+
+#[test]
+fn texts_that_list_nothing(rt: HostRuntime) {
+    let texts = [
+        "",
+        ",",
+        "1,",
+        ",1",
+        "1,,2",
+        "0",
+        "65",
+        "01",
+        "+1",
+        "-1",
+        "1, 2",
+        " 1",
+        "1;2",
+        "1,none",
+        "none,1",
+        "None",
+        "none ",
+        "18446744073709551617",
+    ];
+    for text in texts {
+        assert!(rt; lists(text, 1) == None, "{text:?}");
+    }
+}
+
+fn prints(alloc: Global, why: PushError, text: &str) -> Result<bool, AllocError> {
+    let printed = why.to_string(alloc)?;
+    Ok(printed.as_str() == text)
+}
+
+#[test]
+fn reasons_against_a_step(rt: HostRuntime) -> Result<(), AllocError> {
+    let cases = [
+        (PushError::Full, "trace is full"),
+        (PushError::BadProc, "no such processor"),
+        (PushError::BadDest, "no such destination"),
+        (PushError::IdsNotRising, "ids do not rise"),
+        (PushError::UnknownMessage(2), "message 2 unknown"),
+        (
+            PushError::NotAddressed(3),
+            "message 3 is for another processor",
+        ),
+        (PushError::Redelivered(1), "message 1 was received before"),
+        (PushError::Memory, "out of memory"),
+    ];
+    for (why, text) in cases {
+        assert!(rt; prints(rt.alloc(), why, text)?, "{text}");
+    }
+    Ok(())
+}
