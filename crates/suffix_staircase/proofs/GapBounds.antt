@@ -11,6 +11,7 @@ use Rattle.step_trace.specs.Witnesses.{NamesGap}
 use Rattle.suffix_staircase.specs.declared.levels.Level.{Level}
 use Rattle.suffix_staircase.specs.NextSteps.{AreNextSteps, IsLatest}
 use Rattle.suffix_staircase.specs.Analysis.{KnowsGaps, with_gap}
+use Rattle.step_trace.proofs.BoundLaws.{GapRefutes-sound, IsNamedGap-refutes}
 use Rattle.step_trace.proofs.BoundDecisions.{PhiHolds-unrefuted}
 use Rattle.suffix_staircase.proofs.LongestGaps.{IsLongest, IsLongest-from_latest}
 
@@ -23,13 +24,7 @@ phi_positive set steps g f (Some w) h = let l = h.0 in omega arith
 phi_least : (set : ℕ) (steps : List Step) (g f : ℕ) (o : Option Gap) → NamesGap set steps g f o → (e : ℕ) → 1 ≤ e → PhiHolds set steps g e → f ≤ e
 phi_least set steps g f None h e p holds = omega arith
 phi_least set steps g f (Some w) h e p holds = elim (cases_lt e f) [
-  | inl low ↦ (let named = h.1 in
-      let gap = named.gap in
-      let long = named.long in
-      let inside = gap.inside in
-      let step = holds.each w.from named.from (omega (arith, low, long, inside)) w.proc gap.member in
-      let until = step.until in
-      absurd (gap.silent step.place step.from (omega (arith, low, long, until)) step.step))
+  | inl low ↦ absurd (GapRefutes-sound set steps g e w (IsNamedGap-refutes set steps g f e w low h.1) holds)
   | inr high ↦ high
 ]
 

@@ -6,10 +6,10 @@ use Rattle.step_trace.specs.declared.steps.Step.{Step}
 use Rattle.step_trace.specs.declared.rows.Miss.{Miss}
 use Rattle.step_trace.specs.Bounds.{DeltaHolds, IsDelta}
 use Rattle.step_trace.specs.Witnesses.{IsMiss, NamesMiss}
-use Rattle.step_trace.proofs.StepPositions.{step_at_within}
 use Rattle.suffix_staircase.specs.declared.levels.Level.{Level}
 use Rattle.suffix_staircase.specs.Receives.{IsLastMissOf}
 use Rattle.suffix_staircase.specs.Analysis.{KnowsMisses, with_miss}
+use Rattle.step_trace.proofs.BoundLaws.{MissRefutes-sound, IsNamedMiss-refutes}
 use Rattle.step_trace.proofs.BoundDecisions.{DeltaHolds-unrefuted}
 
 -- a bound with its named miss is positive
@@ -21,11 +21,7 @@ delta_positive set steps g d (Some m) h = let l = h.0 in omega arith
 delta_least : (set : ℕ) (steps : List Step) (g d : ℕ) (o : Option Miss) → NamesMiss set steps g d o → (e : ℕ) → 1 ≤ e → DeltaHolds set steps g e → d ≤ e
 delta_least set steps g d None h e p holds = omega arith
 delta_least set steps g d (Some m) h e p holds = elim (cases_lt e d) [
-  | inl low ↦ (let named = h.1 in
-      let miss = named.miss in
-      let long = named.long in
-      let within = step_at_within steps m.sent _ miss.message.sent in
-      absurd (miss.undelivered ((holds.each m.sent named.from within.1).on_time m.missed miss.to miss.message miss.receive (omega (arith, low, long)))))
+  | inl low ↦ absurd (MissRefutes-sound set steps g e m (IsNamedMiss-refutes set steps g d e m low h.1) holds)
   | inr high ↦ high
 ]
 

@@ -1,28 +1,18 @@
 -- What is known of the Receives after a step, back over a Receive.
-use Rattle.std.proofs.Common.{ℕ, ◌≡◌, ◌≢◌, ◌+◌, ◌-◌, ◌<◌, ◌≤◌, ◌==◌, ◌||◌, take, ◌⊎◌, inl, inr, List, length, get_or, set, Some, Bool, true, false, cond, refl, sym, ap, subst, ◌∙◌, arith, get_or-set_same, get_or-set_other, eq-eqb}
+use Rattle.std.proofs.Common.{ℕ, ◌≡◌, ◌≢◌, ◌+◌, ◌-◌, ◌<◌, ◌≤◌, ◌==◌, ◌||◌, take, ◌⊎◌, inl, inr, List, length, get_or, set, Some, Bool, true, false, cond, refl, sym, ap, subst, ◌∙◌, arith, get_or-set_same, get_or-set_other}
 use Rattle.std.specs.Prelude.{Contains}
 use Rattle.std.specs.List.{list_any}
-use Rattle.std.proofs.lemmas.List.{length-set, get_or_default}
-use Rattle.std.proofs.lemmas.List.Folds.{list_any_more, list_any_at, Any-from_list_any}
+use Rattle.std.proofs.lemmas.List.{length-set}
+use Rattle.std.proofs.lemmas.List.Folds.{list_any_more}
 use Rattle.std.proofs.lemmas.Bool.{cases_eq, cases_lt, eqb-true, eqb-false}
 use Rattle.step_trace.specs.declared.steps.Act.TheVariants.{Receive}
 use Rattle.step_trace.specs.declared.steps.Step.{Step}
 use Rattle.step_trace.specs.Steps.{act_ids}
 use Rattle.step_trace.specs.Traces.{Recorded, step_at, IsReceiveOf}
-use Rattle.step_trace.proofs.StepPositions.{step_at_within}
+use Rattle.step_trace.proofs.StepPositions.{step_at_within, Contains-from_takes, act_takes-from_Contains}
 use Rattle.suffix_staircase.specs.declared.receives.Receives.{Receives}
 use Rattle.suffix_staircase.specs.Receives.{IsTaker, IsLastReceive, IsFirstReceive, KnowsReceives, NotesReceive}
 use Rattle.suffix_staircase.proofs.ReceivesLowered.{IsLastReceive-lower, IsFirstReceive-lower, IsTaker-lower, same_step}
-
--- a list in which the test finds an id has it
-contains_from_any : (ids : List ℕ) (s : ℕ) → list_any (λ i. i == s) ids ≡ true → Contains ids s
-contains_from_any ids s h =
-    let y = Any-from_list_any (λ i. i == s) ids h in
-    (y.0, y.2, get_or_default ids y.0 s y.1 y.2 ∙ y.3 ∙ eqb-true y.1 s y.4)
-
--- the test finds an id of a list
-any_from_contains : (ids : List ℕ) (s : ℕ) → Contains ids s → list_any (λ i. i == s) ids ≡ true
-any_from_contains ids s h = list_any_at (λ i. i == s) ids h.0 s h.1 (eq-eqb _ _ h.2)
 
 -- one id more, as at a step of a loop
 pub taken_noted : (old now ids : List ℕ) (x i s : ℕ) → i < length ids → length now ≡ length old → get_or ids i 0 < length old → get_or now s 0 ≡ cond (list_any (λ k. k == s) (take i ids)) x (get_or old s 0)
@@ -41,12 +31,12 @@ IsTaker-noted : (steps : List Step) (x p s old : ℕ) (ids : List ℕ) (ends : B
 IsTaker-noted steps x p s old ids ends low h k = go (list_any (λ i. i == s) ids) refl where
   go : (t : Bool) → list_any (λ i. i == s) ids ≡ t → IsTaker steps (x - 1) s (cond t x old)
   go true e = record {
-    found = λ q. (omega arith, (record { proc = p; act = Receive ends ids }, h, contains_from_any ids s e));
+    found = λ q. (omega arith, (record { proc = p; act = Receive ends ids }, h, Contains-from_takes (Receive ends ids) s e));
     none = λ z. absurd (omega (arith, z, low));
   }
   go false e = IsTaker-lower steps x s old low (λ t.
       let same = same_step steps x _ _ t.1 h in
-      let f = any_from_contains ids s (subst (λ (z : Step). Contains (act_ids z.act) s) same t.2) in
+      let f = act_takes-from_Contains (Receive ends ids) s (subst (λ (z : Step). Contains (act_ids z.act) s) same t.2) in
       cc) k
 
 -- a Receive is of one processor

@@ -29,6 +29,7 @@ deeper first levels (suc (suc k)) h s =
       other = λ last l e. s.other last (omega arith) (rw q (rw b at e));
     }
 
+-- and the converse
 shallower : (first : Level) (levels : List Level) (k : ℕ) → 2 ≤ k → IsStart (first ∷ levels) (k + 1) → IsStart levels k
 shallower first levels zero h s = absurd (omega arith)
 shallower first levels (suc zero) h s = absurd (omega arith)
@@ -48,6 +49,7 @@ shallower first levels (suc (suc k)) h s =
 second : (last level : Level) (rest : List Level) → same_bounds level last ≡ false → IsStart (last ∷ level ∷ rest) 2
 second last level rest h = record { level = level; here = omega arith; stands = refl; other = λ o l e. subst (λ (x : Level). same_bounds level x ≡ false) (same_Some last o e) h }
 
+-- where the level after the first has the same bounds it is no start
 not_second : (last level : Level) (rest : List Level) → same_bounds level last ≡ true → IsStart (last ∷ level ∷ rest) 2 → ⊥
 not_second last level rest h s =
     let same = same_Some level s.level s.stands in
@@ -55,15 +57,18 @@ not_second last level rest h s =
     let fits = subst (λ (x : Level). same_bounds x last ≡ false) (sym same) other in
     cc
 
+-- a longer list has what the list had
 Contains-cons : (x : ℕ) (xs : List ℕ) (n : ℕ) → Contains xs n → Contains (x ∷ xs) n
 Contains-cons x xs n c = (suc c.0, let l = c.1 in omega arith, c.2)
 
+-- what a longer list has is its first or stands after it
 Contains-parts : (x : ℕ) (xs : List ℕ) (n : ℕ) → Contains (x ∷ xs) n → (x ≡ n) ⊎ Contains xs n
 Contains-parts x xs n h = go h.0 h.1 h.2 where
   go : (k : ℕ) → k < length (x ∷ xs) → get_or (x ∷ xs) k n ≡ n → (x ≡ n) ⊎ Contains xs n
   go zero l e = inl e
   go (suc k) l e = inr (k, omega arith, e)
 
+-- a level with the same bounds adds no start
 skip : (g : ℕ) (last level : Level) (rest : List Level) (numbers : List ℕ) → same_bounds level last ≡ true → AreStartsAfter (g + 1) level rest numbers → AreStartsAfter g last (level ∷ rest) numbers
 skip g last level rest numbers h a = record {
   low = λ i l. let b = a.low i l in omega arith;
@@ -77,6 +82,7 @@ skip g last level rest numbers h a = record {
   ];
 }
 
+-- a level with another bound adds its number
 add : (g : ℕ) (last level : Level) (rest : List Level) (numbers : List ℕ) → same_bounds level last ≡ false → AreStartsAfter (g + 1) level rest numbers → AreStartsAfter g last (level ∷ rest) (g ∷ numbers)
 add g last level rest numbers h a = record {
   low = low;
@@ -100,6 +106,7 @@ add g last level rest numbers h a = record {
   rising zero l = let b = a.low 0 (omega arith) in omega arith
   rising (suc i) l = let e : suc i + 1 ≡ suc (i + 1) = omega arith in rw e (a.rising i (omega arith))
 
+-- so the list of starts after a level is right
 AreStartsAfter-starts : (g : ℕ) (last : Level) (levels : List Level) → AreStartsAfter g last levels (starts_after g last levels)
 AreStartsAfter-starts g last [] = record {
   low = λ i l. absurd (omega arith);
@@ -113,6 +120,7 @@ AreStartsAfter-starts g last (level ∷ rest) = go (same_bounds level last) refl
   go true e a = skip g last level rest (starts_after (g + 1) level rest) e a
   go false e a = add g last level rest (starts_after (g + 1) level rest) e a
 
+-- and with the first level, which is a start, the whole list
 pub AreStarts-starts : (levels : List Level) → AreStarts levels (starts levels)
 AreStarts-starts [] = record {
   rising = λ i l. absurd (omega arith);

@@ -11,13 +11,16 @@ use Rattle.suffix_staircase.specs.Levels.{begins, same_bounds, starts, starts_af
 use Rattle.suffix_staircase.specs.Stretches.{with_stretch, levels_from, levels_of, AreStretchesFrom, AreStretches}
 use Rattle.suffix_staircase.proofs.StretchTops.{length-with_stretch}
 
+-- a level has its own bounds
 same_bounds-itself : (level : Level) → same_bounds level level ≡ true
 same_bounds-itself level = rw (eq-eqb level.delta level.delta refl, eq-eqb level.phi level.phi refl) refl
 
+-- a level before others with another bound changes none of their starts
 starts_after-begins : (g : ℕ) (level : Level) (after : List Level) → begins level after ≡ true → starts_after g level after ≡ starts_from g after
 starts_after-begins g level [] h = refl
 starts_after-begins g level (next ∷ rest) h = let e = not-true (same_bounds next level) h in rw e refl
 
+-- equal levels after a level have no start
 starts_after-replicate : (n g : ℕ) (level : Level) (after : List Level) → starts_after g level (replicate n level ++ after) ≡ starts_after (g + n) level after
 starts_after-replicate zero g level after = let e : g + 0 ≡ g = omega arith in rw e refl
 starts_after-replicate (suc n) g level after =
@@ -35,6 +38,7 @@ starts_from-stretch g after s h b = go (s.reach - length after) (omega arith) wh
       let e : g + suc n ≡ g + 1 + n = omega arith in
       ap (λ (xs : List ℕ). g ∷ xs) (starts_after-replicate n (g + 1) s.level after ∙ starts_after-begins (g + 1 + n) s.level after b ∙ ap (λ (m : ℕ). starts_from m after) (sym e))
 
+-- more stretches have no fewer levels
 levels_longer : (after : List Level) (stretches : List Stretch) → AreStretchesFrom after stretches → length after ≤ length (levels_from after stretches)
 levels_longer after [] a = omega arith
 levels_longer after (s ∷ rest) a =
@@ -47,9 +51,11 @@ levels_longer after (s ∷ rest) a =
 abbrev pub first_of : ℕ → Stretch → ℕ
 first_of total s = 1 + (total - s.reach)
 
+-- a list turned round, with one more before all
 reverse-cons : (x : ℕ) (xs ys : List ℕ) → reverse (x ∷ xs) ++ ys ≡ reverse xs ++ (x ∷ ys)
 reverse-cons x xs ys = ap (λ (zs : List ℕ). zs ++ ys) (reverse_onto xs x []) ∙ append_assoc (reverse xs) (x ∷ []) ys
 
+-- the starts of stretches are the numbers of their first levels, the last stretch first
 starts-levels_from : (after : List Level) (stretches : List Stretch) (total : ℕ) → AreStretchesFrom after stretches → total ≡ length (levels_from after stretches)
     → starts_from 1 (levels_from after stretches) ≡ reverse (map (first_of total) stretches) ++ starts_from (1 + (total - length after)) after
 starts-levels_from after [] total a e =
@@ -65,15 +71,18 @@ starts-levels_from after (s ∷ rest) total a e =
     ∙ ap (λ (xs : List ℕ). reverse (map (first_of total) rest) ++ xs) (starts_from-stretch (1 + (total - s.reach)) after s a.0 a.1 ∙ ap (λ (n : ℕ). first_of total s ∷ starts_from n after) place)
     ∙ sym (reverse-cons (first_of total s) (map (first_of total) rest) (starts_from (1 + (total - length after)) after))
 
+-- so of all stretches
 pub starts-levels_of : (stretches : List Stretch) → AreStretches stretches → starts (levels_of stretches) ≡ reverse (map (first_of (length (levels_of stretches))) stretches)
 starts-levels_of stretches a = starts-levels_from [] stretches (length (levels_of stretches)) a refl ∙ append-nil _
 
+-- past the number of stretches there is no start
 pub no_start : (stretches : List Stretch) (i : ℕ) → AreStretches stretches → length stretches ≤ i → None ≡ slice_get (starts (levels_of stretches)) i
 no_start stretches i a h =
     let n = length-reverse (map (first_of (length (levels_of stretches))) stretches) in
     let m = length-map stretches (first_of (length (levels_of stretches))) in
     sym (ap (λ (xs : List ℕ). slice_get xs i) (starts-levels_of stretches a) ∙ slice_get_past _ i (omega arith))
 
+-- the start of a place is the number of that stretch, counted from the last
 pub start_at : (stretches : List Stretch) (i : ℕ) (d : Stretch) → AreStretches stretches → i < length stretches
     → Some (length (levels_of stretches) - (get_or stretches (length stretches - 1 - i) d).reach + 1) ≡ slice_get (starts (levels_of stretches)) i
 start_at stretches i d a h =

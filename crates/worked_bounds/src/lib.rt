@@ -22,5 +22,3 @@ mod stairs_by_hand;
 mod texts_by_hand;
 #[cfg(test)]
 mod traces;
-#[cfg(test)]
-mod traces_by_hand;

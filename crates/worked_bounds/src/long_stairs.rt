@@ -1,25 +1,27 @@
 //! The stairs of a long trace.
 
 use crate::stair_levels::numbers;
-use crate::traces_by_hand::{empty_trace, push};
+use crate::traces::{empty_trace, step_of};
 use std::alloc::Global;
 use std::test::Fail;
 use step_trace::{ProcSet, Trace};
 use suffix_staircase::Stairs;
 
-// Two processors that receive in turn, but from 40,001 to 60,000 only the first takes steps. Step 1
-// is a Send from the first to the second, which takes it at 70,000.
+// Two processors that take turns, but from 40,001 to 60,000 only the first takes steps. Step 1 is a
+// Send from the first to the second, which takes it at 70,000; the others are Receives.
+fn push_step(alloc: Global, trace: &mut Trace, no: u64) -> Result<(), Fail> {
+    let first = no % 2 == 1 || (40_000 < no && no <= 60_000);
+    let proc = if first { 1 } else { 2 };
+    let to = if no == 1 { 2 } else { 0 };
+    let ids: &[u64] = if no == 70_000 { &[1] } else { &[] };
+    trace.push(step_of(alloc, proc, to, ids)?)?;
+    Ok(())
+}
+
 fn long_trace(alloc: Global) -> Result<Trace, Fail> {
     let mut trace = empty_trace(alloc, 2)?;
-    push(alloc, &mut trace, 1, 2, &[])?;
-    for no in 2..100_001u64 {
-        let silent = 40_000 < no && no <= 60_000;
-        let proc = if no % 2 == 1 || silent { 1 } else { 2 };
-        if no == 70_000 {
-            push(alloc, &mut trace, proc, 0, &[1])?;
-        } else {
-            push(alloc, &mut trace, proc, 0, &[])?;
-        }
+    for no in 1..100_001u64 {
+        push_step(alloc, &mut trace, no)?;
     }
     Ok(trace)
 }

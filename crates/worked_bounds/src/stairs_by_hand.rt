@@ -1,7 +1,7 @@
 //! Stairs of worked traces.
 
 use crate::stair_levels::{has_levels, has_starts};
-use crate::traces_by_hand::{empty_trace, push, trace_of};
+use crate::traces::{empty_trace, step_of, trace_of};
 use std::alloc::{AllocError, Global};
 use std::test::Fail;
 use step_trace::{Gap, Miss, ProcSet, Trace};
@@ -82,7 +82,7 @@ fn climbs_by(
 fn alternation(alloc: Global, count: u64) -> Result<Trace, Fail> {
     let mut trace = empty_trace(alloc, 2)?;
     for no in 0..count {
-        push(alloc, &mut trace, no % 2 + 1, 0, &[])?;
+        trace.push(step_of(alloc, no % 2 + 1, 0, &[])?)?;
     }
     Ok(trace)
 }
