@@ -96,7 +96,8 @@ fault_without_room _ = None
 
 -- the kind of the fault that a write of so many bytes answers, if it should fail
 abbrev pub write_fault : FailingWriter → ℕ → Option ErrorKind
-write_fault w offered = if nat_eq (room_in w) 0 && nat_lt 0 offered then fault_without_room w.failure else None
+write_fault w offered =
+    if nat_eq (room_in w) 0 && nat_lt 0 offered then fault_without_room w.failure else None
 
 -- the kind of the faults of flushes
 abbrev pub flush_fault : WriteFailure → Option ErrorKind

@@ -22,17 +22,22 @@ const PIECE_BYTES: usize = 65_536;
 /// How much was read before a refusal isn't said.
 ///
 /// Refusals, as they are met: TooLarge once more than `MAX_TEXT_BYTES` bytes were read; Read at the
-/// first fault, of whatever kind; Memory.
+/// first fault, of whatever kind; Memory, in the place of neither: no more than `MAX_TEXT_BYTES` bytes
+/// were read then, no read failed, and none found the end.
 pub fn read_all<R: Read>(alloc: Global, reader: &mut Counting<R>) -> Result<Vec<u8>, TextError>
-    ensures text { IfOk result (λ text. IfSome (R.remaining (inner_of reader.old)) (λ xs. text.items ≡ xs)) }
+    ensures text { IfOk result (λ text.
+        IfSome (R.remaining (inner_of reader.old)) (λ xs. text.items ≡ xs)) }
     ensures end { OnOk result (IsAtEnd (R.remaining (inner_of reader.new))) }
     ensures limit { IfOk result (λ text. vec_len text ≤ MAX_TEXT_BYTES) }
     ensures refusals { IfErr result IsReadRefusal }
-    ensures cause { IfErr result (λ e. ReadRefusedFor e (faults_of reader.old) (faults_of reader.new) (R.remaining (inner_of reader.old))) }
+    ensures cause { IfErr result (λ e. ReadRefusedFor e (faults_of reader.old) (faults_of reader.new)
+        (R.remaining (inner_of reader.old))) }
     ensures within { IsErrOf result TextError.Memory
-        → IfSome (bytes_read (R.remaining (inner_of reader.old)) (R.remaining (inner_of reader.new))) (λ n. n ≤ MAX_TEXT_BYTES) }
+        → IfSome (bytes_read (R.remaining (inner_of reader.old)) (R.remaining (inner_of reader.new)))
+        (λ n. n ≤ MAX_TEXT_BYTES) }
     ensures more { IsErrOf result TextError.Memory
-        → IfSome (bytes_read (R.remaining (inner_of reader.old)) (R.remaining (inner_of reader.new))) (λ n. reads_of reader.new ≤ reads_of reader.old + n) }
+        → IfSome (bytes_read (R.remaining (inner_of reader.old)) (R.remaining (inner_of reader.new)))
+        (λ n. reads_of reader.new ≤ reads_of reader.old + n) }
     ensures reads { reads_of reader.new ≤ reads_of reader.old + (MAX_TEXT_BYTES + 2) }
     ensures faults { faults_of reader.new ≡ faults_after_reading result (faults_of reader.old) }
 {
@@ -63,10 +68,12 @@ pub fn read_all<R: Read>(alloc: Global, reader: &mut Counting<R>) -> Result<Vec<
 /// Refusal: Write with the number of bytes that went out before, the text's first; it is the length of
 /// the text where the flush failed. Memory isn't answered.
 pub fn write_text<W: Write>(text: &[u8], writer: &mut Counting<W>) -> Result<(), WriteError>
-    ensures whole { OnOk result (Appends (W.contents (inner_of writer.old)) (W.contents (inner_of writer.new)) text.now) }
+    ensures whole { OnOk result
+        (Appends (W.contents (inner_of writer.old)) (W.contents (inner_of writer.new)) text.now) }
     ensures flushed { is_flushed writer.new ≡ is_ok result }
     ensures faultless { OnOk result (WasFaultless writer.old writer.new) }
-    ensures part { IfErr result (λ e. WroteFront e text.now (W.contents (inner_of writer.old)) (W.contents (inner_of writer.new))) }
+    ensures part { IfErr result (λ e. WroteFront e text.now
+        (W.contents (inner_of writer.old)) (W.contents (inner_of writer.new))) }
     ensures one_fault { OnErr result (MetOneFault writer.old writer.new) }
     ensures succeeds { ¬ Rose (faults_of writer.old) (faults_of writer.new)
         → ¬ Rose (idle_writes_of writer.old) (idle_writes_of writer.new) → IsOk result }

@@ -57,7 +57,8 @@ impl<R: Read> Read for Counting<R> {
 
     fn read(&mut self, buf: &mut [u8]) -> io::Result<usize>
         ensures bound { ReadsAtMost result buf.new }
-        ensures bytes { ReadConsumes (R.remaining (inner_of self.old)) (R.remaining (inner_of self.new)) result buf.new }
+        ensures bytes { ReadConsumes (R.remaining (inner_of self.old)) (R.remaining (inner_of self.new))
+            result buf.new }
         ensures faults { faults_of self.new ≡ faults_after result (faults_of self.old) }
         ensures reads { reads_of self.new ≡ one_more (reads_of self.old) }
         ensures idle_writes { idle_writes_of self.new ≡ idle_writes_of self.old }
@@ -79,10 +80,12 @@ impl<W: Write> Write for Counting<W> {
 
     fn write(&mut self, buf: &[u8]) -> io::Result<usize>
         ensures bound { WritesAtMost result buf.now }
-        ensures bytes { WriteAppends (W.contents (inner_of self.old)) (W.contents (inner_of self.new)) result buf.now }
+        ensures bytes { WriteAppends (W.contents (inner_of self.old)) (W.contents (inner_of self.new))
+            result buf.now }
         ensures faults { faults_of self.new ≡ faults_after result (faults_of self.old) }
         ensures reads { reads_of self.new ≡ reads_of self.old }
-        ensures idle_writes { idle_writes_of self.new ≡ idle_writes_after result buf.now (idle_writes_of self.old) }
+        ensures idle_writes { idle_writes_of self.new
+            ≡ idle_writes_after result buf.now (idle_writes_of self.old) }
         ensures flushed { is_flushed self.new ≡ false }
     {
         self.is_flushed = false;

@@ -67,7 +67,8 @@ impl<'a> Read for FailingReader<'a> {
         ensures bytes { ReadConsumes (left_in self.old) (left_in self.new) result buf.new }
         ensures count { IfOk result (λ n. n ≡ read_count self.old (length buf.new)) }
         ensures held { IfOk result (λ n. held_by self.new ≡ drop n (held_by self.old)) }
-        ensures given { IfOk result (λ n. take n buf.new ≡ next_bytes (held_by self.old) (after_of self.old) n) }
+        ensures given { IfOk result (λ n.
+            take n buf.new ≡ next_bytes (held_by self.old) (after_of self.old) n) }
         ensures fault { MatchResult result
             (λ _. read_fault (held_by self.old) (after_of self.old) ≡ None)
             (λ e. read_fault (held_by self.old) (after_of self.old) ≡ Some (error_kind e)) }
@@ -176,8 +177,10 @@ impl Write for FailingWriter {
         ensures bytes { WriteAppends (Some (taken_by self.old)) (Some (taken_by self.new)) result buf.now }
         ensures count { IfOk result (λ n. n ≡ write_count self.old (length buf.now)) }
         ensures fails { OnOk result (write_fault self.old (length buf.now) ≡ None) }
-        ensures fault { IfErr result (λ e. error_kind e ≡ unwrap_or (write_fault self.old (length buf.now)) OutOfMemory) }
-        ensures more { OnErr result (write_fault self.old (length buf.now) ≡ None → 0 < write_count self.old (length buf.now)) }
+        ensures fault { IfErr result (λ e.
+            error_kind e ≡ unwrap_or (write_fault self.old (length buf.now)) OutOfMemory) }
+        ensures more { OnErr result (write_fault self.old (length buf.now) ≡ None
+            → 0 < write_count self.old (length buf.now)) }
         ensures piece { piece_of self.new ≡ piece_of self.old }
         ensures failure { failure_of self.new ≡ failure_of self.old }
         ensures writes { writes_made self.new ≡ one_more (writes_made self.old) }
@@ -198,7 +201,9 @@ impl Write for FailingWriter {
 
     fn flush(&mut self) -> io::Result<()>
         ensures bytes { Keeps (Some (taken_by self.old)) (Some (taken_by self.new)) }
-        ensures fault { MatchResult result (λ _. flush_fault (failure_of self.old) ≡ None) (λ e. flush_fault (failure_of self.old) ≡ Some (error_kind e)) }
+        ensures fault { MatchResult result
+            (λ _. flush_fault (failure_of self.old) ≡ None)
+            (λ e. flush_fault (failure_of self.old) ≡ Some (error_kind e)) }
         ensures piece { piece_of self.new ≡ piece_of self.old }
         ensures failure { failure_of self.new ≡ failure_of self.old }
         ensures writes { writes_made self.new ≡ writes_made self.old }
