@@ -28,7 +28,7 @@ pub fn write_report<W: Write>(
 ) -> Result<(), WriteError>
     ensures whole { OnOk result
         (Appends (W.contents (inner_of writer.old)) (W.contents (inner_of writer.new))
-            (report_text rows.now)) }
+        (report_text rows.now)) }
     ensures flushed { OnOk result (IsTrue (is_flushed writer.new)) }
     ensures faultless { OnOk result (WasFaultless writer.old writer.new) }
     ensures part { IfErr result
