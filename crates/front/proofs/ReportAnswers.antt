@@ -31,21 +31,21 @@ unfolding IsRecordRefusal
 entries-refusal at None e h = let same : why.BadNumber at ≡ e = cc h in subst IsRecordRefusal same tt
 entries-refusal at (Some x) e h = whole-refusal at (whole_row x) e h
 
-row-refusal : (at : ℕ) (row : List (List ℕ)) (b : Bool) (e : ReportError) → cond b (row_from at (entries_of row)) (Err (why.BadFields at)) ≡ Err e → IsRecordRefusal e
+row-refusal : (at : ℕ) (fields : List (List ℕ)) (b : Bool) (e : ReportError) → cond b (row_from at (entries_of fields)) (Err (why.BadFields at)) ≡ Err e → IsRecordRefusal e
 unfolding IsRecordRefusal
-row-refusal at row true e h = entries-refusal at (entries_of row) e h
-row-refusal at row false e h = let same : why.BadFields at ≡ e = cc h in subst IsRecordRefusal same tt
+row-refusal at fields true e h = entries-refusal at (entries_of fields) e h
+row-refusal at fields false e h = let same : why.BadFields at ≡ e = cc h in subst IsRecordRefusal same tt
 
-next-refusal : (rows : Option (List Row)) (row : List (List ℕ)) (e : ReportError) → next_rows rows row ≡ Err e → IsRecordRefusal e
+next-refusal : (rows : Option (List Row)) (fields : List (List ℕ)) (e : ReportError) → next_rows rows fields ≡ Err e → IsRecordRefusal e
 unfolding IsRecordRefusal
-next-refusal None row e h = go (is_header row) h where
+next-refusal None fields e h = go (is_header fields) h where
   go : (b : Bool) → cond {A = Result (Option (List Row)) ReportError} b (Ok (Some [])) (Err why.BadHeader) ≡ Err e → IsRecordRefusal e
   go true h = cc h
   go false h = let same : why.BadHeader ≡ e = cc h in subst IsRecordRefusal same tt
-next-refusal (Some rows) row e h = go (row_of (length rows + 1) row) refl h where
-  go : (r : Result Row ReportError) → row_of (length rows + 1) row ≡ r → with_row rows r ≡ Err e → IsRecordRefusal e
+next-refusal (Some rows) fields e h = go (row_of (length rows + 1) fields) refl h where
+  go : (r : Result Row ReportError) → row_of (length rows + 1) fields ≡ r → with_row rows r ≡ Err e → IsRecordRefusal e
   go (Ok x) k h = cc h
-  go (Err f) k h = let same : f ≡ e = cc h in subst IsRecordRefusal same (row-refusal (length rows + 1) row (length row == 8) f k)
+  go (Err f) k h = let same : f ≡ e = cc h in subst IsRecordRefusal same (row-refusal (length rows + 1) fields (length fields == 8) f k)
 
 after-refusal : (rows : Option (List Row)) (rs : List (List (List ℕ))) (e : ReportError) → after_records next_rows rows rs ≡ Err e → IsRecordRefusal e
 after-refusal rows [] e h = cc h

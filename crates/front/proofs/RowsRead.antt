@@ -56,27 +56,27 @@ gap_of-some (Some p) None to o e = cc e
 gap_of-some (Some p) (Some x) None o e = cc e
 
 -- the fields of which a record was read
-record IsOfEntries (row : List (List ℕ)) (e : Entries) : Type 0 where
-  pub gst : field_of row 0 ≡ decimal e.gst
-  pub delta : field_of row 1 ≡ decimal e.delta
-  pub phi : field_of row 2 ≡ decimal e.phi
-  pub sent : field_of row 3 ≡ entry_text e.sent
-  pub missed : field_of row 4 ≡ entry_text e.missed
-  pub proc : field_of row 5 ≡ entry_text e.proc
-  pub from : field_of row 6 ≡ entry_text e.from
-  pub to : field_of row 7 ≡ entry_text e.to
+record IsOfEntries (fields : List (List ℕ)) (e : Entries) : Type 0 where
+  pub gst : field_of fields 0 ≡ decimal e.gst
+  pub delta : field_of fields 1 ≡ decimal e.delta
+  pub phi : field_of fields 2 ≡ decimal e.phi
+  pub sent : field_of fields 3 ≡ entry_text e.sent
+  pub missed : field_of fields 4 ≡ entry_text e.missed
+  pub proc : field_of fields 5 ≡ entry_text e.proc
+  pub from : field_of fields 6 ≡ entry_text e.from
+  pub to : field_of fields 7 ≡ entry_text e.to
 
-entries_of-some : (row : List (List ℕ)) (e : Entries) → entries_of row ≡ Some e → IsOfEntries row e
-entries_of-some row e h =
-    option_and_then_some _ (number_of (field_of row 0)) e h (λ gst a h.
-    option_and_then_some _ (number_of (field_of row 1)) e h (λ delta b h.
-    option_and_then_some _ (number_of (field_of row 2)) e h (λ phi c h.
-    option_and_then_some _ (entry_of (field_of row 3)) e h (λ sent d h.
-    option_and_then_some _ (entry_of (field_of row 4)) e h (λ missed i h.
-    option_and_then_some _ (entry_of (field_of row 5)) e h (λ proc j h.
-    option_and_then_some _ (entry_of (field_of row 6)) e h (λ from k h.
-    option_and_then_some _ (entry_of (field_of row 7)) e h (λ to l h.
-    subst (IsOfEntries row) (same_Some _ e h) (record {
+entries_of-some : (fields : List (List ℕ)) (e : Entries) → entries_of fields ≡ Some e → IsOfEntries fields e
+entries_of-some fields e h =
+    option_and_then_some _ (number_of (field_of fields 0)) e h (λ gst a h.
+    option_and_then_some _ (number_of (field_of fields 1)) e h (λ delta b h.
+    option_and_then_some _ (number_of (field_of fields 2)) e h (λ phi c h.
+    option_and_then_some _ (entry_of (field_of fields 3)) e h (λ sent d h.
+    option_and_then_some _ (entry_of (field_of fields 4)) e h (λ missed i h.
+    option_and_then_some _ (entry_of (field_of fields 5)) e h (λ proc j h.
+    option_and_then_some _ (entry_of (field_of fields 6)) e h (λ from k h.
+    option_and_then_some _ (entry_of (field_of fields 7)) e h (λ to l h.
+    subst (IsOfEntries fields) (same_Some _ e h) (record {
       gst = (number_of-some _ gst a).0;
       delta = (number_of-some _ delta b).0;
       phi = (number_of-some _ phi c).0;
@@ -87,8 +87,8 @@ entries_of-some row e h =
       to = entry_of-some _ to l;
     })))))))))
 
-eight-fields : (row : List (List ℕ)) → length row ≡ 8
-    → row ≡ field_of row 0 ∷ field_of row 1 ∷ field_of row 2 ∷ field_of row 3 ∷ field_of row 4 ∷ field_of row 5 ∷ field_of row 6 ∷ field_of row 7 ∷ []
+eight-fields : (fields : List (List ℕ)) → length fields ≡ 8
+    → fields ≡ field_of fields 0 ∷ field_of fields 1 ∷ field_of fields 2 ∷ field_of fields 3 ∷ field_of fields 4 ∷ field_of fields 5 ∷ field_of fields 6 ∷ field_of fields 7 ∷ []
 unfolding field_at
 eight-fields (a ∷ b ∷ c ∷ d ∷ e ∷ f ∷ g ∷ h ∷ []) l = refl
 eight-fields _ l = absurd (omega arith)
@@ -101,21 +101,21 @@ whole_row-some e r h =
     rw (← same_Some _ r h, miss_of-some e.sent e.missed miss a, gap_of-some e.proc e.from e.to gap b) refl))
 
 -- a record that was read is the record of its row
-row_of-ok : (at : ℕ) (row : List (List ℕ)) (r : Row) → row_of at row ≡ Ok r → row ≡ row_record r
-row_of-ok at row r h = eight (length row == 8) refl h where
-  whole : length row ≡ 8 → (e : Entries) → entries_of row ≡ Some e → (o : Option Row) → whole_row e ≡ o → ok_or o (HalfWitness at) ≡ Ok r → row ≡ row_record r
+row_of-ok : (at : ℕ) (fields : List (List ℕ)) (r : Row) → row_of at fields ≡ Ok r → fields ≡ row_record r
+row_of-ok at fields r h = eight (length fields == 8) refl h where
+  whole : length fields ≡ 8 → (e : Entries) → entries_of fields ≡ Some e → (o : Option Row) → whole_row e ≡ o → ok_or o (HalfWitness at) ≡ Ok r → fields ≡ row_record r
   whole l e k None w h = cc h
   whole l e k (Some x) w h =
-      let of = entries_of-some row e k in
+      let of = entries_of-some fields e k in
       let same : x ≡ r = cc h in
-      eight-fields row l ∙ rw (of.gst, of.delta, of.phi, of.sent, of.missed, of.proc, of.from, of.to) (sym (whole_row-some e x w)) ∙ ap row_record same
+      eight-fields fields l ∙ rw (of.gst, of.delta, of.phi, of.sent, of.missed, of.proc, of.from, of.to) (sym (whole_row-some e x w)) ∙ ap row_record same
 
-  entries : length row ≡ 8 → (o : Option Entries) → entries_of row ≡ o → row_from at o ≡ Ok r → row ≡ row_record r
+  entries : length fields ≡ 8 → (o : Option Entries) → entries_of fields ≡ o → row_from at o ≡ Ok r → fields ≡ row_record r
   entries l None k h = cc h
   entries l (Some e) k h = whole l e k (whole_row e) refl h
 
-  eight : (t : Bool) → (length row == 8) ≡ t → cond t (row_from at (entries_of row)) (Err (BadFields at)) ≡ Ok r → row ≡ row_record r
-  eight true t h = entries (eqb-true (length row) 8 t) (entries_of row) refl h
+  eight : (t : Bool) → (length fields == 8) ≡ t → cond t (row_from at (entries_of fields)) (Err (BadFields at)) ≡ Ok r → fields ≡ row_record r
+  eight true t h = entries (eqb-true (length fields) 8 t) (entries_of fields) refl h
   eight false t h = cc h
 
 -- the rows that were taken after others are those whose records were read
@@ -135,8 +135,8 @@ and-parts : (b d : Bool) → (b && d) ≡ true → (b ≡ true) × (d ≡ true)
 and-parts true d h = (refl, h)
 and-parts false d h = cc
 
-header-same : (row : List (List ℕ)) → is_header row ≡ true → row ≡ report_header
-header-same row h =
+header-same : (fields : List (List ℕ)) → is_header fields ≡ true → fields ≡ report_header
+header-same fields h =
     let to = and-parts _ _ h in
     let from = and-parts _ _ to.0 in
     let proc = and-parts _ _ from.0 in
@@ -145,16 +145,16 @@ header-same row h =
     let phi = and-parts _ _ sent.0 in
     let delta = and-parts _ _ phi.0 in
     let gst = and-parts _ _ delta.0 in
-    eight-fields row (eqb-true (length row) 8 gst.0)
+    eight-fields fields (eqb-true (length fields) 8 gst.0)
     ∙ rw (
-      same-from_bytes_eq (field_of row 0) (codes "gst") gst.1,
-      same-from_bytes_eq (field_of row 1) (codes "delta") delta.1,
-      same-from_bytes_eq (field_of row 2) (codes "phi") phi.1,
-      same-from_bytes_eq (field_of row 3) (codes "sent") sent.1,
-      same-from_bytes_eq (field_of row 4) (codes "missed") missed.1,
-      same-from_bytes_eq (field_of row 5) (codes "proc") proc.1,
-      same-from_bytes_eq (field_of row 6) (codes "from") from.1,
-      same-from_bytes_eq (field_of row 7) (codes "to") to.1,
+      same-from_bytes_eq (field_of fields 0) (codes "gst") gst.1,
+      same-from_bytes_eq (field_of fields 1) (codes "delta") delta.1,
+      same-from_bytes_eq (field_of fields 2) (codes "phi") phi.1,
+      same-from_bytes_eq (field_of fields 3) (codes "sent") sent.1,
+      same-from_bytes_eq (field_of fields 4) (codes "missed") missed.1,
+      same-from_bytes_eq (field_of fields 5) (codes "proc") proc.1,
+      same-from_bytes_eq (field_of fields 6) (codes "from") from.1,
+      same-from_bytes_eq (field_of fields 7) (codes "to") to.1,
     ) refl
 
 -- records that are read as rows are the records of these rows

@@ -44,15 +44,22 @@ pub fn read_report<R: Read>(
     alloc: Global,
     reader: &mut Counting<R>,
 ) -> Result<Vec<Row>, ReportError>
-    ensures stands { IfOk result (λ v. IfSome (R.remaining (inner_of reader.old)) (λ text. StandsFor text v.items)) }
-    ensures complete { IfSome (R.remaining (inner_of reader.old)) (λ text. (rows : List Row) → All IsRow64 rows → StandsFor text rows → MatchResult result (λ v. v.items ≡ rows) IsDeviceRefusal) }
-    ensures size { OnOk result (IfSome (R.remaining (inner_of reader.old)) (λ text. length text ≤ MAX_TEXT_BYTES)) }
+    ensures stands { IfOk result
+        (λ v. IfSome (R.remaining (inner_of reader.old)) (λ text. StandsFor text v.items)) }
+    ensures complete { IfSome (R.remaining (inner_of reader.old))
+        (λ text. (rows : List Row) → All IsRow64 rows → StandsFor text rows
+        → MatchResult result (λ v. v.items ≡ rows) IsDeviceRefusal) }
+    ensures size { OnOk result
+        (IfSome (R.remaining (inner_of reader.old)) (λ text. length text ≤ MAX_TEXT_BYTES)) }
     ensures end { OnOk result (IsAtEnd (R.remaining (inner_of reader.new))) }
     ensures faults { faults_of reader.new ≡ faults_after_report result (faults_of reader.old) }
-    ensures refused { IfErr result (λ e. RefusedFor e (faults_of reader.old) (faults_of reader.new) (R.remaining (inner_of reader.old))) }
+    ensures refused { IfErr result
+        (λ e. RefusedFor e (faults_of reader.old) (faults_of reader.new)
+        (R.remaining (inner_of reader.old))) }
     ensures within { IsErrOf result ReportError.Memory
         → IfSome (bytes_read (R.remaining (inner_of reader.old)) (R.remaining (inner_of reader.new))) (λ n. n ≤ MAX_TEXT_BYTES) }
-    ensures unique { (text : List ℕ) (xs ys : List Row) → All IsRow64 xs → All IsRow64 ys → StandsFor text xs → StandsFor text ys → xs ≡ ys }
+    ensures unique { (text : List ℕ) (xs ys : List Row) → All IsRow64 xs → All IsRow64 ys
+        → StandsFor text xs → StandsFor text ys → xs ≡ ys }
 {
     match read_all(alloc, reader) {
         Ok(text) => rows_of_text(alloc, &text),
@@ -74,7 +81,8 @@ fn rows_of_text(alloc: Global, text: &[u8]) -> Result<Vec<Row>, ReportError>
 
 // What the end of the text says.
 fn rows_at_end(taken: ReportRows) -> Result<Vec<Row>, ReportError>
-    ensures rows { MatchResult result (λ v. rows_at_end taken ≡ Ok v.items) (λ e. rows_at_end taken ≡ Err e) }
+    ensures rows { MatchResult result (λ v. rows_at_end taken ≡ Ok v.items)
+        (λ e. rows_at_end taken ≡ Err e) }
 {
     match taken.rows {
         Some(rows) => Ok(rows),
@@ -111,8 +119,10 @@ impl TakeRecords for ReportRows {
 
 // Takes in the row of one more record.
 fn take_row(rows: &mut Vec<Row>, fields: &ByteRecord) -> Result<(), ReportError>
-    ensures row { ReachesUnless is_memory result (Some rows.new.items) (with_row rows.old.items (row_of (length rows.old.items + 1) (fields_of fields.now))) }
-    ensures more { WantsOnlyWhere is_memory result (is_ok (row_of (length rows.old.items + 1) (fields_of fields.now))) }
+    ensures row { ReachesUnless is_memory result (Some rows.new.items)
+        (with_row rows.old.items (row_of (length rows.old.items + 1) (fields_of fields.now))) }
+    ensures more { WantsOnlyWhere is_memory result
+        (is_ok (row_of (length rows.old.items + 1) (fields_of fields.now))) }
 {
     let row = row_of(rows.len() as u64 + 1, fields)?;
     match rows.push(row) {

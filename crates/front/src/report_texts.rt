@@ -14,8 +14,8 @@ ghost use Rattle.front.specs.ReportTexts.{report_header, report_text, row_record
 use csv::{Writer, WriterBuilder};
 use std::alloc::{AllocError, Global};
 use std::io::Write;
-use step_trace::{Gap, Miss, Row};
-use trace_text::{Counting, WriteError, write_text};
+use step_trace::{Gap, MAX_STEPS, Miss, Row};
+use trace_text::{Counting, MAX_TEXT_BYTES, WriteError, write_text};
 
 /// Writes the text of a report of these rows, and flushes.
 ///
@@ -26,13 +26,18 @@ pub fn write_report<W: Write>(
     rows: &[Row],
     writer: &mut Counting<W>,
 ) -> Result<(), WriteError>
-    ensures whole { OnOk result (Appends (W.contents (inner_of writer.old)) (W.contents (inner_of writer.new)) (report_text rows.now)) }
+    ensures whole { OnOk result
+        (Appends (W.contents (inner_of writer.old)) (W.contents (inner_of writer.new))
+        (report_text rows.now)) }
     ensures flushed { OnOk result (IsTrue (is_flushed writer.new)) }
     ensures faultless { OnOk result (WasFaultless writer.old writer.new) }
-    ensures part { IfErr result (λ e. WroteBefore e (report_text rows.now) (W.contents (inner_of writer.old)) (W.contents (inner_of writer.new))) }
+    ensures part { IfErr result
+        (λ e. WroteBefore e (report_text rows.now) (W.contents (inner_of writer.old))
+        (W.contents (inner_of writer.new))) }
     ensures cause { IfErr result (λ e. IsWriteCause e writer.old writer.new) }
     ensures stands { All IsRow64 rows.now → StandsFor (report_text rows.now) rows.now }
-    ensures short { (set : ℕ) (steps : List Step) → IsReport set steps rows.now → length steps ≤ 1000000 → length (report_text rows.now) < 67108864 }
+    ensures short { (set : ℕ) (steps : List Step) → IsReport set steps rows.now
+        → length steps ≤ MAX_STEPS → length (report_text rows.now) < MAX_TEXT_BYTES }
 {
     let Ok(text) = report_text_of(alloc, rows) else {
         return Err(WriteError::Memory);
@@ -60,7 +65,8 @@ pub(crate) fn report_text_of(alloc: Global, rows: &[Row]) -> Result<Vec<u8>, All
 fn write_header(writer: &mut Writer<Vec<u8>>) -> Result<(), AllocError>
     requires { IsReady writer.old }
     ensures ready { OnOk result (IsReady writer.new) }
-    ensures text { OnOk result (written writer.new ≡ written writer.old ++ record_line report_header) }
+    ensures text { OnOk result
+        (written writer.new ≡ written writer.old ++ record_line report_header) }
 {
     write_plain(
         writer,
@@ -73,7 +79,8 @@ fn write_header(writer: &mut Writer<Vec<u8>>) -> Result<(), AllocError>
 fn write_row(alloc: Global, writer: &mut Writer<Vec<u8>>, row: &Row) -> Result<(), AllocError>
     requires { IsReady writer.old }
     ensures ready { OnOk result (IsReady writer.new) }
-    ensures text { OnOk result (written writer.new ≡ written writer.old ++ record_line (row_record row.now)) }
+    ensures text { OnOk result
+        (written writer.new ≡ written writer.old ++ record_line (row_record row.now)) }
 {
     let gst = number_text(alloc, row.gst)?;
     let delta = number_text(alloc, row.delta)?;
@@ -97,7 +104,8 @@ fn write_row(alloc: Global, writer: &mut Writer<Vec<u8>>, row: &Row) -> Result<(
 
 // The fields of a miss, empty where there is none.
 fn miss_texts(alloc: Global, miss: Option<Miss>) -> Result<(String, String), AllocError>
-    ensures fields { IfOk result (λ t. string_bytes t.0 ∷ string_bytes t.1 ∷ [] ≡ miss_fields miss) }
+    ensures fields { IfOk result
+        (λ t. string_bytes t.0 ∷ string_bytes t.1 ∷ [] ≡ miss_fields miss) }
     ensures plain { IfOk result (λ t. ArePlain (string_bytes t.0 ∷ string_bytes t.1 ∷ [])) }
 {
     match miss {
@@ -108,8 +116,10 @@ fn miss_texts(alloc: Global, miss: Option<Miss>) -> Result<(String, String), All
 
 // The fields of a gap, empty where there is none.
 fn gap_texts(alloc: Global, gap: Option<Gap>) -> Result<(String, String, String), AllocError>
-    ensures fields { IfOk result (λ t. string_bytes t.0 ∷ string_bytes t.1 ∷ string_bytes t.2 ∷ [] ≡ gap_fields gap) }
-    ensures plain { IfOk result (λ t. ArePlain (string_bytes t.0 ∷ string_bytes t.1 ∷ string_bytes t.2 ∷ [])) }
+    ensures fields { IfOk result
+        (λ t. string_bytes t.0 ∷ string_bytes t.1 ∷ string_bytes t.2 ∷ [] ≡ gap_fields gap) }
+    ensures plain { IfOk result
+        (λ t. ArePlain (string_bytes t.0 ∷ string_bytes t.1 ∷ string_bytes t.2 ∷ [])) }
 {
     match gap {
         None => Ok((String::new(alloc), String::new(alloc), String::new(alloc))),
@@ -134,7 +144,8 @@ fn write_plain(writer: &mut Writer<Vec<u8>>, fields: &[&[u8]]) -> Result<(), All
     requires two { 2 ≤ length fields.now }
     requires plain { ArePlain (map (λ f. f.now) fields.now) }
     ensures ready { OnOk result (IsReady writer.new) }
-    ensures text { OnOk result (written writer.new ≡ written writer.old ++ record_line (map (λ f. f.now) fields.now)) }
+    ensures text { OnOk result
+        (written writer.new ≡ written writer.old ++ record_line (map (λ f. f.now) fields.now)) }
 {
     let Ok(()) = writer.write_fields(fields) else {
         return Err(AllocError);

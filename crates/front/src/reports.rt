@@ -59,7 +59,9 @@ impl Report {
     /// smaller positive bound from `g`.
     pub fn at(&self, g: u64) -> Option<Row>
         ensures row { result ≡ row_at self.now g }
-        ensures serves { (set : ℕ) (steps : List Step) → IsReport set steps self.now.rows → self.now.len ≡ length steps → 1 ≤ g → g ≤ self.now.len → IsSomeAnd result (Serves set steps g) }
+        ensures serves { (set : ℕ) (steps : List Step) → IsReport set steps self.now.rows
+            → self.now.len ≡ length steps → 1 ≤ g → g ≤ self.now.len
+            → IsSomeAnd result (Serves set steps g) }
     {
         let Report { len, rows } = self;
         if g == 0 || (*len as u64) < g {
@@ -73,8 +75,12 @@ impl Report {
 ///
 /// Takes time that grows with the rows, not with the steps.
 pub fn front(alloc: Global, stairs: &Stairs) -> Result<Report, AllocError>
-    ensures report { IfOk result (λ r. (set : ℕ) (steps : List Step) → AreLevels set steps stairs.now → IsReport set steps r.rows) }
-    ensures only { IfOk result (λ r. (set : ℕ) (steps : List Step) (rows : List Row) → AreLevels set steps stairs.now → IsReport set steps rows → rows ≡ r.rows) }
+    ensures report { IfOk result
+        (λ r. (set : ℕ) (steps : List Step) → AreLevels set steps stairs.now
+        → IsReport set steps r.rows) }
+    ensures only { IfOk result
+        (λ r. (set : ℕ) (steps : List Step) (rows : List Row) → AreLevels set steps stairs.now
+        → IsReport set steps rows → rows ≡ r.rows) }
     ensures len { IfOk result (λ r. r.len ≡ length stairs.now) }
     ensures rising { IfOk result (λ r. IsStrictlyIncreasing (map (λ row. row.gst) r.rows)) }
 {
@@ -87,7 +93,9 @@ pub fn front(alloc: Global, stairs: &Stairs) -> Result<Report, AllocError>
 
 // The rows of all starts.
 fn rows_of(alloc: Global, stairs: &Stairs) -> Result<Vec<Row>, AllocError>
-    ensures { IfOk result (λ v. AreRowsAt stairs.now (starts stairs.now) v.items × AreStarts stairs.now (starts stairs.now)) }
+    ensures { IfOk result
+        (λ v. AreRowsAt stairs.now (starts stairs.now) v.items
+        × AreStarts stairs.now (starts stairs.now)) }
 {
     let mut rows = Vec::new(alloc);
     while let Some(gst) = stairs.start(rows.len()) {

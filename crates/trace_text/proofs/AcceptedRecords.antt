@@ -30,22 +30,22 @@ use Rattle.trace_text.proofs.StageInversions.{passed, both, neither, read_part, 
 
 -- the records that lead to a stage
 abbrev pub LeadsTo : List (List (List ℕ)) → Stage → Type 0
-LeadsTo rows Opening = rows ≡ []
-LeadsTo rows (Sized n t) = rows ≡ header_record n t ∷ []
-LeadsTo rows (Recording t) = IsTrace t × (rows ≡ header_record t.config.n t.config.t ∷ init_record t.config.init ∷ step_records 1 t.steps)
-LeadsTo rows (Ended t) = IsTrace t × (rows ≡ trace_records t)
+LeadsTo records Opening = records ≡ []
+LeadsTo records (Sized n t) = records ≡ header_record n t ∷ []
+LeadsTo records (Recording t) = IsTrace t × (records ≡ header_record t.config.n t.config.t ∷ init_record t.config.init ∷ step_records 1 t.steps)
+LeadsTo records (Ended t) = IsTrace t × (records ≡ trace_records t)
 
 -- the header
-from_header : (row : List (List ℕ)) (s : Stage) → header_stage row ≡ Ok s → LeadsTo (row ∷ []) s
-from_header row s h =
-    let first = passed ((length row == 4) && bytes_eq (field_of row 0) (codes "dls-trace")) _ _ s h in
-    let two = both (length row == 4) _ first.0 in
-    let version = passed (bytes_eq (field_of row 1) (codes "1")) _ _ s first.1 in
-    let n = read_part (number_of (field_of row 2)) why.BadSize _ s version.1 in
-    let t = read_part (number_of (field_of row 3)) why.BadSize _ s n.2 in
+from_header : (fields : List (List ℕ)) (s : Stage) → header_stage fields ≡ Ok s → LeadsTo (fields ∷ []) s
+from_header fields s h =
+    let first = passed ((length fields == 4) && bytes_eq (field_of fields 0) (codes "dls-trace")) _ _ s h in
+    let two = both (length fields == 4) _ first.0 in
+    let version = passed (bytes_eq (field_of fields 1) (codes "1")) _ _ s first.1 in
+    let n = read_part (number_of (field_of fields 2)) why.BadSize _ s version.1 in
+    let t = read_part (number_of (field_of fields 3)) why.BadSize _ s n.2 in
     let size = passed (is_size n.0 t.0) _ _ s t.2 in
     let stage : Sized n.0 t.0 ≡ s = cc (size.1) in
-    let whole = four_are row (codes "dls-trace") (codes "1") (decimal n.0) (decimal t.0) (eqb-true (length row) 4 two.0)
+    let whole = four_are fields (codes "dls-trace") (codes "1") (decimal n.0) (decimal t.0) (eqb-true (length fields) 4 two.0)
     (same-from_bytes_eq _ _ two.1) (same-from_bytes_eq _ _ version.0) (number_of-some _ n.0 n.1).0 (number_of-some _ t.0 t.1).0 in
     rw (← stage) (ap (λ r. r ∷ []) whole)
 
@@ -92,19 +92,19 @@ IsWellFormed-none c = record {
   nothing (suc k) x h = cc h
 
 -- the initial values
-from_init : (rows : List (List (List ℕ))) (n t : ℕ) (row : List (List ℕ)) (s : Stage) → LeadsTo rows (Sized n t) → init_stage n t row ≡ Ok s → LeadsTo (rows ++ row ∷ []) s
-from_init rows n t row s before h =
-    let first = passed (bytes_eq (field_of row 0) (codes "init")) _ _ s h in
-    let values = read_part (numbers_of (drop 1 row)) why.BadInit _ s first.1 in
+from_init : (records : List (List (List ℕ))) (n t : ℕ) (fields : List (List ℕ)) (s : Stage) → LeadsTo records (Sized n t) → init_stage n t fields ≡ Ok s → LeadsTo (records ++ fields ∷ []) s
+from_init records n t fields s before h =
+    let first = passed (bytes_eq (field_of fields 0) (codes "init")) _ _ s h in
+    let values = read_part (numbers_of (drop 1 fields)) why.BadInit _ s first.1 in
     let start = passed (is_none (config_refusal n t (length values.0))) _ _ s values.2 in
     let config : Setup = record { n = n; t = t; init = values.0 } in
     let stage : Recording (record { config = config; steps = [] }) ≡ s = cc (start.1) in
-    let numbers = numbers_of-some (drop 1 row) values.0 values.1 in
-    let name = same-from_bytes_eq (field_of row 0) (codes "init") first.0 in
-    let whole : row ≡ init_record values.0 = first_field row 105 (codes "nit") name ∙ ap (λ r. codes "init" ∷ r) numbers.0 in
+    let numbers = numbers_of-some (drop 1 fields) values.0 values.1 in
+    let name = same-from_bytes_eq (field_of fields 0) (codes "init") first.0 in
+    let whole : fields ≡ init_record values.0 = first_field fields 105 (codes "nit") name ∙ ap (λ r. codes "init" ∷ r) numbers.0 in
     rw (← stage) (
       record { setup = IsSetup-from_none n t values.0 (none_is _ start.0); values = numbers.1; well_formed = IsWellFormed-none config },
-      append_one rows (header_record n t ∷ []) row (init_record values.0) before whole,
+      append_one records (header_record n t ∷ []) fields (init_record values.0) before whole,
     )
 
 -- the operation of a field is named by it
@@ -141,15 +141,15 @@ from_act op.EndRound arg a h =
     rw (← part.2) (refl, ids_of-some arg part.0 part.1)
 
 -- the fields of a step after its number
-from_fields : (at : ℕ) (row : List (List ℕ)) (x : Step) → step_of at row ≡ Ok x
-    → (field_of row 1 ≡ decimal x.proc) × (field_of row 2 ≡ op_text x.act) × (field_of row 3 ≡ arg_text x.act)
-from_fields at row x h =
-    let o = read_part (operation_of (field_of row 2)) (why.BadOp at) _ x h in
-    let p = read_part (number_of (field_of row 1)) (why.BadNumber at) _ x o.2 in
-    let a = read_part (act_of o.0 (field_of row 3)) (why.BadNumber at) _ x p.2 in
+from_fields : (at : ℕ) (fields : List (List ℕ)) (x : Step) → step_of at fields ≡ Ok x
+    → (field_of fields 1 ≡ decimal x.proc) × (field_of fields 2 ≡ op_text x.act) × (field_of fields 3 ≡ arg_text x.act)
+from_fields at fields x h =
+    let o = read_part (operation_of (field_of fields 2)) (why.BadOp at) _ x h in
+    let p = read_part (number_of (field_of fields 1)) (why.BadNumber at) _ x o.2 in
+    let a = read_part (act_of o.0 (field_of fields 3)) (why.BadNumber at) _ x p.2 in
     let step : ◌≡◌ {A = Step} (record { proc = p.0; act = a.0 }) x = cc (a.2) in
-    let act = from_act o.0 (field_of row 3) a.0 a.1 in
-    rw (← step) ((number_of-some (field_of row 1) p.0 p.1).0, from_operation (field_of row 2) o.0 o.1 ∙ act.0, act.1)
+    let act = from_act o.0 (field_of fields 3) a.0 a.1 in
+    rw (← step) ((number_of-some (field_of fields 1) p.0 p.1).0, from_operation (field_of fields 2) o.0 o.1 ∙ act.0, act.1)
 
 -- a step that the trace takes
 from_push : (t : Recorded) (x : Step) (s : Stage) (r : Option PushError) → refusal t.config t.steps x ≡ r → pushed t x r ≡ Ok s
@@ -165,59 +165,59 @@ step_records-more at (y ∷ xs) x =
     ap (λ r. step_record at y ∷ r) (rw e at (step_records-more (at + 1) xs x))
 
 -- a step
-from_step : (rows : List (List (List ℕ))) (t : Recorded) (row : List (List ℕ)) (s : Stage) → LeadsTo rows (Recording t) → step_stage t row ≡ Ok s → LeadsTo (rows ++ row ∷ []) s
-from_step rows t row s before h =
-    let four = passed (length row == 4) _ _ s h in
-    let number = passed (bytes_eq (field_of row 0) (decimal (length t.steps + 1))) _ _ s four.1 in
-    let step = read_result (step_of (length t.steps + 1) row) _ s number.1 in
+from_step : (records : List (List (List ℕ))) (t : Recorded) (fields : List (List ℕ)) (s : Stage) → LeadsTo records (Recording t) → step_stage t fields ≡ Ok s → LeadsTo (records ++ fields ∷ []) s
+from_step records t fields s before h =
+    let four = passed (length fields == 4) _ _ s h in
+    let number = passed (bytes_eq (field_of fields 0) (decimal (length t.steps + 1))) _ _ s four.1 in
+    let step = read_result (step_of (length t.steps + 1) fields) _ s number.1 in
     let push = from_push t step.0 s (refusal t.config t.steps step.0) refl step.2 in
-    let fields = from_fields (length t.steps + 1) row step.0 step.1 in
-    let first = same-from_bytes_eq (field_of row 0) (decimal (length t.steps + 1)) number.0 in
+    let parts = from_fields (length t.steps + 1) fields step.0 step.1 in
+    let first = same-from_bytes_eq (field_of fields 0) (decimal (length t.steps + 1)) number.0 in
     let e : length t.steps + 1 ≡ 1 + length t.steps = omega arith in
-    let whole : row ≡ step_record (1 + length t.steps) step.0 =
-    four_are row (decimal (1 + length t.steps)) (decimal step.0.proc) (op_text step.0.act) (arg_text step.0.act) (eqb-true (length row) 4 four.0) (first ∙ ap decimal e) fields.0 fields.1 fields.2 in
+    let whole : fields ≡ step_record (1 + length t.steps) step.0 =
+    four_are fields (decimal (1 + length t.steps)) (decimal step.0.proc) (op_text step.0.act) (arg_text step.0.act) (eqb-true (length fields) 4 four.0) (first ∙ ap decimal e) parts.0 parts.1 parts.2 in
     let trace = before.0 in
     rw (← push.1) (
       record { setup = trace.setup; values = trace.values; well_formed = IsWellFormed-push t.config t.steps step.0 trace.well_formed (Fits-from_none t.config t.steps step.0 push.0) },
-      append_one rows _ row (step_record (1 + length t.steps) step.0) before.1 whole
+      append_one records _ fields (step_record (1 + length t.steps) step.0) before.1 whole
           ∙ ap (λ r. header_record t.config.n t.config.t ∷ init_record t.config.init ∷ r) (sym (step_records-more 1 t.steps step.0)),
     )
 
 -- the end
-from_end : (rows : List (List (List ℕ))) (t : Recorded) (row : List (List ℕ)) (s : Stage) → LeadsTo rows (Recording t) → field_of row 0 ≡ codes "end" → end_stage t row ≡ Ok s → LeadsTo (rows ++ row ∷ []) s
-from_end rows t row s before name h =
-    let two = passed (length row == 2) _ _ s h in
-    let number = passed (bytes_eq (field_of row 1) (decimal (length t.steps))) _ _ s two.1 in
+from_end : (records : List (List (List ℕ))) (t : Recorded) (fields : List (List ℕ)) (s : Stage) → LeadsTo records (Recording t) → field_of fields 0 ≡ codes "end" → end_stage t fields ≡ Ok s → LeadsTo (records ++ fields ∷ []) s
+from_end records t fields s before name h =
+    let two = passed (length fields == 2) _ _ s h in
+    let number = passed (bytes_eq (field_of fields 1) (decimal (length t.steps))) _ _ s two.1 in
     let stage : Ended t ≡ s = cc (number.1) in
-    let count = same-from_bytes_eq (field_of row 1) (decimal (length t.steps)) number.0 in
-    let whole = two_are row (codes "end") (decimal (length t.steps)) (eqb-true (length row) 2 two.0) name count in
-    rw (← stage) (before.0, append_one rows _ row (end_record (length t.steps)) before.1 whole)
+    let count = same-from_bytes_eq (field_of fields 1) (decimal (length t.steps)) number.0 in
+    let whole = two_are fields (codes "end") (decimal (length t.steps)) (eqb-true (length fields) 2 two.0) name count in
+    rw (← stage) (before.0, append_one records _ fields (end_record (length t.steps)) before.1 whole)
 
 -- one record more
-from_record : (rows : List (List (List ℕ))) (a : Stage) (row : List (List ℕ)) (s : Stage) → LeadsTo rows a → next_stage a row ≡ Ok s → LeadsTo (rows ++ row ∷ []) s
-from_record rows Opening row s before h = rw before (from_header row s h)
-from_record rows (Sized n t) row s before h = from_init rows n t row s before h
-from_record rows (Recording t) row s before h = go (bytes_eq (field_of row 0) (codes "end")) refl h where
-  go : (b : Bool) → bytes_eq (field_of row 0) (codes "end") ≡ b → cond b (end_stage t row) (step_stage t row) ≡ Ok s → LeadsTo (rows ++ row ∷ []) s
-  go true e k = from_end rows t row s before (same-from_bytes_eq (field_of row 0) (codes "end") e) k
-  go false e k = from_step rows t row s before k
-from_record rows (Ended t) row s before h = cc h
+from_record : (records : List (List (List ℕ))) (a : Stage) (fields : List (List ℕ)) (s : Stage) → LeadsTo records a → next_stage a fields ≡ Ok s → LeadsTo (records ++ fields ∷ []) s
+from_record records Opening fields s before h = rw before (from_header fields s h)
+from_record records (Sized n t) fields s before h = from_init records n t fields s before h
+from_record records (Recording t) fields s before h = go (bytes_eq (field_of fields 0) (codes "end")) refl h where
+  go : (b : Bool) → bytes_eq (field_of fields 0) (codes "end") ≡ b → cond b (end_stage t fields) (step_stage t fields) ≡ Ok s → LeadsTo (records ++ fields ∷ []) s
+  go true e k = from_end records t fields s before (same-from_bytes_eq (field_of fields 0) (codes "end") e) k
+  go false e k = from_step records t fields s before k
+from_record records (Ended t) fields s before h = cc h
 
 -- and so all records
-from_records : (rows : List (List (List ℕ))) (a : Stage) (more : List (List (List ℕ))) (s : Stage) → LeadsTo rows a → after_records next_stage a more ≡ Ok s → LeadsTo (rows ++ more) s
-from_records rows a [] s before h = let same : a ≡ s = cc h in rw (append-nil rows, ← same) before
-from_records rows a (row ∷ more) s before h =
-    let next = read_result (next_stage a row) _ s h in
-    rw (← append_assoc rows (row ∷ []) more) (from_records (rows ++ row ∷ []) next.0 more s (from_record rows a row next.0 before next.1) next.2)
+from_records : (records : List (List (List ℕ))) (a : Stage) (more : List (List (List ℕ))) (s : Stage) → LeadsTo records a → after_records next_stage a more ≡ Ok s → LeadsTo (records ++ more) s
+from_records records a [] s before h = let same : a ≡ s = cc h in rw (append-nil records, ← same) before
+from_records records a (fields ∷ more) s before h =
+    let next = read_result (next_stage a fields) _ s h in
+    rw (← append_assoc records (fields ∷ []) more) (from_records (records ++ fields ∷ []) next.0 more s (from_record records a fields next.0 before next.1) next.2)
 
-at_end : (rows : List (List (List ℕ))) (s : Stage) (t : Recorded) → LeadsTo rows s → trace_at_end s ≡ Ok t → IsTrace t × (rows ≡ trace_records t)
-at_end rows Opening t before h = cc h
-at_end rows (Sized n f) t before h = cc h
-at_end rows (Recording u) t before h = cc h
-at_end rows (Ended u) t before h = let same : u ≡ t = cc h in rw (← same) before
+at_end : (records : List (List (List ℕ))) (s : Stage) (t : Recorded) → LeadsTo records s → trace_at_end s ≡ Ok t → IsTrace t × (records ≡ trace_records t)
+at_end records Opening t before h = cc h
+at_end records (Sized n f) t before h = cc h
+at_end records (Recording u) t before h = cc h
+at_end records (Ended u) t before h = let same : u ≡ t = cc h in rw (← same) before
 
 -- records that give a trace are its records, and it is a trace
-pub accepted-records : (rows : List (List (List ℕ))) (t : Recorded) → trace_of_records rows ≡ Ok t → IsTrace t × (rows ≡ trace_records t)
-accepted-records rows t h =
-    let s = read_result (after_records next_stage Opening rows) _ t h in
-    at_end rows s.0 t (from_records [] Opening rows s.0 refl s.1) s.2
+pub accepted-records : (records : List (List (List ℕ))) (t : Recorded) → trace_of_records records ≡ Ok t → IsTrace t × (records ≡ trace_records t)
+accepted-records records t h =
+    let s = read_result (after_records next_stage Opening records) _ t h in
+    at_end records s.0 t (from_records [] Opening records s.0 refl s.1) s.2

@@ -108,46 +108,46 @@ some-begins : (o : Option Read) (p : Read) → o ≡ Some p → Begins o → IsS
 some-begins o p e h = rw e at h
 
 -- the records that were reached, and no more, are those that so many reads give
-pub reached-all : (n : ℕ) (s : State) (xs : List ℕ) (rows : List (List (List ℕ))) (s2 : State) (ys : List ℕ) → IsStart s → length xs < n
-    → Reached default_config s xs rows s2 ys → next_record default_config s2 [] [] ys ≡ None → records_from default_config n s xs ≡ rows
+pub reached-all : (n : ℕ) (s : State) (xs : List ℕ) (reached : List (List (List ℕ))) (s2 : State) (ys : List ℕ) → IsStart s → length xs < n
+    → Reached default_config s xs reached s2 ys → next_record default_config s2 [] [] ys ≡ None → records_from default_config n s xs ≡ reached
 unfolding Reached records_from
-reached-all zero s xs rows s2 ys start less h e = absurd (omega (arith, less))
+reached-all zero s xs reached s2 ys start less h e = absurd (omega (arith, less))
 reached-all (suc n) s xs [] s2 ys start less h e = rw (h.0, h.1, e) refl
-reached-all (suc n) s xs (r ∷ rows) s2 ys start less h e =
+reached-all (suc n) s xs (r ∷ reached) s2 ys start less h e =
     let shorter = next-less default_config s [] [] xs h.0 start h.1 in
-    let more = reached-all n h.0.1 h.0.2 rows s2 ys (some-begins _ h.0 h.1 (next-begins s [] [] xs)) (omega (arith, shorter, less)) h.3 e in
+    let more = reached-all n h.0.1 h.0.2 reached s2 ys (some-begins _ h.0 h.1 (next-begins s [] [] xs)) (omega (arith, shorter, less)) h.3 e in
     rw (h.1, more, h.2) refl
 
 -- The records that reading reaches one after the other are those that `records` gives.
-pub are-records : (xs : List ℕ) (rows : List (List (List ℕ))) → AreRecords default_config st.StartRecord xs rows → records default_config xs ≡ rows
-are-records xs rows h = reached-all (length xs + 1) st.StartRecord xs rows h.0 h.1 refl (omega arith) h.2 h.3
+pub are-records : (xs : List ℕ) (reached : List (List (List ℕ))) → AreRecords default_config st.StartRecord xs reached → records default_config xs ≡ reached
+are-records xs reached h = reached-all (length xs + 1) st.StartRecord xs reached h.0 h.1 refl (omega arith) h.2 h.3
 
-front-more : (o : Option Read) (p : Read) (more : State → List ℕ → List (List (List ℕ))) (r : List (List ℕ)) (rows rest : List (List (List ℕ)))
-    → o ≡ Some p → r ≡ p.0 → more p.1 p.2 ≡ rows ++ rest → records_next more o ≡ (r ∷ rows) ++ rest
-front-more o p more r rows rest e f g = rw (e, f, g) refl
+front-more : (o : Option Read) (p : Read) (more : State → List ℕ → List (List (List ℕ))) (r : List (List ℕ)) (reached rest : List (List (List ℕ)))
+    → o ≡ Some p → r ≡ p.0 → more p.1 p.2 ≡ reached ++ rest → records_next more o ≡ (r ∷ reached) ++ rest
+front-more o p more r reached rest e f g = rw (e, f, g) refl
 
 -- what was reached is a front of all the records
-pub reached-front : (n : ℕ) (s : State) (xs : List ℕ) (rows : List (List (List ℕ))) (s2 : State) (ys : List ℕ) → IsStart s → length xs < n
-    → Reached default_config s xs rows s2 ys → (rest : List (List (List ℕ))) × (records_from default_config n s xs ≡ rows ++ rest)
+pub reached-front : (n : ℕ) (s : State) (xs : List ℕ) (reached : List (List (List ℕ))) (s2 : State) (ys : List ℕ) → IsStart s → length xs < n
+    → Reached default_config s xs reached s2 ys → (rest : List (List (List ℕ))) × (records_from default_config n s xs ≡ reached ++ rest)
 unfolding Reached records_from
 reached-front n s xs [] s2 ys start less h = (records_from default_config n s xs, refl)
-reached-front zero s xs (r ∷ rows) s2 ys start less h = absurd (omega (arith, less))
-reached-front (suc n) s xs (r ∷ rows) s2 ys start less h =
+reached-front zero s xs (r ∷ reached) s2 ys start less h = absurd (omega (arith, less))
+reached-front (suc n) s xs (r ∷ reached) s2 ys start less h =
     let shorter = next-less default_config s [] [] xs h.0 start h.1 in
-    let more = reached-front n h.0.1 h.0.2 rows s2 ys (some-begins _ h.0 h.1 (next-begins s [] [] xs)) (omega (arith, shorter, less)) h.3 in
-    (more.0, front-more _ h.0 _ r rows more.0 h.1 h.2 more.1)
+    let more = reached-front n h.0.1 h.0.2 reached s2 ys (some-begins _ h.0 h.1 (next-begins s [] [] xs)) (omega (arith, shorter, less)) h.3 in
+    (more.0, front-more _ h.0 _ r reached more.0 h.1 h.2 more.1)
 
-pub records-front : (xs : List ℕ) (rows : List (List (List ℕ))) (s2 : State) (ys : List ℕ) → Reached default_config st.StartRecord xs rows s2 ys
-    → (rest : List (List (List ℕ))) × (records default_config xs ≡ rows ++ rest)
-records-front xs rows s2 ys h = reached-front (length xs + 1) st.StartRecord xs rows s2 ys refl (omega arith) h
+pub records-front : (xs : List ℕ) (reached : List (List (List ℕ))) (s2 : State) (ys : List ℕ) → Reached default_config st.StartRecord xs reached s2 ys
+    → (rest : List (List (List ℕ))) × (records default_config xs ≡ reached ++ rest)
+records-front xs reached s2 ys h = reached-front (length xs + 1) st.StartRecord xs reached s2 ys refl (omega arith) h
 
 -- reading stops where a record may begin
-pub reached-begins : (s : State) (xs : List ℕ) (rows : List (List (List ℕ))) (s2 : State) (ys : List ℕ) → IsStart s → Reached default_config s xs rows s2 ys → IsStart s2
+pub reached-begins : (s : State) (xs : List ℕ) (reached : List (List (List ℕ))) (s2 : State) (ys : List ℕ) → IsStart s → Reached default_config s xs reached s2 ys → IsStart s2
 unfolding Reached
 reached-begins s xs [] s2 ys start h = subst IsStart h.0 start
-reached-begins s xs (r ∷ rows) s2 ys start h = reached-begins h.0.1 h.0.2 rows s2 ys (some-begins _ h.0 h.1 (next-begins s [] [] xs)) h.3
+reached-begins s xs (r ∷ reached) s2 ys start h = reached-begins h.0.1 h.0.2 reached s2 ys (some-begins _ h.0 h.1 (next-begins s [] [] xs)) h.3
 
 -- to read a record takes a byte
-pub reached-less : (s : State) (xs : List ℕ) (row : List (List ℕ)) (s2 : State) (ys : List ℕ) → IsStart s → Reached default_config s xs (row ∷ []) s2 ys → length ys < length xs
+pub reached-less : (s : State) (xs : List ℕ) (fields : List (List ℕ)) (s2 : State) (ys : List ℕ) → IsStart s → Reached default_config s xs (fields ∷ []) s2 ys → length ys < length xs
 unfolding Reached
-reached-less s xs row s2 ys start h = subst (λ zs. length zs < length xs) h.3.1 (next-less default_config s [] [] xs h.0 start h.1)
+reached-less s xs fields s2 ys start h = subst (λ zs. length zs < length xs) h.3.1 (next-less default_config s [] [] xs h.0 start h.1)

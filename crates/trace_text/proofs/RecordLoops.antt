@@ -31,26 +31,26 @@ pub bytes_left : Reader (Bor (List ℕ)) → ℕ
 bytes_left reader = length_of (source_of bytes_of reader)
 
 -- one more record
-pub HasRead-more : (text : List ℕ) (a b : Reader (Bor (List ℕ))) (done : List (List (List ℕ))) (row : List (List ℕ))
-    → HasRead text a done → ReadRecord bytes_of a b true row → b.first ≡ true → b.flexible ≡ a.flexible → HasRead text b (done ++ (row ∷ []))
-HasRead-more text a b done row h r first same =
-    let m = rows-more bytes_of a b row default_config st.StartRecord (strip_bom text) h.left done h.config h.source h.reached r in
+pub HasRead-more : (text : List ℕ) (a b : Reader (Bor (List ℕ))) (done : List (List (List ℕ))) (fields : List (List ℕ))
+    → HasRead text a done → ReadRecord bytes_of a b true fields → b.first ≡ true → b.flexible ≡ a.flexible → HasRead text b (done ++ (fields ∷ []))
+HasRead-more text a b done fields h r first same =
+    let m = rows-more bytes_of a b fields default_config st.StartRecord (strip_bom text) h.left done h.config h.source h.reached r in
     record { plain = r.3 ∙ h.plain; flexible = same ∙ h.flexible; ready = inl first; config = r.2 ∙ h.config; left = m.0; source = m.1; reached = m.2 }
 
 -- a record takes a byte
-pub HasRead-less : (text : List ℕ) (a b : Reader (Bor (List ℕ))) (done : List (List (List ℕ))) (row : List (List ℕ))
-    → HasRead text a done → ReadRecord bytes_of a b true row → bytes_left b < bytes_left a
+pub HasRead-less : (text : List ℕ) (a b : Reader (Bor (List ℕ))) (done : List (List (List ℕ))) (fields : List (List ℕ))
+    → HasRead text a done → ReadRecord bytes_of a b true fields → bytes_left b < bytes_left a
 unfolding Reached bytes_left length_of
-HasRead-less text a b done row h r =
-    let m = rows-more bytes_of a b row default_config a.state h.left h.left [] h.config h.source (refl, refl) r in
-    let less = reached-less a.state h.left row b.state m.0 (reached-begins st.StartRecord (strip_bom text) done a.state h.left refl h.reached) m.2 in
+HasRead-less text a b done fields h r =
+    let m = rows-more bytes_of a b fields default_config a.state h.left h.left [] h.config h.source (refl, refl) r in
+    let less = reached-less a.state h.left fields b.state m.0 (reached-begins st.StartRecord (strip_bom text) done a.state h.left refl h.reached) m.2 in
     rw (h.source, m.1) less
 
 -- where no record is left, all were read
-pub HasRead-all : (text : List ℕ) (a b : Reader (Bor (List ℕ))) (done : List (List (List ℕ))) (row : List (List ℕ))
-    → HasRead text a done → ReadRecord bytes_of a b false row → records default_config (strip_bom text) ≡ done
-HasRead-all text a b done row h r =
-    are-records (strip_bom text) done (a.state, h.left, h.reached, rows-end bytes_of a b row default_config h.left h.config h.source r)
+pub HasRead-all : (text : List ℕ) (a b : Reader (Bor (List ℕ))) (done : List (List (List ℕ))) (fields : List (List ℕ))
+    → HasRead text a done → ReadRecord bytes_of a b false fields → records default_config (strip_bom text) ≡ done
+HasRead-all text a b done fields h r =
+    are-records (strip_bom text) done (a.state, h.left, h.reached, rows-end bytes_of a b fields default_config h.left h.config h.source r)
 
 -- what was read is a front of the records
 pub HasRead-front : (text : List ℕ) (a : Reader (Bor (List ℕ))) (done : List (List (List ℕ))) → HasRead text a done

@@ -29,7 +29,7 @@ read_result (Ok a) f x h = (a, refl, h)
 read_result (Err e) f x h = cc h
 
 -- a record of so many fields is their list
-four_fields : (row : List (List ℕ)) → length row ≡ 4 → row ≡ field_of row 0 ∷ field_of row 1 ∷ field_of row 2 ∷ field_of row 3 ∷ []
+four_fields : (fields : List (List ℕ)) → length fields ≡ 4 → fields ≡ field_of fields 0 ∷ field_of fields 1 ∷ field_of fields 2 ∷ field_of fields 3 ∷ []
 unfolding field_at
 four_fields [] h = absurd (omega (arith, h))
 four_fields (a ∷ []) h = absurd (omega (arith, h))
@@ -38,25 +38,25 @@ four_fields (a ∷ b ∷ c ∷ []) h = absurd (omega (arith, h))
 four_fields (a ∷ b ∷ c ∷ d ∷ []) h = refl
 four_fields (a ∷ b ∷ c ∷ d ∷ e ∷ more) h = let l : suc (suc (suc (suc (suc (length more))))) ≡ 4 = h in absurd (omega (arith, l))
 
-two_fields : (row : List (List ℕ)) → length row ≡ 2 → row ≡ field_of row 0 ∷ field_of row 1 ∷ []
+two_fields : (fields : List (List ℕ)) → length fields ≡ 2 → fields ≡ field_of fields 0 ∷ field_of fields 1 ∷ []
 unfolding field_at
 two_fields [] h = absurd (omega (arith, h))
 two_fields (a ∷ []) h = absurd (omega (arith, h))
 two_fields (a ∷ b ∷ []) h = refl
 two_fields (a ∷ b ∷ c ∷ more) h = let l : suc (suc (suc (length more))) ≡ 2 = h in absurd (omega (arith, l))
 
-pub four_are : (row : List (List ℕ)) (a b c d : List ℕ) → length row ≡ 4 → field_of row 0 ≡ a → field_of row 1 ≡ b → field_of row 2 ≡ c → field_of row 3 ≡ d → row ≡ a ∷ b ∷ c ∷ d ∷ []
-four_are row a b c d l p q r s = let e = four_fields row l in cc
+pub four_are : (fields : List (List ℕ)) (a b c d : List ℕ) → length fields ≡ 4 → field_of fields 0 ≡ a → field_of fields 1 ≡ b → field_of fields 2 ≡ c → field_of fields 3 ≡ d → fields ≡ a ∷ b ∷ c ∷ d ∷ []
+four_are fields a b c d l p q r s = let e = four_fields fields l in cc
 
-pub two_are : (row : List (List ℕ)) (a b : List ℕ) → length row ≡ 2 → field_of row 0 ≡ a → field_of row 1 ≡ b → row ≡ a ∷ b ∷ []
-two_are row a b l p q = let e = two_fields row l in cc
+pub two_are : (fields : List (List ℕ)) (a b : List ℕ) → length fields ≡ 2 → field_of fields 0 ≡ a → field_of fields 1 ≡ b → fields ≡ a ∷ b ∷ []
+two_are fields a b l p q = let e = two_fields fields l in cc
 
 -- one record more, after records that are known
-pub append_one : (rows before : List (List (List ℕ))) (row r : List (List ℕ)) → rows ≡ before → row ≡ r → rows ++ row ∷ [] ≡ before ++ r ∷ []
-append_one rows before row r e f = rw (e, f) refl
+pub append_one : (records before : List (List (List ℕ))) (fields r : List (List ℕ)) → records ≡ before → fields ≡ r → records ++ fields ∷ [] ≡ before ++ r ∷ []
+append_one records before fields r e f = rw (e, f) refl
 
 -- a record whose first field isn't empty is that field and the others
-pub first_field : (row : List (List ℕ)) (b : ℕ) (bs : List ℕ) → field_of row 0 ≡ b ∷ bs → row ≡ (b ∷ bs) ∷ drop 1 row
+pub first_field : (fields : List (List ℕ)) (b : ℕ) (bs : List ℕ) → field_of fields 0 ≡ b ∷ bs → fields ≡ (b ∷ bs) ∷ drop 1 fields
 unfolding field_at
 first_field [] b bs h = cc h
-first_field (f ∷ row) b bs h = ap (λ g. g ∷ row) h
+first_field (f ∷ fields) b bs h = ap (λ g. g ∷ fields) h

@@ -48,52 +48,52 @@ part : {A B : Type 0} (o : Option A) (e : TextError) (f : A → Result B TextErr
 part None e f h k = record { reason = h }
 part (Some x) e f h k = k x
 
-of_size : (row : List (List ℕ)) → IsOfRecords (size_stage row)
-of_size row = part (number_of (field_of row 2)) BadSize _ refl (λ n. part (number_of (field_of row 3)) BadSize _ refl (λ t. either (is_size n t) (good (Sized n t)) (bad BadSize refl)))
+of_size : (fields : List (List ℕ)) → IsOfRecords (size_stage fields)
+of_size fields = part (number_of (field_of fields 2)) BadSize _ refl (λ n. part (number_of (field_of fields 3)) BadSize _ refl (λ t. either (is_size n t) (good (Sized n t)) (bad BadSize refl)))
 
-of_header : (row : List (List ℕ)) → IsOfRecords (header_stage row)
-of_header row =
-    either ((length row == 4) && bytes_eq (field_of row 0) (codes "dls-trace"))
-    (either (bytes_eq (field_of row 1) (codes "1")) (of_size row) (bad BadVersion refl))
+of_header : (fields : List (List ℕ)) → IsOfRecords (header_stage fields)
+of_header fields =
+    either ((length fields == 4) && bytes_eq (field_of fields 0) (codes "dls-trace"))
+    (either (bytes_eq (field_of fields 1) (codes "1")) (of_size fields) (bad BadVersion refl))
     (bad BadHeader refl)
 
 of_values : (n t : ℕ) (values : List ℕ) → IsOfRecords (started n t values)
 of_values n t values = either (is_none (config_refusal n t (length values))) (good _) (bad BadInit refl)
 
-of_init : (n t : ℕ) (row : List (List ℕ)) → IsOfRecords (init_stage n t row)
-of_init n t row = either (bytes_eq (field_of row 0) (codes "init")) (part (numbers_of (drop 1 row)) BadInit _ refl (of_values n t)) (bad BadInit refl)
+of_init : (n t : ℕ) (fields : List (List ℕ)) → IsOfRecords (init_stage n t fields)
+of_init n t fields = either (bytes_eq (field_of fields 0) (codes "init")) (part (numbers_of (drop 1 fields)) BadInit _ refl (of_values n t)) (bad BadInit refl)
 
-of_fields : (at : ℕ) (row : List (List ℕ)) → IsOfRecords (step_of at row)
-of_fields at row =
-    part (operation_of (field_of row 2)) (BadOp at) _ refl (λ o. part (number_of (field_of row 1)) (BadNumber at) _ refl
-    (λ p. part (act_of o (field_of row 3)) (BadNumber at) _ refl (λ a. good _)))
+of_fields : (at : ℕ) (fields : List (List ℕ)) → IsOfRecords (step_of at fields)
+of_fields at fields =
+    part (operation_of (field_of fields 2)) (BadOp at) _ refl (λ o. part (number_of (field_of fields 1)) (BadNumber at) _ refl
+    (λ p. part (act_of o (field_of fields 3)) (BadNumber at) _ refl (λ a. good _)))
 
 of_push : (t : Recorded) (x : Step) (o : Option PushError) → IsOfRecords (pushed t x o)
 of_push t x None = good _
 of_push t x (Some e) = bad (BadStep _ e) refl
 
-of_step : (t : Recorded) (row : List (List ℕ)) → IsOfRecords (step_stage t row)
-of_step t row =
-    either (length row == 4)
-    (either (bytes_eq (field_of row 0) (decimal (length t.steps + 1)))
-    (then (step_of (length t.steps + 1) row) _ (of_fields (length t.steps + 1) row) (λ x. of_push t x (refusal t.config t.steps x)))
+of_step : (t : Recorded) (fields : List (List ℕ)) → IsOfRecords (step_stage t fields)
+of_step t fields =
+    either (length fields == 4)
+    (either (bytes_eq (field_of fields 0) (decimal (length t.steps + 1)))
+    (then (step_of (length t.steps + 1) fields) _ (of_fields (length t.steps + 1) fields) (λ x. of_push t x (refusal t.config t.steps x)))
     (bad (WrongNumber (length t.steps + 1)) refl))
     (bad (BadFields (length t.steps + 1)) refl)
 
-of_end : (t : Recorded) (row : List (List ℕ)) → IsOfRecords (end_stage t row)
-of_end t row =
-    either (length row == 2) (either (bytes_eq (field_of row 1) (decimal (length t.steps))) (good (Ended t)) (bad WrongEnd refl))
+of_end : (t : Recorded) (fields : List (List ℕ)) → IsOfRecords (end_stage t fields)
+of_end t fields =
+    either (length fields == 2) (either (bytes_eq (field_of fields 1) (decimal (length t.steps))) (good (Ended t)) (bad WrongEnd refl))
     (bad (BadFields (length t.steps + 1)) refl)
 
-of_next : (s : Stage) (row : List (List ℕ)) → IsOfRecords (next_stage s row)
-of_next Opening row = of_header row
-of_next (Sized n t) row = of_init n t row
-of_next (Recording t) row = either (bytes_eq (field_of row 0) (codes "end")) (of_end t row) (of_step t row)
-of_next (Ended t) row = bad AfterEnd refl
+of_next : (s : Stage) (fields : List (List ℕ)) → IsOfRecords (next_stage s fields)
+of_next Opening fields = of_header fields
+of_next (Sized n t) fields = of_init n t fields
+of_next (Recording t) fields = either (bytes_eq (field_of fields 0) (codes "end")) (of_end t fields) (of_step t fields)
+of_next (Ended t) fields = bad AfterEnd refl
 
-of_all : (s : Stage) (rows : List (List (List ℕ))) → IsOfRecords (after_records next_stage s rows)
+of_all : (s : Stage) (records : List (List (List ℕ))) → IsOfRecords (after_records next_stage s records)
 of_all s [] = good s
-of_all s (row ∷ rows) = then (next_stage s row) _ (of_next s row) (λ next. of_all next rows)
+of_all s (fields ∷ records) = then (next_stage s fields) _ (of_next s fields) (λ next. of_all next records)
 
 at_end : (s : Stage) → IsOfRecords (trace_at_end s)
 at_end Opening = bad BadHeader refl
@@ -101,13 +101,13 @@ at_end (Sized n t) = bad BadInit refl
 at_end (Recording t) = bad NoEnd refl
 at_end (Ended t) = good t
 
-of_whole : (rows : List (List (List ℕ))) → IsOfRecords (trace_of_records rows)
-of_whole rows = then (after_records next_stage Opening rows) _ (of_all Opening rows) at_end
+of_whole : (records : List (List (List ℕ))) → IsOfRecords (trace_of_records records)
+of_whole records = then (after_records next_stage Opening records) _ (of_all Opening records) at_end
 
 -- a reason that records don't give isn't the answer
-pub never-answered : (rows : List (List (List ℕ))) (e f : TextError) → is_of_records f ≡ false → is_memory f ≡ false → MatchBool (is_memory e) ⊤ (trace_of_records rows ≡ Err e) → e ≢ f
-never-answered rows e f other unless h same =
-    let g : MatchBool (is_memory f) ⊤ (trace_of_records rows ≡ Err f) = rw same at h in
-    let given : trace_of_records rows ≡ Err f = rw unless at g in
-    let of : is_of_records f ≡ true = (rw given at (of_whole rows)).reason in
+pub never-answered : (records : List (List (List ℕ))) (e f : TextError) → is_of_records f ≡ false → is_memory f ≡ false → MatchBool (is_memory e) ⊤ (trace_of_records records ≡ Err e) → e ≢ f
+never-answered records e f other unless h same =
+    let g : MatchBool (is_memory f) ⊤ (trace_of_records records ≡ Err f) = rw same at h in
+    let given : trace_of_records records ≡ Err f = rw unless at g in
+    let of : is_of_records f ≡ true = (rw given at (of_whole records)).reason in
     cc (of, other)

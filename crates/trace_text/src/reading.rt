@@ -38,11 +38,14 @@ pub fn read_trace(alloc: Global, text: &[u8]) -> Result<Trace, TextError>
     ensures stands { IfOk result (λ t. StandsFor text.now t) }
     ensures size { OnOk result (length text.now ≤ MAX_TEXT_BYTES) }
     ensures sound { IfOk result (λ t. IsTrace t) }
-    ensures complete { (t : Recorded) → IsTrace t → StandsFor text.now t → length text.now ≤ MAX_TEXT_BYTES → MatchResult result (λ u. u ≡ t) (λ e. e ≡ TextError.Memory) }
+    ensures complete { (t : Recorded) → IsTrace t → StandsFor text.now t
+        → length text.now ≤ MAX_TEXT_BYTES
+        → MatchResult result (λ u. u ≡ t) (λ e. e ≡ TextError.Memory) }
     ensures too_large { IsErrOf result TextError.TooLarge ↔ (MAX_TEXT_BYTES < length text.now) }
     ensures no_fault { IfErr result (λ e. e ≢ TextError.Read) }
     ensures refused { IfErr result (λ e. IsFirstRefusal text.now e) }
-    ensures unique { (t u : Recorded) → IsTrace t → IsTrace u → StandsFor text.now t → StandsFor text.now u → t ≡ u }
+    ensures unique { (t u : Recorded) → IsTrace t → IsTrace u → StandsFor text.now t
+        → StandsFor text.now u → t ≡ u }
 {
     if text.len() > MAX_TEXT_BYTES {
         return Err(TextError::TooLarge);
@@ -154,8 +157,10 @@ fn read_init(alloc: Global, n: u64, t: u64, fields: &ByteRecord) -> Result<Stage
 
 // `no,proc,op,arg`
 fn read_step(alloc: Global, trace: &mut Trace, fields: &ByteRecord) -> Result<(), TextError>
-    ensures stage { LeadsTo result (Stage.Recording trace.new) (step_stage trace.old (fields_of fields.now)) }
-    ensures more { WantsOnlyWhere is_memory result (step_record_keeps trace.old (fields_of fields.now)) }
+    ensures stage { LeadsTo result (Stage.Recording trace.new)
+        (step_stage trace.old (fields_of fields.now)) }
+    ensures more { WantsOnlyWhere is_memory result
+        (step_record_keeps trace.old (fields_of fields.now)) }
 {
     let no = trace.len() as u64 + 1;
     if fields.len() != 4 {
@@ -204,7 +209,9 @@ fn act_of(alloc: Global, no: u64, operation: Operation, arg: &[u8]) -> Result<Ac
 }
 
 fn received(alloc: Global, no: u64, arg: &[u8], ends: bool) -> Result<Act, TextError>
-    ensures act { Gives result (ok_or (option_map (λ ids. Act.Receive ends ids) (ids_of arg.now)) (TextError.BadNumber no)) }
+    ensures act { Gives result
+        (ok_or (option_map (λ ids. Act.Receive ends ids) (ids_of arg.now))
+        (TextError.BadNumber no)) }
     ensures more { WantsOnlyWhere is_memory result (begins_with_number (parts_of arg.now)) }
 {
     let Ok(ids) = ids(alloc, arg) else {
@@ -221,7 +228,9 @@ fn received(alloc: Global, no: u64, arg: &[u8], ends: bool) -> Result<Act, TextE
 
 // `end,L`
 fn check_end(trace: &Trace, fields: &ByteRecord) -> Result<(), TextError>
-    ensures { MatchResult result (λ _. end_stage trace.now (fields_of fields.now) ≡ Ok (Stage.Ended trace.now)) (λ e. end_stage trace.now (fields_of fields.now) ≡ Err e) }
+    ensures { MatchResult result
+        (λ _. end_stage trace.now (fields_of fields.now) ≡ Ok (Stage.Ended trace.now))
+        (λ e. end_stage trace.now (fields_of fields.now) ≡ Err e) }
 {
     let steps = trace.len() as u64;
     if fields.len() != 2 {

@@ -26,7 +26,8 @@ pub trait TakeRecords {
 
     /// Takes in one more record. Where it is refused, what it was taken into is of no more use.
     fn take(&mut self, alloc: Global, fields: &ByteRecord) -> Result<(), Self::Error>
-        ensures next { ReachesUnless is_memory result self.new (next self.old (fields_of fields.now)) }
+        ensures next { ReachesUnless is_memory result self.new
+            (next self.old (fields_of fields.now)) }
         ensures more { WantsOnlyWhere is_memory result (keeps self.old (fields_of fields.now)) };
 
     /// The refusal for want of memory.
@@ -41,7 +42,8 @@ pub fn read_records<T: TakeRecords>(
     text: &[u8],
     taker: &mut T,
 ) -> Result<(), T::Error>
-    ensures { ReachesUnless T.is_memory result taker.new (after_records T.next taker.old (records_of_text text.now)) }
+    ensures { ReachesUnless T.is_memory result taker.new
+        (after_records T.next taker.old (records_of_text text.now)) }
 {
     let mut reader = ReaderBuilder::new()
         .has_headers(false)

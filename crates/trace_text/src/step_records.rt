@@ -22,7 +22,8 @@ pub(crate) enum Operation {
 /// The numbers of all fields but the first, unless one isn't a number. Memory is taken for the first
 /// number and those after it.
 pub(crate) fn values(alloc: Global, fields: &ByteRecord) -> Result<Option<Vec<u64>>, AllocError>
-    ensures numbers { IfOk result (λ o. option_map (λ v. v.items) o ≡ numbers_of (drop 1 (fields_of fields.now))) }
+    ensures numbers { IfOk result
+        (λ o. option_map (λ v. v.items) o ≡ numbers_of (drop 1 (fields_of fields.now))) }
     ensures more { IsErr result → IsTrue (begins_with_number (drop 1 (fields_of fields.now))) }
 {
     let mut values = Vec::new(alloc);

@@ -77,99 +77,103 @@ fn forms_of_one_miss(rt: HostRuntime) -> Result<(), Fail> {
     Ok(())
 }
 
+const BAD_STARTS: &[(&str, &str)] = &[
+    ("", "BadHeader"),
+    ("\n\n", "BadHeader"),
+    ("dls-trace,1,2", "BadHeader"),
+    ("dls-trace,1,2,0,", "BadHeader"),
+    ("dls-traces,2,2,0", "BadHeader"),
+    ("dls-trace,3,2,0", "BadVersion"),
+    ("dls-trace,01,1,0", "BadVersion"),
+    ("dls-trace,1,1,0", "BadSize"),
+    ("dls-trace,1,17,0", "BadSize"),
+    ("dls-trace,1,2,1", "BadSize"),
+    ("dls-trace,1,16,8", "BadSize"),
+    ("dls-trace,1,02,0", "BadSize"),
+    ("dls-trace,1,2,+0", "BadSize"),
+    ("dls-trace,1,,0", "BadSize"),
+    ("dls-trace,1,18446744073709551615,0", "BadSize"),
+    ("dls-trace,1,3,18446744073709551615", "BadSize"),
+];
+
 #[test]
 fn bad_starts(rt: HostRuntime) -> Result<(), AllocError> {
-    let rows = [
-        ("", "BadHeader"),
-        ("\n\n", "BadHeader"),
-        ("dls-trace,1,2", "BadHeader"),
-        ("dls-trace,1,2,0,", "BadHeader"),
-        ("dls-traces,2,2,0", "BadHeader"),
-        ("dls-trace,3,2,0", "BadVersion"),
-        ("dls-trace,01,1,0", "BadVersion"),
-        ("dls-trace,1,1,0", "BadSize"),
-        ("dls-trace,1,17,0", "BadSize"),
-        ("dls-trace,1,2,1", "BadSize"),
-        ("dls-trace,1,16,8", "BadSize"),
-        ("dls-trace,1,02,0", "BadSize"),
-        ("dls-trace,1,2,+0", "BadSize"),
-        ("dls-trace,1,,0", "BadSize"),
-        ("dls-trace,1,18446744073709551615,0", "BadSize"),
-        ("dls-trace,1,3,18446744073709551615", "BadSize"),
-    ];
-    for (text, wanted) in rows {
+    for &(text, wanted) in BAD_STARTS {
         assert!(rt; is_answer(rt.alloc(), text.as_bytes(), wanted)?, "{text}");
     }
     Ok(())
 }
+
+const INITIAL_VALUES: &[(&str, &str)] = &[
+    ("dls-trace,1,2,0\n", "BadInit"),
+    ("dls-trace,1,2,0\ninit,5", "BadInit"),
+    ("dls-trace,1,2,0\ninit,5,7,9", "BadInit"),
+    ("dls-trace,1,2,0\ninit,5,x", "BadInit"),
+    ("dls-trace,1,2,0\ninit,5,18446744073709551616", "BadInit"),
+    ("dls-trace,1,2,0\ninits,5,7", "BadInit"),
+    (
+        "dls-trace,1,2,0\ninit,5,18446744073709551615\nend,0",
+        "accepted",
+    ),
+    (
+        "dls-trace,1,16,7\ninit,1,2,3,4,5,6,7,8,9,0,1,2,3,4,5,6\nend,0",
+        "accepted",
+    ),
+];
 
 #[test]
 fn initial_values(rt: HostRuntime) -> Result<(), AllocError> {
-    let rows = [
-        ("dls-trace,1,2,0\n", "BadInit"),
-        ("dls-trace,1,2,0\ninit,5", "BadInit"),
-        ("dls-trace,1,2,0\ninit,5,7,9", "BadInit"),
-        ("dls-trace,1,2,0\ninit,5,x", "BadInit"),
-        ("dls-trace,1,2,0\ninit,5,18446744073709551616", "BadInit"),
-        ("dls-trace,1,2,0\ninits,5,7", "BadInit"),
-        (
-            "dls-trace,1,2,0\ninit,5,18446744073709551615\nend,0",
-            "accepted",
-        ),
-        (
-            "dls-trace,1,16,7\ninit,1,2,3,4,5,6,7,8,9,0,1,2,3,4,5,6\nend,0",
-            "accepted",
-        ),
-    ];
-    for (text, wanted) in rows {
+    for &(text, wanted) in INITIAL_VALUES {
         assert!(rt; is_answer(rt.alloc(), text.as_bytes(), wanted)?, "{text}");
     }
     Ok(())
 }
 
+const ENDS: &[(&str, &str)] = &[
+    ("1,1,S,2\n2,2,R,\n3,2,R,1\n", "NoEnd"),
+    ("1,1,S,2\n2,2,R,\n3,2,R,1\nend,4\n", "WrongEnd"),
+    ("1,1,S,2\n2,2,R,\n3,2,R,1\nend,03\n", "WrongEnd"),
+    ("1,1,S,2\n2,2,R,\n3,2,R,1\nend,\n", "WrongEnd"),
+    ("1,1,S,2\n2,2,R,\n3,2,R,1\nend,3\n4,1,R,\n", "AfterEnd"),
+    ("end,0\nend,0\n", "AfterEnd"),
+    ("end,0\n\"\"\n", "AfterEnd"),
+    ("1,1,S,2\nend\n", "BadFields(2)"),
+    ("1,1,S,2\nend,1,2,3\n", "BadFields(2)"),
+];
+
 #[test]
 fn ends(rt: HostRuntime) -> Result<(), AllocError> {
-    let rows = [
-        ("1,1,S,2\n2,2,R,\n3,2,R,1\n", "NoEnd"),
-        ("1,1,S,2\n2,2,R,\n3,2,R,1\nend,4\n", "WrongEnd"),
-        ("1,1,S,2\n2,2,R,\n3,2,R,1\nend,03\n", "WrongEnd"),
-        ("1,1,S,2\n2,2,R,\n3,2,R,1\nend,\n", "WrongEnd"),
-        ("1,1,S,2\n2,2,R,\n3,2,R,1\nend,3\n4,1,R,\n", "AfterEnd"),
-        ("end,0\nend,0\n", "AfterEnd"),
-        ("end,0\n\"\"\n", "AfterEnd"),
-        ("1,1,S,2\nend\n", "BadFields(2)"),
-        ("1,1,S,2\nend,1,2,3\n", "BadFields(2)"),
-    ];
-    for (rest, wanted) in rows {
+    for &(rest, wanted) in ENDS {
         assert!(rt; is_answer_after_init(rt.alloc(), rest, wanted)?, "{rest}");
     }
     Ok(())
 }
 
+const BAD_STEPS: &[(&str, &str)] = &[
+    ("1,1,S\n", "BadFields(1)"),
+    ("01,1,S\n", "BadFields(1)"),
+    ("1,1,S,2,\n", "BadFields(1)"),
+    ("01,1,S,2\n", "WrongNumber(1)"),
+    ("2,1,S,2\n", "WrongNumber(1)"),
+    ("ends,1,S,2\n", "WrongNumber(1)"),
+    ("1,1,S,2\n1,2,R,\n", "WrongNumber(2)"),
+    ("1,1,X,2\n", "BadOp(1)"),
+    ("1,x,SS,x\n", "BadOp(1)"),
+    ("1,1,s,2\n", "BadOp(1)"),
+    ("1,01,S,2\n", "BadNumber(1)"),
+    ("1,18446744073709551616,S,2\n", "BadNumber(1)"),
+    ("1,1,S,\n", "BadNumber(1)"),
+    ("1,1,S,1 2\n", "BadNumber(1)"),
+    ("1,1,S,2\n2,2,R,01\n", "BadNumber(2)"),
+    ("1,1,S,2\n2,2,R, 1\n", "BadNumber(2)"),
+    ("1,1,S,2\n2,2,R,1 \n", "BadNumber(2)"),
+    ("1,1,S,2\n2,1,S,2\n3,2,E,1  2\n", "BadNumber(3)"),
+    ("1,1,S,2\n2,1,S,2\n3,2,E,1 2\nend,3\n", "accepted"),
+];
+
 #[test]
 fn bad_steps(rt: HostRuntime) -> Result<(), AllocError> {
-    let rows = [
-        ("1,1,S\n", "BadFields(1)"),
-        ("01,1,S\n", "BadFields(1)"),
-        ("1,1,S,2,\n", "BadFields(1)"),
-        ("01,1,S,2\n", "WrongNumber(1)"),
-        ("2,1,S,2\n", "WrongNumber(1)"),
-        ("ends,1,S,2\n", "WrongNumber(1)"),
-        ("1,1,S,2\n1,2,R,\n", "WrongNumber(2)"),
-        ("1,1,X,2\n", "BadOp(1)"),
-        ("1,x,SS,x\n", "BadOp(1)"),
-        ("1,1,s,2\n", "BadOp(1)"),
-        ("1,01,S,2\n", "BadNumber(1)"),
-        ("1,18446744073709551616,S,2\n", "BadNumber(1)"),
-        ("1,1,S,\n", "BadNumber(1)"),
-        ("1,1,S,1 2\n", "BadNumber(1)"),
-        ("1,1,S,2\n2,2,R,01\n", "BadNumber(2)"),
-        ("1,1,S,2\n2,2,R, 1\n", "BadNumber(2)"),
-        ("1,1,S,2\n2,2,R,1 \n", "BadNumber(2)"),
-        ("1,1,S,2\n2,1,S,2\n3,2,E,1  2\n", "BadNumber(3)"),
-        ("1,1,S,2\n2,1,S,2\n3,2,E,1 2\nend,3\n", "accepted"),
-    ];
-    for (rest, wanted) in rows {
+    for &(rest, wanted) in BAD_STEPS {
         assert!(rt; is_answer_after_init(rt.alloc(), rest, wanted)?, "{rest}");
     }
     let no_text = b"dls-trace,1,2,0\ninit,5,7\n1,1,\xff,2\n";
@@ -177,19 +181,20 @@ fn bad_steps(rt: HostRuntime) -> Result<(), AllocError> {
     Ok(())
 }
 
+const STEPS_THAT_THE_TRACE_REFUSES: &[(&str, &str)] = &[
+    ("1,3,S,2\n", "BadStep(1, BadProc)"),
+    ("1,0,R,\n", "BadStep(1, BadProc)"),
+    ("1,18446744073709551615,R,\n", "BadStep(1, BadProc)"),
+    ("1,1,S,3\n", "BadStep(1, BadDest)"),
+    ("1,1,S,2\n2,2,R,\n3,2,R,1 1\n", "BadStep(3, IdsNotRising)"),
+    ("1,1,S,2\n2,2,R,1\n3,2,R,1\n", "BadStep(3, Redelivered(1))"),
+    ("1,1,S,1\n2,2,R,1\n", "BadStep(2, NotAddressed(1))"),
+    ("1,1,S,1\n2,2,R,2\n", "BadStep(2, UnknownMessage(2))"),
+];
+
 #[test]
 fn steps_that_the_trace_refuses(rt: HostRuntime) -> Result<(), AllocError> {
-    let rows = [
-        ("1,3,S,2\n", "BadStep(1, BadProc)"),
-        ("1,0,R,\n", "BadStep(1, BadProc)"),
-        ("1,18446744073709551615,R,\n", "BadStep(1, BadProc)"),
-        ("1,1,S,3\n", "BadStep(1, BadDest)"),
-        ("1,1,S,2\n2,2,R,\n3,2,R,1 1\n", "BadStep(3, IdsNotRising)"),
-        ("1,1,S,2\n2,2,R,1\n3,2,R,1\n", "BadStep(3, Redelivered(1))"),
-        ("1,1,S,1\n2,2,R,1\n", "BadStep(2, NotAddressed(1))"),
-        ("1,1,S,1\n2,2,R,2\n", "BadStep(2, UnknownMessage(2))"),
-    ];
-    for (rest, wanted) in rows {
+    for &(rest, wanted) in STEPS_THAT_THE_TRACE_REFUSES {
         assert!(rt; is_answer_after_init(rt.alloc(), rest, wanted)?, "{rest}");
     }
     Ok(())
