@@ -254,11 +254,14 @@ pub fn second_proposer(alloc: Global) -> Result<Node, Fail> {
 /// Node 1 of two processors of which none may be faulty, which heard both list 5.
 pub fn proposer_of_two(alloc: Global) -> Result<Node, Fail> {
     let mut node = Node::new(alloc, 5)?;
-    let one = body(alloc, Says::List(&[5]), &[5])?;
-    let other = body(alloc, Says::List(&[5]), &[5])?;
     let config = config(alloc, 2, 0)?;
-    node.compute(alloc, &config, 1, 1, &[(1, one), (2, other)])?;
+    let lists = [(1, list_of_five(alloc)?), (2, list_of_five(alloc)?)];
+    node.compute(alloc, &config, 1, 1, &lists)?;
     Ok(node)
+}
+
+fn list_of_five(alloc: Global) -> Result<Body, AllocError> {
+    body(alloc, Says::List(&[5]), &[5])
 }
 
 /// A round in which node 1 of two processors hears its own acknowledgement.

@@ -160,14 +160,21 @@ fn least_quorum(rt: HostRuntime) -> Result<(), Fail> {
     Ok(())
 }
 
-// It hears its second proposal acknowledged.
 #[test]
-fn first_decision_stays(rt: HostRuntime) -> Result<(), Fail> {
+fn proposes_after_a_decision(rt: HostRuntime) -> Result<(), Fail> {
     let alloc = rt.alloc();
     let mut node = second_proposer(alloc)?;
     assert!(rt; has_state(&node, &[5, 7], &[], Some(5), false, Some(7)));
     hear(&mut node, alloc, 1, 14, 1, Says::Lock(5), &[5])?;
-    assert!(rt; node.ack() && node.proposal() == Some(5));
+    assert!(rt; has_state(&node, &[5, 7], &[(5, 4)], Some(5), true, Some(7)));
+    Ok(())
+}
+
+#[test]
+fn first_decision_stays(rt: HostRuntime) -> Result<(), Fail> {
+    let alloc = rt.alloc();
+    let mut node = second_proposer(alloc)?;
+    hear(&mut node, alloc, 1, 14, 1, Says::Lock(5), &[5])?;
     hear_two(
         &mut node,
         alloc,
