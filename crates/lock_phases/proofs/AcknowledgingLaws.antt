@@ -18,6 +18,7 @@ pub record AcknowledgingKeeps (s after : State) : Type 0 where
   pub proposal : after.proposal ≡ None
   pub owes_ack : after.owes_ack ≡ false
 
+-- so an acknowledging round does
 pub acknowledging-keeps : (c : Setup) (s : State) (me round : ℕ) (heard : List Message) → part_of round ≡ 3 → AcknowledgingKeeps s (next c s me round heard)
 acknowledging-keeps c s me round heard e =
     let n = next-in Acknowledging c s me round heard (part_at-acknowledging round e) in

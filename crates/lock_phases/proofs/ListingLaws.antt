@@ -20,6 +20,7 @@ pub record ListingKeeps (s after : State) : Type 0 where
   pub owes_ack : after.owes_ack ≡ s.owes_ack
   pub decision : after.decision ≡ s.decision
 
+-- so a listing round does
 pub listing-keeps : (c : Setup) (s : State) (me round : ℕ) (heard : List Message) → part_of round ≡ 1 → ListingKeeps s (next c s me round heard)
 listing-keeps c s me round heard e =
     let n = next-in Listing c s me round heard (part_at-listing round e) in

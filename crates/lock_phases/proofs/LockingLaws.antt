@@ -17,6 +17,7 @@ pub record AfterLockingKeeps (s after : State) : Type 0 where
   pub proposal : after.proposal ≡ s.proposal
   pub decision : after.decision ≡ s.decision
 
+-- so locking does
 pub after_locking-keeps : (s : State) (phase : ℕ) (asked : Option ℕ) → AfterLockingKeeps s (after_locking s phase asked)
 after_locking-keeps s phase None = record { proper = refl; proposal = refl; decision = refl }
 after_locking-keeps s phase (Some v) = record { proper = refl; proposal = refl; decision = refl }
@@ -26,6 +27,7 @@ pub record LockingKeeps (s after : State) : Type 0 where
   pub proposal : after.proposal ≡ s.proposal
   pub decision : after.decision ≡ s.decision
 
+-- so a locking round does
 pub locking-keeps : (c : Setup) (s : State) (me round : ℕ) (heard : List Message) → part_of round ≡ 2 → LockingKeeps s (next c s me round heard)
 locking-keeps c s me round heard e =
     let n = next-in Locking c s me round heard (part_at-locking round e) in
@@ -42,6 +44,7 @@ pub record LockingLocks (s after : State) (owner phase : ℕ) (heard : List Mess
   pub held : (lock : LockPair) → Contains s.locks lock → Contains after.locks lock ⊎ Contains after.locks (value_of lock, phase)
   pub flag : after.owes_ack ≡ true → (s.owes_ack ≡ true) ⊎ ((v : ℕ) × Contains after.locks (v, phase))
 
+-- so a locking round changes the locks
 pub locking-locks : (c : Setup) (s : State) (me round : ℕ) (heard : List Message) → part_of round ≡ 2
     → LockingLocks s (next c s me round heard) (owner c.n (phase_of round)) (phase_of round) heard
 locking-locks c s me round heard e = subst (λ x. LockingLocks s x o k heard) (sym n) (go (heard_lock o heard) refl)

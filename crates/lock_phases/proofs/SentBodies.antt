@@ -19,6 +19,7 @@ Says s (Lock v) = s.proposal ≡ Some v
 Says s Ack = s.owes_ack ≡ true
 Says s (Locks pairs) = pairs ≡ s.locks
 
+-- what is sent says so
 kind_sent-says : (part : Part) (s : State) (owner me to : ℕ) (kind : Kind) → kind_sent part s owner me to ≡ Some kind → Says s kind
 kind_sent-says part s owner me to kind e = go part e
   where
@@ -50,6 +51,7 @@ pub record IsSaidBy (s : State) (body : Body) : Type 0 where
   pub says : Says s body.kind
   pub proper : body.proper ≡ s.proper
 
+-- so does each body that is sent
 pub out-said_by : (c : Setup) (s : State) (me round to : ℕ) (body : Body) → out c s me round to ≡ Some body → IsSaidBy s body
 unfolding out
 out-said_by c s me round to body sent = go (kind_sent (part_at (part_of round)) s (owner c.n (phase_of round)) me to) refl sent

@@ -80,6 +80,7 @@ pub record IsDecisionOf (c : Setup) (nodes : ℕ → State) (v : ℕ) : Type 0 w
   pub processor : IsProc c place
   pub decision : (nodes place).decision ≡ Some v
 
+-- each decision in the list of all nodes is one
 pub decisions-of_processor : (c : Setup) (table : Table) (rounds v : ℕ) → Contains (decisions (states_after c table rounds)) v
     → IsDecisionOf c (state_after c table rounds) v
 decisions-of_processor c table rounds v d =
@@ -91,12 +92,14 @@ decisions-of_processor c table rounds v d =
       decision = subst (λ (s : State). s.decision ≡ Some v) (sym p.2) node.2;
     }
 
+-- agreement, of the list of all nodes
 pub AgreeAll-states_after : (c : Setup) (table : Table) (rounds : ℕ) → IsSetup c → AgreeAll (states_after c table rounds)
 AgreeAll-states_after c table rounds setup v w d e =
     let p = decisions-of_processor c table rounds v d in
     let q = decisions-of_processor c table rounds w e in
     decisions-same c table rounds setup p.place q.place v w p.decision q.decision
 
+-- validity, of the list of all nodes
 pub AreInitialValues-states_after : (c : Setup) (table : Table) (rounds : ℕ) → IsSetup c → AreInitialValues c (states_after c table rounds)
 AreInitialValues-states_after c table rounds setup v d =
     let p = decisions-of_processor c table rounds v d in
