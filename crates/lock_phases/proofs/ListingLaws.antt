@@ -14,7 +14,7 @@ use Rattle.lock_phases.proofs.Counting.{count_by-disjoint, count_by-filter_map}
 use Rattle.lock_phases.proofs.RoundLaws.{part_at-listing, next-in}
 use Rattle.lock_phases.proofs.QuorumLaws.{IsLeastListed-from_some}
 
--- a listing round changes no lock, flag or decision
+-- a listing round changes no lock, no decision and nothing that is owed
 pub record ListingKeeps (s after : State) : Type 0 where
   pub locks : after.locks ≡ s.locks
   pub owes_ack : after.owes_ack ≡ s.owes_ack

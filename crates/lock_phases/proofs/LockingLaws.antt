@@ -42,7 +42,7 @@ locking-keeps c s me round heard e =
 pub record LockingLocks (s after : State) (owner phase : ℕ) (heard : List Message) : Type 0 where
   pub fresh : (lock : LockPair) → Contains after.locks lock → Contains s.locks lock ⊎ ((phase_of_lock lock ≡ phase) × IsToldToLock owner heard (value_of lock))
   pub held : (lock : LockPair) → Contains s.locks lock → Contains after.locks lock ⊎ Contains after.locks (value_of lock, phase)
-  pub flag : after.owes_ack ≡ true → (s.owes_ack ≡ true) ⊎ ((v : ℕ) × Contains after.locks (v, phase))
+  pub owes : after.owes_ack ≡ true → (s.owes_ack ≡ true) ⊎ ((v : ℕ) × Contains after.locks (v, phase))
 
 -- so a locking round changes the locks
 pub locking-locks : (c : Setup) (s : State) (me round : ℕ) (heard : List Message) → part_of round ≡ 2
@@ -69,9 +69,9 @@ locking-locks c s me round heard e = subst (λ x. LockingLocks s x o k heard) (s
     held v lock c false t = inl (Contains-put_lock_old v k s.locks lock c (λ h. let clash = sym (eq-eqb (value_of lock) v h) ∙ t in cc))
 
     go : (a : Option ℕ) → heard_lock o heard ≡ a → LockingLocks s (after_locking (with_proper_heard s heard) k a) o k heard
-    go None h = record { fresh = λ lock d. inl d; held = λ lock d. inl d; flag = λ f. inl f }
+    go None h = record { fresh = λ lock d. inl d; held = λ lock d. inl d; owes = λ f. inl f }
     go (Some v) h = record {
       fresh = λ lock d. fresh v h lock (Contains-put_lock_cases v k s.locks lock d);
       held = λ lock d. held v lock d (eqb (value_of lock) v) refl;
-      flag = λ f. inr (v, Contains-put_lock_new v k s.locks);
+      owes = λ f. inr (v, Contains-put_lock_new v k s.locks);
     }

@@ -80,7 +80,7 @@ listed-said_by s body v said d = go body.kind said.says d
 pub lock-said_by : (s : State) (body : Body) (v : ℕ) → IsSaidBy s body → body.kind ≡ Lock v → s.proposal ≡ Some v
 lock-said_by s body v said e = subst (Says s) e said.says
 
--- an acknowledgement says that the flag is set
+-- an acknowledgement says that its sender owes it
 pub ack-said_by : (s : State) (body : Body) → IsSaidBy s body → is_ack body.kind ≡ true → s.owes_ack ≡ true
 ack-said_by s body said e = go body.kind said.says e
   where

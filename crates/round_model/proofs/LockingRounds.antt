@@ -30,7 +30,7 @@ IsSafe-locking c table nodes round e safe = record {
   fresh = record { proposed = λ _ j lock d h. proposed j lock h (fresh j lock d) };
   flags = record {
     acknowledging = λ j f. refl;
-    locked = λ j f. flagged j ((locks j).flag f);
+    locked = λ j f. flagged j ((locks j).owes f);
   };
   decisions = record { each = λ j v d. anchored v (safe.decisions.each j v (sym (keeps j).decision ∙ d)) };
 }
