@@ -12,12 +12,13 @@ use Rattle.lock_phases.specs.NodeFunctions.{decides, next_in, next}
 use Rattle.lock_phases.proofs.Counting.{count_by-filter_map}
 use Rattle.lock_phases.proofs.RoundLaws.{part_at-acknowledging, next-in, with_proper_heard}
 
--- an acknowledging round changes no lock, and clears proposal and flag
+-- an acknowledging round changes no lock, and clears the proposal and what is owed
 pub record AcknowledgingKeeps (s after : State) : Type 0 where
   pub locks : after.locks ≡ s.locks
   pub proposal : after.proposal ≡ None
   pub owes_ack : after.owes_ack ≡ false
 
+-- so an acknowledging round does
 pub acknowledging-keeps : (c : Setup) (s : State) (me round : ℕ) (heard : List Message) → part_of round ≡ 3 → AcknowledgingKeeps s (next c s me round heard)
 acknowledging-keeps c s me round heard e =
     let n = next-in Acknowledging c s me round heard (part_at-acknowledging round e) in

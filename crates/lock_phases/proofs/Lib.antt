@@ -12,5 +12,5 @@ pub mod OriginLaws
 pub mod SentBodies
 mod ValuePlaces
 mod LockPlaces
-mod Rising
+pub mod Rising
 mod Growing

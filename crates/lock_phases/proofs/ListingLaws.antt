@@ -14,12 +14,13 @@ use Rattle.lock_phases.proofs.Counting.{count_by-disjoint, count_by-filter_map}
 use Rattle.lock_phases.proofs.RoundLaws.{part_at-listing, next-in}
 use Rattle.lock_phases.proofs.QuorumLaws.{IsLeastListed-from_some}
 
--- a listing round changes no lock, flag or decision
+-- a listing round changes no lock, no decision and nothing that is owed
 pub record ListingKeeps (s after : State) : Type 0 where
   pub locks : after.locks ≡ s.locks
   pub owes_ack : after.owes_ack ≡ s.owes_ack
   pub decision : after.decision ≡ s.decision
 
+-- so a listing round does
 pub listing-keeps : (c : Setup) (s : State) (me round : ℕ) (heard : List Message) → part_of round ≡ 1 → ListingKeeps s (next c s me round heard)
 listing-keeps c s me round heard e =
     let n = next-in Listing c s me round heard (part_at-listing round e) in

@@ -5,12 +5,15 @@ use Rattle.std.proofs.lemmas.Bool.{lt-ltb, le-ltb, ne_eqb}
 use Rattle.lock_phases.specs.Locks.{put_lock}
 use Rattle.lock_phases.specs.Nodes.{LockPair, value_of}
 
+-- a value below the first one is locked before it
 pub put_lock-below : (v p : ℕ) (x : LockPair) (xs : List LockPair) → v < value_of x → put_lock v p (x ∷ xs) ≡ (v, p) ∷ x ∷ xs
 put_lock-below v p x xs h = rw (lt-ltb v (value_of x) h) refl
 
+-- a lock on the first value is replaced
 pub put_lock-same : (v p : ℕ) (x : LockPair) (xs : List LockPair) → v ≡ value_of x → put_lock v p (x ∷ xs) ≡ (v, p) ∷ xs
 put_lock-same v p x xs h = rw (le-ltb v (value_of x) (omega arith), eq-eqb v (value_of x) h) refl
 
+-- a value above the first one is locked after it
 pub put_lock-above : (v p : ℕ) (x : LockPair) (xs : List LockPair) → value_of x < v → put_lock v p (x ∷ xs) ≡ x ∷ put_lock v p xs
 put_lock-above v p x xs h = rw (le-ltb v (value_of x) (omega arith), ne_eqb v (value_of x) (λ e. omega arith)) refl
 

@@ -17,6 +17,7 @@ pub record AfterLockingKeeps (s after : State) : Type 0 where
   pub proposal : after.proposal ≡ s.proposal
   pub decision : after.decision ≡ s.decision
 
+-- so locking does
 pub after_locking-keeps : (s : State) (phase : ℕ) (asked : Option ℕ) → AfterLockingKeeps s (after_locking s phase asked)
 after_locking-keeps s phase None = record { proper = refl; proposal = refl; decision = refl }
 after_locking-keeps s phase (Some v) = record { proper = refl; proposal = refl; decision = refl }
@@ -26,6 +27,7 @@ pub record LockingKeeps (s after : State) : Type 0 where
   pub proposal : after.proposal ≡ s.proposal
   pub decision : after.decision ≡ s.decision
 
+-- so a locking round does
 pub locking-keeps : (c : Setup) (s : State) (me round : ℕ) (heard : List Message) → part_of round ≡ 2 → LockingKeeps s (next c s me round heard)
 locking-keeps c s me round heard e =
     let n = next-in Locking c s me round heard (part_at-locking round e) in
@@ -40,8 +42,9 @@ locking-keeps c s me round heard e =
 pub record LockingLocks (s after : State) (owner phase : ℕ) (heard : List Message) : Type 0 where
   pub fresh : (lock : LockPair) → Contains after.locks lock → Contains s.locks lock ⊎ ((phase_of_lock lock ≡ phase) × IsToldToLock owner heard (value_of lock))
   pub held : (lock : LockPair) → Contains s.locks lock → Contains after.locks lock ⊎ Contains after.locks (value_of lock, phase)
-  pub flag : after.owes_ack ≡ true → (s.owes_ack ≡ true) ⊎ ((v : ℕ) × Contains after.locks (v, phase))
+  pub owes : after.owes_ack ≡ true → (s.owes_ack ≡ true) ⊎ ((v : ℕ) × Contains after.locks (v, phase))
 
+-- so a locking round changes the locks
 pub locking-locks : (c : Setup) (s : State) (me round : ℕ) (heard : List Message) → part_of round ≡ 2
     → LockingLocks s (next c s me round heard) (owner c.n (phase_of round)) (phase_of round) heard
 locking-locks c s me round heard e = subst (λ x. LockingLocks s x o k heard) (sym n) (go (heard_lock o heard) refl)
@@ -66,9 +69,9 @@ locking-locks c s me round heard e = subst (λ x. LockingLocks s x o k heard) (s
     held v lock c false t = inl (Contains-put_lock_old v k s.locks lock c (λ h. let clash = sym (eq-eqb (value_of lock) v h) ∙ t in cc))
 
     go : (a : Option ℕ) → heard_lock o heard ≡ a → LockingLocks s (after_locking (with_proper_heard s heard) k a) o k heard
-    go None h = record { fresh = λ lock d. inl d; held = λ lock d. inl d; flag = λ f. inl f }
+    go None h = record { fresh = λ lock d. inl d; held = λ lock d. inl d; owes = λ f. inl f }
     go (Some v) h = record {
       fresh = λ lock d. fresh v h lock (Contains-put_lock_cases v k s.locks lock d);
       held = λ lock d. held v lock d (eqb (value_of lock) v) refl;
-      flag = λ f. inr (v, Contains-put_lock_new v k s.locks);
+      owes = λ f. inr (v, Contains-put_lock_new v k s.locks);
     }

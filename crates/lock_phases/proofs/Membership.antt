@@ -6,12 +6,15 @@ use Rattle.std.proofs.lemmas.List.Elements.{Contains-append_left, Contains-appen
 use Rattle.std.proofs.lemmas.List.Sums.{length-filter}
 use Rattle.std.proofs.lemmas.List.Folds.{Any-from_list_any, list_any-from_Any}
 
+-- the first element
 pub Contains-head : {X : Type 0} (x : X) (xs : List X) → Contains (x ∷ xs) x
 Contains-head x xs = (zero, omega arith, refl)
 
+-- an element of the rest
 pub Contains-rest : {X : Type 0} (x z : X) (xs : List X) → Contains xs z → Contains (x ∷ xs) z
 Contains-rest x z xs c = (suc c.0, omega (arith, c.1), c.2)
 
+-- an element is the first, or one of the rest
 pub Contains-cons_cases : {X : Type 0} (x z : X) (xs : List X) → Contains (x ∷ xs) z → (z ≡ x) ⊎ Contains xs z
 Contains-cons_cases x z xs c = go c.0 c.1 c.2
   where
@@ -19,6 +22,7 @@ Contains-cons_cases x z xs c = go c.0 c.1 c.2
     go zero l e = inl (sym e)
     go (suc k) l e = inr (k, omega arith, e)
 
+-- an empty list has none
 pub Contains-nil : {X : Type 0} (z : X) → Contains [] z → ⊥
 Contains-nil z c = omega (arith, c.1)
 
@@ -50,6 +54,7 @@ Contains-from_filter p (x ∷ xs) z c = go (p x) refl c (λ rest. Contains-from_
 pub list_any-found : {X : Type 0} (p : X → Bool) (xs : List X) → list_any p xs ≡ true → (x : X) × Contains xs x × (p x ≡ true)
 list_any-found p xs e = let a = Any-from_list_any p xs e in (a.1, (a.0, a.2, a.3), a.4)
 
+-- a test finds an element that passes
 pub list_any-at : {X : Type 0} (p : X → Bool) (xs : List X) (x : X) → Contains xs x → p x ≡ true → list_any p xs ≡ true
 list_any-at p xs x c t = list_any-from_Any p xs (c.0, x, c.1, c.2, t)
 
@@ -61,6 +66,7 @@ count_by-found {X} p xs l = go (filter p xs) refl (rw (length-filter p xs) l)
     go [] e h = absurd (omega arith)
     go (y ∷ ys) e h = let r = Contains-from_filter p xs y (subst (λ zs. Contains zs y) (sym e) (Contains-head y ys)) in (y, r.0, r.1)
 
+-- what stands in the list of an element stands in the joined lists
 pub Contains-flat_map : {X A : Type 0} (f : X → List A) (xs : List X) (x : X) (a : A) → Contains xs x → Contains (f x) a → Contains (flat_map f xs) a
 Contains-flat_map f [] x a c d = absurd (Contains-nil x c)
 Contains-flat_map {A = A} f (y ∷ ys) x a c d = go (Contains-cons_cases y x ys c) (λ rest. Contains-flat_map f ys x a rest d)
@@ -104,6 +110,7 @@ Contains-from_map f (x ∷ xs) y c = elim (Contains-cons_cases (f x) y (map f xs
   | inr k ↦ let r = Contains-from_map f xs y k in (r.0, Contains-rest x r.0 xs r.1, r.2)
 ]
 
+-- what stands in the joined lists stands in the list of an element
 pub Contains-from_flat_map : {X A : Type 0} (f : X → List A) (xs : List X) (a : A) → Contains (flat_map f xs) a → (x : X) × Contains xs x × Contains (f x) a
 Contains-from_flat_map f [] a c = absurd (Contains-nil a c)
 Contains-from_flat_map f (x ∷ xs) a c = elim (Contains-append_cases (f x) (flat_map f xs) a c) [

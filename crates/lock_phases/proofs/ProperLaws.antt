@@ -6,6 +6,7 @@ use Rattle.lock_phases.specs.Messages.{Message, body_of}
 use Rattle.lock_phases.specs.Values.{insert_value, insert_values, take_in}
 use Rattle.lock_phases.proofs.Membership.{Contains-head, Contains-rest, Contains-cons_cases, Contains-nil}
 
+-- a value is the new one, or was there
 Contains-insert_value_cases : (v : ℕ) (xs : List ℕ) (z : ℕ) → Contains (insert_value v xs) z → (z ≡ v) ⊎ Contains xs z
 Contains-insert_value_cases v [] z c = Contains-cons_cases v z [] c
 Contains-insert_value_cases v (x ∷ xs) z c = go (ltb v x) (eqb v x) c (Contains-insert_value_cases v xs z)
@@ -24,6 +25,7 @@ Contains-insert_value_cases v (x ∷ xs) z c = go (ltb v x) (eqb v x) c (Contain
     go false true h f = inr h
     go false false h f = below (lift f (Contains-cons_cases x z (insert_value v xs) h))
 
+-- the new value is there
 Contains-insert_value_new : (v : ℕ) (xs : List ℕ) → Contains (insert_value v xs) v
 Contains-insert_value_new v [] = Contains-head v []
 Contains-insert_value_new v (x ∷ xs) = go (ltb v x) (eqb v x) refl (Contains-insert_value_new v xs)
@@ -33,6 +35,7 @@ Contains-insert_value_new v (x ∷ xs) = go (ltb v x) (eqb v x) refl (Contains-i
     go false true e f = (zero, omega arith, sym (eqb-true v x e))
     go false false e f = Contains-rest x v (insert_value v xs) f
 
+-- a value that was there stays
 Contains-insert_value_old : (v : ℕ) (xs : List ℕ) (z : ℕ) → Contains xs z → Contains (insert_value v xs) z
 Contains-insert_value_old v [] z c = absurd (Contains-nil z c)
 Contains-insert_value_old v (x ∷ xs) z c = go (ltb v x) (eqb v x) c (Contains-insert_value_old v xs z)
@@ -46,6 +49,7 @@ Contains-insert_value_old v (x ∷ xs) z c = go (ltb v x) (eqb v x) c (Contains-
     go false true h f = h
     go false false h f = below f (Contains-cons_cases x z xs h)
 
+-- a value was there, or is one of those put in
 Contains-insert_values_cases : (known vs : List ℕ) (z : ℕ) → Contains (insert_values known vs) z → Contains known z ⊎ Contains vs z
 Contains-insert_values_cases known [] z c = inl c
 Contains-insert_values_cases known (v ∷ vs) z c = outer (Contains-insert_values_cases (insert_value v known) vs z c)
@@ -58,10 +62,12 @@ Contains-insert_values_cases known (v ∷ vs) z c = outer (Contains-insert_value
     outer (inl h) = inner (Contains-insert_value_cases v known z h)
     outer (inr h) = inr (Contains-rest v z vs h)
 
+-- a value that was there stays with all of them
 Contains-insert_values_old : (known vs : List ℕ) (z : ℕ) → Contains known z → Contains (insert_values known vs) z
 Contains-insert_values_old known [] z c = c
 Contains-insert_values_old known (v ∷ vs) z c = Contains-insert_values_old (insert_value v known) vs z (Contains-insert_value_old v known z c)
 
+-- each value that is put in is there
 Contains-insert_values_new : (known vs : List ℕ) (z : ℕ) → Contains vs z → Contains (insert_values known vs) z
 Contains-insert_values_new known [] z c = absurd (Contains-nil z c)
 Contains-insert_values_new known (v ∷ vs) z c = go (Contains-cons_cases v z vs c) (Contains-insert_values_new (insert_value v known) vs z)

@@ -19,6 +19,7 @@ Contains-from_lists m v e =
     let f = list_any-found (λ x. x == v) (listed_values (body_of m).kind) e in
     subst (λ n. Contains (listed_values (body_of m).kind) n) (eqb-true f.0 v f.2) f.1
 
+-- the converse
 pub lists-from_Contains : (m : Message) (v : ℕ) → Contains (listed_values (body_of m).kind) v → lists m v ≡ true
 lists-from_Contains m v c = list_any-at (λ x. x == v) (listed_values (body_of m).kind) v c (eq-eqb v v refl)
 
@@ -28,6 +29,7 @@ record IsLeastFrom (a : ℕ) (xs : List ℕ) (v : ℕ) : Type 0 where
   below : v ≤ a
   each : (u : ℕ) → Contains xs u → v ≤ u
 
+-- the fold that starts with a value gives the least
 fold-lesser : (a : ℕ) (xs : List ℕ) (v : ℕ) → fold lesser (Some a) xs ≡ Some v → IsLeastFrom a xs v
 fold-lesser a [] v e = let same : v ≡ a = cc in record { member = inl same; below = omega arith; each = λ u c. absurd (Contains-nil u c) }
 fold-lesser a (x ∷ xs) v e =
@@ -42,20 +44,24 @@ fold-lesser a (x ∷ xs) v e =
     bound u l f (inl h) = omega arith
     bound u l f (inr h) = f u h
 
+-- it gives some value
 fold-lesser-not_None : (a : ℕ) (xs : List ℕ) → fold lesser (Some a) xs ≡ None → ⊥
 fold-lesser-not_None a [] e = cc
 fold-lesser-not_None a (x ∷ xs) e = fold-lesser-not_None (min a x) xs e
 
+-- the least of some values is one of them
 least-member : (xs : List ℕ) (v : ℕ) → least xs ≡ Some v → Contains xs v
 least-member [] v e = cc
 least-member (x ∷ xs) v e = elim ((fold-lesser x xs v e).member) [ inl h ↦ (zero, omega arith, sym h) | inr h ↦ Contains-rest x v xs h ]
 
+-- and at most each of them
 least-each : (xs : List ℕ) (v u : ℕ) → least xs ≡ Some v → Contains xs u → v ≤ u
 least-each [] v u e c = absurd (Contains-nil u c)
 least-each (x ∷ xs) v u e c =
     let r = fold-lesser x xs v e in
     elim (Contains-cons_cases x u xs c) [ inl h ↦ (let l = r.below in omega arith) | inr h ↦ r.each u h ]
 
+-- only no values have no least one
 least-none : (xs : List ℕ) → least xs ≡ None → xs ≡ []
 least-none [] e = refl
 least-none (x ∷ xs) e = absurd (fold-lesser-not_None x xs e)
@@ -69,6 +75,7 @@ candidate quorum heard u l q =
     (Contains-flat_map (λ n. listed_values (body_of n).kind) heard m.0 u m.1 (Contains-from_lists m.0 u m.2))
     (le-leb quorum (count_by (λ m. lists m u) heard) q)
 
+-- what an owner finds is the least that is in enough lists
 pub IsLeastListed-from_some : (quorum : ℕ) (heard : List Message) (v : ℕ) → 1 ≤ quorum → least_listed quorum heard ≡ Some v → IsLeastListed quorum heard v
 IsLeastListed-from_some quorum heard v l e =
     let values = filter (has_quorum quorum heard) (flat_map (λ m. listed_values (body_of m).kind) heard) in

@@ -19,6 +19,7 @@ pub record ReleasingKeeps (s after : State) (heard : List Message) : Type 0 wher
   pub held : (lock : LockPair) → Contains s.locks lock
       → ((told : LockPair) → IsTold heard told → phase_of_lock lock ≤ phase_of_lock told → value_of told ≡ value_of lock) → Contains after.locks lock
 
+-- so a lock-release round does
 pub releasing-keeps : (c : Setup) (s : State) (me round : ℕ) (heard : List Message) → part_of round ≡ 4 → ReleasingKeeps s (next c s me round heard) heard
 releasing-keeps c s me round heard e = subst (λ x. ReleasingKeeps s x heard) (sym n) (record {
   owes_ack = refl;

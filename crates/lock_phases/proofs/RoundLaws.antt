@@ -12,12 +12,15 @@ use Rattle.lock_phases.specs.NodeFunctions.{kind_sent, out, next_in, next}
 pub round_is : (round : ℕ) → 1 ≤ round → round + 4 ≡ 4 * phase_of round + part_of round
 round_is round l = omega arith
 
+-- the parts count from 1
 pub part_of-low : (round : ℕ) → 1 ≤ part_of round
 part_of-low round = omega arith
 
+-- there are four
 pub part_of-high : (round : ℕ) → part_of round ≤ 4
 part_of-high round = omega arith
 
+-- each round is one of the four
 pub part_of-cases : (round : ℕ) → (part_of round ≡ 1) ⊎ ((part_of round ≡ 2) ⊎ ((part_of round ≡ 3) ⊎ (part_of round ≡ 4)))
 part_of-cases round = go (part_of round) (part_of-low round) (part_of-high round)
   where
@@ -32,6 +35,7 @@ part_of-cases round = go (part_of round) (part_of-low round) (part_of-high round
 pub part_of-next : (round : ℕ) → 1 ≤ round → part_of round < 4 → (part_of (round + 1) ≡ part_of round + 1) × (phase_of (round + 1) ≡ phase_of round)
 part_of-next round l h = (omega arith, omega arith)
 
+-- after a lock-release round the next phase begins
 pub phase_of-next : (round : ℕ) → 1 ≤ round → part_of round ≡ 4 → (part_of (round + 1) ≡ 1) × (phase_of (round + 1) ≡ phase_of round + 1)
 phase_of-next round l h = (omega arith, omega arith)
 
@@ -39,18 +43,23 @@ phase_of-next round l h = (omega arith, omega arith)
 pub owner-low : (n phase : ℕ) → 1 ≤ owner n phase
 owner-low n phase = omega arith
 
+-- of n
 pub owner-high : (n phase : ℕ) → 1 ≤ n → owner n phase ≤ n
 owner-high n phase l = omega arith
 
+-- the first part is the listing round
 pub part_at-listing : (round : ℕ) → part_of round ≡ 1 → part_at (part_of round) ≡ Listing
 part_at-listing round e = ap part_at e
 
+-- the second the locking round
 pub part_at-locking : (round : ℕ) → part_of round ≡ 2 → part_at (part_of round) ≡ Locking
 part_at-locking round e = ap part_at e
 
+-- the third the acknowledging round
 pub part_at-acknowledging : (round : ℕ) → part_of round ≡ 3 → part_at (part_of round) ≡ Acknowledging
 part_at-acknowledging round e = ap part_at e
 
+-- the fourth the lock-release round
 pub part_at-releasing : (round : ℕ) → part_of round ≡ 4 → part_at (part_of round) ≡ Releasing
 part_at-releasing round e = ap part_at e
 

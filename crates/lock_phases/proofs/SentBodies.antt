@@ -19,6 +19,7 @@ Says s (Lock v) = s.proposal ≡ Some v
 Says s Ack = s.owes_ack ≡ true
 Says s (Locks pairs) = pairs ≡ s.locks
 
+-- what is sent says so
 kind_sent-says : (part : Part) (s : State) (owner me to : ℕ) (kind : Kind) → kind_sent part s owner me to ≡ Some kind → Says s kind
 kind_sent-says part s owner me to kind e = go part e
   where
@@ -50,6 +51,7 @@ pub record IsSaidBy (s : State) (body : Body) : Type 0 where
   pub says : Says s body.kind
   pub proper : body.proper ≡ s.proper
 
+-- so does each body that is sent
 pub out-said_by : (c : Setup) (s : State) (me round to : ℕ) (body : Body) → out c s me round to ≡ Some body → IsSaidBy s body
 unfolding out
 out-said_by c s me round to body sent = go (kind_sent (part_at (part_of round)) s (owner c.n (phase_of round)) me to) refl sent
@@ -78,7 +80,7 @@ listed-said_by s body v said d = go body.kind said.says d
 pub lock-said_by : (s : State) (body : Body) (v : ℕ) → IsSaidBy s body → body.kind ≡ Lock v → s.proposal ≡ Some v
 lock-said_by s body v said e = subst (Says s) e said.says
 
--- an acknowledgement says that the flag is set
+-- an acknowledgement says that its sender owes it
 pub ack-said_by : (s : State) (body : Body) → IsSaidBy s body → is_ack body.kind ≡ true → s.owes_ack ≡ true
 ack-said_by s body said e = go body.kind said.says e
   where

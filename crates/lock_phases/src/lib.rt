@@ -8,8 +8,6 @@ mod locks;
 mod nodes;
 mod quorums;
 mod rounds;
-#[cfg(test)]
-mod tests;
 mod values;
 
 pub use bodies::{Body, Kind, LockPairs, Values};

@@ -28,9 +28,21 @@ impl Model for Node {
 
     ghost Value = { State };
 
-    ghost view = { λ a. record { proper = a.proper.items; locks = a.locks.items; proposal = a.proposal; owes_ack = a.owes_ack; decision = a.decision } };
+    ghost view = { λ a. record {
+      proper = a.proper.items;
+      locks = a.locks.items;
+      proposal = a.proposal;
+      owes_ack = a.owes_ack;
+      decision = a.decision;
+    } };
 
-    ghost invariant = { λ a. IsRising (record { proper = a.proper.items; locks = a.locks.items; proposal = a.proposal; owes_ack = a.owes_ack; decision = a.decision }) };
+    ghost invariant = { λ a. IsRising (record {
+      proper = a.proper.items;
+      locks = a.locks.items;
+      proposal = a.proposal;
+      owes_ack = a.owes_ack;
+      decision = a.decision;
+    }) };
 }
 
 impl Node {
@@ -238,8 +250,8 @@ impl Node {
         requires { 1 ≤ round }
         ensures ok { OnOk result (self.new ≡ after_part config.now self.old me round heard.now) }
         ensures err { OnErr result (self.new ≡ self.old) }
-        ensures more { OnErr result
-            (length self.old.locks < length (after_part config.now self.old me round heard.now).locks) }
+        ensures more { OnErr result (length self.old.locks
+            < length (after_part config.now self.old me round heard.now).locks) }
     {
         let phase = phase_of(round);
         let owner = owner(config.n(), phase);
@@ -261,10 +273,11 @@ impl Node {
     }
 
     fn lock(&mut self, owner: u64, phase: u64, heard: &[(u64, Body)]) -> Result<(), AllocError>
-        ensures ok { OnOk result (self.new ≡ after_locking self.old phase (heard_lock owner heard.now)) }
+        ensures ok { OnOk result
+            (self.new ≡ after_locking self.old phase (heard_lock owner heard.now)) }
         ensures err { OnErr result (self.new ≡ self.old) }
-        ensures more { OnErr result
-            (length self.old.locks < length (after_locking self.old phase (heard_lock owner heard.now)).locks) }
+        ensures more { OnErr result (length self.old.locks
+            < length (after_locking self.old phase (heard_lock owner heard.now)).locks) }
     {
         if let Some(v) = heard_lock(owner, heard) {
             put_lock(&mut self.locks, v, phase)?;

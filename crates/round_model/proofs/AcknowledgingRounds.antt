@@ -13,6 +13,7 @@ use Rattle.round_model.specs.RoundStates.{Table, processors, messages_heard}
 use Rattle.round_model.proofs.HeardMessages.{heard_of, heard_of-sender, nodes_after}
 use Rattle.round_model.proofs.Invariants.{is_locked_since, is_locked_since-lock, IsAnchored, holders-kept, IsSafe}
 
+-- the invariants after an acknowledging round
 pub IsSafe-acknowledging : (c : Setup) (table : Table) (nodes : ℕ → State) (round : ℕ) → part_of round ≡ 3 → IsSafe c nodes (phase_of round) 3
     → IsSafe c (nodes_after c table nodes round) (phase_of round) 4
 IsSafe-acknowledging c table nodes round e safe = record {

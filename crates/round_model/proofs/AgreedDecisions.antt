@@ -1,6 +1,7 @@
 -- Agreement: no two processors decide differently, whatever messages are lost.
-use Rattle.std.proofs.Common.{ℕ, ◌≡◌, ◌+◌, ◌≤◌, ◌⊎◌, inl, inr, zero, suc, Some, sym, subst, subst₂, arith}
+use Rattle.std.proofs.Common.{ℕ, ◌≡◌, ◌+◌, ◌-◌, ◌≤◌, ◌⊎◌, inl, inr, zero, suc, Some, sym, subst, subst₂, arith}
 use Rattle.std.specs.Prelude.{Contains}
+use Rattle.std.proofs.lemmas.Bool.{cases_lt}
 use Rattle.step_trace.specs.Configurations.{Setup, IsSetup, IsProc}
 use Rattle.lock_phases.specs.Rounds.{phase_of, part_of}
 use Rattle.lock_phases.specs.Nodes.{State, opening}
@@ -8,7 +9,7 @@ use Rattle.lock_phases.proofs.RoundLaws.{part_of-cases}
 use Rattle.lock_phases.proofs.OriginLaws.{decision-stays}
 use Rattle.lock_phases.proofs.Membership.{Contains-nil, Contains-from_map, Contains-from_filter_map}
 use Rattle.round_model.specs.RoundStates.{Table, processors, initial_value, state_after, states_after}
-use Rattle.round_model.specs.Agreement.{decisions, AgreeAll, AreInitialValues}
+use Rattle.round_model.specs.Agreement.{decisions, AgreeAll, AreInitialValues, Agree, DecidesInitialValue}
 use Rattle.round_model.proofs.HeardMessages.{nodes_after, IsProc-from_processors}
 use Rattle.round_model.proofs.Validity.{HasInitialValues-state_after}
 use Rattle.round_model.proofs.Invariants.{IsAnchored-same, IsSafe}
@@ -80,6 +81,7 @@ pub record IsDecisionOf (c : Setup) (nodes : ℕ → State) (v : ℕ) : Type 0 w
   pub processor : IsProc c place
   pub decision : (nodes place).decision ≡ Some v
 
+-- each decision in the list of all nodes is one
 pub decisions-of_processor : (c : Setup) (table : Table) (rounds v : ℕ) → Contains (decisions (states_after c table rounds)) v
     → IsDecisionOf c (state_after c table rounds) v
 decisions-of_processor c table rounds v d =
@@ -91,13 +93,29 @@ decisions-of_processor c table rounds v d =
       decision = subst (λ (s : State). s.decision ≡ Some v) (sym p.2) node.2;
     }
 
+-- agreement, of the list of all nodes
 pub AgreeAll-states_after : (c : Setup) (table : Table) (rounds : ℕ) → IsSetup c → AgreeAll (states_after c table rounds)
 AgreeAll-states_after c table rounds setup v w d e =
     let p = decisions-of_processor c table rounds v d in
     let q = decisions-of_processor c table rounds w e in
     decisions-same c table rounds setup p.place q.place v w p.decision q.decision
 
+-- validity, of the list of all nodes
 pub AreInitialValues-states_after : (c : Setup) (table : Table) (rounds : ℕ) → IsSetup c → AreInitialValues c (states_after c table rounds)
 AreInitialValues-states_after c table rounds setup v d =
     let p = decisions-of_processor c table rounds v d in
     (HasInitialValues-state_after c table rounds setup p.place p.processor).decision v p.decision
+
+-- agreement, of any two processors, each after any number of rounds of one table
+pub Agree-state_after : (c : Setup) (table : Table) (rounds others p q : ℕ) → IsSetup c → Agree (state_after c table rounds p) (state_after c table others q)
+Agree-state_after c table rounds others p q setup v w d e = elim (cases_lt rounds others) [
+  | inl l ↦ decisions-same_later c table rounds (others - rounds) setup p q v w d (in_round others (rounds + (others - rounds)) q w (omega arith) e)
+  | inr l ↦ sym (decisions-same_later c table others (rounds - others) setup q p w v e (in_round rounds (others + (rounds - others)) p v (omega arith) d))
+]
+  where
+    in_round : (r s j x : ℕ) → r ≡ s → (state_after c table r j).decision ≡ Some x → (state_after c table s j).decision ≡ Some x
+    in_round r s j x same h = subst (λ n. (state_after c table n j).decision ≡ Some x) same h
+
+-- validity, of a processor after any number of rounds
+pub DecidesInitialValue-state_after : (c : Setup) (table : Table) (rounds p : ℕ) → IsSetup c → IsProc c p → DecidesInitialValue c (state_after c table rounds p)
+DecidesInitialValue-state_after c table rounds p setup is = (HasInitialValues-state_after c table rounds setup p is).decision

@@ -19,6 +19,7 @@ heard_of c table nodes p round sender = if table p round sender then option_map 
 abbrev pub nodes_after : Setup → Table → (ℕ → State) → ℕ → ℕ → State
 nodes_after c table nodes round p = next c (nodes p) p round (messages_heard c table nodes p round)
 
+-- each number in the list of the processors is a processor
 pub IsProc-from_processors : (c : Setup) (p : ℕ) → Contains (processors c) p → IsProc c p
 IsProc-from_processors c p d =
     let below : d.0 < c.n = rw (length-range_with_len 1 c.n) at d.1 in
@@ -30,6 +31,7 @@ pub record IsHeardOf (nodes : ℕ → State) (sender : ℕ) (m : Message) : Type
   pub sender_is : sender_of m ≡ sender
   pub said : IsSaidBy (nodes sender) (body_of m)
 
+-- so is what is heard of a sender
 pub heard_of-sender : (c : Setup) (table : Table) (nodes : ℕ → State) (p round sender : ℕ) (m : Message)
     → heard_of c table nodes p round sender ≡ Some m → IsHeardOf nodes sender m
 heard_of-sender c table nodes p round sender m e = go (table p round sender) (out c (nodes sender) sender round p) refl e
@@ -46,6 +48,7 @@ pub record IsHeardMessage (c : Setup) (nodes : ℕ → State) (m : Message) : Ty
   pub sender : IsProc c (sender_of m)
   pub said : IsSaidBy (nodes (sender_of m)) (body_of m)
 
+-- so is each message that is heard
 pub messages_heard-said : (c : Setup) (table : Table) (nodes : ℕ → State) (p round : ℕ) (m : Message)
     → Contains (messages_heard c table nodes p round) m → IsHeardMessage c nodes m
 messages_heard-said c table nodes p round m d =

@@ -57,12 +57,14 @@ pub record IsLockSince (phase v : ℕ) (locks : List LockPair) : Type 0 where
   pub value : value_of lock ≡ v
   pub since : phase ≤ phase_of_lock lock
 
+-- where the test passes there is such a lock
 pub IsLockSince-from_test : (phase v : ℕ) (locks : List LockPair) → is_locked_since phase v locks ≡ true → IsLockSince phase v locks
 IsLockSince-from_test phase v locks e =
     let f = list_any-found (λ lock. value_of lock == v && nat_le phase (phase_of_lock lock)) locks e in
     let b = and_parts (value_of f.0 == v) (nat_le phase (phase_of_lock f.0)) f.2 in
     record { lock = f.0; held = f.1; value = eqb-true (value_of f.0) v b.0; since = leb-true phase (phase_of_lock f.0) b.1 }
 
+-- with such a lock the test passes
 pub is_locked_since-lock : (phase v : ℕ) (locks : List LockPair) (lock : LockPair) → Contains locks lock → value_of lock ≡ v → phase ≤ phase_of_lock lock
     → is_locked_since phase v locks ≡ true
 is_locked_since-lock phase v locks lock d e l =

@@ -41,6 +41,7 @@ proposed-anchored c table nodes round v w setup e a proposes = go (eqb w v) refl
         let many = a.holders in
         absurd (omega arith)
 
+-- the invariants after a listing round
 pub IsSafe-listing : (c : Setup) (table : Table) (nodes : ℕ → State) (round : ℕ) → IsSetup c → part_of round ≡ 1 → IsSafe c nodes (phase_of round) 1
     → IsSafe c (nodes_after c table nodes round) (phase_of round) 2
 IsSafe-listing c table nodes round setup e safe = record {

@@ -19,6 +19,7 @@ told-proposed c table nodes round p o v told =
     let h = messages_heard-said c table nodes p round told.message told.is_heard in
     subst (λ j. (nodes j).proposal ≡ Some v) told.sender (lock-said_by (nodes (sender_of told.message)) (body_of told.message) v h.said told.kind)
 
+-- the invariants after a locking round
 pub IsSafe-locking : (c : Setup) (table : Table) (nodes : ℕ → State) (round : ℕ) → part_of round ≡ 2 → IsSafe c nodes (phase_of round) 2
     → IsSafe c (nodes_after c table nodes round) (phase_of round) 3
 IsSafe-locking c table nodes round e safe = record {
@@ -29,7 +30,7 @@ IsSafe-locking c table nodes round e safe = record {
   fresh = record { proposed = λ _ j lock d h. proposed j lock h (fresh j lock d) };
   flags = record {
     acknowledging = λ j f. refl;
-    locked = λ j f. flagged j ((locks j).flag f);
+    locked = λ j f. flagged j ((locks j).owes f);
   };
   decisions = record { each = λ j v d. anchored v (safe.decisions.each j v (sym (keeps j).decision ∙ d)) };
 }

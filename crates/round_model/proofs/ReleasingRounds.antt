@@ -11,6 +11,7 @@ use Rattle.round_model.proofs.HeardMessages.{nodes_after, messages_heard-said}
 use Rattle.round_model.proofs.Invariants.{is_locked_since, IsLockSince-from_test, is_locked_since-lock, IsAnchored, holders-kept, IsSafe}
 use Rattle.lock_phases.specs.Messages.{sender_of, body_of}
 
+-- the invariants after a lock-release round
 pub IsSafe-releasing : (c : Setup) (table : Table) (nodes : ℕ → State) (round : ℕ) → part_of round ≡ 4 → IsSafe c nodes (phase_of round) 4
     → IsSafe c (nodes_after c table nodes round) (phase_of round + 1) 1
 IsSafe-releasing c table nodes round e safe = record {

@@ -31,7 +31,8 @@ impl Model for Heard {
 
     ghost view = { λ a. record { n = a.n; rounds = a.rounds; sets = rows_of a.sets.items } };
 
-    ghost invariant = { λ a. IsHeardTable (record { n = a.n; rounds = a.rounds; sets = rows_of a.sets.items }) };
+    ghost invariant = { λ a.
+        IsHeardTable (record { n = a.n; rounds = a.rounds; sets = rows_of a.sets.items }) };
 }
 
 impl Heard {
@@ -39,15 +40,16 @@ impl Heard {
 
     /// The table of `n` processors and so many rounds in which nobody hears anybody.
     ///
-    /// Asks `MIN_PROCESSORS` to `MAX_PROCESSORS` processors and at most `MAX_ROUNDS` rounds. Takes memory for
-    /// each round of each processor.
+    /// Asks `MIN_PROCESSORS` to `MAX_PROCESSORS` processors and at most `MAX_ROUNDS` rounds. Takes
+    /// memory for each round of each processor.
     pub fn new(alloc: Global, n: u64, rounds: u64) -> Result<Self, AllocError>
         requires least { MIN_PROCESSORS ≤ n }
         requires most { n ≤ MAX_PROCESSORS }
         requires limit { rounds ≤ MAX_ROUNDS }
         ensures processors { IfOk result (λ heard. heard.n ≡ n) }
         ensures rounds { IfOk result (λ heard. heard.rounds ≡ rounds) }
-        ensures empty { IfOk result (λ heard. (p round sender : ℕ) → table_of heard p round sender ≡ false) }
+        ensures empty { IfOk result
+            (λ heard. (p round sender : ℕ) → table_of heard p round sender ≡ false) }
     {
         let sets = empty_table(alloc, n, rounds)?;
         Ok(Heard { n, rounds, sets })
@@ -91,7 +93,8 @@ impl Heard {
         requires high { proc ≤ self.old.n }
         requires within { IsWithin senders self.old.n }
         ensures set { heard_set self.new proc round ≡ senders }
-        ensures others { (p r : ℕ) → (p ≢ proc) ⊎ (r ≢ round) → heard_set self.new p r ≡ heard_set self.old p r }
+        ensures others { (p r : ℕ) → (p ≢ proc) ⊎ (r ≢ round) →
+            heard_set self.new p r ≡ heard_set self.old p r }
         ensures processors { self.new.n ≡ self.old.n }
         ensures rounds { self.new.rounds ≡ self.old.rounds }
     {
@@ -117,7 +120,8 @@ fn set_at(sets: &[Vec<ProcSet>], i: usize, j: usize) -> ProcSet
 fn put(sets: &mut [Vec<ProcSet>], i: usize, j: usize, set: ProcSet)
     requires outer { i < length sets.old }
     requires inner { j < length (slice_index_or (rows_of sets.old) i []) }
-    ensures { rows_of sets.new ≡ slice_set (rows_of sets.old) i (slice_set (slice_index_or (rows_of sets.old) i []) j set) }
+    ensures { rows_of sets.new
+        ≡ slice_set (rows_of sets.old) i (slice_set (slice_index_or (rows_of sets.old) i []) j set) }
 {
     let row = &mut sets[i];
     row[j] = set;
@@ -128,7 +132,8 @@ fn empty_table(alloc: Global, n: u64, rounds: u64) -> Result<Vec<Vec<ProcSet>>, 
     requires { rounds ≤ MAX_ROUNDS }
     ensures processors { IfOk result (λ sets. length sets.items ≡ n) }
     ensures rounds { IfOk result (λ sets. All (λ v. length v.items ≡ rounds) sets.items) }
-    ensures empty { IfOk result (λ sets. All (λ v. All (λ set. (p : ℕ) → has_proc set p ≡ false) v.items) sets.items) }
+    ensures empty { IfOk result
+        (λ sets. All (λ v. All (λ set. (p : ℕ) → has_proc set p ≡ false) v.items) sets.items) }
 {
     let mut sets = Vec::new(alloc);
     for _ in 0..n {

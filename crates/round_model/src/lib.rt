@@ -5,8 +5,6 @@
 mod agreements;
 mod heard_sets;
 mod rounds;
-#[cfg(test)]
-mod tests;
 
 pub use agreements::agreement;
 pub use heard_sets::{Heard, MAX_ROUNDS};

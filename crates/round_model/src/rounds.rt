@@ -72,7 +72,8 @@ fn run_round(
     requires nodes { length nodes.old ≡ config.now.n }
     requires first { 1 ≤ round }
     requires last { round ≤ heard.now.rounds }
-    ensures { OnOk result (nodes.new ≡ nodes_after_round config.now (table_of heard.now) round nodes.old) }
+    ensures { OnOk result
+        (nodes.new ≡ nodes_after_round config.now (table_of heard.now) round nodes.old) }
 {
     let messages = messages_of_round(alloc, config, heard, round, nodes)?;
     for (i, node) in nodes.iter_mut().enumerate() {
@@ -94,7 +95,8 @@ fn messages_of_round(
     requires first { 1 ≤ round }
     requires last { round ≤ heard.now.rounds }
     ensures { IfOk result
-        (λ messages. rows_of messages.items ≡ messages_of_round config.now (table_of heard.now) round nodes.now) }
+        (λ messages. rows_of messages.items
+        ≡ messages_of_round config.now (table_of heard.now) round nodes.now) }
 {
     let mut messages = Vec::new(alloc);
     for p in 1..config.n() + 1 {
@@ -118,7 +120,8 @@ fn messages_to(
     requires last { round ≤ heard.now.rounds }
     requires receiver { IsProc config.now to }
     ensures { IfOk result
-        (λ messages. messages.items ≡ messages_heard config.now (table_of heard.now) (node_of nodes.now) to round) }
+        (λ messages. messages.items
+        ≡ messages_heard config.now (table_of heard.now) (node_of nodes.now) to round) }
 {
     let senders = heard.get(round, to);
     let mut messages = Vec::new(alloc);

@@ -1,0 +1,80 @@
+//! Calls that take memory, each at full size: what no clause says is that they succeed.
+
+use crate::nodes::{Says, body, has_state, hear, is_body, locked_proposer};
+use crate::tables::{all_decide, all_heard};
+use lock_phases::Node;
+use round_model::{Heard, MAX_ROUNDS};
+use std::alloc::Global;
+use std::test::Fail;
+use step_trace::ProcSet;
+
+const GREATEST: u64 = 18_446_744_073_709_551_615;
+
+fn is_cloned(alloc: Global, says: Says, proper: &[u64]) -> Result<bool, Fail> {
+    let body = body(alloc, says, proper)?.clone()?;
+    Ok(is_body(&body, says, proper))
+}
+
+#[test]
+fn bodies_are_cloned(rt: HostRuntime) -> Result<(), Fail> {
+    let alloc = rt.alloc();
+    let sixteen = [1, 2, 3, 4, 5, 6, 7, 8, 9, 10, 11, 12, 13, 14, 15, GREATEST];
+    let pairs = [(5, 1), (7, 250_000), (GREATEST, 2)];
+    for says in [
+        Says::List(&sixteen),
+        Says::List(&[]),
+        Says::Lock(GREATEST),
+        Says::Ack,
+        Says::Locks(&pairs),
+        Says::Locks(&[]),
+    ] {
+        assert!(rt; is_cloned(alloc, says, &sixteen)?);
+    }
+    Ok(())
+}
+
+#[test]
+fn the_greatest_value_is_copied(rt: HostRuntime) -> Result<(), Fail> {
+    let alloc = rt.alloc();
+    let copy = Node::new(alloc, GREATEST)?.copy(alloc)?;
+    assert!(rt; has_state(&copy, &[GREATEST], &[], None, false, None));
+    Ok(())
+}
+
+#[test]
+fn each_field_is_copied(rt: HostRuntime) -> Result<(), Fail> {
+    let alloc = rt.alloc();
+    let node = locked_proposer(alloc)?;
+    assert!(rt; has_state(&node.copy(alloc)?, &[5, 7], &[(7, 1)], Some(7), true, None));
+    Ok(())
+}
+
+#[test]
+fn seventeen_values_are_copied(rt: HostRuntime) -> Result<(), Fail> {
+    let alloc = rt.alloc();
+    let others = [16, 15, 14, 13, 12, 11, 10, 9, 8, 7, 6, 5, 4, 3, 2, 1];
+    let all = [1, 2, 3, 4, 5, 6, 7, 8, 9, 10, 11, 12, 13, 14, 15, 16, 17];
+    let mut node = Node::new(alloc, 17)?;
+    hear(&mut node, alloc, 1, 1, 2, Says::Ack, &others)?;
+    assert!(rt; has_state(&node.copy(alloc)?, &all, &[], None, false, None));
+    Ok(())
+}
+
+#[test]
+fn a_table_of_the_most_rounds(rt: HostRuntime) -> Result<(), Fail> {
+    let mut heard = Heard::new(rt.alloc(), 2, MAX_ROUNDS)?;
+    assert!(rt; heard.rounds() == MAX_ROUNDS);
+    heard.set(MAX_ROUNDS, 2, ProcSet::empty().with(1));
+    assert!(rt; heard.get(MAX_ROUNDS, 2).contains(1));
+    assert!(rt; !heard.get(MAX_ROUNDS, 1).contains(1));
+    Ok(())
+}
+
+#[test]
+fn many_rounds(rt: HostRuntime) -> Result<(), Fail> {
+    let alloc = rt.alloc();
+    let init = [4, 3, 2, 1, 8, 7, 6, 5, 12, 11, 10, 9, 16, 15, 14, 13];
+    let heard = all_heard(&rt, alloc, 16, 100_001)?;
+    assert!(rt; all_decide(&rt, alloc, (7, &init), &heard, &[Some(1); 16])?);
+    Ok(())
+}

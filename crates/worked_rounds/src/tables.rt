@@ -1,0 +1,147 @@
+//! What tests of rounds need: tables of who heard whom, and what became of the nodes over one.
+
+ghost use Rattle.std.specs.Prelude.{◌≤◌};
+
+use lock_phases::Node;
+use round_model::{Heard, MAX_ROUNDS, decided, run_rounds};
+use std::alloc::Global;
+use std::process::Abort;
+use std::test::Fail;
+use step_trace::{Config, ProcSet};
+
+fn all_of(n: u64) -> ProcSet
+    requires { n ≤ 16 }
+{
+    let mut set = ProcSet::empty();
+    for p in 1..n + 1 {
+        set = set.with(p);
+    }
+    set
+}
+
+/// Makes these the senders that a processor hears in a round.
+pub fn hear(rt: &impl Abort, heard: &mut Heard, round: u64, proc: u64, senders: &[u64]) {
+    let mut set = ProcSet::empty();
+    for p in senders {
+        assert!(rt; 1 <= *p && *p <= heard.n());
+        set = set.with(*p);
+    }
+    hear_set(rt, heard, round, proc, set);
+}
+
+fn hear_set(rt: &impl Abort, heard: &mut Heard, round: u64, proc: u64, senders: ProcSet) {
+    assert!(rt; 1 <= round && round <= heard.rounds());
+    assert!(rt; 1 <= proc && proc <= heard.n());
+    assert!(rt; senders.within(heard.n()));
+    heard.set(round, proc, senders);
+}
+
+fn all_hear_all(rt: &impl Abort, heard: &mut Heard, round: u64) {
+    let n = heard.n();
+    for p in 1..n + 1 {
+        hear_set(rt, heard, round, p, all_of(n));
+    }
+}
+
+/// The table in which everybody hears everybody in every round.
+pub fn all_heard(rt: &impl Abort, alloc: Global, n: u64, rounds: u64) -> Result<Heard, Fail>
+    requires least { 2 ≤ n }
+    requires most { n ≤ 16 }
+    requires limit { rounds ≤ MAX_ROUNDS }
+{
+    let mut heard = Heard::new(alloc, n, rounds)?;
+    for round in 1..rounds + 1 {
+        all_hear_all(rt, &mut heard, round);
+    }
+    Ok(heard)
+}
+
+/// Three processors: 1 hears all in round 1, and all hear all in round 4. So nobody proposes, and everybody
+/// learns all values.
+pub fn values_shared(rt: &impl Abort, alloc: Global, rounds: u64) -> Result<Heard, Fail>
+    requires { rounds ≤ MAX_ROUNDS }
+{
+    let mut heard = Heard::new(alloc, 3, rounds)?;
+    hear(rt, &mut heard, 1, 1, &[1, 2, 3]);
+    all_hear_all(rt, &mut heard, 4);
+    Ok(heard)
+}
+
+/// `values_shared`, and then 2 proposes; 1 and 2 hear its lock, and 2 hears both acknowledge it.
+pub fn one_deciding(rt: &impl Abort, alloc: Global) -> Result<Heard, Fail> {
+    let mut heard = values_shared(rt, alloc, 7)?;
+    hear(rt, &mut heard, 5, 2, &[1, 2, 3]);
+    hear(rt, &mut heard, 6, 1, &[2]);
+    hear(rt, &mut heard, 6, 2, &[2]);
+    hear(rt, &mut heard, 7, 2, &[1, 2]);
+    Ok(heard)
+}
+
+fn config(alloc: Global, t: u64, init: &[u64]) -> Result<Config, Fail> {
+    let init = Vec::from_slice(alloc, init)?;
+    Ok(Config::new(init.len() as u64, t, init)?)
+}
+
+fn run(
+    rt: &impl Abort,
+    alloc: Global,
+    setup: (u64, &[u64]),
+    heard: &Heard,
+) -> Result<Vec<Node>, Fail> {
+    let config = config(alloc, setup.0, setup.1)?;
+    assert!(rt; heard.n() == config.n());
+    Ok(run_rounds(alloc, &config, heard)?)
+}
+
+/// Whether the nodes of these processors have these decisions after all rounds of the table, and `decided`
+/// gives the first.
+pub fn all_decide(
+    rt: &impl Abort,
+    alloc: Global,
+    setup: (u64, &[u64]),
+    heard: &Heard,
+    decisions: &[Option<u64>],
+) -> Result<bool, Fail> {
+    let nodes = run(rt, alloc, setup, heard)?;
+    Ok(have_decisions(&nodes, decisions) && decided(&nodes) == first_of(decisions))
+}
+
+fn have_decisions(nodes: &[Node], decisions: &[Option<u64>]) -> bool {
+    nodes.len() == decisions.len()
+        && nodes
+            .iter()
+            .zip(decisions)
+            .all(|(node, decision)| node.decision() == *decision)
+}
+
+fn first_of(decisions: &[Option<u64>]) -> Option<u64> {
+    for decision in decisions {
+        if decision.is_some() {
+            return *decision;
+        }
+    }
+    None
+}
+
+/// Whether these PROPER values and locks are those of the nodes after all rounds of the table, and no node has
+/// a proposal or owes an acknowledgement.
+pub fn all_hold(
+    rt: &impl Abort,
+    alloc: Global,
+    setup: (u64, &[u64]),
+    heard: &Heard,
+    held: &[(&[u64], &[(u64, u64)])],
+) -> Result<bool, Fail> {
+    let nodes = run(rt, alloc, setup, heard)?;
+    Ok(
+        nodes.len() == held.len()
+            && nodes
+                .iter()
+                .zip(held)
+                .all(|(node, (proper, locks))| holds(node, proper, locks)),
+    )
+}
+
+fn holds(node: &Node, proper: &[u64], locks: &[(u64, u64)]) -> bool {
+    node.proper() == proper && node.locks() == locks && node.proposal().is_none() && !node.ack()
+}
