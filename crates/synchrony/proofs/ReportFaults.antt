@@ -7,6 +7,7 @@ use Rattle.front.specs.ReportWriting.{WroteBefore}
 use Rattle.step_trace.specs.declared.rows.Row.{Row}
 use Rattle.step_trace.specs.Processors.{IsWithin}
 use Rattle.step_trace.specs.Traces.{Recorded}
+use Rattle.trace_text.specs.declared.byte_loops.TheConstants.{MAX_TEXT_BYTES}
 use Rattle.trace_text.specs.declared.counting.Counting.{Counting}
 use Rattle.trace_text.specs.declared.refusals.TextError.{TextError}
 use Rattle.trace_text.specs.declared.refusals.TextError.TheVariants as why
@@ -25,8 +26,9 @@ of_known : (P : List ℕ → Type 0) (text : List ℕ) (known : Option (List ℕ
 of_known P text None same p = tt
 of_known P text (Some xs) same p = subst P same p
 
-too_large : (text : List ℕ) → 67108864 < length text → IsFirstRefusal text why.TooLarge
-too_large text h = let e : nat_le (length text) 67108864 ≡ false = grind (arith, nat_tests) in rw e refl
+-- a text that is too large has that as its first refusal
+too_large : (text : List ℕ) → MAX_TEXT_BYTES < length text → IsFirstRefusal text why.TooLarge
+too_large text h = let e : nat_le (length text) MAX_TEXT_BYTES ≡ false = grind (arith, nat_tests) in rw e refl
 
 -- a refusal of the reading has its cause
 pub unread_fault : (set old new : ℕ) (before after known : Option (List ℕ)) (e : TextError) → ReadRefusedFor e old new known
@@ -64,6 +66,7 @@ text_fault set text before after fault.Memory h = tt
 text_fault set text before after fault.Read h = tt
 text_fault set text before after (fault.Write n) h = absurd h
 
+-- it leaves the reader's faults and the writer as they were
 pub text_fault_reads : (set old new : ℕ) (text : List ℕ) (w : Fault) → IsTextFault set text w → new ≡ old → IsReadFault old new w
 text_fault_reads set old new text fault.Read h same = absurd h
 text_fault_reads set old new text w h same = same

@@ -1,7 +1,6 @@
 //! The command line, read into a job.
 
 ghost use Rattle.std.specs.Prelude.{◌≡◌, ◌≢◌, ℕ, List, None, false, IfOk, IfErr, IfSome, MatchResult, map, string_bytes, codes, IsTrue, ◌↔◌};
-ghost use Rattle.std.specs.IoError.{error_kind};
 ghost use Rattle.std.specs.declared.io.ErrorKind.TheVariants.{OutOfMemory};
 ghost use Rattle.clap.specs.Words.{app_of, kind_of, subcommand_rows_of};
 ghost use Rattle.clap.specs.declared.builder.Command.TheViews.{out-Command};
@@ -79,7 +78,7 @@ fn report_command<'a>(alloc: Global) -> Result<Command<'a>, AllocError>
     let correct = Arg::new(alloc, "correct")
         .long("correct")
         .value_name("LIST")
-        .help("The correct processors: numbers 1 to 64, as 1,2,5, or none")
+        .help("The correct processors, from 1 to 64: 1,2,5, or none")
         .required(true)
         .action(ArgAction::Set);
     Command::new(alloc, "report")
@@ -96,20 +95,23 @@ pub fn names_standard_input(file: &str) -> bool
     file == "-"
 }
 
-/// The refusal of a command line whose words can't be had: where `error` isn't want of memory, one of
-/// them isn't text.
-pub fn refuse_words(alloc: Global, error: io::Error) -> Result<Fault, AllocError>
-    ensures { IfOk result (λ fault. IsLineFault fault × (error_kind error ≢ OutOfMemory)) }
+/// The refusal of a command line whose words can't be had, for an error of this kind: where it isn't
+/// want of memory, one of them isn't text.
+pub fn refuse_words(alloc: Global, kind: io::ErrorKind) -> Result<Fault, AllocError>
+    ensures { IfOk result (λ fault. IsLineFault fault × (kind ≢ OutOfMemory)) }
 {
-    if error.kind() == io::ErrorKind::OutOfMemory {
+    if kind == io::ErrorKind::OutOfMemory {
         return Err(AllocError);
     }
-    let mut command = command(alloc)?;
-    let error = command.error(
+    let error = text_error(alloc)?;
+    Ok(Fault::Command(error.to_string(alloc)?))
+}
+
+fn text_error(alloc: Global) -> Result<clap::Error, AllocError> {
+    command(alloc)?.error(
         ErrorKind::InvalidValue,
         "invalid UTF-8 was detected in one or more arguments",
-    )?;
-    Ok(Fault::Command(error.to_string(alloc)?))
+    )
 }
 
 /// What a command line that gives no matches asks for: a help text, or else a refusal.

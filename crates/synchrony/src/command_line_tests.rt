@@ -102,8 +102,7 @@ fn refuses_other_lines(rt: HostRuntime) -> Result<(), Fail> {
 
 #[test]
 fn tells_words_that_are_no_text(rt: HostRuntime) -> Result<(), Fail> {
-    let error = io::Error::from(io::ErrorKind::InvalidData);
-    let fault = refuse_words(rt.alloc(), error)?;
+    let fault = refuse_words(rt.alloc(), io::ErrorKind::InvalidData)?;
     let line = told_line(rt.alloc(), &fault)?;
     assert!(rt; line.as_str().starts_with("error: invalid UTF-8"), "{line}");
     assert!(rt; line.as_str().ends_with(".\n"), "{line}");

@@ -38,7 +38,7 @@ fn main(rt: HostRuntime) -> ExitCode {
 fn run(rt: &HostRuntime) -> Result<(), Fault> {
     let words = match env::args(rt) {
         Ok(words) => words.collect(rt.alloc())?,
-        Err(error) => return Err(refuse_words(rt.alloc(), error)?),
+        Err(error) => return Err(refuse_words(rt.alloc(), error.kind())?),
     };
     match read_command(rt.alloc(), words)? {
         Job::Report { file, set } => report(rt, file.as_str(), set),

@@ -2,17 +2,18 @@
 
 ghost use Rattle.std.specs.Prelude.{◌≡◌, ◌≤◌, ℕ, List, OnOk, IfOk, IfErr, IfSome, IsTrue, MatchResult};
 ghost use Rattle.std.specs.Io.KnownBytes.{IsAtEnd, Appends};
+ghost use Rattle.step_trace.specs.Fronts.{IsReport};
 ghost use Rattle.step_trace.specs.Processors.{IsWithin};
 ghost use Rattle.trace_text.specs.ByteLoops.{WasFaultless};
 ghost use Rattle.trace_text.specs.Faults.{inner_of, faults_of, is_flushed};
 ghost use Rattle.synchrony.specs.Printing.{IsWriteFault};
-ghost use Rattle.synchrony.specs.Reports.{AreRowsOf, IsReportOf, IsFaultOfReport, IsTextFault, IsReportFault, IsReadFault};
+ghost use Rattle.synchrony.specs.Reports.{AreRowsOf, IsReportOf, IsFaultOfReport, IsTextOf, IsTextFault, IsReportFault, IsReadFault};
 
 use crate::faults::Fault;
 use front::{Report, front, write_report};
-use std::alloc::Global;
+use std::alloc::{AllocError, Global};
 use std::io::{Read, Write};
-use step_trace::ProcSet;
+use step_trace::{ProcSet, Trace};
 use suffix_staircase::Stairs;
 use trace_text::{Counting, read_all, read_trace};
 
@@ -52,12 +53,30 @@ fn report_of(alloc: Global, text: Vec<u8>, set: ProcSet) -> Result<Report, Fault
     ensures refused { IfErr result (IsTextFault set text.items) }
     ensures own { IfErr result IsFaultOfReport }
 {
+    let trace = trace_of(alloc, text, set)?;
+    Ok(rows_of(alloc, &trace, set)?)
+}
+
+/// The trace that a text stands for, where no member of the set is above its processors. It lets go
+/// of the text, which takes much memory for a long trace.
+fn trace_of(alloc: Global, text: Vec<u8>, set: ProcSet) -> Result<Trace, Fault>
+    ensures read { IfOk result (λ t. IsTextOf text.items t) }
+    ensures within { IfOk result (λ t. IsWithin set t.config.n) }
+    ensures refused { IfErr result (IsTextFault set text.items) }
+    ensures own { IfErr result IsFaultOfReport }
+{
     let trace = read_trace(alloc, &text)?;
-    // The text of a long trace takes much memory, and the trace says all that it does.
-    drop(text);
     test_set(set, trace.config().n())?;
-    let stairs = Stairs::of_trace(alloc, &trace, set)?;
-    Ok(front(alloc, &stairs)?)
+    Ok(trace)
+}
+
+/// The report of a trace.
+fn rows_of(alloc: Global, trace: &Trace, set: ProcSet) -> Result<Report, AllocError>
+    requires { IsWithin set trace.now.config.n }
+    ensures { IfOk result (λ r. IsReport set trace.now.steps r.rows) }
+{
+    let stairs = Stairs::of_trace(alloc, trace, set)?;
+    front(alloc, &stairs)
 }
 
 /// Refuses a set that has a member above `n`, and no other.
