@@ -1,0 +1,14 @@
+pub mod StepPrefixes
+pub mod HeardSenders
+pub mod SettledPrefixes
+pub mod SentCounts
+pub mod RunPrefixes
+pub mod GrownNodes
+pub mod MessagesOnce
+pub mod Inboxes
+pub mod NextDestinations
+pub mod PresentSends
+pub mod Decisions
+pub mod WorkedTraces
+pub mod InboxSteps
+pub mod InboxSenders

@@ -1,0 +1,2 @@
+pub mod HeardTables
+pub mod Runs
