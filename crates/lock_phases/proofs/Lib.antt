@@ -4,7 +4,11 @@ pub mod RoundLaws
 pub mod ProperLaws
 pub mod LockLaws
 pub mod QuorumLaws
-pub mod AgreementLaws
+pub mod ListingLaws
+pub mod LockingLaws
+pub mod AcknowledgingLaws
+pub mod ReleasingLaws
+pub mod OriginLaws
 pub mod SentBodies
 mod ValuePlaces
 mod LockPlaces

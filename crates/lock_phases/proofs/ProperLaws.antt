@@ -2,7 +2,7 @@
 use Rattle.std.proofs.Common.{ℕ, ◌≡◌, ◌⊎◌, inl, inr, Bool, true, false, cond, ltb, eqb, List, [], ◌∷◌, refl, sym, subst, zero, arith}
 use Rattle.std.specs.Prelude.{Contains}
 use Rattle.std.proofs.lemmas.Bool.{eqb-true}
-use Rattle.lock_phases.specs.Messages.{Heard}
+use Rattle.lock_phases.specs.Messages.{Message, body_of}
 use Rattle.lock_phases.specs.Values.{insert_value, insert_values, take_in}
 use Rattle.lock_phases.proofs.Membership.{Contains-head, Contains-rest, Contains-cons_cases, Contains-nil}
 
@@ -71,30 +71,30 @@ Contains-insert_values_new known (v ∷ vs) z c = go (Contains-cons_cases v z vs
     go (inr h) f = f h
 
 -- a PROPER value was there, or in a PROPER that was heard
-pub Contains-take_in_cases : (known : List ℕ) (heard : List Heard) (z : ℕ) → Contains (take_in known heard) z
-    → Contains known z ⊎ ((m : Heard) × Contains heard m × Contains m.1.proper z)
+pub Contains-take_in_cases : (known : List ℕ) (heard : List Message) (z : ℕ) → Contains (take_in known heard) z
+    → Contains known z ⊎ ((m : Message) × Contains heard m × Contains (body_of m).proper z)
 Contains-take_in_cases known [] z c = inl c
-Contains-take_in_cases known (m ∷ rest) z c = outer (Contains-take_in_cases (insert_values known m.1.proper) rest z c)
+Contains-take_in_cases known (m ∷ rest) z c = outer (Contains-take_in_cases (insert_values known (body_of m).proper) rest z c)
   where
-    inner : Contains known z ⊎ Contains m.1.proper z → Contains known z ⊎ ((n : Heard) × Contains (m ∷ rest) n × Contains n.1.proper z)
+    inner : Contains known z ⊎ Contains (body_of m).proper z → Contains known z ⊎ ((n : Message) × Contains (m ∷ rest) n × Contains (body_of n).proper z)
     inner (inl h) = inl h
     inner (inr h) = inr (m, Contains-head m rest, h)
 
-    outer : Contains (insert_values known m.1.proper) z ⊎ ((n : Heard) × Contains rest n × Contains n.1.proper z)
-        → Contains known z ⊎ ((n : Heard) × Contains (m ∷ rest) n × Contains n.1.proper z)
-    outer (inl h) = inner (Contains-insert_values_cases known m.1.proper z h)
+    outer : Contains (insert_values known (body_of m).proper) z ⊎ ((n : Message) × Contains rest n × Contains (body_of n).proper z)
+        → Contains known z ⊎ ((n : Message) × Contains (m ∷ rest) n × Contains (body_of n).proper z)
+    outer (inl h) = inner (Contains-insert_values_cases known (body_of m).proper z h)
     outer (inr h) = inr (h.0, Contains-rest m h.0 rest h.1, h.2)
 
 -- a PROPER value stays
-pub Contains-take_in_old : (known : List ℕ) (heard : List Heard) (z : ℕ) → Contains known z → Contains (take_in known heard) z
+pub Contains-take_in_old : (known : List ℕ) (heard : List Message) (z : ℕ) → Contains known z → Contains (take_in known heard) z
 Contains-take_in_old known [] z c = c
-Contains-take_in_old known (m ∷ rest) z c = Contains-take_in_old (insert_values known m.1.proper) rest z (Contains-insert_values_old known m.1.proper z c)
+Contains-take_in_old known (m ∷ rest) z c = Contains-take_in_old (insert_values known (body_of m).proper) rest z (Contains-insert_values_old known (body_of m).proper z c)
 
 -- a value of a PROPER that was heard is taken in
-pub Contains-take_in_heard : (known : List ℕ) (heard : List Heard) (m : Heard) (z : ℕ) → Contains heard m → Contains m.1.proper z → Contains (take_in known heard) z
+pub Contains-take_in_heard : (known : List ℕ) (heard : List Message) (m : Message) (z : ℕ) → Contains heard m → Contains (body_of m).proper z → Contains (take_in known heard) z
 Contains-take_in_heard known [] m z h c = absurd (Contains-nil m h)
-Contains-take_in_heard known (n ∷ rest) m z h c = go (Contains-cons_cases n m rest h) (λ k. Contains-take_in_heard (insert_values known n.1.proper) rest m z k c)
+Contains-take_in_heard known (n ∷ rest) m z h c = go (Contains-cons_cases n m rest h) (λ k. Contains-take_in_heard (insert_values known (body_of n).proper) rest m z k c)
   where
-    go : (m ≡ n) ⊎ Contains rest m → (Contains rest m → Contains (take_in (insert_values known n.1.proper) rest) z) → Contains (take_in (insert_values known n.1.proper) rest) z
-    go (inl e) f = Contains-take_in_old (insert_values known n.1.proper) rest z (Contains-insert_values_new known n.1.proper z (subst (λ (x : Heard). Contains x.1.proper z) e c))
+    go : (m ≡ n) ⊎ Contains rest m → (Contains rest m → Contains (take_in (insert_values known (body_of n).proper) rest) z) → Contains (take_in (insert_values known (body_of n).proper) rest) z
+    go (inl e) f = Contains-take_in_old (insert_values known (body_of n).proper) rest z (Contains-insert_values_new known (body_of n).proper z (subst (λ (x : Message). Contains (body_of x).proper z) e c))
     go (inr k) f = f k

@@ -4,23 +4,23 @@ use Rattle.std.specs.Prelude.{Contains, count_by, ◌==◌}
 use Rattle.std.specs.List.{flat_map}
 use Rattle.std.proofs.lemmas.Bool.{eqb-true, leb-true, le-leb, cases_lt}
 use Rattle.std.proofs.Common.{eq-eqb}
-use Rattle.lock_phases.specs.Messages.{Heard, listed_values}
+use Rattle.lock_phases.specs.Messages.{Message, listed_values, body_of}
 use Rattle.lock_phases.specs.Quorums.{lists, has_quorum, lesser, least, least_listed}
 use Rattle.lock_phases.proofs.Membership.{Contains-rest, Contains-cons_cases, Contains-nil, Contains-filter, Contains-from_filter, list_any-found, list_any-at, count_by-found, Contains-flat_map, Contains-from_flat_map}
 
 -- v is in at least so many of the lists that were heard, and no lesser value is
-pub record IsLeastListed (quorum : ℕ) (heard : List Heard) (v : ℕ) : Type 0 where
+pub record IsLeastListed (quorum : ℕ) (heard : List Message) (v : ℕ) : Type 0 where
   pub quorum_lists : quorum ≤ count_by (λ m. lists m v) heard
   pub no_lesser : (u : ℕ) → quorum ≤ count_by (λ m. lists m u) heard → v ≤ u
 
 -- a message lists v where v stands in its list
-pub Contains-from_lists : (m : Heard) (v : ℕ) → lists m v ≡ true → Contains (listed_values m.1.kind) v
+pub Contains-from_lists : (m : Message) (v : ℕ) → lists m v ≡ true → Contains (listed_values (body_of m).kind) v
 Contains-from_lists m v e =
-    let f = list_any-found (λ x. x == v) (listed_values m.1.kind) e in
-    subst (λ n. Contains (listed_values m.1.kind) n) (eqb-true f.0 v f.2) f.1
+    let f = list_any-found (λ x. x == v) (listed_values (body_of m).kind) e in
+    subst (λ n. Contains (listed_values (body_of m).kind) n) (eqb-true f.0 v f.2) f.1
 
-pub lists-from_Contains : (m : Heard) (v : ℕ) → Contains (listed_values m.1.kind) v → lists m v ≡ true
-lists-from_Contains m v c = list_any-at (λ x. x == v) (listed_values m.1.kind) v c (eq-eqb v v refl)
+pub lists-from_Contains : (m : Message) (v : ℕ) → Contains (listed_values (body_of m).kind) v → lists m v ≡ true
+lists-from_Contains m v c = list_any-at (λ x. x == v) (listed_values (body_of m).kind) v c (eq-eqb v v refl)
 
 -- the least of a value and a list of them
 record IsLeastFrom (a : ℕ) (xs : List ℕ) (v : ℕ) : Type 0 where
@@ -61,32 +61,32 @@ least-none [] e = refl
 least-none (x ∷ xs) e = absurd (fold-lesser-not_None x xs e)
 
 -- a value in enough lists is among those of which the least is taken
-candidate : (quorum : ℕ) (heard : List Heard) (u : ℕ) → 1 ≤ quorum → quorum ≤ count_by (λ m. lists m u) heard
-    → Contains (filter (has_quorum quorum heard) (flat_map (λ m. listed_values m.1.kind) heard)) u
+candidate : (quorum : ℕ) (heard : List Message) (u : ℕ) → 1 ≤ quorum → quorum ≤ count_by (λ m. lists m u) heard
+    → Contains (filter (has_quorum quorum heard) (flat_map (λ m. listed_values (body_of m).kind) heard)) u
 candidate quorum heard u l q =
     let m = count_by-found (λ m. lists m u) heard (omega arith) in
-    Contains-filter (has_quorum quorum heard) (flat_map (λ m. listed_values m.1.kind) heard) u
-    (Contains-flat_map (λ n. listed_values n.1.kind) heard m.0 u m.1 (Contains-from_lists m.0 u m.2))
+    Contains-filter (has_quorum quorum heard) (flat_map (λ m. listed_values (body_of m).kind) heard) u
+    (Contains-flat_map (λ n. listed_values (body_of n).kind) heard m.0 u m.1 (Contains-from_lists m.0 u m.2))
     (le-leb quorum (count_by (λ m. lists m u) heard) q)
 
-pub IsLeastListed-from_some : (quorum : ℕ) (heard : List Heard) (v : ℕ) → 1 ≤ quorum → least_listed quorum heard ≡ Some v → IsLeastListed quorum heard v
+pub IsLeastListed-from_some : (quorum : ℕ) (heard : List Message) (v : ℕ) → 1 ≤ quorum → least_listed quorum heard ≡ Some v → IsLeastListed quorum heard v
 IsLeastListed-from_some quorum heard v l e =
-    let values = filter (has_quorum quorum heard) (flat_map (λ m. listed_values m.1.kind) heard) in
-    let passes = Contains-from_filter (has_quorum quorum heard) (flat_map (λ m. listed_values m.1.kind) heard) v (least-member values v e) in
+    let values = filter (has_quorum quorum heard) (flat_map (λ m. listed_values (body_of m).kind) heard) in
+    let passes = Contains-from_filter (has_quorum quorum heard) (flat_map (λ m. listed_values (body_of m).kind) heard) v (least-member values v e) in
     record {
       quorum_lists = leb-true quorum (count_by (λ m. lists m v) heard) passes.1;
       no_lesser = λ u q. least-each values v u e (candidate quorum heard u l q);
     }
 
 -- where some value is in enough lists, there is a least one
-pub least_listed-not_None : (quorum : ℕ) (heard : List Heard) (u : ℕ) → 1 ≤ quorum → quorum ≤ count_by (λ m. lists m u) heard → least_listed quorum heard ≡ None → ⊥
+pub least_listed-not_None : (quorum : ℕ) (heard : List Message) (u : ℕ) → 1 ≤ quorum → quorum ≤ count_by (λ m. lists m u) heard → least_listed quorum heard ≡ None → ⊥
 least_listed-not_None quorum heard u l q e =
-    let values = filter (has_quorum quorum heard) (flat_map (λ m. listed_values m.1.kind) heard) in
+    let values = filter (has_quorum quorum heard) (flat_map (λ m. listed_values (body_of m).kind) heard) in
     Contains-nil u (subst (λ xs. Contains xs u) (least-none values e) (candidate quorum heard u l q))
 
 -- a proposed value is in a list that was heard
-pub least_listed-listed : (quorum : ℕ) (heard : List Heard) (v : ℕ) → least_listed quorum heard ≡ Some v → (m : Heard) × Contains heard m × Contains (listed_values m.1.kind) v
+pub least_listed-listed : (quorum : ℕ) (heard : List Message) (v : ℕ) → least_listed quorum heard ≡ Some v → (m : Message) × Contains heard m × Contains (listed_values (body_of m).kind) v
 least_listed-listed quorum heard v e =
-    let values = flat_map (λ m. listed_values m.1.kind) heard in
-    Contains-from_flat_map (λ m. listed_values m.1.kind) heard v
+    let values = flat_map (λ m. listed_values (body_of m).kind) heard in
+    Contains-from_flat_map (λ m. listed_values (body_of m).kind) heard v
     (Contains-from_filter (has_quorum quorum heard) values v (least-member (filter (has_quorum quorum heard) values) v e)).0

@@ -4,7 +4,7 @@ use Rattle.std.specs.Prelude.{option_map}
 use Rattle.step_trace.specs.Configurations.{Setup}
 use Rattle.lock_phases.specs.Rounds.{phase_of, part_of, owner, Part, Listing, Locking, Acknowledging, Releasing, part_at}
 use Rattle.lock_phases.specs.Nodes.{State}
-use Rattle.lock_phases.specs.Messages.{Heard}
+use Rattle.lock_phases.specs.Messages.{Message}
 use Rattle.lock_phases.specs.Values.{take_in}
 use Rattle.lock_phases.specs.NodeFunctions.{kind_sent, out, next_in, next}
 
@@ -54,11 +54,15 @@ part_at-acknowledging round e = ap part_at e
 pub part_at-releasing : (round : ℕ) → part_of round ≡ 4 → part_at (part_of round) ≡ Releasing
 part_at-releasing round e = ap part_at e
 
+-- a node that has taken in each PROPER that it heard
+abbrev pub with_proper_heard : State → List Message → State
+with_proper_heard s heard = record s { proper = take_in s.proper heard }
+
 -- the state after a round of this part
-pub next-in : (part : Part) (c : Setup) (s : State) (me round : ℕ) (heard : List Heard) → part_at (part_of round) ≡ part
-    → next c s me round heard ≡ next_in part c (record s { proper = take_in s.proper heard }) me (phase_of round) heard
+pub next-in : (part : Part) (c : Setup) (s : State) (me round : ℕ) (heard : List Message) → part_at (part_of round) ≡ part
+    → next c s me round heard ≡ next_in part c (with_proper_heard s heard) me (phase_of round) heard
 unfolding next
-next-in part c s me round heard e = ap (λ p. next_in p c (record s { proper = take_in s.proper heard }) me (phase_of round) heard) e
+next-in part c s me round heard e = ap (λ p. next_in p c (with_proper_heard s heard) me (phase_of round) heard) e
 
 -- what is sent in a round of this part
 pub out-in : (part : Part) (c : Setup) (s : State) (me round to : ℕ) → part_at (part_of round) ≡ part

@@ -1,22 +1,22 @@
 -- What a body says of the node that sends it (section 3).
-use Rattle.std.proofs.Common.{ℕ, ◌≡◌, Bool, true, false, cond, eqb, ◌&&◌, filter, Option, Some, None, refl, subst}
+use Rattle.std.proofs.Common.{ℕ, ◌≡◌, Bool, true, false, cond, eqb, ◌&&◌, Option, Some, None, refl, subst}
 use Rattle.std.specs.Prelude.{Contains, option_map}
 use Rattle.step_trace.specs.Configurations.{Setup}
 use Rattle.lock_phases.specs.declared.bodies.Kind.{Kind}
 use Rattle.lock_phases.specs.declared.bodies.Kind.TheVariants.{List as Listed, Lock, Ack, Locks}
 use Rattle.lock_phases.specs.declared.bodies.Body.{Body}
 use Rattle.lock_phases.specs.Rounds.{phase_of, part_of, owner, Part, Listing, Locking, Acknowledging, Releasing, part_at}
-use Rattle.lock_phases.specs.Nodes.{State}
+use Rattle.lock_phases.specs.Nodes.{State, LockPair}
 use Rattle.lock_phases.specs.Messages.{listed_values, is_ack, told_locks}
 use Rattle.lock_phases.specs.Locks.{is_acceptable}
-use Rattle.lock_phases.specs.NodeFunctions.{kind_sent, out}
+use Rattle.lock_phases.specs.NodeFunctions.{kind_sent, out, values_to_list}
 use Rattle.lock_phases.proofs.Membership.{Contains-nil, Contains-from_filter}
 
 -- what a kind says of the node that sends it
 abbrev pub Says : State → Kind → Type 0
-Says s (Listed values) = values ≡ filter (is_acceptable s.locks) s.proper
+Says s (Listed values) = values ≡ values_to_list s
 Says s (Lock v) = s.proposal ≡ Some v
-Says s Ack = s.ack ≡ true
+Says s Ack = s.owes_ack ≡ true
 Says s (Locks pairs) = pairs ≡ s.locks
 
 kind_sent-says : (part : Part) (s : State) (owner me to : ℕ) (kind : Kind) → kind_sent part s owner me to ≡ Some kind → Says s kind
@@ -25,8 +25,8 @@ kind_sent-says part s owner me to kind e = go part e
     is : (k : Kind) → Says s k → Some k ≡ Some kind → Says s kind
     is k says h = let same : k ≡ kind = cc in subst (Says s) same says
 
-    listed : (b : Bool) → cond b (Some (Listed (filter (is_acceptable s.locks) s.proper))) None ≡ Some kind → Says s kind
-    listed true h = is (Listed (filter (is_acceptable s.locks) s.proper)) refl h
+    listed : (b : Bool) → cond b (Some (Listed (values_to_list s))) None ≡ Some kind → Says s kind
+    listed true h = is (Listed (values_to_list s)) refl h
     listed false h = cc
 
     lock : (b : Bool) (o : Option ℕ) → s.proposal ≡ o → cond b (option_map Lock o) None ≡ Some kind → Says s kind
@@ -34,7 +34,7 @@ kind_sent-says part s owner me to kind e = go part e
     lock true (Some v) p h = is (Lock v) p h
     lock false o p h = cc
 
-    flagged : (a b : Bool) → s.ack ≡ a → cond (a && b) (Some Ack) None ≡ Some kind → Says s kind
+    flagged : (a b : Bool) → s.owes_ack ≡ a → cond (a && b) (Some Ack) None ≡ Some kind → Says s kind
     flagged true true p h = is Ack p h
     flagged true false p h = cc
     flagged false b p h = cc
@@ -42,7 +42,7 @@ kind_sent-says part s owner me to kind e = go part e
     go : (p : Part) → kind_sent p s owner me to ≡ Some kind → Says s kind
     go Listing h = listed (eqb to owner) h
     go Locking h = lock (eqb me owner) s.proposal refl h
-    go Acknowledging h = flagged s.ack (eqb to owner) refl h
+    go Acknowledging h = flagged s.owes_ack (eqb to owner) refl h
     go Releasing h = is (Locks s.locks) refl h
 
 -- a body that is sent says so of its sender, and has its PROPER
@@ -79,17 +79,17 @@ pub lock-said_by : (s : State) (body : Body) (v : ℕ) → IsSaidBy s body → b
 lock-said_by s body v said e = subst (Says s) e said.says
 
 -- an acknowledgement says that the flag is set
-pub ack-said_by : (s : State) (body : Body) → IsSaidBy s body → is_ack body.kind ≡ true → s.ack ≡ true
+pub ack-said_by : (s : State) (body : Body) → IsSaidBy s body → is_ack body.kind ≡ true → s.owes_ack ≡ true
 ack-said_by s body said e = go body.kind said.says e
   where
-    go : (k : Kind) → Says s k → is_ack k ≡ true → s.ack ≡ true
+    go : (k : Kind) → Says s k → is_ack k ≡ true → s.owes_ack ≡ true
     go (Listed values) e h = cc
     go (Lock w) e h = cc
     go Ack e h = e
     go (Locks pairs) e h = cc
 
 -- a lock that is told is held
-pub told-said_by : (s : State) (body : Body) (lock : ℕ × ℕ) → IsSaidBy s body → Contains (told_locks body.kind) lock → Contains s.locks lock
+pub told-said_by : (s : State) (body : Body) (lock : LockPair) → IsSaidBy s body → Contains (told_locks body.kind) lock → Contains s.locks lock
 told-said_by s body lock said d = go body.kind said.says d
   where
     go : (k : Kind) → Says s k → Contains (told_locks k) lock → Contains s.locks lock

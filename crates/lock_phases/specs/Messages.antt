@@ -3,10 +3,17 @@ use Rattle.std.specs.Prelude.{ℕ, List, [], Option, Some, None, Bool, true, fal
 use Rattle.lock_phases.specs.declared.bodies.Kind.{Kind}
 use Rattle.lock_phases.specs.declared.bodies.Kind.TheVariants.{List as Listed, Lock, Ack, Locks}
 use Rattle.lock_phases.specs.declared.bodies.Body.{Body}
+use Rattle.lock_phases.specs.Nodes.{LockPair}
 
--- a message that is heard: its sender and its body
-abbrev pub Heard : Type 0
-Heard = ℕ × Body
+-- a message as it is heard: its sender with its body
+abbrev pub Message : Type 0
+Message = ℕ × Body
+
+abbrev pub sender_of : Message → ℕ
+sender_of m = m.0
+
+abbrev pub body_of : Message → Body
+body_of m = m.1
 
 -- the values that a List has
 abbrev pub listed_values : Kind → List ℕ
@@ -30,7 +37,7 @@ is_ack Ack = true
 is_ack (Locks pairs) = false
 
 -- the locks that a message of a lock-release round tells
-abbrev pub told_locks : Kind → List (ℕ × ℕ)
+abbrev pub told_locks : Kind → List LockPair
 told_locks (Listed values) = []
 told_locks (Lock value) = []
 told_locks Ack = []

@@ -2,18 +2,28 @@
 use Rattle.std.specs.Prelude.{ℕ, ◌<◌, ◌⊎◌, List, [], ◌∷◌, length, Option, None, Bool, false, map}
 use Rattle.std.specs.List.Sorted.{IsStrictlyIncreasing}
 
--- The plain state of a node: its PROPER values, rising; its locks, each a value with the phase of the
--- lock, rising by value; its proposal; whether it owes an acknowledgement; and its decision.
+-- a lock: a value with the phase in which it was locked
+abbrev pub LockPair : Type 0
+LockPair = ℕ × ℕ
+
+abbrev pub value_of : LockPair → ℕ
+value_of lock = lock.0
+
+abbrev pub phase_of_lock : LockPair → ℕ
+phase_of_lock lock = lock.1
+
+-- The plain state of a node: its PROPER values, rising; its locks, rising by value; its proposal; whether
+-- it owes an acknowledgement; and its decision.
 pub record State : Type 0 where
   pub proper : List ℕ
-  pub locks : List (ℕ × ℕ)
+  pub locks : List LockPair
   pub proposal : Option ℕ
-  pub ack : Bool
+  pub owes_ack : Bool
   pub decision : Option ℕ
 
 -- the opening node of a processor with this initial value
 abbrev pub opening : ℕ → State
-opening value = record { proper = value ∷ []; locks = []; proposal = None; ack = false; decision = None }
+opening value = record { proper = value ∷ []; locks = []; proposal = None; owes_ack = false; decision = None }
 
 -- the second node has more PROPER values or more locks than the first
 abbrev pub Grows : State → State → Type 0
@@ -22,4 +32,4 @@ Grows s next = (length s.proper < length next.proper) ⊎ (length s.locks < leng
 -- PROPER and the locks rise by value
 pub record IsRising (s : State) : Type 0 where
   pub proper : IsStrictlyIncreasing s.proper
-  pub locks : IsStrictlyIncreasing (map (λ lock. lock.0) s.locks)
+  pub locks : IsStrictlyIncreasing (map value_of s.locks)

@@ -42,9 +42,11 @@ pub(crate) fn put_lock(locks: &mut Vec<(u64, u64)>, v: u64, phase: u64) -> Resul
 // The place of the lock on `v`, or where it belongs among locks that rise by value.
 fn find_lock(locks: &[(u64, u64)], v: u64) -> Result<usize, usize>
     ensures held { IfOk result (λ place. place < length locks.now) }
-    ensures replaced { IfOk result (λ place. (phase : ℕ) → put_lock v phase locks.now ≡ slice_set locks.now place (v, phase)) }
+    ensures replaced { IfOk result
+        (λ place. (phase : ℕ) → put_lock v phase locks.now ≡ slice_set locks.now place (v, phase)) }
     ensures within { IfErr result (λ place. place ≤ length locks.now) }
-    ensures fresh { IfErr result (λ place. (phase : ℕ) → put_lock v phase locks.now ≡ insert locks.now place (v, phase)) }
+    ensures fresh { IfErr result
+        (λ place. (phase : ℕ) → put_lock v phase locks.now ≡ insert locks.now place (v, phase)) }
 {
     for (i, (value, _)) in locks.iter().enumerate() {
         if v == *value {

@@ -1,6 +1,6 @@
 //! Nodes: what one sends in a round, and what becomes of it in the round.
 
-ghost use Rattle.std.specs.Prelude.{◌≡◌, ◌<◌, ◌≤◌, ◌-◌, length, ◌&&◌, if◌then◌else◌, IfOk, OnOk, OnErr, All, map, filter, option_map, false};
+ghost use Rattle.std.specs.Prelude.{◌≡◌, ◌<◌, ◌≤◌, length, ◌&&◌, if◌then◌else◌, IfOk, OnOk, OnErr, IsTrue, IsSome, All, map, option_map};
 ghost use Rattle.std.specs.List.Sorted.{IsStrictlyIncreasing};
 
 use crate::bodies::{Body, Kind, LockPairs, Values};
@@ -19,7 +19,7 @@ pub struct Node {
     proper: Vec<u64>,
     locks: Vec<(u64, u64)>,
     proposal: Option<u64>,
-    ack: bool,
+    owes_ack: bool,
     decision: Option<u64>,
 }
 
@@ -28,18 +28,17 @@ impl Model for Node {
 
     ghost Value = { State };
 
-    ghost view = { λ a. record { proper = a.proper.items; locks = a.locks.items; proposal = a.proposal; ack = a.ack; decision = a.decision } };
+    ghost view = { λ a. record { proper = a.proper.items; locks = a.locks.items; proposal = a.proposal; owes_ack = a.owes_ack; decision = a.decision } };
 
-    ghost invariant = { λ a. IsRising (record { proper = a.proper.items; locks = a.locks.items; proposal = a.proposal; ack = a.ack; decision = a.decision }) };
+    ghost invariant = { λ a. IsRising (record { proper = a.proper.items; locks = a.locks.items; proposal = a.proposal; owes_ack = a.owes_ack; decision = a.decision }) };
 }
 
 impl Node {
     ghost use Rattle.step_trace.specs.Configurations.{IsProc};
-    ghost use Rattle.lock_phases.specs.Rounds.{phase_of, part_of, part_at, owner};
-    ghost use Rattle.lock_phases.specs.Nodes.{Grows, opening};
-    ghost use Rattle.lock_phases.specs.Locks.{is_acceptable, heard_lock, kept_locks};
-    ghost use Rattle.lock_phases.specs.Quorums.{least_listed};
-    ghost use Rattle.lock_phases.specs.NodeFunctions.{out, kind_sent, next, next_in, locked, decides};
+    ghost use Rattle.lock_phases.specs.Nodes.{Grows, value_of, opening};
+    ghost use Rattle.lock_phases.specs.Messages.{sender_of};
+    ghost use Rattle.lock_phases.specs.Locks.{heard_lock};
+    ghost use Rattle.lock_phases.specs.NodeFunctions.{values_to_list, kind_out, out, after_listing, after_locking, after_acknowledging, after_releasing, after_part, next};
 
     /// The opening node of a processor with this initial value.
     pub fn new(alloc: Global, value: u64) -> Result<Self, AllocError>
@@ -51,7 +50,7 @@ impl Node {
             proper,
             locks: Vec::new(alloc),
             proposal: None,
-            ack: false,
+            owes_ack: false,
             decision: None,
         })
     }
@@ -64,7 +63,7 @@ impl Node {
             proper: Vec::from_slice(alloc, &self.proper)?,
             locks: Vec::from_slice(alloc, &self.locks)?,
             proposal: self.proposal,
-            ack: self.ack,
+            owes_ack: self.owes_ack,
             decision: self.decision,
         })
     }
@@ -80,7 +79,7 @@ impl Node {
     /// The locks, each a value with the phase in which it was locked, rising by value.
     pub fn locks(&self) -> &[(u64, u64)]
         ensures value { result.now ≡ self.now.locks }
-        ensures rising { IsStrictlyIncreasing (map (λ lock. lock.0) result.now) }
+        ensures rising { IsStrictlyIncreasing (map value_of result.now) }
     {
         &self.locks
     }
@@ -94,9 +93,9 @@ impl Node {
 
     /// Whether it owes an acknowledgement.
     pub fn ack(&self) -> bool
-        ensures { result ≡ self.now.ack }
+        ensures { result ≡ self.now.owes_ack }
     {
-        self.ack
+        self.owes_ack
     }
 
     /// The value that it decided, if it did.
@@ -112,35 +111,38 @@ impl Node {
     pub fn out(
         &self,
         alloc: Global,
-        cfg: &Config,
+        config: &Config,
         me: u64,
         round: u64,
         to: u64,
     ) -> Result<Option<Body>, AllocError>
-        requires sender { IsProc cfg.now me }
-        requires receiver { IsProc cfg.now to }
+        requires sender { IsProc config.now me }
+        requires receiver { IsProc config.now to }
         requires positive { 1 ≤ round }
-        ensures { IfOk result (λ body. body ≡ out cfg.now self.now me round to) }
+        ensures ok { IfOk result (λ body. body ≡ out config.now self.now me round to) }
+        ensures more { OnErr result (IsSome (out config.now self.now me round to)) }
     {
-        let Some(kind) = self.kind_sent(alloc, cfg, me, round, to)? else {
+        let Some(kind) = self.kind_out(alloc, config, me, round, to)? else {
             return Ok(None);
         };
         let proper = Values::new(Vec::from_slice(alloc, &self.proper)?);
         Ok(Some(Body { kind, proper }))
     }
 
-    fn kind_sent(
+    // What it says, PROPER aside.
+    fn kind_out(
         &self,
         alloc: Global,
-        cfg: &Config,
+        config: &Config,
         me: u64,
         round: u64,
         to: u64,
     ) -> Result<Option<Kind>, AllocError>
         requires { 1 ≤ round }
-        ensures { IfOk result (λ kind. kind ≡ kind_sent (part_at (part_of round)) self.now (owner cfg.now.n (phase_of round)) me to) }
+        ensures ok { IfOk result (λ kind. kind ≡ kind_out config.now self.now me round to) }
+        ensures more { OnErr result (IsSome (kind_out config.now self.now me round to)) }
     {
-        let owner = owner(cfg.n(), phase_of(round));
+        let owner = owner(config.n(), phase_of(round));
         match part_of(round) {
             1 => self.list_sent(alloc, to == owner),
             2 => Ok(self.lock_sent(me == owner)),
@@ -150,7 +152,9 @@ impl Node {
     }
 
     fn list_sent(&self, alloc: Global, to_owner: bool) -> Result<Option<Kind>, AllocError>
-        ensures { IfOk result (λ kind. kind ≡ (if to_owner then Some (Kind.List (filter (is_acceptable self.now.locks) self.now.proper)) else None)) }
+        ensures ok { IfOk result
+            (λ kind. kind ≡ (if to_owner then Some (Kind.List (values_to_list self.now)) else None)) }
+        ensures more { OnErr result (IsTrue to_owner) }
     {
         if !to_owner {
             return Ok(None);
@@ -176,9 +180,9 @@ impl Node {
     }
 
     fn ack_sent(&self, to_owner: bool) -> Option<Kind>
-        ensures { result ≡ (if self.now.ack && to_owner then Some Kind.Ack else None) }
+        ensures { result ≡ (if self.now.owes_ack && to_owner then Some Kind.Ack else None) }
     {
-        if self.ack && to_owner {
+        if self.owes_ack && to_owner {
             Some(Kind::Ack)
         } else {
             None
@@ -202,21 +206,21 @@ impl Node {
     pub fn compute(
         &mut self,
         alloc: Global,
-        cfg: &Config,
+        config: &Config,
         me: u64,
         round: u64,
         heard: &[(u64, Body)],
     ) -> Result<(), AllocError>
-        requires processor { IsProc cfg.now me }
+        requires processor { IsProc config.now me }
         requires positive { 1 ≤ round }
-        requires senders { All (λ m. IsProc cfg.now m.0) heard.now }
-        requires rising { IsStrictlyIncreasing (map (λ m. m.0) heard.now) }
-        ensures ok { OnOk result (self.new ≡ next cfg.now self.old me round heard.now) }
+        requires senders { All (λ m. IsProc config.now (sender_of m)) heard.now }
+        requires rising { IsStrictlyIncreasing (map sender_of heard.now) }
+        ensures ok { OnOk result (self.new ≡ next config.now self.old me round heard.now) }
         ensures err { OnErr result (self.new ≡ self.old) }
-        ensures more { OnErr result (Grows self.old (next cfg.now self.old me round heard.now)) }
+        ensures more { OnErr result (Grows self.old (next config.now self.old me round heard.now)) }
     {
         let grown = grown(alloc, &self.proper, heard)?;
-        self.compute_part(cfg, me, round, heard)?;
+        self.compute_part(config, me, round, heard)?;
         if let Some(proper) = grown {
             self.proper = proper;
         }
@@ -226,59 +230,61 @@ impl Node {
     // The compute part of a round, PROPER aside.
     fn compute_part(
         &mut self,
-        cfg: &Config,
+        config: &Config,
         me: u64,
         round: u64,
         heard: &[(u64, Body)],
     ) -> Result<(), AllocError>
         requires { 1 ≤ round }
-        ensures ok { OnOk result (self.new ≡ next_in (part_at (part_of round)) cfg.now self.old me (phase_of round) heard.now) }
+        ensures ok { OnOk result (self.new ≡ after_part config.now self.old me round heard.now) }
         ensures err { OnErr result (self.new ≡ self.old) }
-        ensures more { OnErr result (length self.old.locks < length (next_in (part_at (part_of round)) cfg.now self.old me (phase_of round) heard.now).locks) }
+        ensures more { OnErr result
+            (length self.old.locks < length (after_part config.now self.old me round heard.now).locks) }
     {
         let phase = phase_of(round);
-        let owner = owner(cfg.n(), phase);
+        let owner = owner(config.n(), phase);
         match part_of(round) {
-            1 => self.propose(cfg, me == owner, heard),
+            1 => self.propose(config, me == owner, heard),
             2 => self.lock(owner, phase, heard)?,
-            3 => self.decide(cfg, me == owner, heard),
+            3 => self.decide(config, me == owner, heard),
             _ => self.release(heard),
         }
         Ok(())
     }
 
-    fn propose(&mut self, cfg: &Config, owns: bool, heard: &[(u64, Body)])
-        ensures { self.new ≡ record self.old { proposal = (if owns then least_listed (cfg.now.n - cfg.now.t) heard.now else self.old.proposal) } }
+    fn propose(&mut self, config: &Config, owns: bool, heard: &[(u64, Body)])
+        ensures { self.new ≡ after_listing config.now self.old owns heard.now }
     {
         if owns {
-            self.proposal = least_listed(cfg.n() - cfg.t(), heard);
+            self.proposal = least_listed(config.n() - config.t(), heard);
         }
     }
 
     fn lock(&mut self, owner: u64, phase: u64, heard: &[(u64, Body)]) -> Result<(), AllocError>
-        ensures ok { OnOk result (self.new ≡ locked self.old phase (heard_lock owner heard.now)) }
+        ensures ok { OnOk result (self.new ≡ after_locking self.old phase (heard_lock owner heard.now)) }
         ensures err { OnErr result (self.new ≡ self.old) }
-        ensures more { OnErr result (length self.old.locks < length (locked self.old phase (heard_lock owner heard.now)).locks) }
+        ensures more { OnErr result
+            (length self.old.locks < length (after_locking self.old phase (heard_lock owner heard.now)).locks) }
     {
         if let Some(v) = heard_lock(owner, heard) {
             put_lock(&mut self.locks, v, phase)?;
-            self.ack = true;
+            self.owes_ack = true;
         }
         Ok(())
     }
 
-    fn decide(&mut self, cfg: &Config, owns: bool, heard: &[(u64, Body)])
-        ensures { self.new ≡ record self.old { decision = (if decides cfg.now self.old owns heard.now then self.old.proposal else self.old.decision); proposal = None; ack = false } }
+    fn decide(&mut self, config: &Config, owns: bool, heard: &[(u64, Body)])
+        ensures { self.new ≡ after_acknowledging config.now self.old owns heard.now }
     {
-        if owns && self.proposal.is_some() && self.decision.is_none() && cfg.t() < acks(heard) {
+        if owns && self.proposal.is_some() && self.decision.is_none() && config.t() < acks(heard) {
             self.decision = self.proposal;
         }
         self.proposal = None;
-        self.ack = false;
+        self.owes_ack = false;
     }
 
     fn release(&mut self, heard: &[(u64, Body)])
-        ensures { self.new ≡ record self.old { locks = kept_locks heard.now self.old.locks } }
+        ensures { self.new ≡ after_releasing self.old heard.now }
     {
         release(&mut self.locks, heard);
     }

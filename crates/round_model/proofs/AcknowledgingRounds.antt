@@ -4,10 +4,10 @@ use Rattle.std.proofs.Common.{ℕ, ◌≡◌, ◌+◌, ◌≤◌, ◌⊎◌, inl
 use Rattle.std.specs.Prelude.{Contains, count_by}
 use Rattle.step_trace.specs.Configurations.{Setup}
 use Rattle.lock_phases.specs.Rounds.{phase_of, part_of, owner}
-use Rattle.lock_phases.specs.Nodes.{State}
-use Rattle.lock_phases.specs.Messages.{Heard, is_ack}
+use Rattle.lock_phases.specs.Nodes.{State, LockPair, value_of, phase_of_lock}
+use Rattle.lock_phases.specs.Messages.{Message, is_ack, body_of}
 use Rattle.lock_phases.proofs.Counting.{count_by-le}
-use Rattle.lock_phases.proofs.AgreementLaws.{AcknowledgingKeeps, acknowledging-keeps, IsAcknowledged, decision-step}
+use Rattle.lock_phases.proofs.AcknowledgingLaws.{AcknowledgingKeeps, acknowledging-keeps, IsAcknowledged, decision-step}
 use Rattle.lock_phases.proofs.SentBodies.{ack-said_by}
 use Rattle.round_model.specs.RoundStates.{Table, processors, messages_heard}
 use Rattle.round_model.proofs.HeardMessages.{heard_of, heard_of-sender, nodes_after}
@@ -40,17 +40,17 @@ IsSafe-acknowledging c table nodes round e safe = record {
     keeps : (j : ℕ) → AcknowledgingKeeps (nodes j) (after j)
     keeps j = acknowledging-keeps c (nodes j) j round (messages_heard c table nodes j round) e
 
-    held : (j : ℕ) (lock : ℕ × ℕ) → Contains (after j).locks lock → Contains (nodes j).locks lock
+    held : (j : ℕ) (lock : LockPair) → Contains (after j).locks lock → Contains (nodes j).locks lock
     held j lock d = subst (λ xs. Contains xs lock) (keeps j).locks d
 
-    unflagged : (j : ℕ) → (after j).ack ≡ true → ⊥
-    unflagged j f = let clash = sym (keeps j).ack ∙ f in cc
+    unflagged : (j : ℕ) → (after j).owes_ack ≡ true → ⊥
+    unflagged j f = let clash = sym (keeps j).owes_ack ∙ f in cc
 
-    acknowledged : (p i : ℕ) (m : Heard) → heard_of c table nodes p round i ≡ Some m → is_ack m.1.kind ≡ true → (nodes i).ack ≡ true
-    acknowledged p i m h t = ack-said_by (nodes i) m.1 (heard_of-sender c table nodes p round i m h).said t
+    acknowledged : (p i : ℕ) (m : Message) → heard_of c table nodes p round i ≡ Some m → is_ack (body_of m).kind ≡ true → (nodes i).owes_ack ≡ true
+    acknowledged p i m h t = ack-said_by (nodes i) (body_of m) (heard_of-sender c table nodes p round i m h).said t
 
-    decided : (j v : ℕ) → (after j).decision ≡ Some v → ((nodes j).decision ≡ Some v) ⊎ IsAcknowledged c (nodes j) j o (λ i. (nodes i).ack) v
-    decided j v d = decision-step c (nodes j) j round (heard_of c table nodes j round) v (λ i. (nodes i).ack) e d (acknowledged j)
+    decided : (j v : ℕ) → (after j).decision ≡ Some v → ((nodes j).decision ≡ Some v) ⊎ IsAcknowledged c (nodes j) j o (λ i. (nodes i).owes_ack) v
+    decided j v d = decision-step c (nodes j) j round (heard_of c table nodes j round) v (λ i. (nodes i).owes_ack) e d (acknowledged j)
 
     old : (v : ℕ) → IsAnchored c nodes phase 3 v → IsAnchored c after phase 4 v
     old v a = record {
@@ -63,21 +63,21 @@ IsSafe-acknowledging c table nodes round e safe = record {
     }
 
     -- a lock of this phase is on the value that the owner decides
-    on_proposal : (v j : ℕ) (lock : ℕ × ℕ) → (nodes o).proposal ≡ Some v → Contains (nodes j).locks lock → lock.1 ≡ phase → lock.0 ≡ v
-    on_proposal v j lock p d h = let both : Some lock.0 ≡ Some v = sym (safe.fresh.proposed refl j lock d h) ∙ p in cc
+    on_proposal : (v j : ℕ) (lock : LockPair) → (nodes o).proposal ≡ Some v → Contains (nodes j).locks lock → phase_of_lock lock ≡ phase → value_of lock ≡ v
+    on_proposal v j lock p d h = let both : Some (value_of lock) ≡ Some v = sym (safe.fresh.proposed refl j lock d h) ∙ p in cc
 
-    locked : (v j : ℕ) → (nodes o).proposal ≡ Some v → (nodes j).ack ≡ true → is_locked_since phase v (after j).locks ≡ true
+    locked : (v j : ℕ) → (nodes o).proposal ≡ Some v → (nodes j).owes_ack ≡ true → is_locked_since phase v (after j).locks ≡ true
     locked v j p f =
-        let lock = safe.flags.locked j f in
-        let same = on_proposal v j (lock.0, phase) p lock.1 refl in
-        ap (is_locked_since phase v) (keeps j).locks ∙ is_locked_since-lock phase v (nodes j).locks (lock.0, phase) lock.1 same (omega arith)
+        let fresh = safe.flags.locked j f in
+        let same = on_proposal v j (fresh.0, phase) p fresh.1 refl in
+        ap (is_locked_since phase v) (keeps j).locks ∙ is_locked_since-lock phase v (nodes j).locks (fresh.0, phase) fresh.1 same (omega arith)
 
-    sole : (v j : ℕ) (lock : ℕ × ℕ) → (nodes o).proposal ≡ Some v → Contains (nodes j).locks lock → phase ≤ lock.1 → lock.0 ≡ v
+    sole : (v j : ℕ) (lock : LockPair) → (nodes o).proposal ≡ Some v → Contains (nodes j).locks lock → phase ≤ phase_of_lock lock → value_of lock ≡ v
     sole v j lock p d l = let h = safe.past.begun j lock d in on_proposal v j lock p d (omega arith)
 
-    new : (v : ℕ) → (nodes o).proposal ≡ Some v → c.t + 1 ≤ count_by (λ i. (nodes i).ack) (processors c) → IsAnchored c after phase 4 v
+    new : (v : ℕ) → (nodes o).proposal ≡ Some v → c.t + 1 ≤ count_by (λ i. (nodes i).owes_ack) (processors c) → IsAnchored c after phase 4 v
     new v p acks =
-        let more = count_by-le (λ i. (nodes i).ack) (λ i. is_locked_since phase v (after i).locks) (processors c) (λ i f. locked v i p f) in
+        let more = count_by-le (λ i. (nodes i).owes_ack) (λ i. is_locked_since phase v (after i).locks) (processors c) (λ i f. locked v i p f) in
         record {
           anchor = phase;
           begun = omega arith;
@@ -87,6 +87,6 @@ IsSafe-acknowledging c table nodes round e safe = record {
           proposed = λ l h. absurd (omega arith);
         }
 
-    anchored : (j v : ℕ) → ((nodes j).decision ≡ Some v) ⊎ IsAcknowledged c (nodes j) j o (λ i. (nodes i).ack) v → IsAnchored c after phase 4 v
+    anchored : (j v : ℕ) → ((nodes j).decision ≡ Some v) ⊎ IsAcknowledged c (nodes j) j o (λ i. (nodes i).owes_ack) v → IsAnchored c after phase 4 v
     anchored j v (inl d) = old v (safe.decisions.each j v d)
     anchored j v (inr h) = new v (subst (λ i. (nodes i).proposal ≡ Some v) h.owns h.proposal) h.acks

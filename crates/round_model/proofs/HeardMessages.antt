@@ -5,14 +5,14 @@ use Rattle.std.proofs.lemmas.List.FromFn.{length-range_with_len, get_or-range_wi
 use Rattle.step_trace.specs.Configurations.{Setup, IsProc}
 use Rattle.lock_phases.specs.declared.bodies.Body.{Body}
 use Rattle.lock_phases.specs.Nodes.{State}
-use Rattle.lock_phases.specs.Messages.{Heard}
+use Rattle.lock_phases.specs.Messages.{Message, sender_of, body_of}
 use Rattle.lock_phases.specs.NodeFunctions.{out, next}
 use Rattle.lock_phases.proofs.Membership.{Contains-from_filter_map}
 use Rattle.lock_phases.proofs.SentBodies.{IsSaidBy, out-said_by}
 use Rattle.round_model.specs.RoundStates.{Table, processors, messages_heard}
 
 -- what p hears of a sender, if anything
-abbrev pub heard_of : Setup → Table → (ℕ → State) → ℕ → ℕ → ℕ → Option Heard
+abbrev pub heard_of : Setup → Table → (ℕ → State) → ℕ → ℕ → ℕ → Option Message
 heard_of c table nodes p round sender = if table p round sender then option_map (λ body. (sender, body)) (out c (nodes sender) sender round p) else None
 
 -- the nodes after a round
@@ -26,11 +26,11 @@ IsProc-from_processors c p d =
     (omega arith, omega arith)
 
 -- what is heard of a sender has its number, and is said by its node
-pub record IsHeardOf (nodes : ℕ → State) (sender : ℕ) (m : Heard) : Type 0 where
-  pub sender_is : m.0 ≡ sender
-  pub said : IsSaidBy (nodes sender) m.1
+pub record IsHeardOf (nodes : ℕ → State) (sender : ℕ) (m : Message) : Type 0 where
+  pub sender_is : sender_of m ≡ sender
+  pub said : IsSaidBy (nodes sender) (body_of m)
 
-pub heard_of-sender : (c : Setup) (table : Table) (nodes : ℕ → State) (p round sender : ℕ) (m : Heard)
+pub heard_of-sender : (c : Setup) (table : Table) (nodes : ℕ → State) (p round sender : ℕ) (m : Message)
     → heard_of c table nodes p round sender ≡ Some m → IsHeardOf nodes sender m
 heard_of-sender c table nodes p round sender m e = go (table p round sender) (out c (nodes sender) sender round p) refl e
   where
@@ -42,16 +42,16 @@ heard_of-sender c table nodes p round sender m e = go (table p round sender) (ou
     go false o s h = cc
 
 -- a message that is heard is said by the node of its sender, a processor
-pub record IsHeardMessage (c : Setup) (nodes : ℕ → State) (m : Heard) : Type 0 where
-  pub sender : IsProc c m.0
-  pub said : IsSaidBy (nodes m.0) m.1
+pub record IsHeardMessage (c : Setup) (nodes : ℕ → State) (m : Message) : Type 0 where
+  pub sender : IsProc c (sender_of m)
+  pub said : IsSaidBy (nodes (sender_of m)) (body_of m)
 
-pub messages_heard-said : (c : Setup) (table : Table) (nodes : ℕ → State) (p round : ℕ) (m : Heard)
+pub messages_heard-said : (c : Setup) (table : Table) (nodes : ℕ → State) (p round : ℕ) (m : Message)
     → Contains (messages_heard c table nodes p round) m → IsHeardMessage c nodes m
 messages_heard-said c table nodes p round m d =
     let r = Contains-from_filter_map (heard_of c table nodes p round) (processors c) m d in
     let h = heard_of-sender c table nodes p round r.0 m r.2 in
     record {
       sender = subst (IsProc c) (sym h.sender_is) (IsProc-from_processors c r.0 r.1);
-      said = subst (λ j. IsSaidBy (nodes j) m.1) (sym h.sender_is) h.said;
+      said = subst (λ j. IsSaidBy (nodes j) (body_of m)) (sym h.sender_is) h.said;
     }

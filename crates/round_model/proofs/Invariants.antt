@@ -6,28 +6,28 @@ use Rattle.std.specs.List.{list_any}
 use Rattle.std.proofs.lemmas.Bool.{eqb-true, leb-true, le-leb, cases_lt, and_parts}
 use Rattle.step_trace.specs.Configurations.{Setup}
 use Rattle.lock_phases.specs.Rounds.{owner}
-use Rattle.lock_phases.specs.Nodes.{State}
+use Rattle.lock_phases.specs.Nodes.{State, LockPair, value_of, phase_of_lock}
 use Rattle.lock_phases.proofs.Membership.{list_any-found, list_any-at, count_by-found}
 use Rattle.lock_phases.proofs.Counting.{count_by-le}
 use Rattle.round_model.specs.RoundStates.{processors}
 
 -- Each lock is of a phase that has begun; before the locking round is over, of an earlier one.
 pub record LocksArePast (nodes : ℕ → State) (phase part : ℕ) : Type 0 where
-  pub begun : (j : ℕ) (lock : ℕ × ℕ) → Contains (nodes j).locks lock → lock.1 ≤ phase
-  pub earlier : part ≤ 2 → (j : ℕ) (lock : ℕ × ℕ) → Contains (nodes j).locks lock → lock.1 < phase
+  pub begun : (j : ℕ) (lock : LockPair) → Contains (nodes j).locks lock → phase_of_lock lock ≤ phase
+  pub earlier : part ≤ 2 → (j : ℕ) (lock : LockPair) → Contains (nodes j).locks lock → phase_of_lock lock < phase
 
 -- Before the acknowledging round, each lock of this phase is on the proposal of its owner.
 pub record FreshLocksAreProposed (c : Setup) (nodes : ℕ → State) (phase part : ℕ) : Type 0 where
-  pub proposed : part ≡ 3 → (j : ℕ) (lock : ℕ × ℕ) → Contains (nodes j).locks lock → lock.1 ≡ phase → (nodes (owner c.n phase)).proposal ≡ Some lock.0
+  pub proposed : part ≡ 3 → (j : ℕ) (lock : LockPair) → Contains (nodes j).locks lock → phase_of_lock lock ≡ phase → (nodes (owner c.n phase)).proposal ≡ Some (value_of lock)
 
 -- A flag is set only before the acknowledging round, and who has it set holds a lock of this phase.
 pub record FlagsMeanFreshLocks (nodes : ℕ → State) (phase part : ℕ) : Type 0 where
-  pub acknowledging : (j : ℕ) → (nodes j).ack ≡ true → part ≡ 3
-  pub locked : (j : ℕ) → (nodes j).ack ≡ true → (v : ℕ) × Contains (nodes j).locks (v, phase)
+  pub acknowledging : (j : ℕ) → (nodes j).owes_ack ≡ true → part ≡ 3
+  pub locked : (j : ℕ) → (nodes j).owes_ack ≡ true → (v : ℕ) × Contains (nodes j).locks (v, phase)
 
 -- whether v is locked, with this phase or a later one
-abbrev pub is_locked_since : ℕ → ℕ → List (ℕ × ℕ) → Bool
-is_locked_since phase v locks = list_any (λ lock. lock.0 == v && nat_le phase lock.1) locks
+abbrev pub is_locked_since : ℕ → ℕ → List LockPair → Bool
+is_locked_since phase v locks = list_any (λ lock. value_of lock == v && nat_le phase (phase_of_lock lock)) locks
 
 -- A value is anchored at a phase whose acknowledging round is over: more than t processors hold it locked
 -- since that phase, nobody holds another value so, and no other value is proposed.
@@ -36,7 +36,7 @@ pub record IsAnchored (c : Setup) (nodes : ℕ → State) (phase part v : ℕ) :
   pub begun : anchor ≤ phase
   pub earlier : part ≤ 3 → anchor < phase
   pub holders : c.t + 1 ≤ count_by (λ j. is_locked_since anchor v (nodes j).locks) (processors c)
-  pub sole : (j : ℕ) (lock : ℕ × ℕ) → Contains (nodes j).locks lock → anchor ≤ lock.1 → lock.0 ≡ v
+  pub sole : (j : ℕ) (lock : LockPair) → Contains (nodes j).locks lock → anchor ≤ phase_of_lock lock → value_of lock ≡ v
   pub proposed : 2 ≤ part → part ≤ 3 → (w : ℕ) → (nodes (owner c.n phase)).proposal ≡ Some w → w ≡ v
 
 -- Each decision is anchored.
@@ -51,22 +51,22 @@ pub record IsSafe (c : Setup) (nodes : ℕ → State) (phase part : ℕ) : Type 
   pub decisions : DecisionsAreAnchored c nodes phase part
 
 -- a lock held since a phase
-pub record IsLockSince (phase v : ℕ) (locks : List (ℕ × ℕ)) : Type 0 where
-  pub lock : ℕ × ℕ
+pub record IsLockSince (phase v : ℕ) (locks : List LockPair) : Type 0 where
+  pub lock : LockPair
   pub held : Contains locks lock
-  pub value : lock.0 ≡ v
-  pub since : phase ≤ lock.1
+  pub value : value_of lock ≡ v
+  pub since : phase ≤ phase_of_lock lock
 
-pub IsLockSince-from_test : (phase v : ℕ) (locks : List (ℕ × ℕ)) → is_locked_since phase v locks ≡ true → IsLockSince phase v locks
+pub IsLockSince-from_test : (phase v : ℕ) (locks : List LockPair) → is_locked_since phase v locks ≡ true → IsLockSince phase v locks
 IsLockSince-from_test phase v locks e =
-    let f = list_any-found (λ lock. lock.0 == v && nat_le phase lock.1) locks e in
-    let b = and_parts (f.0.0 == v) (nat_le phase f.0.1) f.2 in
-    record { lock = f.0; held = f.1; value = eqb-true f.0.0 v b.0; since = leb-true phase f.0.1 b.1 }
+    let f = list_any-found (λ lock. value_of lock == v && nat_le phase (phase_of_lock lock)) locks e in
+    let b = and_parts (value_of f.0 == v) (nat_le phase (phase_of_lock f.0)) f.2 in
+    record { lock = f.0; held = f.1; value = eqb-true (value_of f.0) v b.0; since = leb-true phase (phase_of_lock f.0) b.1 }
 
-pub is_locked_since-lock : (phase v : ℕ) (locks : List (ℕ × ℕ)) (lock : ℕ × ℕ) → Contains locks lock → lock.0 ≡ v → phase ≤ lock.1
+pub is_locked_since-lock : (phase v : ℕ) (locks : List LockPair) (lock : LockPair) → Contains locks lock → value_of lock ≡ v → phase ≤ phase_of_lock lock
     → is_locked_since phase v locks ≡ true
 is_locked_since-lock phase v locks lock d e l =
-    list_any-at (λ x. x.0 == v && nat_le phase x.1) locks lock d (rw (eq-eqb lock.0 v e, le-leb phase lock.1 l) refl)
+    list_any-at (λ x. value_of x == v && nat_le phase (phase_of_lock x)) locks lock d (rw (eq-eqb (value_of lock) v e, le-leb phase (phase_of_lock lock) l) refl)
 
 -- those who hold a value go on holding it, where each does
 pub holders-kept : (c : Setup) (nodes after : ℕ → State) (phase v : ℕ)

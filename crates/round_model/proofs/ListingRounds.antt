@@ -4,12 +4,12 @@ use Rattle.std.specs.Prelude.{Contains}
 use Rattle.std.proofs.lemmas.Bool.{eqb-true}
 use Rattle.step_trace.specs.Configurations.{Setup, IsSetup}
 use Rattle.lock_phases.specs.Rounds.{phase_of, part_of, owner}
-use Rattle.lock_phases.specs.Nodes.{State}
-use Rattle.lock_phases.specs.Messages.{Heard}
+use Rattle.lock_phases.specs.Nodes.{State, LockPair}
+use Rattle.lock_phases.specs.Messages.{Message, body_of}
 use Rattle.lock_phases.specs.Quorums.{lists}
 use Rattle.lock_phases.proofs.LockLaws.{is_acceptable-locked}
 use Rattle.lock_phases.proofs.QuorumLaws.{Contains-from_lists}
-use Rattle.lock_phases.proofs.AgreementLaws.{ListingKeeps, listing-keeps, quorum-step}
+use Rattle.lock_phases.proofs.ListingLaws.{ListingKeeps, listing-keeps, quorum-step}
 use Rattle.lock_phases.proofs.SentBodies.{listed-said_by}
 use Rattle.round_model.specs.RoundStates.{Table, messages_heard}
 use Rattle.round_model.proofs.HeardMessages.{heard_of, heard_of-sender, nodes_after}
@@ -25,11 +25,11 @@ proposed-anchored c table nodes round v w setup e a proposes = go (eqb w v) refl
     o = owner c.n (phase_of round)
 
     -- who holds v since its anchor lists no other value
-    silent : (w ≡ v → ⊥) → (j : ℕ) (m : Heard) → heard_of c table nodes o round j ≡ Some m → lists m w ≡ true
+    silent : (w ≡ v → ⊥) → (j : ℕ) (m : Message) → heard_of c table nodes o round j ≡ Some m → lists m w ≡ true
         → is_locked_since a.anchor v (nodes j).locks ≡ true → ⊥
     silent other j m h l s =
         let said = (heard_of-sender c table nodes o round j m h).said in
-        let acceptable = (listed-said_by (nodes j) m.1 w said (Contains-from_lists m w l)).1 in
+        let acceptable = (listed-said_by (nodes j) (body_of m) w said (Contains-from_lists m w l)).1 in
         let lock = IsLockSince-from_test a.anchor v (nodes j).locks s in
         other (sym (is_acceptable-locked (nodes j).locks w lock.lock acceptable lock.held) ∙ lock.value)
 
@@ -62,11 +62,11 @@ IsSafe-listing c table nodes round setup e safe = record {
     keeps : (j : ℕ) → ListingKeeps (nodes j) (after j)
     keeps j = listing-keeps c (nodes j) j round (messages_heard c table nodes j round) e
 
-    held : (j : ℕ) (lock : ℕ × ℕ) → Contains (after j).locks lock → Contains (nodes j).locks lock
+    held : (j : ℕ) (lock : LockPair) → Contains (after j).locks lock → Contains (nodes j).locks lock
     held j lock d = subst (λ xs. Contains xs lock) (keeps j).locks d
 
-    unflagged : (j : ℕ) → (after j).ack ≡ true → ⊥
-    unflagged j f = let p = safe.flags.acknowledging j (sym (keeps j).ack ∙ f) in omega arith
+    unflagged : (j : ℕ) → (after j).owes_ack ≡ true → ⊥
+    unflagged j f = let p = safe.flags.acknowledging j (sym (keeps j).owes_ack ∙ f) in omega arith
 
     anchored : (v : ℕ) → IsAnchored c nodes (phase_of round) 1 v → IsAnchored c after (phase_of round) 2 v
     anchored v a = record {

@@ -3,19 +3,21 @@ use Rattle.std.proofs.Common.{ℕ, ◌≡◌, ◌≤◌, ◌⊎◌, inl, inr, tr
 use Rattle.std.specs.Prelude.{Contains}
 use Rattle.step_trace.specs.Configurations.{Setup}
 use Rattle.lock_phases.specs.Rounds.{phase_of, part_of, owner}
-use Rattle.lock_phases.specs.Nodes.{State}
-use Rattle.lock_phases.proofs.AgreementLaws.{LockingKeeps, locking-keeps, IsToldToLock, LockingLocks, locking-locks}
+use Rattle.lock_phases.specs.Nodes.{State, LockPair, value_of, phase_of_lock}
+use Rattle.lock_phases.proofs.LockingLaws.{LockingKeeps, locking-keeps, LockingLocks, locking-locks}
+use Rattle.lock_phases.proofs.LockLaws.{IsToldToLock}
 use Rattle.lock_phases.proofs.SentBodies.{lock-said_by}
 use Rattle.round_model.specs.RoundStates.{Table, messages_heard}
 use Rattle.round_model.proofs.HeardMessages.{nodes_after, messages_heard-said}
 use Rattle.round_model.proofs.Invariants.{is_locked_since, IsLockSince-from_test, is_locked_since-lock, IsAnchored, holders-kept, IsSafe}
+use Rattle.lock_phases.specs.Messages.{sender_of, body_of}
 
 -- who is told to lock a value is told the owner's proposal
 told-proposed : (c : Setup) (table : Table) (nodes : ℕ → State) (round p o v : ℕ) → IsToldToLock o (messages_heard c table nodes p round) v
     → (nodes o).proposal ≡ Some v
 told-proposed c table nodes round p o v told =
     let h = messages_heard-said c table nodes p round told.message told.is_heard in
-    subst (λ j. (nodes j).proposal ≡ Some v) told.sender (lock-said_by (nodes told.message.0) told.message.1 v h.said told.kind)
+    subst (λ j. (nodes j).proposal ≡ Some v) told.sender (lock-said_by (nodes (sender_of told.message)) (body_of told.message) v h.said told.kind)
 
 pub IsSafe-locking : (c : Setup) (table : Table) (nodes : ℕ → State) (round : ℕ) → part_of round ≡ 2 → IsSafe c nodes (phase_of round) 2
     → IsSafe c (nodes_after c table nodes round) (phase_of round) 3
@@ -48,22 +50,22 @@ IsSafe-locking c table nodes round e safe = record {
     locks j = locking-locks c (nodes j) j round (messages_heard c table nodes j round) e
 
     -- a lock was held, or is a new one on the proposal
-    fresh : (j : ℕ) (lock : ℕ × ℕ) → Contains (after j).locks lock → Contains (nodes j).locks lock ⊎ ((lock.1 ≡ phase) × ((nodes o).proposal ≡ Some lock.0))
+    fresh : (j : ℕ) (lock : LockPair) → Contains (after j).locks lock → Contains (nodes j).locks lock ⊎ ((phase_of_lock lock ≡ phase) × ((nodes o).proposal ≡ Some (value_of lock)))
     fresh j lock d = elim ((locks j).fresh lock d) [
       | inl h ↦ inl h
-      | inr h ↦ inr (h.0, told-proposed c table nodes round j o lock.0 h.1)
+      | inr h ↦ inr (h.0, told-proposed c table nodes round j o (value_of lock) h.1)
     ]
 
-    begun : (j : ℕ) (lock : ℕ × ℕ) → Contains (nodes j).locks lock ⊎ ((lock.1 ≡ phase) × ((nodes o).proposal ≡ Some lock.0)) → lock.1 ≤ phase
+    begun : (j : ℕ) (lock : LockPair) → Contains (nodes j).locks lock ⊎ ((phase_of_lock lock ≡ phase) × ((nodes o).proposal ≡ Some (value_of lock))) → phase_of_lock lock ≤ phase
     begun j lock (inl d) = safe.past.begun j lock d
     begun j lock (inr h) = let same = h.0 in omega arith
 
-    proposed : (j : ℕ) (lock : ℕ × ℕ) → lock.1 ≡ phase → Contains (nodes j).locks lock ⊎ ((lock.1 ≡ phase) × ((nodes o).proposal ≡ Some lock.0))
-        → (after o).proposal ≡ Some lock.0
+    proposed : (j : ℕ) (lock : LockPair) → phase_of_lock lock ≡ phase → Contains (nodes j).locks lock ⊎ ((phase_of_lock lock ≡ phase) × ((nodes o).proposal ≡ Some (value_of lock)))
+        → (after o).proposal ≡ Some (value_of lock)
     proposed j lock h (inl d) = let l = safe.past.earlier (omega arith) j lock d in absurd (omega arith)
     proposed j lock h (inr p) = (keeps o).proposal ∙ p.1
 
-    flagged : (j : ℕ) → ((nodes j).ack ≡ true) ⊎ ((v : ℕ) × Contains (after j).locks (v, phase)) → (v : ℕ) × Contains (after j).locks (v, phase)
+    flagged : (j : ℕ) → ((nodes j).owes_ack ≡ true) ⊎ ((v : ℕ) × Contains (after j).locks (v, phase)) → (v : ℕ) × Contains (after j).locks (v, phase)
     flagged j (inl f) = let p = safe.flags.acknowledging j f in absurd (omega arith)
     flagged j (inr h) = h
 
@@ -73,13 +75,13 @@ IsSafe-locking c table nodes round e safe = record {
         let x = IsLockSince-from_test anchor v (nodes j).locks h in
         elim ((locks j).held x.lock x.held) [
           | inl d ↦ is_locked_since-lock anchor v (after j).locks x.lock d x.value x.since
-          | inr d ↦ is_locked_since-lock anchor v (after j).locks (x.lock.0, phase) d x.value l
+          | inr d ↦ is_locked_since-lock anchor v (after j).locks (value_of x.lock, phase) d x.value l
         ]
 
-    sole : (v : ℕ) (a : IsAnchored c nodes phase 2 v) (j : ℕ) (lock : ℕ × ℕ) → a.anchor ≤ lock.1
-        → Contains (nodes j).locks lock ⊎ ((lock.1 ≡ phase) × ((nodes o).proposal ≡ Some lock.0)) → lock.0 ≡ v
+    sole : (v : ℕ) (a : IsAnchored c nodes phase 2 v) (j : ℕ) (lock : LockPair) → a.anchor ≤ phase_of_lock lock
+        → Contains (nodes j).locks lock ⊎ ((phase_of_lock lock ≡ phase) × ((nodes o).proposal ≡ Some (value_of lock))) → value_of lock ≡ v
     sole v a j lock l (inl d) = a.sole j lock d l
-    sole v a j lock l (inr h) = a.proposed (omega arith) (omega arith) lock.0 h.1
+    sole v a j lock l (inr h) = a.proposed (omega arith) (omega arith) (value_of lock) h.1
 
     anchored : (v : ℕ) → IsAnchored c nodes phase 2 v → IsAnchored c after phase 3 v
     anchored v a = record {

@@ -2,13 +2,14 @@
 use Rattle.std.proofs.Common.{ℕ, ◌≡◌, ◌+◌, ◌≤◌, true, sym, ◌∙◌, arith}
 use Rattle.step_trace.specs.Configurations.{Setup}
 use Rattle.lock_phases.specs.Rounds.{phase_of, part_of}
-use Rattle.lock_phases.specs.Nodes.{State}
+use Rattle.lock_phases.specs.Nodes.{State, LockPair, value_of, phase_of_lock}
 use Rattle.lock_phases.proofs.LockLaws.{IsTold}
-use Rattle.lock_phases.proofs.AgreementLaws.{ReleasingKeeps, releasing-keeps}
+use Rattle.lock_phases.proofs.ReleasingLaws.{ReleasingKeeps, releasing-keeps}
 use Rattle.lock_phases.proofs.SentBodies.{told-said_by}
 use Rattle.round_model.specs.RoundStates.{Table, messages_heard}
 use Rattle.round_model.proofs.HeardMessages.{nodes_after, messages_heard-said}
 use Rattle.round_model.proofs.Invariants.{is_locked_since, IsLockSince-from_test, is_locked_since-lock, IsAnchored, holders-kept, IsSafe}
+use Rattle.lock_phases.specs.Messages.{sender_of, body_of}
 
 pub IsSafe-releasing : (c : Setup) (table : Table) (nodes : ℕ → State) (round : ℕ) → part_of round ≡ 4 → IsSafe c nodes (phase_of round) 4
     → IsSafe c (nodes_after c table nodes round) (phase_of round + 1) 1
@@ -31,15 +32,15 @@ IsSafe-releasing c table nodes round e safe = record {
     keeps : (j : ℕ) → ReleasingKeeps (nodes j) (after j) (messages_heard c table nodes j round)
     keeps j = releasing-keeps c (nodes j) j round (messages_heard c table nodes j round) e
 
-    unflagged : (j : ℕ) → (after j).ack ≡ true → ⊥
-    unflagged j f = let p = safe.flags.acknowledging j (sym (keeps j).ack ∙ f) in omega arith
+    unflagged : (j : ℕ) → (after j).owes_ack ≡ true → ⊥
+    unflagged j f = let p = safe.flags.acknowledging j (sym (keeps j).owes_ack ∙ f) in omega arith
 
     -- what is told since the anchor is the anchored value
-    told : (v : ℕ) (a : IsAnchored c nodes (phase_of round) 4 v) (j : ℕ) (lock : ℕ × ℕ) → IsTold (messages_heard c table nodes j round) lock
-        → a.anchor ≤ lock.1 → lock.0 ≡ v
+    told : (v : ℕ) (a : IsAnchored c nodes (phase_of round) 4 v) (j : ℕ) (lock : LockPair) → IsTold (messages_heard c table nodes j round) lock
+        → a.anchor ≤ phase_of_lock lock → value_of lock ≡ v
     told v a j lock t l =
-        let h = messages_heard-said c table nodes j round t.0 t.1 in
-        a.sole t.0.0 lock (told-said_by (nodes t.0.0) t.0.1 lock h.said t.2) l
+        let h = messages_heard-said c table nodes j round t.message t.is_heard in
+        a.sole (sender_of t.message) lock (told-said_by (nodes (sender_of t.message)) (body_of t.message) lock h.said t.tells) l
 
     still : (v : ℕ) (a : IsAnchored c nodes (phase_of round) 4 v) (j : ℕ) → is_locked_since a.anchor v (nodes j).locks ≡ true
         → is_locked_since a.anchor v (after j).locks ≡ true

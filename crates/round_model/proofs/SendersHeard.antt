@@ -8,7 +8,7 @@ use Rattle.std.proofs.lemmas.List.Kept.{IsStrictlyIncreasing-filter}
 use Rattle.step_trace.specs.Configurations.{Setup, IsProc}
 use Rattle.lock_phases.specs.declared.bodies.Body.{Body}
 use Rattle.lock_phases.specs.Nodes.{State}
-use Rattle.lock_phases.specs.Messages.{Heard}
+use Rattle.lock_phases.specs.Messages.{Message, sender_of}
 use Rattle.lock_phases.specs.NodeFunctions.{out}
 use Rattle.round_model.specs.RoundStates.{Table, processors, messages_heard}
 use Rattle.round_model.proofs.HeardMessages.{heard_of}
@@ -32,30 +32,30 @@ messages_heard-agree c table f g p round same =
 
 -- the senders of what is heard are the processors of which something is heard
 pub messages_heard-senders : (c : Setup) (table : Table) (nodes : ℕ → State) (p round : ℕ)
-    → map (λ m. m.0) (messages_heard c table nodes p round) ≡ filter (λ sender. is_some (heard_of c table nodes p round sender)) (processors c)
+    → map sender_of (messages_heard c table nodes p round) ≡ filter (λ sender. is_some (heard_of c table nodes p round sender)) (processors c)
 messages_heard-senders c table nodes p round = go (processors c)
   where
-    from_sender : (sender : ℕ) (xs : List Heard) (rest : List ℕ) (t : Bool) (o : Option Body) → map (λ m. m.0) xs ≡ rest
-        → map (λ m. m.0) (cons_option (if t then option_map (λ body. (sender, body)) o else None) xs)
-        ≡ (if is_some {T = Heard} (if t then option_map (λ body. (sender, body)) o else None) then sender ∷ rest else rest)
+    from_sender : (sender : ℕ) (xs : List Message) (rest : List ℕ) (t : Bool) (o : Option Body) → map sender_of xs ≡ rest
+        → map sender_of (cons_option (if t then option_map (λ body. (sender, body)) o else None) xs)
+        ≡ (if is_some {T = Message} (if t then option_map (λ body. (sender, body)) o else None) then sender ∷ rest else rest)
     from_sender sender xs rest false o e = e
     from_sender sender xs rest true None e = e
     from_sender sender xs rest true (Some body) e = ap (λ r. sender ∷ r) e
 
-    go : (senders : List ℕ) → map (λ m. m.0) (filter_map (heard_of c table nodes p round) senders) ≡ filter (λ sender. is_some (heard_of c table nodes p round sender)) senders
+    go : (senders : List ℕ) → map sender_of (filter_map (heard_of c table nodes p round) senders) ≡ filter (λ sender. is_some (heard_of c table nodes p round sender)) senders
     go [] = refl
     go (sender ∷ rest) = from_sender sender _ _ (table p round sender) (out c (nodes sender) sender round p) (go rest)
 
 -- what is heard comes in the order of its senders
-pub messages_heard-rise : (c : Setup) (table : Table) (nodes : ℕ → State) (p round : ℕ) → IsStrictlyIncreasing (map (λ m. m.0) (messages_heard c table nodes p round))
+pub messages_heard-rise : (c : Setup) (table : Table) (nodes : ℕ → State) (p round : ℕ) → IsStrictlyIncreasing (map sender_of (messages_heard c table nodes p round))
 messages_heard-rise c table nodes p round =
     rw (messages_heard-senders c table nodes p round)
     (IsStrictlyIncreasing-filter (λ sender. is_some (heard_of c table nodes p round sender)) (processors c) (IsStrictlyIncreasing-range_with_len 1 c.n))
 
 -- what is heard comes from processors
-pub messages_heard-processors : (c : Setup) (table : Table) (nodes : ℕ → State) (p round : ℕ) → All (λ m. IsProc c m.0) (messages_heard c table nodes p round)
+pub messages_heard-processors : (c : Setup) (table : Table) (nodes : ℕ → State) (p round : ℕ) → All (λ m. IsProc c (sender_of m)) (messages_heard c table nodes p round)
 messages_heard-processors c table nodes p round =
-    All-from_map (IsProc c) (λ m. m.0) (messages_heard c table nodes p round)
+    All-from_map (IsProc c) sender_of (messages_heard c table nodes p round)
     (rw (messages_heard-senders c table nodes p round)
     (All-filter (λ sender. is_some (heard_of c table nodes p round sender)) (IsProc c) (processors c)
     (All-weaker (λ q. (1 ≤ q) × (q < 1 + c.n)) (IsProc c) (λ q h. (h.0, omega arith)) (processors c) (All-range_with_len 1 c.n))))

@@ -4,9 +4,9 @@ use Rattle.std.specs.Prelude.{Contains}
 use Rattle.std.proofs.lemmas.List.Elements.{Contains-get_or}
 use Rattle.step_trace.specs.Configurations.{Setup, IsSetup, IsProc}
 use Rattle.lock_phases.specs.Nodes.{State}
-use Rattle.lock_phases.specs.Messages.{Heard, listed_values}
+use Rattle.lock_phases.specs.Messages.{Message, listed_values, sender_of, body_of}
 use Rattle.lock_phases.proofs.Membership.{Contains-cons_cases, Contains-nil}
-use Rattle.lock_phases.proofs.AgreementLaws.{proper-origin, proposal-origin, decision-origin}
+use Rattle.lock_phases.proofs.OriginLaws.{proper-origin, proposal-origin, decision-origin}
 use Rattle.lock_phases.proofs.SentBodies.{listed-said_by}
 use Rattle.round_model.specs.RoundStates.{Table, initial_value, messages_heard, state_after}
 use Rattle.round_model.proofs.HeardMessages.{nodes_after, messages_heard-said}
@@ -26,20 +26,20 @@ HasInitialValues-after c table nodes round known p is = record {
   decision = λ v e. decision v (decision-origin c (nodes p) p round heard v e);
 }
   where
-    heard : List Heard
+    heard : List Message
     heard = messages_heard c table nodes p round
 
-    proper : (v : ℕ) → Contains (nodes p).proper v ⊎ ((m : Heard) × Contains heard m × Contains m.1.proper v) → Contains c.init v
+    proper : (v : ℕ) → Contains (nodes p).proper v ⊎ ((m : Message) × Contains heard m × Contains (body_of m).proper v) → Contains c.init v
     proper v (inl d) = (known p is).proper v d
     proper v (inr r) =
         let h = messages_heard-said c table nodes p round r.0 r.1 in
-        (known r.0.0 h.sender).proper v (subst (λ xs. Contains xs v) h.said.proper r.2)
+        (known (sender_of r.0) h.sender).proper v (subst (λ xs. Contains xs v) h.said.proper r.2)
 
-    proposal : (v : ℕ) → ((nodes p).proposal ≡ Some v) ⊎ ((m : Heard) × Contains heard m × Contains (listed_values m.1.kind) v) → Contains c.init v
+    proposal : (v : ℕ) → ((nodes p).proposal ≡ Some v) ⊎ ((m : Message) × Contains heard m × Contains (listed_values (body_of m).kind) v) → Contains c.init v
     proposal v (inl e) = (known p is).proposal v e
     proposal v (inr r) =
         let h = messages_heard-said c table nodes p round r.0 r.1 in
-        (known r.0.0 h.sender).proper v (listed-said_by (nodes r.0.0) r.0.1 v h.said r.2).0
+        (known (sender_of r.0) h.sender).proper v (listed-said_by (nodes (sender_of r.0)) (body_of r.0) v h.said r.2).0
 
     decision : (v : ℕ) → ((nodes p).decision ≡ Some v) ⊎ ((nodes p).proposal ≡ Some v) → Contains c.init v
     decision v (inl e) = (known p is).decision v e

@@ -1,6 +1,8 @@
 -- Tables of who heard whom as they are kept: for each processor and each round the set of the senders heard.
 use Rattle.std.specs.Prelude.{ℕ, zero, suc, ◌≡◌, ◌≤◌, List, [], length, map, All, Vec, slice_index_or}
+use Rattle.step_trace.specs.declared.configurations.TheConstants.{MIN_PROCESSORS, MAX_PROCESSORS}
 use Rattle.step_trace.specs.Processors.{has_proc, IsWithin}
+use Rattle.round_model.specs.declared.heard_sets.TheConstants.{MAX_ROUNDS}
 use Rattle.round_model.specs.RoundStates.{Table}
 
 -- so many processors and so many rounds, and for each processor the sets of its rounds, in their order
@@ -26,12 +28,12 @@ heard_set h p round = numbered 0 (numbered [] h.sets p) round
 abbrev pub table_of : HeardTable → Table
 table_of h p round sender = has_proc (heard_set h p round) sender
 
--- A table within its limits (own: 2 to 16 processors, at most 1,000,000 rounds) that has a set for each
--- processor and each round, and no sender that is no processor.
+-- A table within the limits (own) of processors and rounds that has a set for each processor and each
+-- round, and no sender that is no processor.
 pub record IsHeardTable (h : HeardTable) : Type 0 where
-  pub least : 2 ≤ h.n
-  pub most : h.n ≤ 16
-  pub limit : h.rounds ≤ 1000000
+  pub least : MIN_PROCESSORS ≤ h.n
+  pub most : h.n ≤ MAX_PROCESSORS
+  pub limit : h.rounds ≤ MAX_ROUNDS
   pub processors : length h.sets ≡ h.n
   pub lengths : All (λ sets. length sets ≡ h.rounds) h.sets
   pub within : All (λ sets. All (λ set. IsWithin set h.n) sets) h.sets

@@ -4,7 +4,7 @@ use Rattle.std.specs.Prelude.{ℕ, zero, suc, ◌-◌, List, None, Bool, get_or,
 use Rattle.std.specs.List.{range_with_len}
 use Rattle.step_trace.specs.Configurations.{Setup}
 use Rattle.lock_phases.specs.Nodes.{State, opening}
-use Rattle.lock_phases.specs.Messages.{Heard}
+use Rattle.lock_phases.specs.Messages.{Message}
 use Rattle.lock_phases.specs.NodeFunctions.{out, next}
 
 -- A table of who heard whom: whether a processor hears a sender in a round. Any function is one, so a
@@ -22,7 +22,7 @@ initial_value c p = get_or c.init (p - 1) 0
 
 -- the messages that p hears in a round in which the processors have these nodes, in the order of their
 -- senders; a sender that has nothing to send to p gives nothing
-abbrev pub messages_heard : Setup → Table → (ℕ → State) → ℕ → ℕ → List Heard
+abbrev pub messages_heard : Setup → Table → (ℕ → State) → ℕ → ℕ → List Message
 messages_heard c table nodes p round =
     filter_map
     (λ sender. if table p round sender then option_map (λ body. (sender, body)) (out c (nodes sender) sender round p) else None)

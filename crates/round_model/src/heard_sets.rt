@@ -39,7 +39,8 @@ impl Heard {
 
     /// The table of `n` processors and so many rounds in which nobody hears anybody.
     ///
-    /// Asks 2 to 16 processors and at most 1,000,000 rounds. Takes memory for each round of each processor.
+    /// Asks `MIN_PROCESSORS` to `MAX_PROCESSORS` processors and at most `MAX_ROUNDS` rounds. Takes memory for
+    /// each round of each processor.
     pub fn new(alloc: Global, n: u64, rounds: u64) -> Result<Self, AllocError>
         requires least { MIN_PROCESSORS ≤ n }
         requires most { n ≤ MAX_PROCESSORS }

@@ -1,12 +1,11 @@
 //! Rounds over a table of who heard whom.
 
-ghost use Rattle.std.specs.Prelude.{◌≡◌, ◌≤◌, IfOk, OnOk, length, map};
+ghost use Rattle.std.specs.Prelude.{◌≡◌, ◌≤◌, IfOk, OnOk, length};
 ghost use Rattle.step_trace.specs.Configurations.{IsProc, IsSetup};
-ghost use Rattle.lock_phases.specs.Nodes.{opening};
-ghost use Rattle.round_model.specs.RoundStates.{processors, initial_value, messages_heard, states_after};
+ghost use Rattle.round_model.specs.RoundStates.{messages_heard, states_after};
 ghost use Rattle.round_model.specs.Agreement.{AgreeAll, AreInitialValues};
 ghost use Rattle.round_model.specs.HeardSets.{table_of, rows_of};
-ghost use Rattle.round_model.specs.NodeLists.{node_of, nodes_after_round, first_decision};
+ghost use Rattle.round_model.specs.NodeLists.{node_of, opening_nodes, messages_of_round, nodes_after_round, first_decision};
 
 use crate::agreements::agreement;
 use crate::heard_sets::Heard;
@@ -21,16 +20,17 @@ use step_trace::Config;
 /// its set of the round, and computes. Whatever the table, no two of the nodes decide differently, and
 /// what they decide is somebody's initial value. Asks that the table has the configuration's number of
 /// processors.
-pub fn run_rounds(alloc: Global, cfg: &Config, heard: &Heard) -> Result<Vec<Node>, AllocError>
-    requires { heard.now.n ≡ cfg.now.n }
-    ensures states { IfOk result (λ nodes. nodes.items ≡ states_after cfg.now (table_of heard.now) heard.now.rounds) }
+pub fn run_rounds(alloc: Global, config: &Config, heard: &Heard) -> Result<Vec<Node>, AllocError>
+    requires { heard.now.n ≡ config.now.n }
+    ensures states { IfOk result
+        (λ nodes. nodes.items ≡ states_after config.now (table_of heard.now) heard.now.rounds) }
     ensures agreement { IfOk result (λ nodes. AgreeAll nodes.items) }
-    ensures validity { IfOk result (λ nodes. AreInitialValues cfg.now nodes.items) }
+    ensures validity { IfOk result (λ nodes. AreInitialValues config.now nodes.items) }
 {
     agreement();
-    let mut nodes = opening_nodes(alloc, cfg)?;
+    let mut nodes = opening_nodes(alloc, config)?;
     for passed in 0..heard.rounds() {
-        run_round(alloc, cfg, heard, passed + 1, &mut nodes)?;
+        run_round(alloc, config, heard, passed + 1, &mut nodes)?;
     }
     Ok(nodes)
 }
@@ -49,12 +49,12 @@ pub fn decided(nodes: &[Node]) -> Option<u64>
 }
 
 // The opening nodes of all processors.
-fn opening_nodes(alloc: Global, cfg: &Config) -> Result<Vec<Node>, AllocError>
-    ensures nodes { IfOk result (λ nodes. nodes.items ≡ map (λ p. opening (initial_value cfg.now p)) (processors cfg.now)) }
-    ensures setup { IsSetup cfg.now }
+fn opening_nodes(alloc: Global, config: &Config) -> Result<Vec<Node>, AllocError>
+    ensures nodes { IfOk result (λ nodes. nodes.items ≡ opening_nodes config.now) }
+    ensures setup { IsSetup config.now }
 {
-    let mut nodes = Vec::with_capacity(alloc, cfg.n() as usize)?;
-    for value in cfg.init() {
+    let mut nodes = Vec::with_capacity(alloc, config.n() as usize)?;
+    for value in config.init() {
         nodes.push(Node::new(alloc, *value)?)?;
     }
     Ok(nodes)
@@ -63,20 +63,20 @@ fn opening_nodes(alloc: Global, cfg: &Config) -> Result<Vec<Node>, AllocError>
 // Takes the nodes through a round. All messages are sent before any node changes.
 fn run_round(
     alloc: Global,
-    cfg: &Config,
+    config: &Config,
     heard: &Heard,
     round: u64,
     nodes: &mut [Node],
 ) -> Result<(), AllocError>
-    requires table { heard.now.n ≡ cfg.now.n }
-    requires nodes { length nodes.old ≡ cfg.now.n }
+    requires table { heard.now.n ≡ config.now.n }
+    requires nodes { length nodes.old ≡ config.now.n }
     requires first { 1 ≤ round }
     requires last { round ≤ heard.now.rounds }
-    ensures { OnOk result (nodes.new ≡ nodes_after_round cfg.now (table_of heard.now) round nodes.old) }
+    ensures { OnOk result (nodes.new ≡ nodes_after_round config.now (table_of heard.now) round nodes.old) }
 {
-    let messages = messages_of_round(alloc, cfg, heard, round, nodes)?;
+    let messages = messages_of_round(alloc, config, heard, round, nodes)?;
     for (i, node) in nodes.iter_mut().enumerate() {
-        node.compute(alloc, cfg, i as u64 + 1, round, &messages[i])?;
+        node.compute(alloc, config, i as u64 + 1, round, &messages[i])?;
     }
     Ok(())
 }
@@ -84,21 +84,21 @@ fn run_round(
 // The messages that each processor hears in a round.
 fn messages_of_round(
     alloc: Global,
-    cfg: &Config,
+    config: &Config,
     heard: &Heard,
     round: u64,
     nodes: &[Node],
 ) -> Result<Vec<Vec<(u64, Body)>>, AllocError>
-    requires table { heard.now.n ≡ cfg.now.n }
-    requires nodes { length nodes.now ≡ cfg.now.n }
+    requires table { heard.now.n ≡ config.now.n }
+    requires nodes { length nodes.now ≡ config.now.n }
     requires first { 1 ≤ round }
     requires last { round ≤ heard.now.rounds }
-    ensures { IfOk result (λ messages. rows_of messages.items
-        ≡ map (λ p. messages_heard cfg.now (table_of heard.now) (node_of nodes.now) p round) (processors cfg.now)) }
+    ensures { IfOk result
+        (λ messages. rows_of messages.items ≡ messages_of_round config.now (table_of heard.now) round nodes.now) }
 {
     let mut messages = Vec::new(alloc);
-    for p in 1..cfg.n() + 1 {
-        messages.push(messages_to(alloc, cfg, heard, round, nodes, p)?)?;
+    for p in 1..config.n() + 1 {
+        messages.push(messages_to(alloc, config, heard, round, nodes, p)?)?;
     }
     Ok(messages)
 }
@@ -106,18 +106,19 @@ fn messages_of_round(
 // The messages that a processor hears in a round, in the order of their senders.
 fn messages_to(
     alloc: Global,
-    cfg: &Config,
+    config: &Config,
     heard: &Heard,
     round: u64,
     nodes: &[Node],
     to: u64,
 ) -> Result<Vec<(u64, Body)>, AllocError>
-    requires table { heard.now.n ≡ cfg.now.n }
-    requires nodes { length nodes.now ≡ cfg.now.n }
+    requires table { heard.now.n ≡ config.now.n }
+    requires nodes { length nodes.now ≡ config.now.n }
     requires first { 1 ≤ round }
     requires last { round ≤ heard.now.rounds }
-    requires receiver { IsProc cfg.now to }
-    ensures { IfOk result (λ messages. messages.items ≡ messages_heard cfg.now (table_of heard.now) (node_of nodes.now) to round) }
+    requires receiver { IsProc config.now to }
+    ensures { IfOk result
+        (λ messages. messages.items ≡ messages_heard config.now (table_of heard.now) (node_of nodes.now) to round) }
 {
     let senders = heard.get(round, to);
     let mut messages = Vec::new(alloc);
@@ -126,7 +127,7 @@ fn messages_to(
         if !senders.contains(sender) {
             continue;
         }
-        if let Some(body) = node.out(alloc, cfg, sender, round, to)? {
+        if let Some(body) = node.out(alloc, config, sender, round, to)? {
             messages.push((sender, body))?;
         }
     }

@@ -1,9 +1,9 @@
 use Rattle.std.proofs.Common.{◌≡◌, drop, fold, filter}
 use Rattle.std.specs.List.{flat_map}
-use Rattle.lock_phases.specs.Messages.{listed_values}
+use Rattle.lock_phases.specs.Messages.{listed_values, body_of}
 use Rattle.lock_phases.specs.Quorums.{has_quorum, lesser, least_listed}
 use Rattle.lock_phases.proofs.quorums.least_listed.Given as goal
 
 abbrev pub invariant-loop-body : goal.invariant-loop-body
 invariant-loop-body l =
-    fold lesser l.least (filter (has_quorum l.quorum l.heard) (flat_map (λ m. listed_values m.1.kind) (drop l.body-index l.heard))) ≡ least_listed l.quorum l.heard
+    fold lesser l.least (filter (has_quorum l.quorum l.heard) (flat_map (λ m. listed_values (body_of m).kind) (drop l.body-index l.heard))) ≡ least_listed l.quorum l.heard

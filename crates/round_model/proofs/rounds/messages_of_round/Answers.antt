@@ -9,7 +9,7 @@ use Rattle.round_model.proofs.rounds.messages_of_round.Goals as goal
 
 pub loop-p-preserved : goal.loop-p-preserved
 loop-p-preserved c =
-    let heard = λ (p : ℕ). messages_heard c.args.cfg.now (table_of c.args.heard.now) (node_of c.args.nodes.now) p c.args.round in
+    let heard = λ (p : ℕ). messages_heard c.args.config.now (table_of c.args.heard.now) (node_of c.args.nodes.now) p c.args.round in
     let e : c.loop-p.p + 1 - 1 ≡ c.loop-p.p - 1 + 1 = omega arith in
     ap rows_of c.in_ok-push.ensures.items
     ∙ map_push (λ row. row.items) c.loop-p.messages.items c.in_ok-messages_to.field-0

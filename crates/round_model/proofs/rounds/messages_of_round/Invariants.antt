@@ -6,4 +6,4 @@ use Rattle.round_model.specs.NodeLists.{node_of}
 use Rattle.round_model.proofs.rounds.messages_of_round.Given as goal
 
 abbrev pub invariant-loop-p : goal.invariant-loop-p
-invariant-loop-p l = rows_of l.messages.items ≡ map (λ p. messages_heard l.cfg (table_of l.heard) (node_of l.nodes) p l.round) (range_with_len 1 (l.p - 1))
+invariant-loop-p l = rows_of l.messages.items ≡ map (λ p. messages_heard l.config (table_of l.heard) (node_of l.nodes) p l.round) (range_with_len 1 (l.p - 1))

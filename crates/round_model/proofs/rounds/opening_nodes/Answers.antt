@@ -7,9 +7,9 @@ use Rattle.round_model.proofs.rounds.opening_nodes.Goals as goal
 
 pub returns-clause-nodes : goal.returns-clause-nodes
 returns-clause-nodes c =
-    let cfg = c.args.cfg.now in
+    let config = c.args.config.now in
     let long = c.n.ensures.sound.values in
     let all = take_all c.loop-value.value-index c.init-value-items.result.now c.loop-value-test.false ∙ c.init-value-items.ensures in
     c.loop-value.invariant ∙ ap (map opening) all
-    ∙ map-range_with_len-from (λ p. opening (initial_value cfg p)) (map opening cfg.init) 1 cfg.n (opening 0) (length-map cfg.init opening ∙ long)
-    (λ k h. let e : 1 + k - 1 ≡ k = omega arith in rw e (get_or-map opening cfg.init k 0 (opening 0) (omega arith)))
+    ∙ map-range_with_len-from (λ p. opening (initial_value config p)) (map opening config.init) 1 config.n (opening 0) (length-map config.init opening ∙ long)
+    (λ k h. let e : 1 + k - 1 ≡ k = omega arith in rw e (get_or-map opening config.init k 0 (opening 0) (omega arith)))

@@ -9,30 +9,30 @@ use Rattle.round_model.proofs.RoundEquations.{states_after-opening, states_after
 use Rattle.round_model.proofs.rounds.run_rounds.Goals as goal
 
 pub loop-passed-init : goal.loop-passed-init
-loop-passed-init c = c.in_ok-nodes.ensures.nodes ∙ sym (states_after-opening c.args.cfg.now (table_of c.args.heard.now))
+loop-passed-init c = c.in_ok-nodes.ensures.nodes ∙ sym (states_after-opening c.args.config.now (table_of c.args.heard.now))
 
 pub run_round-requires-clause-nodes : goal.run_round-requires-clause-nodes
 run_round-requires-clause-nodes c =
-    ap length (c.deref_mut.ensures.value ∙ c.loop-passed.invariant) ∙ length-map-range_with_len (state_after c.args.cfg.now (table_of c.args.heard.now) c.loop-passed.passed) 1 c.args.cfg.now.n
+    ap length (c.deref_mut.ensures.value ∙ c.loop-passed.invariant) ∙ length-map-range_with_len (state_after c.args.config.now (table_of c.args.heard.now) c.loop-passed.passed) 1 c.args.config.now.n
 
 pub loop-passed-preserved : goal.loop-passed-preserved
 loop-passed-preserved c =
-    let cfg = c.args.cfg.now in
+    let config = c.args.config.now in
     let table = table_of c.args.heard.now in
     let passed = c.loop-passed.passed in
     let kept : length c.run_round.new.nodes ≡ c.loop-passed.nodes.len = omega arith in
     let e : passed + 1 ≡ suc passed = omega arith in
     with_items_is c.loop-passed.nodes c.run_round.new.nodes kept
     ∙ c.in_ok-run_round.ensures
-    ∙ ap (nodes_after_round cfg table (passed + 1)) (c.deref_mut.ensures.value ∙ c.loop-passed.invariant)
-    ∙ ap (λ round. nodes_after_round cfg table round (states_after cfg table passed)) e
-    ∙ states_after-next cfg table passed
-    ∙ ap (states_after cfg table) (sym e)
+    ∙ ap (nodes_after_round config table (passed + 1)) (c.deref_mut.ensures.value ∙ c.loop-passed.invariant)
+    ∙ ap (λ round. nodes_after_round config table round (states_after config table passed)) e
+    ∙ states_after-next config table passed
+    ∙ ap (states_after config table) (sym e)
 
 pub returns-clause-agreement : goal.returns-clause-agreement
 returns-clause-agreement c =
-    subst AgreeAll (sym c.loop-passed.invariant) (c.agreement.ensures.agreement c.args.cfg.now (table_of c.args.heard.now) c.loop-passed.passed c.in_ok-nodes.ensures.setup)
+    subst AgreeAll (sym c.loop-passed.invariant) (c.agreement.ensures.agreement c.args.config.now (table_of c.args.heard.now) c.loop-passed.passed c.in_ok-nodes.ensures.setup)
 
 pub returns-clause-validity : goal.returns-clause-validity
 returns-clause-validity c =
-    subst (AreInitialValues c.args.cfg.now) (sym c.loop-passed.invariant) (c.agreement.ensures.validity c.args.cfg.now (table_of c.args.heard.now) c.loop-passed.passed c.in_ok-nodes.ensures.setup)
+    subst (AreInitialValues c.args.config.now) (sym c.loop-passed.invariant) (c.agreement.ensures.validity c.args.config.now (table_of c.args.heard.now) c.loop-passed.passed c.in_ok-nodes.ensures.setup)

@@ -4,4 +4,4 @@ use Rattle.round_model.specs.HeardSets.{table_of}
 use Rattle.round_model.proofs.rounds.run_rounds.Given as goal
 
 abbrev pub invariant-loop-passed : goal.invariant-loop-passed
-invariant-loop-passed l = l.nodes.items ≡ states_after l.cfg (table_of l.heard) l.passed
+invariant-loop-passed l = l.nodes.items ≡ states_after l.config (table_of l.heard) l.passed
