@@ -7,7 +7,7 @@ use Rattle.step_trace.specs.Configurations.{Setup}
 use Rattle.step_trace.specs.Steps.{act_ids}
 use Rattle.step_trace.specs.Traces.{step_at, IsWellFormed}
 use Rattle.step_trace.proofs.StepPositions.{step_at_within, step_at_last, step_at-push_cases}
-use Rattle.lock_phases.specs.Messages.{Heard}
+use Rattle.lock_phases.specs.Messages.{Message}
 use Rattle.step_buffers.specs.Runs.{body_of}
 use Rattle.step_buffers.proofs.StepPrefixes.{step_at-prefix_old, IsWellFormed-prefix}
 use Rattle.step_buffers.proofs.HeardSenders.{IsSentIn}
@@ -64,13 +64,13 @@ IsTaken-cases c steps x p r q s w is =
     })
 
 -- a message that the new step takes, with its body
-pub record IsHandedNow (c : Setup) (steps : List Step) (x : Step) (p r : ℕ) (m : Heard) : Type 0 where
+pub record IsHandedNow (c : Setup) (steps : List Step) (x : Step) (p r : ℕ) (m : Message) : Type 0 where
   pub message : ℕ
   pub taken : IsTakenNow steps x p r m.0 message
   pub body : body_of c steps m.0 p message ≡ Some m.1
 
 -- the inbox of a round with one step more
-pub IsInInbox-old : (c : Setup) (steps : List Step) (x : Step) (p r : ℕ) (m : Heard) → IsWellFormed c steps → IsInInbox c steps p r m → IsInInbox c (steps ++ x ∷ []) p r m
+pub IsInInbox-old : (c : Setup) (steps : List Step) (x : Step) (p r : ℕ) (m : Message) → IsWellFormed c steps → IsInInbox c steps p r m → IsInInbox c (steps ++ x ∷ []) p r m
 IsInInbox-old c steps x p r m w is =
     let b = step_at_within steps is.message is.taken.sent.step is.taken.sent.stands in
     let high = b.1 in
@@ -80,7 +80,7 @@ IsInInbox-old c steps x p r m w is =
       body = sym (body_of-prefix c steps (x ∷ []) m.0 p is.message w (omega arith)) ∙ is.body;
     }
 
-pub IsInInbox-new : (c : Setup) (steps : List Step) (x : Step) (p r : ℕ) (m : Heard) → IsWellFormed c steps → IsHandedNow c steps x p r m → IsInInbox c (steps ++ x ∷ []) p r m
+pub IsInInbox-new : (c : Setup) (steps : List Step) (x : Step) (p r : ℕ) (m : Message) → IsWellFormed c steps → IsHandedNow c steps x p r m → IsInInbox c (steps ++ x ∷ []) p r m
 IsInInbox-new c steps x p r m w is =
     let b = step_at_within steps is.message is.taken.sent.step is.taken.sent.stands in
     let high = b.1 in
@@ -90,7 +90,7 @@ IsInInbox-new c steps x p r m w is =
       body = sym (body_of-prefix c steps (x ∷ []) m.0 p is.message w (omega arith)) ∙ is.body;
     }
 
-pub IsInInbox-cases : (c : Setup) (steps : List Step) (x : Step) (p r : ℕ) (m : Heard) → IsWellFormed c (steps ++ x ∷ []) → IsInInbox c (steps ++ x ∷ []) p r m
+pub IsInInbox-cases : (c : Setup) (steps : List Step) (x : Step) (p r : ℕ) (m : Message) → IsWellFormed c (steps ++ x ∷ []) → IsInInbox c (steps ++ x ∷ []) p r m
     → IsInInbox c steps p r m ⊎ IsHandedNow c steps x p r m
 IsInInbox-cases c steps x p r m w is = go (IsTaken-cases c steps x p r m.0 is.message w is.taken)
   where

@@ -8,7 +8,7 @@ use Rattle.step_trace.specs.Configurations.{Setup, IsProc}
 use Rattle.step_trace.specs.Steps.{act_ids}
 use Rattle.step_trace.specs.Traces.{step_at, IsWellFormed}
 use Rattle.step_trace.proofs.StepPositions.{step_at_within}
-use Rattle.lock_phases.specs.Messages.{Heard}
+use Rattle.lock_phases.specs.Messages.{Message}
 use Rattle.lock_phases.specs.NodeFunctions.{out, next}
 use Rattle.round_model.specs.RoundStates.{state_after}
 use Rattle.round_model.proofs.HeardLists.{AreRising, IsBodyHeard, messages_heard-by_elements}
@@ -29,7 +29,7 @@ pub record IsTaken (steps : List Step) (p r q s : ℕ) : Type 0 where
   pub sent : IsSentIn steps q r s
 
 -- a message that p took, of a round, with its body
-pub record IsInInbox (c : Setup) (steps : List Step) (p r : ℕ) (m : Heard) : Type 0 where
+pub record IsInInbox (c : Setup) (steps : List Step) (p r : ℕ) (m : Message) : Type 0 where
   pub message : ℕ
   pub taken : IsTaken steps p r m.0 message
   pub body : body_of c steps m.0 p message ≡ Some m.1
@@ -76,7 +76,7 @@ body_of-heard c steps x q s w round h =
     ∙ ap (λ node. out c node q (suc (passed steps x.proc)) x.proc)
     (sym (state_after-prefix c steps (x ∷ []) (passed steps x.proc) q (IsWellFormed-prefix c steps (x ∷ []) w) (sender-passed c steps x x.proc (passed steps x.proc) q w h)))
 
-inbox-heard : (c : Setup) (steps : List Step) (x : Step) (m : Heard) → IsWellFormed c (steps ++ x ∷ []) → act_ends x.act ≡ true
+inbox-heard : (c : Setup) (steps : List Step) (x : Step) (m : Message) → IsWellFormed c (steps ++ x ∷ []) → act_ends x.act ≡ true
     → IsInInbox c (steps ++ x ∷ []) x.proc (suc (passed steps x.proc)) m
     → IsBodyHeard c (heard_table (steps ++ x ∷ [])) (state_after c (heard_table steps) (passed steps x.proc)) x.proc (suc (passed steps x.proc)) m
 inbox-heard c steps x m w ends is =
@@ -88,7 +88,7 @@ inbox-heard c steps x m w ends is =
       body = sym (body_of-heard c steps x m.0 is.message w sent.round h) ∙ is.body;
     }
 
-heard-inbox : (c : Setup) (steps : List Step) (x : Step) (m : Heard) → IsWellFormed c (steps ++ x ∷ [])
+heard-inbox : (c : Setup) (steps : List Step) (x : Step) (m : Message) → IsWellFormed c (steps ++ x ∷ [])
     → IsBodyHeard c (heard_table (steps ++ x ∷ [])) (state_after c (heard_table steps) (passed steps x.proc)) x.proc (suc (passed steps x.proc)) m
     → IsInInbox c (steps ++ x ∷ []) x.proc (suc (passed steps x.proc)) m
 heard-inbox c steps x m w is =
@@ -101,8 +101,8 @@ heard-inbox c steps x m w is =
 
 -- The end of a round: a list, rising by sender, of just the messages of the round that the processor took,
 -- each with its body, is what its node computes from.
-computes-next : (c : Setup) (steps : List Step) (x : Step) (xs : List Heard) → IsWellFormed c (steps ++ x ∷ []) → act_ends x.act ≡ true → AreRising xs
-    → ((m : Heard) → Contains xs m ↔ IsInInbox c (steps ++ x ∷ []) x.proc (suc (passed steps x.proc)) m)
+computes-next : (c : Setup) (steps : List Step) (x : Step) (xs : List Message) → IsWellFormed c (steps ++ x ∷ []) → act_ends x.act ≡ true → AreRising xs
+    → ((m : Message) → Contains xs m ↔ IsInInbox c (steps ++ x ∷ []) x.proc (suc (passed steps x.proc)) m)
     → node_at c (steps ++ x ∷ []) x.proc ≡ next c (node_at c steps x.proc) x.proc (suc (passed steps x.proc)) xs
 computes-next c steps x xs w ends rise just =
     node_at-ends c steps x w ends
@@ -112,10 +112,10 @@ computes-next c steps x xs w ends rise just =
     (λ m is. (just m).1 (heard-inbox c steps x m w is))))
 
 -- the same by the number of the round, however it is written
-pub node_at-computes : (c : Setup) (steps : List Step) (x : Step) (round : ℕ) (xs : List Heard) → IsWellFormed c (steps ++ x ∷ []) → act_ends x.act ≡ true
-    → round ≡ passed steps x.proc + 1 → AreRising xs → ((m : Heard) → Contains xs m ↔ IsInInbox c (steps ++ x ∷ []) x.proc round m)
+pub node_at-computes : (c : Setup) (steps : List Step) (x : Step) (round : ℕ) (xs : List Message) → IsWellFormed c (steps ++ x ∷ []) → act_ends x.act ≡ true
+    → round ≡ passed steps x.proc + 1 → AreRising xs → ((m : Message) → Contains xs m ↔ IsInInbox c (steps ++ x ∷ []) x.proc round m)
     → node_at c (steps ++ x ∷ []) x.proc ≡ next c (node_at c steps x.proc) x.proc round xs
 node_at-computes c steps x round xs w ends is rise just =
     let e : round ≡ suc (passed steps x.proc) = omega arith in
-    computes-next c steps x xs w ends rise (subst (λ r. (m : Heard) → Contains xs m ↔ IsInInbox c (steps ++ x ∷ []) x.proc r m) e just)
+    computes-next c steps x xs w ends rise (subst (λ r. (m : Message) → Contains xs m ↔ IsInInbox c (steps ++ x ∷ []) x.proc r m) e just)
     ∙ ap (λ r. next c (node_at c steps x.proc) x.proc r xs) (sym e)

@@ -12,3 +12,12 @@ pub mod Decisions
 pub mod WorkedTraces
 pub mod InboxSteps
 pub mod InboxSenders
+pub mod RisingIds
+pub mod DestinationSearch
+pub mod BufferSteps
+pub mod ProcessorSteps
+pub mod LetterSteps
+pub mod PostSteps
+pub mod TakenSteps
+pub mod RoundEnds
+pub mod Openings

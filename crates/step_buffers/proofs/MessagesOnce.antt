@@ -14,13 +14,9 @@ use Rattle.round_model.specs.RoundStates.{processors, state_after}
 use Rattle.round_model.proofs.RisingLists.{rising-apart}
 use Rattle.round_model.proofs.ProcessorRanges.{IsStrictlyIncreasing-range_with_len}
 use Rattle.step_buffers.specs.HeardTables.{passed, before, round_at, heard_table}
-use Rattle.step_buffers.specs.Runs.{node_before, destinations, sent_before, next_destination, IsRun}
+use Rattle.step_buffers.specs.Runs.{node_before, destinations, sent_before, next_destination, IsSend, IsRun}
 use Rattle.step_buffers.proofs.HeardSenders.{is_sent_in-from_send}
 use Rattle.step_buffers.proofs.SentCounts.{sent_before-grows}
-
--- s is a message of q to a processor
-abbrev pub IsSend : List Step → ℕ → ℕ → ℕ → Type 0
-IsSend steps q to s = step_at steps s ≡ Some (record { proc = q; act = Send to })
 
 -- a message has a body: what its sender's node has to send
 pub body-sent : (c : Setup) (steps : List Step) (q to s : ℕ) → IsRun c steps → IsSend steps q to s

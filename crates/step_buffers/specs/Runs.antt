@@ -1,5 +1,5 @@
 -- Runs of Algorithm 1: traces in which each step is what its processor does next.
-use Rattle.std.specs.Prelude.{ℕ, ◌≡◌, ◌-◌, List, Option, Some, None, true, false, is_some, filter, count_by, slice_get}
+use Rattle.std.specs.Prelude.{ℕ, ◌≡◌, ◌-◌, List, Option, Some, None, true, false, is_some, find, nat_lt, ◌&&◌, filter, count_by, slice_get}
 use Rattle.std.specs.List.{range_with_len}
 use Rattle.step_trace.specs.declared.steps.Act.{Act}
 use Rattle.step_trace.specs.declared.steps.Act.TheVariants.{Send, Receive}
@@ -25,6 +25,10 @@ node_before c steps p k = state_after c (heard_table steps) (passed (before step
 abbrev pub body_of : Setup → List Step → ℕ → ℕ → ℕ → Option Body
 body_of c steps q to s = out c (node_before c steps q s) q (round_at steps q s) to
 
+-- s is a message of q to a processor
+abbrev pub IsSend : List Step → ℕ → ℕ → ℕ → Type 0
+IsSend steps q to s = step_at steps s ≡ Some (record { proc = q; act = Send to })
+
 -- the processors, rising, to which p has something to send in a round
 abbrev pub destinations : Setup → State → ℕ → ℕ → List ℕ
 destinations c node p round = filter (λ to. is_some (out c node p round to)) (processors c)
@@ -40,6 +44,10 @@ next_destination c steps p k =
     slice_get
     (destinations c (node_before c steps p k) p (round_at steps p k))
     (sent_before steps p (round_at steps p k) k)
+
+-- the least destination above the last one, or the first one of all where the last is 0
+abbrev pub destination_after : Setup → State → ℕ → ℕ → ℕ → Option ℕ
+destination_after c node p round last = find (λ to. nat_lt last to && is_some (out c node p round to)) (processors c)
 
 -- What a processor may do that sends next to this destination: send to it; or, where all messages of its
 -- round are out, end its round. It may always take messages without ending its round.

@@ -3,6 +3,16 @@
 //! traces are runs, and what the nodes and buffers of a trace are.
 #![tactic(auto)]
 
+mod appends;
 mod laws;
+mod letters;
+mod moves;
+mod processors;
+mod receives;
+mod sends;
+mod takes;
+mod worlds;
 
 pub use laws::run_laws;
+pub use moves::{Done, Move, StepError, Take};
+pub use worlds::World;
