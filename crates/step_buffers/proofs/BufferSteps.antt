@@ -1,5 +1,5 @@
 -- A buffer with one step more: without the messages that the step takes, and with the one that it sends there.
-use Rattle.std.proofs.Common.{ℕ, suc, ◌≡◌, ◌≢◌, ◌+◌, ◌-◌, ◌<◌, ◌≤◌, ◌⊎◌, inl, inr, List, [], ◌∷◌, ◌++◌, length, filter, Option, Some, None, Bool, true, false, cond, not, ◌&&◌, ◌||◌, ◌==◌, refl, sym, ap, ◌∙◌, subst, arith, eq-eqb}
+use Rattle.std.proofs.Common.{ℕ, suc, ◌≡◌, ◌≢◌, ◌+◌, ◌<◌, ◌≤◌, List, [], ◌∷◌, ◌++◌, length, filter, Option, Some, None, Bool, true, false, cond, not, ◌&&◌, ◌||◌, ◌==◌, refl, sym, ap, ◌∙◌, subst, arith, eq-eqb}
 use Rattle.std.specs.Prelude.{Contains}
 use Rattle.std.specs.Option.{option_map_or}
 use Rattle.std.specs.List.{list_any, range_with_len}
@@ -14,7 +14,7 @@ use Rattle.step_trace.specs.declared.steps.Act.TheVariants.{Send, Receive}
 use Rattle.step_trace.specs.declared.steps.Step.{Step}
 use Rattle.step_trace.specs.Configurations.{Setup}
 use Rattle.step_trace.specs.Steps.{act_ids, act_dest, act_takes, act_sends_to}
-use Rattle.step_trace.specs.Traces.{step_at, IsSentTo, IsWellFormed}
+use Rattle.step_trace.specs.Traces.{step_at, IsWellFormed}
 use Rattle.step_trace.specs.PushRefusals.{is_sent_to, is_taken}
 use Rattle.step_trace.proofs.StepPositions.{step_at_within, step_at_last, taken_at-from_is_taken}
 use Rattle.lock_phases.proofs.Membership.{Contains-from_filter, Contains-rest, Contains-head, list_any-found, list_any-at}

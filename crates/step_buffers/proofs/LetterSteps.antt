@@ -1,5 +1,5 @@
 -- The messages that are kept, with one step more.
-use Rattle.std.proofs.Common.{ℕ, zero, suc, ◌≡◌, ◌+◌, ◌-◌, ◌<◌, ◌≤◌, ◌⊎◌, inl, inr, List, [], ◌∷◌, ◌++◌, length, get_or, Bool, Option, Some, None, refl, sym, ap, ◌∙◌, subst, arith}
+use Rattle.std.proofs.Common.{ℕ, zero, suc, ◌≡◌, ◌+◌, ◌<◌, ◌≤◌, ◌⊎◌, inl, inr, List, [], ◌∷◌, ◌++◌, length, get_or, Bool, Option, Some, None, refl, sym, ap, ◌∙◌, subst, arith}
 use Rattle.std.proofs.lemmas.Option.{same_Some, none-some}
 use Rattle.std.proofs.lemmas.List.{length-append}
 use Rattle.step_trace.specs.declared.steps.Act.TheVariants.{Send, Receive}
@@ -10,8 +10,8 @@ use Rattle.step_trace.specs.Traces.{step_at, IsWellFormed}
 use Rattle.step_trace.proofs.StepPositions.{step_at_within, step_at-push_cases}
 use Rattle.lock_phases.specs.NodeFunctions.{out}
 use Rattle.step_buffers.specs.declared.letters.Letter.{Letter}
-use Rattle.step_buffers.specs.HeardTables.{passed, round_at}
-use Rattle.step_buffers.specs.Runs.{node_at, body_of, IsSend}
+use Rattle.step_buffers.specs.HeardTables.{passed}
+use Rattle.step_buffers.specs.Runs.{node_at}
 use Rattle.step_buffers.specs.Letters.{letter_at}
 use Rattle.step_buffers.specs.Worlds.{IsLetter, AreLetters}
 use Rattle.step_buffers.proofs.StepPrefixes.{round_at-prefix}

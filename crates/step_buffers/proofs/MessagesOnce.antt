@@ -6,7 +6,6 @@ use Rattle.std.proofs.lemmas.List.Kept.{IsStrictlyIncreasing-filter}
 use Rattle.step_trace.specs.declared.steps.Act.TheVariants.{Send}
 use Rattle.step_trace.specs.declared.steps.Step.{Step}
 use Rattle.step_trace.specs.Configurations.{Setup}
-use Rattle.step_trace.specs.Traces.{step_at}
 use Rattle.step_trace.proofs.StepPositions.{step_at_within}
 use Rattle.lock_phases.specs.NodeFunctions.{out}
 use Rattle.lock_phases.proofs.Membership.{Contains-from_filter}

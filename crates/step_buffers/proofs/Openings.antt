@@ -1,20 +1,20 @@
 -- What is kept before the first step.
-use Rattle.std.proofs.Common.{ℕ, zero, suc, ◌≡◌, ◌+◌, ◌-◌, ◌<◌, ◌≤◌, ◌⊎◌, inl, inr, List, [], ◌∷◌, ◌++◌, length, Some, refl, sym, ap, ◌∙◌, subst, arith}
+use Rattle.std.proofs.Common.{ℕ, zero, suc, ◌≡◌, ◌⊎◌, inl, inr, List, [], ◌∷◌, ◌++◌, length, Some, refl, sym, ap, ◌∙◌, subst, arith}
 use Rattle.std.specs.Prelude.{Contains, slice_get}
 use Rattle.std.proofs.lemmas.Option.{same_Some, none-some}
 use Rattle.step_trace.specs.declared.steps.Act.TheVariants.{Send}
 use Rattle.step_trace.specs.declared.steps.Step.{Step}
-use Rattle.step_trace.specs.Configurations.{Setup, IsSetup}
+use Rattle.step_trace.specs.Configurations.{Setup}
 use Rattle.step_trace.specs.Traces.{step_at}
 use Rattle.step_trace.proofs.StepPositions.{step_at_within}
-use Rattle.lock_phases.specs.Nodes.{State, opening}
+use Rattle.lock_phases.specs.Nodes.{opening}
 use Rattle.lock_phases.proofs.Membership.{Contains-nil}
 use Rattle.round_model.specs.RoundStates.{initial_value}
 use Rattle.round_model.proofs.RoundEquations.{state_after-opening}
 use Rattle.step_buffers.specs.declared.processors.Processor.{Processor}
 use Rattle.step_buffers.specs.HeardTables.{heard_table}
-use Rattle.step_buffers.specs.Runs.{node_at, destination_after, IsRun}
-use Rattle.step_buffers.specs.Worlds.{IsKept, IsProcessor, AreProcessors, AreLetters, IsWorld}
+use Rattle.step_buffers.specs.Runs.{node_at, IsRun}
+use Rattle.step_buffers.specs.Worlds.{IsProcessor, AreProcessors, AreLetters}
 use Rattle.step_buffers.proofs.RoundEnds.{next_send-opening}
 
 -- what is kept of a processor before the first step

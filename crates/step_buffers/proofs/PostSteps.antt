@@ -1,13 +1,11 @@
 -- What is kept of the processors, when one of them sends.
-use Rattle.std.proofs.Common.{ℕ, zero, suc, ◌≡◌, ◌≢◌, ◌+◌, ◌-◌, ◌<◌, ◌≤◌, ◌⊎◌, inl, inr, ◌↔◌, List, [], ◌∷◌, ◌++◌, length, get_or, Option, Some, None, Bool, true, false, ◌==◌, ◌&&◌, Vec, Global, refl, sym, ap, ◌∙◌, subst, arith}
+use Rattle.std.proofs.Common.{ℕ, zero, suc, ◌≡◌, ◌≢◌, ◌+◌, ◌-◌, ◌<◌, ◌≤◌, ◌⊎◌, inl, inr, ◌↔◌, List, [], ◌∷◌, ◌++◌, length, get_or, Some, Bool, true, false, ◌==◌, ◌&&◌, Vec, Global, refl, sym, ap, ◌∙◌, subst, arith}
 use Rattle.std.specs.Prelude.{Contains, slice_get, slice_set}
-use Rattle.std.proofs.lemmas.Bool.{cases_eq}
 use Rattle.std.proofs.lemmas.Option.{same_Some, none-some, slice_get_within, slice_get_read, get_or_from_slice_get}
-use Rattle.std.proofs.lemmas.List.{length-append}
 use Rattle.step_trace.specs.declared.steps.Act.TheVariants.{Send}
 use Rattle.step_trace.specs.declared.steps.Step.{Step}
 use Rattle.step_trace.specs.Configurations.{Setup, IsProc}
-use Rattle.step_trace.specs.Traces.{step_at, IsWellFormed}
+use Rattle.step_trace.specs.Traces.{IsWellFormed}
 use Rattle.step_trace.proofs.StepPositions.{step_at_last}
 use Rattle.step_trace.proofs.Refusals.{Fits}
 use Rattle.lock_phases.specs.Nodes.{State}
@@ -18,7 +16,7 @@ use Rattle.round_model.specs.RoundStates.{processors}
 use Rattle.round_model.proofs.HeardMessages.{IsProc-from_processors}
 use Rattle.step_buffers.specs.declared.processors.Processor.{Processor}
 use Rattle.step_buffers.specs.HeardTables.{act_ends, passed, is_sent_in}
-use Rattle.step_buffers.specs.Runs.{node_at, destinations, destination_after, next_destination}
+use Rattle.step_buffers.specs.Runs.{node_at, destinations, destination_after}
 use Rattle.step_buffers.specs.Buffers.{buffer}
 use Rattle.step_buffers.specs.Moves.{next_send}
 use Rattle.step_buffers.specs.Worlds.{IsKept, IsProcessor, AreProcessors}

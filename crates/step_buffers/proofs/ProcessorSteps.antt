@@ -1,12 +1,11 @@
 -- What is kept of a processor, as the trace grows by a step that doesn't end its round.
-use Rattle.std.proofs.Common.{ℕ, suc, ◌≡◌, ◌≢◌, ◌+◌, ◌-◌, ◌<◌, ◌≤◌, ◌⊎◌, inl, inr, ◌↔◌, List, [], ◌∷◌, ◌++◌, length, Option, Some, Bool, true, false, cond, ◌==◌, ◌&&◌, ◌||◌, refl, sym, ap, ◌∙◌, subst, arith, eq-eqb}
+use Rattle.std.proofs.Common.{ℕ, suc, ◌≡◌, ◌+◌, ◌<◌, ◌≤◌, ◌⊎◌, inl, inr, ◌↔◌, List, [], ◌∷◌, ◌++◌, length, Some, Bool, true, false, ◌==◌, ◌&&◌, ◌||◌, refl, sym, ap, ◌∙◌, subst, arith}
 use Rattle.std.specs.Prelude.{Contains, slice_get}
-use Rattle.std.proofs.lemmas.Bool.{eqb-true, ne_eqb}
 use Rattle.std.proofs.lemmas.Option.{same_Some}
 use Rattle.std.proofs.lemmas.List.{length-append}
 use Rattle.step_trace.specs.declared.steps.Act.TheVariants.{Send}
 use Rattle.step_trace.specs.declared.steps.Step.{Step}
-use Rattle.step_trace.specs.Configurations.{Setup, IsProc}
+use Rattle.step_trace.specs.Configurations.{Setup}
 use Rattle.step_trace.specs.Steps.{act_ids, act_takes, act_dest}
 use Rattle.step_trace.specs.Traces.{step_at, IsWellFormed}
 use Rattle.step_trace.specs.PushRefusals.{is_taken}
@@ -18,7 +17,7 @@ use Rattle.step_buffers.specs.HeardTables.{act_ends, passed, round_at, is_sent_i
 use Rattle.step_buffers.specs.Runs.{node_at, destinations, destination_after, next_destination, IsSend}
 use Rattle.step_buffers.specs.Buffers.{buffer}
 use Rattle.step_buffers.specs.Worlds.{IsKept, IsProcessor}
-use Rattle.step_buffers.proofs.StepPrefixes.{step_at-prefix, step_at-prefix_old, round_at-prefix, IsWellFormed-prefix}
+use Rattle.step_buffers.proofs.StepPrefixes.{step_at-prefix, step_at-prefix_old, round_at-prefix}
 use Rattle.step_buffers.proofs.GrownNodes.{passed-stays, node_at-stays, next_destination-now}
 use Rattle.step_buffers.proofs.PresentSends.{sent_now, sent_now-stays}
 use Rattle.step_buffers.proofs.BufferSteps.{is_taken-push, act_takes-from_ids}

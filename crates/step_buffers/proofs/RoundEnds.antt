@@ -1,22 +1,20 @@
 -- What is due of a processor after a Receive.
-use Rattle.std.proofs.Common.{ℕ, zero, suc, ◌≡◌, ◌+◌, ◌-◌, ◌<◌, ◌≤◌, List, [], ◌∷◌, ◌++◌, length, Option, Some, None, Bool, true, false, ltb, cond, ◌&&◌, ◌==◌, refl, sym, ap, ◌∙◌, arith}
-use Rattle.std.specs.Prelude.{slice_get, find, nat_lt, is_some, Contains}
+use Rattle.std.proofs.Common.{ℕ, zero, suc, ◌≡◌, ◌+◌, ◌≤◌, List, [], ◌∷◌, ◌++◌, length, Bool, true, false, ◌&&◌, refl, sym, ap, ◌∙◌, arith}
+use Rattle.std.specs.Prelude.{slice_get, find, nat_lt, is_some}
 use Rattle.std.proofs.lemmas.Bool.{lt-ltb}
 use Rattle.std.proofs.lemmas.Option.{same_Some}
 use Rattle.std.specs.List.{range_with_len}
 use Rattle.step_trace.specs.declared.steps.Act.TheVariants.{Receive}
 use Rattle.step_trace.specs.declared.steps.Step.{Step}
 use Rattle.step_trace.specs.Configurations.{Setup}
-use Rattle.step_trace.specs.Traces.{IsWellFormed}
 use Rattle.step_trace.proofs.StepPositions.{step_at_last}
-use Rattle.lock_phases.specs.Nodes.{State}
 use Rattle.lock_phases.specs.NodeFunctions.{out}
 use Rattle.step_buffers.specs.HeardTables.{act_ends, passed, is_sent_in}
 use Rattle.step_buffers.specs.Runs.{node_at, destinations, destination_after}
 use Rattle.step_buffers.specs.Moves.{next_send}
 use Rattle.step_buffers.proofs.HeardSenders.{IsSentIn-from_test}
 use Rattle.step_buffers.proofs.GrownNodes.{next_destination-now}
-use Rattle.step_buffers.proofs.PresentSends.{sent_now, sent_now-ends}
+use Rattle.step_buffers.proofs.PresentSends.{sent_now-ends}
 use Rattle.step_buffers.proofs.NextDestinations.{first-destination}
 
 -- a Receive is no Send

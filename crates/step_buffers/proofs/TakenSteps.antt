@@ -1,23 +1,22 @@
 -- What is kept of a processor, when it takes messages.
-use Rattle.std.proofs.Common.{ℕ, suc, ◌≡◌, ◌+◌, ◌-◌, ◌<◌, ◌≤◌, ◌⊎◌, inl, inr, ◌↔◌, List, [], ◌∷◌, ◌++◌, length, filter, Option, Some, Bool, true, false, refl, sym, ap, ◌∙◌, subst, arith}
+use Rattle.std.proofs.Common.{ℕ, suc, ◌≡◌, ◌+◌, ◌<◌, ◌≤◌, ◌⊎◌, inl, inr, ◌↔◌, List, [], ◌∷◌, ◌++◌, length, filter, Option, Bool, true, refl, sym, ap, ◌∙◌, arith}
 use Rattle.std.specs.Prelude.{Contains, nat_le}
 use Rattle.std.specs.Option.{option_map_or}
 use Rattle.std.proofs.lemmas.Bool.{leb-true, le-leb}
-use Rattle.std.proofs.lemmas.Option.{same_Some}
 use Rattle.std.proofs.lemmas.List.Elements.{Contains-append_left, Contains-append_right, Contains-append_cases}
-use Rattle.step_trace.specs.declared.steps.Act.TheVariants.{Send, Receive}
+use Rattle.step_trace.specs.declared.steps.Act.TheVariants.{Receive}
 use Rattle.step_trace.specs.declared.steps.Step.{Step}
 use Rattle.step_trace.specs.Configurations.{Setup}
-use Rattle.step_trace.specs.Traces.{step_at, IsWellFormed}
-use Rattle.step_trace.proofs.StepPositions.{step_at_within, step_at_last}
+use Rattle.step_trace.specs.Traces.{IsWellFormed}
+use Rattle.step_trace.proofs.StepPositions.{step_at_last}
 use Rattle.lock_phases.proofs.Membership.{Contains-filter, Contains-from_filter}
 use Rattle.step_buffers.specs.declared.letters.Letter.{Letter}
 use Rattle.step_buffers.specs.HeardTables.{passed, round_at}
 use Rattle.step_buffers.specs.Runs.{IsSend}
-use Rattle.step_buffers.specs.Letters.{letter_at, round_of}
+use Rattle.step_buffers.specs.Letters.{round_of}
 use Rattle.step_buffers.specs.Worlds.{IsKept, AreLetters}
 use Rattle.step_buffers.proofs.StepPrefixes.{step_at-prefix, passed-append}
-use Rattle.step_buffers.proofs.ProcessorSteps.{IsKeptAfter, IsKept-from_after, IsKeptAfter-from_kept}
+use Rattle.step_buffers.proofs.ProcessorSteps.{IsKept-from_after, IsKeptAfter-from_kept}
 
 -- the round of a message that is kept
 pub round_of-sent : (c : Setup) (steps : List Step) (letters : List (Option Letter)) (q to s : ℕ) → AreLetters c steps letters → IsSend steps q to s

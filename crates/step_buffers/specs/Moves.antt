@@ -1,7 +1,6 @@
 -- Moves: what a processor does in a step, by what its node has to send and what waits in its buffer (own).
-use Rattle.std.specs.Prelude.{ℕ, ◌≡◌, ◌+◌, List, [], take, length, find, Option, Some, None, Bool, false, ◌==◌, ◌&&◌, not, nat_lt, is_some, is_none, option_map, if◌then◌else◌}
+use Rattle.std.specs.Prelude.{ℕ, ◌≡◌, ◌+◌, List, [], take, length, find, Option, Some, None, Bool, ◌==◌, ◌&&◌, not, nat_lt, is_some, is_none, option_map, if◌then◌else◌}
 use Rattle.std.specs.List.{list_any}
-use Rattle.step_trace.specs.declared.steps.Act.{Act}
 use Rattle.step_trace.specs.declared.steps.Act.TheVariants as act
 use Rattle.step_trace.specs.declared.steps.Step.{Step}
 use Rattle.step_trace.specs.Configurations.{Setup, is_proc}

@@ -1,7 +1,7 @@
 -- What a World keeps beside its trace, and what it must be for the trace.
-use Rattle.std.specs.Prelude.{ℕ, zero, suc, ◌≡◌, ◌+◌, ◌<◌, ◌≤◌, ◌↔◌, List, length, Option, Some, Contains, true, slice_get}
+use Rattle.std.specs.Prelude.{ℕ, suc, ◌≡◌, ◌+◌, ◌<◌, ◌≤◌, ◌↔◌, List, length, Option, Some, Contains, true, slice_get}
 use Rattle.step_trace.specs.declared.steps.Step.{Step}
-use Rattle.step_trace.specs.Configurations.{Setup, IsSetup, IsProc}
+use Rattle.step_trace.specs.Configurations.{Setup, IsSetup}
 use Rattle.step_trace.specs.Traces.{Recorded}
 use Rattle.step_trace.specs.PushRefusals.{is_taken}
 use Rattle.step_buffers.specs.declared.letters.Letter.{Letter}

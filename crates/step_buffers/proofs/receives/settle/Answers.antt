@@ -1,11 +1,10 @@
-use Rattle.std.proofs.Common.{ℕ, ◌≡◌, ◌+◌, ◌∙◌, ◌++◌, ◌∷◌, [], ◌↔◌, List, filter, refl, sym, ap, subst}
-use Rattle.std.specs.Prelude.{Contains, nat_le, not}
+use Rattle.std.proofs.Common.{◌≡◌, ◌∙◌, ◌++◌, filter, refl, sym, ap}
+use Rattle.std.specs.Prelude.{nat_le, not}
 use Rattle.step_trace.specs.declared.steps.Act.TheVariants.{Receive}
 use Rattle.step_trace.specs.declared.steps.Step.{Step}
 use Rattle.step_trace.proofs.Refusals.{Fits-from_none}
 use Rattle.step_buffers.specs.Letters.{round_of}
 use Rattle.step_buffers.specs.Moves.{is_in}
-use Rattle.step_buffers.specs.Worlds.{IsKept}
 use Rattle.step_buffers.proofs.RunPrefixes.{IsRun-push}
 use Rattle.step_buffers.proofs.LetterSteps.{AreLetters-received}
 use Rattle.step_buffers.proofs.BufferSteps.{buffer-received}
