@@ -21,3 +21,4 @@ pub mod PostSteps
 pub mod TakenSteps
 pub mod RoundEnds
 pub mod Openings
+pub mod HeardNow
