@@ -1,0 +1,198 @@
+-- A buffer with one step more: without the messages that the step takes, and with the one that it sends there.
+use Rattle.std.proofs.Common.{ℕ, suc, ◌≡◌, ◌≢◌, ◌+◌, ◌<◌, ◌≤◌, List, [], ◌∷◌, ◌++◌, length, filter, Option, Some, None, Bool, true, false, cond, not, ◌&&◌, ◌||◌, ◌==◌, refl, sym, ap, ◌∙◌, subst, arith, eq-eqb}
+use Rattle.std.specs.Prelude.{Contains}
+use Rattle.std.specs.Option.{option_map_or}
+use Rattle.std.specs.List.{list_any, range_with_len}
+use Rattle.std.specs.List.Sorted.{IsStrictlyIncreasing}
+use Rattle.std.proofs.lemmas.Bool.{eqb-true, ne_eqb}
+use Rattle.std.proofs.lemmas.Option.{same_Some}
+use Rattle.std.proofs.lemmas.List.{length-append}
+use Rattle.std.proofs.lemmas.List.Folds.{list_any-append}
+use Rattle.std.proofs.lemmas.List.Kept.{IsStrictlyIncreasing-filter}
+use Rattle.step_trace.specs.declared.steps.Act.{Act}
+use Rattle.step_trace.specs.declared.steps.Act.TheVariants.{Send, Receive}
+use Rattle.step_trace.specs.declared.steps.Step.{Step}
+use Rattle.step_trace.specs.Configurations.{Setup}
+use Rattle.step_trace.specs.Steps.{act_ids, act_dest, act_takes, act_sends_to}
+use Rattle.step_trace.specs.Traces.{step_at, IsWellFormed}
+use Rattle.step_trace.specs.PushRefusals.{is_sent_to, is_taken}
+use Rattle.step_trace.proofs.StepPositions.{step_at_within, step_at_last, taken_at-from_is_taken}
+use Rattle.lock_phases.proofs.Membership.{Contains-from_filter, Contains-rest, Contains-head, list_any-found, list_any-at}
+use Rattle.round_model.proofs.ProcessorRanges.{range_with_len-more, IsStrictlyIncreasing-range_with_len, All-range_with_len}
+use Rattle.step_buffers.specs.HeardTables.{numbers}
+use Rattle.step_buffers.specs.Buffers.{waits_for, buffer}
+use Rattle.step_buffers.specs.Runs.{IsSend}
+use Rattle.step_buffers.proofs.StepPrefixes.{step_at-prefix, IsWellFormed-prefix}
+
+-- filters by tests that agree on the elements
+filter-agree : (f g : ℕ → Bool) (xs : List ℕ) → ((x : ℕ) → Contains xs x → f x ≡ g x) → filter f xs ≡ filter g xs
+filter-agree f g [] same = refl
+filter-agree f g (x ∷ xs) same = rw (same x (Contains-head x xs), filter-agree f g xs (λ y d. same y (Contains-rest x y xs d))) refl
+
+-- a filter that all elements pass
+filter-all : (f : ℕ → Bool) (xs : List ℕ) → ((x : ℕ) → Contains xs x → f x ≡ true) → filter f xs ≡ xs
+filter-all f [] pass = refl
+filter-all f (x ∷ xs) pass = rw (pass x (Contains-head x xs), filter-all f xs (λ y d. pass y (Contains-rest x y xs d))) refl
+
+-- two filters one after the other
+filter-twice : (f g : ℕ → Bool) (xs : List ℕ) → filter (λ x. f x && g x) xs ≡ filter g (filter f xs)
+filter-twice f g [] = refl
+filter-twice f g (x ∷ xs) = go (f x) (g x) refl (filter-twice f g xs)
+  where
+    go : (a b : Bool) → g x ≡ b → filter (λ y. f y && g y) xs ≡ filter g (filter f xs)
+        → cond (a && b) (x ∷ filter (λ y. f y && g y) xs) (filter (λ y. f y && g y) xs) ≡ filter g (cond a (x ∷ filter f xs) (filter f xs))
+    go true true e rest = rw e (ap (λ ys. x ∷ ys) rest)
+    go true false e rest = rw e rest
+    go false b e rest = rest
+
+filter-append : (f : ℕ → Bool) (xs ys : List ℕ) → filter f (xs ++ ys) ≡ filter f xs ++ filter f ys
+filter-append f [] ys = refl
+filter-append f (x ∷ xs) ys = go (f x) (filter-append f xs ys)
+  where
+    go : (b : Bool) → filter f (xs ++ ys) ≡ filter f xs ++ filter f ys
+        → cond b (x ∷ filter f (xs ++ ys)) (filter f (xs ++ ys)) ≡ cond b (x ∷ filter f xs) (filter f xs) ++ filter f ys
+    go true rest = ap (λ zs. x ∷ zs) rest
+    go false rest = rest
+
+-- the numbers of the steps, from 1 on
+pub Contains-from_numbers : (steps : List Step) (s : ℕ) → Contains (numbers steps) s → (1 ≤ s) × (s ≤ length steps)
+Contains-from_numbers steps s d =
+    let r = All-range_with_len 1 (length steps) d.0 s d.1 in
+    let e : _ ≡ s = d.2 in
+    let low : 1 ≤ s = subst (λ n. 1 ≤ n) e r.0 in
+    let high : s < 1 + length steps = subst (λ n. n < 1 + length steps) e r.1 in
+    (low, omega arith)
+
+numbers-push : (steps : List Step) (x : Step) → numbers (steps ++ x ∷ []) ≡ numbers steps ++ suc (length steps) ∷ []
+numbers-push steps x =
+    let long : length (steps ++ x ∷ []) ≡ length steps + 1 = length-append steps (x ∷ []) in
+    ap (range_with_len 1) long ∙ range_with_len-more 1 (length steps) (suc (length steps)) (omega arith)
+
+or_false : (b : Bool) → (b || false) ≡ b
+or_false true = refl
+or_false false = refl
+
+-- a message is taken by the steps so far or by the next one
+pub is_taken-push : (steps : List Step) (x : Step) (s : ℕ) → is_taken (steps ++ x ∷ []) s ≡ (is_taken steps s || act_takes x.act s)
+is_taken-push steps x s = list_any-append (λ y. act_takes y.act s) steps (x ∷ []) ∙ ap (λ b. is_taken steps s || b) (or_false (act_takes x.act s))
+
+-- no later number is taken
+not_taken-later : (c : Setup) (steps : List Step) (s : ℕ) → IsWellFormed c steps → length steps < s → is_taken steps s ≡ false
+not_taken-later c steps s w late = go (is_taken steps s) refl
+  where
+    go : (b : Bool) → is_taken steps s ≡ b → b ≡ false
+    go false e = refl
+    go true e =
+        let t = taken_at-from_is_taken steps s e in
+        let within = step_at_within steps t.0 t.1.0 t.1.1 in
+        let high = within.1 in
+        let earlier = w.earlier t.0 s t.1.0 t.1.1 t.1.2 in
+        let low = earlier.0 in
+        absurd (omega arith)
+
+waits_for-old : (steps : List Step) (x : Step) (p s : ℕ) → s ≤ length steps → waits_for (steps ++ x ∷ []) p s ≡ (waits_for steps p s && not (act_takes x.act s))
+waits_for-old steps x p s l =
+    rw (step_at-prefix steps (x ∷ []) s l, is_taken-push steps x s) (go (is_sent_to steps s p) (is_taken steps s) (act_takes x.act s))
+  where
+    go : (a b d : Bool) → (a && not (b || d)) ≡ (a && not b && not d)
+    go true true d = refl
+    go true false d = refl
+    go false b d = refl
+
+waits_for-new : (c : Setup) (steps : List Step) (x : Step) (p : ℕ) → IsWellFormed c steps → waits_for (steps ++ x ∷ []) p (suc (length steps)) ≡ act_sends_to x.act p
+waits_for-new c steps x p w =
+    rw (step_at_last steps x, is_taken-push steps x (suc (length steps)), not_taken-later c steps (suc (length steps)) w (omega arith)) (go x.act)
+  where
+    and_true : (b : Bool) → (b && true) ≡ b
+    and_true true = refl
+    and_true false = refl
+
+    go : (a : Act) → (act_sends_to a p && not (act_takes a (suc (length steps)))) ≡ act_sends_to a p
+    go (Send to) = and_true (to == p)
+    go (Receive ends ids) = refl
+
+-- what a buffer becomes
+pub buffer-push : (c : Setup) (steps : List Step) (x : Step) (p : ℕ) → IsWellFormed c steps
+    → buffer (steps ++ x ∷ []) p ≡ filter (λ s. not (act_takes x.act s)) (buffer steps p) ++ cond (act_sends_to x.act p) (suc (length steps) ∷ []) []
+buffer-push c steps x p w =
+    ap (filter (λ s. waits_for (steps ++ x ∷ []) p s)) (numbers-push steps x)
+    ∙ filter-append (λ s. waits_for (steps ++ x ∷ []) p s) (numbers steps) (suc (length steps) ∷ [])
+    ∙ rw (
+      filter-agree (λ s. waits_for (steps ++ x ∷ []) p s) (λ s. waits_for steps p s && not (act_takes x.act s)) (numbers steps)
+          (λ s d. let within = Contains-from_numbers steps s d in waits_for-old steps x p s within.1),
+      filter-twice (λ s. waits_for steps p s) (λ s. not (act_takes x.act s)) (numbers steps),
+      waits_for-new c steps x p w,
+    ) refl
+
+-- a message to p
+pub buffer-sent_to : (c : Setup) (steps : List Step) (p to : ℕ) → IsWellFormed c steps
+    → buffer (steps ++ record { proc = p; act = Send to } ∷ []) to ≡ buffer steps to ++ suc (length steps) ∷ []
+buffer-sent_to c steps p to w =
+    buffer-push c steps (record { proc = p; act = Send to }) to w
+    ∙ rw (eq-eqb to to refl, filter-all (λ s. not false) (buffer steps to) (λ s d. refl)) refl
+
+append_nil : (xs : List ℕ) → xs ++ [] ≡ xs
+append_nil [] = refl
+append_nil (x ∷ xs) = ap (λ ys. x ∷ ys) (append_nil xs)
+
+-- a message to another
+pub buffer-sent_elsewhere : (c : Setup) (steps : List Step) (p to q : ℕ) → IsWellFormed c steps → to ≢ q
+    → buffer (steps ++ record { proc = p; act = Send to } ∷ []) q ≡ buffer steps q
+buffer-sent_elsewhere c steps p to q w other =
+    buffer-push c steps (record { proc = p; act = Send to }) q w
+    ∙ rw (ne_eqb to q other, filter-all (λ s. not false) (buffer steps q) (λ s d. refl)) (append_nil (buffer steps q))
+
+-- a Receive
+pub buffer-received : (c : Setup) (steps : List Step) (p q : ℕ) (ends : Bool) (ids : List ℕ) → IsWellFormed c steps
+    → buffer (steps ++ record { proc = p; act = Receive ends ids } ∷ []) q ≡ filter (λ s. not (list_any (λ i. i == s) ids)) (buffer steps q)
+buffer-received c steps p q ends ids w = buffer-push c steps (record { proc = p; act = Receive ends ids }) q w ∙ append_nil (filter (λ s. not (list_any (λ i. i == s) ids)) (buffer steps q))
+
+-- what waits was sent to its processor and was not taken
+pub record IsWaiting (steps : List Step) (p s : ℕ) : Type 0 where
+  pub sender : ℕ
+  pub sent : IsSend steps sender p s
+  pub fresh : is_taken steps s ≡ false
+
+sent_from : (o : Option Step) (p : ℕ) → option_map_or (λ x. act_sends_to x.act p) o false ≡ true → (a : ℕ) × (o ≡ Some (record { proc = a; act = Send p }))
+sent_from None p h = absurd (let e : false ≡ true = h in cc)
+sent_from (Some x) p h = (x.proc, ap (λ (a : Act). let y : Step = record { proc = x.proc; act = a } in Some y) (send_from x.act h))
+  where
+    send_from : (a : Act) → act_sends_to a p ≡ true → a ≡ Send p
+    send_from (Send to) e = ap (λ (q : ℕ). Send q) (eqb-true to p e)
+    send_from (Receive ends ids) e = cc
+
+pub IsWaiting-from_buffer : (steps : List Step) (p s : ℕ) → Contains (buffer steps p) s → IsWaiting steps p s
+IsWaiting-from_buffer steps p s d = go (is_sent_to steps s p) (is_taken steps s) refl refl (Contains-from_filter (λ i. waits_for steps p i) (numbers steps) s d).1
+  where
+    go : (a b : Bool) → is_sent_to steps s p ≡ a → is_taken steps s ≡ b → (a && not b) ≡ true → IsWaiting steps p s
+    go true false e f h = let sent = sent_from (step_at steps s) p e in record { sender = sent.0; sent = sent.1; fresh = f }
+    go true true e f h = cc
+    go false b e f h = cc
+
+-- what a Receive of another takes doesn't wait for p
+pub buffer-received_elsewhere : (c : Setup) (steps : List Step) (p q : ℕ) (ends : Bool) (ids : List ℕ) → IsWellFormed c (steps ++ record { proc = p; act = Receive ends ids } ∷ []) → p ≢ q
+    → buffer (steps ++ record { proc = p; act = Receive ends ids } ∷ []) q ≡ buffer steps q
+buffer-received_elsewhere c steps p q ends ids w other =
+    buffer-received c steps p q ends ids (IsWellFormed-prefix c steps (record { proc = p; act = Receive ends ids } ∷ []) w)
+    ∙ filter-all (λ s. not (list_any (λ i. i == s) ids)) (buffer steps q) (λ s d. go s d (list_any (λ i. i == s) ids) refl)
+  where
+    go : (s : ℕ) → Contains (buffer steps q) s → (b : Bool) → list_any (λ i. i == s) ids ≡ b → not b ≡ true
+    go s d false e = refl
+    go s d true e =
+        let x : Step = record { proc = p; act = Receive ends ids } in
+        let waits = IsWaiting-from_buffer steps q s d in
+        let r = list_any-found (λ i. i == s) ids e in
+        let taken : Contains ids s = subst (Contains ids) (eqb-true r.0 s r.2) r.1 in
+        let within = step_at_within steps s (record { proc = waits.sender; act = Send q }) waits.sent in
+        let earlier = w.earlier (suc (length steps)) s x (step_at_last steps x) taken in
+        let one : Step = record { proc = earlier.1.0; act = Send p } in
+        let two : Step = record { proc = waits.sender; act = Send q } in
+        let same : one ≡ two = same_Some one two (sym earlier.1.1 ∙ step_at-prefix steps (x ∷ []) s within.1 ∙ waits.sent) in
+        absurd (other (same_Some p q (ap (λ (z : Step). act_dest z.act) same)))
+
+-- a buffer rises
+pub buffer-rises : (steps : List Step) (p : ℕ) → IsStrictlyIncreasing (buffer steps p)
+buffer-rises steps p = IsStrictlyIncreasing-filter (λ s. waits_for steps p s) (numbers steps) (IsStrictlyIncreasing-range_with_len 1 (length steps))
+
+pub act_takes-from_ids : (a : Act) (s : ℕ) → Contains (act_ids a) s → act_takes a s ≡ true
+act_takes-from_ids a s d = list_any-at (λ i. i == s) (act_ids a) s d (eq-eqb s s refl)

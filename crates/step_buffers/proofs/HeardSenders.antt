@@ -1,0 +1,116 @@
+-- What the heard table says, in words: a step that took a message in time.
+use Rattle.std.proofs.Common.{ℕ, ◌≡◌, ◌+◌, ◌-◌, ◌≤◌, List, length, get_or, Option, Some, None, Bool, true, false, ◌&&◌, ◌==◌, refl, arith, eq-eqb}
+use Rattle.std.specs.Prelude.{Contains, nat_le}
+use Rattle.std.specs.List.{list_any}
+use Rattle.std.specs.Option.{option_map_or}
+use Rattle.std.proofs.lemmas.Bool.{eqb-true, leb-true, le-leb, and_parts}
+use Rattle.std.proofs.lemmas.List.FromFn.{length-range_with_len, get_or-range_with_len}
+use Rattle.step_trace.specs.declared.steps.Step.{Step}
+use Rattle.step_trace.specs.Steps.{act_ids, act_sends}
+use Rattle.step_trace.specs.Traces.{step_at}
+use Rattle.step_trace.proofs.StepPositions.{step_at_within}
+use Rattle.lock_phases.proofs.Membership.{list_any-found, list_any-at}
+use Rattle.step_buffers.specs.HeardTables.{passed, round_at, numbers, is_sent_in, hears_at, heard_table}
+
+-- step k is one that passes a test
+pub record IsStepWith (test : Step → Bool) (steps : List Step) (k : ℕ) : Type 0 where
+  pub step : Step
+  pub stands : step_at steps k ≡ Some step
+  pub passes : test step ≡ true
+
+IsStepWith-from_test : (test : Step → Bool) (steps : List Step) (k : ℕ) → option_map_or test (step_at steps k) false ≡ true → IsStepWith test steps k
+IsStepWith-from_test test steps k h = go (step_at steps k) refl h
+  where
+    go : (o : Option Step) → step_at steps k ≡ o → option_map_or test o false ≡ true → IsStepWith test steps k
+    go None e t = cc
+    go (Some x) e t = record { step = x; stands = e; passes = t }
+
+test-from_step : (test : Step → Bool) (steps : List Step) (k : ℕ) (x : Step) → step_at steps k ≡ Some x → test x ≡ true → option_map_or test (step_at steps k) false ≡ true
+test-from_step test steps k x e t = rw e t
+
+pub and_both : (a b : Bool) → a ≡ true → b ≡ true → (a && b) ≡ true
+and_both a b h l = rw (h, l) refl
+
+-- s is a message that q sent in its round r
+pub record IsSentIn (steps : List Step) (q r s : ℕ) : Type 0 where
+  pub round : round_at steps q s ≡ r
+  pub step : Step
+  pub stands : step_at steps s ≡ Some step
+  pub sender : step.proc ≡ q
+  pub sends : act_sends step.act ≡ true
+
+pub IsSentIn-from_test : (steps : List Step) (q r s : ℕ) → is_sent_in steps q r s ≡ true → IsSentIn steps q r s
+IsSentIn-from_test steps q r s h =
+    let parts = and_parts (round_at steps q s == r) (option_map_or (λ x. x.proc == q && act_sends x.act) (step_at steps s) false) h in
+    let at = IsStepWith-from_test (λ x. x.proc == q && act_sends x.act) steps s parts.1 in
+    let said = and_parts (at.step.proc == q) (act_sends at.step.act) at.passes in
+    record {
+      round = eqb-true (round_at steps q s) r parts.0;
+      step = at.step;
+      stands = at.stands;
+      sender = eqb-true at.step.proc q said.0;
+      sends = said.1;
+    }
+
+pub is_sent_in-from_send : (steps : List Step) (q r s : ℕ) → IsSentIn steps q r s → is_sent_in steps q r s ≡ true
+is_sent_in-from_send steps q r s is =
+    and_both (round_at steps q s == r) (option_map_or (λ x. x.proc == q && act_sends x.act) (step_at steps s) false)
+    (eq-eqb (round_at steps q s) r is.round)
+    (test-from_step (λ x. x.proc == q && act_sends x.act) steps s is.step is.stands
+    (and_both (is.step.proc == q) (act_sends is.step.act) (eq-eqb is.step.proc q is.sender) is.sends))
+
+-- p heard q in round r, which it has passed: a step of p took a message of q of that round in time
+pub record IsHeard (steps : List Step) (p r q : ℕ) : Type 0 where
+  pub over : r ≤ passed steps p
+  pub place : ℕ
+  pub step : Step
+  pub stands : step_at steps place ≡ Some step
+  pub taker : step.proc ≡ p
+  pub in_time : round_at steps p place ≤ r
+  pub message : ℕ
+  pub taken : Contains (act_ids step.act) message
+  pub sent : IsSentIn steps q r message
+
+pub IsHeard-from_table : (steps : List Step) (p r q : ℕ) → heard_table steps p r q ≡ true → IsHeard steps p r q
+unfolding heard_table
+IsHeard-from_table steps p r q h =
+    let parts = and_parts (nat_le r (passed steps p)) (list_any (λ k. hears_at steps p r q k) (numbers steps)) h in
+    let k = list_any-found (λ k. hears_at steps p r q k) (numbers steps) parts.1 in
+    let takes : Step → Bool = λ x. x.proc == p && list_any (λ s. is_sent_in steps q r s) (act_ids x.act) in
+    let at = and_parts (nat_le (round_at steps p k.0) r) (option_map_or takes (step_at steps k.0) false) k.2 in
+    let x = IsStepWith-from_test takes steps k.0 at.1 in
+    let does = and_parts (x.step.proc == p) (list_any (λ s. is_sent_in steps q r s) (act_ids x.step.act)) x.passes in
+    let s = list_any-found (λ s. is_sent_in steps q r s) (act_ids x.step.act) does.1 in
+    record {
+      over = leb-true r (passed steps p) parts.0;
+      place = k.0;
+      step = x.step;
+      stands = x.stands;
+      taker = eqb-true x.step.proc p does.0;
+      in_time = leb-true (round_at steps p k.0) r at.0;
+      message = s.0;
+      taken = s.1;
+      sent = IsSentIn-from_test steps q r s.0 s.2;
+    }
+
+-- the number of a step is one of the numbers
+pub Contains-numbers : (steps : List Step) (k : ℕ) → 1 ≤ k → k ≤ length steps → Contains (numbers steps) k
+Contains-numbers steps k low high =
+    let long : length (numbers steps) ≡ length steps = length-range_with_len 1 (length steps) in
+    let is : get_or (numbers steps) (k - 1) k ≡ 1 + (k - 1) = get_or-range_with_len 1 (length steps) (k - 1) k (omega arith) in
+    (k - 1, omega arith, omega arith)
+
+pub heard_table-from_heard : (steps : List Step) (p r q : ℕ) → IsHeard steps p r q → heard_table steps p r q ≡ true
+unfolding heard_table
+heard_table-from_heard steps p r q is =
+    let takes : Step → Bool = λ x. x.proc == p && list_any (λ s. is_sent_in steps q r s) (act_ids x.act) in
+    let within = step_at_within steps is.place is.step is.stands in
+    and_both (nat_le r (passed steps p)) (list_any (λ k. hears_at steps p r q k) (numbers steps))
+    (le-leb r (passed steps p) is.over)
+    (list_any-at (λ k. hears_at steps p r q k) (numbers steps) is.place (Contains-numbers steps is.place (omega arith) within.1)
+    (and_both (nat_le (round_at steps p is.place) r) (option_map_or takes (step_at steps is.place) false)
+    (le-leb (round_at steps p is.place) r is.in_time)
+    (test-from_step takes steps is.place is.step is.stands
+    (and_both (is.step.proc == p) (list_any (λ s. is_sent_in steps q r s) (act_ids is.step.act))
+    (eq-eqb is.step.proc p is.taker)
+    (list_any-at (λ s. is_sent_in steps q r s) (act_ids is.step.act) is.message is.taken (is_sent_in-from_send steps q r is.message is.sent))))))

@@ -1,0 +1,102 @@
+-- The messages that are kept, with one step more.
+use Rattle.std.proofs.Common.{ℕ, zero, suc, ◌≡◌, ◌+◌, ◌<◌, ◌≤◌, ◌⊎◌, inl, inr, List, [], ◌∷◌, ◌++◌, length, get_or, Bool, Option, Some, None, refl, sym, ap, ◌∙◌, subst, arith}
+use Rattle.std.proofs.lemmas.Option.{same_Some, none-some}
+use Rattle.std.proofs.lemmas.List.{length-append}
+use Rattle.step_trace.specs.declared.steps.Act.TheVariants.{Send, Receive}
+use Rattle.step_trace.specs.declared.steps.Step.{Step}
+use Rattle.step_trace.specs.Configurations.{Setup}
+use Rattle.step_trace.specs.Steps.{act_dest}
+use Rattle.step_trace.specs.Traces.{step_at, IsWellFormed}
+use Rattle.step_trace.proofs.StepPositions.{step_at_within, step_at-push_cases}
+use Rattle.lock_phases.specs.NodeFunctions.{out}
+use Rattle.step_buffers.specs.declared.letters.Letter.{Letter}
+use Rattle.step_buffers.specs.HeardTables.{passed}
+use Rattle.step_buffers.specs.Runs.{node_at}
+use Rattle.step_buffers.specs.Letters.{letter_at}
+use Rattle.step_buffers.specs.Worlds.{IsLetter, AreLetters}
+use Rattle.step_buffers.proofs.StepPrefixes.{round_at-prefix}
+use Rattle.step_buffers.proofs.GrownNodes.{body_of-prefix, body_of-now, before-now}
+
+-- a place before the last one
+letter_at-old : (xs : List (Option Letter)) (x : Option Letter) (s : ℕ) → s ≤ length xs → letter_at (xs ++ x ∷ []) s ≡ letter_at xs s
+letter_at-old xs x zero l = refl
+letter_at-old xs x (suc k) l = go xs k (omega arith)
+  where
+    go : (ys : List (Option Letter)) (k : ℕ) → k < length ys → get_or (ys ++ x ∷ []) k None ≡ get_or ys k None
+    go [] k h = absurd (omega arith)
+    go (y ∷ ys) zero h = refl
+    go (y ∷ ys) (suc k) h = go ys k (omega arith)
+
+letter_at-last : (xs : List (Option Letter)) (x : Option Letter) → letter_at (xs ++ x ∷ []) (suc (length xs)) ≡ x
+letter_at-last xs x = go xs
+  where
+    go : (ys : List (Option Letter)) → get_or (ys ++ x ∷ []) (length ys) None ≡ x
+    go [] = refl
+    go (y ∷ ys) = go ys
+
+IsLetter-longer : (c : Setup) (steps : List Step) (x : Step) (q to s : ℕ) (l : Letter) → IsWellFormed c steps → s ≤ length steps → IsLetter c steps q to s l
+    → IsLetter c (steps ++ x ∷ []) q to s l
+IsLetter-longer c steps x q to s l w h is = record {
+  sender = is.sender;
+  round = is.round ∙ sym (round_at-prefix steps (x ∷ []) q s (omega arith));
+  body = sym (body_of-prefix c steps (x ∷ []) q to s w (omega arith)) ∙ is.body;
+}
+
+-- the message of the new step, if it has one
+record IsMessageOf (c : Setup) (steps : List Step) (x : Step) (o : Option Letter) : Type 0 where
+  pub each : (q to : ℕ) → x ≡ record { proc = q; act = Send to } → (l : Letter) × (o ≡ Some l) × IsLetter c (steps ++ x ∷ []) q to (suc (length steps)) l
+
+AreLetters-push : (c : Setup) (steps : List Step) (x : Step) (letters : List (Option Letter)) (o : Option Letter) → IsWellFormed c steps → AreLetters c steps letters
+    → IsMessageOf c steps x o → AreLetters c (steps ++ x ∷ []) (letters ++ o ∷ [])
+AreLetters-push c steps x letters o w are new = record {
+  places = (let a = are.places in let e = length-append steps (x ∷ []) in let f = length-append letters (o ∷ []) in omega arith);
+  messages = λ q to s h. go q to s (step_at-push_cases steps x (record { proc = q; act = Send to }) s h);
+}
+  where
+    go : (q to s : ℕ) → (step_at steps s ≡ Some (record { proc = q; act = Send to })) ⊎ ((s ≡ length steps + 1) × (x ≡ record { proc = q; act = Send to }))
+        → (l : Letter) × (letter_at (letters ++ o ∷ []) s ≡ Some l) × IsLetter c (steps ++ x ∷ []) q to s l
+    go q to s (inl old) =
+        let m = are.messages q to s old in
+        let b = step_at_within steps s (record { proc = q; act = Send to }) old in
+        let within = b.1 in
+        let places = are.places in
+        (m.0, letter_at-old letters o s (omega arith) ∙ m.1, IsLetter-longer c steps x q to s m.0 w within m.2)
+    go q to s (inr last) =
+        let m = new.each q to last.1 in
+        let place = last.0 in
+        let places = are.places in
+        let e : suc (length steps) ≡ s = omega arith in
+        let f : suc (length letters) ≡ s = omega arith in
+        (m.0, subst (λ n. letter_at (letters ++ o ∷ []) n ≡ Some m.0) f (letter_at-last letters o ∙ m.1), subst (λ n. IsLetter c (steps ++ x ∷ []) q to n m.0) e m.2)
+
+-- a Send
+pub AreLetters-sent : (c : Setup) (steps : List Step) (p to : ℕ) (letters : List (Option Letter)) (l : Letter) → IsWellFormed c steps → AreLetters c steps letters
+    → l.sender ≡ p → l.round ≡ passed steps p + 1 → out c (node_at c steps p) p l.round to ≡ Some l.body
+    → AreLetters c (steps ++ record { proc = p; act = Send to } ∷ []) (letters ++ Some l ∷ [])
+AreLetters-sent c steps p to letters l w are sender round body = AreLetters-push c steps x letters (Some l) w are (record { each = each })
+  where
+    x : Step
+    x = record { proc = p; act = Send to }
+
+    is : IsLetter c (steps ++ x ∷ []) p to (length steps + 1) l
+    is = record {
+      sender = sender;
+      round = round ∙ ap (λ xs. passed xs p + 1) (sym (before-now steps)) ∙ sym (round_at-prefix steps (x ∷ []) p (length steps + 1) (omega arith));
+      body = sym (body_of-prefix c steps (x ∷ []) p to (length steps + 1) w (omega arith)) ∙ body_of-now c steps p to ∙ ap (λ r. out c (node_at c steps p) p r to) (sym round) ∙ body;
+    }
+
+    each : (q t : ℕ) → x ≡ record { proc = q; act = Send t } → (m : Letter) × (Some l ≡ Some m) × IsLetter c (steps ++ x ∷ []) q t (suc (length steps)) m
+    each q t e =
+        let from : p ≡ q = ap (λ (z : Step). z.proc) e in
+        let dest : to ≡ t = same_Some to t (ap (λ (z : Step). act_dest z.act) e) in
+        let place : length steps + 1 ≡ suc (length steps) = omega arith in
+        let here : IsLetter c (steps ++ x ∷ []) p to (suc (length steps)) l = subst (λ n. IsLetter c (steps ++ x ∷ []) p to n l) place is in
+        let there : IsLetter c (steps ++ x ∷ []) q to (suc (length steps)) l = subst (λ n. IsLetter c (steps ++ x ∷ []) n to (suc (length steps)) l) from here in
+        (l, refl, subst (λ n. IsLetter c (steps ++ x ∷ []) q n (suc (length steps)) l) dest there)
+
+-- a Receive
+pub AreLetters-received : (c : Setup) (steps : List Step) (p : ℕ) (ends : Bool) (ids : List ℕ) (letters : List (Option Letter)) → IsWellFormed c steps → AreLetters c steps letters
+    → AreLetters c (steps ++ record { proc = p; act = Receive ends ids } ∷ []) (letters ++ None ∷ [])
+AreLetters-received c steps p ends ids letters w are =
+    AreLetters-push c steps (record { proc = p; act = Receive ends ids }) letters None w are
+    (record { each = λ q to e. absurd (none-some to (ap (λ (z : Step). act_dest z.act) e)) })

@@ -1,0 +1,15 @@
+use Rattle.std.proofs.Common.{arith}
+use Rattle.step_buffers.proofs.Openings.{IsRun-opening, AreLetters-opening}
+use Rattle.step_buffers.proofs.worlds.World.new.Goals as goal
+
+pub invariant_of-result : goal.invariant_of-result
+invariant_of-result c = (
+  rw (c.new.ensures.config, c.new.ensures.steps, c.new-2.ensures.items) (record {
+    setup = c.in_ok-processors.ensures.setup;
+    run = IsRun-opening c.args.config;
+    letters = AreLetters-opening c.args.config;
+    processors = c.in_ok-processors.ensures.kept;
+  }),
+  c.requires,
+  rw c.new.ensures.steps (omega arith),
+)

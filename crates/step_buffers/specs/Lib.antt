@@ -1,0 +1,7 @@
+pub mod HeardTables
+pub mod Runs
+pub mod Buffers
+pub mod Moves
+pub mod Letters
+pub mod Worlds
+pub mod Progress

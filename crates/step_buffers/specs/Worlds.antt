@@ -1,0 +1,52 @@
+-- What a World keeps beside its trace, and what it must be for the trace.
+use Rattle.std.specs.Prelude.{ℕ, suc, ◌≡◌, ◌+◌, ◌<◌, ◌≤◌, ◌↔◌, List, length, Option, Some, Contains, true, slice_get}
+use Rattle.step_trace.specs.declared.steps.Step.{Step}
+use Rattle.step_trace.specs.Configurations.{Setup, IsSetup}
+use Rattle.step_trace.specs.Traces.{Recorded}
+use Rattle.step_trace.specs.PushRefusals.{is_taken}
+use Rattle.step_buffers.specs.declared.letters.Letter.{Letter}
+use Rattle.step_buffers.specs.declared.processors.Processor.{Processor}
+use Rattle.step_buffers.specs.HeardTables.{passed, round_at}
+use Rattle.step_buffers.specs.Runs.{node_at, body_of, IsSend, destination_after, next_destination, IsRun}
+use Rattle.step_buffers.specs.Buffers.{buffer}
+use Rattle.step_buffers.specs.Letters.{letter_at}
+
+-- p took message s, which was sent in a round that p has not passed
+pub record IsKept (steps : List Step) (p s : ℕ) : Type 0 where
+  pub sender : ℕ
+  pub sent : IsSend steps sender p s
+  pub taken : is_taken steps s ≡ true
+  pub ahead : passed steps p < round_at steps sender s
+
+-- What is kept of a processor: its round, its node, where it sends next, the messages that wait for it, and
+-- those that it took and may hear in its round or a later one.
+pub record IsProcessor (c : Setup) (steps : List Step) (p : ℕ) (x : Processor) : Type 0 where
+  pub round : x.round ≡ passed steps p + 1
+  pub node : x.node ≡ node_at c steps p
+  pub last : x.last ≤ c.n
+  pub next : next_destination c steps p (length steps + 1) ≡ destination_after c x.node p x.round x.last
+  pub buffer : x.buffer.items ≡ buffer steps p
+  pub inbox : (s : ℕ) → Contains x.inbox.items s ↔ IsKept steps p s
+
+-- the message of a Send is kept: who sent it in which round, and what it says
+pub record IsLetter (c : Setup) (steps : List Step) (q to s : ℕ) (x : Letter) : Type 0 where
+  pub sender : x.sender ≡ q
+  pub round : x.round ≡ round_at steps q s
+  pub body : body_of c steps q to s ≡ Some x.body
+
+-- The messages that are kept: a place for each step, and in that of each Send its message.
+pub record AreLetters (c : Setup) (steps : List Step) (letters : List (Option Letter)) : Type 0 where
+  pub places : length letters ≡ length steps
+  pub messages : (q to s : ℕ) → IsSend steps q to s → (x : Letter) × (letter_at letters s ≡ Some x) × IsLetter c steps q to s x
+
+-- what is kept of all processors, in their order
+pub record AreProcessors (c : Setup) (steps : List Step) (kept : List Processor) : Type 0 where
+  pub count : length kept ≡ c.n
+  pub each : (k : ℕ) (x : Processor) → slice_get kept k ≡ Some x → IsProcessor c steps (suc k) x
+
+-- What a World keeps: a run, its messages, and what is kept of its processors.
+pub record IsWorld (trace : Recorded) (sent : List (Option Letter)) (kept : List Processor) : Type 0 where
+  pub setup : IsSetup trace.config
+  pub run : IsRun trace.config trace.steps
+  pub letters : AreLetters trace.config trace.steps sent
+  pub processors : AreProcessors trace.config trace.steps kept

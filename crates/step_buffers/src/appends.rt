@@ -1,0 +1,23 @@
+//! One step more, where nothing but memory can lack.
+
+ghost use Rattle.std.specs.Prelude.{◌≡◌, ◌++◌, ◌∷◌, [], None, OnOk, OnErr};
+ghost use Rattle.step_trace.specs.Traces.{IsWellFormed};
+ghost use Rattle.step_trace.specs.PushRefusals.{refusal};
+
+use std::alloc::AllocError;
+use step_trace::{PushError, Step, Trace};
+
+/// Appends a step against which there is no reason.
+pub(crate) fn append(trace: &mut Trace, step: Step) -> Result<(), AllocError>
+    requires { refusal trace.old.config trace.old.steps step ≡ None }
+    ensures appended { OnOk result (trace.new.steps ≡ trace.old.steps ++ step ∷ []) }
+    ensures config { trace.new.config ≡ trace.old.config }
+    ensures well_formed { OnOk result (IsWellFormed trace.old.config (trace.old.steps ++ step ∷ [])) }
+    ensures err { OnErr result (trace.new ≡ trace.old) }
+{
+    match trace.push(step) {
+        Ok(()) => Ok(()),
+        Err(PushError::Memory) => Err(AllocError),
+        Err(_) => unreachable!(),
+    }
+}

@@ -1,0 +1,18 @@
+//! Runs of Algorithm 1 (section 3 of Dwork, Lynch and Stockmeyer, "Consensus in the Presence of Partial
+//! Synchrony", 1988): nodes and buffers moved one Send or Receive step at a time. `specs/` says which
+//! traces are runs, and what the nodes and buffers of a trace are.
+#![tactic(auto)]
+
+mod appends;
+mod laws;
+mod letters;
+mod moves;
+mod processors;
+mod receives;
+mod sends;
+mod takes;
+mod worlds;
+
+pub use laws::run_laws;
+pub use moves::{Done, Move, StepError, Take};
+pub use worlds::World;

@@ -1,0 +1,98 @@
+//! A Send.
+
+ghost use Rattle.std.specs.Prelude.{◌≡◌, ◌<◌, ◌++◌, ◌∷◌, [], length, Some, None, IfOk, OnOk, OnErr, IfErr, ◌+◌, is_none, if◌then◌else◌};
+ghost use Rattle.step_trace.specs.Configurations.{IsProc};
+ghost use Rattle.lock_phases.specs.NodeFunctions.{out};
+ghost use Rattle.step_buffers.specs.HeardTables.{passed};
+ghost use Rattle.step_buffers.specs.Runs.{node_at};
+ghost use Rattle.step_buffers.specs.Moves.{next_send, IsStepRefusal};
+ghost use Rattle.step_buffers.specs.Worlds.{IsWorld};
+
+use crate::appends::append;
+use crate::letters::Letter;
+use crate::moves::StepError;
+use crate::processors::{Processor, next_message};
+use std::alloc::{AllocError, Global};
+use step_trace::{Act, Step, Trace};
+
+/// Sends what processor `p` has to send next, and answers where it went.
+pub(crate) fn send(
+    alloc: Global,
+    trace: &mut Trace,
+    letters: &mut Vec<Option<Letter>>,
+    processors: &mut Vec<Processor>,
+    p: u64,
+) -> Result<u64, StepError>
+    requires world { IsWorld trace.old letters.old.items processors.old.items }
+    requires room { length trace.old.steps < 1000000 }
+    requires processor { IsProc trace.old.config p }
+    ensures world { IsWorld trace.new letters.new.items processors.new.items }
+    ensures config { trace.new.config ≡ trace.old.config }
+    ensures destination { IfOk result (λ to. next_send trace.old.config trace.old.steps p ≡ Some to) }
+    ensures step { IfOk result (λ to. trace.new.steps ≡ trace.old.steps ++ record { proc = p; act = Act.Send to } ∷ []) }
+    ensures refused { IfErr result (λ e. IsStepRefusal e (if is_none (next_send trace.old.config trace.old.steps p) then Some StepError.NothingToSend else None)) }
+    ensures err { OnErr result (trace.new ≡ trace.old) }
+{
+    let sender = &processors[(p - 1) as usize];
+    let next = next_message(
+        alloc,
+        trace.config(),
+        p,
+        sender.round,
+        sender.last,
+        &sender.node,
+    );
+    match next {
+        Err(_) => Err(StepError::Memory),
+        Ok(None) => Err(StepError::NothingToSend),
+        Ok(Some((to, body))) => {
+            let letter = Letter {
+                sender: p,
+                round: sender.round,
+                body,
+            };
+            match post(trace, letters, processors, p, to, letter) {
+                Ok(()) => Ok(to),
+                Err(_) => Err(StepError::Memory),
+            }
+        }
+    }
+}
+
+// Sends a message of `p` to its next destination.
+fn post(
+    trace: &mut Trace,
+    letters: &mut Vec<Option<Letter>>,
+    processors: &mut Vec<Processor>,
+    p: u64,
+    to: u64,
+    letter: Letter,
+) -> Result<(), AllocError>
+    requires world { IsWorld trace.old letters.old.items processors.old.items }
+    requires room { length trace.old.steps < 1000000 }
+    requires processor { IsProc trace.old.config p }
+    requires destination { next_send trace.old.config trace.old.steps p ≡ Some to }
+    requires sender { letter.sender ≡ p }
+    requires round { letter.round ≡ passed trace.old.steps p + 1 }
+    requires body { out trace.old.config (node_at trace.old.config trace.old.steps p) p letter.round to ≡ Some letter.body }
+    ensures world { IsWorld trace.new letters.new.items processors.new.items }
+    ensures config { trace.new.config ≡ trace.old.config }
+    ensures step { OnOk result (trace.new.steps ≡ trace.old.steps ++ record { proc = p; act = Act.Send to } ∷ []) }
+    ensures err { OnErr result (trace.new ≡ trace.old) }
+{
+    letters.reserve(1)?;
+    let receiver = &mut processors[(to - 1) as usize];
+    receiver.buffer.reserve(1)?;
+    append(
+        trace,
+        Step {
+            proc: p,
+            act: Act::Send { to },
+        },
+    )?;
+    receiver.buffer.push_reserved(trace.len() as u64);
+    letters.push_reserved(Some(letter));
+    let sender = &mut processors[(p - 1) as usize];
+    sender.last = to;
+    Ok(())
+}

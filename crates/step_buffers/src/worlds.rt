@@ -1,0 +1,102 @@
+//! The World: all processors of a configuration, moved one step at a time.
+
+ghost use Rattle.std.specs.Prelude.{◌≡◌, ◌+◌, ◌≤◌, [], length, IfOk};
+ghost use Rattle.std.specs.List.Sorted.{IsStrictlyIncreasing};
+ghost use Rattle.step_trace.specs.Configurations.{IsProc};
+ghost use Rattle.step_buffers.specs.HeardTables.{passed};
+ghost use Rattle.step_buffers.specs.Runs.{node_at, IsRun};
+ghost use Rattle.step_buffers.specs.Buffers.{buffer};
+
+use crate::letters::Letter;
+use crate::processors::{Processor, opening_processors};
+use lock_phases::Node;
+use std::alloc::{AllocError, Global};
+use std::marker::Model;
+use step_trace::{Config, Trace};
+
+/// All processors of a configuration with their nodes and buffers, and the trace of the steps that they
+/// made, which is a run (section 2 and 3 of the 1988 paper).
+#[derive(Debug, Drop)]
+pub struct World {
+    limit: u64,
+    trace: Trace,
+    // For each step the message that it sent.
+    letters: Vec<Option<Letter>>,
+    // For each processor what is kept of it.
+    processors: Vec<Processor>,
+}
+
+impl Model for World {
+    ghost use Rattle.std.specs.Prelude.{◌≤◌, length};
+    ghost use Rattle.step_buffers.specs.Progress.{Progress};
+
+    ghost Value = { Progress };
+
+    ghost use Rattle.step_buffers.specs.Worlds.{IsWorld};
+
+    ghost view = { λ w. record { trace = w.trace; limit = w.limit } };
+
+    ghost invariant = { λ w. IsWorld w.trace w.letters.items w.processors.items × (w.limit ≤ 1000000) × (length w.trace.steps ≤ w.limit) };
+}
+
+impl World {
+    /// The World of a configuration in which no step was made, and at most so many may be.
+    ///
+    /// Asks for at most 1,000,000 steps. Takes memory for each processor.
+    pub fn new(alloc: Global, config: Config, max_steps: u64) -> Result<Self, AllocError>
+        requires { max_steps ≤ 1000000 }
+        ensures config { IfOk result (λ world. world.trace.config ≡ config) }
+        ensures steps { IfOk result (λ world. world.trace.steps ≡ []) }
+        ensures limit { IfOk result (λ world. world.limit ≡ max_steps) }
+    {
+        let processors = opening_processors(alloc, &config)?;
+        Ok(World {
+            limit: max_steps,
+            trace: Trace::new(alloc, config),
+            letters: Vec::new(alloc),
+            processors,
+        })
+    }
+
+    /// The trace of the steps made. It is a run.
+    pub fn trace(&self) -> &Trace
+        ensures value { result.now ≡ self.now.trace }
+        ensures run { IsRun self.now.trace.config self.now.trace.steps }
+        ensures within { length self.now.trace.steps ≤ self.now.limit }
+    {
+        &self.trace
+    }
+
+    /// The round of processor `p`. Asks for a processor.
+    pub fn round(&self, p: u64) -> u64
+        requires { IsProc self.now.trace.config p }
+        ensures { result ≡ passed self.now.trace.steps p + 1 }
+    {
+        self.processors[(p - 1) as usize].round
+    }
+
+    /// The node of processor `p`, as the rounds that it passed made it. Asks for a processor.
+    pub fn node(&self, p: u64) -> &Node
+        requires { IsProc self.now.trace.config p }
+        ensures { result.now ≡ node_at self.now.trace.config self.now.trace.steps p }
+    {
+        &self.processors[(p - 1) as usize].node
+    }
+
+    /// The decision of processor `p`, if it has one. Asks for a processor.
+    pub fn decision(&self, p: u64) -> Option<u64>
+        requires { IsProc self.now.trace.config p }
+        ensures { result ≡ (node_at self.now.trace.config self.now.trace.steps p).decision }
+    {
+        self.node(p).decision()
+    }
+
+    /// The rising ids of the messages that wait for processor `p`. Asks for a processor.
+    pub fn waiting(&self, p: u64) -> &[u64]
+        requires { IsProc self.now.trace.config p }
+        ensures value { result.now ≡ buffer self.now.trace.steps p }
+        ensures rising { IsStrictlyIncreasing result.now }
+    {
+        &self.processors[(p - 1) as usize].buffer
+    }
+}
