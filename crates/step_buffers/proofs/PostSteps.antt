@@ -7,7 +7,7 @@ use Rattle.step_trace.specs.declared.steps.Step.{Step}
 use Rattle.step_trace.specs.Configurations.{Setup, IsProc}
 use Rattle.step_trace.specs.Traces.{IsWellFormed}
 use Rattle.step_trace.proofs.StepPositions.{step_at_last}
-use Rattle.step_trace.proofs.Refusals.{Fits}
+use Rattle.step_trace.proofs.FittingSteps.{Fits}
 use Rattle.lock_phases.specs.Nodes.{State}
 use Rattle.lock_phases.specs.NodeFunctions.{out}
 use Rattle.std.specs.Prelude.{is_some}

@@ -1,6 +1,7 @@
 //! A Send.
 
 ghost use Rattle.std.specs.Prelude.{◌≡◌, ◌<◌, ◌++◌, ◌∷◌, [], length, Some, None, IfOk, OnOk, OnErr, IfErr, ◌+◌, is_none, if◌then◌else◌};
+ghost use Rattle.step_trace.specs.declared.traces.TheConstants.{MAX_STEPS};
 ghost use Rattle.step_trace.specs.Configurations.{IsProc};
 ghost use Rattle.lock_phases.specs.NodeFunctions.{out};
 ghost use Rattle.step_buffers.specs.HeardTables.{passed};
@@ -24,7 +25,7 @@ pub(crate) fn send(
     p: u64,
 ) -> Result<u64, StepError>
     requires world { IsWorld trace.old letters.old.items processors.old.items }
-    requires room { length trace.old.steps < 1000000 }
+    requires room { length trace.old.steps < MAX_STEPS }
     requires processor { IsProc trace.old.config p }
     ensures world { IsWorld trace.new letters.new.items processors.new.items }
     ensures config { trace.new.config ≡ trace.old.config }
@@ -69,7 +70,7 @@ fn post(
     letter: Letter,
 ) -> Result<(), AllocError>
     requires world { IsWorld trace.old letters.old.items processors.old.items }
-    requires room { length trace.old.steps < 1000000 }
+    requires room { length trace.old.steps < MAX_STEPS }
     requires processor { IsProc trace.old.config p }
     requires destination { next_send trace.old.config trace.old.steps p ≡ Some to }
     requires sender { letter.sender ≡ p }

@@ -2,6 +2,7 @@
 
 ghost use Rattle.std.specs.Prelude.{◌≡◌, ◌+◌, ◌≤◌, [], length, IfOk};
 ghost use Rattle.std.specs.List.Sorted.{IsStrictlyIncreasing};
+ghost use Rattle.step_trace.specs.declared.traces.TheConstants.{MAX_STEPS};
 ghost use Rattle.step_trace.specs.Configurations.{IsProc};
 ghost use Rattle.step_buffers.specs.HeardTables.{passed};
 ghost use Rattle.step_buffers.specs.Runs.{node_at, IsRun};
@@ -32,11 +33,12 @@ impl Model for World {
 
     ghost Value = { Progress };
 
+    ghost use Rattle.step_trace.specs.declared.traces.TheConstants.{MAX_STEPS};
     ghost use Rattle.step_buffers.specs.Worlds.{IsWorld};
 
     ghost view = { λ w. record { trace = w.trace; limit = w.limit } };
 
-    ghost invariant = { λ w. IsWorld w.trace w.letters.items w.processors.items × (w.limit ≤ 1000000) × (length w.trace.steps ≤ w.limit) };
+    ghost invariant = { λ w. IsWorld w.trace w.letters.items w.processors.items × (w.limit ≤ MAX_STEPS) × (length w.trace.steps ≤ w.limit) };
 }
 
 impl World {
@@ -44,7 +46,7 @@ impl World {
     ///
     /// Asks for at most 1,000,000 steps. Takes memory for each processor.
     pub fn new(alloc: Global, config: Config, max_steps: u64) -> Result<Self, AllocError>
-        requires { max_steps ≤ 1000000 }
+        requires { max_steps ≤ MAX_STEPS }
         ensures config { IfOk result (λ world. world.trace.config ≡ config) }
         ensures steps { IfOk result (λ world. world.trace.steps ≡ []) }
         ensures limit { IfOk result (λ world. world.limit ≡ max_steps) }

@@ -1,7 +1,7 @@
 use Rattle.std.proofs.Common.{◌≡◌, ◌+◌, ◌-◌, ◌∙◌, ◌++◌, ◌∷◌, [], suc, length, slice_set, refl, ap, arith}
 use Rattle.std.proofs.lemmas.Option.{slice_get_read}
 use Rattle.std.proofs.lemmas.List.{length_push}
-use Rattle.step_trace.proofs.Refusals.{none_from_Fits}
+use Rattle.step_trace.proofs.FittingSteps.{none_from_Fits}
 use Rattle.step_buffers.proofs.RunPrefixes.{IsRun-push}
 use Rattle.step_buffers.proofs.LetterSteps.{AreLetters-sent}
 use Rattle.step_buffers.proofs.PostSteps.{IsProc-next_send, Fits-sent, AreProcessors-sent, AreProcessors-room, length-slice_set}
