@@ -21,7 +21,7 @@ pub record IsTakenNow (steps : List Step) (x : Step) (p r q s : ℕ) : Type 0 wh
   pub taken : Contains (act_ids x.act) s
   pub sent : IsSentIn steps q r s
 
-IsTaken-old : (c : Setup) (steps : List Step) (x : Step) (p r q s : ℕ) → IsWellFormed c steps → IsTaken steps p r q s → IsTaken (steps ++ x ∷ []) p r q s
+pub IsTaken-old : (c : Setup) (steps : List Step) (x : Step) (p r q s : ℕ) → IsWellFormed c steps → IsTaken steps p r q s → IsTaken (steps ++ x ∷ []) p r q s
 IsTaken-old c steps x p r q s w is =
     let b = step_at_within steps s is.sent.step is.sent.stands in
     record {
@@ -33,7 +33,7 @@ IsTaken-old c steps x p r q s w is =
       sent = IsSentIn-longer steps (x ∷ []) q r s b.1 is.sent;
     }
 
-IsTaken-new : (steps : List Step) (x : Step) (p r q s : ℕ) → IsTakenNow steps x p r q s → IsTaken (steps ++ x ∷ []) p r q s
+pub IsTaken-new : (steps : List Step) (x : Step) (p r q s : ℕ) → IsTakenNow steps x p r q s → IsTaken (steps ++ x ∷ []) p r q s
 IsTaken-new steps x p r q s is =
     let b = step_at_within steps s is.sent.step is.sent.stands in
     record {
@@ -45,7 +45,7 @@ IsTaken-new steps x p r q s is =
       sent = IsSentIn-longer steps (x ∷ []) q r s b.1 is.sent;
     }
 
-IsTaken-cases : (c : Setup) (steps : List Step) (x : Step) (p r q s : ℕ) → IsWellFormed c (steps ++ x ∷ []) → IsTaken (steps ++ x ∷ []) p r q s
+pub IsTaken-cases : (c : Setup) (steps : List Step) (x : Step) (p r q s : ℕ) → IsWellFormed c (steps ++ x ∷ []) → IsTaken (steps ++ x ∷ []) p r q s
     → IsTaken steps p r q s ⊎ IsTakenNow steps x p r q s
 IsTaken-cases c steps x p r q s w is =
     let b = step_at_within (steps ++ x ∷ []) is.place is.step is.stands in

@@ -22,3 +22,6 @@ pub mod TakenSteps
 pub mod RoundEnds
 pub mod Openings
 pub mod HeardNow
+pub mod HeardInboxes
+pub mod ReceivedProcessors
+pub mod FittingTakes

@@ -26,7 +26,7 @@ round_of-sent c steps letters q to s are h =
     ap (λ (o : Option Letter). option_map_or (λ l. l.round) o 0) m.1 ∙ m.2.round
 
 -- who sent a message that is taken now
-taken-sent : (c : Setup) (steps : List Step) (p s : ℕ) (ends : Bool) (ids : List ℕ) → IsWellFormed c (steps ++ record { proc = p; act = Receive ends ids } ∷ []) → Contains ids s
+pub taken-sent : (c : Setup) (steps : List Step) (p s : ℕ) (ends : Bool) (ids : List ℕ) → IsWellFormed c (steps ++ record { proc = p; act = Receive ends ids } ∷ []) → Contains ids s
     → (q : ℕ) × IsSend steps q p s
 taken-sent c steps p s ends ids w d =
     let x : Step = record { proc = p; act = Receive ends ids } in

@@ -42,11 +42,15 @@ take_refusal (Oldest n) waiting = None
 take_refusal (These ids) waiting =
     if is_rising ids.now then option_map (λ s. NotInBuffer s) (find (λ s. not (is_in waiting s)) ids.now) else Some IdsNotRising
 
+-- the first reason against a Receive of a processor
+abbrev pub receive_refusal : Setup → List Step → ℕ → Take → Bool → Option StepError
+receive_refusal c steps p taken ends =
+    if ends && is_some (next_send c steps p) then Some StillSending else take_refusal taken (buffer steps p)
+
 -- the first reason against a move of a processor
 abbrev pub move_refusal : Setup → List Step → ℕ → Move → Option StepError
 move_refusal c steps p Send = if is_none (next_send c steps p) then Some NothingToSend else None
-move_refusal c steps p (Receive taken ends) =
-    if ends && is_some (next_send c steps p) then Some StillSending else take_refusal taken (buffer steps p)
+move_refusal c steps p (Receive taken ends) = receive_refusal c steps p taken ends
 
 -- the first reason against a move, where so many steps may be made, want of memory aside
 abbrev pub step_refusal : Setup → ℕ → List Step → ℕ → Move → Option StepError

@@ -1,0 +1,125 @@
+-- What a Receive takes out of a buffer, where nothing is against it: ids that rise, of messages that wait.
+use Rattle.std.proofs.Common.{ℕ, zero, suc, ◌≡◌, ◌+◌, ◌<◌, ◌≤◌, List, [], ◌∷◌, length, get_or, take, min, Option, Some, None, Bool, true, false, not, cond, ◌&&◌, ◌⊎◌, inl, inr, refl, sym, ap, ◌∙◌, subst, arith}
+use Rattle.std.specs.Prelude.{Contains, find, nat_lt, option_map}
+use Rattle.std.specs.List.Sorted.{IsStrictlyIncreasing}
+use Rattle.std.proofs.lemmas.Bool.{ltb-true}
+use Rattle.std.proofs.lemmas.Option.{none-some}
+use Rattle.std.proofs.lemmas.List.{length-take, get_or-take}
+use Rattle.lock_phases.proofs.Membership.{Contains-nil, Contains-head, Contains-rest, Contains-cons_cases}
+use Rattle.step_trace.specs.declared.traces.TheConstants.{MAX_STEPS}
+use Rattle.step_trace.specs.declared.steps.Act.TheVariants.{Send, Receive}
+use Rattle.step_trace.specs.declared.steps.Step.{Step}
+use Rattle.step_trace.specs.Configurations.{Setup, IsProc}
+use Rattle.step_trace.specs.PushRefusals.{is_rising, is_rising_from, refusal}
+use Rattle.step_trace.proofs.FittingSteps.{none_from_Fits}
+use Rattle.step_buffers.specs.declared.moves.StepError.{StepError}
+use Rattle.step_buffers.specs.declared.moves.StepError.TheVariants.{Full, BadProc, NothingToSend, StillSending, IdsNotRising, NotInBuffer, Memory}
+use Rattle.step_buffers.specs.declared.moves.Take.{Take}
+use Rattle.step_buffers.specs.declared.moves.Take.TheVariants.{All, Nothing, Oldest, These}
+use Rattle.step_buffers.specs.Buffers.{buffer}
+use Rattle.step_buffers.specs.Moves.{is_in, taken_ids, take_refusal, IsStepRefusal}
+use Rattle.step_buffers.proofs.RisingIds.{Contains-from_is_in}
+use Rattle.step_buffers.proofs.BufferSteps.{buffer-rises, IsWaiting-from_buffer}
+
+-- ids that rise by the test rise
+rising-from_test : (x : ℕ) (xs : List ℕ) → is_rising_from x xs ≡ true → IsStrictlyIncreasing (x ∷ xs)
+rising-from_test x [] h = λ k l. absurd (omega arith)
+rising-from_test x (y ∷ ys) h = go (nat_lt x y) refl h (rising-from_test y ys)
+  where
+    later : x < y → IsStrictlyIncreasing (y ∷ ys) → IsStrictlyIncreasing (x ∷ y ∷ ys)
+    later first rest zero l = first
+    later first rest (suc k) l = let e : suc k + 1 ≡ suc (k + 1) = omega arith in let m : k + 1 < length (y ∷ ys) = omega arith in rw e (rest k m)
+
+    go : (b : Bool) → nat_lt x y ≡ b → (b && is_rising_from y ys) ≡ true → (is_rising_from y ys ≡ true → IsStrictlyIncreasing (y ∷ ys)) → IsStrictlyIncreasing (x ∷ y ∷ ys)
+    go false e f rest = cc
+    go true e f rest = later (ltb-true x y e) (rest f)
+
+rising-from_list : (xs : List ℕ) → is_rising xs ≡ true → IsStrictlyIncreasing xs
+rising-from_list [] h = λ k l. absurd (omega arith)
+rising-from_list (x ∷ xs) h = rising-from_test x xs h
+
+-- the first ones of rising ids rise
+rising-take : (n : ℕ) (xs : List ℕ) → IsStrictlyIncreasing xs → IsStrictlyIncreasing (take n xs)
+rising-take n xs rise k l =
+    let short : length (take n xs) ≡ min n (length xs) = length-take n xs in
+    let a : get_or (take n xs) k 0 ≡ get_or xs k 0 = get_or-take n xs k 0 (omega arith) in
+    let b : get_or (take n xs) (k + 1) 0 ≡ get_or xs (k + 1) 0 = get_or-take n xs (k + 1) 0 (omega arith) in
+    let r = rise k (omega arith) in
+    omega arith
+
+-- the first ones are among all
+Contains-take : (n : ℕ) (xs : List ℕ) (s : ℕ) → Contains (take n xs) s → Contains xs s
+Contains-take zero xs s d = absurd (Contains-nil s d)
+Contains-take (suc n) [] s d = d
+Contains-take (suc n) (x ∷ xs) s d = elim (Contains-cons_cases x s (take n xs) d) [
+  | inl e ↦ subst (Contains (x ∷ xs)) (sym e) (Contains-head x xs)
+  | inr e ↦ Contains-rest x s xs (Contains-take n xs s e)
+]
+
+-- where none is missing all are there
+none_missing : (waiting ids : List ℕ) (s : ℕ) → find (λ i. not (is_in waiting i)) ids ≡ None → Contains ids s → Contains waiting s
+none_missing waiting [] s h d = absurd (Contains-nil s d)
+none_missing waiting (x ∷ ids) s h d = go (is_in waiting x) refl h (Contains-cons_cases x s ids d) (none_missing waiting ids s)
+  where
+    go : (b : Bool) → is_in waiting x ≡ b → cond (not b) (Some x) (find (λ i. not (is_in waiting i)) ids) ≡ None → (s ≡ x) ⊎ Contains ids s
+        → (find (λ i. not (is_in waiting i)) ids ≡ None → Contains ids s → Contains waiting s) → Contains waiting s
+    go false e f m rest = cc
+    go true e f (inl same) rest = subst (Contains waiting) (sym same) (Contains-from_is_in waiting x e)
+    go true e f (inr m) rest = rest f m
+
+-- ids that may be taken out of a buffer: they rise and wait there
+record AreTakeable (waiting ids : List ℕ) : Type 0 where
+  pub rising : IsStrictlyIncreasing ids
+  pub waits : (s : ℕ) → Contains ids s → Contains waiting s
+
+AreTakeable-these : (waiting ids : List ℕ)
+    → cond (is_rising ids) (option_map (λ s. NotInBuffer s) (find (λ s. not (is_in waiting s)) ids)) (Some IdsNotRising) ≡ None → AreTakeable waiting ids
+AreTakeable-these waiting ids h = go (is_rising ids) refl (find (λ s. not (is_in waiting s)) ids) refl h
+  where
+    go : (b : Bool) → is_rising ids ≡ b → (o : Option ℕ) → find (λ s. not (is_in waiting s)) ids ≡ o
+        → cond {A = Option StepError} b (option_map (λ s. NotInBuffer s) o) (Some IdsNotRising) ≡ None → AreTakeable waiting ids
+    go false e o f h = cc
+    go true e (Some s) f h = cc
+    go true e None f h = record { rising = rising-from_list ids e; waits = λ s d. none_missing waiting ids s f d }
+
+AreTakeable-from_none : (chosen : Take) (waiting : List ℕ) → IsStrictlyIncreasing waiting → take_refusal chosen waiting ≡ None → AreTakeable waiting (taken_ids chosen waiting)
+AreTakeable-from_none All waiting rise h = record { rising = rise; waits = λ s d. d }
+AreTakeable-from_none Nothing waiting rise h = record { rising = λ k l. absurd (omega arith); waits = λ s d. absurd (Contains-nil s d) }
+AreTakeable-from_none (Oldest n) waiting rise h = record { rising = rising-take n waiting rise; waits = λ s d. Contains-take n waiting s d }
+AreTakeable-from_none (These ids) waiting rise h = AreTakeable-these waiting ids.now h
+
+-- so nothing is against a Receive of them
+pub refusal-taken : (c : Setup) (steps : List Step) (p : ℕ) (ends : Bool) (chosen : Take) → length steps < MAX_STEPS → IsProc c p → take_refusal chosen (buffer steps p) ≡ None
+    → refusal c steps (record { proc = p; act = Receive ends (taken_ids chosen (buffer steps p)) }) ≡ None
+refusal-taken c steps p ends chosen room is h =
+    let may = AreTakeable-from_none chosen (buffer steps p) (buffer-rises steps p) h in
+    none_from_Fits c steps (record { proc = p; act = Receive ends (taken_ids chosen (buffer steps p)) }) (record {
+      room = room;
+      proc = is;
+      dest = tt;
+      rising = may.rising;
+      sent = λ s d. let w = IsWaiting-from_buffer steps p s (may.waits s d) in (w.sender, w.sent);
+      fresh = λ s d. (IsWaiting-from_buffer steps p s (may.waits s d)).fresh;
+    })
+
+-- want of memory is no reason against taking messages
+take_refusal-not_memory : (chosen : Take) (waiting : List ℕ) → take_refusal chosen waiting ≡ Some Memory → ⊥
+take_refusal-not_memory All waiting h = none-some Memory h
+take_refusal-not_memory Nothing waiting h = none-some Memory h
+take_refusal-not_memory (Oldest n) waiting h = none-some Memory h
+take_refusal-not_memory (These ids) waiting h = go (is_rising ids.now) (find (λ s. not (is_in waiting s)) ids.now) h
+  where
+    go : (b : Bool) (o : Option ℕ) → cond {A = Option StepError} b (option_map (λ s. NotInBuffer s) o) (Some IdsNotRising) ≡ Some Memory → ⊥
+    go false o h = cc
+    go true None h = cc
+    go true (Some s) h = cc
+
+-- so a reason against taking them is answered as it is
+pub IsStepRefusal-take : (chosen : Take) (waiting : List ℕ) (why : StepError) → take_refusal chosen waiting ≡ Some why → IsStepRefusal why (Some why)
+IsStepRefusal-take chosen waiting Full h = refl
+IsStepRefusal-take chosen waiting BadProc h = refl
+IsStepRefusal-take chosen waiting NothingToSend h = refl
+IsStepRefusal-take chosen waiting StillSending h = refl
+IsStepRefusal-take chosen waiting IdsNotRising h = refl
+IsStepRefusal-take chosen waiting (NotInBuffer s) h = refl
+IsStepRefusal-take chosen waiting Memory h = absurd (take_refusal-not_memory chosen waiting h)
