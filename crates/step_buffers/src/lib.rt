@@ -10,6 +10,7 @@ mod moves;
 mod processors;
 mod receives;
 mod sends;
+mod steps;
 mod takes;
 mod worlds;
 

@@ -1,19 +1,22 @@
 //! The World: all processors of a configuration, moved one step at a time.
 
-ghost use Rattle.std.specs.Prelude.{◌≡◌, ◌+◌, ◌≤◌, [], length, IfOk};
+ghost use Rattle.std.specs.Prelude.{◌≡◌, ◌+◌, ◌≤◌, ◌++◌, ◌∷◌, [], Some, None, length, IfOk, OnOk, IfErr, OnErr};
 ghost use Rattle.std.specs.List.Sorted.{IsStrictlyIncreasing};
 ghost use Rattle.step_trace.specs.declared.traces.TheConstants.{MAX_STEPS};
 ghost use Rattle.step_trace.specs.Configurations.{IsProc};
 ghost use Rattle.step_buffers.specs.HeardTables.{passed};
 ghost use Rattle.step_buffers.specs.Runs.{node_at, IsRun};
 ghost use Rattle.step_buffers.specs.Buffers.{buffer};
+ghost use Rattle.step_buffers.specs.Moves.{step_of, step_refusal, IsStepRefusal};
 
 use crate::letters::Letter;
+use crate::moves::{Done, Move, StepError};
 use crate::processors::{Processor, opening_processors};
+use crate::steps::make_move;
 use lock_phases::Node;
 use std::alloc::{AllocError, Global};
 use std::marker::Model;
-use step_trace::{Config, Trace};
+use step_trace::{Config, Step, Trace};
 
 /// All processors of a configuration with their nodes and buffers, and the trace of the steps that they
 /// made, which is a run (section 2 and 3 of the 1988 paper).
@@ -100,5 +103,46 @@ impl World {
         ensures rising { IsStrictlyIncreasing result.now }
     {
         &self.processors[(p - 1) as usize].buffer
+    }
+
+    /// Makes one step of processor `p`: it sends, or takes messages and, if the move says so, ends its round
+    /// (section 3 of the 1988 paper).
+    ///
+    /// Refuses in the order of `StepError`: Full, BadProc, NothingToSend, StillSending, IdsNotRising,
+    /// NotInBuffer, Memory. Then everything is as it was. Takes memory for the step, for the message that it
+    /// sends or the ids that it takes, and for its node. Takes time in these, and in the messages that wait
+    /// for the processor or are kept for it, not in the length of the trace.
+    pub fn step(&mut self, alloc: Global, p: u64, step: Move) -> Result<Done, StepError>
+        ensures step { IfOk result (λ done. Some done.step ≡ step_of self.old.trace.config self.old.trace.steps p step.entry) }
+        ensures made { IfOk result (λ done. self.new.trace.steps ≡ self.old.trace.steps ++ done.step ∷ []) }
+        ensures number { IfOk result (λ done. done.no ≡ length self.new.trace.steps) }
+        ensures round { IfOk result (λ done. done.round ≡ passed self.new.trace.steps p + 1) }
+        ensures decision { IfOk result (λ done. done.decision ≡ (node_at self.new.trace.config self.new.trace.steps p).decision) }
+        ensures config { self.new.trace.config ≡ self.old.trace.config }
+        ensures limit { self.new.limit ≡ self.old.limit }
+        ensures ok { OnOk result (step_refusal self.old.trace.config self.old.limit self.old.trace.steps p step.entry ≡ None) }
+        ensures refused { IfErr result (λ e. IsStepRefusal e (step_refusal self.old.trace.config self.old.limit self.old.trace.steps p step.entry)) }
+        ensures err { OnErr result (self.new ≡ self.old) }
+    {
+        if self.trace.len() as u64 >= self.limit {
+            return Err(StepError::Full);
+        }
+        if !self.trace.config().is_processor(p) {
+            return Err(StepError::BadProc);
+        }
+        let act = make_move(
+            alloc,
+            &mut self.trace,
+            &mut self.letters,
+            &mut self.processors,
+            p,
+            step,
+        )?;
+        Ok(Done {
+            no: self.trace.len() as u64,
+            step: Step { proc: p, act },
+            round: self.round(p),
+            decision: self.decision(p),
+        })
     }
 }
