@@ -1,5 +1,5 @@
 -- What a Receive takes out of a buffer, where nothing is against it: ids that rise, of messages that wait.
-use Rattle.std.proofs.Common.{ℕ, zero, suc, ◌≡◌, ◌+◌, ◌<◌, ◌≤◌, List, [], ◌∷◌, length, get_or, take, min, Option, Some, None, Bool, true, false, not, cond, ◌&&◌, ◌⊎◌, inl, inr, refl, sym, ap, ◌∙◌, subst, arith}
+use Rattle.std.proofs.Common.{ℕ, zero, suc, ◌≡◌, ◌+◌, ◌<◌, List, [], ◌∷◌, length, get_or, take, min, Option, Some, None, Bool, true, false, not, cond, ◌&&◌, ◌⊎◌, inl, inr, refl, sym, subst, arith}
 use Rattle.std.specs.Prelude.{Contains, find, nat_lt, option_map}
 use Rattle.std.specs.List.Sorted.{IsStrictlyIncreasing}
 use Rattle.std.proofs.lemmas.Bool.{ltb-true}
@@ -7,7 +7,7 @@ use Rattle.std.proofs.lemmas.Option.{none-some}
 use Rattle.std.proofs.lemmas.List.{length-take, get_or-take}
 use Rattle.lock_phases.proofs.Membership.{Contains-nil, Contains-head, Contains-rest, Contains-cons_cases}
 use Rattle.step_trace.specs.declared.traces.TheConstants.{MAX_STEPS}
-use Rattle.step_trace.specs.declared.steps.Act.TheVariants.{Send, Receive}
+use Rattle.step_trace.specs.declared.steps.Act.TheVariants.{Receive}
 use Rattle.step_trace.specs.declared.steps.Step.{Step}
 use Rattle.step_trace.specs.Configurations.{Setup, IsProc}
 use Rattle.step_trace.specs.PushRefusals.{is_rising, is_rising_from, refusal}

@@ -1,6 +1,6 @@
 -- What a processor hears at the end of its round is the inbox of the round: the messages of the round that it
 -- kept, and those among the ones that it takes with the end.
-use Rattle.std.proofs.Common.{ℕ, suc, ◌≡◌, ◌+◌, ◌-◌, ◌<◌, ◌≤◌, ◌⊎◌, inl, inr, ◌↔◌, List, [], ◌∷◌, ◌++◌, length, get_or, Option, Some, None, Bool, true, ◌==◌, refl, sym, ap, ◌∙◌, subst, subst₂, arith, eq-eqb}
+use Rattle.std.proofs.Common.{ℕ, ◌≡◌, ◌+◌, ◌-◌, ◌⊎◌, inl, inr, ◌↔◌, List, [], ◌∷◌, ◌++◌, length, get_or, Option, Some, None, true, ◌==◌, refl, sym, ap, ◌∙◌, subst, arith, eq-eqb}
 use Rattle.std.specs.Prelude.{Contains, All, option_map}
 use Rattle.std.specs.List.{range_with_len}
 use Rattle.std.proofs.lemmas.Bool.{eqb-true}
@@ -12,7 +12,7 @@ use Rattle.step_trace.specs.declared.steps.Act.TheVariants.{Send, Receive}
 use Rattle.step_trace.specs.declared.steps.Step.{Step}
 use Rattle.step_trace.specs.Configurations.{Setup, IsProc}
 use Rattle.step_trace.specs.Steps.{act_dest}
-use Rattle.step_trace.specs.Traces.{step_at, IsWellFormed}
+use Rattle.step_trace.specs.Traces.{IsWellFormed}
 use Rattle.step_trace.proofs.StepPositions.{step_at_within, taken_from_at, taken_at-from_is_taken}
 use Rattle.lock_phases.specs.declared.bodies.Body.{Body}
 use Rattle.lock_phases.specs.Messages.{Message, sender_of}
@@ -21,8 +21,8 @@ use Rattle.round_model.proofs.HeardMessages.{IsProc-from_processors}
 use Rattle.step_buffers.specs.declared.letters.Letter.{Letter}
 use Rattle.step_buffers.specs.HeardTables.{passed, round_at}
 use Rattle.step_buffers.specs.Runs.{body_of, IsSend, IsRun}
-use Rattle.step_buffers.specs.Letters.{letter_at, round_of, of_round, body_from, heard_in}
-use Rattle.step_buffers.specs.Worlds.{IsKept, IsLetter, AreLetters}
+use Rattle.step_buffers.specs.Letters.{round_of, of_round, body_from, heard_in}
+use Rattle.step_buffers.specs.Worlds.{IsKept, AreLetters}
 use Rattle.step_buffers.proofs.StepPrefixes.{step_at-prefix, IsWellFormed-prefix}
 use Rattle.step_buffers.proofs.GrownNodes.{body_of-prefix}
 use Rattle.step_buffers.proofs.Inboxes.{IsTaken, IsInInbox}

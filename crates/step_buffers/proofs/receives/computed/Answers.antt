@@ -1,10 +1,9 @@
-use Rattle.std.proofs.Common.{List, ◌≡◌, ◌∙◌, ◌++◌, ◌∷◌, [], true, refl, sym, ap}
+use Rattle.std.proofs.Common.{◌≡◌, ◌∙◌, ◌++◌, true, refl, sym}
 use Rattle.step_trace.specs.declared.steps.Act.TheVariants.{Receive}
 use Rattle.step_trace.specs.declared.steps.Step.{Step}
 use Rattle.step_trace.proofs.Refusals.{Fits-from_none}
 use Rattle.step_trace.proofs.Growth.{IsWellFormed-push}
 use Rattle.lock_phases.specs.Messages.{Message}
-use Rattle.lock_phases.specs.NodeFunctions.{next}
 use Rattle.step_buffers.specs.Letters.{heard_in, of_round}
 use Rattle.step_buffers.proofs.RunPrefixes.{IsRun-push}
 use Rattle.step_buffers.proofs.Inboxes.{node_at-computes}

@@ -1,4 +1,4 @@
-use Rattle.std.proofs.Common.{◌≡◌, ◌+◌, ◌∙◌, ◌++◌, ◌∷◌, [], false, ◌==◌, refl, sym, ap}
+use Rattle.std.proofs.Common.{◌+◌, ◌∙◌, false, ◌==◌, sym, ap}
 use Rattle.step_trace.specs.declared.steps.Act.TheVariants.{Receive}
 use Rattle.step_trace.specs.declared.steps.Step.{Step}
 use Rattle.lock_phases.specs.Nodes.{State}
