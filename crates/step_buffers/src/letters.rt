@@ -1,6 +1,7 @@
 //! Messages on their way, by their ids.
 
 ghost use Rattle.std.specs.Prelude.{◌≡◌, ◌≤◌, ◌++◌, ◌==◌, filter, option_copied, IfOk, OnOk};
+ghost use Rattle.step_trace.specs.declared.configurations.TheConstants.{MAX_PROCESSORS};
 ghost use Rattle.step_buffers.specs.Letters.{letter_at, round_of, body_from, heard_from, heard_in};
 
 use lock_phases::Body;
@@ -47,7 +48,7 @@ pub(crate) fn heard_in(
     round: u64,
     n: u64,
 ) -> Result<Vec<(u64, Body)>, AllocError>
-    requires { n ≤ 16 }
+    requires { n ≤ MAX_PROCESSORS }
     ensures { IfOk result (λ heard. heard.items ≡ heard_in letters.now inbox.now taken.now round n) }
 {
     let mut ids = Vec::new(alloc);
@@ -79,7 +80,7 @@ fn heard_from(
     ids: &[u64],
     n: u64,
 ) -> Result<Vec<(u64, Body)>, AllocError>
-    requires { n ≤ 16 }
+    requires { n ≤ MAX_PROCESSORS }
     ensures { IfOk result (λ heard. heard.items ≡ heard_from letters.now ids.now n) }
 {
     let mut heard = Vec::new(alloc);
