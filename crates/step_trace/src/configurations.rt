@@ -2,6 +2,7 @@
 
 ghost use Rattle.std.specs.Prelude.{◌≡◌, length, IfOk, MatchResult, Some, None};
 
+use std::alloc::{AllocError, Global};
 use std::marker::Model;
 
 /// The least number of processors.
@@ -60,6 +61,17 @@ impl Config {
             return Err(ConfigError::BadInit);
         }
         Ok(Config { n, t, init })
+    }
+
+    /// An equal configuration.
+    pub fn copy(&self, alloc: Global) -> Result<Self, AllocError>
+        ensures copied { IfOk result (λ copy. copy ≡ self.now) }
+    {
+        Ok(Config {
+            n: self.n,
+            t: self.t,
+            init: Vec::from_slice(alloc, &self.init)?,
+        })
     }
 
     /// The number of processors.

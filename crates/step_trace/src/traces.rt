@@ -1,12 +1,12 @@
 //! Well-formed lists of steps under a configuration.
 
-ghost use Rattle.std.specs.Prelude.{◌≡◌, [], ◌++◌, ◌∷◌, ◌≤◌, length, option_copied, OnOk, OnErr, IfErr, IsTrue, ◌↔◌, None};
+ghost use Rattle.std.specs.Prelude.{◌≡◌, [], ◌++◌, ◌∷◌, ◌≤◌, length, option_copied, OnOk, OnErr, IfErr, IfOk, IsTrue, ◌↔◌, None};
 
 use crate::configurations::Config;
 use crate::delivery_index::{append, make_room};
 use crate::push_refusals::{ids_refusal, step_of};
 use crate::steps::{Act, Step};
-use std::alloc::Global;
+use std::alloc::{AllocError, Global};
 use std::marker::Model;
 
 /// How many steps a trace may have.
@@ -69,6 +69,17 @@ impl Trace {
             steps: Vec::new(alloc),
             taken: Vec::new(alloc),
         }
+    }
+
+    /// An equal trace, in time that grows with its length.
+    pub fn copy(&self, alloc: Global) -> Result<Self, AllocError>
+        ensures copied { IfOk result (λ copy. copy ≡ self.now) }
+    {
+        Ok(Trace {
+            config: self.config.copy(alloc)?,
+            steps: self.steps.clone()?,
+            taken: Vec::from_slice(alloc, &self.taken)?,
+        })
     }
 
     /// Its configuration.
