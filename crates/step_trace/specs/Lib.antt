@@ -3,6 +3,7 @@ pub mod ProcessorLists
 pub mod Configurations
 pub mod Steps
 pub mod Traces
+pub mod Ticks
 pub mod Extensions
 pub mod OwnSteps
 pub mod PushRefusals

@@ -8,10 +8,12 @@ use Rattle.step_trace.specs.declared.steps.Step.{Step}
 use Rattle.step_trace.specs.Configurations.{Setup, IsProc}
 use Rattle.step_trace.specs.Steps.{act_ids, act_dest}
 
--- a configuration and the steps in the order of real time
+-- a configuration, the steps in the order of real time, the tick of each, and the last tick
 pub record Recorded : Type 0 where
   pub config : Setup
   pub steps : List Step
+  pub ticks : List ℕ
+  pub last : ℕ
 
 -- the step of this number, which counts from 1
 abbrev pub step_at : List Step → ℕ → Option Step
@@ -36,13 +38,6 @@ pub record IsWellFormed (c : Setup) (steps : List Step) : Type 0 where
   pub rising : (k : ℕ) (x : Step) → step_at steps k ≡ Some x → IsStrictlyIncreasing (act_ids x.act)
   pub earlier : (k s : ℕ) (x : Step) → step_at steps k ≡ Some x → Contains (act_ids x.act) s → (s < k) × IsSentTo steps s x.proc
   pub once : (m n s : ℕ) → TakesAt steps m s → TakesAt steps n s → m ≡ n
-
--- Message s is delivered by r: some Receive after s, at r or before, takes it.
-pub record IsDelivered (steps : List Step) (s r : ℕ) : Type 0 where
-  pub place : ℕ
-  pub after : s < place
-  pub until : place ≤ r
-  pub takes : TakesAt steps place s
 
 -- step r is a Receive of p
 pub record IsReceiveOf (steps : List Step) (r p : ℕ) : Type 0 where
