@@ -1,5 +1,5 @@
 -- Laws of bounds and of their witnesses.
-use Rattle.std.proofs.Common.{ℕ, ◌≡◌, ◌<◌, ◌≤◌, inl, inr, List, length, Option, Some, None, refl, ap, sym, ◌∙◌, arith}
+use Rattle.std.proofs.Common.{ℕ, ◌≡◌, ◌<◌, ◌≤◌, inl, inr, List, length, Option, Some, None, refl, ap, sym, ◌∙◌, subst, arith}
 use Rattle.std.specs.Prelude.{IfSome}
 use Rattle.std.proofs.lemmas.Bool.{cases_lt}
 use Rattle.std.proofs.lemmas.Option.{same_Some}
@@ -7,43 +7,45 @@ use Rattle.step_trace.specs.declared.steps.Step.{Step}
 use Rattle.step_trace.specs.declared.rows.Miss.{Miss}
 use Rattle.step_trace.specs.declared.rows.Gap.{Gap}
 use Rattle.step_trace.specs.Steps.{act_dest}
+use Rattle.step_trace.specs.Traces.{Recorded}
+use Rattle.step_trace.specs.Ticks.{tick_of, IsTimed}
 use Rattle.step_trace.specs.Bounds.{IsMessage, DeltaHolds, StepsWithin, PhiHolds, IsLeastBound}
 use Rattle.step_trace.specs.Witnesses.{MissRefutes, GapRefutes, IsNamedMiss, IsNamedGap, NamesMiss, NamesGap}
-use Rattle.step_trace.proofs.StepPositions.{step_at_within}
+use Rattle.step_trace.proofs.TickOrder.{one_in_tick}
 
 -- what holds from g holds from every later h
-pub DeltaHolds-later : (set : ℕ) (steps : List Step) (g h d : ℕ) → g ≤ h → DeltaHolds set steps g d → DeltaHolds set steps h d
-DeltaHolds-later set steps g h d l b = record { each = λ s m. b.each s (omega arith) }
+pub DeltaHolds-later : (set : ℕ) (trace : Recorded) (g h d : ℕ) → g ≤ h → DeltaHolds set trace g d → DeltaHolds set trace h d
+DeltaHolds-later set trace g h d l b = record { each = λ s m. b.each s (omega arith) }
 
 -- and so does a processor bound
-pub PhiHolds-later : (set : ℕ) (steps : List Step) (g h f : ℕ) → g ≤ h → PhiHolds set steps g f → PhiHolds set steps h f
-PhiHolds-later set steps g h f l b = record { each = λ x m. b.each x (omega arith) }
+pub PhiHolds-later : (set : ℕ) (trace : Recorded) (g h f : ℕ) → g ≤ h → PhiHolds set trace g f → PhiHolds set trace h f
+PhiHolds-later set trace g h f l b = record { each = λ x m. b.each x (omega arith) }
 
 -- a larger bound holds where a smaller one does
-pub DeltaHolds-larger : (set : ℕ) (steps : List Step) (g d e : ℕ) → d ≤ e → DeltaHolds set steps g d → DeltaHolds set steps g e
-DeltaHolds-larger set steps g d e l h = record {
-  each = λ s m k. record { on_time = λ r b v w f. (h.each s m k).on_time r b v w (omega arith) };
+pub DeltaHolds-larger : (set : ℕ) (trace : Recorded) (g d e : ℕ) → d ≤ e → DeltaHolds set trace g d → DeltaHolds set trace g e
+DeltaHolds-larger set trace g d e l h = record {
+  each = λ s m. record { on_time = λ r b v w f. (h.each s m).on_time r b v w (omega arith) };
 }
 
--- who takes a step among some real-time steps takes one among more of them
-pub StepsWithin-larger : (steps : List Step) (p x f e : ℕ) → f ≤ e → StepsWithin steps p x f → StepsWithin steps p x e
-StepsWithin-larger steps p x f e l w = let u = w.until in record { place = w.place; from = w.from; until = omega arith; step = w.step }
+-- who takes a step in one of some ticks takes one in one of more ticks
+pub StepsWithin-larger : (trace : Recorded) (p x f e : ℕ) → f ≤ e → StepsWithin trace p x f → StepsWithin trace p x e
+StepsWithin-larger trace p x f e l w = let u = w.until in record { tick = w.tick; from = w.from; until = omega arith; step = w.step }
 
 -- a larger processor bound holds where a smaller one does
-pub PhiHolds-larger : (set : ℕ) (steps : List Step) (g f e : ℕ) → f ≤ e → PhiHolds set steps g f → PhiHolds set steps g e
-PhiHolds-larger set steps g f e l h = record {
-  each = λ x m k p q. StepsWithin-larger steps p x f e l (h.each x m (omega arith) p q);
+pub PhiHolds-larger : (set : ℕ) (trace : Recorded) (g f e : ℕ) → f ≤ e → PhiHolds set trace g f → PhiHolds set trace g e
+PhiHolds-larger set trace g f e l h = record {
+  each = λ x m k p q. StepsWithin-larger trace p x f e l (h.each x m (omega arith) p q);
 }
 
--- past the length of the trace each communication bound holds
-pub DeltaHolds-past_end : (set : ℕ) (steps : List Step) (g d : ℕ) → length steps < d → DeltaHolds set steps g d
-DeltaHolds-past_end set steps g d l = record {
-  each = λ s m k. record { on_time = λ r b v w f. absurd (let q = step_at_within steps r _ w.step in omega arith) };
+-- past the last tick each communication bound holds
+pub DeltaHolds-past_end : (set : ℕ) (trace : Recorded) (g d : ℕ) → IsTimed trace → trace.last < d → DeltaHolds set trace g d
+DeltaHolds-past_end set trace g d time l = record {
+  each = λ s m. record { on_time = λ r b v w f. absurd (let q = (time.inside r _ w.step).1 in omega arith) };
 }
 
 -- and each processor bound
-pub PhiHolds-past_end : (set : ℕ) (steps : List Step) (g f : ℕ) → 1 ≤ g → length steps < f → PhiHolds set steps g f
-PhiHolds-past_end set steps g f o l = record { each = λ x m k p q. absurd (omega arith) }
+pub PhiHolds-past_end : (set : ℕ) (trace : Recorded) (g f : ℕ) → 1 ≤ g → trace.last < f → PhiHolds set trace g f
+PhiHolds-past_end set trace g f o l = record { each = λ x m k p q. absurd (omega arith) }
 
 -- a positive bound that holds, below which no positive one does, is the least
 pub IsLeastBound-none_below : (Holds : ℕ → Type 0) (d : ℕ) → 1 ≤ d → Holds d → ((e : ℕ) → e < d → 1 ≤ e → Holds e → ⊥) → IsLeastBound Holds d
@@ -61,45 +63,50 @@ IsLeastBound-unique Holds d e a b =
     omega arith
 
 -- a bound that a witness refutes doesn't hold
-pub MissRefutes-sound : (set : ℕ) (steps : List Step) (g d : ℕ) (m : Miss) → MissRefutes set steps g d m → ¬ DeltaHolds set steps g d
-MissRefutes-sound set steps g d m r h =
-    let w = step_at_within steps m.sent _ r.miss.message.sent in
-    r.miss.undelivered ((h.each m.sent r.from w.1).on_time m.missed r.miss.to r.miss.message r.miss.receive r.long)
+pub MissRefutes-sound : (set : ℕ) (trace : Recorded) (g d : ℕ) (m : Miss) → MissRefutes set trace g d m → ¬ DeltaHolds set trace g d
+MissRefutes-sound set trace g d m r h =
+    r.miss.undelivered ((h.each m.sent r.from).on_time m.missed r.miss.to r.miss.message r.miss.receive r.long)
 
 -- and neither does one that a gap refutes
-pub GapRefutes-sound : (set : ℕ) (steps : List Step) (g f : ℕ) (w : Gap) → GapRefutes set steps g f w → ¬ PhiHolds set steps g f
-GapRefutes-sound set steps g f w r h =
+pub GapRefutes-sound : (set : ℕ) (trace : Recorded) (g f : ℕ) (w : Gap) → GapRefutes set trace g f w → ¬ PhiHolds set trace g f
+GapRefutes-sound set trace g f w r h =
     let l = r.long in
     let i = r.gap.inside in
     let s = h.each w.from r.from (omega arith) w.proc r.gap.member in
     let u = s.until in
-    r.gap.silent s.place s.from (omega arith) s.step
+    r.gap.silent s.tick s.from (omega arith) s.step
 
--- a witness refutes each smaller bound, from each step up to its own beginning
-pub MissRefutes-smaller : (set : ℕ) (steps : List Step) (g h d e : ℕ) (m : Miss) → h ≤ m.sent → e ≤ d → MissRefutes set steps g d m → MissRefutes set steps h e m
-MissRefutes-smaller set steps g h d e m l k r = let q = r.long in record { miss = r.miss; from = l; long = omega arith }
+-- a witness refutes each smaller bound, from each tick up to its own beginning
+pub MissRefutes-smaller : (set : ℕ) (trace : Recorded) (g h d e : ℕ) (m : Miss) → h ≤ tick_of trace m.sent → e ≤ d → MissRefutes set trace g d m → MissRefutes set trace h e m
+MissRefutes-smaller set trace g h d e m l k r = let q = r.long in record { miss = r.miss; from = l; long = omega arith }
 
 -- and so does a gap
-pub GapRefutes-smaller : (set : ℕ) (steps : List Step) (g h f e : ℕ) (w : Gap) → h ≤ w.from → e ≤ f → GapRefutes set steps g f w → GapRefutes set steps h e w
-GapRefutes-smaller set steps g h f e w l k r = let q = r.long in record { gap = r.gap; from = l; long = omega arith }
+pub GapRefutes-smaller : (set : ℕ) (trace : Recorded) (g h f e : ℕ) (w : Gap) → h ≤ w.from → e ≤ f → GapRefutes set trace g f w → GapRefutes set trace h e w
+GapRefutes-smaller set trace g h f e w l k r = let q = r.long in record { gap = r.gap; from = l; long = omega arith }
 
 -- a named witness refutes each bound below its own
-pub IsNamedMiss-refutes : (set : ℕ) (steps : List Step) (g d e : ℕ) (m : Miss) → e < d → IsNamedMiss set steps g d m → MissRefutes set steps g e m
-IsNamedMiss-refutes set steps g d e m l n = let q = n.long in record { miss = n.miss; from = n.from; long = omega arith }
+pub IsNamedMiss-refutes : (set : ℕ) (trace : Recorded) (g d e : ℕ) (m : Miss) → e < d → IsNamedMiss set trace g d m → MissRefutes set trace g e m
+IsNamedMiss-refutes set trace g d e m l n = let q = n.long in record { miss = n.miss; from = n.from; long = omega arith }
 
 -- and so does a named gap
-pub IsNamedGap-refutes : (set : ℕ) (steps : List Step) (g f e : ℕ) (w : Gap) → e < f → IsNamedGap set steps g f w → GapRefutes set steps g e w
-IsNamedGap-refutes set steps g f e w l n = let q = n.long in record { gap = n.gap; from = n.from; long = omega arith }
+pub IsNamedGap-refutes : (set : ℕ) (trace : Recorded) (g f e : ℕ) (w : Gap) → e < f → IsNamedGap set trace g f w → GapRefutes set trace g e w
+IsNamedGap-refutes set trace g f e w l n = let q = n.long in record { gap = n.gap; from = n.from; long = omega arith }
 
 -- so the witness beside a bound refutes each smaller one, where there is a witness
-pub NamesMiss-refutes : (set : ℕ) (steps : List Step) (g d : ℕ) (o : Option Miss) → NamesMiss set steps g d o → IfSome o (λ m. (e : ℕ) → e < d → MissRefutes set steps g e m)
-NamesMiss-refutes set steps g d None n = tt
-NamesMiss-refutes set steps g d (Some m) n = λ e l. IsNamedMiss-refutes set steps g d e m l n.1
+pub NamesMiss-refutes : (set : ℕ) (trace : Recorded) (g d : ℕ) (o : Option Miss) → NamesMiss set trace g d o → IfSome o (λ m. (e : ℕ) → e < d → MissRefutes set trace g e m)
+NamesMiss-refutes set trace g d None n = tt
+NamesMiss-refutes set trace g d (Some m) n = λ e l. IsNamedMiss-refutes set trace g d e m l n.1
 
 -- and so does the gap beside a processor bound
-pub NamesGap-refutes : (set : ℕ) (steps : List Step) (g f : ℕ) (o : Option Gap) → NamesGap set steps g f o → IfSome o (λ w. (e : ℕ) → e < f → GapRefutes set steps g e w)
-NamesGap-refutes set steps g f None n = tt
-NamesGap-refutes set steps g f (Some w) n = λ e l. IsNamedGap-refutes set steps g f e w l n.1
+pub NamesGap-refutes : (set : ℕ) (trace : Recorded) (g f : ℕ) (o : Option Gap) → NamesGap set trace g f o → IfSome o (λ w. (e : ℕ) → e < f → GapRefutes set trace g e w)
+NamesGap-refutes set trace g f None n = tt
+NamesGap-refutes set trace g f (Some w) n = λ e l. IsNamedGap-refutes set trace g f e w l n.1
+
+-- a message has one receiver
+pub IsMessage-receiver : (set : ℕ) (steps : List Step) (s a b : ℕ) → IsMessage set steps s a → IsMessage set steps s b → a ≡ b
+IsMessage-receiver set steps s a b m n =
+    let same = same_Some _ _ (sym m.sent ∙ n.sent) in
+    same_Some a b (ap (λ (x : Step). act_dest x.act) same)
 
 -- misses with equal fields are one
 pub Miss-same : (m o : Miss) → m.sent ≡ o.sent → m.missed ≡ o.missed → m ≡ o
@@ -113,18 +120,23 @@ Gap-same v w p q r =
     ∙ ap (λ (a : ℕ). let x : Gap = record { proc = w.proc; from = w.from; to = a } in x) r
 
 -- a witness that is named from g, and the one named from a later h for the same bound, are one
-pub IsNamedMiss-steady : (set : ℕ) (steps : List Step) (g h d : ℕ) (m o : Miss) → g ≤ h → IsNamedMiss set steps g d m → IsNamedMiss set steps h d o → o ≡ m
-IsNamedMiss-steady set steps g h d m o l a b =
+pub IsNamedMiss-steady : (set : ℕ) (trace : Recorded) (g h d : ℕ) (m o : Miss) → IsTimed trace → g ≤ h → IsNamedMiss set trace g d m → IsNamedMiss set trace h d o → o ≡ m
+IsNamedMiss-steady set trace g h d m o time l a b =
     let from = b.from in
     let p = a.long in
     let q = b.long in
-    let below : o.sent ≤ m.sent = a.greatest o b.miss (omega arith) b.long in
-    let above : m.sent ≤ o.sent = b.greatest m a.miss (omega arith) a.long in
-    Miss-same o m (omega arith) (omega arith)
+    let below = a.latest o b.miss (omega arith) b.long in
+    let above = b.latest m a.miss (omega (arith, below, from)) a.long in
+    let same : tick_of trace o.sent ≡ tick_of trace m.sent = omega (arith, below, above) in
+    let fewer = a.greatest o b.miss same b.long in
+    let more = b.greatest m a.miss (sym same) a.long in
+    let sent : o.sent ≡ m.sent = omega (arith, fewer, more) in
+    let to = IsMessage-receiver set trace.steps m.sent b.miss.to a.miss.to (subst (λ s. IsMessage set trace.steps s b.miss.to) sent b.miss.message) a.miss.message in
+    Miss-same o m sent (one_in_tick trace time o.missed m.missed _ _ b.miss.receive.step a.miss.receive.step to (omega (arith, same, p, q)))
 
 -- and so are gaps
-pub IsNamedGap-steady : (set : ℕ) (steps : List Step) (g h f : ℕ) (v w : Gap) → g ≤ h → IsNamedGap set steps g f v → IsNamedGap set steps h f w → w ≡ v
-IsNamedGap-steady set steps g h f v w l a b =
+pub IsNamedGap-steady : (set : ℕ) (trace : Recorded) (g h f : ℕ) (v w : Gap) → g ≤ h → IsNamedGap set trace g f v → IsNamedGap set trace h f w → w ≡ v
+IsNamedGap-steady set trace g h f v w l a b =
     let from = b.from in
     let p = a.long in
     let q = b.long in
@@ -135,29 +147,23 @@ IsNamedGap-steady set steps g h f v w l a b =
     Gap-same w v (omega arith) (omega arith) (omega arith)
 
 -- a bound has one named witness
-pub IsNamedMiss-unique : (set : ℕ) (steps : List Step) (g d : ℕ) (m o : Miss) → IsNamedMiss set steps g d m → IsNamedMiss set steps g d o → o ≡ m
-IsNamedMiss-unique set steps g d m o = IsNamedMiss-steady set steps g g d m o (omega arith)
+pub IsNamedMiss-unique : (set : ℕ) (trace : Recorded) (g d : ℕ) (m o : Miss) → IsTimed trace → IsNamedMiss set trace g d m → IsNamedMiss set trace g d o → o ≡ m
+IsNamedMiss-unique set trace g d m o time = IsNamedMiss-steady set trace g g d m o time (omega arith)
 
 -- and one named gap
-pub IsNamedGap-unique : (set : ℕ) (steps : List Step) (g f : ℕ) (v w : Gap) → IsNamedGap set steps g f v → IsNamedGap set steps g f w → w ≡ v
-IsNamedGap-unique set steps g f v w = IsNamedGap-steady set steps g g f v w (omega arith)
+pub IsNamedGap-unique : (set : ℕ) (trace : Recorded) (g f : ℕ) (v w : Gap) → IsNamedGap set trace g f v → IsNamedGap set trace g f w → w ≡ v
+IsNamedGap-unique set trace g f v w = IsNamedGap-steady set trace g g f v w (omega arith)
 
 -- where the bound from g is the bound from a later h too, so is the witness beside it
-pub NamesMiss-steady : (set : ℕ) (steps : List Step) (g h d : ℕ) (m o : Option Miss) → g ≤ h → NamesMiss set steps g d m → NamesMiss set steps h d o → o ≡ m
-NamesMiss-steady set steps g h d None None l a b = refl
-NamesMiss-steady set steps g h d None (Some o) l a b = absurd (let q : 1 < d = b.0 in omega arith)
-NamesMiss-steady set steps g h d (Some m) None l a b = absurd (let q : 1 < d = a.0 in omega arith)
-NamesMiss-steady set steps g h d (Some m) (Some o) l a b = ap (λ (x : Miss). Some x) (IsNamedMiss-steady set steps g h d m o l a.1 b.1)
+pub NamesMiss-steady : (set : ℕ) (trace : Recorded) (g h d : ℕ) (m o : Option Miss) → IsTimed trace → g ≤ h → NamesMiss set trace g d m → NamesMiss set trace h d o → o ≡ m
+NamesMiss-steady set trace g h d None None time l a b = refl
+NamesMiss-steady set trace g h d None (Some o) time l a b = absurd (let q : 1 < d = b.0 in omega arith)
+NamesMiss-steady set trace g h d (Some m) None time l a b = absurd (let q : 1 < d = a.0 in omega arith)
+NamesMiss-steady set trace g h d (Some m) (Some o) time l a b = ap (λ (x : Miss). Some x) (IsNamedMiss-steady set trace g h d m o time l a.1 b.1)
 
 -- and so is the gap
-pub NamesGap-steady : (set : ℕ) (steps : List Step) (g h f : ℕ) (v w : Option Gap) → g ≤ h → NamesGap set steps g f v → NamesGap set steps h f w → w ≡ v
-NamesGap-steady set steps g h f None None l a b = refl
-NamesGap-steady set steps g h f None (Some w) l a b = absurd (let q : 1 < f = b.0 in omega arith)
-NamesGap-steady set steps g h f (Some v) None l a b = absurd (let q : 1 < f = a.0 in omega arith)
-NamesGap-steady set steps g h f (Some v) (Some w) l a b = ap (λ (x : Gap). Some x) (IsNamedGap-steady set steps g h f v w l a.1 b.1)
-
--- a message has one receiver
-pub IsMessage-receiver : (set : ℕ) (steps : List Step) (s a b : ℕ) → IsMessage set steps s a → IsMessage set steps s b → a ≡ b
-IsMessage-receiver set steps s a b m n =
-    let same = same_Some _ _ (sym m.sent ∙ n.sent) in
-    same_Some a b (ap (λ (x : Step). act_dest x.act) same)
+pub NamesGap-steady : (set : ℕ) (trace : Recorded) (g h f : ℕ) (v w : Option Gap) → g ≤ h → NamesGap set trace g f v → NamesGap set trace h f w → w ≡ v
+NamesGap-steady set trace g h f None None l a b = refl
+NamesGap-steady set trace g h f None (Some w) l a b = absurd (let q : 1 < f = b.0 in omega arith)
+NamesGap-steady set trace g h f (Some v) None l a b = absurd (let q : 1 < f = a.0 in omega arith)
+NamesGap-steady set trace g h f (Some v) (Some w) l a b = ap (λ (x : Gap). Some x) (IsNamedGap-steady set trace g h f v w l a.1 b.1)

@@ -19,7 +19,7 @@ IsSentTo-push : (steps : List Step) (x : Step) (s p : ℕ) → IsSentTo steps s 
 IsSentTo-push steps x s p h = (h.0, step_at-push_old steps x _ s h.1)
 
 -- what is taken is taken by an old step, or by the new one
-TakesAt-push_cases : (steps : List Step) (x : Step) (m s : ℕ) → TakesAt (steps ++ x ∷ []) m s → TakesAt steps m s ⊎ ((m ≡ length steps + 1) × Contains (act_ids x.act) s)
+pub TakesAt-push_cases : (steps : List Step) (x : Step) (m s : ℕ) → TakesAt (steps ++ x ∷ []) m s → TakesAt steps m s ⊎ ((m ≡ length steps + 1) × Contains (act_ids x.act) s)
 TakesAt-push_cases steps x m s h = elim (step_at-push_cases steps x h.0 m h.1) [ inl e ↦ inl (h.0, e, h.2) | inr e ↦ inr (e.0, subst (λ (z : Step). Contains (act_ids z.act) s) (sym e.1) h.2) ]
 
 -- a list of steps stays well formed with a step that fits

@@ -7,5 +7,9 @@ pub mod ProcessorSets
 pub mod Digits
 pub mod NamedReasons
 pub mod NumberLists
+pub mod TickOrder
+pub mod TickPositions
+pub mod FittingTicks
+pub mod TickReasons
 pub mod BoundLaws
 pub mod BoundDecisions

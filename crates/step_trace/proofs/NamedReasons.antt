@@ -6,7 +6,7 @@ use Rattle.std.proofs.lemmas.Bool.{and_parts, not-true, not-false, not_from_true
 use Rattle.std.proofs.lemmas.Bool.Decides.{nat_tests}
 use Rattle.step_trace.specs.declared.traces.TheConstants.{MAX_STEPS}
 use Rattle.step_trace.specs.declared.traces.PushError.{PushError}
-use Rattle.step_trace.specs.declared.traces.PushError.TheVariants.{Full, BadProc, BadDest, IdsNotRising, UnknownMessage, NotAddressed, Redelivered, Memory}
+use Rattle.step_trace.specs.declared.traces.PushError.TheVariants.{Full, BadTick, BadProc, ProcOrder, BadDest, IdsNotRising, UnknownMessage, NotAddressed, SameTick, Redelivered, Memory}
 use Rattle.step_trace.specs.declared.steps.Act.{Act}
 use Rattle.step_trace.specs.declared.steps.Act.TheVariants.{Send, Receive}
 use Rattle.step_trace.specs.declared.steps.Step.{Step}
@@ -63,16 +63,16 @@ found-from p x [] s rising h = found-next p x [] s rising (λ f. absurd (none-so
 found-from p x (y ∷ ys) s rising h = found-next p x (y ∷ ys) s rising (found-from p y ys s (and_parts (nat_lt x y) (is_rising_from y ys) rising).1) h
 
 -- and for each rising list
-found : (p : ℕ → Bool) (xs : List ℕ) (s : ℕ) → is_rising xs ≡ true → find p xs ≡ Some s → IsFound p xs s
+pub found : (p : ℕ → Bool) (xs : List ℕ) (s : ℕ) → is_rising xs ≡ true → find p xs ≡ Some s → IsFound p xs s
 found p [] s r h = absurd (none-some s h)
 found p (x ∷ xs) s r h = found-from p x xs s r h
 
 -- an element that the opposite test finds fails the test
-failing : (test : ℕ → Bool) (ids : List ℕ) (s : ℕ) → IsFound (λ i. not (test i)) ids s → IsLeastFailing test ids s
+pub failing : (test : ℕ → Bool) (ids : List ℕ) (s : ℕ) → IsFound (λ i. not (test i)) ids s → IsLeastFailing test ids s
 failing test ids s f = record { member = f.member; fails = not-true _ f.passes; least = λ i d l. not-false _ (f.least i d l) }
 
 -- and one that the test finds fails the opposite test
-passing : (test : ℕ → Bool) (ids : List ℕ) (s : ℕ) → IsFound test ids s → IsLeastFailing (λ i. not (test i)) ids s
+pub passing : (test : ℕ → Bool) (ids : List ℕ) (s : ℕ) → IsFound test ids s → IsLeastFailing (λ i. not (test i)) ids s
 passing test ids s f = record { member = f.member; fails = not_from_true _ f.passes; least = λ i d l. not_from_false _ (f.least i d l) }
 
 -- the first reason against a Receive names the least id of its kind
@@ -125,3 +125,6 @@ refusal-justified c steps x e h = go e (λ w. none-some e (sym (none_from_well_f
   go (UnknownMessage s) n m = n
   go (NotAddressed s) n m = n
   go (Redelivered s) n m = n
+  go BadTick n m = n
+  go ProcOrder n m = n
+  go (SameTick s) n m = n

@@ -19,22 +19,22 @@ use Rattle.step_trace.proofs.StepPositions.{step_at_within}
 use Rattle.step_trace.proofs.FittingSteps.{Fits}
 
 -- a reason that doesn't stand was passed
-cond_none : {E : Type 0} (b : Bool) (o : Option E) (e : E) → cond b o (Some e) ≡ None → (b ≡ true) × (o ≡ None)
+pub cond_none : {E : Type 0} (b : Bool) (o : Option E) (e : E) → cond b o (Some e) ≡ None → (b ≡ true) × (o ≡ None)
 cond_none true o e h = (refl, h)
 cond_none false o e h = cc
 
 -- and so it is for a test the other way round
-cond_some_none : {E : Type 0} (b : Bool) (o : Option E) (e : E) → cond b (Some e) o ≡ None → (b ≡ false) × (o ≡ None)
+pub cond_some_none : {E : Type 0} (b : Bool) (o : Option E) (e : E) → cond b (Some e) o ≡ None → (b ≡ false) × (o ≡ None)
 cond_some_none true o e h = cc
 cond_some_none false o e h = (refl, h)
 
 -- no id gives a reason, and neither does what comes after
-first_id_none : (o : Option ℕ) (why : ℕ → PushError) (next : Option PushError) → first_id o why next ≡ None → (o ≡ None) × (next ≡ None)
+pub first_id_none : (o : Option ℕ) (why : ℕ → PushError) (next : Option PushError) → first_id o why next ≡ None → (o ≡ None) × (next ≡ None)
 first_id_none None why next h = (refl, h)
 first_id_none (Some s) why next h = cc
 
 -- where nothing is found all elements fail
-find_all : {X : Type 0} (p : X → Bool) (xs : List X) → find p xs ≡ None → All (λ x. p x ≡ false) xs
+pub find_all : {X : Type 0} (p : X → Bool) (xs : List X) → find p xs ≡ None → All (λ x. p x ≡ false) xs
 find_all p [] h = All-nil (λ x. p x ≡ false)
 find_all p (x ∷ xs) h = let e = cond_some_none (p x) (find p xs) x h in All-cons (λ x. p x ≡ false) x xs e.0 (find_all p xs e.1)
 

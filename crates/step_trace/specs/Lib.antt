@@ -7,6 +7,7 @@ pub mod Ticks
 pub mod Extensions
 pub mod OwnSteps
 pub mod PushRefusals
+pub mod TickRefusals
 pub mod PushErrorTexts
 pub mod DeliveryIndex
 pub mod Bounds

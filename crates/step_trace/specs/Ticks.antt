@@ -1,15 +1,18 @@
 -- Real time (section 2, the real-time steps; that a tick may hold the steps of several processors, or none, is
 -- own). A step has a number, which counts steps from 1, and a tick, which is the moment at which it is taken.
 -- Numbers are called s, r, j, k; moments g, x, y.
-use Rattle.std.specs.Prelude.{ℕ, ◌≡◌, ◌<◌, ◌≤◌, ◌⊎◌, List, [], ◌∷◌, ◌++◌, length, slice_index, Some, suc, zero}
+use Rattle.std.specs.Prelude.{ℕ, ◌≡◌, ◌<◌, ◌≤◌, ◌⊎◌, List, [], ◌∷◌, ◌++◌, length, slice_index_or, Some, suc, zero}
 use Rattle.step_trace.specs.declared.traces.TheConstants.{MAX_TICKS}
 use Rattle.step_trace.specs.declared.steps.Step.{Step}
 use Rattle.step_trace.specs.Traces.{Recorded, step_at, TakesAt, IsStepOf, IsWellFormed}
 
--- the tick of the step of this number; 0 where there is no such step
+-- the tick of the step of this number, of the ticks of all steps; 0 where there is no such step
+abbrev pub tick_at : List ℕ → ℕ → ℕ
+tick_at ticks zero = 0
+tick_at ticks (suc k) = slice_index_or ticks k 0
+
 abbrev pub tick_of : Recorded → ℕ → ℕ
-tick_of trace zero = 0
-tick_of trace (suc k) = slice_index trace.ticks k
+tick_of trace s = tick_at trace.ticks s
 
 -- p takes a step in tick x
 pub record StepsIn (trace : Recorded) (x p : ℕ) : Type 0 where
@@ -53,4 +56,4 @@ pub record IsOnePerTick (trace : Recorded) : Type 0 where
 -- The step may be appended in this tick: time doesn't go back, and the trace stays well formed.
 pub record CanAppend (trace : Recorded) (tick : ℕ) (step : Step) : Type 0 where
   pub forward : trace.last ≤ tick
-  pub trace : IsTrace (with_step trace tick step)
+  pub sound : IsTrace (with_step trace tick step)

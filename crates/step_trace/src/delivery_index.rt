@@ -16,15 +16,22 @@ pub(crate) fn is_taken(taken: &[bool], s: u64) -> bool
     0 < s && s as usize <= taken.len() && taken[s as usize - 1]
 }
 
-/// Makes room for one step more and for its flag. Refuses only where one of the two lists was full.
-pub(crate) fn make_room(steps: &mut Vec<Step>, taken: &mut Vec<bool>) -> Result<(), AllocError>
+/// Makes room for one step more, its tick and its flag. Refuses only where one of the lists was full.
+pub(crate) fn make_room(
+    steps: &mut Vec<Step>,
+    ticks: &mut Vec<u32>,
+    taken: &mut Vec<bool>,
+) -> Result<(), AllocError>
     ensures steps { steps.new.items ≡ steps.old.items }
+    ensures ticks { ticks.new.items ≡ ticks.old.items }
     ensures flags { taken.new.items ≡ taken.old.items }
     ensures steps_room { OnOk result (vec_len steps.new < vec_capacity steps.new) }
+    ensures ticks_room { OnOk result (vec_len ticks.new < vec_capacity ticks.new) }
     ensures taken_room { OnOk result (vec_len taken.new < vec_capacity taken.new) }
-    ensures more { OnErr result ((vec_capacity steps.old ≤ vec_len steps.old) ⊎ (vec_capacity taken.old ≤ vec_len taken.old)) }
+    ensures more { OnErr result ((vec_capacity steps.old ≤ vec_len steps.old) ⊎ ((vec_capacity ticks.old ≤ vec_len ticks.old) ⊎ (vec_capacity taken.old ≤ vec_len taken.old))) }
 {
     steps.reserve(1)?;
+    ticks.reserve(1)?;
     taken.reserve(1)
 }
 

@@ -16,6 +16,7 @@ mod push_error_texts;
 mod push_refusals;
 mod rows;
 mod steps;
+mod ticks;
 mod traces;
 
 pub use configurations::{Config, ConfigError, MAX_PROCESSORS, MIN_PROCESSORS};
@@ -24,4 +25,5 @@ pub use numbers::read_number;
 pub use processors::{MAX_MEMBER, ProcSet};
 pub use rows::{Gap, Miss, Row};
 pub use steps::{Act, MessageIds, Step};
-pub use traces::{MAX_STEPS, PushError, Trace};
+pub use ticks::BadTick;
+pub use traces::{MAX_STEPS, MAX_TICKS, PushError, Trace};

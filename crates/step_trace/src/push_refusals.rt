@@ -2,11 +2,13 @@
 
 ghost use Rattle.std.specs.Prelude.{◌≡◌, option_copied, find, not};
 ghost use Rattle.step_trace.specs.Traces.{step_at};
-ghost use Rattle.step_trace.specs.PushRefusals.{is_message, is_sent_to, is_rising, is_rising_from, ids_refusal};
+ghost use Rattle.step_trace.specs.PushRefusals.{is_message, is_sent_to, is_rising, is_rising_from};
+ghost use Rattle.step_trace.specs.TickRefusals.{is_sent_in, ids_refusal_in};
 ghost use Rattle.step_trace.specs.DeliveryIndex.{flag_of};
 
 use crate::delivery_index::is_taken;
 use crate::steps::{Act, Step};
+use crate::ticks::first_sent_in;
 use crate::traces::PushError;
 
 /// The step of this number, if there is one.
@@ -19,9 +21,16 @@ pub(crate) fn step_of(steps: &[Step], no: u64) -> Option<&Step>
     steps.get(no as usize - 1)
 }
 
-/// The first reason against a Receive of these ids by processor `p`.
-pub(crate) fn ids_refusal(steps: &[Step], taken: &[bool], p: u64, ids: &[u64]) -> Option<PushError>
-    ensures { result ≡ ids_refusal steps.now (flag_of taken.now) p ids.now }
+/// The first reason against a Receive of these ids by processor `p` in this tick.
+pub(crate) fn ids_refusal(
+    steps: &[Step],
+    ticks: &[u32],
+    taken: &[bool],
+    tick: u64,
+    p: u64,
+    ids: &[u64],
+) -> Option<PushError>
+    ensures { result ≡ ids_refusal_in steps.now (is_sent_in ticks.now tick) (flag_of taken.now) p ids.now }
 {
     if !is_rising(ids) {
         return Some(PushError::IdsNotRising);
@@ -31,6 +40,9 @@ pub(crate) fn ids_refusal(steps: &[Step], taken: &[bool], p: u64, ids: &[u64]) -
     }
     if let Some(s) = first_unaddressed(steps, p, ids) {
         return Some(PushError::NotAddressed(s));
+    }
+    if let Some(s) = first_sent_in(ticks, tick, ids) {
+        return Some(PushError::SameTick(s));
     }
     if let Some(s) = first_taken(taken, ids) {
         return Some(PushError::Redelivered(s));

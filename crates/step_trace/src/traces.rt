@@ -1,12 +1,13 @@
-//! Well-formed lists of steps under a configuration.
+//! Well-formed lists of steps under a configuration, each step in its tick.
 
-ghost use Rattle.std.specs.Prelude.{◌≡◌, [], ◌++◌, ◌∷◌, ◌≤◌, ◌<◌, length, option_copied, OnOk, OnErr, IfErr, IfOk, IsTrue, ◌↔◌, None};
+ghost use Rattle.std.specs.Prelude.{◌≡◌, [], ◌++◌, ◌∷◌, ◌≤◌, ◌<◌, length, option_copied, OnOk, OnErr, IfErr, IfOk, IsTrue, ◌↔◌, None, ◌+◌, ◌⊎◌};
 
 use crate::configurations::Config;
 use crate::delivery_index::{append, make_room};
 use crate::extensions::begins_with;
 use crate::own_steps::own_steps;
 use crate::push_refusals::{ids_refusal, step_of};
+use crate::ticks::{self, BadTick, comes_after_last, tick_at};
 use crate::steps::{Act, Step};
 use std::alloc::{AllocError, Global};
 use std::marker::Model;
@@ -14,13 +15,20 @@ use std::marker::Model;
 /// How many steps a trace may have.
 pub const MAX_STEPS: usize = 1_000_000;
 
+/// The greatest tick of a trace.
+pub const MAX_TICKS: u64 = 1_000_000;
+
 /// Why a step is refused, in the order in which the reasons are tested.
 #[derive(Clone, Copy, Debug, PartialEq, Eq)]
 pub enum PushError {
-    /// The trace has `MAX_STEPS` steps.
+    /// The trace has `MAX_STEPS` steps, or there is no tick after its last.
     Full,
+    /// The tick is 0, below the last tick, or above `MAX_TICKS`.
+    BadTick,
     /// The step is of no processor of the configuration.
     BadProc,
+    /// The last step is in the same tick, and not of a smaller processor.
+    ProcOrder,
     /// The destination is no processor of the configuration.
     BadDest,
     /// The ids of a Receive don't rise.
@@ -29,17 +37,25 @@ pub enum PushError {
     UnknownMessage(u64),
     /// The message of this number was sent to another processor.
     NotAddressed(u64),
+    /// The message of this number was sent in this tick.
+    SameTick(u64),
     /// The message of this number was taken before.
     Redelivered(u64),
     /// There was no memory for one more step.
     Memory,
 }
 
-/// A configuration and a well-formed list of steps, numbered from 1 in the order of real time.
+/// A configuration and a well-formed list of steps, numbered from 1 in the order of real time. Each step
+/// is in a tick, which is its moment of real time; a tick holds at most one step of each processor, and
+/// possibly none, and the trace goes on to its last tick.
 #[derive(Debug, Drop)]
 pub struct Trace {
     config: Config,
     steps: Vec<Step>,
+    // For each step, its tick.
+    ticks: Vec<u32>,
+    // The last tick.
+    last: u64,
     // For each step, whether the message of its number was taken.
     taken: Vec<bool>,
 }
@@ -49,28 +65,36 @@ impl Model for Trace {
 
     ghost Value = { Recorded };
 
-    ghost use Rattle.step_trace.specs.Traces.{IsWellFormed};
+    ghost use Rattle.step_trace.specs.Ticks.{IsTrace};
     ghost use Rattle.step_trace.specs.DeliveryIndex.{IsIndex};
 
-    ghost view = { λ a. record { config = a.config; steps = a.steps.items } };
+    ghost view = { λ a. record { config = a.config; steps = a.steps.items; ticks = a.ticks.items; last = a.last } };
 
-    ghost invariant = { λ a. IsWellFormed a.config a.steps.items × IsIndex a.steps.items a.taken.items };
+    ghost invariant = { λ a. IsTrace (record { config = a.config; steps = a.steps.items; ticks = a.ticks.items; last = a.last })
+        × IsIndex a.steps.items a.taken.items };
 }
 
 impl Trace {
     ghost use Rattle.step_trace.specs.Traces.{step_at, IsWellFormed};
+    ghost use Rattle.step_trace.specs.Ticks.{tick_of, IsTimed, IsTrace, IsOnePerTick, with_step, with_last};
     ghost use Rattle.step_trace.specs.Extensions.{Extends};
     ghost use Rattle.step_trace.specs.OwnSteps.{own_steps};
-    ghost use Rattle.step_trace.specs.PushRefusals.{refusal, IsRefusal, IsJustified, NamesLeast};
+    ghost use Rattle.step_trace.specs.PushRefusals.{IsRefusal};
+    ghost use Rattle.step_trace.specs.TickRefusals.{refusal_in, next_refusal, IsJustifiedIn, NamesLeastIn};
 
-    /// The trace of a configuration that has no steps. Takes no memory.
+    /// The trace of a configuration that has no steps, and no tick yet. Takes no memory.
     pub fn new(alloc: Global, config: Config) -> Self
         ensures config { result.config ≡ config }
         ensures steps { result.steps ≡ [] }
+        ensures ticks { result.ticks ≡ [] }
+        ensures last { result.last ≡ 0 }
+        ensures numbered { IsOnePerTick result }
     {
         Trace {
             config,
             steps: Vec::new(alloc),
+            ticks: Vec::new(alloc),
+            last: 0,
             taken: Vec::new(alloc),
         }
     }
@@ -82,6 +106,8 @@ impl Trace {
         Ok(Trace {
             config: self.config.copy(alloc)?,
             steps: self.steps.clone()?,
+            ticks: Vec::from_slice(alloc, &self.ticks)?,
+            last: self.last,
             taken: Vec::from_slice(alloc, &self.taken)?,
         })
     }
@@ -93,7 +119,7 @@ impl Trace {
         &self.config
     }
 
-    /// The number of its steps, and so the number of its last real-time step.
+    /// The number of its steps.
     pub fn len(&self) -> usize
         ensures value { result ≡ length self.now.steps }
         ensures limit { result ≤ MAX_STEPS }
@@ -118,12 +144,18 @@ impl Trace {
         step_of(&self.steps, no)
     }
 
-    /// Whether it extends another trace: they have one configuration, and the other's steps are a
-    /// prefix of its own. Takes no memory.
+    /// Whether it extends another trace: they have one configuration, the other's steps with their ticks
+    /// are a prefix of its own, and neither its last tick nor that of a further step is below the other's
+    /// last tick. Takes no memory.
     pub fn begins(&self, other: &Trace) -> bool
         ensures { IsTrue result ↔ Extends self.now other.now }
     {
-        self.config.is_same(&other.config) && begins_with(&self.steps, &other.steps)
+        self.config.is_same(&other.config)
+            && begins_with(&self.steps, &other.steps)
+            && ticks::begins_with(&self.ticks, &other.ticks)
+            && other.last <= self.last
+            && (self.steps.len() == other.steps.len()
+                || other.last <= tick_at(&self.ticks, other.steps.len() as u64 + 1))
     }
 
     /// The steps of a processor with their numbers, in order: none where there is no such processor.
@@ -136,40 +168,100 @@ impl Trace {
         own_steps(alloc, &self.steps, proc)
     }
 
-    /// Appends a step, in time that grows with the ids that it takes.
-    ///
-    /// Refuses in the order of `PushError`, and names the least id of the kind that is refused. No
-    /// refusal but want of memory is answered exactly where the trace stays well formed with the
-    /// step.
+    /// The tick of the step of this number. Asks for the number of a step.
+    pub fn tick(&self, no: u64) -> u64
+        requires low { 1 ≤ no }
+        requires high { no ≤ length self.now.steps }
+        ensures value { result ≡ tick_of self.now no }
+        ensures limit { result ≤ MAX_TICKS }
+        ensures timed { IsTimed self.now }
+    {
+        tick_at(&self.ticks, no)
+    }
+
+    /// The last tick: 0 in a new trace.
+    pub fn last_tick(&self) -> u64
+        ensures value { result ≡ self.now.last }
+        ensures limit { result ≤ MAX_TICKS }
+        ensures timed { IsTimed self.now }
+    {
+        self.last
+    }
+
+    /// Appends a step in the tick after the last, as `push_at` does. It is Full where there is no such tick.
     pub fn push(&mut self, step: Step) -> Result<(), PushError>
-        ensures appended { OnOk result (self.new.steps ≡ self.old.steps ++ step ∷ []) }
-        ensures config { self.new.config ≡ self.old.config }
-        ensures well_formed { OnOk result (IsWellFormed self.old.config (self.old.steps ++ step ∷ [])) }
-        ensures ok { OnOk result (refusal self.old.config self.old.steps step ≡ None) }
-        ensures refused { IfErr result (λ e. IsRefusal e (refusal self.old.config self.old.steps step)) }
-        ensures justified { IfErr result (λ e. IsJustified self.old.config self.old.steps step e) }
-        ensures least { IfErr result (λ e. NamesLeast self.old.steps step e) }
+        ensures appended { OnOk result (self.new ≡ with_step self.old (self.old.last + 1) step) }
+        ensures well_formed { OnOk result (IsTrace self.new) }
+        ensures ok { OnOk result (next_refusal self.old step ≡ None) }
+        ensures refused { IfErr result (λ e. IsRefusal e (next_refusal self.old step)) }
+        ensures justified { IfErr result (λ e. IsJustifiedIn self.old (self.old.last + 1) step e) }
+        ensures least { IfErr result (λ e. NamesLeastIn self.old (self.old.last + 1) step e) }
         ensures err { OnErr result (self.new ≡ self.old) }
     {
-        if let Some(why) = self.refusal(&step) {
+        if self.last >= MAX_TICKS {
+            return Err(PushError::Full);
+        }
+        self.push_at(self.last + 1, step)
+    }
+
+    /// Appends a step in this tick, in time that grows with the ids that it takes.
+    ///
+    /// Refuses in the order of `PushError`, and names the least id of the kind that is refused. No
+    /// refusal but want of memory is answered exactly where the tick isn't before the last and the trace
+    /// stays well formed with the step.
+    pub fn push_at(&mut self, tick: u64, step: Step) -> Result<(), PushError>
+        ensures appended { OnOk result (self.new ≡ with_step self.old tick step) }
+        ensures well_formed { OnOk result (IsTrace self.new) }
+        ensures ok { OnOk result (refusal_in self.old tick step ≡ None) }
+        ensures refused { IfErr result (λ e. IsRefusal e (refusal_in self.old tick step)) }
+        ensures justified { IfErr result (λ e. IsJustifiedIn self.old tick step e) }
+        ensures least { IfErr result (λ e. NamesLeastIn self.old tick step e) }
+        ensures err { OnErr result (self.new ≡ self.old) }
+    {
+        if let Some(why) = self.refusal(tick, &step) {
             return Err(why);
         }
-        if make_room(&mut self.steps, &mut self.taken).is_err() {
+        if make_room(&mut self.steps, &mut self.ticks, &mut self.taken).is_err() {
             return Err(PushError::Memory);
         }
         append(&mut self.steps, &mut self.taken, step);
+        self.ticks.push_reserved(tick as u32);
+        self.last = tick;
         Ok(())
     }
 
-    fn refusal(&self, step: &Step) -> Option<PushError>
-        ensures exact { result ≡ refusal self.now.config self.now.steps step.now }
-        ensures sound { IsWellFormed self.now.config self.now.steps }
+    /// Goes on to this tick with no step in between. The last tick itself changes nothing. Takes no memory.
+    ///
+    /// Refuses a tick below the last one or above `MAX_TICKS`.
+    pub fn idle_to(&mut self, tick: u64) -> Result<(), BadTick>
+        ensures passed { OnOk result (self.new ≡ with_last self.old tick) }
+        ensures ok { OnOk result ((self.old.last ≤ tick) × (tick ≤ MAX_TICKS)) }
+        ensures refused { OnErr result ((tick < self.old.last) ⊎ (MAX_TICKS < tick)) }
+        ensures err { OnErr result (self.new ≡ self.old) }
+    {
+        if tick < self.last || tick > MAX_TICKS {
+            return Err(BadTick);
+        }
+        self.last = tick;
+        Ok(())
+    }
+
+    // The first reason against a step in this tick.
+    fn refusal(&self, tick: u64, step: &Step) -> Option<PushError>
+        ensures exact { result ≡ refusal_in self.now tick step.now }
+        ensures sound { IsTrace self.now }
     {
         if self.steps.len() >= MAX_STEPS {
             return Some(PushError::Full);
         }
+        if tick == 0 || tick < self.last || tick > MAX_TICKS {
+            return Some(PushError::BadTick);
+        }
         if !self.config.is_processor(step.proc) {
             return Some(PushError::BadProc);
+        }
+        if !comes_after_last(&self.steps, &self.ticks, tick, step.proc) {
+            return Some(PushError::ProcOrder);
         }
         match &step.act {
             Act::Send { to } => {
@@ -181,7 +273,9 @@ impl Trace {
             }
             Act::Receive { ids, .. } => ids_refusal(
                 &self.steps,
+                &self.ticks,
                 &self.taken,
+                tick,
                 step.proc,
                 ids.as_slice(),
             ),
