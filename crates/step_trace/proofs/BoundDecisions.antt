@@ -56,9 +56,9 @@ any_upto P decide (suc n) = elim (any_upto P decide n) [
 pub delivered_or_not : (trace : Recorded) (s y : ℕ) → IsDelivered trace s y ⊎ (¬ IsDelivered trace s y)
 delivered_or_not trace s y = elim (any_upto (λ k. (tick_of trace s < tick_of trace k) × ((tick_of trace k < y + 1) × TakesAt trace.steps k s))
     (λ k. both _ _ (below (tick_of trace s) (tick_of trace k)) (both _ _ (below (tick_of trace k) (y + 1)) (takes_or_not trace.steps k s))) (length trace.steps)) [
-  | inl h ↦ inl (let z = h.1 in let v = z.1 in let u = v.0 in record { place = h.0; after = z.0; until = omega (arith, u); takes = v.1 })
-  | inr q ↦ inr (λ d. (let u = d.until in q d.place (step_at_within trace.steps d.place _ d.takes.1).1 (d.after, (omega (arith, u), d.takes))))
-]
+      | inl h ↦ inl (let z = h.1 in let v = z.1 in let u = v.0 in record { place = h.0; after = z.0; until = omega (arith, u); takes = v.1 })
+      | inr q ↦ inr (λ d. (let u = d.until in q d.place (step_at_within trace.steps d.place _ d.takes.1).1 (d.after, (omega (arith, u), d.takes))))
+    ]
 
 -- a communication bound that no miss refutes holds
 pub DeltaHolds-unrefuted : (set : ℕ) (trace : Recorded) (g d : ℕ) → 1 ≤ d → ((m : Miss) → ¬ MissRefutes set trace g d m) → DeltaHolds set trace g d

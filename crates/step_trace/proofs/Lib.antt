@@ -11,5 +11,6 @@ pub mod TickOrder
 pub mod TickPositions
 pub mod FittingTicks
 pub mod TickReasons
+pub mod ExtendedTraces
 pub mod BoundLaws
 pub mod BoundDecisions

@@ -16,7 +16,7 @@ use Rattle.step_trace.specs.Configurations.{IsProc, is_proc}
 use Rattle.step_trace.specs.Steps.{act_ids}
 use Rattle.step_trace.specs.Traces.{Recorded, step_at}
 use Rattle.step_trace.specs.Ticks.{tick_at, tick_of, IsTrace, CanAppend}
-use Rattle.step_trace.specs.PushRefusals.{is_taken, is_message, is_sent_to, is_rising, refusal, act_refusal, first_id}
+use Rattle.step_trace.specs.PushRefusals.{is_taken, is_message, is_sent_to, is_rising, refusal, act_refusal, first_id, IsRefusal}
 use Rattle.step_trace.specs.TickRefusals.{may_end_in, comes_after_last, is_sent_in, ids_refusal_in, act_refusal_in, refusal_in, IsJustifiedIn, NamesLeastIn}
 use Rattle.step_trace.proofs.StepPositions.{step_at_within}
 use Rattle.step_trace.proofs.FittingSteps.{true_if, is_proc-true, find-none, Fits, none_from_Fits}
@@ -110,6 +110,20 @@ none_from_FitsIn trace tick x f =
 pub record IsNamedIn (trace : Recorded) (tick : ℕ) (x : Step) (e : PushError) : Type 0 where
   pub reason : e ≢ Memory
   pub least : NamesLeastIn trace tick x e
+
+-- a reason that stands is the answer
+pub IsRefusal-from_some : (e : PushError) (why : Option PushError) → e ≢ Memory → why ≡ Some e → IsRefusal e why
+IsRefusal-from_some Memory why n h = absurd (n refl)
+IsRefusal-from_some Full why n h = h
+IsRefusal-from_some BadTick why n h = h
+IsRefusal-from_some BadProc why n h = h
+IsRefusal-from_some ProcOrder why n h = h
+IsRefusal-from_some BadDest why n h = h
+IsRefusal-from_some IdsNotRising why n h = h
+IsRefusal-from_some (UnknownMessage s) why n h = h
+IsRefusal-from_some (NotAddressed s) why n h = h
+IsRefusal-from_some (SameTick s) why n h = h
+IsRefusal-from_some (Redelivered s) why n h = h
 
 -- the first reason against a Receive names the least id of its kind
 ids-named : (trace : Recorded) (tick p : ℕ) (ids : List ℕ) (ends : Bool) (e : PushError)

@@ -7,8 +7,8 @@ use crate::delivery_index::{append, make_room};
 use crate::extensions::begins_with;
 use crate::own_steps::own_steps;
 use crate::push_refusals::{ids_refusal, step_of};
-use crate::ticks::{self, BadTick, comes_after_last, tick_at};
 use crate::steps::{Act, Step};
+use crate::ticks::{self, BadTick, comes_after_last, tick_at};
 use std::alloc::{AllocError, Global};
 use std::marker::Model;
 
@@ -150,12 +150,20 @@ impl Trace {
     pub fn begins(&self, other: &Trace) -> bool
         ensures { IsTrue result ↔ Extends self.now other.now }
     {
-        self.config.is_same(&other.config)
-            && begins_with(&self.steps, &other.steps)
-            && ticks::begins_with(&self.ticks, &other.ticks)
-            && other.last <= self.last
-            && (self.steps.len() == other.steps.len()
-                || other.last <= tick_at(&self.ticks, other.steps.len() as u64 + 1))
+        if !self.config.is_same(&other.config) {
+            return false;
+        }
+        if !begins_with(&self.steps, &other.steps)
+            || !ticks::begins_with(&self.ticks, &other.ticks)
+        {
+            return false;
+        }
+        if self.last < other.last {
+            return false;
+        }
+        // The ticks of the steps after the next one are no lower than its own.
+        self.steps.len() == other.steps.len()
+            || other.last <= tick_at(&self.ticks, other.steps.len() as u64 + 1)
     }
 
     /// The steps of a processor with their numbers, in order: none where there is no such processor.
