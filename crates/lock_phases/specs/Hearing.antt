@@ -36,10 +36,10 @@ pub record IsTold (heard : List Message) (told : LockPair) : Type 0 where
 
 -- a lock that is told releases this one: it is on another value, and of no lower phase
 pub record IsReleasedByTold (heard : List Message) (lock : LockPair) : Type 0 where
-  pub lock_told : LockPair
-  pub told : IsTold heard lock_told
-  pub other : value_of lock_told ≢ value_of lock
-  pub later : phase_of_lock lock ≤ phase_of_lock lock_told
+  pub releasing : LockPair
+  pub told : IsTold heard releasing
+  pub other : value_of releasing ≢ value_of lock
+  pub later : phase_of_lock lock ≤ phase_of_lock releasing
 
 -- At most one message of each of n processors, in their order: heard_of has what is heard of each, if anything.
 abbrev pub heard_from : ℕ → (ℕ → Option Message) → List Message

@@ -1,9 +1,9 @@
 -- The laws of the node functions of Algorithm 1 (section 3), by the part of the phase: what holds of a node
 -- before and after a round, whatever it heard in it.
-use Rattle.std.specs.Prelude.{ℕ, ◌≡◌, ◌≢◌, ◌↔◌, ◌⊎◌, ◌+◌, ◌-◌, ◌<◌, ◌≤◌, List, Option, Some, None, Bool, true, false, IsSome, unwrap_or, Contains}
+use Rattle.std.specs.Prelude.{ℕ, ◌≡◌, ◌↔◌, ◌⊎◌, ◌+◌, ◌-◌, ◌<◌, ◌≤◌, List, Option, Some, None, Bool, true, false, IsSome, unwrap_or, Contains}
 use Rattle.step_trace.specs.Configurations.{Setup, IsProc}
 use Rattle.lock_phases.specs.Nodes.{State, LockPair, value_of, phase_of_lock}
-use Rattle.lock_phases.specs.Messages.{Message, body_of, listed_values}
+use Rattle.lock_phases.specs.Messages.{Message, body_of}
 use Rattle.lock_phases.specs.Hearing.{IsHeardProper, lists_with, IsToldToLock, IsReleasedByTold, IsHeardToSay, listing, acknowledging, number_of}
 
 -- Every round
@@ -107,12 +107,12 @@ IsDecidedByQuorum c s after heard_of = (v : ℕ) (acknowledges : ℕ → Bool) �
 
 -- Lock-release rounds
 
--- A lock-release round changes no proposal, no decision and nothing that is owed.
-pub record ReleasingKeeps (s after : State) : Type 0 where
+-- A lock-release round changes nothing but the locks. It adds none, keeps each that no lock told releases, and
+-- keeps none that one does.
+pub record ReleasingKeeps (s after : State) (heard : List Message) : Type 0 where
   pub proposal : after.proposal ≡ s.proposal
   pub owes_ack : after.owes_ack ≡ s.owes_ack
   pub decision : after.decision ≡ s.decision
-
--- the locks after it are those before it that no lock told releases
-abbrev pub AreUnreleased : List Message → List LockPair → List LockPair → Type 0
-AreUnreleased heard before after = (lock : LockPair) → Contains after lock ↔ (Contains before lock × (IsReleasedByTold heard lock → ⊥))
+  pub locks : (lock : LockPair) → Contains after.locks lock → Contains s.locks lock
+  pub held : (lock : LockPair) → Contains s.locks lock → (IsReleasedByTold heard lock → ⊥) → Contains after.locks lock
+  pub released : (lock : LockPair) → IsReleasedByTold heard lock → Contains after.locks lock → ⊥

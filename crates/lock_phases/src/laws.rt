@@ -15,7 +15,7 @@ ghost use Rattle.lock_phases.specs.Messages.{Message, sender_of};
 ghost use Rattle.lock_phases.specs.Quorums.{acks};
 ghost use Rattle.lock_phases.specs.NodeFunctions.{values_to_list, out, next};
 ghost use Rattle.lock_phases.specs.Hearing.{IsHeardListed, IsToldToLock, heard_from, with_proper, IsSaidBy};
-ghost use Rattle.lock_phases.specs.NodeLaws.{TakesIn, IsListOf, ListingKeeps, IsProposal, IsRefusedByFew, IsMadeByQuorum, LockingKeeps, LockingLocks, Obeys, IsLockedOnce, AcknowledgingKeeps, IsAcknowledgedByQuorum, IsDecidedByQuorum, ReleasingKeeps, AreUnreleased};
+ghost use Rattle.lock_phases.specs.NodeLaws.{TakesIn, IsListOf, ListingKeeps, IsProposal, IsRefusedByFew, IsMadeByQuorum, LockingKeeps, LockingLocks, Obeys, IsLockedOnce, AcknowledgingKeeps, IsAcknowledgedByQuorum, IsDecidedByQuorum, ReleasingKeeps};
 
 use crate::bodies::Kind;
 
@@ -96,7 +96,5 @@ pub fn acknowledging_laws()
 /// In a lock-release round a lock goes exactly where a lock on another value, of no lower phase, is told.
 pub fn releasing_laws()
     ensures keeps { (c : Setup) (s : State) (me round : ℕ) (heard : List Message) → part_of round ≡ 4 →
-        ReleasingKeeps s (next c s me round heard) }
-    ensures locks { (c : Setup) (s : State) (me round : ℕ) (heard : List Message) → part_of round ≡ 4 →
-        AreUnreleased heard s.locks (next c s me round heard).locks }
+        ReleasingKeeps s (next c s me round heard) heard }
 {}
