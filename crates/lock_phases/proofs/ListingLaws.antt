@@ -1,22 +1,21 @@
 -- A listing round: the owner proposes a value that enough processors list.
-use Rattle.std.proofs.Common.{ℕ, ◌≡◌, ◌-◌, ◌≤◌, inl, inr, Bool, true, false, not, List, Option, Some, None, is_some, refl, sym, ap, subst, ◌∙◌, eq-eqb, arith}
-use Rattle.std.specs.Prelude.{count_by, filter_map}
+use Rattle.std.proofs.Common.{ℕ, ◌≡◌, ◌≢◌, ◌-◌, ◌≤◌, inl, inr, Bool, true, false, not, List, Option, Some, None, is_some, refl, sym, ap, subst, ◌∙◌, eq-eqb, arith}
 use Rattle.std.specs.List.{range_with_len}
-use Rattle.std.proofs.lemmas.Bool.{not-true, cases_lt}
+use Rattle.std.proofs.lemmas.Bool.{not-true, ne_eqb, cases_lt}
 use Rattle.std.proofs.lemmas.List.FromFn.{length-range_with_len}
 use Rattle.step_trace.specs.Configurations.{Setup, IsSetup}
 use Rattle.lock_phases.specs.Rounds.{phase_of, part_of, owner, Listing}
 use Rattle.lock_phases.specs.Nodes.{State}
 use Rattle.lock_phases.specs.Messages.{Message}
-use Rattle.lock_phases.specs.Quorums.{lists, least_listed}
+use Rattle.lock_phases.specs.Quorums.{least_listed}
 use Rattle.lock_phases.specs.NodeFunctions.{next}
-use Rattle.lock_phases.specs.Hearing.{heard_from, lists_with, listing}
+use Rattle.lock_phases.specs.Hearing.{heard_from, lists_with, IsHeardToSay, listing}
 use Rattle.lock_phases.specs.NodeLaws.{IsProposal, IsMadeByQuorum, IsRefusedByFew}
 pub use Rattle.lock_phases.specs.NodeLaws.{ListingKeeps}
-use Rattle.lock_phases.proofs.Counting.{count_by-disjoint, count_by-filter_map}
+use Rattle.lock_phases.proofs.Counting.{count_by-disjoint}
 use Rattle.lock_phases.proofs.RoundLaws.{part_at-listing, next-in}
 use Rattle.lock_phases.proofs.QuorumLaws.{IsLeastListed-from_some, least_listed-not_None}
-use Rattle.lock_phases.proofs.HeardProcessors.{heard-many}
+use Rattle.lock_phases.proofs.HeardProcessors.{heard-few, heard-many}
 
 -- a listing round changes no lock, no decision and nothing that is owed
 pub listing-keeps : (c : Setup) (s : State) (me round : ℕ) (heard : List Message) → part_of round ≡ 1 → ListingKeeps s (next c s me round heard)
@@ -28,27 +27,12 @@ listing-keeps c s me round heard e =
       decision = ap (λ (x : State). x.decision) n;
     }
 
--- The quorum step. An owner that heard at most one message of each processor, and proposes w, heard it
--- listed by so many that at most t processors refuse w, where one that refuses w doesn't list it.
-pub quorum-step : (c : Setup) (s : State) (me round : ℕ) (heard_of : ℕ → Option Message) (w : ℕ) (refuses : ℕ → Bool)
-    → IsSetup c → part_of round ≡ 1 → me ≡ owner c.n (phase_of round)
-    → (next c s me round (filter_map heard_of (range_with_len 1 c.n))).proposal ≡ Some w
-    → ((j : ℕ) (m : Message) → heard_of j ≡ Some m → lists m w ≡ true → refuses j ≡ true → ⊥)
-    → count_by refuses (range_with_len 1 c.n) ≤ c.t
-quorum-step c s me round heard_of w refuses setup e owns proposes silent =
-    let heard = filter_map heard_of (range_with_len 1 c.n) in
+-- nobody but the owner proposes anything
+pub listing-others : (c : Setup) (s : State) (me round : ℕ) (heard : List Message) → part_of round ≡ 1 → me ≢ owner c.n (phase_of round)
+    → (next c s me round heard).proposal ≡ s.proposal
+listing-others c s me round heard e other =
     let n = ap (λ (x : State). x.proposal) (next-in Listing c s me round heard (part_at-listing round e)) in
-    let chosen = rw (eq-eqb me (owner c.n (phase_of round)) owns) at (sym n ∙ proposes) in
-    let least = setup.least in
-    let faults = setup.faults in
-    let quorum = (IsLeastListed-from_some _ heard w (omega arith) chosen).quorum_lists in
-    let listed = count_by-filter_map (λ m. lists m w) (λ j. not (refuses j)) heard_of (range_with_len 1 c.n) (λ j m h t. lister j m h t (refuses j) refl) in
-    let apart = count_by-disjoint (λ j. not (refuses j)) refuses (range_with_len 1 c.n) (λ j a b. let clash = sym (not-true (refuses j) a) ∙ b in cc) in
-    omega (arith, length-range_with_len 1 c.n)
-  where
-    lister : (j : ℕ) (m : Message) → heard_of j ≡ Some m → lists m w ≡ true → (b : Bool) → refuses j ≡ b → not b ≡ true
-    lister j m h t true r = absurd (silent j m h t r)
-    lister j m h t false r = refl
+    n ∙ rw (ne_eqb me (owner c.n (phase_of round)) other) refl
 
 -- what the owner proposes is taken from the lists that it heard
 listing-least : (c : Setup) (s : State) (round : ℕ) (heard : List Message) → part_of round ≡ 1
@@ -92,9 +76,16 @@ listing-quorum c s round heard_of setup e v lists_it enough heard =
         absurd (omega arith)
     go (Some w) least = refl
 
--- At most t processors refuse the proposal.
+-- The quorum step: at most t processors refuse the proposal, since the N - t lists that have it are of others.
 pub listing-refused : (c : Setup) (s : State) (round : ℕ) (heard_of : ℕ → Option Message) → IsSetup c → part_of round ≡ 1
     → IsRefusedByFew c heard_of (next c s (owner c.n (phase_of round)) round (heard_from c.n heard_of)).proposal
 listing-refused c s round heard_of setup e w refuses proposes silent =
-    quorum-step c s (owner c.n (phase_of round)) round heard_of w refuses setup e refl proposes
-    (λ j m h t r. silent j r (record { message = m; is_heard = h; said = t }))
+    let quorum = (subst (IsProposal (c.n - c.t) (heard_from c.n heard_of)) proposes (listing-proposal c s round (heard_from c.n heard_of) setup e)).quorum_lists in
+    let listed = heard-few c.n heard_of (listing w) (λ j. not (refuses j)) (λ j h. lister j h (refuses j) refl) in
+    let apart = count_by-disjoint (λ j. not (refuses j)) refuses (range_with_len 1 c.n) (λ j a b. let clash = sym (not-true (refuses j) a) ∙ b in cc) in
+    let faults = setup.faults in
+    omega (arith, length-range_with_len 1 c.n)
+  where
+    lister : (j : ℕ) → IsHeardToSay heard_of (listing w) j → (b : Bool) → refuses j ≡ b → not b ≡ true
+    lister j h true r = absurd (silent j r h)
+    lister j h false r = refl

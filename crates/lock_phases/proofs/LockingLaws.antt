@@ -9,7 +9,7 @@ use Rattle.lock_phases.specs.Nodes.{State, IsRising, LockPair, value_of, phase_o
 use Rattle.lock_phases.specs.Messages.{Message, sender_of}
 use Rattle.lock_phases.specs.Locks.{heard_lock, put_lock}
 use Rattle.lock_phases.specs.NodeFunctions.{next_in, next, after_locking}
-use Rattle.lock_phases.specs.NodeLaws.{Obeys, IsLockedOnce}
+use Rattle.lock_phases.specs.NodeLaws.{IsUntold, Obeys, IsLockedOnce}
 pub use Rattle.lock_phases.specs.NodeLaws.{LockingKeeps, LockingLocks}
 use Rattle.lock_phases.proofs.RoundLaws.{part_at-locking, next-in, with_proper_heard}
 use Rattle.lock_phases.proofs.LockLaws.{Contains-put_lock_cases, Contains-put_lock_new, Contains-put_lock_old, heard_lock-from_owner, heard_lock-told, IsToldToLock}
@@ -68,6 +68,21 @@ locking-locks c s me round heard e = subst (λ x. LockingLocks s x o k heard) (s
       held = λ lock d. held v lock d (eqb (value_of lock) v) refl;
       owes = λ f. inr (v, Contains-put_lock_new v k s.locks);
     }
+
+-- Who hears no Lock of the owner has the locks that it had, and owes what it owed.
+pub locking-untold : (c : Setup) (s : State) (me round : ℕ) (heard : List Message) → part_of round ≡ 2
+    → ((v : ℕ) → IsToldToLock (owner c.n (phase_of round)) heard v → ⊥) → IsUntold s (next c s me round heard)
+locking-untold c s me round heard e silent = subst (IsUntold s) (sym n) (go (heard_lock o heard) refl)
+  where
+    o : ℕ
+    o = owner c.n (phase_of round)
+
+    n : next c s me round heard ≡ next_in Locking c (with_proper_heard s heard) me (phase_of round) heard
+    n = next-in Locking c s me round heard (part_at-locking round e)
+
+    go : (a : Option ℕ) → heard_lock o heard ≡ a → IsUntold s (after_locking (with_proper_heard s heard) (phase_of round) a)
+    go None h = record { locks = refl; owes_ack = refl }
+    go (Some v) h = absurd (silent v (heard_lock-from_owner o heard v h))
 
 -- who hears the owner's Lock locks its value in this phase
 locking-puts : (c : Setup) (s : State) (me round : ℕ) (heard : List Message) (v : ℕ) → part_of round ≡ 2 → IsStrictlyIncreasing (map sender_of heard)

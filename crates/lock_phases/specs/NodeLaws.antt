@@ -68,6 +68,11 @@ pub record LockingLocks (s after : State) (owner phase : ℕ) (heard : List Mess
   pub held : (lock : LockPair) → Contains s.locks lock → Contains after.locks lock ⊎ Contains after.locks (value_of lock, phase)
   pub owes : after.owes_ack ≡ true → (s.owes_ack ≡ true) ⊎ ((v : ℕ) × Contains after.locks (v, phase))
 
+-- Who wasn't told to lock a value has the locks that it had, and owes what it owed.
+pub record IsUntold (s after : State) : Type 0 where
+  pub locks : after.locks ≡ s.locks
+  pub owes_ack : after.owes_ack ≡ s.owes_ack
+
 -- Who obeys a Lock on v holds v locked in this phase, and owes an acknowledgement.
 pub record Obeys (after : State) (v phase : ℕ) : Type 0 where
   pub lock : Contains after.locks (v, phase)

@@ -5,7 +5,7 @@
 //! every round and all that may be heard in it. Calling one of them does nothing. `out` is what a node sends to a
 //! processor in a round, and `next` the node after the round (`specs/NodeFunctions.antt`).
 
-ghost use Rattle.std.specs.Prelude.{ℕ, ◌≡◌, ◌⊎◌, ◌+◌, ◌-◌, ◌≤◌, List, Option, Some, true, unwrap_or, map, Contains};
+ghost use Rattle.std.specs.Prelude.{ℕ, ◌≡◌, ◌≢◌, ◌⊎◌, ◌+◌, ◌-◌, ◌≤◌, List, Option, Some, true, unwrap_or, map, Contains};
 ghost use Rattle.std.specs.List.Sorted.{IsStrictlyIncreasing};
 ghost use Rattle.step_trace.specs.Configurations.{Setup, IsSetup};
 ghost use Rattle.lock_phases.specs.declared.bodies.Body.{Body};
@@ -15,7 +15,7 @@ ghost use Rattle.lock_phases.specs.Messages.{Message, sender_of};
 ghost use Rattle.lock_phases.specs.Quorums.{acks};
 ghost use Rattle.lock_phases.specs.NodeFunctions.{values_to_list, out, next};
 ghost use Rattle.lock_phases.specs.Hearing.{IsHeardListed, IsToldToLock, heard_from, with_proper, IsSaidBy};
-ghost use Rattle.lock_phases.specs.NodeLaws.{TakesIn, IsListOf, ListingKeeps, IsProposal, IsRefusedByFew, IsMadeByQuorum, LockingKeeps, LockingLocks, Obeys, IsLockedOnce, AcknowledgingKeeps, IsAcknowledgedByQuorum, IsDecidedByQuorum, ReleasingKeeps};
+ghost use Rattle.lock_phases.specs.NodeLaws.{TakesIn, IsListOf, ListingKeeps, IsProposal, IsRefusedByFew, IsMadeByQuorum, LockingKeeps, LockingLocks, IsUntold, Obeys, IsLockedOnce, AcknowledgingKeeps, IsAcknowledgedByQuorum, IsDecidedByQuorum, ReleasingKeeps};
 
 use crate::bodies::Kind;
 
@@ -56,6 +56,8 @@ pub fn sending_laws()
 pub fn listing_laws()
     ensures keeps { (c : Setup) (s : State) (me round : ℕ) (heard : List Message) → part_of round ≡ 1 →
         ListingKeeps s (next c s me round heard) }
+    ensures others { (c : Setup) (s : State) (me round : ℕ) (heard : List Message) → part_of round ≡ 1 →
+        me ≢ owner c.n (phase_of round) → (next c s me round heard).proposal ≡ s.proposal }
     ensures proposal { (c : Setup) (s : State) (round : ℕ) (heard : List Message) → IsSetup c → part_of round ≡ 1 →
         IsProposal (c.n - c.t) heard (next c s (owner c.n (phase_of round)) round heard).proposal }
     ensures quorum { (c : Setup) (s : State) (round : ℕ) (heard_of : ℕ → Option Message) → IsSetup c → part_of round ≡ 1 →
@@ -71,6 +73,8 @@ pub fn locking_laws()
         LockingKeeps s (next c s me round heard) }
     ensures locks { (c : Setup) (s : State) (me round : ℕ) (heard : List Message) → part_of round ≡ 2 →
         LockingLocks s (next c s me round heard) (owner c.n (phase_of round)) (phase_of round) heard }
+    ensures untold { (c : Setup) (s : State) (me round : ℕ) (heard : List Message) → part_of round ≡ 2 →
+        ((v : ℕ) → IsToldToLock (owner c.n (phase_of round)) heard v → ⊥) → IsUntold s (next c s me round heard) }
     ensures told { (c : Setup) (s : State) (me round : ℕ) (heard : List Message) (v : ℕ) → part_of round ≡ 2 →
         IsStrictlyIncreasing (map sender_of heard) → IsToldToLock (owner c.n (phase_of round)) heard v →
         Obeys (next c s me round heard) v (phase_of round) }

@@ -3,8 +3,9 @@ use Rattle.std.proofs.Common.{ℕ, ◌≡◌, ◌+◌, ◌≤◌, true, sym, ◌
 use Rattle.step_trace.specs.Configurations.{Setup}
 use Rattle.lock_phases.specs.Rounds.{phase_of, part_of}
 use Rattle.lock_phases.specs.Nodes.{State, LockPair, value_of, phase_of_lock}
-use Rattle.lock_phases.proofs.LockLaws.{IsTold}
-use Rattle.lock_phases.proofs.ReleasingLaws.{ReleasingKeeps, releasing-keeps}
+use Rattle.lock_phases.specs.Hearing.{IsTold}
+use Rattle.lock_phases.specs.NodeLaws.{ReleasingKeeps}
+use Rattle.lock_phases.proofs.ReleasingLaws.{releasing-keeps}
 use Rattle.lock_phases.proofs.SentBodies.{told-said_by}
 use Rattle.round_model.specs.RoundStates.{Table, messages_heard}
 use Rattle.round_model.proofs.HeardMessages.{nodes_after, messages_heard-said}

@@ -1,4 +1,4 @@
-use Rattle.lock_phases.proofs.ListingLaws.{listing-keeps, listing-proposal, listing-quorum, listing-refused}
+use Rattle.lock_phases.proofs.ListingLaws.{listing-keeps, listing-proposal, listing-quorum, listing-refused, listing-others}
 use Rattle.lock_phases.proofs.laws.listing_laws.Goals as goal
 
 pub returns-clause-keeps : goal.returns-clause-keeps
@@ -12,3 +12,6 @@ returns-clause-quorum c = listing-quorum
 
 pub returns-clause-refused : goal.returns-clause-refused
 returns-clause-refused c = listing-refused
+
+pub returns-clause-others : goal.returns-clause-others
+returns-clause-others c = listing-others

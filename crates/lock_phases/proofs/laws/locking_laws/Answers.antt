@@ -1,4 +1,4 @@
-use Rattle.lock_phases.proofs.LockingLaws.{locking-keeps, locking-locks, locking-told, locking-replaced}
+use Rattle.lock_phases.proofs.LockingLaws.{locking-keeps, locking-locks, locking-told, locking-replaced, locking-untold}
 use Rattle.lock_phases.proofs.laws.locking_laws.Goals as goal
 
 pub returns-clause-keeps : goal.returns-clause-keeps
@@ -12,3 +12,6 @@ returns-clause-told c = locking-told
 
 pub returns-clause-replaced : goal.returns-clause-replaced
 returns-clause-replaced c = locking-replaced
+
+pub returns-clause-untold : goal.returns-clause-untold
+returns-clause-untold c = locking-untold
