@@ -1,19 +1,19 @@
 -- The bounded decision: each processor of a set of at least N - t that hear one another owns one of any N phases in a row, and
 -- decides in it.
 use Rattle.std.proofs.Common.{ℕ, zero, suc, ◌≡◌, ◌+◌, ◌-◌, ◌*◌, ◌/◌, ◌%◌, ◌<◌, ◌≤◌, ◌⊎◌, inl, inr, Bool, true, Option, Some, None, is_some, refl, sym, ap, subst, ◌∙◌, arith}
-use Rattle.std.specs.Prelude.{Contains, count_by, IsTrue}
+use Rattle.std.specs.Prelude.{count_by}
 use Rattle.std.proofs.lemmas.Bool.{cases_lt}
 use Rattle.std.proofs.lemmas.Nat.{div-add-mod', mod-mul-add, mod_below}
-use Rattle.step_trace.specs.Configurations.{Setup, IsSetup, IsProc}
+use Rattle.step_trace.specs.Configurations.{Setup, IsSetup}
 use Rattle.step_trace.specs.Processors.{has_proc, IsWithin}
 use Rattle.lock_phases.specs.Rounds.{phase_of, part_of, owner}
-use Rattle.lock_phases.specs.Nodes.{State, LockPair, value_of}
+use Rattle.lock_phases.specs.Nodes.{State}
 use Rattle.lock_phases.proofs.LockingLaws.{locking-keeps}
 use Rattle.round_model.specs.RoundStates.{Table, processors, initial_value, messages_heard, state_after}
 use Rattle.round_model.specs.BoundedDecision.{HearsAllOf, IsInTouch, settling_phase, deciding_round, HaveDecided, HoldOneValue, LocksAreProper}
 use Rattle.round_model.proofs.HeardMessages.{nodes_after}
 use Rattle.round_model.proofs.AgreedDecisions.{decision-stays_later}
-use Rattle.round_model.proofs.ProperNodes.{KeepsProper, KeepsProper-state_after, initial_value-proper}
+use Rattle.round_model.proofs.ProperNodes.{KeepsProper-state_after, initial_value-proper}
 use Rattle.round_model.proofs.OneLock.{HearOneAnother, held-one_value, held-proper}
 use Rattle.round_model.proofs.DecidingPhases.{IsListedByAll, proposes-of_members, owes-of_members, decides-of_members}
 use Rattle.round_model.proofs.CommonValues.{common-value}
@@ -98,7 +98,7 @@ phase_after-decides c member table rounds o setup e owns mo many hear =
     at more round h is = subst (HearOneAnother c member table) is (hear more h)
 
 -- a member of a set has a positive number
-member-positive : (set p : ℕ) → has_proc set p ≡ true → 1 ≤ p
+pub member-positive : (set p : ℕ) → has_proc set p ≡ true → 1 ≤ p
 member-positive set zero m = cc
 member-positive set (suc p) m = omega arith
 

@@ -1,9 +1,8 @@
 -- A phase decides whose owner is in a set of at least N - t processors that hear one another in its first three rounds, and that
 -- all find one proper value acceptable when it begins.
-use Rattle.std.proofs.Common.{ℕ, suc, ◌≡◌, ◌+◌, ◌-◌, ◌≤◌, Bool, true, false, cond, List, [], ◌∷◌, Option, Some, None, is_some, refl, sym, ap, subst, ◌∙◌, eq-eqb, arith}
-use Rattle.std.specs.Prelude.{Contains, count_by, filter_map, option_map}
-use Rattle.std.specs.List.{cons_option}
-use Rattle.step_trace.specs.Configurations.{Setup, IsSetup, IsProc}
+use Rattle.std.proofs.Common.{ℕ, ◌≡◌, ◌-◌, ◌≤◌, Bool, true, List, Some, is_some, refl, sym, ap, subst, ◌∙◌, eq-eqb, arith}
+use Rattle.std.specs.Prelude.{Contains, count_by, option_map}
+use Rattle.step_trace.specs.Configurations.{Setup, IsSetup}
 use Rattle.lock_phases.specs.declared.bodies.Kind.{Kind}
 use Rattle.lock_phases.specs.declared.bodies.Kind.TheVariants.{List as Listed, Lock, Ack}
 use Rattle.lock_phases.specs.declared.bodies.Body.{Body}
@@ -17,7 +16,6 @@ use Rattle.lock_phases.proofs.RoundLaws.{part_at-listing, part_at-locking, part_
 use Rattle.lock_phases.proofs.Membership.{Contains-filter}
 use Rattle.round_model.proofs.CountedMessages.{count_by-from_filter_map}
 use Rattle.lock_phases.proofs.QuorumLaws.{lists-from_Contains}
-use Rattle.lock_phases.proofs.LockingLaws.{locking-keeps}
 use Rattle.round_model.specs.RoundStates.{Table, processors, messages_heard}
 use Rattle.round_model.proofs.HeardMessages.{heard_of, nodes_after}
 use Rattle.round_model.proofs.HeardLists.{messages_heard-has, messages_heard-only}

@@ -1,5 +1,5 @@
 -- What a round surely makes of a node that heard enough: PROPER values, locks, a proposal, a flag, a decision.
-use Rattle.std.proofs.Common.{ℕ, ◌≡◌, ◌+◌, ◌-◌, ◌≤◌, ◌⊎◌, inl, inr, Bool, true, false, cond, eqb, leb, ◌&&◌, List, [], ◌∷◌, Option, Some, None, is_some, is_none, refl, sym, ap, subst, ◌∙◌, eq-eqb, arith}
+use Rattle.std.proofs.Common.{ℕ, ◌≡◌, ◌+◌, ◌-◌, ◌≤◌, ◌⊎◌, inl, inr, Bool, true, false, cond, eqb, ◌&&◌, List, [], ◌∷◌, Option, Some, None, is_some, is_none, refl, sym, ap, subst, ◌∙◌, eq-eqb, arith}
 use Rattle.std.specs.Prelude.{Contains, count_by}
 use Rattle.std.proofs.lemmas.Bool.{eqb-true, le-leb}
 use Rattle.step_trace.specs.Configurations.{Setup, IsSetup}
@@ -9,16 +9,16 @@ use Rattle.lock_phases.specs.Messages.{Message, sender_of, body_of, locked_value
 use Rattle.lock_phases.specs.Values.{take_in}
 use Rattle.lock_phases.specs.Locks.{heard_lock, is_released}
 use Rattle.lock_phases.specs.Quorums.{lists, least_listed, acks}
-use Rattle.lock_phases.specs.NodeFunctions.{next_in, next, after_locking, decides}
+use Rattle.lock_phases.specs.NodeFunctions.{next_in, next, after_locking}
 use Rattle.lock_phases.proofs.RoundLaws.{part_of-cases, part_at-listing, part_at-locking, part_at-acknowledging, part_at-releasing, next-in, with_proper_heard}
 use Rattle.lock_phases.proofs.Membership.{Contains-head, Contains-rest, Contains-nil, Contains-cons_cases}
 use Rattle.lock_phases.proofs.ProperLaws.{Contains-take_in_old, Contains-take_in_heard}
 use Rattle.lock_phases.proofs.QuorumLaws.{least_listed-not_None}
 use Rattle.lock_phases.proofs.LockLaws.{Contains-from_kept_locks, IsToldToLock}
-use Rattle.lock_phases.proofs.ListingLaws.{ListingKeeps, listing-keeps}
+use Rattle.lock_phases.proofs.ListingLaws.{listing-keeps}
 use Rattle.lock_phases.proofs.LockingLaws.{after_locking-keeps, locking-locks}
-use Rattle.lock_phases.proofs.AcknowledgingLaws.{AcknowledgingKeeps, acknowledging-keeps}
-use Rattle.lock_phases.proofs.ReleasingLaws.{ReleasingKeeps, releasing-keeps}
+use Rattle.lock_phases.proofs.AcknowledgingLaws.{acknowledging-keeps}
+use Rattle.lock_phases.proofs.ReleasingLaws.{releasing-keeps}
 
 -- in any round PROPER takes in each PROPER that is heard, and nothing else
 pub next-proper : (c : Setup) (s : State) (me round : ℕ) (heard : List Message) → (next c s me round heard).proper ≡ take_in s.proper heard

@@ -1,13 +1,13 @@
 -- After a lock-release round in which the members of a set hear one another they hold locks on at most one value, which is in the
 -- PROPER of each of them; and what one of them had in its PROPER, all have.
-use Rattle.std.proofs.Common.{ℕ, ◌≡◌, ◌≤◌, ◌⊎◌, inl, inr, Bool, true, false, eqb, List, Some, refl, sym, ◌∙◌, eq-eqb, arith}
-use Rattle.std.specs.Prelude.{Contains, option_map}
+use Rattle.std.proofs.Common.{ℕ, ◌≡◌, ◌≤◌, inl, inr, Bool, true, false, eqb, List, refl, sym, ◌∙◌, eq-eqb, arith}
+use Rattle.std.specs.Prelude.{Contains}
 use Rattle.std.proofs.lemmas.Bool.{eqb-true, cases_lt}
 use Rattle.step_trace.specs.Configurations.{Setup, IsProc}
 use Rattle.lock_phases.specs.declared.bodies.Kind.TheVariants.{Locks}
-use Rattle.lock_phases.specs.Rounds.{phase_of, part_of, owner, Releasing}
+use Rattle.lock_phases.specs.Rounds.{part_of, Releasing}
 use Rattle.lock_phases.specs.Nodes.{State, LockPair, value_of, phase_of_lock}
-use Rattle.lock_phases.specs.Messages.{Message, body_of}
+use Rattle.lock_phases.specs.Messages.{Message}
 use Rattle.lock_phases.proofs.RoundLaws.{part_at-releasing, out-in}
 use Rattle.lock_phases.proofs.LockLaws.{IsTold, is_released-told}
 use Rattle.lock_phases.proofs.ReleasingLaws.{releasing-keeps}
