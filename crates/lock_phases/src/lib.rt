@@ -4,6 +4,7 @@
 #![tactic(auto)]
 
 mod bodies;
+pub mod laws;
 mod locks;
 mod nodes;
 mod quorums;

@@ -48,7 +48,7 @@ IsSafe-releasing c table nodes round e safe = record {
     still v a j h =
         let x = IsLockSince-from_test a.anchor v (nodes j).locks h in
         let since = x.since in
-        let kept = (keeps j).held x.lock x.held (λ lock t l. told v a j lock t (omega arith) ∙ sym x.value) in
+        let kept = (keeps j).held x.lock x.held (λ r. let later = r.later in r.other (told v a j r.releasing r.told (omega arith) ∙ sym x.value)) in
         is_locked_since-lock a.anchor v (after j).locks x.lock kept x.value x.since
 
     anchored : (v : ℕ) → IsAnchored c nodes (phase_of round) 4 v → IsAnchored c after (phase_of round + 1) 1 v
