@@ -1,21 +1,18 @@
 -- The bounded decision: each processor of a set of at least N - t that hear one another owns one of any N phases in a row, and
 -- decides in it.
 use Rattle.std.proofs.Common.{ℕ, zero, suc, ◌≡◌, ◌+◌, ◌-◌, ◌*◌, ◌/◌, ◌%◌, ◌<◌, ◌≤◌, ◌⊎◌, inl, inr, Bool, true, Option, Some, None, is_some, refl, sym, ap, subst, ◌∙◌, arith}
-use Rattle.std.specs.Prelude.{count_by}
+use Rattle.lock_phases.specs.Hearing.{number_of}
 use Rattle.std.proofs.lemmas.Bool.{cases_lt}
 use Rattle.std.proofs.lemmas.Nat.{div-add-mod', mod-mul-add, mod_below}
 use Rattle.step_trace.specs.Configurations.{Setup, IsSetup}
 use Rattle.step_trace.specs.Processors.{has_proc, IsWithin}
 use Rattle.lock_phases.specs.Rounds.{phase_of, part_of, owner}
-use Rattle.lock_phases.specs.Nodes.{State}
-use Rattle.lock_phases.proofs.LockingLaws.{locking-keeps}
-use Rattle.round_model.specs.RoundStates.{Table, processors, initial_value, messages_heard, state_after}
+use Rattle.round_model.specs.RoundStates.{Table, initial_value, state_after}
 use Rattle.round_model.specs.BoundedDecision.{HearsAllOf, IsInTouch, settling_phase, deciding_round, HaveDecided, HoldOneValue, LocksAreProper}
-use Rattle.round_model.proofs.HeardMessages.{nodes_after}
 use Rattle.round_model.proofs.AgreedDecisions.{decision-stays_later}
 use Rattle.round_model.proofs.ProperNodes.{KeepsProper-state_after, initial_value-proper}
 use Rattle.round_model.proofs.OneLock.{HearOneAnother, held-one_value, held-proper}
-use Rattle.round_model.proofs.DecidingPhases.{IsListedByAll, proposes-of_members, owes-of_members, decides-of_members}
+use Rattle.round_model.proofs.DecidingPhases.{phase-decides}
 use Rattle.round_model.proofs.CommonValues.{common-value}
 
 -- a phase that this processor owns, among n in a row
@@ -49,41 +46,10 @@ own-phase n p from low high = go (cases_lt (p - 1) (from % n))
         let k = from / n * n + (p - 1) in
         (k + 1, record { later = omega (arith, split, below); soon = omega (arith, split, below); owns = owned (from / n) k refl })
 
--- The first three rounds of a phase decide, from any nodes at its beginning of which each member lists the same value.
-phase-decides : (c : Setup) (member : ℕ → Bool) (table : Table) (nodes : ℕ → State) (round o u : ℕ) → IsSetup c → 1 ≤ round → part_of round ≡ 1
-    → o ≡ owner c.n (phase_of round) → member o ≡ true → c.n - c.t ≤ count_by member (processors c)
-    → HearOneAnother c member table round → HearOneAnother c member table (suc round) → HearOneAnother c member table (suc (suc round))
-    → IsListedByAll member nodes u
-    → is_some (nodes_after c table (nodes_after c table (nodes_after c table nodes round) (suc round)) (suc (suc round)) o).decision ≡ true
-phase-decides c member table nodes round o u setup low e owns mo many first second third listed =
-    decides-of_members c member table locked (suc (suc round)) o setup (omega arith) owns_third mo third many kept (go (proposed o).proposal refl)
-  where
-    proposed : ℕ → State
-    proposed = nodes_after c table nodes round
-
-    locked : ℕ → State
-    locked = nodes_after c table proposed (suc round)
-
-    owns_second : o ≡ owner c.n (phase_of (suc round))
-    owns_second = let same : phase_of round ≡ phase_of (suc round) = omega arith in owns ∙ ap (owner c.n) same
-
-    owns_third : o ≡ owner c.n (phase_of (suc (suc round)))
-    owns_third = let same : phase_of round ≡ phase_of (suc (suc round)) = omega arith in owns ∙ ap (owner c.n) same
-
-    proposes : is_some (proposed o).proposal ≡ true
-    proposes = proposes-of_members c member table nodes round o u setup e owns mo first many listed
-
-    kept : is_some (locked o).proposal ≡ true
-    kept = ap is_some (locking-keeps c (proposed o) o (suc round) (messages_heard c table proposed o (suc round)) (omega arith)).proposal ∙ proposes
-
-    go : (w : Option ℕ) → (proposed o).proposal ≡ w → (p : ℕ) → member p ≡ true → (locked p).owes_ack ≡ true
-    go None h p mp = let clash = sym proposes ∙ ap is_some h in cc
-    go (Some w) h p mp = owes-of_members c member table proposed (suc round) o w p (omega arith) owns_second mo second h mp
-
 -- The rounds of a phase after the first, over the nodes before it. The phase before it ends with a round in which the members of the
 -- set hear one another; so they all list one value.
 phase_after-decides : (c : Setup) (member : ℕ → Bool) (table : Table) (rounds o : ℕ) → IsSetup c → part_of (suc rounds) ≡ 4
-    → o ≡ owner c.n (phase_of (suc (suc rounds))) → member o ≡ true → c.n - c.t ≤ count_by member (processors c)
+    → o ≡ owner c.n (phase_of (suc (suc rounds))) → member o ≡ true → c.n - c.t ≤ number_of c.n member
     → ((more : ℕ) → more ≤ 3 → HearOneAnother c member table (suc rounds + more))
     → is_some (state_after c table (suc (suc (suc (suc rounds)))) o).decision ≡ true
 unfolding state_after

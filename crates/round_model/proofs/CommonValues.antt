@@ -8,7 +8,7 @@ use Rattle.step_trace.specs.Configurations.{Setup}
 use Rattle.lock_phases.specs.Rounds.{part_of}
 use Rattle.lock_phases.specs.Nodes.{State, LockPair, value_of}
 use Rattle.lock_phases.proofs.Membership.{Contains-head, Contains-nil, list_any-found, list_any-at}
-use Rattle.lock_phases.proofs.LockLaws.{is_acceptable-from_locks}
+use Rattle.lock_phases.proofs.SendingLaws.{list-has}
 use Rattle.round_model.specs.RoundStates.{Table, processors}
 use Rattle.round_model.proofs.HeardMessages.{nodes_after}
 use Rattle.round_model.proofs.HeardLists.{Contains-processors}
@@ -43,10 +43,10 @@ common-value c member table nodes round o v e hear known mo proper = go (list_an
     holds p = member p && has_lock (after p).locks
 
     locked : (p : ℕ) (lock : LockPair) → member p ≡ true → Contains (after p).locks lock → IsListedByAll member after (value_of lock)
-    locked p lock mp d = record {
-      proper = λ q mq. held-proper c member table nodes round e hear known p q lock mp mq d;
-      acceptable = λ q mq. is_acceptable-from_locks (after q).locks (value_of lock) (λ z h. held-one_value c member table nodes round e hear q p z lock mq mp h d);
-    }
+    locked p lock mp d q mq = (list-has (after q) (value_of lock)).1 (
+      held-proper c member table nodes round e hear known p q lock mp mq d,
+      λ z h. held-one_value c member table nodes round e hear q p z lock mq mp h d,
+    )
 
     clash : (q : ℕ) (z : LockPair) → list_any holds (processors c) ≡ false → member q ≡ true → Contains (after q).locks z → ⊥
     clash q z f mq h =
@@ -63,8 +63,8 @@ common-value c member table nodes round o v e hear known mo proper = go (list_an
         (value_of lock.0, locked p.0 lock.0 parts.0 lock.1)
     go false f = (
       v,
-      record {
-        proper = λ q mq. proper-passed_on c table nodes q o round v e (hear.processors o mo) (hear.hears q o mq mo) proper;
-        acceptable = λ q mq. is_acceptable-from_locks (after q).locks v (λ z h. absurd (clash q z f mq h));
-      },
+      λ q mq. (list-has (after q) v).1 (
+        proper-passed_on c table nodes q o round v e (hear.processors o mo) (hear.hears q o mq mo) proper,
+        λ z h. absurd (clash q z f mq h),
+      ),
     )

@@ -5,16 +5,16 @@ use Rattle.std.specs.Prelude.{Contains}
 use Rattle.std.proofs.lemmas.Bool.{eqb-true, cases_lt}
 use Rattle.step_trace.specs.Configurations.{Setup, IsProc}
 use Rattle.lock_phases.specs.declared.bodies.Kind.TheVariants.{Locks}
-use Rattle.lock_phases.specs.Rounds.{part_of, Releasing}
+use Rattle.lock_phases.specs.Rounds.{part_of}
 use Rattle.lock_phases.specs.Nodes.{State, LockPair, value_of, phase_of_lock}
 use Rattle.lock_phases.specs.Messages.{Message}
-use Rattle.lock_phases.proofs.RoundLaws.{part_at-releasing, out-in}
-use Rattle.lock_phases.proofs.LockLaws.{IsTold, is_released-told}
+use Rattle.lock_phases.specs.Hearing.{IsTold, with_proper}
+use Rattle.lock_phases.proofs.OriginLaws.{proper-taken_in}
+use Rattle.lock_phases.proofs.SendingLaws.{locks-sent}
 use Rattle.lock_phases.proofs.ReleasingLaws.{releasing-keeps}
 use Rattle.round_model.specs.RoundStates.{Table, messages_heard}
 use Rattle.round_model.proofs.HeardMessages.{nodes_after}
 use Rattle.round_model.proofs.HeardLists.{messages_heard-has}
-use Rattle.round_model.proofs.NodeSteps.{proper-heard, held-unreleased}
 use Rattle.round_model.proofs.ProperNodes.{KeepsProper}
 
 -- The members of a set of processors hear one another in a round.
@@ -24,20 +24,20 @@ pub record HearOneAnother (c : Setup) (member : ℕ → Bool) (table : Table) (r
 
 -- what the node of q says to everybody in a lock-release round
 abbrev pub releasing_message : (ℕ → State) → ℕ → Message
-releasing_message nodes q = (q, record { kind = Locks (nodes q).locks; proper = (nodes q).proper })
+releasing_message nodes q = (q, with_proper (nodes q) (Locks (nodes q).locks))
 
 -- it is heard where the table lets it
 releasing_message-heard : (c : Setup) (table : Table) (nodes : ℕ → State) (p q round : ℕ) → part_of round ≡ 4 → IsProc c q → table p round q ≡ true
     → Contains (messages_heard c table nodes p round) (releasing_message nodes q)
 releasing_message-heard c table nodes p q round e is heard =
     messages_heard-has c table nodes p round (releasing_message nodes q)
-    (record { sender = is; heard = heard; body = out-in Releasing c (nodes q) q round p (part_at-releasing round e) })
+    (record { sender = is; heard = heard; body = locks-sent c (nodes q) q round p e })
 
 -- so PROPER values are passed on
 pub proper-passed_on : (c : Setup) (table : Table) (nodes : ℕ → State) (p q round v : ℕ) → part_of round ≡ 4 → IsProc c q → table p round q ≡ true
     → Contains (nodes q).proper v → Contains (nodes_after c table nodes round p).proper v
 proper-passed_on c table nodes p q round v e is heard d =
-    proper-heard c (nodes p) p round (messages_heard c table nodes p round) (releasing_message nodes q) v (releasing_message-heard c table nodes p q round e is heard) d
+    (proper-taken_in c (nodes p) p round (messages_heard c table nodes p round)).taken (releasing_message nodes q) v (releasing_message-heard c table nodes p q round e is heard) d
 
 -- no lock stays with p that a lock of q releases
 kept-later : (c : Setup) (table : Table) (nodes : ℕ → State) (p q round : ℕ) (lock other : LockPair) → part_of round ≡ 4 → IsProc c q → table p round q ≡ true
@@ -51,14 +51,10 @@ kept-later c table nodes p q round lock other e is heard held told later = go (e
     is_told : IsTold messages other
     is_told = record { message = releasing_message nodes q; is_heard = releasing_message-heard c table nodes p q round e is heard; tells = told }
 
-    apart : eqb (value_of other) (value_of lock) ≡ false → value_of other ≡ value_of lock → ⊥
-    apart t s = let clash = sym (eq-eqb (value_of other) (value_of lock) s) ∙ t in cc
-
     go : (b : Bool) → eqb (value_of other) (value_of lock) ≡ b → value_of other ≡ value_of lock
     go true t = eqb-true (value_of other) (value_of lock) t
-    go false t =
-        let clash = sym (held-unreleased c (nodes p) p round messages lock e held) ∙ is_released-told messages lock other is_told (apart t) later in
-        cc
+    go false t = absurd ((releasing-keeps c (nodes p) p round messages e).released lock
+        (record { releasing = other; told = is_told; other = λ s. let clash = sym (eq-eqb (value_of other) (value_of lock) s) ∙ t in cc; later = later }) held)
 
 -- One lock value: by one lock-release round.
 pub held-one_value : (c : Setup) (member : ℕ → Bool) (table : Table) (nodes : ℕ → State) (round : ℕ) → part_of round ≡ 4 → HearOneAnother c member table round

@@ -1,14 +1,11 @@
 -- The bounded decision (section 3): where the processors of a large enough set hear one another from some round on, each of them
 -- has decided by a round that is known beforehand.
-use Rattle.std.specs.Prelude.{ℕ, ◌≡◌, ◌+◌, ◌-◌, ◌*◌, ◌/◌, ◌≤◌, IsTrue, is_some, Contains, count_by}
+use Rattle.std.specs.Prelude.{ℕ, ◌≡◌, ◌+◌, ◌-◌, ◌*◌, ◌/◌, ◌≤◌, IsTrue, is_some, Contains}
 use Rattle.step_trace.specs.Configurations.{Setup}
 use Rattle.step_trace.specs.Processors.{has_proc, IsWithin}
 use Rattle.lock_phases.specs.Nodes.{State, LockPair, value_of}
-use Rattle.round_model.specs.RoundStates.{Table, processors}
-
--- how many processors of the configuration are in the set
-abbrev pub size_of : Setup → ℕ → ℕ
-size_of c set = count_by (has_proc set) (processors c)
+use Rattle.lock_phases.specs.Hearing.{number_of}
+use Rattle.round_model.specs.RoundStates.{Table}
 
 -- in this round each processor of the set hears all of the set, itself too
 abbrev pub HearsAllOf : ℕ → Table → ℕ → Type 0
@@ -17,7 +14,7 @@ HearsAllOf set table round = (p q : ℕ) → IsTrue (has_proc set p) → IsTrue 
 -- A set of at least N - t processors, each of which hears all of them in the rounds from the first of these to the last.
 pub record IsInTouch (c : Setup) (set : ℕ) (table : Table) (first last : ℕ) : Type 0 where
   pub within : IsWithin set c.n
-  pub size : c.n - c.t ≤ size_of c set
+  pub size : c.n - c.t ≤ number_of c.n (has_proc set)
   pub numbered : 1 ≤ first
   pub hears : (round : ℕ) → first ≤ round → round ≤ last → HearsAllOf set table round
 
