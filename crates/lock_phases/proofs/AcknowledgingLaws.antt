@@ -9,8 +9,7 @@ use Rattle.lock_phases.specs.Messages.{Message}
 use Rattle.lock_phases.specs.Quorums.{acks}
 use Rattle.lock_phases.specs.NodeFunctions.{decides, next_in, next}
 use Rattle.lock_phases.specs.Hearing.{heard_from, acknowledging}
-use Rattle.lock_phases.specs.NodeLaws.{IsDecidedByQuorum, IsAcknowledgedByQuorum}
-pub use Rattle.lock_phases.specs.NodeLaws.{AcknowledgingKeeps, IsAcknowledged}
+use Rattle.lock_phases.specs.NodeLaws.{AcknowledgingKeeps, IsAcknowledged, IsDecidedByQuorum, IsAcknowledgedByQuorum}
 use Rattle.lock_phases.proofs.HeardProcessors.{heard-few, heard-many}
 use Rattle.lock_phases.proofs.RoundLaws.{part_at-acknowledging, next-in, with_proper_heard}
 

@@ -10,8 +10,7 @@ use Rattle.lock_phases.specs.Messages.{Message}
 use Rattle.lock_phases.specs.Quorums.{least_listed}
 use Rattle.lock_phases.specs.NodeFunctions.{next}
 use Rattle.lock_phases.specs.Hearing.{heard_from, lists_with, IsHeardToSay, listing}
-use Rattle.lock_phases.specs.NodeLaws.{IsProposal, IsMadeByQuorum, IsRefusedByFew}
-pub use Rattle.lock_phases.specs.NodeLaws.{ListingKeeps}
+use Rattle.lock_phases.specs.NodeLaws.{ListingKeeps, IsProposal, IsMadeByQuorum, IsRefusedByFew}
 use Rattle.lock_phases.proofs.Counting.{count_by-disjoint}
 use Rattle.lock_phases.proofs.RoundLaws.{part_at-listing, next-in}
 use Rattle.lock_phases.proofs.QuorumLaws.{IsLeastListed-from_some, least_listed-not_None}

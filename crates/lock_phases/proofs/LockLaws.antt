@@ -9,7 +9,7 @@ use Rattle.lock_phases.specs.declared.bodies.Kind.TheVariants.{List as Listed, L
 use Rattle.lock_phases.specs.Nodes.{LockPair, value_of, phase_of_lock}
 use Rattle.lock_phases.specs.Messages.{Message, sender_of, body_of, locked_value, told_locks}
 use Rattle.lock_phases.specs.Locks.{is_acceptable, heard_lock, put_lock, releases, is_released, kept_locks}
-pub use Rattle.lock_phases.specs.Hearing.{IsToldToLock, IsTold, IsReleasedByTold}
+use Rattle.lock_phases.specs.Hearing.{IsToldToLock, IsTold, IsReleasedByTold}
 use Rattle.lock_phases.proofs.Membership.{Contains-head, Contains-rest, Contains-cons_cases, Contains-nil, Contains-filter, Contains-from_filter, Contains-map, list_any-found, list_any-at}
 use Rattle.lock_phases.proofs.Rising.{IsStrictlyIncreasing-tail, IsStrictlyIncreasing-above}
 

@@ -9,10 +9,10 @@ use Rattle.lock_phases.specs.Nodes.{State, IsRising, LockPair, value_of, phase_o
 use Rattle.lock_phases.specs.Messages.{Message, sender_of}
 use Rattle.lock_phases.specs.Locks.{heard_lock, put_lock}
 use Rattle.lock_phases.specs.NodeFunctions.{next_in, next, after_locking}
-use Rattle.lock_phases.specs.NodeLaws.{IsUntold, Obeys, IsLockedOnce}
-pub use Rattle.lock_phases.specs.NodeLaws.{LockingKeeps, LockingLocks}
+use Rattle.lock_phases.specs.Hearing.{IsToldToLock}
+use Rattle.lock_phases.specs.NodeLaws.{LockingKeeps, LockingLocks, IsUntold, Obeys, IsLockedOnce}
 use Rattle.lock_phases.proofs.RoundLaws.{part_at-locking, next-in, with_proper_heard}
-use Rattle.lock_phases.proofs.LockLaws.{Contains-put_lock_cases, Contains-put_lock_new, Contains-put_lock_old, heard_lock-from_owner, heard_lock-told, IsToldToLock}
+use Rattle.lock_phases.proofs.LockLaws.{Contains-put_lock_cases, Contains-put_lock_new, Contains-put_lock_old, heard_lock-from_owner, heard_lock-told}
 use Rattle.lock_phases.proofs.Rising.{same_lock, IsStrictlyIncreasing-put_lock}
 
 -- locking changes no PROPER, proposal or decision

@@ -7,7 +7,7 @@ use Rattle.lock_phases.specs.Messages.{Message}
 use Rattle.lock_phases.specs.Locks.{is_released}
 use Rattle.lock_phases.specs.NodeFunctions.{next_in, next}
 use Rattle.lock_phases.specs.Hearing.{IsReleasedByTold}
-pub use Rattle.lock_phases.specs.NodeLaws.{ReleasingKeeps}
+use Rattle.lock_phases.specs.NodeLaws.{ReleasingKeeps}
 use Rattle.lock_phases.proofs.RoundLaws.{part_at-releasing, next-in, with_proper_heard}
 use Rattle.lock_phases.proofs.LockLaws.{Contains-from_kept_locks, Contains-kept_locks, is_released-by, is_released-told}
 

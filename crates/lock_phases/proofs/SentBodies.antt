@@ -10,7 +10,7 @@ use Rattle.lock_phases.specs.Nodes.{State, LockPair}
 use Rattle.lock_phases.specs.Messages.{listed_values, is_ack, told_locks}
 use Rattle.lock_phases.specs.Locks.{is_acceptable}
 use Rattle.lock_phases.specs.NodeFunctions.{kind_sent, out, values_to_list}
-pub use Rattle.lock_phases.specs.Hearing.{Says, IsSaidBy}
+use Rattle.lock_phases.specs.Hearing.{Says, IsSaidBy}
 use Rattle.lock_phases.proofs.Membership.{Contains-nil, Contains-from_filter}
 
 -- what is sent says so
