@@ -67,6 +67,14 @@ number_of n is = count_by is (range_with_len 1 n)
 abbrev pub with_proper : State → Kind → Body
 with_proper s kind = record { kind = kind; proper = s.proper }
 
+-- who says what to whom, and in which part of a phase: the owner is told lists and acknowledgements, and alone
+-- says Locks
+abbrev pub IsAddressed : ℕ → ℕ → ℕ → ℕ → Kind → Type 0
+IsAddressed part owner me to (Listed values) = (part ≡ 1) × (to ≡ owner)
+IsAddressed part owner me to (Lock v) = (part ≡ 2) × (me ≡ owner)
+IsAddressed part owner me to Ack = (part ≡ 3) × (to ≡ owner)
+IsAddressed part owner me to (Locks pairs) = part ≡ 4
+
 -- what a kind says of the node that sends it
 abbrev pub Says : State → Kind → Type 0
 Says s (Listed values) = values ≡ values_to_list s

@@ -14,7 +14,7 @@ ghost use Rattle.lock_phases.specs.Nodes.{State, IsRising};
 ghost use Rattle.lock_phases.specs.Messages.{Message, sender_of};
 ghost use Rattle.lock_phases.specs.Quorums.{acks};
 ghost use Rattle.lock_phases.specs.NodeFunctions.{values_to_list, out, next};
-ghost use Rattle.lock_phases.specs.Hearing.{IsHeardListed, IsToldToLock, heard_from, with_proper, IsSaidBy};
+ghost use Rattle.lock_phases.specs.Hearing.{IsHeardListed, IsToldToLock, heard_from, with_proper, IsAddressed, IsSaidBy};
 ghost use Rattle.lock_phases.specs.NodeLaws.{TakesIn, IsListOf, ListingKeeps, IsProposal, IsRefusedByFew, IsMadeByQuorum, LockingKeeps, LockingLocks, IsUntold, Obeys, IsLockedOnce, AcknowledgingKeeps, IsAcknowledgedByQuorum, IsDecidedByQuorum, ReleasingKeeps};
 
 use crate::bodies::Kind;
@@ -36,7 +36,7 @@ pub fn origin_laws()
 
 /// What a node says, with its PROPER: to the owner the list of its values that are proper and acceptable; as the
 /// owner its proposal, for everybody to lock; to the owner the acknowledgement that it owes; to everybody its
-/// locks. Whatever it says is so.
+/// locks. It says nothing else, and what it says is so.
 pub fn sending_laws()
     ensures list { (c : Setup) (s : State) (me round : ℕ) → part_of round ≡ 1 →
         out c s me round (owner c.n (phase_of round)) ≡ Some (with_proper s (Kind.List (values_to_list s))) }
@@ -47,6 +47,8 @@ pub fn sending_laws()
         out c s me round (owner c.n (phase_of round)) ≡ Some (with_proper s Kind.Ack) }
     ensures locks { (c : Setup) (s : State) (me round to : ℕ) → part_of round ≡ 4 →
         out c s me round to ≡ Some (with_proper s (Kind.Locks s.locks)) }
+    ensures addressed { (c : Setup) (s : State) (me round to : ℕ) (body : Body) → out c s me round to ≡ Some body →
+        IsAddressed (part_of round) (owner c.n (phase_of round)) me to body.kind }
     ensures said { (c : Setup) (s : State) (me round to : ℕ) (body : Body) →
         out c s me round to ≡ Some body → IsSaidBy s body }
 {}

@@ -1,4 +1,4 @@
-use Rattle.lock_phases.proofs.SendingLaws.{list-sent, list-has, lock-sent, acknowledgement-sent, locks-sent}
+use Rattle.lock_phases.proofs.SendingLaws.{list-sent, list-has, lock-sent, acknowledgement-sent, locks-sent, sent-addressed}
 use Rattle.lock_phases.proofs.SentBodies.{out-said_by}
 use Rattle.lock_phases.proofs.laws.sending_laws.Goals as goal
 
@@ -19,3 +19,6 @@ returns-clause-locks c = locks-sent
 
 pub returns-clause-said : goal.returns-clause-said
 returns-clause-said c = out-said_by
+
+pub returns-clause-addressed : goal.returns-clause-addressed
+returns-clause-addressed c = sent-addressed
