@@ -1,12 +1,12 @@
 -- The bounded decision: each processor of a set of at least N - t that hear one another owns one of any N phases in a row, and
 -- decides in it.
 use Rattle.std.proofs.Common.{ℕ, zero, suc, ◌≡◌, ◌+◌, ◌-◌, ◌*◌, ◌/◌, ◌%◌, ◌<◌, ◌≤◌, ◌⊎◌, inl, inr, Bool, true, Option, Some, None, is_some, refl, sym, ap, subst, ◌∙◌, arith}
-use Rattle.lock_phases.specs.Hearing.{number_of}
 use Rattle.std.proofs.lemmas.Bool.{cases_lt}
 use Rattle.std.proofs.lemmas.Nat.{div-add-mod', mod-mul-add, mod_below}
 use Rattle.step_trace.specs.Configurations.{Setup, IsSetup}
 use Rattle.step_trace.specs.Processors.{has_proc, IsWithin}
 use Rattle.lock_phases.specs.Rounds.{phase_of, part_of, owner}
+use Rattle.lock_phases.specs.Hearing.{number_of}
 use Rattle.round_model.specs.RoundStates.{Table, initial_value, state_after}
 use Rattle.round_model.specs.BoundedDecision.{HearsAllOf, IsInTouch, settling_phase, deciding_round, HaveDecided, HoldOneValue, LocksAreProper}
 use Rattle.round_model.proofs.AgreedDecisions.{decision-stays_later}
@@ -46,8 +46,8 @@ own-phase n p from low high = go (cases_lt (p - 1) (from % n))
         let k = from / n * n + (p - 1) in
         (k + 1, record { later = omega (arith, split, below); soon = omega (arith, split, below); owns = owned (from / n) k refl })
 
--- The rounds of a phase after the first, over the nodes before it. The phase before it ends with a round in which the members of the
--- set hear one another; so they all list one value.
+-- A phase after the first decides, from the nodes before the last round of the phase before it: in that round the members hear one
+-- another, and so they all list one value when the phase begins.
 phase_after-decides : (c : Setup) (member : ℕ → Bool) (table : Table) (rounds o : ℕ) → IsSetup c → part_of (suc rounds) ≡ 4
     → o ≡ owner c.n (phase_of (suc (suc rounds))) → member o ≡ true → c.n - c.t ≤ number_of c.n member
     → ((more : ℕ) → more ≤ 3 → HearOneAnother c member table (suc rounds + more))
@@ -104,27 +104,28 @@ HaveDecided-state_after c set table first rounds setup touch late p m = stays (s
         let same : decided + (rounds - decided) ≡ rounds = omega (arith, touch.numbered, own.1.later, own.1.soon, late) in
         ap is_some (subst (λ n. (state_after c table n p).decision ≡ Some v) same (decision-stays_later c table decided (rounds - decided) p v e))
 
--- a lock-release round, over the nodes after the rounds before it
-pub HoldOneValue-next : (c : Setup) (set : ℕ) (table : Table) (rounds : ℕ) → part_of (suc rounds) ≡ 4 → IsWithin set c.n → HearsAllOf set table (suc rounds)
+-- one lock value after one more round, a lock-release round
+HoldOneValue-next : (c : Setup) (set : ℕ) (table : Table) (rounds : ℕ) → part_of (suc rounds) ≡ 4 → IsWithin set c.n → HearsAllOf set table (suc rounds)
     → HoldOneValue set (state_after c table (suc rounds))
 unfolding state_after
 HoldOneValue-next c set table rounds e within hears =
     held-one_value c (has_proc set) table (state_after c table rounds) (suc rounds) e (HearOneAnother-from c set table (suc rounds) within hears)
 
-pub LocksAreProper-next : (c : Setup) (set : ℕ) (table : Table) (rounds : ℕ) → part_of (suc rounds) ≡ 4 → IsWithin set c.n → HearsAllOf set table (suc rounds)
+-- which is proper
+LocksAreProper-next : (c : Setup) (set : ℕ) (table : Table) (rounds : ℕ) → part_of (suc rounds) ≡ 4 → IsWithin set c.n → HearsAllOf set table (suc rounds)
     → LocksAreProper set (state_after c table (suc rounds))
 unfolding state_after
 LocksAreProper-next c set table rounds e within hears =
     held-proper c (has_proc set) table (state_after c table rounds) (suc rounds) e (HearOneAnother-from c set table (suc rounds) within hears) (KeepsProper-state_after c table rounds)
 
--- one lock: after a lock-release round, the last of its phase
+-- one lock value after the last round of a phase
 pub HoldOneValue-state_after : (c : Setup) (set : ℕ) (table : Table) (phase : ℕ) → IsWithin set c.n → 1 ≤ phase → HearsAllOf set table (4 * phase)
     → HoldOneValue set (state_after c table (4 * phase))
 HoldOneValue-state_after c set table phase within low hears =
     let is : suc (4 * phase - 1) ≡ 4 * phase = omega arith in
     subst (λ n. HoldOneValue set (state_after c table n)) is (HoldOneValue-next c set table (4 * phase - 1) (omega arith) within (subst (HearsAllOf set table) (sym is) hears))
 
--- it is proper
+-- which is proper
 pub LocksAreProper-state_after : (c : Setup) (set : ℕ) (table : Table) (phase : ℕ) → IsWithin set c.n → 1 ≤ phase → HearsAllOf set table (4 * phase)
     → LocksAreProper set (state_after c table (4 * phase))
 LocksAreProper-state_after c set table phase within low hears =

@@ -76,11 +76,11 @@ fn sixteen_decide_by_the_bound(rt: HostRuntime) -> Result<(), Fail> {
     let alloc = rt.alloc();
     let init = [4, 3, 2, 1, 8, 7, 6, 5, 12, 11, 10, 9, 16, 15, 14, 13];
     let mut decisions = [Some(1); 16];
-    decisions[0] = None;
-    let heard = all_heard(&rt, alloc, 16, 66)?;
-    assert!(rt; all_decide(&rt, alloc, (7, &init), &heard, &decisions)?);
-    let heard = all_heard(&rt, alloc, 16, 67)?;
-    assert!(rt; all_decide(&rt, alloc, (7, &init), &heard, &[Some(1); 16])?);
+    for (rounds, first) in [(66, None), (67, Some(1))] {
+        decisions[0] = first;
+        let heard = all_heard(&rt, alloc, 16, rounds)?;
+        assert!(rt; all_decide(&rt, alloc, (7, &init), &heard, &decisions)?);
+    }
     Ok(())
 }
 
