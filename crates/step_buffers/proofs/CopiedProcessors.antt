@@ -1,11 +1,9 @@
 -- Copies of what is kept of processors: they serve for whatever traces the processors served for.
-use Rattle.std.proofs.Common.{ℕ, suc, ◌≡◌, ◌⊎◌, inl, inr, List, [], ◌∷◌, ◌++◌, length, Some, refl, sym, ap, ◌∙◌, subst}
-use Rattle.std.specs.Prelude.{slice_get, Contains}
+use Rattle.std.proofs.Common.{ℕ, suc, ◌≡◌, inl, inr, List, [], ◌∷◌, ◌++◌, length, Some, ap, ◌∙◌, subst}
+use Rattle.std.specs.Prelude.{slice_get}
 use Rattle.step_trace.specs.declared.steps.Step.{Step}
 use Rattle.step_trace.specs.Configurations.{Setup}
-use Rattle.lock_phases.specs.Nodes.{State}
 use Rattle.step_buffers.specs.declared.processors.Processor.{Processor}
-use Rattle.step_buffers.specs.Runs.{destination_after}
 use Rattle.step_buffers.specs.Worlds.{IsProcessor, AreProcessors}
 use Rattle.step_buffers.proofs.Openings.{slice_get-push}
 
