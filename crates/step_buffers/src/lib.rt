@@ -5,6 +5,7 @@
 
 mod appends;
 mod copies;
+mod kept_messages;
 mod laws;
 mod letters;
 mod moves;
