@@ -1,13 +1,14 @@
 //! A Send.
 
-ghost use Rattle.std.specs.Prelude.{◌≡◌, ◌<◌, ◌++◌, ◌∷◌, [], length, Some, None, IfOk, OnOk, OnErr, IfErr, ◌+◌, ◌≤◌, is_none, IsSome, if◌then◌else◌};
+ghost use Rattle.std.specs.Prelude.{List, ◌-◌, slice_get, vec_len, vec_capacity, ◌≡◌, ◌<◌, ◌++◌, ◌∷◌, [], length, Some, None, IfOk, OnOk, OnErr, IfErr, ◌+◌, ◌≤◌, is_none, IsSome, if◌then◌else◌};
 ghost use Rattle.step_trace.specs.declared.traces.TheConstants.{MAX_STEPS};
-ghost use Rattle.step_trace.specs.Configurations.{IsProc};
+ghost use Rattle.step_trace.specs.declared.steps.Step.{Step as TraceStep};
+ghost use Rattle.step_trace.specs.Configurations.{Setup, IsProc};
 ghost use Rattle.lock_phases.specs.NodeFunctions.{out};
 ghost use Rattle.step_buffers.specs.HeardTables.{passed};
 ghost use Rattle.step_buffers.specs.Runs.{node_at};
 ghost use Rattle.step_buffers.specs.Moves.{next_send, IsStepRefusal};
-ghost use Rattle.step_buffers.specs.Worlds.{IsWorld};
+ghost use Rattle.step_buffers.specs.Worlds.{AreProcessors, IsWorld};
 
 use crate::appends::append;
 use crate::letters::Letter;
@@ -96,9 +97,7 @@ fn post(
     ensures step { OnOk result (trace.new.steps ≡ trace.old.steps ++ record { proc = p; act = Act.Send to } ∷ []) }
     ensures err { OnErr result (trace.new ≡ trace.old) }
 {
-    letters.reserve(1)?;
-    let receiver = &mut processors[(to - 1) as usize];
-    receiver.buffer.reserve(1)?;
+    make_room(letters, processors, to)?;
     append(
         trace,
         Step {
@@ -106,9 +105,29 @@ fn post(
             act: Act::Send { to },
         },
     )?;
+    let receiver = &mut processors[(to - 1) as usize];
     receiver.buffer.push_reserved(trace.len() as u64);
     letters.push_reserved(Some(letter));
     let sender = &mut processors[(p - 1) as usize];
     sender.last = to;
     Ok(())
+}
+
+// Makes room for one more message, and for its id in the buffer of the processor that it goes to.
+fn make_room(
+    letters: &mut Vec<Option<Letter>>,
+    processors: &mut Vec<Processor>,
+    to: u64,
+) -> Result<(), AllocError>
+    requires low { 1 ≤ to }
+    requires high { to ≤ length processors.old.items }
+    ensures letters { letters.new.items ≡ letters.old.items }
+    ensures processors { (c : Setup) (steps : List TraceStep) → AreProcessors c steps processors.old.items → AreProcessors c steps processors.new.items }
+    ensures count { length processors.new.items ≡ length processors.old.items }
+    ensures place { OnOk result (vec_len letters.new < vec_capacity letters.new) }
+    ensures room { OnOk result ((x : Processor) → slice_get processors.new.items (to - 1) ≡ Some x → vec_len x.buffer < vec_capacity x.buffer) }
+{
+    letters.reserve(1)?;
+    let receiver = &mut processors[(to - 1) as usize];
+    receiver.buffer.reserve(1)
 }
