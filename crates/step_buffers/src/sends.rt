@@ -4,6 +4,8 @@ ghost use Rattle.std.specs.Prelude.{List, ◌-◌, slice_get, vec_len, vec_capac
 ghost use Rattle.step_trace.specs.declared.traces.TheConstants.{MAX_STEPS};
 ghost use Rattle.step_trace.specs.declared.steps.Step.{Step as TraceStep};
 ghost use Rattle.step_trace.specs.Configurations.{Setup, IsProc};
+ghost use Rattle.step_trace.specs.Traces.{IsWellFormed};
+ghost use Rattle.step_trace.specs.PushRefusals.{refusal};
 ghost use Rattle.lock_phases.specs.NodeFunctions.{out};
 ghost use Rattle.step_buffers.specs.HeardTables.{passed};
 ghost use Rattle.step_buffers.specs.Runs.{node_at};
@@ -97,6 +99,36 @@ fn post(
     ensures step { OnOk result (trace.new.steps ≡ trace.old.steps ++ record { proc = p; act = Act.Send to } ∷ []) }
     ensures err { OnErr result (trace.new ≡ trace.old) }
 {
+    push_send(trace, letters, processors, p, to)?;
+    let receiver = &mut processors[(to - 1) as usize];
+    receiver.buffer.push_reserved(trace.len() as u64);
+    letters.push_reserved(Some(letter));
+    let sender = &mut processors[(p - 1) as usize];
+    sender.last = to;
+    Ok(())
+}
+
+// Appends a Send to the trace, and makes room for what it changes.
+fn push_send(
+    trace: &mut Trace,
+    letters: &mut Vec<Option<Letter>>,
+    processors: &mut Vec<Processor>,
+    p: u64,
+    to: u64,
+) -> Result<(), AllocError>
+    requires step { refusal trace.old.config trace.old.steps (record { proc = p; act = Act.Send to }) ≡ None }
+    requires low { 1 ≤ to }
+    requires high { to ≤ length processors.old.items }
+    ensures letters { letters.new.items ≡ letters.old.items }
+    ensures processors { (c : Setup) (steps : List TraceStep) → AreProcessors c steps processors.old.items → AreProcessors c steps processors.new.items }
+    ensures count { length processors.new.items ≡ length processors.old.items }
+    ensures place { OnOk result (vec_len letters.new < vec_capacity letters.new) }
+    ensures room { OnOk result ((x : Processor) → slice_get processors.new.items (to - 1) ≡ Some x → vec_len x.buffer < vec_capacity x.buffer) }
+    ensures appended { OnOk result (trace.new.steps ≡ trace.old.steps ++ record { proc = p; act = Act.Send to } ∷ []) }
+    ensures config { trace.new.config ≡ trace.old.config }
+    ensures well_formed { OnOk result (IsWellFormed trace.old.config (trace.old.steps ++ record { proc = p; act = Act.Send to } ∷ [])) }
+    ensures err { OnErr result (trace.new ≡ trace.old) }
+{
     make_room(letters, processors, to)?;
     append(
         trace,
@@ -104,13 +136,7 @@ fn post(
             proc: p,
             act: Act::Send { to },
         },
-    )?;
-    let receiver = &mut processors[(to - 1) as usize];
-    receiver.buffer.push_reserved(trace.len() as u64);
-    letters.push_reserved(Some(letter));
-    let sender = &mut processors[(p - 1) as usize];
-    sender.last = to;
-    Ok(())
+    )
 }
 
 // Makes room for one more message, and for its id in the buffer of the processor that it goes to.
