@@ -12,6 +12,7 @@ pub mod OriginLaws
 pub mod SentBodies
 pub mod HeardProcessors
 pub mod SendingLaws
+mod Sendings
 mod ValuePlaces
 mod LockPlaces
 pub mod Rising

@@ -4,6 +4,8 @@
 #![tactic(auto)]
 
 mod appends;
+mod copies;
+mod kept_messages;
 mod laws;
 mod letters;
 mod moves;
