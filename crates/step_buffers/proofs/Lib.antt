@@ -25,3 +25,5 @@ pub mod HeardNow
 pub mod HeardInboxes
 pub mod ReceivedProcessors
 pub mod FittingTakes
+pub mod RunSteps
+pub mod ReplayedSteps
