@@ -26,4 +26,5 @@ pub mod HeardInboxes
 pub mod ReceivedProcessors
 pub mod FittingTakes
 pub mod RunSteps
+pub mod MissingMessages
 pub mod ReplayedSteps

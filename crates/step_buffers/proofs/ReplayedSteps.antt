@@ -1,5 +1,5 @@
 -- Steps of a trace that are made again: as many as were made are the first ones of the trace.
-use Rattle.std.proofs.Common.{ℕ, suc, ◌≡◌, ◌+◌, ◌-◌, ◌<◌, ◌≤◌, inl, inr, List, [], ◌∷◌, ◌++◌, length, take, drop, Some, None, Result, Ok, Err, refl, sym, ap, ◌∙◌, subst, arith}
+use Rattle.std.proofs.Common.{ℕ, suc, ◌≡◌, ◌+◌, ◌-◌, inl, inr, List, [], ◌∷◌, ◌++◌, length, take, drop, Some, None, Result, Ok, Err, refl, sym, ap, ◌∙◌, subst, arith}
 use Rattle.std.specs.Prelude.{slice_get, IfErr}
 use Rattle.std.proofs.lemmas.Option.{none-some, slice_get_within, slice_get_cases, get_or_from_slice_get}
 use Rattle.std.proofs.lemmas.List.{length-append, length_push, take_all, take-append-le, take-append-drop}
@@ -10,7 +10,7 @@ use Rattle.step_trace.specs.Traces.{Recorded, step_at}
 use Rattle.step_buffers.specs.declared.replays.ReplayError.{ReplayError}
 use Rattle.step_buffers.specs.declared.replays.ReplayError.TheVariants.{NotARun, Memory}
 use Rattle.step_buffers.specs.Runs.{IsRun}
-use Rattle.step_buffers.specs.Replays.{IsFirstOff, IsReplayRefusal}
+use Rattle.step_buffers.specs.Replays.{IsReplayRefusal}
 use Rattle.step_buffers.proofs.RunPrefixes.{IsRun-prefix}
 
 -- one step more of the first ones

@@ -1,19 +1,17 @@
 -- What a run says of its last step: it is what its processor does next, and no reason stands against it.
-use Rattle.std.proofs.Common.{ℕ, suc, Result, Ok, Err, ◌≡◌, ◌+◌, ◌-◌, ◌<◌, ◌≤◌, List, [], ◌∷◌, ◌++◌, length, get_or, Option, Some, None, Bool, true, false, cond, not, ◌&&◌, refl, sym, ap, ◌∙◌, subst, arith, eq-eqb}
-use Rattle.std.specs.Prelude.{Contains, find, is_some, nat_lt, option_map, IfOk, OnOk}
+use Rattle.std.proofs.Common.{ℕ, suc, Result, Ok, Err, ◌≡◌, ◌+◌, ◌-◌, ◌<◌, List, [], ◌∷◌, ◌++◌, length, get_or, Option, Some, None, Bool, true, false, cond, not, ◌&&◌, refl, sym, ap, subst, arith, eq-eqb}
+use Rattle.std.specs.Prelude.{Contains, find, is_some, option_map, IfOk, OnOk}
 use Rattle.std.specs.declared.alloc.AllocError.{AllocError}
-use Rattle.std.specs.List.{range_with_len}
-use Rattle.std.specs.List.Sorted.{IsStrictlyIncreasing}
-use Rattle.std.proofs.lemmas.Bool.{lt-ltb, le-leb}
+use Rattle.std.proofs.lemmas.Bool.{lt-ltb, not_from_true}
 use Rattle.std.proofs.lemmas.List.FromFn.{length-range_with_len, get_or-range_with_len}
 use Rattle.step_trace.specs.declared.steps.Act.TheVariants.{Send, Receive}
 use Rattle.step_trace.specs.declared.steps.Step.{Step}
-use Rattle.step_trace.specs.Configurations.{Setup, IsProc, is_proc}
+use Rattle.step_trace.specs.Configurations.{Setup, is_proc}
 use Rattle.step_trace.specs.Traces.{IsSentTo}
-use Rattle.step_trace.specs.PushRefusals.{is_rising, is_rising_from, is_taken}
+use Rattle.step_trace.specs.PushRefusals.{is_rising, is_taken}
 use Rattle.step_trace.proofs.StepPositions.{step_at_last, step_at_within}
-use Rattle.step_trace.proofs.FittingSteps.{Fits-from_well_formed}
-use Rattle.lock_phases.proofs.Membership.{Contains-head, Contains-rest, Contains-filter}
+use Rattle.step_trace.proofs.FittingSteps.{Fits-from_well_formed, is_proc-true, is_rising-from_increasing, find-none}
+use Rattle.lock_phases.proofs.Membership.{Contains-filter}
 use Rattle.step_buffers.specs.declared.moves.Take.{Take}
 use Rattle.step_buffers.specs.declared.moves.Move.TheVariants as move
 use Rattle.step_buffers.specs.declared.moves.StepError.{StepError}
@@ -44,17 +42,6 @@ not_early-from_run c steps p ends ids run = go ends (IsDue-from_run c steps (rec
     go false due = refl
     go true due = ap is_some due
 
--- ids that rise pass the test
-rising_from-test : (x : ℕ) (xs : List ℕ) → IsStrictlyIncreasing (x ∷ xs) → is_rising_from x xs ≡ true
-rising_from-test x [] h = refl
-rising_from-test x (y ∷ ys) h =
-    let first : x < y = h 0 (omega arith) in
-    rw (lt-ltb x y first, rising_from-test y ys (λ k l. let e : suc k + 1 ≡ suc (k + 1) = omega arith in rw e at (h (suc k) (let m : k + 1 < length (y ∷ ys) = l in omega arith)))) refl
-
-rising-test : (xs : List ℕ) → IsStrictlyIncreasing xs → is_rising xs ≡ true
-rising-test [] h = refl
-rising-test (x ∷ xs) h = rising_from-test x xs h
-
 -- a message to p that no step took is in its buffer
 Contains-buffer : (steps : List Step) (p s : ℕ) → IsSentTo steps s p → is_taken steps s ≡ false → Contains (buffer steps p) s
 Contains-buffer steps p s sent fresh =
@@ -65,22 +52,17 @@ Contains-buffer steps p s sent fresh =
     let at : get_or (numbers steps) (s - 1) s ≡ 1 + (s - 1) = get_or-range_with_len 1 (length steps) (s - 1) s (omega arith) in
     Contains-filter (λ i. waits_for steps p i) (numbers steps) s (s - 1, omega arith, omega arith) (rw (sent.1, eq-eqb p p refl, fresh) refl)
 
-none_missing : (waiting ids : List ℕ) → ((s : ℕ) → Contains ids s → Contains waiting s) → find (λ s. not (is_in waiting s)) ids ≡ None
-none_missing waiting [] all = refl
-none_missing waiting (x ∷ ids) all = rw (is_in-member waiting x (all x (Contains-head x ids)), none_missing waiting ids (λ s d. all s (Contains-rest x s ids d))) refl
-
 -- and takes rising ids of messages that wait
 pub takes-from_run : (c : Setup) (steps : List Step) (p : ℕ) (ends : Bool) (ids : List ℕ) → IsRun c (steps ++ record { proc = p; act = Receive ends ids } ∷ [])
     → cond {A = Option StepError} (is_rising ids) (option_map (λ s. NotInBuffer s) (find (λ s. not (is_in (buffer steps p) s)) ids)) (Some IdsNotRising) ≡ None
 takes-from_run c steps p ends ids run =
     let fits = Fits-from_well_formed c steps (record { proc = p; act = Receive ends ids }) run.well_formed in
-    rw (rising-test ids fits.rising, none_missing (buffer steps p) ids (λ s d. Contains-buffer steps p s (fits.sent s d) (fits.fresh s d))) refl
+    let waits = find-none (λ s. not (is_in (buffer steps p) s)) ids (λ s d. not_from_true _ (is_in-member (buffer steps p) s (Contains-buffer steps p s (fits.sent s d) (fits.fresh s d)))) in
+    rw (is_rising-from_increasing ids fits.rising, waits) refl
 
 -- with room no reason stands against it
 is_proc-from_run : (c : Setup) (steps : List Step) (x : Step) → IsRun c (steps ++ x ∷ []) → is_proc c x.proc ≡ true
-is_proc-from_run c steps x run =
-    let is = (Fits-from_well_formed c steps x run.well_formed).proc in
-    rw (lt-ltb 0 x.proc (omega (arith, is.0)), le-leb x.proc c.n is.1) refl
+is_proc-from_run c steps x run = is_proc-true c x.proc (Fits-from_well_formed c steps x run.well_formed).proc
 
 pub step_refusal-send : (c : Setup) (limit : ℕ) (steps : List Step) (p to : ℕ) → length steps < limit → IsRun c (steps ++ record { proc = p; act = Send to } ∷ [])
     → step_refusal c limit steps p move.Send ≡ None

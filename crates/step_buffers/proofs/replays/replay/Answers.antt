@@ -1,4 +1,4 @@
-use Rattle.std.proofs.Common.{◌≡◌, ◌∙◌, refl, sym}
+use Rattle.std.proofs.Common.{◌∙◌, sym}
 use Rattle.std.proofs.lemmas.Result.{err_from_is_err_and}
 use Rattle.step_buffers.proofs.ReplayedSteps.{made-next, made-all, IsReplayRefusal-next, memory-from_run, Recorded-same}
 use Rattle.step_buffers.proofs.replays.replay.Goals as goal
