@@ -3,7 +3,11 @@
 #![tactic(auto)]
 
 #[cfg(test)]
+mod long_scripts;
+#[cfg(test)]
 mod refusal_tests;
+#[cfg(test)]
+mod replay_tests;
 #[cfg(test)]
 mod run_tests;
 #[cfg(test)]
