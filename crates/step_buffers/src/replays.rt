@@ -13,21 +13,22 @@ use crate::worlds::World;
 use std::alloc::{AllocError, Global};
 use step_trace::{Act, Config, MAX_STEPS, MessageIds, Step, Trace};
 
-/// Why no World is made of a trace, in the order in which the reasons are tested.
+/// Why no World is made of a trace.
 #[derive(Clone, Copy, Debug, PartialEq, Eq)]
 pub enum ReplayError {
     /// The step of this number is the first that isn't one of a run: the steps before it are a run, and with
     /// it they are none.
     NotARun(u64),
-    /// There was no memory for the World.
+    /// There was no memory for the World or for one of its steps.
     Memory,
 }
 
-/// The World that made exactly the steps of this trace, and may make up to 1,000,000 in all; it is there where
+/// The World that made exactly the steps of this trace, and may make up to 1,000,000 in all. There is one where
 /// the trace is a run (section 3 of the 1988 paper).
 ///
-/// Refuses: `NotARun` with the number of the first step that isn't a run's, or `Memory`. Takes the memory of
-/// the World's steps, and the time of making each of them once.
+/// Refuses: `NotARun`, with the number of the first step that isn't a run's; `Memory`, where it lacks for the
+/// World, or for a step before that one or in place of it. Makes each step once, in the time and memory of
+/// `World::step`.
 pub fn replay(alloc: Global, trace: &Trace) -> Result<World, ReplayError>
     ensures trace { IfOk result (λ world. world.trace ≡ trace.now) }
     ensures limit { IfOk result (λ world. world.limit ≡ MAX_STEPS) }
