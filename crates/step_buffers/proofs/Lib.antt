@@ -26,3 +26,6 @@ pub mod HeardNow
 pub mod HeardInboxes
 pub mod ReceivedProcessors
 pub mod FittingTakes
+pub mod RunSteps
+pub mod MissingMessages
+pub mod ReplayedSteps

@@ -11,11 +11,13 @@ mod letters;
 mod moves;
 mod processors;
 mod receives;
+mod replays;
 mod sends;
 mod steps;
 mod takes;
 mod worlds;
 
-pub use laws::run_laws;
+pub use laws::{refusal_laws, run_laws};
 pub use moves::{Done, Move, StepError, Take};
+pub use replays::{ReplayError, replay};
 pub use worlds::World;

@@ -29,7 +29,7 @@ true_if : (n m : ℕ) → n < m → nat_lt n m ≡ true
 true_if n m h = grind (arith, nat_tests)
 
 -- a processor passes the test of processors
-is_proc-true : (c : Setup) (p : ℕ) → IsProc c p → is_proc c p ≡ true
+pub is_proc-true : (c : Setup) (p : ℕ) → IsProc c p → is_proc c p ≡ true
 is_proc-true c p h =
     let low : nat_lt 0 p ≡ true = grind (arith, nat_tests) in
     let high : nat_le p c.n ≡ true = grind (arith, nat_tests) in
@@ -44,12 +44,12 @@ rising_from-true x (y ∷ ys) h =
     rw (test, rising_from-true y ys (λ k l. let e : suc k + 1 ≡ suc (k + 1) = omega arith in rw e at (h (suc k) (let l' : k + 1 < length (y ∷ ys) = l in omega arith)))) refl
 
 -- and so it is for a whole list
-is_rising-from_increasing : (xs : List ℕ) → IsStrictlyIncreasing xs → is_rising xs ≡ true
+pub is_rising-from_increasing : (xs : List ℕ) → IsStrictlyIncreasing xs → is_rising xs ≡ true
 is_rising-from_increasing [] h = refl
 is_rising-from_increasing (x ∷ xs) h = rising_from-true x xs h
 
 -- nothing is found where the test fails on each element
-find-none : {X : Type 0} (p : X → Bool) (xs : List X) → ((x : X) → Contains xs x → p x ≡ false) → find p xs ≡ None
+pub find-none : {X : Type 0} (p : X → Bool) (xs : List X) → ((x : X) → Contains xs x → p x ≡ false) → find p xs ≡ None
 find-none p [] h = refl
 find-none p (x ∷ xs) h = rw (h x (0, omega arith, refl), find-none p xs (λ y d. h y (suc d.0, let l = d.1 in omega arith, d.2))) refl
 

@@ -63,12 +63,12 @@ found-from p x [] s rising h = found-next p x [] s rising (λ f. absurd (none-so
 found-from p x (y ∷ ys) s rising h = found-next p x (y ∷ ys) s rising (found-from p y ys s (and_parts (nat_lt x y) (is_rising_from y ys) rising).1) h
 
 -- and for each rising list
-found : (p : ℕ → Bool) (xs : List ℕ) (s : ℕ) → is_rising xs ≡ true → find p xs ≡ Some s → IsFound p xs s
+pub found : (p : ℕ → Bool) (xs : List ℕ) (s : ℕ) → is_rising xs ≡ true → find p xs ≡ Some s → IsFound p xs s
 found p [] s r h = absurd (none-some s h)
 found p (x ∷ xs) s r h = found-from p x xs s r h
 
 -- an element that the opposite test finds fails the test
-failing : (test : ℕ → Bool) (ids : List ℕ) (s : ℕ) → IsFound (λ i. not (test i)) ids s → IsLeastFailing test ids s
+pub failing : (test : ℕ → Bool) (ids : List ℕ) (s : ℕ) → IsFound (λ i. not (test i)) ids s → IsLeastFailing test ids s
 failing test ids s f = record { member = f.member; fails = not-true _ f.passes; least = λ i d l. not-false _ (f.least i d l) }
 
 -- and one that the test finds fails the opposite test
