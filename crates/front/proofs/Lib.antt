@@ -5,7 +5,6 @@ pub mod ListMembers
 pub mod StartRows
 pub mod ServingRows
 pub mod LastBegun
-pub mod PlainFields
 pub mod RowsRead
 pub mod TextsRead
 pub mod OneReport

@@ -9,9 +9,9 @@ use Rattle.step_trace.specs.declared.rows.Miss.{Miss}
 use Rattle.step_trace.specs.declared.rows.Gap.{Gap}
 use Rattle.step_trace.specs.declared.rows.Row.{Row}
 use Rattle.trace_text.specs.Records.{record_line, text_of_records}
-use Rattle.front.specs.CsvWriting.{ArePlain}
+use Rattle.trace_text.specs.RecordWriting.{ArePlain}
 use Rattle.front.specs.ReportTexts.{miss_fields, gap_fields, row_record, report_records, report_text, IsMiss64, IsGap64, IsRow64, StandsFor}
-use Rattle.front.proofs.PlainFields.{IsPlain-decimal, row_text-plain}
+use Rattle.trace_text.proofs.PlainFields.{IsPlain-decimal, row_text-plain}
 use Rattle.trace_text.proofs.ReachedRecords.{are-records}
 
 -- records of plain fields, of more than one field each

@@ -2,6 +2,7 @@ pub mod AcceptedRecords
 pub mod Bytes
 pub mod NumberLists
 pub mod Numbers
+pub mod PlainFields
 pub mod Prefixes
 pub mod ReachedRecords
 pub mod RecordLoops
@@ -10,3 +11,4 @@ pub mod TakenRecords
 pub mod TableReasons
 pub mod TextLaws
 pub mod TraceRecords
+pub mod WrittenRecords
