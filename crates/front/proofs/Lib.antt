@@ -1,7 +1,6 @@
 pub mod LeastBounds
 pub mod FrontCriterion
 pub mod Stretches
-pub mod ListMembers
 pub mod StartRows
 pub mod ServingRows
 pub mod LastBegun

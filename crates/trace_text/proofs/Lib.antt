@@ -1,5 +1,8 @@
 pub mod AcceptedRecords
 pub mod Bytes
+pub mod LineLengths
+pub mod LinesRead
+pub mod ListMembers
 pub mod NumberLists
 pub mod Numbers
 pub mod PlainFields
@@ -7,8 +10,10 @@ pub mod Prefixes
 pub mod ReachedRecords
 pub mod RecordLoops
 pub mod StageInversions
+pub mod TakenIds
 pub mod TakenRecords
 pub mod TableReasons
 pub mod TextLaws
 pub mod TraceRecords
 pub mod WrittenRecords
+pub mod WrittenTexts

@@ -19,7 +19,7 @@ use Rattle.trace_text.proofs.AcceptedRecords.{step_records-more}
 use Rattle.trace_text.proofs.PlainFields.{IsPlain-decimal}
 
 -- the text of one record more
-text_of_records-more : (rs : List (List (List ℕ))) (r : List (List ℕ)) → text_of_records (rs ++ r ∷ []) ≡ text_of_records rs ++ record_line r
+pub text_of_records-more : (rs : List (List (List ℕ))) (r : List (List ℕ)) → text_of_records (rs ++ r ∷ []) ≡ text_of_records rs ++ record_line r
 text_of_records-more rs r = flat_map-append record_line rs (r ∷ []) ∙ ap (λ (t : List ℕ). text_of_records rs ++ t) (append-nil (record_line r))
 
 -- the steps before a step, and that step

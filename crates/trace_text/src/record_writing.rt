@@ -43,8 +43,8 @@ pub fn write_record(writer: &mut Writer<Vec<u8>>, fields: &[&[u8]]) -> Result<()
     Ok(())
 }
 
-/// The same of a record that was made before.
-pub fn write_made_record(
+/// The same of a record that csv keeps.
+pub fn write_byte_record(
     writer: &mut Writer<Vec<u8>>,
     fields: &ByteRecord,
 ) -> Result<(), AllocError>

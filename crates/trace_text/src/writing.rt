@@ -1,6 +1,6 @@
 //! Writing of trace text: the whole text first, then its bytes.
 
-ghost use Rattle.std.specs.Prelude.{◌≡◌, ◌<◌, ◌^◌, ◌++◌, IfOk, OnOk, IfErr, IsTrue, All, map, decimal, string_bytes};
+ghost use Rattle.std.specs.Prelude.{◌≡◌, ◌<◌, ◌^◌, ◌++◌, IfOk, OnOk, IfErr, IsTrue, All, length, map, decimal, string_bytes};
 ghost use Rattle.std.specs.List.{join_with_byte};
 ghost use Rattle.std.specs.Io.KnownBytes.{Appends};
 ghost use Rattle.csv.specs.Records.{fields_of};
@@ -9,12 +9,12 @@ ghost use Rattle.trace_text.specs.Faults.{inner_of, is_flushed};
 ghost use Rattle.trace_text.specs.Records.{record_line, text_of_records};
 ghost use Rattle.trace_text.specs.RecordWriting.{IsReady, IsPlain, ArePlain, written};
 ghost use Rattle.trace_text.specs.TextWriting.{WroteBefore, IsWriteCause};
-ghost use Rattle.trace_text.specs.TraceTexts.{IsTrace, trace_text, header_record, init_record, step_record, step_records, end_record, op_text, arg_text};
+ghost use Rattle.trace_text.specs.TraceTexts.{IsTrace, StandsFor, trace_text, header_record, init_record, step_record, step_records, end_record, op_text, arg_text};
 
-use crate::byte_loops::write_text;
+use crate::byte_loops::{MAX_TEXT_BYTES, write_text};
 use crate::counting::Counting;
 use crate::record_writing::{
-    number_text, record_writer, text_written, write_made_record, write_record,
+    number_text, record_writer, text_written, write_byte_record, write_record,
 };
 use crate::refusals::WriteError;
 use csv::{ByteRecord, Writer};
@@ -40,6 +40,9 @@ pub fn write_trace<W: Write>(
         (λ e. WroteBefore e (trace_text trace.now) (W.contents (inner_of writer.old))
         (W.contents (inner_of writer.new))) }
     ensures cause { IfErr result (λ e. IsWriteCause e writer.old writer.new) }
+    ensures sound { IsTrace trace.now }
+    ensures stands { StandsFor (trace_text trace.now) trace.now }
+    ensures short { length (trace_text trace.now) < MAX_TEXT_BYTES }
 {
     let Ok(text) = trace_text_of(alloc, trace) else {
         return Err(WriteError::Memory);
@@ -58,7 +61,7 @@ fn trace_text_of(alloc: Global, trace: &Trace) -> Result<Vec<u8>, AllocError>
     let init = init_fields(alloc, config.init())?;
     let mut writer = record_writer(alloc);
     write_header(alloc, &mut writer, n, config.t())?;
-    write_made_record(&mut writer, &init)?;
+    write_byte_record(&mut writer, &init)?;
     write_steps(alloc, &mut writer, trace)?;
     write_end(alloc, &mut writer, steps)?;
     text_written(writer)

@@ -15,7 +15,7 @@ returns-clause-text c =
     let whole : written c.write_end.new.writer ≡ trace_text c.args.trace.now = rw (
       c.in_ok-write_end.ensures.text,
       c.in_ok-write_steps.ensures.text,
-      c.in_ok-write_made_record.ensures.text,
+      c.in_ok-write_byte_record.ensures.text,
       c.in_ok-write_header.ensures.text,
       c.record_writer-writer.ensures.text,
       c.in_ok-init.ensures.fields,

@@ -1,7 +1,7 @@
 use Rattle.std.proofs.Common.{◌≢◌, true}
 use Rattle.csv.specs.declared.writer.QuoteStyle.TheVariants as style
 use Rattle.trace_text.proofs.PlainFields.{row_text-plain}
-use Rattle.trace_text.proofs.record_writing.write_made_record.Goals as goal
+use Rattle.trace_text.proofs.record_writing.write_byte_record.Goals as goal
 
 pub returns-clause-text : goal.returns-clause-text
 returns-clause-text c =
