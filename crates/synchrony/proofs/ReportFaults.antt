@@ -3,7 +3,7 @@ use Rattle.std.proofs.Common.{◌≡◌, ◌≢◌, ◌<◌, ℕ, false, List, l
 use Rattle.std.specs.Prelude.{nat_le}
 use Rattle.std.proofs.lemmas.Bool.Decides.{nat_tests}
 use Rattle.front.specs.ReportTexts.{report_text}
-use Rattle.front.specs.ReportWriting.{WroteBefore}
+use Rattle.trace_text.specs.TextWriting.{WroteBefore}
 use Rattle.step_trace.specs.declared.rows.Row.{Row}
 use Rattle.step_trace.specs.Processors.{IsWithin}
 use Rattle.step_trace.specs.Traces.{Recorded}

@@ -1,8 +1,8 @@
 use Rattle.std.proofs.Common.{◌≢◌, true}
 use Rattle.std.proofs.lemmas.List.{length-map}
 use Rattle.csv.specs.declared.writer.QuoteStyle.TheVariants as style
-use Rattle.front.proofs.PlainFields.{row_text-plain}
-use Rattle.front.proofs.report_texts.write_plain.Goals as goal
+use Rattle.trace_text.proofs.PlainFields.{row_text-plain}
+use Rattle.trace_text.proofs.record_writing.write_record.Goals as goal
 
 pub returns-clause-text : goal.returns-clause-text
 returns-clause-text c =

@@ -1,4 +1,4 @@
--- What `write_report` did before a refusal.
+-- What `write_trace`, or another call that makes a text first, did before a refusal.
 use Rattle.std.specs.Prelude.{◌≡◌, ◌≤◌, ℕ, List, length, take, Option}
 use Rattle.std.specs.Io.KnownBytes.{Appends}
 use Rattle.trace_text.specs.declared.counting.Counting.{Counting}

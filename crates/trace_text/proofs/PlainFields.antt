@@ -8,7 +8,7 @@ use Rattle.std.proofs.lemmas.List.Folds.{list_any-append}
 use Rattle.csv.specs.declared.writer.WriterBuilder.{WriterBuilder}
 use Rattle.csv.specs.Writing.{default_writer, needs_byte, field_text, fields_text, is_blank, row_text}
 use Rattle.trace_text.specs.Records.{record_line}
-use Rattle.front.specs.CsvWriting.{our_writer, IsPlain, ArePlain}
+use Rattle.trace_text.specs.RecordWriting.{our_writer, IsPlain, ArePlain}
 
 plain_digit : (d : ℕ) → d < 10 → needs_byte our_writer (48 + d) ≡ false
 plain_digit d l = rw (ne_eqb (48 + d) 44 (λ e. omega arith), ne_eqb (48 + d) 34 (λ e. omega arith), ne_eqb (48 + d) 13 (λ e. omega arith), ne_eqb (48 + d) 10 (λ e. omega arith)) refl
