@@ -1,4 +1,5 @@
--- The line `report FILE --correct LIST` asks for that report, and nothing in it is refused.
+-- The lines `report FILE --correct LIST` and `replay FILE` ask for that report and that replay, and nothing
+-- in them is refused.
 use Rattle.std.proofs.Common.{◌≡◌, ◌∙◌, ap, ap₂, refl, ℕ, Bool, true, false, ◌==◌, List, [], ◌∷◌, Some, None, codes}
 use Rattle.std.specs.Prelude.{◌&&◌, if◌then◌else◌, option_and_then}
 use Rattle.std.specs.Str.{bytes_eq}
@@ -9,7 +10,7 @@ use Rattle.clap.specs.Simple.{Shape, built, names_of}
 use Rattle.clap.specs.Walk.{Held, Text, Waiting, Walk, after_step, finished, nothing_held, plain_word, settled, subcommand_met, walk, walk_from, walked, word_met}
 use Rattle.clap.specs.Words.{Rule, fault_of}
 use Rattle.clap.proofs.OnLiterals.{clap_on_literals}
-use Rattle.synchrony.specs.Commands.{AsksForReport, is_flag, program, report_app, report_line}
+use Rattle.synchrony.specs.Commands.{AsksForReplay, AsksForReport, is_flag, program, replay_app, replay_line, report_app, report_line}
 
 -- a word that is no flag is neither `--` nor a long nor a short flag
 pub not_dashes : (word : Text) → is_flag word ≡ false → bytes_eq word (45 ∷ 45 ∷ []) ≡ false
@@ -67,7 +68,15 @@ first_shape (s ∷ more) = s
 abbrev report : Shape
 report = first_shape (built program).subs
 
--- where the walk over the words after `report` stands
+abbrev second_shape : List Shape → Shape
+second_shape [] = replay_app.top
+second_shape (s ∷ more) = first_shape more
+
+-- `replay` likewise
+abbrev replay : Shape
+replay = second_shape (built program).subs
+
+-- where the walk over the words after a command stands
 abbrev start : Walk
 start = walk_from nothing_held
 
@@ -106,19 +115,45 @@ words_pass file list plain_file plain_list =
     ∙ ap (λ k. or_else k []) (turn_plain report (after_option file) list plain_list refl refl refl))
 
 -- nor is what they leave unsaid
-abbrev level_end : Kinds → Walk → Kinds
-level_end met w =
-    or_else met (or_else [] (or_else (settle_fault report.rules report.args_override_self w.held)
-    (or_else (defaults_fault (settled report.rules w.held).rows report.rules) (check_fault report (finished report.rules w.held) false))))
+abbrev level_end : Shape → Kinds → Walk → Kinds
+level_end s met w =
+    or_else met (or_else [] (or_else (settle_fault s.rules s.args_override_self w.held)
+    (or_else (defaults_fault (settled s.rules w.held).rows s.rules) (check_fault s (finished s.rules w.held) false))))
 
 report_passes : (file list : Text) → is_flag file ≡ false → is_flag list ≡ false
     → level_fault report [] nothing_held (file ∷ codes "--correct" ∷ list ∷ []) false [] ≡ []
 unfolding clap_on_literals
 report_passes file list plain_file plain_list =
-    ap₂ level_end (words_pass file list plain_file plain_list) (walk_is file list plain_file plain_list)
+    ap₂ (level_end report) (words_pass file list plain_file plain_list) (walk_is file list plain_file plain_list)
 
-pub faultless : (name file list : Text) → is_flag file ≡ false → is_flag list ≡ false → fault_of program (report_line name file list) ≡ []
+pub report_faultless : (name file list : Text) → is_flag file ≡ false → is_flag list ≡ false → fault_of program (report_line name file list) ≡ []
 unfolding clap_on_literals
-faultless name file list plain_file plain_list =
+report_faultless name file list plain_file plain_list =
     ap (λ below. level_fault (built program).top (names_of (built program)) nothing_held (codes "report" ∷ file ∷ codes "--correct" ∷ list ∷ []) true below)
     (report_passes file list plain_file plain_list)
+
+after_replayed : (file : Text) → is_flag file ≡ false → walk replay.rules [] nothing_held (file ∷ []) ≡ after_plain replay.rules start file
+unfolding clap_on_literals
+after_replayed file plain = walked_plain replay.rules start file plain refl refl refl
+
+pub asks_for_replay : (name file : Text) → is_flag file ≡ false → AsksForReplay (replay_line name file) file
+unfolding clap_on_literals
+asks_for_replay name file plain = record {
+  rows = finished replay.rules (after_plain replay.rules start file).held;
+  named = ap (λ (w : Walk). Some (codes "replay", finished replay.rules w.held)) (after_replayed file plain);
+  file_is = refl;
+}
+
+replayed_passes : (file : Text) → is_flag file ≡ false → walk_fault replay [] start (file ∷ []) ≡ []
+unfolding clap_on_literals
+replayed_passes file plain = ap (λ k. or_else k []) (turn_plain replay start file plain refl refl refl)
+
+replay_passes : (file : Text) → is_flag file ≡ false → level_fault replay [] nothing_held (file ∷ []) false [] ≡ []
+unfolding clap_on_literals
+replay_passes file plain = ap₂ (level_end replay) (replayed_passes file plain) (after_replayed file plain)
+
+pub replay_faultless : (name file : Text) → is_flag file ≡ false → fault_of program (replay_line name file) ≡ []
+unfolding clap_on_literals
+replay_faultless name file plain =
+    ap (λ below. level_fault (built program).top (names_of (built program)) nothing_held (codes "replay" ∷ file ∷ []) true below)
+    (replay_passes file plain)
