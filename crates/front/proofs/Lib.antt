@@ -1,11 +1,9 @@
 pub mod LeastBounds
 pub mod FrontCriterion
 pub mod Stretches
-pub mod ListMembers
 pub mod StartRows
 pub mod ServingRows
 pub mod LastBegun
-pub mod PlainFields
 pub mod RowsRead
 pub mod TextsRead
 pub mod OneReport

@@ -14,7 +14,7 @@ use Rattle.front.specs.Reports.{Reported, Serves, first_of, last_begun, row_at}
 use Rattle.step_trace.proofs.BoundLaws.{DeltaHolds-later, PhiHolds-later}
 use Rattle.front.proofs.FrontCriterion.{IsDelta-on_front, IsPhi-on_front}
 use Rattle.front.proofs.Stretches.{miss-refutes, gap-refutes}
-use Rattle.front.proofs.ListMembers.{Contains-nil, Contains-first, Contains-later, Contains-mapped, Contains-cons_cases, Contains-unmapped, rising-tail, rising-first}
+use Rattle.trace_text.proofs.ListMembers.{Contains-nil, Contains-first, Contains-later, Contains-mapped, Contains-cons_cases, Contains-unmapped, rising-tail, rising-first}
 
 -- no feasible triple has nothing of the front at or below it
 pub front-below : (set : ℕ) (steps : List Step) (size : ℕ) (t : Triple) → t.gst + t.delta + t.phi ≤ size → IsFeasible set steps t

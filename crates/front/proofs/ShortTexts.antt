@@ -2,10 +2,8 @@
 -- numbers have at most seven digits.
 use Rattle.std.proofs.Common.{ℕ, ◌≡◌, ◌+◌, ◌*◌, ◌<◌, ◌≤◌, ◌^◌, List, [], ◌∷◌, ◌++◌, length, map, get_or, Option, Some, None, IsTrue, ◌&&◌, Contains, decimal, refl, subst, suc, zero, arith, length-append}
 use Rattle.std.specs.Prelude.{nat_le, nat_lt}
-use Rattle.std.specs.List.{join_with_byte}
 use Rattle.std.specs.List.Sorted.{IsStrictlyIncreasing}
 use Rattle.std.proofs.lemmas.Bool.{and_parts, leb-true}
-use Rattle.std.proofs.lemmas.Fmt.{length-decimal-le}
 use Rattle.std.proofs.lemmas.List.Elements.{Contains-get_or}
 use Rattle.std.proofs.lemmas.List.{length-map}
 use Rattle.step_trace.specs.declared.steps.Step.{Step}
@@ -18,7 +16,8 @@ use Rattle.step_trace.specs.Fronts.{IsReport, IsReportRow}
 use Rattle.step_trace.proofs.StepPositions.{step_at_within}
 use Rattle.trace_text.specs.Records.{record_line, text_of_records}
 use Rattle.front.specs.ReportTexts.{report_header, report_text, row_record, miss_fields, gap_fields}
-use Rattle.front.proofs.ListMembers.{Contains-first, Contains-later, Contains-unmapped}
+use Rattle.trace_text.proofs.LineLengths.{bytes_of, length-line, short-decimal}
+use Rattle.trace_text.proofs.ListMembers.{Contains-first, Contains-later, Contains-unmapped}
 
 -- fields of at most seven bytes
 abbrev AreShort : List (List ℕ) → Type 0
@@ -29,21 +28,12 @@ short-append : (xs ys : List (List ℕ)) → AreShort xs → AreShort ys → Are
 short-append [] ys a b = b
 short-append (x ∷ xs) ys a b = (a.0, short-append xs ys a.1 b)
 
-length-joined : (fields : List (List ℕ)) → AreShort fields → length (join_with_byte 44 fields) ≤ 8 * length fields
-length-joined [] short = omega arith
-length-joined (x ∷ []) short = let l = short.0 in omega (arith, l)
-length-joined (x ∷ y ∷ rest) short =
-    let l = short.0 in
-    let more = length-joined (y ∷ rest) short.1 in
-    rw (length-append x (44 ∷ join_with_byte 44 (y ∷ rest))) (omega (arith, l, more))
+bytes_of-short : (fields : List (List ℕ)) → AreShort fields → bytes_of fields ≤ 7 * length fields
+bytes_of-short [] short = omega arith
+bytes_of-short (x ∷ rest) short = let l = short.0 in let more = bytes_of-short rest short.1 in omega (arith, l, more)
 
-length-line : (fields : List (List ℕ)) → AreShort fields → length (record_line fields) ≤ 8 * length fields + 1
-length-line fields short =
-    let joined = length-joined fields short in
-    rw (length-append (join_with_byte 44 fields) (10 ∷ [])) (omega (arith, joined))
-
-short-decimal : (n : ℕ) → n < 10 ^ 7 → length (decimal n) ≤ 7
-short-decimal n l = length-decimal-le 7 n (omega arith) l (omega arith)
+length-short_line : (fields : List (List ℕ)) → AreShort fields → length (record_line fields) ≤ 8 * length fields + 1
+length-short_line fields short = let line = length-line fields in let bytes = bytes_of-short fields short in omega (arith, line, bytes)
 
 member_high : (members p : ℕ) → IsTrue (has_proc members p) → p ≤ 64
 member_high members p m =
@@ -92,7 +82,7 @@ length-row_line members steps r limit row =
     let short = short-append bounds (miss_fields r.miss ++ gap_fields r.gap)
     (short-decimal r.gst (omega (arith, limit, end)), (short-decimal r.delta miss.bound, (short-decimal r.phi gap.bound, tt)))
     (short-append (miss_fields r.miss) (gap_fields r.gap) miss.short gap.short) in
-    let line = length-line (row_record r) short in
+    let line = length-short_line (row_record r) short in
     let rest = length-append (miss_fields r.miss) (gap_fields r.gap) in
     let two = miss.count in
     let three = gap.count in

@@ -1,20 +1,21 @@
 //! The text of a report: a header and a record for each row, as csv writes them.
 
-ghost use Rattle.std.specs.Prelude.{◌≡◌, ◌<◌, ◌≤◌, ℕ, List, ◌∷◌, [], ◌++◌, IfOk, OnOk, IfErr, IsTrue, All, length, map, decimal, string_bytes};
+ghost use Rattle.std.specs.Prelude.{◌≡◌, ◌<◌, ◌≤◌, ℕ, List, ◌∷◌, [], ◌++◌, IfOk, OnOk, IfErr, IsTrue, All, length, string_bytes};
 ghost use Rattle.std.specs.Io.KnownBytes.{Appends};
 ghost use Rattle.trace_text.specs.ByteLoops.{WasFaultless};
 ghost use Rattle.trace_text.specs.Faults.{inner_of, is_flushed};
 ghost use Rattle.step_trace.specs.declared.steps.Step.{Step};
 ghost use Rattle.step_trace.specs.Fronts.{IsReport};
-ghost use Rattle.front.specs.ReportWriting.{WroteBefore, IsWriteCause};
-ghost use Rattle.front.specs.CsvWriting.{IsReady, IsPlain, ArePlain, written};
+ghost use Rattle.trace_text.specs.TextWriting.{WroteBefore, IsWriteCause};
+ghost use Rattle.trace_text.specs.RecordWriting.{IsReady, ArePlain, written};
 ghost use Rattle.trace_text.specs.Records.{record_line};
 ghost use Rattle.front.specs.ReportTexts.{report_header, report_text, row_record, miss_fields, gap_fields, IsRow64, StandsFor};
 
-use csv::{Writer, WriterBuilder};
+use csv::Writer;
 use std::alloc::{AllocError, Global};
 use std::io::Write;
 use step_trace::{Gap, MAX_STEPS, Miss, Row};
+use trace_text::record_writing::{number_text, record_writer, text_written, write_record};
 use trace_text::{Counting, MAX_TEXT_BYTES, WriteError, write_text};
 
 /// Writes the text of a report of these rows, and flushes.
@@ -49,17 +50,12 @@ pub fn write_report<W: Write>(
 pub(crate) fn report_text_of(alloc: Global, rows: &[Row]) -> Result<Vec<u8>, AllocError>
     ensures { IfOk result (λ v. v.items ≡ report_text rows.now) }
 {
-    let mut writer = WriterBuilder::new()
-        .flexible(true)
-        .from_writer(Vec::new(alloc));
+    let mut writer = record_writer(alloc);
     write_header(&mut writer)?;
     for row in rows {
         write_row(alloc, &mut writer, row)?;
     }
-    match writer.into_inner() {
-        Ok(text) => Ok(text),
-        Err(_) => Err(AllocError),
-    }
+    text_written(writer)
 }
 
 fn write_header(writer: &mut Writer<Vec<u8>>) -> Result<(), AllocError>
@@ -68,7 +64,7 @@ fn write_header(writer: &mut Writer<Vec<u8>>) -> Result<(), AllocError>
     ensures text { OnOk result
         (written writer.new ≡ written writer.old ++ record_line report_header) }
 {
-    write_plain(
+    write_record(
         writer,
         &[
             b"gst", b"delta", b"phi", b"sent", b"missed", b"proc", b"from", b"to",
@@ -87,7 +83,7 @@ fn write_row(alloc: Global, writer: &mut Writer<Vec<u8>>, row: &Row) -> Result<(
     let phi = number_text(alloc, row.phi)?;
     let (sent, missed) = miss_texts(alloc, row.miss)?;
     let (proc, from, to) = gap_texts(alloc, row.gap)?;
-    write_plain(
+    write_record(
         writer,
         &[
             gst.as_bytes(),
@@ -129,26 +125,4 @@ fn gap_texts(alloc: Global, gap: Option<Gap>) -> Result<(String, String, String)
             number_text(alloc, to)?,
         )),
     }
-}
-
-fn number_text(alloc: Global, n: u64) -> Result<String, AllocError>
-    ensures digits { IfOk result (λ t. string_bytes t ≡ decimal n) }
-    ensures plain { IfOk result (λ t. IsPlain (string_bytes t)) }
-{
-    n.to_string(alloc)
-}
-
-// Writes a record of more than one field, none of which calls for quotes.
-fn write_plain(writer: &mut Writer<Vec<u8>>, fields: &[&[u8]]) -> Result<(), AllocError>
-    requires ready { IsReady writer.old }
-    requires two { 2 ≤ length fields.now }
-    requires plain { ArePlain (map (λ f. f.now) fields.now) }
-    ensures ready { OnOk result (IsReady writer.new) }
-    ensures text { OnOk result
-        (written writer.new ≡ written writer.old ++ record_line (map (λ f. f.now) fields.now)) }
-{
-    let Ok(()) = writer.write_fields(fields) else {
-        return Err(AllocError);
-    };
-    Ok(())
 }

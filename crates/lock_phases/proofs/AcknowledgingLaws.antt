@@ -1,24 +1,19 @@
 -- An acknowledging round: an owner that decides has its proposal acknowledged by more than t processors.
-use Rattle.std.proofs.Common.{ℕ, ◌≡◌, ◌+◌, ◌≤◌, ◌⊎◌, inl, inr, Bool, true, false, cond, eqb, ◌&&◌, List, Option, Some, None, is_some, is_none, refl, sym, ap, ◌∙◌, arith}
-use Rattle.std.specs.Prelude.{count_by, filter_map}
-use Rattle.std.specs.List.{range_with_len}
-use Rattle.std.proofs.lemmas.Bool.{eqb-true, leb-true}
+use Rattle.std.proofs.Common.{ℕ, ◌≡◌, ◌+◌, ◌≤◌, ◌⊎◌, inl, inr, Bool, true, false, cond, eqb, eq-eqb, ◌&&◌, List, Option, Some, None, is_some, is_none, refl, sym, ap, ◌∙◌, arith}
+use Rattle.std.specs.Prelude.{unwrap_or}
+use Rattle.std.proofs.lemmas.Bool.{eqb-true, leb-true, le-leb}
 use Rattle.step_trace.specs.Configurations.{Setup}
 use Rattle.lock_phases.specs.Rounds.{phase_of, part_of, owner, Acknowledging}
 use Rattle.lock_phases.specs.Nodes.{State}
-use Rattle.lock_phases.specs.Messages.{Message, is_ack, body_of}
+use Rattle.lock_phases.specs.Messages.{Message}
 use Rattle.lock_phases.specs.Quorums.{acks}
 use Rattle.lock_phases.specs.NodeFunctions.{decides, next_in, next}
-use Rattle.lock_phases.proofs.Counting.{count_by-filter_map}
+use Rattle.lock_phases.specs.Hearing.{heard_from, acknowledging}
+use Rattle.lock_phases.specs.NodeLaws.{AcknowledgingKeeps, IsAcknowledged, IsDecidedByQuorum, IsAcknowledgedByQuorum}
+use Rattle.lock_phases.proofs.HeardProcessors.{heard-few, heard-many}
 use Rattle.lock_phases.proofs.RoundLaws.{part_at-acknowledging, next-in, with_proper_heard}
 
 -- an acknowledging round changes no lock, and clears the proposal and what is owed
-pub record AcknowledgingKeeps (s after : State) : Type 0 where
-  pub locks : after.locks ≡ s.locks
-  pub proposal : after.proposal ≡ None
-  pub owes_ack : after.owes_ack ≡ false
-
--- so an acknowledging round does
 pub acknowledging-keeps : (c : Setup) (s : State) (me round : ℕ) (heard : List Message) → part_of round ≡ 3 → AcknowledgingKeeps s (next c s me round heard)
 acknowledging-keeps c s me round heard e =
     let n = next-in Acknowledging c s me round heard (part_at-acknowledging round e) in
@@ -28,23 +23,39 @@ acknowledging-keeps c s me round heard e =
       owes_ack = ap (λ (x : State). x.owes_ack) n;
     }
 
--- An owner decides its proposal v, acknowledged by more than t processors.
-pub record IsAcknowledged (c : Setup) (s : State) (me owner : ℕ) (acknowledges : ℕ → Bool) (v : ℕ) : Type 0 where
-  pub owns : me ≡ owner
-  pub proposal : s.proposal ≡ Some v
-  pub acks : c.t + 1 ≤ count_by acknowledges (range_with_len 1 c.n)
+-- An owner with a proposal and more than t acknowledgements has decided.
+pub acknowledging-decided : (c : Setup) (s : State) (round : ℕ) (heard : List Message) (v : ℕ) → part_of round ≡ 3 → s.proposal ≡ Some v → c.t + 1 ≤ acks heard
+    → (next c s (owner c.n (phase_of round)) round heard).decision ≡ Some (unwrap_or s.decision v)
+acknowledging-decided c s round heard v e p enough =
+    ap (λ (x : State). x.decision) (next-in Acknowledging c s o round heard (part_at-acknowledging round e))
+    ∙ decided (eqb o o) _ s.proposal s.decision (eq-eqb o o refl) (le-leb (c.t + 1) (acks heard) enough) p
+  where
+    o : ℕ
+    o = owner c.n (phase_of round)
 
--- The decision step. A node that heard at most one message of each processor had its decision before, or
--- decides its proposal, acknowledged by more than t processors.
-pub decision-step : (c : Setup) (s : State) (me round : ℕ) (heard_of : ℕ → Option Message) (v : ℕ) (acknowledges : ℕ → Bool) → part_of round ≡ 3
-    → (next c s me round (filter_map heard_of (range_with_len 1 c.n))).decision ≡ Some v
-    → ((j : ℕ) (m : Message) → heard_of j ≡ Some m → is_ack (body_of m).kind ≡ true → acknowledges j ≡ true)
-    → (s.decision ≡ Some v) ⊎ IsAcknowledged c s me (owner c.n (phase_of round)) acknowledges v
-decision-step c s me round heard_of v acknowledges e decided acked =
+    decided : (a f : Bool) (proposal decision : Option ℕ) → a ≡ true → f ≡ true → proposal ≡ Some v
+        → cond (a && is_some proposal && is_none decision && f) proposal decision ≡ Some (unwrap_or decision v)
+    decided true true (Some w) None h k q = q
+    decided true true (Some w) (Some u) h k q = refl
+    decided true true None d h k q = cc
+    decided true false w d h k q = cc
+    decided false f w d h k q = cc
+
+-- The same where more than t processors are heard to acknowledge.
+pub acknowledging-quorum : (c : Setup) (s : State) (round : ℕ) (heard_of : ℕ → Option Message) → part_of round ≡ 3
+    → IsDecidedByQuorum c s (next c s (owner c.n (phase_of round)) round (heard_from c.n heard_of)) heard_of
+acknowledging-quorum c s round heard_of e v acknowledges p enough heard =
+    let many = heard-many c heard_of acknowledging acknowledges heard in
+    acknowledging-decided c s round (heard_from c.n heard_of) v e p (omega arith)
+
+-- The decision step: a new decision is the owner's proposal, acknowledged by more than t processors.
+pub acknowledging-acknowledged : (c : Setup) (s : State) (me round : ℕ) (heard_of : ℕ → Option Message) → part_of round ≡ 3
+    → IsAcknowledgedByQuorum c s (next c s me round (heard_from c.n heard_of)) me (owner c.n (phase_of round)) heard_of
+acknowledging-acknowledged c s me round heard_of e v acknowledges decided acked =
     go (decides c s (eqb me (owner c.n (phase_of round))) heard) refl (sym (ap (λ (x : State). x.decision) n) ∙ decided)
   where
     heard : List Message
-    heard = filter_map heard_of (range_with_len 1 c.n)
+    heard = heard_from c.n heard_of
 
     n : next c s me round heard ≡ next_in Acknowledging c (with_proper_heard s heard) me (phase_of round) heard
     n = next-in Acknowledging c s me round heard (part_at-acknowledging round e)
@@ -62,5 +73,5 @@ decision-step c s me round heard_of v acknowledges e decided acked =
     go true t d =
         let p = parts (eqb me (owner c.n (phase_of round))) (is_some s.proposal) (is_none s.decision) _ t in
         let enough = leb-true _ (acks heard) p.1 in
-        let counted = count_by-filter_map (λ m. is_ack (body_of m).kind) acknowledges heard_of (range_with_len 1 c.n) acked in
+        let counted = heard-few c.n heard_of acknowledging acknowledges acked in
         inr (record { owns = eqb-true me (owner c.n (phase_of round)) p.0; proposal = d; acks = omega arith })

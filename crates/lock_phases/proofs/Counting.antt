@@ -1,8 +1,9 @@
 -- How many elements of a list pass a test.
-use Rattle.std.proofs.Common.{◌≡◌, ◌+◌, ◌≤◌, Bool, true, false, cond, List, [], ◌∷◌, length, Option, Some, None, refl, arith}
-use Rattle.std.specs.Prelude.{count_by, filter_map}
+use Rattle.std.proofs.Common.{◌≡◌, ◌+◌, ◌≤◌, Bool, true, false, cond, List, [], ◌∷◌, length, Option, Some, None, refl, ap, ◌∙◌, arith}
+use Rattle.std.specs.Prelude.{count_by, filter_map, Contains}
 use Rattle.std.specs.List.{cons_option}
 use Rattle.std.proofs.lemmas.List.Sums.{sum_by-cons}
+use Rattle.lock_phases.proofs.Membership.{Contains-head, Contains-rest}
 
 -- how many pass of a first element and the rest
 count_by-cons : {X : Type 0} (p : X → Bool) (x : X) (xs : List X) → count_by p (x ∷ xs) ≡ cond (p x) 1 0 + count_by p xs
@@ -50,3 +51,20 @@ count_by-filter_map {Y = Y} p q h (x ∷ xs) f =
         → count_by p (cons_option o (filter_map h xs)) ≤ cond (q x) 1 0 + count_by q xs
     go None e l = omega arith
     go (Some y) e l = let c = one (p y) (q x) (f x y e) in rw (count_by-cons p y (filter_map h xs)) (omega arith)
+
+-- It passes no less often where each element on which the test passes gives something that passes.
+pub count_by-le_filter_map : {X Y : Type 0} (p : Y → Bool) (q : X → Bool) (h : X → Option Y) (xs : List X)
+    → ((x : X) → Contains xs x → q x ≡ true → (y : Y) × (h x ≡ Some y) × (p y ≡ true)) → count_by q xs ≤ count_by p (filter_map h xs)
+count_by-le_filter_map p q h [] f = omega arith
+count_by-le_filter_map {Y = Y} p q h (x ∷ xs) f =
+    rw (count_by-cons q x xs) (go (q x) (h x) (f x (Contains-head x xs)) (count_by-le_filter_map p q h xs (λ z d t. f z (Contains-rest x z xs d) t)))
+  where
+    passes : (y z : Y) → Some y ≡ Some z → p z ≡ true → p y ≡ true
+    passes y z e t = let same : y ≡ z = cc in ap p same ∙ t
+
+    go : (b : Bool) (o : Option Y) → (b ≡ true → (y : Y) × (o ≡ Some y) × (p y ≡ true)) → count_by q xs ≤ count_by p (filter_map h xs)
+        → cond b 1 0 + count_by q xs ≤ count_by p (cons_option o (filter_map h xs))
+    go true None g l = let clash = (g refl).1 in cc
+    go true (Some y) g l = let r = g refl in rw (count_by-cons p y (filter_map h xs), passes y r.0 r.1 r.2) (omega arith)
+    go false None g l = omega arith
+    go false (Some y) g l = rw (count_by-cons p y (filter_map h xs)) (omega arith)

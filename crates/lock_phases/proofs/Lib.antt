@@ -10,6 +10,9 @@ pub mod AcknowledgingLaws
 pub mod ReleasingLaws
 pub mod OriginLaws
 pub mod SentBodies
+pub mod HeardProcessors
+pub mod SendingLaws
+mod Sendings
 mod ValuePlaces
 mod LockPlaces
 pub mod Rising

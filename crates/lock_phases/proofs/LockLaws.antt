@@ -1,14 +1,17 @@
 -- Which locks a node has after one is put or some are released, and which values are acceptable beside them.
-use Rattle.std.proofs.Common.{ℕ, ◌≡◌, ◌≤◌, ◌⊎◌, inl, inr, Bool, true, false, cond, not, ltb, eqb, leb, ◌&&◌, List, [], ◌∷◌, refl, sym, ap, ◌∙◌, zero, arith, Some, eq-eqb}
+use Rattle.std.proofs.Common.{ℕ, ◌≡◌, ◌<◌, ◌≤◌, ◌⊎◌, inl, inr, Bool, true, false, cond, not, ltb, eqb, leb, ◌&&◌, List, [], ◌∷◌, map, refl, sym, ap, ◌∙◌, zero, arith, Some, eq-eqb}
 use Rattle.std.specs.Prelude.{Contains}
 use Rattle.std.specs.List.{list_any}
+use Rattle.std.specs.List.Sorted.{IsStrictlyIncreasing}
 use Rattle.std.proofs.lemmas.Bool.{eqb-true, ne_eqb, leb-true, le-leb, and_parts, not-true}
 use Rattle.lock_phases.specs.declared.bodies.Kind.{Kind}
 use Rattle.lock_phases.specs.declared.bodies.Kind.TheVariants.{List as Listed, Lock, Ack, Locks}
 use Rattle.lock_phases.specs.Nodes.{LockPair, value_of, phase_of_lock}
 use Rattle.lock_phases.specs.Messages.{Message, sender_of, body_of, locked_value, told_locks}
 use Rattle.lock_phases.specs.Locks.{is_acceptable, heard_lock, put_lock, releases, is_released, kept_locks}
-use Rattle.lock_phases.proofs.Membership.{Contains-head, Contains-rest, Contains-cons_cases, Contains-nil, Contains-filter, Contains-from_filter, list_any-found, list_any-at}
+use Rattle.lock_phases.specs.Hearing.{IsToldToLock, IsTold, IsReleasedByTold}
+use Rattle.lock_phases.proofs.Membership.{Contains-head, Contains-rest, Contains-cons_cases, Contains-nil, Contains-filter, Contains-from_filter, Contains-map, list_any-found, list_any-at}
+use Rattle.lock_phases.proofs.Rising.{IsStrictlyIncreasing-tail, IsStrictlyIncreasing-above}
 
 -- a lock that is held after v was locked is that one, or was held before
 pub Contains-put_lock_cases : (v p : ℕ) (locks : List LockPair) (z : LockPair) → Contains (put_lock v p locks) z → (z ≡ (v, p)) ⊎ Contains locks z
@@ -67,13 +70,6 @@ is_acceptable-from_locks [] v f = refl
 is_acceptable-from_locks (x ∷ xs) v f =
     rw (eq-eqb (value_of x) v (f x (Contains-head x xs))) (is_acceptable-from_locks xs v (λ z h. f z (Contains-rest x z xs h)))
 
--- a Lock of the owner on this value was heard
-pub record IsToldToLock (owner : ℕ) (heard : List Message) (v : ℕ) : Type 0 where
-  pub message : Message
-  pub is_heard : Contains heard message
-  pub sender : sender_of message ≡ owner
-  pub kind : (body_of message).kind ≡ Lock v
-
 -- a value that was asked to be locked comes from a Lock of the owner
 pub heard_lock-from_owner : (owner : ℕ) (heard : List Message) (v : ℕ) → heard_lock owner heard ≡ Some v → IsToldToLock owner heard v
 heard_lock-from_owner owner [] v e = cc
@@ -92,6 +88,23 @@ heard_lock-from_owner owner (m ∷ rest) v e = go (eqb (sender_of m) owner) refl
         let told = f h in
         record { message = told.message; is_heard = Contains-rest m told.message rest told.is_heard; sender = told.sender; kind = told.kind }
 
+-- the value of the owner's Lock that is heard was asked to be locked, where the senders rise
+pub heard_lock-told : (owner : ℕ) (heard : List Message) (v : ℕ) → IsStrictlyIncreasing (map sender_of heard) → IsToldToLock owner heard v → heard_lock owner heard ≡ Some v
+heard_lock-told owner [] v rise told = absurd (Contains-nil told.message told.is_heard)
+heard_lock-told owner (m ∷ rest) v rise told =
+    go (eqb (sender_of m) owner) refl (Contains-cons_cases m told.message rest told.is_heard)
+    (λ d. heard_lock-told owner rest v (IsStrictlyIncreasing-tail (sender_of m) (map sender_of rest) rise) (record { message = told.message; is_heard = d; sender = told.sender; kind = told.kind }))
+  where
+    below : Contains rest told.message → sender_of m < sender_of told.message
+    below d = IsStrictlyIncreasing-above (sender_of m) (map sender_of rest) rise (sender_of told.message) (Contains-map sender_of rest told.message d)
+
+    go : (b : Bool) → eqb (sender_of m) owner ≡ b → (told.message ≡ m) ⊎ Contains rest told.message → (Contains rest told.message → heard_lock owner rest ≡ Some v)
+        → cond b (locked_value (body_of m).kind) (heard_lock owner rest) ≡ Some v
+    go true t (inl h) f = ap (λ (x : Message). locked_value (body_of x).kind) (sym h) ∙ ap locked_value told.kind
+    go true t (inr d) f = let l = below d in let mine = eqb-true (sender_of m) owner t in let theirs = told.sender in absurd (omega arith)
+    go false t (inl h) f = let clash = sym (eq-eqb (sender_of m) owner (ap sender_of (sym h) ∙ told.sender)) ∙ t in cc
+    go false t (inr d) f = f d
+
 -- a lock that is kept was held, and no lock heard releases it
 pub Contains-from_kept_locks : (heard : List Message) (locks : List LockPair) (z : LockPair) → Contains (kept_locks heard locks) z → Contains locks z × (is_released heard z ≡ false)
 Contains-from_kept_locks heard locks z c =
@@ -101,19 +114,6 @@ Contains-from_kept_locks heard locks z c =
 pub Contains-kept_locks : (heard : List Message) (locks : List LockPair) (z : LockPair) → Contains locks z → is_released heard z ≡ false → Contains (kept_locks heard locks) z
 Contains-kept_locks heard locks z c e = Contains-filter (λ lock. not (is_released heard lock)) locks z c (ap not e)
 
--- this lock is told in what is heard
-pub record IsTold (heard : List Message) (told : LockPair) : Type 0 where
-  pub message : Message
-  pub is_heard : Contains heard message
-  pub tells : Contains (told_locks (body_of message).kind) told
-
--- a lock that is told releases this one: it is on another value, and of no lower phase
-pub record IsReleasedByTold (heard : List Message) (z : LockPair) : Type 0 where
-  pub lock : LockPair
-  pub told : IsTold heard lock
-  pub other : value_of lock ≡ value_of z → ⊥
-  pub later : phase_of_lock z ≤ phase_of_lock lock
-
 -- what is released is released by a lock that is told
 pub is_released-by : (heard : List Message) (z : LockPair) → is_released heard z ≡ true → IsReleasedByTold heard z
 is_released-by heard z e =
@@ -121,7 +121,7 @@ is_released-by heard z e =
     let told = list_any-found (λ t. releases t z) (told_locks (body_of m.0).kind) m.2 in
     let b = and_parts (not (eqb (value_of told.0) (value_of z))) (leb (phase_of_lock z) (phase_of_lock told.0)) told.2 in
     record {
-      lock = told.0;
+      releasing = told.0;
       told = record { message = m.0; is_heard = m.1; tells = told.1 };
       other = λ h. not_false (eqb (value_of told.0) (value_of z)) b.0 (eq-eqb (value_of told.0) (value_of z) h);
       later = leb-true (phase_of_lock z) (phase_of_lock told.0) b.1;

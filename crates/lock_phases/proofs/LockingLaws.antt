@@ -1,15 +1,19 @@
 -- A locking round: who hears the owner's Lock holds a lock of this phase, and owes an acknowledgement.
-use Rattle.std.proofs.Common.{ℕ, ◌≡◌, ◌⊎◌, inl, inr, Bool, true, false, eqb, List, Option, Some, None, refl, sym, ap, subst, ◌∙◌, eq-eqb}
+use Rattle.std.proofs.Common.{ℕ, ◌≡◌, ◌⊎◌, inl, inr, Bool, true, false, eqb, List, map, Option, Some, None, refl, sym, ap, subst, ◌∙◌, eq-eqb}
 use Rattle.std.specs.Prelude.{Contains}
+use Rattle.std.specs.List.Sorted.{IsStrictlyIncreasing}
 use Rattle.std.proofs.lemmas.Bool.{eqb-true}
 use Rattle.step_trace.specs.Configurations.{Setup}
 use Rattle.lock_phases.specs.Rounds.{phase_of, part_of, owner, Locking}
-use Rattle.lock_phases.specs.Nodes.{State, LockPair, value_of, phase_of_lock}
-use Rattle.lock_phases.specs.Messages.{Message}
+use Rattle.lock_phases.specs.Nodes.{State, IsRising, LockPair, value_of, phase_of_lock}
+use Rattle.lock_phases.specs.Messages.{Message, sender_of}
 use Rattle.lock_phases.specs.Locks.{heard_lock, put_lock}
 use Rattle.lock_phases.specs.NodeFunctions.{next_in, next, after_locking}
+use Rattle.lock_phases.specs.Hearing.{IsToldToLock}
+use Rattle.lock_phases.specs.NodeLaws.{LockingKeeps, LockingLocks, IsUntold, Obeys, IsLockedOnce}
 use Rattle.lock_phases.proofs.RoundLaws.{part_at-locking, next-in, with_proper_heard}
-use Rattle.lock_phases.proofs.LockLaws.{Contains-put_lock_cases, Contains-put_lock_new, Contains-put_lock_old, heard_lock-from_owner, IsToldToLock}
+use Rattle.lock_phases.proofs.LockLaws.{Contains-put_lock_cases, Contains-put_lock_new, Contains-put_lock_old, heard_lock-from_owner, heard_lock-told}
+use Rattle.lock_phases.proofs.Rising.{same_lock, IsStrictlyIncreasing-put_lock}
 
 -- locking changes no PROPER, proposal or decision
 pub record AfterLockingKeeps (s after : State) : Type 0 where
@@ -23,11 +27,6 @@ after_locking-keeps s phase None = record { proper = refl; proposal = refl; deci
 after_locking-keeps s phase (Some v) = record { proper = refl; proposal = refl; decision = refl }
 
 -- a locking round changes no proposal or decision
-pub record LockingKeeps (s after : State) : Type 0 where
-  pub proposal : after.proposal ≡ s.proposal
-  pub decision : after.decision ≡ s.decision
-
--- so a locking round does
 pub locking-keeps : (c : Setup) (s : State) (me round : ℕ) (heard : List Message) → part_of round ≡ 2 → LockingKeeps s (next c s me round heard)
 locking-keeps c s me round heard e =
     let n = next-in Locking c s me round heard (part_at-locking round e) in
@@ -39,12 +38,6 @@ locking-keeps c s me round heard e =
 
 -- A locking round puts a lock of this phase where the owner's Lock is heard, and with it the node owes an acknowledgement; a
 -- lock that it replaces was on the same value.
-pub record LockingLocks (s after : State) (owner phase : ℕ) (heard : List Message) : Type 0 where
-  pub fresh : (lock : LockPair) → Contains after.locks lock → Contains s.locks lock ⊎ ((phase_of_lock lock ≡ phase) × IsToldToLock owner heard (value_of lock))
-  pub held : (lock : LockPair) → Contains s.locks lock → Contains after.locks lock ⊎ Contains after.locks (value_of lock, phase)
-  pub owes : after.owes_ack ≡ true → (s.owes_ack ≡ true) ⊎ ((v : ℕ) × Contains after.locks (v, phase))
-
--- so a locking round changes the locks
 pub locking-locks : (c : Setup) (s : State) (me round : ℕ) (heard : List Message) → part_of round ≡ 2
     → LockingLocks s (next c s me round heard) (owner c.n (phase_of round)) (phase_of round) heard
 locking-locks c s me round heard e = subst (λ x. LockingLocks s x o k heard) (sym n) (go (heard_lock o heard) refl)
@@ -75,3 +68,41 @@ locking-locks c s me round heard e = subst (λ x. LockingLocks s x o k heard) (s
       held = λ lock d. held v lock d (eqb (value_of lock) v) refl;
       owes = λ f. inr (v, Contains-put_lock_new v k s.locks);
     }
+
+-- Who hears no Lock of the owner has the locks that it had, and owes what it owed.
+pub locking-untold : (c : Setup) (s : State) (me round : ℕ) (heard : List Message) → part_of round ≡ 2
+    → ((v : ℕ) → IsToldToLock (owner c.n (phase_of round)) heard v → ⊥) → IsUntold s (next c s me round heard)
+locking-untold c s me round heard e silent = subst (IsUntold s) (sym n) (go (heard_lock o heard) refl)
+  where
+    o : ℕ
+    o = owner c.n (phase_of round)
+
+    n : next c s me round heard ≡ next_in Locking c (with_proper_heard s heard) me (phase_of round) heard
+    n = next-in Locking c s me round heard (part_at-locking round e)
+
+    go : (a : Option ℕ) → heard_lock o heard ≡ a → IsUntold s (after_locking (with_proper_heard s heard) (phase_of round) a)
+    go None h = record { locks = refl; owes_ack = refl }
+    go (Some v) h = absurd (silent v (heard_lock-from_owner o heard v h))
+
+-- who hears the owner's Lock locks its value in this phase
+locking-puts : (c : Setup) (s : State) (me round : ℕ) (heard : List Message) (v : ℕ) → part_of round ≡ 2 → IsStrictlyIncreasing (map sender_of heard)
+    → IsToldToLock (owner c.n (phase_of round)) heard v → next c s me round heard ≡ after_locking (with_proper_heard s heard) (phase_of round) (Some v)
+locking-puts c s me round heard v e rise told =
+    next-in Locking c s me round heard (part_at-locking round e)
+    ∙ ap (after_locking (with_proper_heard s heard) (phase_of round)) (heard_lock-told (owner c.n (phase_of round)) heard v rise told)
+
+-- It holds the lock then, and owes an acknowledgement.
+pub locking-told : (c : Setup) (s : State) (me round : ℕ) (heard : List Message) (v : ℕ) → part_of round ≡ 2 → IsStrictlyIncreasing (map sender_of heard)
+    → IsToldToLock (owner c.n (phase_of round)) heard v → Obeys (next c s me round heard) v (phase_of round)
+locking-told c s me round heard v e rise told =
+    subst (λ x. Obeys x v (phase_of round)) (sym (locking-puts c s me round heard v e rise told))
+    (record { lock = Contains-put_lock_new v (phase_of round) s.locks; owes_ack = refl })
+
+-- It holds no other lock on the value, so an older one was replaced.
+pub locking-replaced : (c : Setup) (s : State) (me round : ℕ) (heard : List Message) (v : ℕ) → part_of round ≡ 2 → IsRising s
+    → IsStrictlyIncreasing (map sender_of heard) → IsToldToLock (owner c.n (phase_of round)) heard v
+    → IsLockedOnce (next c s me round heard).locks v (phase_of round)
+locking-replaced c s me round heard v e rising rise told =
+    subst (λ (x : State). IsLockedOnce x.locks v (phase_of round)) (sym (locking-puts c s me round heard v e rise told))
+    (λ lock d on_v. ap phase_of_lock (same_lock (put_lock v (phase_of round) s.locks)
+    (IsStrictlyIncreasing-put_lock v (phase_of round) s.locks rising.locks) lock (v, phase_of round) d (Contains-put_lock_new v (phase_of round) s.locks) on_v))

@@ -110,6 +110,14 @@ Contains-from_map f (x ∷ xs) y c = elim (Contains-cons_cases (f x) y (map f xs
   | inr k ↦ let r = Contains-from_map f xs y k in (r.0, Contains-rest x r.0 xs r.1, r.2)
 ]
 
+-- the image of an element is in the list of images
+pub Contains-map : {X Y : Type 0} (f : X → Y) (xs : List X) (x : X) → Contains xs x → Contains (map f xs) (f x)
+Contains-map f [] x c = absurd (Contains-nil x c)
+Contains-map f (y ∷ ys) x c = elim (Contains-cons_cases y x ys c) [
+  | inl s ↦ (zero, omega arith, ap f (sym s))
+  | inr k ↦ Contains-rest (f y) (f x) (map f ys) (Contains-map f ys x k)
+]
+
 -- what stands in the joined lists stands in the list of an element
 pub Contains-from_flat_map : {X A : Type 0} (f : X → List A) (xs : List X) (a : A) → Contains (flat_map f xs) a → (x : X) × Contains xs x × Contains (f x) a
 Contains-from_flat_map f [] a c = absurd (Contains-nil a c)

@@ -6,12 +6,8 @@ use Rattle.std.proofs.lemmas.Bool.{eqb-true, leb-true, le-leb, cases_lt}
 use Rattle.std.proofs.Common.{eq-eqb}
 use Rattle.lock_phases.specs.Messages.{Message, listed_values, body_of}
 use Rattle.lock_phases.specs.Quorums.{lists, has_quorum, lesser, least, least_listed}
+use Rattle.lock_phases.specs.NodeLaws.{IsLeastListed}
 use Rattle.lock_phases.proofs.Membership.{Contains-rest, Contains-cons_cases, Contains-nil, Contains-filter, Contains-from_filter, list_any-found, list_any-at, count_by-found, Contains-flat_map, Contains-from_flat_map}
-
--- v is in at least so many of the lists that were heard, and no lesser value is
-pub record IsLeastListed (quorum : ℕ) (heard : List Message) (v : ℕ) : Type 0 where
-  pub quorum_lists : quorum ≤ count_by (λ m. lists m v) heard
-  pub no_lesser : (u : ℕ) → quorum ≤ count_by (λ m. lists m u) heard → v ≤ u
 
 -- a message lists v where v stands in its list
 pub Contains-from_lists : (m : Message) (v : ℕ) → lists m v ≡ true → Contains (listed_values (body_of m).kind) v

@@ -10,14 +10,8 @@ use Rattle.lock_phases.specs.Nodes.{State, LockPair}
 use Rattle.lock_phases.specs.Messages.{listed_values, is_ack, told_locks}
 use Rattle.lock_phases.specs.Locks.{is_acceptable}
 use Rattle.lock_phases.specs.NodeFunctions.{kind_sent, out, values_to_list}
+use Rattle.lock_phases.specs.Hearing.{Says, IsSaidBy}
 use Rattle.lock_phases.proofs.Membership.{Contains-nil, Contains-from_filter}
-
--- what a kind says of the node that sends it
-abbrev pub Says : State → Kind → Type 0
-Says s (Listed values) = values ≡ values_to_list s
-Says s (Lock v) = s.proposal ≡ Some v
-Says s Ack = s.owes_ack ≡ true
-Says s (Locks pairs) = pairs ≡ s.locks
 
 -- what is sent says so
 kind_sent-says : (part : Part) (s : State) (owner me to : ℕ) (kind : Kind) → kind_sent part s owner me to ≡ Some kind → Says s kind
@@ -46,12 +40,7 @@ kind_sent-says part s owner me to kind e = go part e
     go Acknowledging h = flagged s.owes_ack (eqb to owner) refl h
     go Releasing h = is (Locks s.locks) refl h
 
--- a body that is sent says so of its sender, and has its PROPER
-pub record IsSaidBy (s : State) (body : Body) : Type 0 where
-  pub says : Says s body.kind
-  pub proper : body.proper ≡ s.proper
-
--- so does each body that is sent
+-- each body that is sent says what is so of its sender
 pub out-said_by : (c : Setup) (s : State) (me round to : ℕ) (body : Body) → out c s me round to ≡ Some body → IsSaidBy s body
 unfolding out
 out-said_by c s me round to body sent = go (kind_sent (part_at (part_of round)) s (owner c.n (phase_of round)) me to) refl sent

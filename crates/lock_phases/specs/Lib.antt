@@ -5,3 +5,5 @@ pub mod Values
 pub mod Locks
 pub mod Quorums
 pub mod NodeFunctions
+pub mod Hearing
+pub mod NodeLaws

@@ -5,9 +5,11 @@ use Rattle.std.specs.Prelude.{Contains, count_by}
 use Rattle.step_trace.specs.Configurations.{Setup}
 use Rattle.lock_phases.specs.Rounds.{phase_of, part_of, owner}
 use Rattle.lock_phases.specs.Nodes.{State, LockPair, value_of, phase_of_lock}
-use Rattle.lock_phases.specs.Messages.{Message, is_ack, body_of}
+use Rattle.lock_phases.specs.Messages.{body_of}
+use Rattle.lock_phases.specs.Hearing.{IsHeardToSay, acknowledging}
+use Rattle.lock_phases.specs.NodeLaws.{AcknowledgingKeeps, IsAcknowledged}
 use Rattle.lock_phases.proofs.Counting.{count_by-le}
-use Rattle.lock_phases.proofs.AcknowledgingLaws.{AcknowledgingKeeps, acknowledging-keeps, IsAcknowledged, decision-step}
+use Rattle.lock_phases.proofs.AcknowledgingLaws.{acknowledging-keeps, acknowledging-acknowledged}
 use Rattle.lock_phases.proofs.SentBodies.{ack-said_by}
 use Rattle.round_model.specs.RoundStates.{Table, processors, messages_heard}
 use Rattle.round_model.proofs.HeardMessages.{heard_of, heard_of-sender, nodes_after}
@@ -47,11 +49,11 @@ IsSafe-acknowledging c table nodes round e safe = record {
     unflagged : (j : ℕ) → (after j).owes_ack ≡ true → ⊥
     unflagged j f = let clash = sym (keeps j).owes_ack ∙ f in cc
 
-    acknowledged : (p i : ℕ) (m : Message) → heard_of c table nodes p round i ≡ Some m → is_ack (body_of m).kind ≡ true → (nodes i).owes_ack ≡ true
-    acknowledged p i m h t = ack-said_by (nodes i) (body_of m) (heard_of-sender c table nodes p round i m h).said t
+    acknowledged : (p i : ℕ) → IsHeardToSay (heard_of c table nodes p round) acknowledging i → (nodes i).owes_ack ≡ true
+    acknowledged p i h = ack-said_by (nodes i) (body_of h.message) (heard_of-sender c table nodes p round i h.message h.is_heard).said h.said
 
     decided : (j v : ℕ) → (after j).decision ≡ Some v → ((nodes j).decision ≡ Some v) ⊎ IsAcknowledged c (nodes j) j o (λ i. (nodes i).owes_ack) v
-    decided j v d = decision-step c (nodes j) j round (heard_of c table nodes j round) v (λ i. (nodes i).owes_ack) e d (acknowledged j)
+    decided j v d = acknowledging-acknowledged c (nodes j) j round (heard_of c table nodes j round) e v (λ i. (nodes i).owes_ack) d (acknowledged j)
 
     old : (v : ℕ) → IsAnchored c nodes phase 3 v → IsAnchored c after phase 4 v
     old v a = record {

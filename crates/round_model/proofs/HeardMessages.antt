@@ -8,7 +8,8 @@ use Rattle.lock_phases.specs.Nodes.{State}
 use Rattle.lock_phases.specs.Messages.{Message, sender_of, body_of}
 use Rattle.lock_phases.specs.NodeFunctions.{out, next}
 use Rattle.lock_phases.proofs.Membership.{Contains-from_filter_map}
-use Rattle.lock_phases.proofs.SentBodies.{IsSaidBy, out-said_by}
+use Rattle.lock_phases.specs.Hearing.{IsSaidBy}
+use Rattle.lock_phases.proofs.SentBodies.{out-said_by}
 use Rattle.round_model.specs.RoundStates.{Table, processors, messages_heard}
 
 -- what p hears of a sender, if anything

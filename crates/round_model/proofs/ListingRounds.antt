@@ -5,11 +5,12 @@ use Rattle.std.proofs.lemmas.Bool.{eqb-true}
 use Rattle.step_trace.specs.Configurations.{Setup, IsSetup}
 use Rattle.lock_phases.specs.Rounds.{phase_of, part_of, owner}
 use Rattle.lock_phases.specs.Nodes.{State, LockPair}
-use Rattle.lock_phases.specs.Messages.{Message, body_of}
-use Rattle.lock_phases.specs.Quorums.{lists}
+use Rattle.lock_phases.specs.Messages.{body_of}
+use Rattle.lock_phases.specs.Hearing.{IsHeardToSay, listing}
+use Rattle.lock_phases.specs.NodeLaws.{ListingKeeps}
 use Rattle.lock_phases.proofs.LockLaws.{is_acceptable-locked}
 use Rattle.lock_phases.proofs.QuorumLaws.{Contains-from_lists}
-use Rattle.lock_phases.proofs.ListingLaws.{ListingKeeps, listing-keeps, quorum-step}
+use Rattle.lock_phases.proofs.ListingLaws.{listing-keeps, listing-refused}
 use Rattle.lock_phases.proofs.SentBodies.{listed-said_by}
 use Rattle.round_model.specs.RoundStates.{Table, messages_heard}
 use Rattle.round_model.proofs.HeardMessages.{heard_of, heard_of-sender, nodes_after}
@@ -25,11 +26,10 @@ proposed-anchored c table nodes round v w setup e a proposes = go (eqb w v) refl
     o = owner c.n (phase_of round)
 
     -- who holds v since its anchor lists no other value
-    silent : (w ≡ v → ⊥) → (j : ℕ) (m : Message) → heard_of c table nodes o round j ≡ Some m → lists m w ≡ true
-        → is_locked_since a.anchor v (nodes j).locks ≡ true → ⊥
-    silent other j m h l s =
-        let said = (heard_of-sender c table nodes o round j m h).said in
-        let acceptable = (listed-said_by (nodes j) (body_of m) w said (Contains-from_lists m w l)).1 in
+    silent : (w ≡ v → ⊥) → (j : ℕ) → is_locked_since a.anchor v (nodes j).locks ≡ true → IsHeardToSay (heard_of c table nodes o round) (listing w) j → ⊥
+    silent other j s h =
+        let said = (heard_of-sender c table nodes o round j h.message h.is_heard).said in
+        let acceptable = (listed-said_by (nodes j) (body_of h.message) w said (Contains-from_lists h.message w h.said)).1 in
         let lock = IsLockSince-from_test a.anchor v (nodes j).locks s in
         other (sym (is_acceptable-locked (nodes j).locks w lock.lock acceptable lock.held) ∙ lock.value)
 
@@ -37,7 +37,7 @@ proposed-anchored c table nodes round v w setup e a proposes = go (eqb w v) refl
     go true t = eqb-true w v t
     go false t =
         let quiet = silent (λ s. let clash = sym (eq-eqb w v s) ∙ t in cc) in
-        let few = quorum-step c (nodes o) o round (heard_of c table nodes o round) w (λ j. is_locked_since a.anchor v (nodes j).locks) setup e refl proposes quiet in
+        let few = listing-refused c (nodes o) round (heard_of c table nodes o round) setup e w (λ j. is_locked_since a.anchor v (nodes j).locks) proposes quiet in
         let many = a.holders in
         absurd (omega arith)
 

@@ -4,8 +4,9 @@ use Rattle.std.specs.Prelude.{Contains}
 use Rattle.step_trace.specs.Configurations.{Setup}
 use Rattle.lock_phases.specs.Rounds.{phase_of, part_of, owner}
 use Rattle.lock_phases.specs.Nodes.{State, LockPair, value_of, phase_of_lock}
-use Rattle.lock_phases.proofs.LockingLaws.{LockingKeeps, locking-keeps, LockingLocks, locking-locks}
-use Rattle.lock_phases.proofs.LockLaws.{IsToldToLock}
+use Rattle.lock_phases.specs.Hearing.{IsToldToLock}
+use Rattle.lock_phases.specs.NodeLaws.{LockingKeeps, LockingLocks}
+use Rattle.lock_phases.proofs.LockingLaws.{locking-keeps, locking-locks}
 use Rattle.lock_phases.proofs.SentBodies.{lock-said_by}
 use Rattle.round_model.specs.RoundStates.{Table, messages_heard}
 use Rattle.round_model.proofs.HeardMessages.{nodes_after, messages_heard-said}

@@ -3,8 +3,9 @@ use Rattle.std.proofs.Common.{ℕ, ◌≡◌, ◌+◌, ◌≤◌, true, sym, ◌
 use Rattle.step_trace.specs.Configurations.{Setup}
 use Rattle.lock_phases.specs.Rounds.{phase_of, part_of}
 use Rattle.lock_phases.specs.Nodes.{State, LockPair, value_of, phase_of_lock}
-use Rattle.lock_phases.proofs.LockLaws.{IsTold}
-use Rattle.lock_phases.proofs.ReleasingLaws.{ReleasingKeeps, releasing-keeps}
+use Rattle.lock_phases.specs.Hearing.{IsTold}
+use Rattle.lock_phases.specs.NodeLaws.{ReleasingKeeps}
+use Rattle.lock_phases.proofs.ReleasingLaws.{releasing-keeps}
 use Rattle.lock_phases.proofs.SentBodies.{told-said_by}
 use Rattle.round_model.specs.RoundStates.{Table, messages_heard}
 use Rattle.round_model.proofs.HeardMessages.{nodes_after, messages_heard-said}
@@ -48,7 +49,7 @@ IsSafe-releasing c table nodes round e safe = record {
     still v a j h =
         let x = IsLockSince-from_test a.anchor v (nodes j).locks h in
         let since = x.since in
-        let kept = (keeps j).held x.lock x.held (λ lock t l. told v a j lock t (omega arith) ∙ sym x.value) in
+        let kept = (keeps j).held x.lock x.held (λ r. let later = r.later in r.other (told v a j r.releasing r.told (omega arith) ∙ sym x.value)) in
         is_locked_since-lock a.anchor v (after j).locks x.lock kept x.value x.since
 
     anchored : (v : ℕ) → IsAnchored c nodes (phase_of round) 4 v → IsAnchored c after (phase_of round + 1) 1 v

@@ -4,7 +4,8 @@ use Rattle.std.specs.Prelude.{Contains}
 use Rattle.std.proofs.lemmas.List.Elements.{Contains-get_or}
 use Rattle.step_trace.specs.Configurations.{Setup, IsSetup, IsProc}
 use Rattle.lock_phases.specs.Nodes.{State}
-use Rattle.lock_phases.specs.Messages.{Message, listed_values, sender_of, body_of}
+use Rattle.lock_phases.specs.Messages.{Message, sender_of, body_of}
+use Rattle.lock_phases.specs.Hearing.{IsHeardProper, IsHeardListed}
 use Rattle.lock_phases.proofs.Membership.{Contains-cons_cases, Contains-nil}
 use Rattle.lock_phases.proofs.OriginLaws.{proper-origin, proposal-origin, decision-origin}
 use Rattle.lock_phases.proofs.SentBodies.{listed-said_by}
@@ -29,13 +30,13 @@ HasInitialValues-after c table nodes round known p is = record {
     heard : List Message
     heard = messages_heard c table nodes p round
 
-    proper : (v : ℕ) → Contains (nodes p).proper v ⊎ ((m : Message) × Contains heard m × Contains (body_of m).proper v) → Contains c.init v
+    proper : (v : ℕ) → Contains (nodes p).proper v ⊎ IsHeardProper heard v → Contains c.init v
     proper v (inl d) = (known p is).proper v d
     proper v (inr r) =
         let h = messages_heard-said c table nodes p round r.0 r.1 in
         (known (sender_of r.0) h.sender).proper v (subst (λ xs. Contains xs v) h.said.proper r.2)
 
-    proposal : (v : ℕ) → ((nodes p).proposal ≡ Some v) ⊎ ((m : Message) × Contains heard m × Contains (listed_values (body_of m).kind) v) → Contains c.init v
+    proposal : (v : ℕ) → ((nodes p).proposal ≡ Some v) ⊎ IsHeardListed heard v → Contains c.init v
     proposal v (inl e) = (known p is).proposal v e
     proposal v (inr r) =
         let h = messages_heard-said c table nodes p round r.0 r.1 in

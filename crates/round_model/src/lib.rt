@@ -3,9 +3,11 @@
 #![tactic(auto)]
 
 mod agreements;
+mod bounded_decisions;
 mod heard_sets;
 mod rounds;
 
 pub use agreements::agreement;
+pub use bounded_decisions::decided_by;
 pub use heard_sets::{Heard, MAX_ROUNDS};
 pub use rounds::{decided, run_rounds};

@@ -1,13 +1,16 @@
 //! Rounds over a table of who heard whom.
 
-ghost use Rattle.std.specs.Prelude.{◌≡◌, ◌≤◌, IfOk, OnOk, length};
+ghost use Rattle.std.specs.Prelude.{◌≡◌, ◌≤◌, ◌*◌, ℕ, IfOk, OnOk, length};
 ghost use Rattle.step_trace.specs.Configurations.{IsProc, IsSetup};
+ghost use Rattle.step_trace.specs.Processors.{IsWithin};
 ghost use Rattle.round_model.specs.RoundStates.{messages_heard, states_after};
 ghost use Rattle.round_model.specs.Agreement.{AgreeAll, AreInitialValues};
+ghost use Rattle.round_model.specs.BoundedDecision.{IsInTouch, HearsAllOf, deciding_round, HaveDecided, HoldOneValue, LocksAreProper};
 ghost use Rattle.round_model.specs.HeardSets.{table_of, rows_of};
 ghost use Rattle.round_model.specs.NodeLists.{node_of, opening_nodes, messages_of_round, nodes_after_round, first_decision};
 
 use crate::agreements::agreement;
+use crate::bounded_decisions::decided_by;
 use crate::heard_sets::Heard;
 use lock_phases::{Body, Node};
 use std::alloc::{AllocError, Global};
@@ -18,16 +21,27 @@ use step_trace::Config;
 ///
 /// In a round each processor sends what its node has to send, hears what was sent to it by the senders in
 /// its set of the round, and computes. Whatever the table, no two of the nodes decide differently, and
-/// what they decide is somebody's initial value. Asks that the table has the configuration's number of
-/// processors.
+/// what they decide is somebody's initial value. Where the processors of a set of at least N - t hear one
+/// another from some round on, and the table has rounds enough, each of them has decided (`decided_by`). Asks
+/// that the table has the configuration's number of processors.
 pub fn run_rounds(alloc: Global, config: &Config, heard: &Heard) -> Result<Vec<Node>, AllocError>
     requires { heard.now.n ≡ config.now.n }
     ensures states { IfOk result
         (λ nodes. nodes.items ≡ states_after config.now (table_of heard.now) heard.now.rounds) }
     ensures agreement { IfOk result (λ nodes. AgreeAll nodes.items) }
     ensures validity { IfOk result (λ nodes. AreInitialValues config.now nodes.items) }
+    ensures decided { IfOk result
+        (λ nodes. (set first : ℕ) → IsInTouch config.now set (table_of heard.now) first (deciding_round config.now first) →
+        deciding_round config.now first ≤ heard.now.rounds → HaveDecided set (node_of nodes.items)) }
+    ensures one_lock { IfOk result
+        (λ nodes. (set phase : ℕ) → IsWithin set config.now.n → 1 ≤ phase → heard.now.rounds ≡ 4 * phase →
+        HearsAllOf set (table_of heard.now) (4 * phase) → HoldOneValue set (node_of nodes.items)) }
+    ensures proper { IfOk result
+        (λ nodes. (set phase : ℕ) → IsWithin set config.now.n → 1 ≤ phase → heard.now.rounds ≡ 4 * phase →
+        HearsAllOf set (table_of heard.now) (4 * phase) → LocksAreProper set (node_of nodes.items)) }
 {
     agreement();
+    decided_by();
     let mut nodes = opening_nodes(alloc, config)?;
     for passed in 0..heard.rounds() {
         run_round(alloc, config, heard, passed + 1, &mut nodes)?;

@@ -21,7 +21,11 @@ pub mod PostSteps
 pub mod TakenSteps
 pub mod RoundEnds
 pub mod Openings
+mod CopiedProcessors
 pub mod HeardNow
 pub mod HeardInboxes
 pub mod ReceivedProcessors
 pub mod FittingTakes
+pub mod RunSteps
+pub mod MissingMessages
+pub mod ReplayedSteps

@@ -2,6 +2,7 @@
 use Rattle.std.proofs.Common.{ℕ, zero, suc, ◌≡◌, ◌≢◌, ◌+◌, ◌-◌, ◌<◌, ◌≤◌, ◌⊎◌, inl, inr, ◌↔◌, List, [], ◌∷◌, ◌++◌, length, get_or, Some, Bool, true, false, ◌==◌, ◌&&◌, Vec, Global, refl, sym, ap, ◌∙◌, subst, arith}
 use Rattle.std.specs.Prelude.{Contains, slice_get, slice_set}
 use Rattle.std.proofs.lemmas.Option.{same_Some, none-some, slice_get_within, slice_get_read, get_or_from_slice_get}
+use Rattle.step_trace.specs.declared.traces.TheConstants.{MAX_STEPS}
 use Rattle.step_trace.specs.declared.steps.Act.TheVariants.{Send}
 use Rattle.step_trace.specs.declared.steps.Step.{Step}
 use Rattle.step_trace.specs.Configurations.{Setup, IsProc}
@@ -55,7 +56,7 @@ IsProc-next_send c steps p to due =
     (n, slice_get_within dests n to at, get_or_from_slice_get dests n to to at)).0
 
 -- nothing is against a Send
-pub Fits-sent : (c : Setup) (steps : List Step) (p to : ℕ) → length steps < 1000000 → IsProc c p → IsProc c to → Fits c steps (record { proc = p; act = Send to })
+pub Fits-sent : (c : Setup) (steps : List Step) (p to : ℕ) → length steps < MAX_STEPS → IsProc c p → IsProc c to → Fits c steps (record { proc = p; act = Send to })
 Fits-sent c steps p to room is dest = record {
   room = room;
   proc = is;

@@ -34,13 +34,63 @@ taken-sent c steps p s ends ids w d =
     let l = e.0 in
     (e.1.0, sym (step_at-prefix steps (x ∷ []) s (omega arith)) ∙ e.1.1)
 
+-- those messages of two lists that pass a test
+abbrev pub IsOfThese : (ℕ → Bool) → List ℕ → List ℕ → ℕ → Type 0
+IsOfThese test inbox ids s = (Contains inbox s ⊎ Contains ids s) × (test s ≡ true)
+
+-- where all of the first list pass it, those of the second are added
+pub added-these : (test : ℕ → Bool) (inbox ids : List ℕ) (s : ℕ) → (Contains inbox s → test s ≡ true) → Contains (inbox ++ filter test ids) s ↔ IsOfThese test inbox ids s
+added-these test inbox ids s all = (forth, back)
+  where
+    forth : Contains (inbox ++ filter test ids) s → IsOfThese test inbox ids s
+    forth d = elim (Contains-append_cases inbox (filter test ids) s d) [
+      | inl e ↦ (inl e, all e)
+      | inr e ↦ let r = Contains-from_filter test ids s e in (inr r.0, r.1)
+    ]
+
+    back : IsOfThese test inbox ids s → Contains (inbox ++ filter test ids) s
+    back is = elim is.0 [
+      | inl e ↦ Contains-append_left inbox (filter test ids) s e
+      | inr e ↦ Contains-append_right inbox (filter test ids) s (Contains-filter test ids s e is.1)
+    ]
+
+-- or all are tested in the end
+pub tested-these : (test : ℕ → Bool) (inbox ids : List ℕ) (s : ℕ) → Contains (filter test (inbox ++ filter test ids)) s ↔ IsOfThese test inbox ids s
+tested-these test inbox ids s = (forth, back)
+  where
+    forth : Contains (filter test (inbox ++ filter test ids)) s → IsOfThese test inbox ids s
+    forth d =
+        let r = Contains-from_filter test (inbox ++ filter test ids) s d in
+        elim (Contains-append_cases inbox (filter test ids) s r.0) [
+          | inl e ↦ (inl e, r.1)
+          | inr e ↦ (inr (Contains-from_filter test ids s e).0, r.1)
+        ]
+
+    back : IsOfThese test inbox ids s → Contains (filter test (inbox ++ filter test ids)) s
+    back is = Contains-filter test (inbox ++ filter test ids) s
+        (elim is.0 [
+          | inl e ↦ Contains-append_left inbox (filter test ids) s e
+          | inr e ↦ Contains-append_right inbox (filter test ids) s (Contains-filter test ids s e is.1)
+        ])
+        is.1
+
+-- what is in the inbox is of the round of its processor or of a later one
+pub inbox-ahead : (c : Setup) (steps : List Step) (p s round : ℕ) (inbox : List ℕ) (letters : List (Option Letter)) → AreLetters c steps letters
+    → ((i : ℕ) → Contains inbox i ↔ IsKept steps p i) → round ≡ passed steps p + 1 → Contains inbox s → nat_le round (round_of letters s) ≡ true
+inbox-ahead c steps p s round inbox letters are old now d =
+    let is = (old s).0 d in
+    let e = round_of-sent c steps letters is.sender p s are is.sent in
+    let a = is.ahead in
+    le-leb round (round_of letters s) (omega arith)
+
 -- The inbox after a Receive: of the messages that were in it and those that are taken, the ones of the
 -- round that the processor is in then, and of later ones.
-pub inbox-taken : (c : Setup) (steps : List Step) (p s round : ℕ) (ends : Bool) (ids inbox : List ℕ) (letters : List (Option Letter))
+pub inbox-taken : (c : Setup) (steps : List Step) (p s round : ℕ) (ends : Bool) (ids inbox new : List ℕ) (letters : List (Option Letter))
     → IsWellFormed c (steps ++ record { proc = p; act = Receive ends ids } ∷ []) → AreLetters c steps letters
     → ((i : ℕ) → Contains inbox i ↔ IsKept steps p i) → round ≡ passed (steps ++ record { proc = p; act = Receive ends ids } ∷ []) p + 1
-    → Contains (filter (λ i. nat_le round (round_of letters i)) (inbox ++ ids)) s ↔ IsKept (steps ++ record { proc = p; act = Receive ends ids } ∷ []) p s
-inbox-taken c steps p s round ends ids inbox letters w are old now = (forth, back)
+    → Contains new s ↔ IsOfThese (λ i. nat_le round (round_of letters i)) inbox ids s
+    → Contains new s ↔ IsKept (steps ++ record { proc = p; act = Receive ends ids } ∷ []) p s
+inbox-taken c steps p s round ends ids inbox new letters w are old now these = (λ d. (let r = these.0 d in kept r.1 r.0), back)
   where
     x : Step
     x = record { proc = p; act = Receive ends ids }
@@ -59,20 +109,16 @@ inbox-taken c steps p s round ends ids inbox letters w are old now = (forth, bac
         let q = taken-sent c steps p s ends ids w d in
         IsKept-from_after steps x p s (record { sender = q.0; sent = q.1; ahead = ahead q.0 q.1 t; how = inr (refl, d) })
 
-    forth : Contains (filter (λ i. nat_le round (round_of letters i)) (inbox ++ ids)) s → IsKept (steps ++ x ∷ []) p s
-    forth d =
-        let r = Contains-from_filter (λ i. nat_le round (round_of letters i)) (inbox ++ ids) s d in
-        kept r.1 (Contains-append_cases inbox ids s r.0)
-
-    back : IsKept (steps ++ x ∷ []) p s → Contains (filter (λ i. nat_le round (round_of letters i)) (inbox ++ ids)) s
+    back : IsKept (steps ++ x ∷ []) p s → Contains new s
     back k =
         let is = IsKeptAfter-from_kept c steps x p s w k in
         let e = round_of-sent c steps letters is.sender p s are is.sent in
         let a = is.ahead in
         let more : passed steps p ≤ passed (steps ++ x ∷ []) p = let sum = passed-append steps (x ∷ []) p in omega arith in
-        Contains-filter (λ i. nat_le round (round_of letters i)) (inbox ++ ids) s
-        (elim is.how [
-          | inl t ↦ Contains-append_left inbox ids s ((old s).1 (record { sender = is.sender; sent = is.sent; taken = t; ahead = omega arith }))
-          | inr t ↦ Contains-append_right inbox ids s t.1
-        ])
-        (le-leb round (round_of letters s) (omega arith))
+        these.1 (
+          elim is.how [
+            | inl t ↦ inl ((old s).1 (record { sender = is.sender; sent = is.sent; taken = t; ahead = omega arith }))
+            | inr t ↦ inr t.1
+          ],
+          le-leb round (round_of letters s) (omega arith),
+        )

@@ -25,6 +25,11 @@ taken_ids Nothing waiting = []
 taken_ids (Oldest n) waiting = take n waiting
 taken_ids (These ids) waiting = ids.now
 
+-- the ids that a move names, of messages that it is to take
+abbrev pub named_ids : Move → List ℕ
+named_ids (Receive (These ids) ends) = ids.now
+named_ids move = []
+
 -- where p sends next; None where all messages of its round are out
 abbrev pub next_send : Setup → List Step → ℕ → Option ℕ
 next_send c steps p = next_destination c steps p (length steps + 1)

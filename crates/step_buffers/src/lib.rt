@@ -4,16 +4,20 @@
 #![tactic(auto)]
 
 mod appends;
+mod copies;
+mod kept_messages;
 mod laws;
 mod letters;
 mod moves;
 mod processors;
 mod receives;
+mod replays;
 mod sends;
 mod steps;
 mod takes;
 mod worlds;
 
-pub use laws::run_laws;
+pub use laws::{refusal_laws, run_laws};
 pub use moves::{Done, Move, StepError, Take};
+pub use replays::{ReplayError, replay};
 pub use worlds::World;

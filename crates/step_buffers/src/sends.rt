@@ -1,20 +1,23 @@
 //! A Send.
 
-ghost use Rattle.std.specs.Prelude.{◌≡◌, ◌<◌, ◌++◌, ◌∷◌, [], length, Some, None, IfOk, OnOk, OnErr, IfErr, ◌+◌, is_none, if◌then◌else◌};
+ghost use Rattle.std.specs.Prelude.{List, ◌-◌, slice_get, vec_len, vec_capacity, ◌≡◌, ◌<◌, ◌++◌, ◌∷◌, [], length, Some, None, IfOk, OnOk, OnErr, IfErr, ◌+◌, ◌≤◌, is_none, IsSome, if◌then◌else◌};
 ghost use Rattle.step_trace.specs.declared.traces.TheConstants.{MAX_STEPS};
-ghost use Rattle.step_trace.specs.Configurations.{IsProc};
+ghost use Rattle.step_trace.specs.declared.steps.Step.{Step as TraceStep};
+ghost use Rattle.step_trace.specs.Configurations.{Setup, IsProc};
+ghost use Rattle.step_trace.specs.Traces.{IsWellFormed};
+ghost use Rattle.step_trace.specs.PushRefusals.{refusal};
 ghost use Rattle.lock_phases.specs.NodeFunctions.{out};
 ghost use Rattle.step_buffers.specs.HeardTables.{passed};
 ghost use Rattle.step_buffers.specs.Runs.{node_at};
 ghost use Rattle.step_buffers.specs.Moves.{next_send, IsStepRefusal};
-ghost use Rattle.step_buffers.specs.Worlds.{IsWorld};
+ghost use Rattle.step_buffers.specs.Worlds.{AreProcessors, IsWorld};
 
 use crate::appends::append;
 use crate::letters::Letter;
 use crate::moves::StepError;
-use crate::processors::{Processor, next_message};
+use crate::processors::{Processor, next_destination};
 use std::alloc::{AllocError, Global};
-use step_trace::{Act, Step, Trace};
+use step_trace::{Act, Config, Step, Trace};
 
 /// Sends what processor `p` has to send next, and answers where it went.
 pub(crate) fn send(
@@ -35,29 +38,44 @@ pub(crate) fn send(
     ensures err { OnErr result (trace.new ≡ trace.old) }
 {
     let sender = &processors[(p - 1) as usize];
-    let next = next_message(
-        alloc,
-        trace.config(),
-        p,
-        sender.round,
-        sender.last,
-        &sender.node,
-    );
-    match next {
+    let next = next_destination(trace.config(), p, sender.round, sender.last, &sender.node);
+    let Some(to) = next else {
+        return Err(StepError::NothingToSend);
+    };
+    let Ok(letter) = letter_to(alloc, trace.config(), sender, p, to) else {
+        return Err(StepError::Memory);
+    };
+    match post(trace, letters, processors, p, to, letter) {
+        Ok(()) => Ok(to),
         Err(_) => Err(StepError::Memory),
-        Ok(None) => Err(StepError::NothingToSend),
-        Ok(Some((to, body))) => {
-            let letter = Letter {
-                sender: p,
-                round: sender.round,
-                body,
-            };
-            match post(trace, letters, processors, p, to, letter) {
-                Ok(()) => Ok(to),
-                Err(_) => Err(StepError::Memory),
-            }
-        }
     }
+}
+
+// What `p` sends to a processor to which it sends anything.
+fn letter_to(
+    alloc: Global,
+    config: &Config,
+    sender: &Processor,
+    p: u64,
+    to: u64,
+) -> Result<Letter, AllocError>
+    requires processor { IsProc config.now p }
+    requires receiver { IsProc config.now to }
+    requires positive { 1 ≤ sender.now.round }
+    requires sends { IsSome (out config.now sender.now.node p sender.now.round to) }
+    ensures sender { IfOk result (λ letter. letter.sender ≡ p) }
+    ensures round { IfOk result (λ letter. letter.round ≡ sender.now.round) }
+    ensures body { IfOk result (λ letter. out config.now sender.now.node p sender.now.round to ≡ Some letter.body) }
+{
+    let round = sender.round;
+    let Some(body) = sender.node.out(alloc, config, p, round, to)? else {
+        unreachable!();
+    };
+    Ok(Letter {
+        sender: p,
+        round,
+        body,
+    })
 }
 
 // Sends a message of `p` to its next destination.
@@ -81,19 +99,61 @@ fn post(
     ensures step { OnOk result (trace.new.steps ≡ trace.old.steps ++ record { proc = p; act = Act.Send to } ∷ []) }
     ensures err { OnErr result (trace.new ≡ trace.old) }
 {
-    letters.reserve(1)?;
+    push_send(trace, letters, processors, p, to)?;
     let receiver = &mut processors[(to - 1) as usize];
-    receiver.buffer.reserve(1)?;
+    receiver.buffer.push_reserved(trace.len() as u64);
+    letters.push_reserved(Some(letter));
+    let sender = &mut processors[(p - 1) as usize];
+    sender.last = to;
+    Ok(())
+}
+
+// Appends a Send to the trace, and makes room for what it changes.
+fn push_send(
+    trace: &mut Trace,
+    letters: &mut Vec<Option<Letter>>,
+    processors: &mut Vec<Processor>,
+    p: u64,
+    to: u64,
+) -> Result<(), AllocError>
+    requires step { refusal trace.old.config trace.old.steps (record { proc = p; act = Act.Send to }) ≡ None }
+    requires low { 1 ≤ to }
+    requires high { to ≤ length processors.old.items }
+    ensures letters { letters.new.items ≡ letters.old.items }
+    ensures processors { (c : Setup) (steps : List TraceStep) → AreProcessors c steps processors.old.items → AreProcessors c steps processors.new.items }
+    ensures count { length processors.new.items ≡ length processors.old.items }
+    ensures place { OnOk result (vec_len letters.new < vec_capacity letters.new) }
+    ensures room { OnOk result ((x : Processor) → slice_get processors.new.items (to - 1) ≡ Some x → vec_len x.buffer < vec_capacity x.buffer) }
+    ensures appended { OnOk result (trace.new.steps ≡ trace.old.steps ++ record { proc = p; act = Act.Send to } ∷ []) }
+    ensures config { trace.new.config ≡ trace.old.config }
+    ensures well_formed { OnOk result (IsWellFormed trace.old.config (trace.old.steps ++ record { proc = p; act = Act.Send to } ∷ [])) }
+    ensures err { OnErr result (trace.new ≡ trace.old) }
+{
+    make_room(letters, processors, to)?;
     append(
         trace,
         Step {
             proc: p,
             act: Act::Send { to },
         },
-    )?;
-    receiver.buffer.push_reserved(trace.len() as u64);
-    letters.push_reserved(Some(letter));
-    let sender = &mut processors[(p - 1) as usize];
-    sender.last = to;
-    Ok(())
+    )
+}
+
+// Makes room for one more message, and for its id in the buffer of the processor that it goes to.
+fn make_room(
+    letters: &mut Vec<Option<Letter>>,
+    processors: &mut Vec<Processor>,
+    to: u64,
+) -> Result<(), AllocError>
+    requires low { 1 ≤ to }
+    requires high { to ≤ length processors.old.items }
+    ensures letters { letters.new.items ≡ letters.old.items }
+    ensures processors { (c : Setup) (steps : List TraceStep) → AreProcessors c steps processors.old.items → AreProcessors c steps processors.new.items }
+    ensures count { length processors.new.items ≡ length processors.old.items }
+    ensures place { OnOk result (vec_len letters.new < vec_capacity letters.new) }
+    ensures room { OnOk result ((x : Processor) → slice_get processors.new.items (to - 1) ≡ Some x → vec_len x.buffer < vec_capacity x.buffer) }
+{
+    letters.reserve(1)?;
+    let receiver = &mut processors[(to - 1) as usize];
+    receiver.buffer.reserve(1)
 }

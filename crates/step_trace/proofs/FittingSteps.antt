@@ -44,7 +44,7 @@ rising_from-true x (y ∷ ys) h =
     rw (test, rising_from-true y ys (λ k l. let e : suc k + 1 ≡ suc (k + 1) = omega arith in rw e at (h (suc k) (let l' : k + 1 < length (y ∷ ys) = l in omega arith)))) refl
 
 -- and so it is for a whole list
-is_rising-from_increasing : (xs : List ℕ) → IsStrictlyIncreasing xs → is_rising xs ≡ true
+pub is_rising-from_increasing : (xs : List ℕ) → IsStrictlyIncreasing xs → is_rising xs ≡ true
 is_rising-from_increasing [] h = refl
 is_rising-from_increasing (x ∷ xs) h = rising_from-true x xs h
 

@@ -1,5 +1,5 @@
 -- What the matches and the faults of a command line say of its job and of its refusals.
-use Rattle.std.proofs.Common.{◌≡◌, ◌≢◌, ◌∙◌, ◌⊎◌, inl, inr, ap, sym, subst, refl, false, true, List, [], Option, Some, None, Result, Ok, Err, IfOk, IfErr, MatchResult, option_map, codes, string_bytes}
+use Rattle.std.proofs.Common.{ℕ, ◌≡◌, ◌≢◌, ◌∙◌, ◌⊎◌, inl, inr, get_or, arith, IfSome, ap, sym, subst, refl, false, true, List, [], Option, Some, None, Result, Ok, Err, IfOk, IfErr, MatchResult, option_map, codes, string_bytes}
 use Rattle.std.specs.Borrow.{Bor}
 use Rattle.clap.proofs.OnLiterals.{clap_on_literals}
 use Rattle.clap.proofs.WalkLemmas.{first_value-rows}
@@ -15,9 +15,9 @@ use Rattle.synchrony.specs.declared.command_line.Job.{Job}
 use Rattle.synchrony.specs.declared.command_line.Job.TheVariants as job
 use Rattle.synchrony.specs.declared.faults.Fault.{Fault}
 use Rattle.synchrony.specs.declared.faults.Fault.TheVariants as fault
-use Rattle.synchrony.specs.Commands.{AsksForReport, NamesReport, is_flag, program, report_line}
-use Rattle.synchrony.specs.Jobs.{IsHelpFor, IsJobIn, IsJobOf, IsLineFault, IsListFault, IsNoList, IsRefusalFor, IsRefusalIn, IsRefusalOf, IsReport}
-use Rattle.synchrony.proofs.ReportLines.{asks_for_report, faultless}
+use Rattle.synchrony.specs.Commands.{AsksForReplay, AsksForReport, NamesReplay, NamesReport, is_flag, program, replay_line, report_line}
+use Rattle.synchrony.specs.Jobs.{IsHelpFor, IsJobIn, IsJobOf, IsLineFault, IsListFault, IsMemory, IsNoList, IsRefusalFor, IsRefusalIn, IsRefusalOf, IsReplay, IsReport}
+use Rattle.synchrony.proofs.CommandLines.{asks_for_replay, asks_for_report, replay_faultless, report_faultless}
 
 same_some : {A : Type 0} (a b : A) → Some a ≡ Some b → a ≡ b
 same_some a b e = cc
@@ -36,13 +36,13 @@ pub named_rows : (m : ArgMatches) (name : Text) (rows : List Row) → subcommand
     → option_map (λ (p : Text × List Row). p.1) (subcommand_rows_of m) ≡ Some rows → subcommand_rows_of m ≡ Some (name, rows)
 named_rows m name rows named has = both_sides _ _ _ name rows named has
 
--- the command `report`, by the matches below it
-pub report_rows : (m : ArgMatches) (sub : Option (Bor Text × Bor ArgMatches)) (name : Bor Text) (found : Bor ArgMatches)
+-- a command, by the matches below it
+pub command_rows : (m : ArgMatches) (sub : Option (Bor Text × Bor ArgMatches)) (name : Bor Text) (found : Bor ArgMatches) (word : Text)
     → option_map (λ (p : Bor Text × Bor ArgMatches). p.0.now) sub ≡ subcommand_name_of m
     → option_map (λ (p : Bor Text × Bor ArgMatches). rows_of (found_of p.1.now)) sub ≡ option_map (λ (p : Text × List Row). p.1) (subcommand_rows_of m)
-    → sub ≡ Some (name, found) → name.now ≡ codes "report" → subcommand_rows_of m ≡ Some (codes "report", rows_of (found_of found.now))
-report_rows m sub name found named rows is is_report = named_rows m (codes "report") (rows_of (found_of found.now))
-    (sym named ∙ ap (option_map (λ (p : Bor Text × Bor ArgMatches). p.0.now)) is ∙ ap Some is_report)
+    → sub ≡ Some (name, found) → name.now ≡ word → subcommand_rows_of m ≡ Some (word, rows_of (found_of found.now))
+command_rows m sub name found word named rows is is_word = named_rows m word (rows_of (found_of found.now))
+    (sym named ∙ ap (option_map (λ (p : Bor Text × Bor ArgMatches). p.0.now)) is ∙ ap Some is_word)
     (sym rows ∙ ap (option_map (λ (p : Bor Text × Bor ArgMatches). rows_of (found_of p.1.now))) is)
 
 -- a value that a getter reads is that of the rows
@@ -68,14 +68,39 @@ one_file : (sub : Option (Text × List Row)) (f l g m : Text) → NamesReport su
 one_file sub f l g m a b =
     let other = values_in sub a.rows a.named g m b in (same_some f g (sym a.file_is ∙ other.0), same_some l m (sym a.list_is ∙ other.1))
 
--- a refusal where no report is named
-pub nothing_named : (sub : Option (Text × List Row)) (w : Fault) → IsLineFault w → ((file list : Text) → ¬ NamesReport sub file list) → IsRefusalIn sub w
-nothing_named sub (fault.Command text) h none = inr none
-nothing_named sub fault.Set h none = absurd h
-nothing_named sub (fault.Trace e) h none = absurd h
-nothing_named sub fault.Memory h none = absurd h
-nothing_named sub fault.Read h none = absurd h
-nothing_named sub (fault.Write n) h none = absurd h
+-- where `replay` is named, its rows have the file
+pub replayed_in : (sub : Option (Text × List Row)) (rows : List Row) → sub ≡ Some (codes "replay", rows) → (file : Text) → NamesReplay sub file
+    → first_of (codes "file") rows ≡ Some file
+replayed_in sub rows named file h =
+    let same = ap (λ (p : Text × List Row). p.1) (same_some (codes "replay", h.rows) (codes "replay", rows) (sym h.named ∙ named)) in
+    ap (first_of (codes "file")) (sym same) ∙ h.file_is
+
+one_replayed : (sub : Option (Text × List Row)) (f g : Text) → NamesReplay sub f → NamesReplay sub g → f ≡ g
+one_replayed sub f g a b = same_some f g (sym a.file_is ∙ replayed_in sub a.rows a.named g b)
+
+-- no subcommand is both
+one_command : (sub : Option (Text × List Row)) (f l g : Text) → NamesReport sub f l → NamesReplay sub g → ⊥
+one_command sub f l g a b =
+    let same : codes "report" ≡ codes "replay" = ap (λ (p : Text × List Row). p.0) (same_some _ _ (sym a.named ∙ b.named)) in
+    let letter : ◌≡◌ {A = ℕ} 111 108 = ap (λ (word : Text). get_or word 3 0) same in absurd (omega arith)
+
+-- the file of `replay`, where a getter reads it
+pub replay_found : (m found : ArgMatches) (a : Option (Bor Text)) → subcommand_rows_of m ≡ Some (codes "replay", rows_of (found_of found))
+    → option_map (λ s. s.now) a ≡ first_value (found_of found) (codes "file") → IfSome a (λ file. NamesReplay (subcommand_rows_of m) file.now)
+replay_found m found None named in_rows = tt
+replay_found m found (Some file) named in_rows =
+    record { rows = rows_of (found_of found); named = named; file_is = has_value found (codes "file") (Some file) file in_rows refl }
+
+-- a refusal where no job is named
+pub nothing_named : (sub : Option (Text × List Row)) (w : Fault) → IsLineFault w → ((file list : Text) → ¬ NamesReport sub file list)
+    → ((file : Text) → ¬ NamesReplay sub file) → IsRefusalIn sub w
+nothing_named sub (fault.Command text) h report replay = inr (record { no_report = report; no_replay = replay })
+nothing_named sub fault.Set h report replay = absurd h
+nothing_named sub (fault.Trace e) h report replay = absurd h
+nothing_named sub fault.Memory h report replay = absurd h
+nothing_named sub fault.Read h report replay = absurd h
+nothing_named sub (fault.Write n) h report replay = absurd h
+nothing_named sub (fault.NotARun n) h report replay = absurd h
 
 -- the parse of the program's command line is known
 is_simple_program : is_simple program ≡ true
@@ -96,6 +121,7 @@ kinds_known a words error e h = subst (λ b. HasKind (fault_of b words) error) e
 -- what the matches name, the words ask for
 pub job_of : (words : List Text) (sub : Option (Text × List Row)) → sub ≡ subcommand_of program words → (j : Job) → IsJobIn sub j → IsJobOf words j
 job_of words sub e (job.Report name set) h = subst (λ s. IsJobIn s (job.Report name set)) e h
+job_of words sub e (job.Replay name) h = subst (λ s. IsJobIn s (job.Replay name)) e h
 job_of words sub e (job.Help text) h = absurd h
 
 -- and what is refused in them is refused in the words
@@ -106,6 +132,7 @@ refusal_of words sub e (fault.Trace why) h = h
 refusal_of words sub e fault.Memory h = h
 refusal_of words sub e fault.Read h = h
 refusal_of words sub e (fault.Write n) h = h
+refusal_of words sub e (fault.NotARun n) h = h
 
 -- a kind of error that isn't want of memory is one of the words' faults
 among : (words : List Text) (kind : ErrorKind) → kind ≢ OutOfMemory → (kind ≡ OutOfMemory) ⊎ IsAmong kind (fault_of program words) → IsAmong kind (fault_of program words)
@@ -115,6 +142,7 @@ among words kind other (inr h) = h
 -- a text for an error of the words that asks for help
 pub help_of : (words : List Text) (kind : ErrorKind) → (kind ≡ OutOfMemory) ⊎ IsAmong kind (fault_of program words) → (j : Job) → IsHelpFor kind j → IsJobOf words j
 help_of words kind has (job.Report file set) h = absurd h
+help_of words kind has (job.Replay file) h = absurd h
 help_of words kind has (job.Help text) h = record { kind = kind; among = among words kind h.0 has; help = h.1 }
 
 -- a refusal for an error of the words that asks for none
@@ -125,6 +153,7 @@ misread_of words kind has (fault.Trace e) h = h
 misread_of words kind has fault.Memory h = h
 misread_of words kind has fault.Read h = h
 misread_of words kind has (fault.Write n) h = h
+misread_of words kind has (fault.NotARun n) h = h
 
 -- no error is among those of words that have none
 none_among : (kind : ErrorKind) (kinds : Kinds) → kinds ≡ [] → ¬ IsAmong kind kinds
@@ -135,6 +164,7 @@ line_job : (words : List Text) (file list : Text) → fault_of program words ≡
 line_job words file list none asks (job.Report name set) h =
     let same = one_file (subcommand_of program words) (string_bytes name) h.0 file list h.1 asks in
     (same.0, subst (λ l. IsSetIn l set) same.1 h.2)
+line_job words file list none asks (job.Replay name) h = absurd (one_command (subcommand_of program words) file list (string_bytes name) asks h)
 line_job words file list none asks (job.Help text) h = absurd (none_among h.kind (fault_of program words) none h.among)
 
 -- and their refusals
@@ -142,19 +172,47 @@ line_refusal : (words : List Text) (file list : Text) → fault_of program words
 line_refusal words file list none asks (fault.Command text) (inl h) = absurd (none_among h.kind (fault_of program words) none h.among)
 line_refusal words file list none asks (fault.Command text) (inr (inl h)) =
     (h.told, subst IsNoList (one_file (subcommand_of program words) h.file h.list file list h.named asks).1 h.no_list)
-line_refusal words file list none asks (fault.Command text) (inr (inr h)) = absurd (h file list asks)
+line_refusal words file list none asks (fault.Command text) (inr (inr h)) = absurd (h.no_report file list asks)
 line_refusal words file list none asks fault.Set h = h
 line_refusal words file list none asks (fault.Trace e) h = h
 line_refusal words file list none asks fault.Memory h = h
 line_refusal words file list none asks fault.Read h = h
 line_refusal words file list none asks (fault.Write n) h = h
+line_refusal words file list none asks (fault.NotARun n) h = h
 
 -- the line `report FILE --correct LIST` gives the report of that file for that list, unless the list is none
 pub line_is : (words : List Text) (r : Result Job Fault) → IfOk r (IsJobOf words) → IfErr r (IsRefusalOf words) → (name file list : Text)
     → words ≡ report_line name file list → is_flag file ≡ false → is_flag list ≡ false → MatchResult r (IsReport file list) (IsListFault list)
 line_is words (Ok j) h _ name file list line plain_file plain_list =
-    line_job words file list (ap (fault_of program) line ∙ faultless name file list plain_file plain_list)
+    line_job words file list (ap (fault_of program) line ∙ report_faultless name file list plain_file plain_list)
     (subst (λ ws. AsksForReport ws file list) (sym line) (asks_for_report name file list plain_file plain_list)) j h
 line_is words (Err w) _ h name file list line plain_file plain_list =
-    line_refusal words file list (ap (fault_of program) line ∙ faultless name file list plain_file plain_list)
+    line_refusal words file list (ap (fault_of program) line ∙ report_faultless name file list plain_file plain_list)
     (subst (λ ws. AsksForReport ws file list) (sym line) (asks_for_report name file list plain_file plain_list)) w h
+
+-- the same of a replay, which no list can keep from it
+replayed_job : (words : List Text) (file : Text) → fault_of program words ≡ [] → AsksForReplay words file → (j : Job) → IsJobOf words j → IsReplay file j
+replayed_job words file none asks (job.Report name set) h = absurd (one_command (subcommand_of program words) (string_bytes name) h.0 file h.1 asks)
+replayed_job words file none asks (job.Replay name) h = one_replayed (subcommand_of program words) (string_bytes name) file h asks
+replayed_job words file none asks (job.Help text) h = absurd (none_among h.kind (fault_of program words) none h.among)
+
+replayed_refusal : (words : List Text) (file : Text) → fault_of program words ≡ [] → AsksForReplay words file → (w : Fault) → IsRefusalOf words w → IsMemory w
+replayed_refusal words file none asks (fault.Command text) (inl h) = absurd (none_among h.kind (fault_of program words) none h.among)
+replayed_refusal words file none asks (fault.Command text) (inr (inl h)) = absurd (one_command (subcommand_of program words) h.file h.list file h.named asks)
+replayed_refusal words file none asks (fault.Command text) (inr (inr h)) = absurd (h.no_replay file asks)
+replayed_refusal words file none asks fault.Set h = h
+replayed_refusal words file none asks (fault.Trace e) h = h
+replayed_refusal words file none asks fault.Memory h = h
+replayed_refusal words file none asks fault.Read h = h
+replayed_refusal words file none asks (fault.Write n) h = h
+replayed_refusal words file none asks (fault.NotARun n) h = h
+
+-- the line `replay FILE` gives the replay of that file
+pub replay_is : (words : List Text) (r : Result Job Fault) → IfOk r (IsJobOf words) → IfErr r (IsRefusalOf words) → (name file : Text)
+    → words ≡ replay_line name file → is_flag file ≡ false → MatchResult r (IsReplay file) IsMemory
+replay_is words (Ok j) h _ name file line plain =
+    replayed_job words file (ap (fault_of program) line ∙ replay_faultless name file plain)
+    (subst (λ ws. AsksForReplay ws file) (sym line) (asks_for_replay name file plain)) j h
+replay_is words (Err w) _ h name file line plain =
+    replayed_refusal words file (ap (fault_of program) line ∙ replay_faultless name file plain)
+    (subst (λ ws. AsksForReplay ws file) (sym line) (asks_for_replay name file plain)) w h

@@ -1,3 +1,3 @@
 pub mod CommandJobs
 pub mod ReportFaults
-pub mod ReportLines
+pub mod CommandLines

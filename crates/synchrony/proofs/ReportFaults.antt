@@ -3,7 +3,7 @@ use Rattle.std.proofs.Common.{◌≡◌, ◌≢◌, ◌<◌, ℕ, false, List, l
 use Rattle.std.specs.Prelude.{nat_le}
 use Rattle.std.proofs.lemmas.Bool.Decides.{nat_tests}
 use Rattle.front.specs.ReportTexts.{report_text}
-use Rattle.front.specs.ReportWriting.{WroteBefore}
+use Rattle.trace_text.specs.TextWriting.{WroteBefore}
 use Rattle.step_trace.specs.declared.rows.Row.{Row}
 use Rattle.step_trace.specs.Processors.{IsWithin}
 use Rattle.step_trace.specs.Traces.{Recorded}
@@ -19,7 +19,8 @@ use Rattle.synchrony.specs.declared.faults.Fault.{Fault}
 use Rattle.synchrony.specs.declared.faults.Fault.TheVariants as fault
 use Rattle.synchrony.specs.Faults.{fault_of_text, fault_of_write}
 use Rattle.synchrony.specs.Printing.{IsWriteFault}
-use Rattle.synchrony.specs.Reports.{AreRowsOf, IsFaultOfReport, IsReadFault, IsReportFault, IsTextFault, IsTextOf}
+use Rattle.synchrony.specs.Inputs.{IsReadFault, IsTextOf, IsTraceFault}
+use Rattle.synchrony.specs.Reports.{AreRowsOf, IsFaultOfReport, IsReportFault, IsTextFault}
 
 -- what holds of the text that was read holds of the bytes that are known
 of_known : (P : List ℕ → Type 0) (text : List ℕ) (known : Option (List ℕ)) → IfSome known (λ xs. text ≡ xs) → P text → IfSome known P
@@ -39,11 +40,24 @@ unread_fault set old new before after (Some xs) why.Read h = tt
 unread_fault set old new before after (Some xs) why.Memory h = tt
 unread_fault set old new before after (Some xs) e h = absurd h
 
--- a refusal of the text is its first one
-pub refused_fault : (set : ℕ) (text : List ℕ) (e : TextError) → IsFirstRefusal text e → e ≢ why.Read → IsTextFault set text (fault_of_text e)
-refused_fault set text why.Read h other = absurd (other refl)
-refused_fault set text why.Memory h other = tt
-refused_fault set text e h other = h
+-- a fault of the trace that the text stands for is one of the text
+pub trace_fault : (set : ℕ) (text : List ℕ) (w : Fault) → IsTraceFault text w → IsTextFault set text w
+trace_fault set text (fault.Command words) h = absurd h
+trace_fault set text fault.Set h = absurd h
+trace_fault set text (fault.Trace e) h = h.0
+trace_fault set text fault.Memory h = tt
+trace_fault set text fault.Read h = absurd h
+trace_fault set text (fault.Write n) h = absurd h
+trace_fault set text (fault.NotARun n) h = absurd h
+
+pub own_trace_fault : (text : List ℕ) (w : Fault) → IsTraceFault text w → IsFaultOfReport w
+own_trace_fault text (fault.Command words) h = absurd h
+own_trace_fault text fault.Set h = absurd h
+own_trace_fault text (fault.Trace e) h = (h.1, h.2)
+own_trace_fault text fault.Memory h = tt
+own_trace_fault text fault.Read h = absurd h
+own_trace_fault text (fault.Write n) h = absurd h
+own_trace_fault text (fault.NotARun n) h = absurd h
 
 -- want of memory and a failed read are no refusals of a trace
 pub own_fault : (e : TextError) → IsFaultOfReport (fault_of_text e)
@@ -65,6 +79,7 @@ text_fault set text before after (fault.Trace e) h = h
 text_fault set text before after fault.Memory h = tt
 text_fault set text before after fault.Read h = tt
 text_fault set text before after (fault.Write n) h = absurd h
+text_fault set text before after (fault.NotARun n) h = absurd h
 
 -- it leaves the reader's faults and the writer as they were
 pub text_fault_reads : (set old new : ℕ) (text : List ℕ) (w : Fault) → IsTextFault set text w → new ≡ old → IsReadFault old new w

@@ -20,9 +20,17 @@ correct_rule = record (new_rule (codes "correct")) { long = Some (codes "correct
 abbrev pub report_app : App
 report_app = with_rule (with_rule (new_app (codes "report")) file_rule) correct_rule
 
--- the program, whose one command is `report`, and which has a version
+-- the program before it has commands, of which it requires one
+abbrev pub bare_program : App
+bare_program = on_top (λ s. record s { has_version = true; subcommand_required = true }) (new_app (codes "synchrony"))
+
+-- replay FILE
+abbrev pub replay_app : App
+replay_app = with_rule (new_app (codes "replay")) file_rule
+
+-- the program, which has a version and these commands
 abbrev pub program : App
-program = with_subcommand (on_top (λ s. record s { has_version = true; subcommand_required = true }) (new_app (codes "synchrony"))) report_app.top
+program = with_subcommand (with_subcommand bare_program report_app.top) replay_app.top
 
 -- a subcommand and its matches are `report` with this file and this list
 pub record NamesReport (sub : Option (Text × List Row)) (file list : Text) : Type 0 where
@@ -31,6 +39,17 @@ pub record NamesReport (sub : Option (Text × List Row)) (file list : Text) : Ty
   pub file_is : first_of (codes "file") rows ≡ Some file
   pub list_is : first_of (codes "correct") rows ≡ Some list
 
+-- a subcommand and its matches are `replay` with this file
+pub record NamesReplay (sub : Option (Text × List Row)) (file : Text) : Type 0 where
+  pub rows : List Row
+  pub named : sub ≡ Some (codes "replay", rows)
+  pub file_is : first_of (codes "file") rows ≡ Some file
+
+-- a subcommand and its matches name none of the jobs above
+pub record NamesNoJob (sub : Option (Text × List Row)) : Type 0 where
+  pub no_report : (file list : Text) → ¬ NamesReport sub file list
+  pub no_replay : (file : Text) → ¬ NamesReplay sub file
+
 -- the words ask for the report of this file, for this list
 abbrev pub AsksForReport : List Text → Text → Text → Type 0
 AsksForReport words file list = NamesReport (subcommand_of program words) file list
@@ -38,6 +57,10 @@ AsksForReport words file list = NamesReport (subcommand_of program words) file l
 -- an answer of this kind is a text that was asked for
 abbrev pub IsHelp : ErrorKind → Type 0
 IsHelp kind = (kind ≡ DisplayHelp) ⊎ (kind ≡ DisplayVersion)
+
+-- the words ask for the replay of this file
+abbrev pub AsksForReplay : List Text → Text → Type 0
+AsksForReplay words file = NamesReplay (subcommand_of program words) file
 
 -- the words ask for a help text
 pub record AsksForHelp (words : List Text) : Type 0 where
@@ -60,3 +83,7 @@ is_flag (b ∷ c ∷ rest) = b == 45
 -- the line `report FILE --correct LIST`, after the program's name
 abbrev pub report_line : Text → Text → Text → List Text
 report_line name file list = name ∷ codes "report" ∷ file ∷ codes "--correct" ∷ list ∷ []
+
+-- the line `replay FILE`, after the program's name
+abbrev pub replay_line : Text → Text → List Text
+replay_line name file = name ∷ codes "replay" ∷ file ∷ []

@@ -36,6 +36,7 @@ fault_line (fault.Trace reason) = codes "synchrony: trace: " ++ trace_words reas
 fault_line fault.Memory = codes "synchrony: out of memory"
 fault_line fault.Read = codes "synchrony: cannot read"
 fault_line (fault.Write written) = codes "synchrony: cannot write"
+fault_line (fault.NotARun number) = codes "synchrony: not a run: step " ++ decimal number
 
 -- the text with a line feed at its end, where it has none there
 abbrev pub ended_line : List ℕ → List ℕ

@@ -6,6 +6,8 @@ use Rattle.trace_text.specs.declared.refusals.TextError.{TextError}
 use Rattle.trace_text.specs.declared.refusals.TextError.TheVariants as why
 use Rattle.trace_text.specs.declared.refusals.WriteError.{WriteError}
 use Rattle.trace_text.specs.declared.refusals.WriteError.TheVariants as unwritten
+use Rattle.step_buffers.specs.declared.replays.ReplayError.{ReplayError}
+use Rattle.step_buffers.specs.declared.replays.ReplayError.TheVariants as unreplayed
 use Rattle.synchrony.specs.declared.faults.Fault.{Fault}
 use Rattle.synchrony.specs.declared.faults.Fault.TheVariants as fault
 
@@ -17,12 +19,18 @@ status_of (fault.Trace e) = 3
 status_of fault.Memory = 5
 status_of fault.Read = 6
 status_of (fault.Write written) = 6
+status_of (fault.NotARun number) = 7
 
 -- the fault that a refusal of a text is: want of memory and a failed read are faults of their own
 abbrev pub fault_of_text : TextError → Fault
 fault_of_text why.Read = fault.Read
 fault_of_text why.Memory = fault.Memory
 fault_of_text e = fault.Trace e
+
+-- the fault that a trace which wasn't replayed is
+abbrev pub fault_of_replay : ReplayError → Fault
+fault_of_replay (unreplayed.NotARun number) = fault.NotARun number
+fault_of_replay unreplayed.Memory = fault.Memory
 
 -- the fault that a text which wasn't written whole is
 abbrev pub fault_of_write : WriteError → Fault

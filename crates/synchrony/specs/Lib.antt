@@ -3,4 +3,7 @@ pub mod FaultLines
 pub mod Printing
 pub mod Commands
 pub mod Jobs
+pub mod Inputs
 pub mod Reports
+pub mod ReplayTexts
+pub mod Replays

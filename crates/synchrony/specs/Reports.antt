@@ -1,24 +1,16 @@
--- What the program makes of a trace text.
+-- What the program makes of a trace text in a report.
 use Rattle.std.specs.Prelude.{ℕ, ◌≡◌, ◌≢◌, ◌≤◌, List, length, take, Option, ⊤}
 use Rattle.std.specs.Io.KnownBytes.{Appends}
 use Rattle.step_trace.specs.declared.rows.Row.{Row}
 use Rattle.step_trace.specs.Processors.{IsWithin}
 use Rattle.step_trace.specs.Traces.{Recorded}
 use Rattle.step_trace.specs.Fronts.{IsReport}
-use Rattle.trace_text.specs.declared.byte_loops.TheConstants.{MAX_TEXT_BYTES}
 use Rattle.trace_text.specs.declared.refusals.TextError.TheVariants as why
-use Rattle.trace_text.specs.Faults.{Rose}
-use Rattle.trace_text.specs.TraceTexts.{IsTrace, StandsFor}
 use Rattle.trace_text.specs.TextRefusals.{IsFirstRefusal}
 use Rattle.front.specs.ReportTexts.{report_text}
 use Rattle.synchrony.specs.declared.faults.Fault.{Fault}
 use Rattle.synchrony.specs.declared.faults.Fault.TheVariants as fault
-
--- The text stands for this trace, and isn't too large.
-pub record IsTextOf (text : List ℕ) (t : Recorded) : Type 0 where
-  pub trace : IsTrace t
-  pub stands : StandsFor text t
-  pub size : length text ≤ MAX_TEXT_BYTES
+use Rattle.synchrony.specs.Inputs.{IsTextOf}
 
 -- The text stands for a trace, and these rows are its report: the front of the triples that the trace
 -- leaves possible for this set of correct processors, each with its named evidence.
@@ -40,11 +32,12 @@ pub record IsSetOutside (set : ℕ) (text : List ℕ) : Type 0 where
   pub read : IsTextOf text trace
   pub outside : ¬ IsWithin set trace.config.n
 
--- the fault is none of the command line; want of memory and a failed read are faults of their own, and
--- no refusals of the trace
+-- the fault is none of the command line and none of a replay; want of memory and a failed read are faults
+-- of their own, and no refusals of the trace
 abbrev pub IsFaultOfReport : Fault → Type 0
 IsFaultOfReport (fault.Command words) = ⊥
 IsFaultOfReport (fault.Trace reason) = (reason ≢ why.Read) × (reason ≢ why.Memory)
+IsFaultOfReport (fault.NotARun number) = ⊥
 IsFaultOfReport _ = ⊤
 
 -- The fault has its cause in the text: its first refusal, or a member of the set that its trace hasn't.
@@ -54,6 +47,7 @@ IsTextFault set text fault.Set = IsSetOutside set text
 IsTextFault set text (fault.Trace reason) = IsFirstRefusal text reason
 IsTextFault set text fault.Memory = ⊤
 IsTextFault set text fault.Read = ⊥
+IsTextFault set text (fault.NotARun number) = ⊥
 IsTextFault set text (fault.Write n) = ⊥
 
 -- The same, or the text has a report, of which that many first bytes went out.
@@ -63,9 +57,5 @@ IsReportFault set text before after fault.Set = IsTextFault set text fault.Set
 IsReportFault set text before after (fault.Trace reason) = IsTextFault set text (fault.Trace reason)
 IsReportFault set text before after fault.Memory = ⊤
 IsReportFault set text before after fault.Read = ⊤
+IsReportFault set text before after (fault.NotARun number) = ⊥
 IsReportFault set text before after (fault.Write n) = (report : List ℕ) × IsReportOf set text report × (n ≤ length report) × Appends before after (take n report)
-
--- where the fault is a failed read, a call of the reader answered a fault; else none did
-abbrev pub IsReadFault : ℕ → ℕ → Fault → Type 0
-IsReadFault old new fault.Read = Rose old new
-IsReadFault old new _ = new ≡ old

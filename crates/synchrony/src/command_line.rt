@@ -2,13 +2,13 @@
 
 ghost use Rattle.std.specs.Prelude.{◌≡◌, ◌≢◌, ℕ, List, None, false, IfOk, IfErr, IfSome, MatchResult, map, string_bytes, codes, IsTrue, ◌↔◌};
 ghost use Rattle.std.specs.declared.io.ErrorKind.TheVariants.{OutOfMemory};
-ghost use Rattle.clap.specs.Words.{app_of, kind_of, subcommand_rows_of};
+ghost use Rattle.clap.specs.Words.{app_of, kind_of, rule_of, subcommand_rows_of};
 ghost use Rattle.clap.specs.declared.builder.Command.TheViews.{out-Command};
-ghost use Rattle.synchrony.specs.Commands.{NamesReport, is_flag, program, report_app, report_line};
-ghost use Rattle.synchrony.specs.Jobs.{IsJobOf, IsJobIn, IsHelpFor, IsReport, IsLineFault, IsListFault, IsRefusalOf, IsRefusalIn, IsRefusalFor};
+ghost use Rattle.synchrony.specs.Commands.{NamesReplay, NamesReport, file_rule, is_flag, program, replay_app, replay_line, report_app, report_line};
+ghost use Rattle.synchrony.specs.Jobs.{IsJobOf, IsJobIn, IsHelpFor, IsMemory, IsReplay, IsReport, IsLineFault, IsListFault, IsRefusalOf, IsRefusalIn, IsRefusalFor};
 
 use crate::faults::Fault;
-use crate::help_texts::{program_help, report_help};
+use crate::help_texts::{program_help, replay_help, report_help};
 use clap::error::ErrorKind;
 use clap::{Arg, ArgAction, ArgMatches, Command};
 use std::alloc::{AllocError, Global};
@@ -26,6 +26,12 @@ pub enum Job {
         /// The processors that are named as correct.
         set: ProcSet,
     },
+    /// Print the replay of the trace in a file: the round and the decision of each processor at its end.
+    /// The file `-` is standard input.
+    Replay {
+        /// The path of the file.
+        file: String,
+    },
     /// Print this text, which was asked for.
     Help(String),
 }
@@ -34,12 +40,14 @@ pub enum Job {
 ///
 /// Refuses what the reader of the command line refuses, in its words; a list that isn't one, by
 /// `bad --correct`; and Memory. The line `report FILE --correct LIST` asks for the report of FILE for
-/// LIST, where neither begins with a hyphen and goes on.
+/// LIST, where neither begins with a hyphen and goes on; and so `replay FILE` for the replay of FILE.
 pub fn read_command(alloc: Global, words: Vec<String>) -> Result<Job, Fault>
     ensures job { IfOk result (IsJobOf (map string_bytes words.items)) }
     ensures refused { IfErr result (IsRefusalOf (map string_bytes words.items)) }
     ensures line { (name file list : List ℕ) → map string_bytes words.items ≡ report_line name file list
         → is_flag file ≡ false → is_flag list ≡ false → MatchResult result (IsReport file list) (IsListFault list) }
+    ensures replay { (name file : List ℕ) → map string_bytes words.items ≡ replay_line name file
+        → is_flag file ≡ false → MatchResult result (IsReplay file) IsMemory }
 {
     read_words(alloc, words.as_slice())
 }
@@ -63,18 +71,14 @@ fn command<'a>(alloc: Global) -> Result<Command<'a>, AllocError>
         .version("0.1.0")
         .after_help(program_help())
         .subcommand_required(true)
-        .subcommand(report_command(alloc)?)
+        .subcommand(report_command(alloc)?)?
+        .subcommand(replay_command(alloc)?)
 }
 
 fn report_command<'a>(alloc: Global) -> Result<Command<'a>, AllocError>
     ensures app { IfOk result (λ c. app_of c ≡ report_app) }
     ensures local { IfOk result (λ c. (out-Command c).has_globals ≡ false) }
 {
-    let file = Arg::new(alloc, "file")
-        .value_name("FILE")
-        .help("The trace text; - is standard input")
-        .required(true)
-        .action(ArgAction::Set);
     let correct = Arg::new(alloc, "correct")
         .long("correct")
         .value_name("LIST")
@@ -84,8 +88,30 @@ fn report_command<'a>(alloc: Global) -> Result<Command<'a>, AllocError>
     Command::new(alloc, "report")
         .about("Prints the report of a trace, for a set of correct processors")
         .after_help(report_help())
-        .arg(file)?
+        .arg(file_argument(alloc))?
         .arg(correct)
+}
+
+fn replay_command<'a>(alloc: Global) -> Result<Command<'a>, AllocError>
+    ensures app { IfOk result (λ c. app_of c ≡ replay_app) }
+    ensures local { IfOk result (λ c. (out-Command c).has_globals ≡ false) }
+{
+    Command::new(alloc, "replay")
+        .about("Prints the round and the decision of each processor at the end of a run")
+        .after_help(replay_help())
+        .arg(file_argument(alloc))
+}
+
+/// The argument FILE.
+fn file_argument<'a>(alloc: Global) -> Arg<'a>
+    ensures rule { rule_of result ≡ file_rule }
+    ensures local { result.global ≡ false }
+{
+    Arg::new(alloc, "file")
+        .value_name("FILE")
+        .help("The trace text; - is standard input")
+        .required(true)
+        .action(ArgAction::Set)
 }
 
 /// Whether the file of a job is standard input.
@@ -135,10 +161,15 @@ fn job_found(alloc: Global, matches: &ArgMatches<'_>) -> Result<Job, Fault>
     ensures job { IfOk result (IsJobIn (subcommand_rows_of matches.now)) }
     ensures refused { IfErr result (IsRefusalIn (subcommand_rows_of matches.now)) }
 {
-    let Some((file, list)) = report_values(matches) else {
+    if let Some((file, list)) = report_values(matches) {
+        return report_job(alloc, file, list);
+    }
+    let Some(file) = replay_file(matches) else {
         return Err(unknown(alloc)?);
     };
-    report_job(alloc, file, list)
+    Ok(Job::Replay {
+        file: String::from_str(alloc, file)?,
+    })
 }
 
 /// The file and the list of the command `report`, where the matches name it and have both.
@@ -153,6 +184,17 @@ fn report_values<'a>(matches: &ArgMatches<'a>) -> Option<(&'a str, &'a str)>
         return None;
     };
     Some((file, list))
+}
+
+/// The file of the command `replay`, where the matches name it and have it.
+fn replay_file<'a>(matches: &ArgMatches<'a>) -> Option<&'a str>
+    ensures some { IfSome result (λ file. NamesReplay (subcommand_rows_of matches.now) file.now) }
+    ensures none { result ≡ None → (file : List ℕ) → ¬ NamesReplay (subcommand_rows_of matches.now) file }
+{
+    let Some(("replay", found)) = matches.subcommand() else {
+        return None;
+    };
+    found.get_str("file")
 }
 
 /// The job of a report of this file, for the set that this list is.

@@ -53,6 +53,24 @@ fn reads_reports(rt: HostRuntime) -> Result<(), Fail> {
     Ok(())
 }
 
+fn asks_for_replay(alloc: Global, words: &[&str], name: &str) -> bool {
+    match read(alloc, words) {
+        Ok(Job::Replay { file }) => file.as_str() == name,
+        _ => false,
+    }
+}
+
+#[test]
+fn reads_replays(rt: HostRuntime) -> Result<(), Fail> {
+    for name in ["t.trace", "-", "a b", ""] {
+        assert!(rt;
+            asks_for_replay(rt.alloc(), &["replay", name], name),
+            "{name:?}"
+        );
+    }
+    Ok(())
+}
+
 fn asks_for_text(alloc: Global, words: &[&str], begins: &str) -> bool {
     match read(alloc, words) {
         Ok(Job::Help(text)) => text.as_str().starts_with(begins),
@@ -64,6 +82,7 @@ fn asks_for_text(alloc: Global, words: &[&str], begins: &str) -> bool {
 fn reads_requests_for_texts(rt: HostRuntime) -> Result<(), Fail> {
     assert!(rt; asks_for_text(rt.alloc(), &["--help"], "Tells how synchronous"));
     assert!(rt; asks_for_text(rt.alloc(), &["report", "--help"], "Prints the report"));
+    assert!(rt; asks_for_text(rt.alloc(), &["replay", "--help"], "Prints the round"));
     assert!(rt; asks_for_text(rt.alloc(), &["--version"], "synchrony 0.1.0\n"));
     Ok(())
 }
@@ -79,8 +98,10 @@ fn is_refused(alloc: Global, words: &[&str], begins: &str) -> Result<bool, Alloc
 
 #[test]
 fn refuses_other_lines(rt: HostRuntime) -> Result<(), Fail> {
-    let lines: [(&[&str], &str); 4] = [
+    let lines: [(&[&str], &str); 6] = [
         (&["report", "-"], "error: the following required arguments"),
+        (&["replay"], "error: the following required arguments"),
+        (&["replay", "a", "b"], "error: unexpected argument 'b'"),
         (
             &["report", "-", "--correct", "1", "--workers", "65"],
             "error: unexpected argument '--workers'",

@@ -41,6 +41,7 @@ impl fmt::Display for Fault {
             Fault::Memory => f.write_str("synchrony: out of memory"),
             Fault::Read => f.write_str("synchrony: cannot read"),
             Fault::Write(_) => f.write_str("synchrony: cannot write"),
+            Fault::NotARun(no) => write!(f, "synchrony: not a run: step {no}"),
         }
     }
 }

@@ -6,6 +6,7 @@ ghost use Rattle.synchrony.specs.Faults.{status_of, fault_of_opening};
 
 use std::alloc::AllocError;
 use std::io;
+use step_buffers::ReplayError;
 use trace_text::{TextError, WriteError};
 
 /// Why the program stops before it is done.
@@ -23,6 +24,8 @@ pub enum Fault {
     Read,
     /// The output can't be written; so many bytes of it went out before.
     Write(u64),
+    /// The trace is no run of the algorithm: the step of this number is the first that isn't.
+    NotARun(u64),
 }
 
 impl std::error::Error for Fault {}
@@ -47,6 +50,19 @@ impl From<TextError> for Fault {
             TextError::Read => Fault::Read,
             TextError::Memory => Fault::Memory,
             why => Fault::Trace(why),
+        }
+    }
+}
+
+impl From<ReplayError> for Fault {
+    ghost use Rattle.synchrony.specs.Faults.{fault_of_replay};
+
+    ghost from_gives = { λ why made. made ≡ fault_of_replay why };
+
+    fn from(why: ReplayError) -> Fault {
+        match why {
+            ReplayError::NotARun(no) => Fault::NotARun(no),
+            ReplayError::Memory => Fault::Memory,
         }
     }
 }
@@ -83,5 +99,6 @@ pub fn status(fault: &Fault) -> u8
         Fault::Trace(_) => 3,
         Fault::Memory => 5,
         Fault::Read | Fault::Write(_) => 6,
+        Fault::NotARun(_) => 7,
     }
 }

@@ -7,7 +7,8 @@ A trace has the Send and Receive steps of a run in the order of real time, and
 a step's number, from 1 on, is its real-time step. You say which processors
 were correct. For each stabilization time, `report` finds the least
 communication bound and the least processor bound that hold from there to the
-end of the trace, and evidence against each smaller bound.
+end of the trace, and evidence against each smaller bound. `replay` takes the
+steps as those of the agreement algorithm, and says what each processor decided.
 
 A row of the report, all of it but proc in real-time steps:
   gst           a stabilization time: the row holds from step gst to the end
@@ -22,6 +23,7 @@ A row of the report, all of it but proc in real-time steps:
 Examples, at the top of the repository:
   ./synchrony report examples/one-miss.trace --correct 1,2
   ./synchrony report - --correct 1,2 <examples/one-miss.trace
+  ./synchrony replay examples/decides-seven.trace
   printf '%s\\n' dls-trace,1,2,0 init,5,7 1,1,S,2 2,2,R, 3,2,R,1 end,3 |
     ./synchrony report - --correct 1,2
 
@@ -31,6 +33,7 @@ Exit status:
   3  the trace is refused
   5  out of memory
   6  the trace can't be read, or the output can't be written
+  7  the trace is no run of the agreement algorithm
 A fault is told on standard error. No report is begun before it stands whole."
 }
 
@@ -75,4 +78,35 @@ Exit status:
   5  out of memory
   6  FILE can't be opened or read, or the output can't be written
 A fault is told on standard error. No report is begun before it stands whole."
+}
+
+/// How a trace is replayed, and what is printed of it.
+pub fn replay_help() -> &'static str {
+    "\
+The trace is taken as a run of the agreement algorithm: each Send must go to the
+processor to which its sender has something to send next, and a round may end
+only once there is none left. What is printed has a header and a record for each
+processor, for the end of the trace.
+
+  proc      the processor
+  round     its round: one more than the number of rounds that it has ended
+  decision  the value that it decided; empty where it has decided none
+
+Example, at the top of the repository:
+  ./synchrony replay examples/decides-seven.trace
+prints
+  proc,round,decision
+  1,4,7
+  2,4,
+  3,4,
+Each of the three processors has ended three rounds, and processor 1 decided 7.
+
+Exit status:
+  0  the replay is printed, or this text
+  2  the command line is refused
+  3  the trace is refused
+  5  out of memory
+  6  FILE can't be opened or read, or the output can't be written
+  7  the trace is no run; the fault names the first step that can't be one's
+A fault is told on standard error. Nothing is printed before it stands whole."
 }

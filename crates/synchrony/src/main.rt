@@ -1,5 +1,5 @@
-//! The program: reads a trace of Send and Receive steps and prints the report of its bounds, for the
-//! processors that are named as correct.
+//! The program: reads a trace of Send and Receive steps, and prints the report of its bounds, for the
+//! processors that are named as correct, or replays it as a run of the agreement algorithm.
 #![tactic(auto)]
 
 mod command_line;
@@ -8,7 +8,12 @@ mod command_line_tests;
 mod fault_lines;
 mod faults;
 mod help_texts;
+mod inputs;
 mod printing;
+#[cfg(test)]
+mod replay_tests;
+mod replay_texts;
+mod replays;
 #[cfg(test)]
 mod report_tests;
 mod reports;
@@ -16,6 +21,7 @@ mod reports;
 use crate::command_line::{Job, names_standard_input, read_command, refuse_words};
 use crate::faults::{Fault, status, unopened};
 use crate::printing::{print, tell};
+use crate::replays::run_replay;
 use crate::reports::run_report;
 use std::env;
 use std::fs::File;
@@ -42,6 +48,7 @@ fn run(rt: &HostRuntime) -> Result<(), Fault> {
     };
     match read_command(rt.alloc(), words)? {
         Job::Report { file, set } => report(rt, file.as_str(), set),
+        Job::Replay { file } => replay(rt, file.as_str()),
         Job::Help(text) => print(text.as_str(), &mut Counting::new(rt.stdout())),
     }
 }
@@ -54,4 +61,14 @@ fn report(rt: &HostRuntime, file: &str, set: ProcSet) -> Result<(), Fault> {
     }
     let opened = File::open(rt, file).map_err(unopened)?;
     run_report(rt.alloc(), &mut Counting::new(opened), &mut output, set)
+}
+
+/// Prints the replay of the trace in a file.
+fn replay(rt: &HostRuntime, file: &str) -> Result<(), Fault> {
+    let mut output = Counting::new(rt.stdout());
+    if names_standard_input(file) {
+        return run_replay(rt.alloc(), &mut Counting::new(rt.stdin()), &mut output);
+    }
+    let opened = File::open(rt, file).map_err(unopened)?;
+    run_replay(rt.alloc(), &mut Counting::new(opened), &mut output)
 }

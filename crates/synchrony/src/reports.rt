@@ -6,16 +6,18 @@ ghost use Rattle.step_trace.specs.Fronts.{IsReport};
 ghost use Rattle.step_trace.specs.Processors.{IsWithin};
 ghost use Rattle.trace_text.specs.ByteLoops.{WasFaultless};
 ghost use Rattle.trace_text.specs.Faults.{inner_of, faults_of, is_flushed};
+ghost use Rattle.synchrony.specs.Inputs.{IsReadFault, IsTextOf};
 ghost use Rattle.synchrony.specs.Printing.{IsWriteFault};
-ghost use Rattle.synchrony.specs.Reports.{AreRowsOf, IsReportOf, IsFaultOfReport, IsTextOf, IsTextFault, IsReportFault, IsReadFault};
+ghost use Rattle.synchrony.specs.Reports.{AreRowsOf, IsReportOf, IsFaultOfReport, IsTextFault, IsReportFault};
 
 use crate::faults::Fault;
+use crate::inputs::trace_of;
 use front::{Report, front, write_report};
 use std::alloc::{AllocError, Global};
 use std::io::{Read, Write};
 use step_trace::{ProcSet, Trace};
 use suffix_staircase::Stairs;
-use trace_text::{Counting, read_all, read_trace};
+use trace_text::{Counting, read_all};
 
 /// Reads a trace text to its end, and writes the report of its trace, for `set` as the correct
 /// processors. Nothing is written before the whole report stands.
@@ -53,19 +55,18 @@ fn report_of(alloc: Global, text: Vec<u8>, set: ProcSet) -> Result<Report, Fault
     ensures refused { IfErr result (IsTextFault set text.items) }
     ensures own { IfErr result IsFaultOfReport }
 {
-    let trace = trace_of(alloc, text, set)?;
+    let trace = trace_within(alloc, text, set)?;
     Ok(rows_of(alloc, &trace, set)?)
 }
 
-/// The trace that a text stands for, where no member of the set is above its processors. It lets go
-/// of the text, which takes much memory for a long trace.
-fn trace_of(alloc: Global, text: Vec<u8>, set: ProcSet) -> Result<Trace, Fault>
+/// The trace that a text stands for, where no member of the set is above its processors.
+fn trace_within(alloc: Global, text: Vec<u8>, set: ProcSet) -> Result<Trace, Fault>
     ensures read { IfOk result (λ t. IsTextOf text.items t) }
     ensures within { IfOk result (λ t. IsWithin set t.config.n) }
     ensures refused { IfErr result (IsTextFault set text.items) }
     ensures own { IfErr result IsFaultOfReport }
 {
-    let trace = read_trace(alloc, &text)?;
+    let trace = trace_of(alloc, text)?;
     test_set(set, trace.config().n())?;
     Ok(trace)
 }

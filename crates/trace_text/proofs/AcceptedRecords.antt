@@ -158,7 +158,7 @@ from_push t x s None e h = (e, cc h)
 from_push t x s (Some f) e h = cc h
 
 -- the records of the steps with one step more
-step_records-more : (at : ℕ) (xs : List Step) (x : Step) → step_records at (xs ++ x ∷ []) ≡ step_records at xs ++ step_record (at + length xs) x ∷ []
+pub step_records-more : (at : ℕ) (xs : List Step) (x : Step) → step_records at (xs ++ x ∷ []) ≡ step_records at xs ++ step_record (at + length xs) x ∷ []
 step_records-more at [] x = let e : at + 0 ≡ at = omega arith in rw e refl
 step_records-more at (y ∷ xs) x =
     let e : at + 1 + length xs ≡ at + suc (length xs) = omega arith in

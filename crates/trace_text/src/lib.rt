@@ -1,16 +1,20 @@
-//! Trace text: the records of a trace as comma-separated text, read or refused by name, and the byte
-//! loops by which texts are read and written. `specs/` has the definitions that the contracts cite.
+//! Trace text: the records of a trace as comma-separated text, written, and read or refused by name,
+//! and the byte loops by which texts are read and written. `specs/` has the definitions that the
+//! contracts cite.
 #![tactic(auto)]
 
 mod byte_loops;
 mod counting;
 pub mod failing_devices;
 mod reading;
+pub mod record_writing;
 pub mod records;
 mod refusals;
 mod step_records;
+mod writing;
 
 pub use byte_loops::{MAX_TEXT_BYTES, read_all, write_text};
 pub use counting::Counting;
 pub use reading::read_trace;
 pub use refusals::{TextError, WriteError};
+pub use writing::write_trace;

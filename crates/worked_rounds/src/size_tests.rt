@@ -70,6 +70,20 @@ fn a_table_of_the_most_rounds(rt: HostRuntime) -> Result<(), Fail> {
     Ok(())
 }
 
+// All in touch from round 1 on: all have decided by round 67, which is 4 (1 + 16) - 1.
+#[test]
+fn sixteen_decide_by_the_bound(rt: HostRuntime) -> Result<(), Fail> {
+    let alloc = rt.alloc();
+    let init = [4, 3, 2, 1, 8, 7, 6, 5, 12, 11, 10, 9, 16, 15, 14, 13];
+    let mut decisions = [Some(1); 16];
+    for (rounds, first) in [(66, None), (67, Some(1))] {
+        decisions[0] = first;
+        let heard = all_heard(&rt, alloc, 16, rounds)?;
+        assert!(rt; all_decide(&rt, alloc, (7, &init), &heard, &decisions)?);
+    }
+    Ok(())
+}
+
 #[test]
 fn many_rounds(rt: HostRuntime) -> Result<(), Fail> {
     let alloc = rt.alloc();

@@ -1,6 +1,8 @@
 //! Worked tables. There are three processors of which one may be faulty.
 
-use crate::tables::{all_decide, all_heard, all_hold, hear, one_deciding, values_shared};
+use crate::tables::{
+    all_decide, all_heard, all_hold, hear, one_deciding, pair_in_touch, values_shared,
+};
 use round_model::Heard;
 use std::test::Fail;
 
@@ -43,6 +45,31 @@ fn all_hear_all_in_three_rounds(rt: HostRuntime) -> Result<(), Fail> {
     let held = ([5, 7].as_slice(), [(7, 1)].as_slice());
     assert!(rt; all_decide(&rt, alloc, setup, &heard, &[Some(7), None, None])?);
     assert!(rt; all_hold(&rt, alloc, setup, &heard, &[held; 3])?);
+    Ok(())
+}
+
+// With N = 3 and all in touch from round 1 on, all have decided by round 15: 4 (1 + 3) - 1.
+#[test]
+fn all_decide_by_the_bound(rt: HostRuntime) -> Result<(), Fail> {
+    let alloc = rt.alloc();
+    let setup = (1, [5, 7, 9].as_slice());
+    for (rounds, first) in [(14, None), (15, Some(5))] {
+        let heard = all_heard(&rt, alloc, 3, rounds)?;
+        assert!(rt; all_decide(&rt, alloc, setup, &heard, &[first, Some(5), Some(5)])?);
+    }
+    Ok(())
+}
+
+// Those who are in touch from round 2 on have decided by round 15, and who isn't heard has not. They decide in
+// their own phases, 2 and 3.
+#[test]
+fn a_pair_decides_by_the_bound(rt: HostRuntime) -> Result<(), Fail> {
+    let alloc = rt.alloc();
+    let setup = (1, [5, 7, 9].as_slice());
+    for (rounds, last) in [(10, None), (11, Some(7)), (15, Some(7))] {
+        let heard = pair_in_touch(&rt, alloc, rounds)?;
+        assert!(rt; all_decide(&rt, alloc, setup, &heard, &[None, Some(7), last])?);
+    }
     Ok(())
 }
 

@@ -56,6 +56,18 @@ pub fn all_heard(rt: &impl Abort, alloc: Global, n: u64, rounds: u64) -> Result<
     Ok(heard)
 }
 
+/// Three processors: from round 2 on, 2 and 3 hear each other and themselves. Nothing else is heard.
+pub fn pair_in_touch(rt: &impl Abort, alloc: Global, rounds: u64) -> Result<Heard, Fail>
+    requires { rounds ≤ MAX_ROUNDS }
+{
+    let mut heard = Heard::new(alloc, 3, rounds)?;
+    for round in 2..rounds + 1 {
+        hear(rt, &mut heard, round, 2, &[2, 3]);
+        hear(rt, &mut heard, round, 3, &[2, 3]);
+    }
+    Ok(heard)
+}
+
 /// Three processors: 1 hears all in round 1, and all hear all in round 4. So nobody proposes, and everybody
 /// learns all values.
 pub fn values_shared(rt: &impl Abort, alloc: Global, rounds: u64) -> Result<Heard, Fail>

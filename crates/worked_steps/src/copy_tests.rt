@@ -1,6 +1,6 @@
 //! Copies of a run's values.
 
-use crate::run_tests::DECIDES_SEVEN;
+use crate::long_scripts::DECIDES_SEVEN;
 use crate::scripts::ran;
 use std::alloc::{AllocError, Global};
 use std::test::Fail;

@@ -5,7 +5,11 @@
 #[cfg(test)]
 mod copy_tests;
 #[cfg(test)]
+mod long_scripts;
+#[cfg(test)]
 mod refusal_tests;
+#[cfg(test)]
+mod replay_tests;
 #[cfg(test)]
 mod run_tests;
 #[cfg(test)]

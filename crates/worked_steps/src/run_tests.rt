@@ -1,5 +1,6 @@
 //! Worked runs, and what becomes of their nodes.
 
+use crate::long_scripts::{DECIDES_SEVEN, LOST_LOCK, NO_PROPOSAL};
 use crate::scripts::{E, R, Row, S, all_hold, all_stand, holds, makes, ran};
 use std::test::Fail;
 
@@ -56,28 +57,6 @@ fn an_early_message_is_heard_in_its_round(rt: HostRuntime) -> Result<(), Fail> {
     Ok(())
 }
 
-/// Three rounds: lists, the lock on 7, and acknowledgements.
-pub const DECIDES_SEVEN: [Row; 18] = [
-    (1, S, 0, [0; 3]),
-    (2, S, 0, [0; 3]),
-    (3, S, 0, [0; 3]),
-    (1, E, 3, [1, 2, 3]),
-    (2, E, 0, [0; 3]),
-    (3, E, 0, [0; 3]),
-    (1, S, 0, [0; 3]),
-    (1, S, 0, [0; 3]),
-    (1, S, 0, [0; 3]),
-    (1, E, 1, [7, 0, 0]),
-    (2, E, 1, [8, 0, 0]),
-    (3, E, 1, [9, 0, 0]),
-    (1, S, 0, [0; 3]),
-    (2, S, 0, [0; 3]),
-    (3, S, 0, [0; 3]),
-    (1, E, 3, [13, 14, 15]),
-    (2, E, 0, [0; 3]),
-    (3, E, 0, [0; 3]),
-];
-
 #[test]
 fn the_owner_decides_seven(rt: HostRuntime) -> Result<(), Fail> {
     let alloc = rt.alloc();
@@ -87,55 +66,6 @@ fn the_owner_decides_seven(rt: HostRuntime) -> Result<(), Fail> {
     assert!(rt; all_hold(&rt, &world, &[5, 7], &[(1, seven), (2, seven), (3, seven)]));
     Ok(())
 }
-
-// Rounds 1 to 4: the owner of phase 1 proposes nothing, and in round 4 all lists go to all.
-const NO_PROPOSAL: [Row; 24] = [
-    (1, S, 0, [0; 3]),
-    (2, S, 0, [0; 3]),
-    (3, S, 0, [0; 3]),
-    (1, E, 3, [1, 2, 3]),
-    (2, E, 0, [0; 3]),
-    (3, E, 0, [0; 3]),
-    (1, E, 0, [0; 3]),
-    (2, E, 0, [0; 3]),
-    (3, E, 0, [0; 3]),
-    (1, E, 0, [0; 3]),
-    (2, E, 0, [0; 3]),
-    (3, E, 0, [0; 3]),
-    (1, S, 0, [0; 3]),
-    (1, S, 0, [0; 3]),
-    (1, S, 0, [0; 3]),
-    (2, S, 0, [0; 3]),
-    (2, S, 0, [0; 3]),
-    (2, S, 0, [0; 3]),
-    (3, S, 0, [0; 3]),
-    (3, S, 0, [0; 3]),
-    (3, S, 0, [0; 3]),
-    (1, E, 3, [13, 16, 19]),
-    (2, E, 3, [14, 17, 20]),
-    (3, E, 3, [15, 18, 21]),
-];
-
-// Rounds 5 to 7: 2 proposes 5, and 3 takes the lock on it, message 33 of round 6, in its round 7.
-const LOST_LOCK: [Row; 17] = [
-    (1, S, 0, [0; 3]),
-    (2, S, 0, [0; 3]),
-    (3, S, 0, [0; 3]),
-    (1, E, 0, [0; 3]),
-    (2, E, 3, [25, 26, 27]),
-    (3, E, 0, [0; 3]),
-    (2, S, 0, [0; 3]),
-    (2, S, 0, [0; 3]),
-    (2, S, 0, [0; 3]),
-    (1, E, 1, [31, 0, 0]),
-    (2, E, 1, [32, 0, 0]),
-    (3, E, 0, [0; 3]),
-    (1, S, 0, [0; 3]),
-    (2, S, 0, [0; 3]),
-    (1, E, 0, [0; 3]),
-    (2, E, 2, [37, 38, 0]),
-    (3, E, 1, [33, 0, 0]),
-];
 
 #[test]
 fn all_values_are_proper_after_round_four(rt: HostRuntime) -> Result<(), Fail> {

@@ -1,10 +1,10 @@
-//! Lists of steps, how a World makes them, and how its processors stand afterwards.
+//! Lists of steps, how a World makes them or a trace records them, and how a World's processors stand afterwards.
 
-use std::alloc::Global;
+use std::alloc::{AllocError, Global};
 use std::process::Abort;
 use std::test::Fail;
 use step_buffers::{Move, Take, World};
-use step_trace::Config;
+use step_trace::{Act, Config, MessageIds, Step, Trace};
 
 /// What a processor does: a Send; a Receive; or a Receive that ends its round.
 pub const S: u64 = 0;
@@ -13,7 +13,8 @@ pub const R: u64 = 1;
 
 pub const E: u64 = 2;
 
-/// A step to be made: the processor, what it does, and how many of these ids it takes.
+/// A step to be made: the processor, what it does, and how many of these ids it takes. A Send that is to be
+/// recorded has its destination in their place.
 pub type Row = (u64, u64, usize, [u64; 3]);
 
 /// The World of this configuration, which may make a hundred steps.
@@ -54,6 +55,44 @@ pub fn ran(
     let mut world = world(alloc, t, init)?;
     assert!(rt; makes(rt, alloc, &mut world, rows));
     Ok(world)
+}
+
+/// Appends these steps to a trace, and says whether they all fit.
+pub fn records(
+    rt: &impl Abort,
+    alloc: Global,
+    trace: &mut Trace,
+    rows: &[Row],
+) -> Result<bool, AllocError> {
+    for (p, does, count, numbers) in rows {
+        assert!(rt; *count <= 3);
+        let act = if *does == S {
+            Act::Send { to: numbers[0] }
+        } else {
+            Act::Receive {
+                ends: *does == E,
+                ids: MessageIds::new(Vec::from_slice(alloc, &numbers[..*count])?),
+            }
+        };
+        if trace.push(Step { proc: *p, act }).is_err() {
+            return Ok(false);
+        }
+    }
+    Ok(true)
+}
+
+/// The trace of this configuration with these steps.
+pub fn recorded(
+    rt: &impl Abort,
+    alloc: Global,
+    t: u64,
+    init: &[u64],
+    rows: &[Row],
+) -> Result<Trace, Fail> {
+    let init = Vec::from_slice(alloc, init)?;
+    let mut trace = Trace::new(alloc, Config::new(init.len() as u64, t, init)?);
+    assert!(rt; records(rt, alloc, &mut trace, rows)?);
+    Ok(trace)
 }
 
 /// Whether each of these processors is in this round, with this decision.

@@ -1,5 +1,5 @@
 use Rattle.std.proofs.Common.{◌≡◌, take}
-use Rattle.front.specs.CsvWriting.{IsReady, written}
+use Rattle.trace_text.specs.RecordWriting.{IsReady, written}
 use Rattle.front.specs.ReportTexts.{report_text}
 use Rattle.front.proofs.report_texts.report_text_of.Given as goal
 

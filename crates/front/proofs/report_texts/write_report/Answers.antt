@@ -2,7 +2,7 @@ use Rattle.std.proofs.Common.{ℕ, List, Option, Result, Ok, Err, IfErr}
 use Rattle.trace_text.specs.declared.refusals.WriteError.{WriteError}
 use Rattle.trace_text.specs.declared.refusals.WriteError.TheVariants as fault
 use Rattle.trace_text.specs.ByteLoops.{WroteFront}
-use Rattle.front.specs.ReportWriting.{WroteBefore}
+use Rattle.trace_text.specs.TextWriting.{WroteBefore}
 use Rattle.front.proofs.ShortTexts.{short-report_text}
 use Rattle.front.proofs.TextsRead.{StandsFor-report_text}
 use Rattle.front.proofs.report_texts.write_report.Goals as goal

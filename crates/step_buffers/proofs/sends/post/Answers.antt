@@ -4,55 +4,42 @@ use Rattle.std.proofs.lemmas.List.{length_push}
 use Rattle.step_trace.proofs.FittingSteps.{none_from_Fits}
 use Rattle.step_buffers.proofs.RunPrefixes.{IsRun-push}
 use Rattle.step_buffers.proofs.LetterSteps.{AreLetters-sent}
-use Rattle.step_buffers.proofs.PostSteps.{IsProc-next_send, Fits-sent, AreProcessors-sent, AreProcessors-room, length-slice_set}
+use Rattle.step_buffers.proofs.PostSteps.{IsProc-next_send, Fits-sent, AreProcessors-sent, length-slice_set}
 use Rattle.step_buffers.proofs.sends.post.Goals as goal
+
+pub push_send-requires-clause-low : goal.push_send-requires-clause-low
+push_send-requires-clause-low c = (IsProc-next_send c.args.trace.now.config c.args.trace.now.steps c.args.p c.args.to c.requires.destination).0
+
+pub push_send-requires-clause-high : goal.push_send-requires-clause-high
+push_send-requires-clause-high c =
+    let is = IsProc-next_send c.args.trace.now.config c.args.trace.now.steps c.args.p c.args.to c.requires.destination in
+    rw c.requires.world.processors.count is.1
 
 pub overflow_sub-to : goal.overflow_sub-to
 overflow_sub-to c = (IsProc-next_send c.args.trace.now.config c.args.trace.now.steps c.args.p c.args.to c.requires.destination).0
 
 pub index_mut-receiver-requires : goal.index_mut-receiver-requires
 index_mut-receiver-requires c =
+    let same = c.in_ok-push_send.ensures.count in
     let is = IsProc-next_send c.args.trace.now.config c.args.trace.now.steps c.args.p c.args.to c.requires.destination in
     let low = is.0 in
     let high = is.1 in
     let count = c.requires.world.processors.count in
     omega arith
 
-pub append-requires : goal.append-requires
-append-requires c =
+pub push_send-requires-clause-step : goal.push_send-requires-clause-step
+push_send-requires-clause-step c =
     none_from_Fits c.args.trace.now.config c.args.trace.now.steps _
     (Fits-sent c.args.trace.now.config c.args.trace.now.steps c.args.p c.args.to c.requires.room c.requires.processor
     (IsProc-next_send c.args.trace.now.config c.args.trace.now.steps c.args.p c.args.to c.requires.destination))
 
-pub returns-in_err-reserve-2-clause-world : goal.returns-in_err-reserve-2-clause-world
-returns-in_err-reserve-2-clause-world c =
-    let is = IsProc-next_send c.args.trace.now.config c.args.trace.now.steps c.args.p c.args.to c.requires.destination in
-    let low = is.0 in
-    let high = is.1 in
-    let count = c.requires.world.processors.count in
-    let at = slice_get_read c.args.processors.now.items (length c.args.processors.now.items) (c.args.to - 1) c.index_mut-receiver.result.now refl (omega arith) c.index_mut-receiver.ensures.value in
-    record {
+pub returns-in_err-push_send-clause-world : goal.returns-in_err-push_send-clause-world
+returns-in_err-push_send-clause-world c =
+    rw c.in_err-push_send.ensures.err (record {
       setup = c.requires.world.setup;
       run = c.requires.world.run;
-      letters = rw c.reserve.ensures.items c.requires.world.letters;
-      processors = AreProcessors-room c.args.trace.now.config c.args.trace.now.steps c.args.processors.now.items (c.args.to - 1) c.index_mut-receiver.result.now c.reserve-2.new.self
-          c.requires.world.processors at c.reserve-2.ensures.items;
-    }
-
-pub returns-in_err-append-clause-world : goal.returns-in_err-append-clause-world
-returns-in_err-append-clause-world c =
-    let is = IsProc-next_send c.args.trace.now.config c.args.trace.now.steps c.args.p c.args.to c.requires.destination in
-    let low = is.0 in
-    let high = is.1 in
-    let count = c.requires.world.processors.count in
-    let at = slice_get_read c.args.processors.now.items (length c.args.processors.now.items) (c.args.to - 1) c.index_mut-receiver.result.now refl (omega arith) c.index_mut-receiver.ensures.value in
-    let same : c.append.new.trace ≡ c.args.trace.now = c.in_err-append.ensures.err in
-    rw same (record {
-      setup = c.requires.world.setup;
-      run = c.requires.world.run;
-      letters = rw c.reserve.ensures.items c.requires.world.letters;
-      processors = AreProcessors-room c.args.trace.now.config c.args.trace.now.steps c.args.processors.now.items (c.args.to - 1) c.index_mut-receiver.result.now c.reserve-2.new.self
-          c.requires.world.processors at c.reserve-2.ensures.items;
+      letters = rw c.in_err-push_send.ensures.letters c.requires.world.letters;
+      processors = c.in_err-push_send.ensures.processors c.args.trace.now.config c.args.trace.now.steps c.requires.world.processors;
     })
 
 pub returns-clause-world : goal.returns-clause-world
@@ -68,19 +55,32 @@ returns-clause-world c =
     let mine = c.requires.processor in
     let p_low = mine.0 in
     let p_high = mine.1 in
-    let count = world.processors.count in
+    let are = c.in_ok-push_send.ensures.processors config steps world.processors in
+    let count = are.count in
+    let roomy = c.push_send.new.processors.items in
     let ra = c.index_mut-receiver.result.now in
-    let at = slice_get_read c.args.processors.now.items (length c.args.processors.now.items) (to - 1) ra refl (omega arith) c.index_mut-receiver.ensures.value in
-    let w = c.in_ok-append.ensures.well_formed in
-    let size : length c.append.new.trace.steps ≡ suc (length steps) = ap length c.in_ok-append.ensures.appended ∙ length_push steps _ ∙ (let e : length steps + 1 ≡ suc (length steps) = omega arith in e) in
-    let items : c.push_reserved.new.self.items ≡ ra.buffer.items ++ suc (length steps) ∷ [] = c.push_reserved.ensures.items ∙ rw (c.reserve-2.ensures.items, c.len.ensures.value, size) refl in
-    let posted = slice_set c.args.processors.now.items (to - 1) (record ra { buffer = c.push_reserved.new.self }) in
-    let at_p = slice_get_read posted (length posted) (p - 1) c.index_mut-sender.result.now refl (let e = length-slice_set c.args.processors.now.items (to - 1) (record ra { buffer = c.push_reserved.new.self }) in omega arith) c.index_mut-sender.ensures.value in
+    let at = slice_get_read roomy (length roomy) (to - 1) ra refl (omega arith) c.index_mut-receiver.ensures.value in
+    let w = c.in_ok-push_send.ensures.well_formed in
+    let size : length c.push_send.new.trace.steps ≡ suc (length steps) = ap length c.in_ok-push_send.ensures.appended ∙ length_push steps _ ∙ (let e : length steps + 1 ≡ suc (length steps) = omega arith in e) in
+    let items : c.push_reserved.new.self.items ≡ ra.buffer.items ++ suc (length steps) ∷ [] = c.push_reserved.ensures.items ∙ rw (c.len.ensures.value, size) refl in
+    let posted = slice_set roomy (to - 1) (record ra { buffer = c.push_reserved.new.self }) in
+    let at_p = slice_get_read posted (length posted) (p - 1) c.index_mut-sender.result.now refl (let e = length-slice_set roomy (to - 1) (record ra { buffer = c.push_reserved.new.self }) in omega arith) c.index_mut-sender.ensures.value in
     let letters = AreLetters-sent config steps p to c.args.letters.now.items c.args.letter world.run.well_formed world.letters c.requires.sender c.requires.round c.requires.body in
-    let kept = AreProcessors-sent config steps p to c.args.processors.now.items ra c.index_mut-sender.result.now c.push_reserved.new.self w mine is c.requires.destination world.processors at items at_p in
+    let kept = AreProcessors-sent config steps p to roomy ra c.index_mut-sender.result.now c.push_reserved.new.self w mine is c.requires.destination are at items at_p in
     record {
-      setup = rw c.in_ok-append.ensures.config world.setup;
-      run = rw (c.in_ok-append.ensures.config, c.in_ok-append.ensures.appended) (IsRun-push config steps _ world.run w c.requires.destination);
-      letters = rw (c.in_ok-append.ensures.config, c.in_ok-append.ensures.appended, c.push_reserved-2.ensures.items, c.reserve.ensures.items) letters;
-      processors = rw (c.in_ok-append.ensures.config, c.in_ok-append.ensures.appended) kept;
+      setup = rw c.in_ok-push_send.ensures.config world.setup;
+      run = rw (c.in_ok-push_send.ensures.config, c.in_ok-push_send.ensures.appended) (IsRun-push config steps _ world.run w c.requires.destination);
+      letters = rw (c.in_ok-push_send.ensures.config, c.in_ok-push_send.ensures.appended, c.push_reserved-2.ensures.items, c.in_ok-push_send.ensures.letters) letters;
+      processors = rw (c.in_ok-push_send.ensures.config, c.in_ok-push_send.ensures.appended) kept;
     }
+
+pub push_reserved-requires : goal.push_reserved-requires
+push_reserved-requires c =
+    let is = IsProc-next_send c.args.trace.now.config c.args.trace.now.steps c.args.p c.args.to c.requires.destination in
+    let low = is.0 in
+    let high = is.1 in
+    let same = c.in_ok-push_send.ensures.count in
+    let count = c.requires.world.processors.count in
+    let ra = c.index_mut-receiver.result.now in
+    c.in_ok-push_send.ensures.room ra
+    (slice_get_read c.push_send.new.processors.items (length c.push_send.new.processors.items) (c.args.to - 1) ra refl (omega arith) c.index_mut-receiver.ensures.value)

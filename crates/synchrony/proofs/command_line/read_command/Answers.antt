@@ -1,6 +1,10 @@
-use Rattle.synchrony.proofs.CommandJobs.{line_is}
+use Rattle.synchrony.proofs.CommandJobs.{line_is, replay_is}
 use Rattle.synchrony.proofs.command_line.read_command.Goals as goal
 
 pub returns-clause-line : goal.returns-clause-line
 returns-clause-line c =
     line_is _ c.read_words.result (rw c.as_slice.ensures.value at c.read_words.ensures.job) (rw c.as_slice.ensures.value at c.read_words.ensures.refused)
+
+pub returns-clause-replay : goal.returns-clause-replay
+returns-clause-replay c =
+    replay_is _ c.read_words.result (rw c.as_slice.ensures.value at c.read_words.ensures.job) (rw c.as_slice.ensures.value at c.read_words.ensures.refused)

@@ -1,0 +1,5 @@
+use Rattle.step_buffers.proofs.MissingMessages.{least-missing}
+use Rattle.step_buffers.proofs.laws.refusal_laws.Goals as goal
+
+pub returns : goal.returns
+returns c = record { least = least-missing }

@@ -1,0 +1,67 @@
+use Rattle.std.proofs.Common.{◌≡◌, ◌+◌, ◌∙◌, ◌++◌, ◌∷◌, [], filter, true, refl, sym, ap, arith}
+use Rattle.std.specs.Prelude.{nat_le, not}
+use Rattle.step_trace.specs.declared.steps.Act.TheVariants.{Receive}
+use Rattle.step_trace.specs.declared.steps.Step.{Step}
+use Rattle.step_trace.proofs.Refusals.{Fits-from_none}
+use Rattle.lock_phases.specs.Nodes.{State}
+use Rattle.step_buffers.specs.HeardTables.{passed}
+use Rattle.step_buffers.specs.Runs.{destination_after}
+use Rattle.step_buffers.specs.Letters.{round_of}
+use Rattle.step_buffers.specs.Moves.{is_in}
+use Rattle.step_buffers.proofs.RunPrefixes.{IsRun-push}
+use Rattle.step_buffers.proofs.GrownNodes.{passed-ends}
+use Rattle.step_buffers.proofs.RoundEnds.{next_send-ended}
+use Rattle.step_buffers.proofs.LetterSteps.{AreLetters-received}
+use Rattle.step_buffers.proofs.BufferSteps.{buffer-received}
+use Rattle.step_buffers.proofs.TakenSteps.{inbox-taken, tested-these}
+use Rattle.step_buffers.proofs.receives.settle_ended.Goals as goal
+
+pub returns-in_err-push_receive-clause-receiver : goal.returns-in_err-push_receive-clause-receiver
+returns-in_err-push_receive-clause-receiver c =
+    let is = c.requires.receiver in
+    rw c.in_err-push_receive.ensures.err
+    (record { round = is.round; node = is.node; last = is.last; next = is.next; buffer = is.buffer; inbox = λ s. rw c.in_err-push_receive.ensures.inbox (is.inbox s) })
+
+pub take_in-requires-clause-rising : goal.take_in-requires-clause-rising
+take_in-requires-clause-rising c =
+    let x : Step = record { proc = c.args.p; act = Receive true c.args.taken.now } in
+    rw c.as_slice.ensures (Fits-from_none c.args.trace.now.config c.args.trace.now.steps x c.requires.step).rising
+
+pub returns-clause-run : goal.returns-clause-run
+returns-clause-run c =
+    rw (c.in_ok-push_receive.ensures.config, c.in_ok-push_receive.ensures.appended)
+    (IsRun-push c.args.trace.now.config c.args.trace.now.steps (record { proc = c.args.p; act = Receive true c.args.taken.now }) c.requires.run c.in_ok-push_receive.ensures.well_formed c.requires.due)
+
+pub returns-clause-letters : goal.returns-clause-letters
+returns-clause-letters c =
+    rw (c.in_ok-push_receive.ensures.config, c.in_ok-push_receive.ensures.appended, c.push_reserved.ensures.items, c.in_ok-push_receive.ensures.letters)
+    (AreLetters-received c.args.trace.now.config c.args.trace.now.steps c.args.p true c.args.taken.now c.args.letters.now.items c.requires.run.well_formed c.requires.letters)
+
+pub returns-clause-receiver : goal.returns-clause-receiver
+returns-clause-receiver c =
+    let config = c.args.trace.now.config in
+    let steps = c.args.trace.now.steps in
+    let p = c.args.p in
+    let ids = c.args.taken.now in
+    let old = c.args.receiver.now.inbox.items in
+    let letters = c.args.letters.now.items in
+    let x : Step = record { proc = p; act = Receive true ids } in
+    let is = c.requires.receiver in
+    let round = c.args.receiver.now.round + 1 in
+    let before = is.round in
+    let more = passed-ends steps x refl in
+    let now : round ≡ passed (steps ++ x ∷ []) p + 1 = omega arith in
+    let waiting : c.take_in.new.receiver.buffer.items ≡ filter (λ s. not (is_in ids s)) c.args.receiver.now.buffer.items = c.take_in.ensures.buffer ∙ rw c.as_slice.ensures refl in
+    let inbox : c.drop_past.new.inbox.items ≡ filter (λ i. nat_le round (round_of letters i)) (old ++ filter (λ i. nat_le round (round_of letters i)) ids) =
+    c.drop_past.ensures ∙ rw (c.take_in.ensures.inbox, c.in_ok-push_receive.ensures.inbox, c.as_slice.ensures, c.deref.ensures.value, c.deref-2.ensures.value, c.in_ok-push_receive.ensures.letters) refl in
+    rw (c.in_ok-push_receive.ensures.config, c.in_ok-push_receive.ensures.appended) (record {
+      round = now;
+      node = c.requires.node;
+      last = omega arith;
+      next = next_send-ended config steps x refl
+          ∙ ap (λ (s : State). destination_after config s p (passed (steps ++ x ∷ []) p + 1) 0) (sym c.requires.node)
+          ∙ ap (λ r. destination_after config c.args.node p r 0) (sym now);
+      buffer = waiting ∙ ap (filter (λ s. not (is_in ids s))) is.buffer ∙ sym (buffer-received config steps p p true ids c.requires.run.well_formed);
+      inbox = λ s. rw inbox (inbox-taken config steps p s round true ids old _ letters c.in_ok-push_receive.ensures.well_formed c.requires.letters is.inbox now
+          (tested-these (λ i. nat_le round (round_of letters i)) old ids s));
+    })

@@ -1,0 +1,44 @@
+//! What a Receive makes of a buffer and an inbox.
+
+ghost use Rattle.std.specs.Prelude.{◌≡◌, ◌+◌, ◌≤◌, ◌++◌, length, vec_len, vec_capacity, filter, nat_le, not};
+ghost use Rattle.std.specs.List.Sorted.{IsStrictlyIncreasing};
+ghost use Rattle.step_buffers.specs.Letters.{round_of};
+ghost use Rattle.step_buffers.specs.Moves.{is_in};
+
+use crate::letters::{Letter, round_of};
+use crate::processors::Processor;
+use crate::takes::take_out;
+
+/// Takes these messages out of the buffer, and puts those of this round and of later ones into the inbox, in
+/// which there is room.
+pub(crate) fn take_in(receiver: &mut Processor, letters: &[Option<Letter>], ids: &[u64], round: u64)
+    requires rising { IsStrictlyIncreasing ids.now }
+    requires room { vec_len receiver.old.inbox + length ids.now ≤ vec_capacity receiver.old.inbox }
+    ensures buffer { receiver.new.buffer.items ≡ filter (λ s. not (is_in ids.now s)) receiver.old.buffer.items }
+    ensures inbox { receiver.new.inbox.items ≡ receiver.old.inbox.items ++ filter (λ s. nat_le round (round_of letters.now s)) ids.now }
+    ensures round { receiver.new.round ≡ receiver.old.round }
+    ensures last { receiver.new.last ≡ receiver.old.last }
+    ensures node { receiver.new.node ≡ receiver.old.node }
+{
+    take_out(&mut receiver.buffer, ids);
+    keep(&mut receiver.inbox, letters, ids, round);
+}
+
+// Adds those of these messages that are of this round or a later one.
+fn keep(inbox: &mut Vec<u64>, letters: &[Option<Letter>], ids: &[u64], round: u64)
+    requires { vec_len inbox.old + length ids.now ≤ vec_capacity inbox.old }
+    ensures { inbox.new.items ≡ inbox.old.items ++ filter (λ s. nat_le round (round_of letters.now s)) ids.now }
+{
+    for id in ids {
+        if round <= round_of(letters, *id) {
+            inbox.push_reserved(*id);
+        }
+    }
+}
+
+/// Drops the messages of earlier rounds than this one.
+pub(crate) fn drop_past(inbox: &mut Vec<u64>, letters: &[Option<Letter>], round: u64)
+    ensures { inbox.new.items ≡ filter (λ s. nat_le round (round_of letters.now s)) inbox.old.items }
+{
+    inbox.retain(|id| round <= round_of(letters, *id));
+}

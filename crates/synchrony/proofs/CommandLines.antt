@@ -1,0 +1,159 @@
+-- The lines `report FILE --correct LIST` and `replay FILE` ask for that report and that replay, and nothing
+-- in them is refused.
+use Rattle.std.proofs.Common.{◌≡◌, ◌∙◌, ap, ap₂, refl, ℕ, Bool, true, false, ◌==◌, List, [], ◌∷◌, Some, None, codes}
+use Rattle.std.specs.Prelude.{◌&&◌, if◌then◌else◌, option_and_then}
+use Rattle.std.specs.Str.{bytes_eq}
+use Rattle.clap.specs.Faults.{level_fault, settle_fault, defaults_fault, check_fault, step_fault, turn_fault, walk_fault}
+use Rattle.clap.specs.Lexer.{long_of, long_of_rest, short_of, short_of_rest, strip_byte}
+use Rattle.clap.specs.Kinds.{Kinds, or_else}
+use Rattle.clap.specs.Simple.{Shape, built, names_of}
+use Rattle.clap.specs.Walk.{Held, Text, Waiting, Walk, after_step, finished, nothing_held, plain_word, settled, subcommand_met, walk, walk_from, walked, word_met}
+use Rattle.clap.specs.Words.{Rule, fault_of}
+use Rattle.clap.proofs.OnLiterals.{clap_on_literals}
+use Rattle.synchrony.specs.Commands.{AsksForReplay, AsksForReport, is_flag, program, replay_app, replay_line, report_app, report_line}
+
+-- a word that is no flag is neither `--` nor a long nor a short flag
+pub not_dashes : (word : Text) → is_flag word ≡ false → bytes_eq word (45 ∷ 45 ∷ []) ≡ false
+not_dashes [] e = refl
+not_dashes (b ∷ []) e = go (b == 45)
+  where
+    go : (t : Bool) → t && false ≡ false
+    go true = refl
+    go false = refl
+not_dashes (b ∷ c ∷ rest) e = rw e refl
+
+pub not_long : (word : Text) → is_flag word ≡ false → long_of word ≡ None
+not_long [] e = refl
+not_long (b ∷ []) e = go (b == 45)
+  where
+    go : (t : Bool) → option_and_then long_of_rest (option_and_then (strip_byte 45) (if t then Some [] else None)) ≡ None
+    go true = refl
+    go false = refl
+not_long (b ∷ c ∷ rest) e = rw e refl
+
+pub not_short : (word : Text) → is_flag word ≡ false → short_of word ≡ None
+not_short [] e = refl
+not_short (b ∷ []) e = go (b == 45)
+  where
+    go : (t : Bool) → option_and_then short_of_rest (if t then Some [] else None) ≡ None
+    go true = refl
+    go false = refl
+not_short (b ∷ c ∷ rest) e = rw e refl
+
+-- such a word is no flag in a command with no subcommand
+pub plain_step : (c : List Rule) (waiting : Waiting) (position : ℕ) (word : Text) (h : Held) → is_flag word ≡ false
+    → subcommand_met [] waiting word ≡ None → word_met c [] false waiting position word h ≡ plain_word c waiting word h
+plain_step c waiting position word h e none = rw (none, not_dashes word e, not_long word e, not_short word e) refl
+
+-- the walk after one more such word
+abbrev after_plain : List Rule → Walk → Text → Walk
+after_plain c w word = after_step c word w (plain_word c w.waiting word w.held).0 (plain_word c w.waiting word w.held).1
+
+pub walked_plain : (c : List Rule) (w : Walk) (word : Text) → is_flag word ≡ false → subcommand_met [] w.waiting word ≡ None
+    → w.stopped ≡ None → w.is_trailing ≡ false → walked c [] w word ≡ after_plain c w word
+unfolding walked
+walked_plain c w word e none going on = rw (going, on, plain_step c w.waiting w.position word w.held e none) refl
+
+pub turn_plain : (s : Shape) (w : Walk) (word : Text) → is_flag word ≡ false → subcommand_met [] w.waiting word ≡ None
+    → w.stopped ≡ None → w.is_trailing ≡ false
+    → turn_fault s [] w word ≡ step_fault s w.position (plain_word s.rules w.waiting word w.held).0 (plain_word s.rules w.waiting word w.held).1
+turn_plain s w word e none going on =
+    rw (going, on, plain_step s.rules w.waiting w.position word w.held e none, none, not_dashes word e, not_long word e, not_short word e) refl
+
+abbrev first_shape : List Shape → Shape
+first_shape [] = report_app.top
+first_shape (s ∷ more) = s
+
+-- `report` as the parse reads it
+abbrev report : Shape
+report = first_shape (built program).subs
+
+abbrev second_shape : List Shape → Shape
+second_shape [] = replay_app.top
+second_shape (s ∷ more) = first_shape more
+
+-- `replay` likewise
+abbrev replay : Shape
+replay = second_shape (built program).subs
+
+-- where the walk over the words after a command stands
+abbrev start : Walk
+start = walk_from nothing_held
+
+abbrev after_file : Text → Walk
+after_file file = after_plain report.rules start file
+
+abbrev after_option : Text → Walk
+after_option file = walked report.rules [] (after_file file) (codes "--correct")
+
+abbrev after_list : Text → Text → Walk
+after_list file list = after_plain report.rules (after_option file) list
+
+walk_is : (file list : Text) → is_flag file ≡ false → is_flag list ≡ false
+    → walk report.rules [] nothing_held (file ∷ codes "--correct" ∷ list ∷ []) ≡ after_list file list
+unfolding clap_on_literals
+walk_is file list plain_file plain_list =
+    ap (λ w. walked report.rules [] (walked report.rules [] w (codes "--correct")) list) (walked_plain report.rules start file plain_file refl refl refl)
+    ∙ walked_plain report.rules (after_option file) list plain_list refl refl refl
+
+pub asks_for_report : (name file list : Text) → is_flag file ≡ false → is_flag list ≡ false → AsksForReport (report_line name file list) file list
+unfolding clap_on_literals
+asks_for_report name file list plain_file plain_list = record {
+  rows = finished report.rules (after_list file list).held;
+  named = ap (λ (w : Walk). Some (codes "report", finished report.rules w.held)) (walk_is file list plain_file plain_list);
+  file_is = refl;
+  list_is = refl;
+}
+
+-- nothing in the words after `report` is refused
+words_pass : (file list : Text) → is_flag file ≡ false → is_flag list ≡ false
+    → walk_fault report [] start (file ∷ codes "--correct" ∷ list ∷ []) ≡ []
+unfolding clap_on_literals
+words_pass file list plain_file plain_list =
+    ap₂ or_else (turn_plain report start file plain_file refl refl refl)
+    (ap (λ w. walk_fault report [] w (codes "--correct" ∷ list ∷ [])) (walked_plain report.rules start file plain_file refl refl refl)
+    ∙ ap (λ k. or_else k []) (turn_plain report (after_option file) list plain_list refl refl refl))
+
+-- nor is what they leave unsaid
+abbrev level_end : Shape → Kinds → Walk → Kinds
+level_end s met w =
+    or_else met (or_else [] (or_else (settle_fault s.rules s.args_override_self w.held)
+    (or_else (defaults_fault (settled s.rules w.held).rows s.rules) (check_fault s (finished s.rules w.held) false))))
+
+report_passes : (file list : Text) → is_flag file ≡ false → is_flag list ≡ false
+    → level_fault report [] nothing_held (file ∷ codes "--correct" ∷ list ∷ []) false [] ≡ []
+unfolding clap_on_literals
+report_passes file list plain_file plain_list =
+    ap₂ (level_end report) (words_pass file list plain_file plain_list) (walk_is file list plain_file plain_list)
+
+pub report_faultless : (name file list : Text) → is_flag file ≡ false → is_flag list ≡ false → fault_of program (report_line name file list) ≡ []
+unfolding clap_on_literals
+report_faultless name file list plain_file plain_list =
+    ap (λ below. level_fault (built program).top (names_of (built program)) nothing_held (codes "report" ∷ file ∷ codes "--correct" ∷ list ∷ []) true below)
+    (report_passes file list plain_file plain_list)
+
+after_replayed : (file : Text) → is_flag file ≡ false → walk replay.rules [] nothing_held (file ∷ []) ≡ after_plain replay.rules start file
+unfolding clap_on_literals
+after_replayed file plain = walked_plain replay.rules start file plain refl refl refl
+
+pub asks_for_replay : (name file : Text) → is_flag file ≡ false → AsksForReplay (replay_line name file) file
+unfolding clap_on_literals
+asks_for_replay name file plain = record {
+  rows = finished replay.rules (after_plain replay.rules start file).held;
+  named = ap (λ (w : Walk). Some (codes "replay", finished replay.rules w.held)) (after_replayed file plain);
+  file_is = refl;
+}
+
+replayed_passes : (file : Text) → is_flag file ≡ false → walk_fault replay [] start (file ∷ []) ≡ []
+unfolding clap_on_literals
+replayed_passes file plain = ap (λ k. or_else k []) (turn_plain replay start file plain refl refl refl)
+
+replay_passes : (file : Text) → is_flag file ≡ false → level_fault replay [] nothing_held (file ∷ []) false [] ≡ []
+unfolding clap_on_literals
+replay_passes file plain = ap₂ (level_end replay) (replayed_passes file plain) (after_replayed file plain)
+
+pub replay_faultless : (name file : Text) → is_flag file ≡ false → fault_of program (replay_line name file) ≡ []
+unfolding clap_on_literals
+replay_faultless name file plain =
+    ap (λ below. level_fault (built program).top (names_of (built program)) nothing_held (codes "replay" ∷ file ∷ []) true below)
+    (replay_passes file plain)

@@ -1,0 +1,17 @@
+-- What `write_trace`, or another call that makes a text first, did before a refusal.
+use Rattle.std.specs.Prelude.{◌≡◌, ◌≤◌, ℕ, List, length, take, Option}
+use Rattle.std.specs.Io.KnownBytes.{Appends}
+use Rattle.trace_text.specs.declared.counting.Counting.{Counting}
+use Rattle.trace_text.specs.declared.refusals.WriteError.{WriteError}
+use Rattle.trace_text.specs.declared.refusals.WriteError.TheVariants as fault
+use Rattle.trace_text.specs.ByteLoops.{MetOneFault}
+
+-- what went out before a refusal: the text's first bytes, and nothing for want of memory
+abbrev pub WroteBefore : WriteError → List ℕ → Option (List ℕ) → Option (List ℕ) → Type 0
+WroteBefore (fault.Write n) text old new = (n ≤ length text) × Appends old new (take n text)
+WroteBefore fault.Memory text old new = new ≡ old
+
+-- a write is refused for a fault or for a write that took no byte; want of memory leaves the writer as it was
+abbrev pub IsWriteCause : {T : Type 0} → WriteError → Counting T → Counting T → Type 0
+IsWriteCause (fault.Write n) old new = MetOneFault old new
+IsWriteCause fault.Memory old new = new ≡ old

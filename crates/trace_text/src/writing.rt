@@ -1,0 +1,188 @@
+//! Writing of trace text: the whole text first, then its bytes.
+
+ghost use Rattle.std.specs.Prelude.{◌≡◌, ◌<◌, ◌^◌, ◌++◌, IfOk, OnOk, IfErr, IsTrue, All, length, map, decimal, string_bytes};
+ghost use Rattle.std.specs.List.{join_with_byte};
+ghost use Rattle.std.specs.Io.KnownBytes.{Appends};
+ghost use Rattle.csv.specs.Records.{fields_of};
+ghost use Rattle.trace_text.specs.ByteLoops.{WasFaultless};
+ghost use Rattle.trace_text.specs.Faults.{inner_of, is_flushed};
+ghost use Rattle.trace_text.specs.Records.{record_line, text_of_records};
+ghost use Rattle.trace_text.specs.RecordWriting.{IsReady, IsPlain, ArePlain, written};
+ghost use Rattle.trace_text.specs.TextWriting.{WroteBefore, IsWriteCause};
+ghost use Rattle.trace_text.specs.TraceTexts.{IsTrace, StandsFor, trace_text, header_record, init_record, step_record, step_records, end_record, op_text, arg_text};
+
+use crate::byte_loops::{MAX_TEXT_BYTES, write_text};
+use crate::counting::Counting;
+use crate::record_writing::{
+    number_text, record_writer, text_written, write_byte_record, write_record,
+};
+use crate::refusals::WriteError;
+use csv::{ByteRecord, Writer};
+use std::alloc::{AllocError, Global};
+use std::io::Write;
+use step_trace::{Act, Step, Trace};
+
+/// Writes the text of a trace, and flushes.
+///
+/// Refusals: Write with the number of bytes that went out before, the text's first, only where the
+/// writer answered a fault or took no byte; Memory, and nothing was written.
+pub fn write_trace<W: Write>(
+    alloc: Global,
+    trace: &Trace,
+    writer: &mut Counting<W>,
+) -> Result<(), WriteError>
+    ensures whole { OnOk result
+        (Appends (W.contents (inner_of writer.old)) (W.contents (inner_of writer.new))
+        (trace_text trace.now)) }
+    ensures flushed { OnOk result (IsTrue (is_flushed writer.new)) }
+    ensures faultless { OnOk result (WasFaultless writer.old writer.new) }
+    ensures part { IfErr result
+        (λ e. WroteBefore e (trace_text trace.now) (W.contents (inner_of writer.old))
+        (W.contents (inner_of writer.new))) }
+    ensures cause { IfErr result (λ e. IsWriteCause e writer.old writer.new) }
+    ensures sound { IsTrace trace.now }
+    ensures stands { StandsFor (trace_text trace.now) trace.now }
+    ensures short { length (trace_text trace.now) < MAX_TEXT_BYTES }
+{
+    let Ok(text) = trace_text_of(alloc, trace) else {
+        return Err(WriteError::Memory);
+    };
+    write_text(&text, writer)
+}
+
+// The text of a trace.
+fn trace_text_of(alloc: Global, trace: &Trace) -> Result<Vec<u8>, AllocError>
+    ensures text { IfOk result (λ text. text.items ≡ trace_text trace.now) }
+    ensures sound { IsTrace trace.now }
+{
+    let config = trace.config();
+    let n = config.n();
+    let steps = trace.len() as u64;
+    let init = init_fields(alloc, config.init())?;
+    let mut writer = record_writer(alloc);
+    write_header(alloc, &mut writer, n, config.t())?;
+    write_byte_record(&mut writer, &init)?;
+    write_steps(alloc, &mut writer, trace)?;
+    write_end(alloc, &mut writer, steps)?;
+    text_written(writer)
+}
+
+// `dls-trace,1,N,t`
+fn write_header(
+    alloc: Global,
+    writer: &mut Writer<Vec<u8>>,
+    n: u64,
+    t: u64,
+) -> Result<(), AllocError>
+    requires { IsReady writer.old }
+    ensures ready { OnOk result (IsReady writer.new) }
+    ensures text { OnOk result
+        (written writer.new ≡ written writer.old ++ record_line (header_record n t)) }
+{
+    let processors = number_text(alloc, n)?;
+    let faulty = number_text(alloc, t)?;
+    write_record(
+        writer,
+        &[b"dls-trace", b"1", processors.as_bytes(), faulty.as_bytes()],
+    )
+}
+
+// `init,v1,..,vN`
+fn init_fields(alloc: Global, values: &[u64]) -> Result<ByteRecord, AllocError>
+    ensures fields { IfOk result (λ fields. fields_of fields ≡ init_record values.now) }
+    ensures plain { IfOk result (λ fields. ArePlain (fields_of fields)) }
+    ensures numbers { All (λ v. v < 2 ^ 64) values.now }
+{
+    let mut fields = ByteRecord::new(alloc);
+    fields.push_field(b"init")?;
+    for value in values {
+        fields.push_field(number_text(alloc, *value)?.as_bytes())?;
+    }
+    Ok(fields)
+}
+
+// A record for each step.
+fn write_steps(alloc: Global, writer: &mut Writer<Vec<u8>>, trace: &Trace) -> Result<(), AllocError>
+    requires { IsReady writer.old }
+    ensures ready { OnOk result (IsReady writer.new) }
+    ensures text { OnOk result (written writer.new
+        ≡ written writer.old ++ text_of_records (step_records 1 trace.now.steps)) }
+{
+    let mut no = 1;
+    while let Some(step) = trace.step(no) {
+        write_step(alloc, writer, no, step)?;
+        no += 1;
+    }
+    Ok(())
+}
+
+// `no,proc,op,arg`
+fn write_step(
+    alloc: Global,
+    writer: &mut Writer<Vec<u8>>,
+    no: u64,
+    step: &Step,
+) -> Result<(), AllocError>
+    requires { IsReady writer.old }
+    ensures ready { OnOk result (IsReady writer.new) }
+    ensures text { OnOk result
+        (written writer.new ≡ written writer.old ++ record_line (step_record no step.now)) }
+{
+    let number = number_text(alloc, no)?;
+    let proc = number_text(alloc, step.proc)?;
+    let arg = arg_text(alloc, &step.act)?;
+    let op = op_text(&step.act);
+    write_record(
+        writer,
+        &[number.as_bytes(), proc.as_bytes(), op, arg.as_bytes()],
+    )
+}
+
+fn op_text(act: &Act) -> &[u8]
+    ensures text { result.now ≡ op_text act.now }
+    ensures plain { IsPlain result.now }
+{
+    match act {
+        Act::Send { .. } => b"S",
+        Act::Receive { ends: false, .. } => b"R",
+        Act::Receive { ends: true, .. } => b"E",
+    }
+}
+
+fn arg_text(alloc: Global, act: &Act) -> Result<String, AllocError>
+    ensures text { IfOk result (λ text. string_bytes text ≡ arg_text act.now) }
+    ensures plain { IfOk result (λ text. IsPlain (string_bytes text)) }
+{
+    match act {
+        Act::Send { to } => number_text(alloc, *to),
+        Act::Receive { ids, .. } => ids_text(alloc, ids.as_slice()),
+    }
+}
+
+// Ids with one space between them.
+fn ids_text(alloc: Global, ids: &[u64]) -> Result<String, AllocError>
+    ensures text { IfOk result
+        (λ text. string_bytes text ≡ join_with_byte 32 (map decimal ids.now)) }
+    ensures plain { IfOk result (λ text. IsPlain (string_bytes text)) }
+{
+    let Some((first, rest)) = ids.split_first() else {
+        return Ok(String::new(alloc));
+    };
+    let mut text = number_text(alloc, *first)?;
+    for id in rest {
+        text.push(' ')?;
+        text.push_str(number_text(alloc, *id)?.as_str())?;
+    }
+    Ok(text)
+}
+
+// `end,L`
+fn write_end(alloc: Global, writer: &mut Writer<Vec<u8>>, steps: u64) -> Result<(), AllocError>
+    requires { IsReady writer.old }
+    ensures ready { OnOk result (IsReady writer.new) }
+    ensures text { OnOk result
+        (written writer.new ≡ written writer.old ++ record_line (end_record steps)) }
+{
+    let steps = number_text(alloc, steps)?;
+    write_record(writer, &[b"end", steps.as_bytes()])
+}

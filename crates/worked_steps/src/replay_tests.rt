@@ -1,0 +1,122 @@
+//! Traces that are made again by a World, and traces that aren't runs.
+
+use crate::long_scripts::{DECIDES_SEVEN, LOST_LOCK, NO_PROPOSAL};
+use crate::scripts::{E, R, Row, S, all_stand, recorded, records};
+use std::alloc::Global;
+use std::process::Abort;
+use std::test::Fail;
+use step_buffers::{Move, ReplayError, replay};
+use step_trace::Trace;
+
+// Whether a World makes all steps of a trace, and its processors then stand so.
+fn replays(
+    rt: &impl Abort,
+    alloc: Global,
+    trace: &Trace,
+    rows: &[(u64, u64, Option<u64>)],
+) -> bool {
+    match replay(alloc, trace) {
+        Ok(world) => world.trace().len() == trace.len() && all_stand(rt, &world, rows),
+        Err(_) => false,
+    }
+}
+
+// Whether the step of this number is the first of a trace that isn't one of a run.
+fn is_off_at(alloc: Global, trace: &Trace, no: u64) -> bool {
+    match replay(alloc, trace) {
+        Ok(_) => false,
+        Err(why) => why == ReplayError::NotARun(no),
+    }
+}
+
+// Whether this step is the first that isn't one of a run, after so many of the script that decides 7.
+fn is_off_after(rt: &impl Abort, alloc: Global, steps: usize, row: Row) -> Result<bool, Fail> {
+    assert!(rt; steps <= DECIDES_SEVEN.len());
+    let mut trace = recorded(rt, alloc, 1, &[5, 7, 7], &DECIDES_SEVEN[..steps])?;
+    let last = [row];
+    assert!(rt; records(rt, alloc, &mut trace, &last)?);
+    Ok(is_off_at(alloc, &trace, steps as u64 + 1))
+}
+
+#[test]
+fn a_run_that_decides_is_made_again(rt: HostRuntime) -> Result<(), Fail> {
+    let alloc = rt.alloc();
+    let trace = recorded(&rt, alloc, 1, &[5, 7, 7], &DECIDES_SEVEN)?;
+    assert!(rt;
+        replays(
+            &rt,
+            alloc,
+            &trace,
+            &[(1, 4, Some(7)), (2, 4, None), (3, 4, None)]
+        )
+    );
+    Ok(())
+}
+
+#[test]
+fn a_run_that_loses_a_lock_is_made_again(rt: HostRuntime) -> Result<(), Fail> {
+    let alloc = rt.alloc();
+    let mut trace = recorded(&rt, alloc, 1, &[5, 7, 9], &NO_PROPOSAL)?;
+    assert!(rt; records(&rt, alloc, &mut trace, &LOST_LOCK)?);
+    assert!(rt;
+        replays(
+            &rt,
+            alloc,
+            &trace,
+            &[(1, 8, None), (2, 8, Some(5)), (3, 8, None)]
+        )
+    );
+    Ok(())
+}
+
+#[test]
+fn no_steps_are_a_run(rt: HostRuntime) -> Result<(), Fail> {
+    let alloc = rt.alloc();
+    let trace = recorded(&rt, alloc, 0, &[5, 7], &[])?;
+    assert!(rt; replays(&rt, alloc, &trace, &[(1, 1, None), (2, 1, None)]));
+    Ok(())
+}
+
+// 1 is the owner of phase 1, and sends its list to itself.
+const ONE_MISS: [Row; 3] = [
+    (1, S, 1, [2, 0, 0]),
+    (2, R, 0, [0; 3]),
+    (2, R, 1, [1, 0, 0]),
+];
+
+#[test]
+fn one_miss_is_no_run(rt: HostRuntime) -> Result<(), Fail> {
+    let alloc = rt.alloc();
+    let trace = recorded(&rt, alloc, 0, &[5, 7], &ONE_MISS)?;
+    assert!(rt; is_off_at(alloc, &trace, 1));
+    Ok(())
+}
+
+// A destination passed over, a Send of who has nothing to send, and an end while messages are still to be sent.
+#[test]
+fn a_later_step_is_no_run(rt: HostRuntime) -> Result<(), Fail> {
+    let alloc = rt.alloc();
+    assert!(rt; is_off_after(&rt, alloc, 7, (1, S, 1, [3, 0, 0]))?);
+    assert!(rt; is_off_after(&rt, alloc, 8, (2, S, 1, [1, 0, 0]))?);
+    assert!(rt; is_off_after(&rt, alloc, 6, (1, E, 0, [0; 3]))?);
+    Ok(())
+}
+
+// The number of the step that 1 makes next in the World of a trace.
+fn next_number(alloc: Global, trace: &Trace) -> Option<u64> {
+    let Ok(mut world) = replay(alloc, trace) else {
+        return None;
+    };
+    match world.step(alloc, 1, Move::Send) {
+        Ok(done) => Some(done.no),
+        Err(_) => None,
+    }
+}
+
+#[test]
+fn a_run_goes_on(rt: HostRuntime) -> Result<(), Fail> {
+    let alloc = rt.alloc();
+    let trace = recorded(&rt, alloc, 1, &[5, 7, 7], &DECIDES_SEVEN)?;
+    assert!(rt; next_number(alloc, &trace) == Some(19));
+    Ok(())
+}
