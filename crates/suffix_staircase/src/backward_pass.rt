@@ -59,7 +59,7 @@ impl Pass {
     {
         let missed = self.receives.step_back(trace, self.set, no);
         self.next_steps.step_back(trace, self.set, no);
-        let long = tick_of(trace, missed).saturating_sub(tick_of(trace, no));
+        let long = tick_of(trace, missed).saturating_sub(trace.tick(no));
         self.level = with_miss(self.level, Miss { sent: no, missed }, long);
     }
 
