@@ -1,9 +1,10 @@
 //! Writes the trace text of a run of Algorithm 1 of a stated length to standard output: the same text for the same
 //! words.
 //!
-//!     generate_run STEPS SEED [PROCESSORS]
+//!     generate_run STEPS SEED [PROCESSORS [BURST]]
 //!
-//! There are 16 processors or as many as are named, of which as many may be faulty as Algorithm 1 bears. Whoever steps sends what it has to send in its round, and then
+//! There are 16 processors or as many as are named, of which as many may be faulty as Algorithm 1 bears. Who steps
+//! makes one step, or BURST steps in a row, as threads do that seldom give way to one another. Whoever steps sends what it has to send in its round, and then
 //! receives; it takes most of what waits for it, some messages later and a few never. Who is ahead of others ends its
 //! rounds seldom, so that most messages come in time, and processors decide.
 
@@ -24,6 +25,37 @@ use texts::Setup;
 use world::World;
 
 const PROCESSORS: u64 = 16;
+
+/// What the words ask for.
+struct Words {
+    steps: u64,
+    seed: u64,
+    processors: u8,
+    burst: u64,
+}
+
+impl Words {
+    fn read(words: impl Iterator<Item = String>) -> Option<Words> {
+        let words: Option<Vec<u64>> = words.map(|word| word.parse().ok()).collect();
+        let words = words?;
+        let &[steps, seed, ref rest @ ..] = words.as_slice() else {
+            return None;
+        };
+        let (processors, burst) = match *rest {
+            [] => (PROCESSORS, 1),
+            [processors] => (processors, 1),
+            [processors, burst] => (processors, burst),
+            _ => return None,
+        };
+        let is_meant = (2..=PROCESSORS).contains(&processors) && burst > 0;
+        is_meant.then_some(Words {
+            steps,
+            seed,
+            processors: processors as u8,
+            burst,
+        })
+    }
+}
 
 /// SplitMix64.
 struct Chance(u64);
@@ -91,9 +123,7 @@ impl Run {
         self.chance.once_in(if is_ahead { 8 } else { 2 })
     }
 
-    fn step(&mut self, out: &mut impl Write) -> io::Result<()> {
-        let processors = self.world.setup().processors;
-        let me = self.chance.below(processors.into()) as u8 + 1;
+    fn step(&mut self, me: u8, out: &mut impl Write) -> io::Result<()> {
         let no = self.world.len() + 1;
         if let Some(to) = self.world.next_destination(me) {
             self.world.send(me);
@@ -110,7 +140,7 @@ impl Run {
         writeln!(out)
     }
 
-    fn write(&mut self, steps: u64, out: &mut impl Write) -> io::Result<()> {
+    fn write(&mut self, words: &Words, out: &mut impl Write) -> io::Result<()> {
         let Setup {
             processors,
             faults,
@@ -122,25 +152,25 @@ impl Run {
             write!(out, ",{value}")?;
         }
         writeln!(out)?;
-        for _ in 0..steps {
-            self.step(out)?;
+        let mut me = 1;
+        for before in 0..words.steps {
+            if before % words.burst == 0 {
+                me = self.chance.below(words.processors.into()) as u8 + 1;
+            }
+            self.step(me, out)?;
         }
-        writeln!(out, "end,{steps}")?;
+        writeln!(out, "end,{}", words.steps)?;
         out.flush()
     }
 }
 
 fn main() -> ExitCode {
-    let words: Vec<Option<u64>> = env::args().skip(1).map(|word| word.parse().ok()).collect();
-    let (steps, seed, processors) = match words[..] {
-        [Some(steps), Some(seed)] => (steps, seed, PROCESSORS),
-        [Some(steps), Some(seed), Some(processors @ 2..=PROCESSORS)] => (steps, seed, processors),
-        _ => {
-            eprintln!("Usage: generate_run STEPS SEED [PROCESSORS]");
-            return ExitCode::from(2);
-        }
+    let Some(words) = Words::read(env::args().skip(1)) else {
+        eprintln!("Usage: generate_run STEPS SEED [PROCESSORS [BURST]]");
+        return ExitCode::from(2);
     };
-    match Run::new(seed, processors as u8).write(steps, &mut BufWriter::new(io::stdout().lock())) {
+    let mut run = Run::new(words.seed, words.processors);
+    match run.write(&words, &mut BufWriter::new(io::stdout().lock())) {
         Ok(()) => ExitCode::SUCCESS,
         Err(error) => {
             eprintln!("generate_run: {error}");
