@@ -96,7 +96,12 @@ impl Pass {
         ensures receives { self.new.receives ≡ self.old.receives }
         ensures next_steps { self.new.next_steps ≡ self.old.next_steps }
     {
-        self.level = with_gap(self.level, self.next_steps.latest(), g, self.next_steps.until());
+        self.level = with_gap(
+            self.level,
+            self.next_steps.latest(),
+            g,
+            self.next_steps.until(),
+        );
         self.level
     }
 }

@@ -58,7 +58,7 @@ ticks_back-requires-in-loop-no-clause-known c =
     let known = subst (λ (s : ℕ). KnowsTicksFrom s t k (tick_of t k + 1) c.loop-no.pass c.loop-no.builder) (sym inv.steps.members) inv in
     rw c.tick.ensures.value
     (subst (λ (s : ℕ). KnowsTicksFrom s t (k - 1) (tick_of t k + 1) c.step_back.new.self c.loop-no.builder) (sym back.known.members)
-      (KnowsTicksFrom-step c.loop-no.pass.set t k (tick_of t k + 1) c.loop-no.pass c.step_back.new.self c.loop-no.builder known back.known back.falling back.phi back.gap))
+    (KnowsTicksFrom-step c.loop-no.pass.set t k (tick_of t k + 1) c.loop-no.pass c.step_back.new.self c.loop-no.builder known back.known back.falling back.phi back.gap))
 
 pub loop-no-preserved : goal.loop-no-preserved
 loop-no-preserved c =
