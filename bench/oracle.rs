@@ -1,10 +1,15 @@
-//! The report of a trace straight from the definitions: every number is tried in turn, so it is cubic in the steps
-//! and worse, and shares no line with the other programs. `bench/compare` and `tests/` take their answers from it.
+//! The report of a trace, and what a run makes of its processors, straight from the definitions: every number is
+//! tried in turn, so it is cubic in the steps and worse, and shares no line with the other programs.
+//! `bench/compare` and `tests/` take their answers from it.
 //!
 //!     oracle report FILE --correct LIST
+//!     oracle replay FILE
 //!
 //! It reads texts byte by byte, as the state machine of comma-separated fields is written down.
 
+mod oracle_runs;
+
+use oracle_runs::Runs;
 use std::env;
 use std::fs::File;
 use std::io::Read;
@@ -24,11 +29,15 @@ enum Act {
 struct Step {
     processor: Processor,
     act: Act,
+    /// Whether it ends its processor's round.
+    ends: bool,
 }
 
 /// Steps are numbered from 1.
 struct Trace {
     processors: u64,
+    faults: u64,
+    values: Vec<u64>,
     steps: Vec<Step>,
 }
 
@@ -38,13 +47,16 @@ fn main() {
         .map(|word| word.into_string().ok())
         .collect();
     let words = words.unwrap_or_else(|| fault("bad command line", 2));
-    let (file, list) = match words.iter().map(String::as_str).collect::<Vec<_>>()[..] {
-        ["report", file, "--correct", list] => (file, list),
+    match words.iter().map(String::as_str).collect::<Vec<_>>()[..] {
+        ["report", file, "--correct", list] => report(file, list),
+        ["replay", file] => replay(file),
         _ => fault("bad command line", 2),
-    };
+    }
+}
+
+fn report(file: &str, list: &str) {
     let correct = read_list(list).unwrap_or_else(|| fault("bad --correct", 2));
-    let text = read_all(file);
-    let trace = read_trace(&text).unwrap_or_else(|why| fault(&format!("trace: {why}"), 3));
+    let trace = trace_of(file);
     if correct
         .iter()
         .any(|&processor| processor > trace.processors)
@@ -65,6 +77,24 @@ fn main() {
             .map_or(",,".into(), |(p, x, y)| format!("{p},{x},{y}"));
         println!("{gst},{delta},{phi},{miss},{gap}");
     }
+}
+
+fn replay(file: &str) {
+    let trace = trace_of(file);
+    let runs = Runs::new(&trace);
+    if let Some(no) = runs.first_fault() {
+        fault(&format!("not a run: step {no}"), 7);
+    }
+    println!("proc,round,decision");
+    for p in runs.processors() {
+        let (round, decision) = runs.standing(p);
+        let decision = decision.map_or("".into(), |it| it.to_string());
+        println!("{p},{round},{decision}");
+    }
+}
+
+fn trace_of(file: &str) -> Trace {
+    read_trace(&read_all(file)).unwrap_or_else(|why| fault(&format!("trace: {why}"), 3))
 }
 
 fn fault(text: &str, status: i32) -> ! {
@@ -327,6 +357,8 @@ fn read_trace(text: &[u8]) -> Result<Trace, String> {
     }
     let mut trace = Trace {
         processors: n,
+        faults: t,
+        values: records[1][1..].iter().filter_map(|it| number(it)).collect(),
         steps: Vec::new(),
     };
     for (at, record) in records.iter().enumerate().skip(2) {
@@ -362,7 +394,12 @@ fn read_trace(text: &[u8]) -> Result<Trace, String> {
         let (Some(processor), Some(act)) = (number(processor), act) else {
             return refused("bad number");
         };
-        let step = Step { processor, act };
+        let ends = operation == b"E";
+        let step = Step {
+            processor,
+            act,
+            ends,
+        };
         if let Some(why) = refusal(&trace, &step) {
             return refused(&why);
         }

@@ -24,11 +24,23 @@ one_more steps i p x inside is =
     ∙ ap (λ k. own_steps (take i steps) p ++ filter (λ y. y.1.proc == p) ((k, x) ∷ [])) (omega (arith, length-take i steps))
 
 -- it is one of p
-pub own_steps-more : (steps : List Step) (i p : ℕ) (x : Step) → i < length steps → x ≡ get_or steps i x → x.proc ≡ p
+own_steps-more : (steps : List Step) (i p : ℕ) (x : Step) → i < length steps → x ≡ get_or steps i x → x.proc ≡ p
     → own_steps (take (i + 1) steps) p ≡ own_steps (take i steps) p ++ (i + 1, x) ∷ []
 own_steps-more steps i p x inside is own =
     let test : (x.proc == p) ≡ true = grind (arith, nat_tests) in
     rw test at (one_more steps i p x inside is)
+
+-- it is one of p, and was appended with its number
+pub own_steps-pushed : (steps : List Step) (i p : ℕ) (x : Step) (before after : List (ℕ × Step)) (pair : ℕ × Step) → i < length steps → x ≡ get_or steps i x → x.proc ≡ p
+    → before ≡ own_steps (take i steps) p
+    → pair ≡ (i + 1, x)
+    → after ≡ before ++ pair ∷ []
+    → after ≡ own_steps (take (i + 1) steps) p
+own_steps-pushed steps i p x before after pair inside is own so_far numbered pushed =
+    pushed
+    ∙ ap (λ y. before ++ y ∷ []) numbered
+    ∙ ap (λ xs. xs ++ (i + 1, x) ∷ []) so_far
+    ∙ sym (own_steps-more steps i p x inside is own)
 
 -- it is none of p
 pub own_steps-other : (steps : List Step) (i p : ℕ) (x : Step) → i < length steps → x ≡ get_or steps i x → (x.proc ≡ p → ⊥)

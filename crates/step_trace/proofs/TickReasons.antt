@@ -1,8 +1,9 @@
 -- What a reason against a step in a tick says, and what a step has where none stands against it.
 use Rattle.std.proofs.Common.{ℕ, ◌≡◌, ◌≢◌, ◌+◌, ◌<◌, ◌≤◌, ◌⊎◌, inl, inr, List, [], ◌∷◌, ◌++◌, length, Option, Some, None, Bool, true, false, not, refl, sym, ap, ◌∙◌, subst, suc, zero, arith, eq-eqb}
-use Rattle.std.specs.Prelude.{Contains, All, nat_lt, nat_le, ◌&&◌, ◌==◌, find, cond}
+use Rattle.std.specs.Prelude.{Contains, All, Result, Ok, Err, OnOk, nat_lt, nat_le, ◌&&◌, ◌==◌, find, cond}
 use Rattle.std.specs.Option.{option_map_or}
 use Rattle.std.proofs.lemmas.Bool.{cases_lt, cases_eq, and_parts, eqb-true}
+use Rattle.std.proofs.lemmas.Grind.{common_steps}
 use Rattle.std.proofs.lemmas.Bool.Decides.{nat_tests}
 use Rattle.std.proofs.lemmas.List.Elements.{All-contains, All-weaker, All-contains_itself}
 use Rattle.std.proofs.lemmas.Option.{none-some, same_Some}
@@ -15,10 +16,11 @@ use Rattle.step_trace.specs.declared.steps.Step.{Step}
 use Rattle.step_trace.specs.Configurations.{IsProc, is_proc}
 use Rattle.step_trace.specs.Steps.{act_ids}
 use Rattle.step_trace.specs.Traces.{Recorded, step_at}
-use Rattle.step_trace.specs.Ticks.{tick_at, tick_of, IsTrace, CanAppend}
+use Rattle.step_trace.specs.Ticks.{tick_at, tick_of, IsTrace, IsOnePerTick, with_step, CanAppend}
 use Rattle.step_trace.specs.PushRefusals.{is_taken, is_message, is_sent_to, is_rising, refusal, act_refusal, first_id, IsRefusal}
-use Rattle.step_trace.specs.TickRefusals.{may_end_in, comes_after_last, is_sent_in, ids_refusal_in, act_refusal_in, refusal_in, IsJustifiedIn, NamesLeastIn}
+use Rattle.step_trace.specs.TickRefusals.{may_end_in, comes_after_last, is_sent_in, ids_refusal_in, act_refusal_in, refusal_in, next_refusal, IsJustifiedIn, NamesLeastIn}
 use Rattle.step_trace.proofs.StepPositions.{step_at_within}
+use Rattle.step_trace.proofs.TickPositions.{tick_at-push_old, tick_at-push_last, tick_of-limit}
 use Rattle.step_trace.proofs.FittingSteps.{true_if, is_proc-true, find-none, Fits, none_from_Fits}
 use Rattle.step_trace.proofs.Refusals.{cond_none, first_id_none, find_all, Fits-from_none}
 use Rattle.step_trace.proofs.NamedReasons.{found, failing, passing}
@@ -203,3 +205,57 @@ pub known_from_none : (trace : Recorded) (tick : ℕ) (x : Step) → IsTrace tra
 known_from_none trace tick x t h =
     let f = FitsIn-from_none trace tick x t h in
     All-weaker (Contains (act_ids x.act)) (λ s. (0 < s) × (s ≤ length trace.steps)) (λ s d. step_at_within trace.steps s _ (f.fits.sent s d).1) (act_ids x.act) (All-contains_itself (act_ids x.act))
+
+-- With one step in each tick, as many ticks have passed as there are steps, and each message was sent in an earlier
+-- tick than the next.
+sent_before : (trace : Recorded) → IsTrace trace → (s : ℕ) → is_sent_in trace.ticks (trace.last + 1) s ≡ false
+sent_before trace t s = let l = tick_of-limit trace t.time s in differs (tick_of trace s) (trace.last + 1) (omega (arith, l))
+
+act_by_number : (trace : Recorded) → IsTrace trace → (p : ℕ) (a : Act) → act_refusal_in trace (trace.last + 1) p a ≡ act_refusal trace.config trace.steps p a
+act_by_number trace t p (Send to) = refl
+act_by_number trace t p (Receive ends ids) = rw (find-none (is_sent_in trace.ticks (trace.last + 1)) ids (λ s d. sent_before trace t s)) refl
+
+-- So the reason against one more step in the next tick is the one by numbers.
+pub next_refusal-by_number : (trace : Recorded) (x : Step) → IsTrace trace → IsOnePerTick trace → next_refusal trace x ≡ refusal trace.config trace.steps x
+next_refusal-by_number trace x t one = go (nat_lt (length trace.steps) MAX_STEPS) refl where
+  same : nat_lt trace.last MAX_TICKS ≡ nat_lt (length trace.steps) MAX_STEPS
+  same = ap (λ n. nat_lt n MAX_TICKS) one.end
+
+  after : (o : Option Step) → option_map_or (λ y. not (tick_at trace.ticks (length trace.steps) == trace.last + 1 && nat_le x.proc y.proc)) o true ≡ true
+  after None = refl
+  after (Some y) =
+      let l = tick_of-limit trace t.time (length trace.steps) in
+      rw (differs (tick_of trace (length trace.steps)) (trace.last + 1) (omega (arith, l))) refl
+
+  go : (b : Bool) → nat_lt (length trace.steps) MAX_STEPS ≡ b → next_refusal trace x ≡ refusal trace.config trace.steps x
+  go false e = rw (same, e) refl
+  go true e =
+      let below : length trace.steps < MAX_STEPS = grind (arith, nat_tests) in
+      let end = one.end in
+      let low : nat_lt 0 (trace.last + 1) ≡ true = grind (arith, nat_tests) in
+      let forward : nat_le trace.last (trace.last + 1) ≡ true = grind (arith, nat_tests) in
+      let high : nat_le (trace.last + 1) MAX_TICKS ≡ true = let l : trace.last + 1 ≤ MAX_TICKS = (let m : length trace.steps < MAX_TICKS = below in omega (arith, m, end)) in grind (arith, nat_tests) in
+      rw (same, e, low, forward, high, after (step_at trace.steps (length trace.steps)), act_by_number trace t x.proc x.act) refl
+
+-- and there is one step in each tick again
+pub IsOnePerTick-push : (trace : Recorded) (x : Step) → IsTrace trace → IsOnePerTick trace → IsOnePerTick (with_step trace (trace.last + 1) x)
+IsOnePerTick-push trace x t one = record {
+  end = let e = one.end in grind (arith, common_steps);
+  each = λ k l. each k (cases_lt (length trace.steps) k) (let m : k ≤ length trace.steps + 1 = grind (arith, common_steps) in m);
+} where
+  each : (k : ℕ) → (length trace.steps < k) ⊎ (k ≤ length trace.steps) → k ≤ length trace.steps + 1 → tick_of (with_step trace (trace.last + 1) x) k ≡ k
+  each k (inl l) m =
+      let long = t.time.each in
+      let end = one.end in
+      let place : suc (length trace.ticks) ≡ k = omega (arith, long, l, m) in
+      let value : trace.last + 1 ≡ k = omega (arith, end, l, m) in
+      subst (λ n. tick_at (trace.ticks ++ (trace.last + 1) ∷ []) n ≡ k) place (tick_at-push_last trace.ticks (trace.last + 1) ∙ value)
+  each k (inr l) m =
+      let long = t.time.each in
+      tick_at-push_old trace.ticks (trace.last + 1) k (omega (arith, long, l)) ∙ one.each k l
+
+-- where the answer is Ok
+pub IsOnePerTick-appended : {X E : Type 0} (trace : Recorded) (x : Step) → IsTrace trace → IsOnePerTick trace → (result : Result X E) (new : Recorded)
+    → OnOk result (new ≡ with_step trace (trace.last + 1) x) → OnOk result (IsOnePerTick new)
+IsOnePerTick-appended trace x t one (Ok v) new e = subst (λ (z : Recorded). IsOnePerTick z) (sym e) (IsOnePerTick-push trace x t one)
+IsOnePerTick-appended trace x t one (Err v) new e = tt

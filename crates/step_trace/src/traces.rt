@@ -79,7 +79,7 @@ impl Trace {
     ghost use Rattle.step_trace.specs.Ticks.{tick_of, IsTimed, IsTrace, IsOnePerTick, with_step, with_last};
     ghost use Rattle.step_trace.specs.Extensions.{Extends};
     ghost use Rattle.step_trace.specs.OwnSteps.{own_steps};
-    ghost use Rattle.step_trace.specs.PushRefusals.{IsRefusal};
+    ghost use Rattle.step_trace.specs.PushRefusals.{refusal, IsRefusal};
     ghost use Rattle.step_trace.specs.TickRefusals.{refusal_in, next_refusal, IsJustifiedIn, NamesLeastIn};
 
     /// The trace of a configuration that has no steps, and no tick yet. Takes no memory.
@@ -204,12 +204,15 @@ impl Trace {
         ensures refused { IfErr result (λ e. IsRefusal e (next_refusal self.old step)) }
         ensures justified { IfErr result (λ e. IsJustifiedIn self.old (self.old.last + 1) step e) }
         ensures least { IfErr result (λ e. NamesLeastIn self.old (self.old.last + 1) step e) }
+        ensures by_number { IsOnePerTick self.old → next_refusal self.old step ≡ refusal self.old.config self.old.steps step }
+        ensures one_per_tick { IsOnePerTick self.old → OnOk result (IsOnePerTick self.new) }
         ensures err { OnErr result (self.new ≡ self.old) }
     {
         if self.last >= MAX_TICKS {
             return Err(PushError::Full);
         }
-        self.push_at(self.last + 1, step)
+        let next = self.last + 1;
+        self.push_at(next, step)
     }
 
     /// Appends a step in this tick, in time that grows with the ids that it takes.

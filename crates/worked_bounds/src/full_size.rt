@@ -39,6 +39,26 @@ fn greatest_trace(rt: HostRuntime) -> Result<(), Fail> {
     Ok(())
 }
 
+fn is_copied(alloc: Global, trace: &Trace) -> Result<bool, AllocError> {
+    let copy = trace.copy(alloc)?;
+    Ok(copy.begins(trace) && trace.begins(&copy))
+}
+
+// Whether a trace of so many steps is copied whole, and as many of its steps are those of processor 1.
+fn copies_turns(alloc: Global, count: u64, own: usize) -> Result<bool, Fail> {
+    let mut trace = empty_trace(alloc, 2)?;
+    push_turns(alloc, &mut trace, count)?;
+    let listed = trace.restrict(alloc, 1)?.len();
+    Ok(is_copied(alloc, &trace)? && listed == own)
+}
+
+// Processor 1 has the odd steps, and the 10,000 even ones in the middle.
+#[test]
+fn copy_of_the_greatest_trace(rt: HostRuntime) -> Result<(), Fail> {
+    assert!(rt; copies_turns(rt.alloc(), MAX_STEPS as u64, 510_000)?);
+    Ok(())
+}
+
 // The longest gaps of both processors in such a trace; none where it hasn't both.
 fn gaps_of_turns(alloc: Global, count: u64) -> Result<Vec<Gap>, Fail> {
     let mut trace = empty_trace(alloc, 2)?;

@@ -1,13 +1,17 @@
-//! Worked examples of traces, of bounds and of stairs, and the backward pass beside the plain searches:
-//! tests of the crates below, by their public items.
+//! Worked examples of traces, of gates, of bounds and of stairs, and the backward pass beside the plain
+//! searches: tests of the crates below, by their public items.
 #![tactic(auto)]
 
 #[cfg(test)]
 mod bounds_by_hand;
 #[cfg(test)]
+mod extensions_by_hand;
+#[cfg(test)]
 mod full_size;
 #[cfg(test)]
 mod gaps_by_hand;
+#[cfg(test)]
+mod gates_by_hand;
 #[cfg(test)]
 mod long_stairs;
 #[cfg(test)]

@@ -3,6 +3,8 @@
 #![tactic(auto)]
 
 #[cfg(test)]
+mod copy_tests;
+#[cfg(test)]
 mod refusal_tests;
 #[cfg(test)]
 mod run_tests;

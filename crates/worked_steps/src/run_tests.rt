@@ -56,8 +56,8 @@ fn an_early_message_is_heard_in_its_round(rt: HostRuntime) -> Result<(), Fail> {
     Ok(())
 }
 
-// Three rounds: lists, the lock on 7, and acknowledgements.
-const DECIDES_SEVEN: [Row; 18] = [
+/// Three rounds: lists, the lock on 7, and acknowledgements.
+pub const DECIDES_SEVEN: [Row; 18] = [
     (1, S, 0, [0; 3]),
     (2, S, 0, [0; 3]),
     (3, S, 0, [0; 3]),

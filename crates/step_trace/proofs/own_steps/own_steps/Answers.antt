@@ -1,6 +1,6 @@
-use Rattle.std.proofs.Common.{◌+◌, ◌++◌, ◌∷◌, [], ◌∙◌, sym, ap}
+use Rattle.std.proofs.Common.{◌∙◌, sym}
 use Rattle.std.proofs.lemmas.Result.{err_from_is_err_and}
-use Rattle.step_trace.proofs.OwnSteps.{own_steps-more, own_steps-other, own_steps-some}
+use Rattle.step_trace.proofs.OwnSteps.{own_steps-pushed, own_steps-other, own_steps-some}
 use Rattle.step_trace.proofs.own_steps.own_steps.Goals as goal
 use Rattle.step_trace.proofs.own_steps.own_steps.Goals.{then-step-p+in_ok-numbered+in_ok-push, else-step-p}
 
@@ -21,10 +21,6 @@ loop-i-preserved c =
     let inside = c.loop-i-test.true in
     let is = c.index-steps-i.is in
     elim c.if-step-p.branch [
-      | then-step-p+in_ok-numbered+in_ok-push w ↦ rw w.own-is (
-          w.in_ok-push.ensures.items
-          ∙ ap (λ x. c.loop-i.own.items ++ x ∷ []) w.in_ok-numbered.ensures
-          ∙ ap (λ xs. xs ++ (i + 1, c.index-steps-i.result) ∷ []) c.loop-i.invariant
-          ∙ sym (own_steps-more steps i c.args.p c.index-steps-i.result inside is w.if-step-p.true))
+      | then-step-p+in_ok-numbered+in_ok-push w ↦ rw w.own-is (own_steps-pushed steps i c.args.p c.index-steps-i.result c.loop-i.own.items w.push.new.self.items w.in_ok-numbered.field-0 inside is w.if-step-p.true c.loop-i.invariant w.in_ok-numbered.ensures w.in_ok-push.ensures.items)
       | else-step-p w ↦ rw w.own-is (c.loop-i.invariant ∙ sym (own_steps-other steps i c.args.p c.index-steps-i.result inside is w.if-step-p.false))
     ]

@@ -1,0 +1,410 @@
+//! Trace texts: numbers, records of comma-separated fields, and the traces that they stand for.
+
+use std::borrow::Cow;
+use std::fmt;
+
+/// The most steps that a trace may have.
+const STEP_LIMIT: usize = 1_000_000;
+/// The most processors that a trace may be of.
+pub const PROCESSOR_LIMIT: u64 = 16;
+
+/// The number that a field says in decimal digits, with no sign and no leading zero but `0` itself.
+pub fn number(field: &[u8]) -> Option<u64> {
+    match field {
+        [] | [b'0', _, ..] => None,
+        digits => digits.iter().try_fold(0_u64, |value, &digit| {
+            let digit = digit.wrapping_sub(b'0');
+            if digit > 9 {
+                return None;
+            }
+            value.checked_mul(10)?.checked_add(digit.into())
+        }),
+    }
+}
+
+// Records of comma-separated fields
+
+/// Reads the records of a text: fields may be quoted, a line ends by a line feed, a carriage return or both, and
+/// blank lines are no records.
+struct Records<'a> {
+    rest: &'a [u8],
+}
+
+/// How a field ends.
+enum FieldEnd {
+    Comma,
+    Record,
+}
+
+impl<'a> Records<'a> {
+    fn new(text: &'a [u8]) -> Self {
+        Records {
+            rest: text.strip_prefix(b"\xef\xbb\xbf").unwrap_or(text),
+        }
+    }
+
+    /// Reads the next record into `fields`, and returns whether there was one.
+    fn read(&mut self, fields: &mut Vec<Cow<'a, [u8]>>) -> bool {
+        fields.clear();
+        while let [b'\n' | b'\r', rest @ ..] = self.rest {
+            self.rest = rest;
+        }
+        if self.rest.is_empty() {
+            return false;
+        }
+        loop {
+            let (field, end) = match self.rest {
+                [b'"', rest @ ..] => {
+                    self.rest = rest;
+                    self.quoted()
+                }
+                _ => {
+                    let (field, end) = self.plain();
+                    (Cow::Borrowed(field), end)
+                }
+            };
+            fields.push(field);
+            if let FieldEnd::Record = end {
+                return true;
+            }
+        }
+    }
+
+    /// The bytes up to a comma or the line's end.
+    fn plain(&mut self) -> (&'a [u8], FieldEnd) {
+        let text = self.rest;
+        match text
+            .iter()
+            .position(|byte| matches!(byte, b',' | b'\n' | b'\r'))
+        {
+            Some(at) => {
+                self.rest = &text[at + 1..];
+                let end = if text[at] == b',' {
+                    FieldEnd::Comma
+                } else {
+                    FieldEnd::Record
+                };
+                (&text[..at], end)
+            }
+            None => {
+                self.rest = &[];
+                (text, FieldEnd::Record)
+            }
+        }
+    }
+
+    /// A field after its opening quote: two quotes stand for one, and what follows the closing quote is taken as it is.
+    fn quoted(&mut self) -> (Cow<'a, [u8]>, FieldEnd) {
+        let mut field = Vec::new();
+        while let Some(at) = self.rest.iter().position(|&byte| byte == b'"') {
+            field.extend_from_slice(&self.rest[..at]);
+            self.rest = &self.rest[at + 1..];
+            if let [b'"', rest @ ..] = self.rest {
+                field.push(b'"');
+                self.rest = rest;
+            } else {
+                let (tail, end) = self.plain();
+                field.extend_from_slice(tail);
+                return (Cow::Owned(field), end);
+            }
+        }
+        field.extend_from_slice(self.rest);
+        self.rest = &[];
+        (Cow::Owned(field), FieldEnd::Record)
+    }
+}
+
+// Traces
+
+/// What a step does, with what the commands ask of it. Steps are numbered from 1, and 0 stands for no step.
+#[derive(Clone, Copy)]
+pub enum Act {
+    /// A message to `to`, and the Receive that took it.
+    Send { to: u8, taken: u32 },
+    /// The Receive of the same processor before this one, and whether this one ends its round.
+    Receive { before: u32, ends: bool },
+}
+
+#[derive(Clone, Copy)]
+pub struct Step {
+    pub processor: u8,
+    pub act: Act,
+}
+
+/// How many processors there are, how many may be faulty, and the initial value of each.
+#[derive(Clone)]
+pub struct Setup {
+    pub processors: u8,
+    pub faults: u8,
+    pub values: Vec<u64>,
+}
+
+pub struct Trace {
+    pub setup: Setup,
+    pub steps: Vec<Step>,
+    /// The last Receive of each processor, by its number less one.
+    pub last_receives: [u32; PROCESSOR_LIMIT as usize],
+}
+
+pub enum TraceFault {
+    TooLarge,
+    BadHeader,
+    BadVersion,
+    BadSize,
+    BadInit,
+    BadStep(u32, StepFault),
+    NoEnd,
+    WrongEnd,
+    AfterEnd,
+}
+
+pub enum StepFault {
+    BadFields,
+    WrongNumber,
+    BadOperation,
+    BadNumber,
+    Full,
+    NoProcessor,
+    NoDestination,
+    IdsNotRising,
+    Unknown(u64),
+    NotAddressed(u64),
+    Redelivered(u64),
+}
+
+impl fmt::Display for TraceFault {
+    fn fmt(&self, f: &mut fmt::Formatter) -> fmt::Result {
+        f.write_str(match self {
+            TraceFault::TooLarge => "text too large",
+            TraceFault::BadHeader => "bad header",
+            TraceFault::BadVersion => "bad version",
+            TraceFault::BadSize => "bad size",
+            TraceFault::BadInit => "bad init",
+            TraceFault::BadStep(no, why) => return write!(f, "step {no}: {why}"),
+            TraceFault::NoEnd => "no end",
+            TraceFault::WrongEnd => "wrong end",
+            TraceFault::AfterEnd => "text after end",
+        })
+    }
+}
+
+impl fmt::Display for StepFault {
+    fn fmt(&self, f: &mut fmt::Formatter) -> fmt::Result {
+        match self {
+            StepFault::BadFields => f.write_str("bad fields"),
+            StepFault::WrongNumber => f.write_str("wrong number"),
+            StepFault::BadOperation => f.write_str("bad operation"),
+            StepFault::BadNumber => f.write_str("bad number"),
+            StepFault::Full => f.write_str("trace is full"),
+            StepFault::NoProcessor => f.write_str("no such processor"),
+            StepFault::NoDestination => f.write_str("no such destination"),
+            StepFault::IdsNotRising => f.write_str("ids do not rise"),
+            StepFault::Unknown(id) => write!(f, "message {id} unknown"),
+            StepFault::NotAddressed(id) => write!(f, "message {id} is for another processor"),
+            StepFault::Redelivered(id) => write!(f, "message {id} was received before"),
+        }
+    }
+}
+
+impl Trace {
+    /// The trace that a text stands for, or the first refusal.
+    pub fn from_text(text: &[u8]) -> Result<Trace, TraceFault> {
+        let mut records = Records::new(text);
+        let mut fields = Vec::new();
+        records.read(&mut fields);
+        let (processors, faults) = read_header(&fields)?;
+        records.read(&mut fields);
+        let values = read_init(&fields, processors)?;
+        let mut trace = Trace {
+            setup: Setup {
+                processors,
+                faults,
+                values,
+            },
+            steps: Vec::new(),
+            last_receives: [0; PROCESSOR_LIMIT as usize],
+        };
+        let mut ids = Vec::new();
+        while records.read(&mut fields) {
+            let no = trace.len() + 1;
+            if fields[0] == b"end".as_slice() {
+                trace.check_end(no, &fields)?;
+                return match records.read(&mut fields) {
+                    false => Ok(trace),
+                    true => Err(TraceFault::AfterEnd),
+                };
+            }
+            trace
+                .read_step(no, &fields, &mut ids)
+                .map_err(|why| TraceFault::BadStep(no, why))?;
+        }
+        Err(TraceFault::NoEnd)
+    }
+
+    pub fn len(&self) -> u32 {
+        self.steps.len() as u32
+    }
+
+    /// The step with a number that is known to be in the trace.
+    pub fn step(&self, no: u32) -> Step {
+        self.steps[no as usize - 1]
+    }
+
+    fn check_end(&self, no: u32, fields: &[Cow<[u8]>]) -> Result<(), TraceFault> {
+        let [_, length] = fields else {
+            return Err(TraceFault::BadStep(no, StepFault::BadFields));
+        };
+        match number(length) == Some(self.len().into()) {
+            true => Ok(()),
+            false => Err(TraceFault::WrongEnd),
+        }
+    }
+
+    fn read_step(
+        &mut self,
+        no: u32,
+        fields: &[Cow<[u8]>],
+        ids: &mut Vec<u64>,
+    ) -> Result<(), StepFault> {
+        let [first, processor, operation, argument] = fields else {
+            return Err(StepFault::BadFields);
+        };
+        if number(first) != Some(no.into()) {
+            return Err(StepFault::WrongNumber);
+        }
+        let operation = match operation.as_ref() {
+            &[operation @ (b'S' | b'R' | b'E')] => operation,
+            _ => return Err(StepFault::BadOperation),
+        };
+        let processor = number(processor).ok_or(StepFault::BadNumber)?;
+        if operation == b'S' {
+            let to = number(argument).ok_or(StepFault::BadNumber)?;
+            self.push_send(processor, to)
+        } else {
+            read_ids(argument, ids).ok_or(StepFault::BadNumber)?;
+            self.push_receive(no, processor, ids, operation == b'E')
+        }
+    }
+
+    /// The processor with a number, if the trace has room for a step of it.
+    fn stepping(&self, processor: u64) -> Result<u8, StepFault> {
+        if self.steps.len() == STEP_LIMIT {
+            return Err(StepFault::Full);
+        }
+        self.processor(processor).ok_or(StepFault::NoProcessor)
+    }
+
+    fn processor(&self, number: u64) -> Option<u8> {
+        (1..=u64::from(self.setup.processors))
+            .contains(&number)
+            .then_some(number as u8)
+    }
+
+    fn push_send(&mut self, processor: u64, to: u64) -> Result<(), StepFault> {
+        let processor = self.stepping(processor)?;
+        let to = self.processor(to).ok_or(StepFault::NoDestination)?;
+        self.steps.push(Step {
+            processor,
+            act: Act::Send { to, taken: 0 },
+        });
+        Ok(())
+    }
+
+    fn push_receive(
+        &mut self,
+        no: u32,
+        processor: u64,
+        ids: &[u64],
+        ends: bool,
+    ) -> Result<(), StepFault> {
+        let processor = self.stepping(processor)?;
+        self.check_ids(processor, ids)?;
+        for &id in ids {
+            if let Act::Send { taken, .. } = &mut self.steps[id as usize - 1].act {
+                *taken = no;
+            }
+        }
+        let last = &mut self.last_receives[usize::from(processor) - 1];
+        self.steps.push(Step {
+            processor,
+            act: Act::Receive {
+                before: *last,
+                ends,
+            },
+        });
+        *last = no;
+        Ok(())
+    }
+
+    fn check_ids(&self, processor: u8, ids: &[u64]) -> Result<(), StepFault> {
+        if !ids.is_sorted_by(|a, b| a < b) {
+            return Err(StepFault::IdsNotRising);
+        }
+        if let Some(id) = self.least(ids, |message| message.is_none()) {
+            return Err(StepFault::Unknown(id));
+        }
+        if let Some(id) = self.least(ids, |it| it.is_some_and(|(to, _)| to != processor)) {
+            return Err(StepFault::NotAddressed(id));
+        }
+        if let Some(id) = self.least(ids, |it| it.is_some_and(|(_, taken)| taken != 0)) {
+            return Err(StepFault::Redelivered(id));
+        }
+        Ok(())
+    }
+
+    /// The first of the ids whose message, if there is one, is bad.
+    fn least(&self, ids: &[u64], is_bad: impl Fn(Option<(u8, u32)>) -> bool) -> Option<u64> {
+        ids.iter().copied().find(|&id| is_bad(self.message(id)))
+    }
+
+    /// The destination of the message with an id, and the Receive that took it.
+    fn message(&self, id: u64) -> Option<(u8, u32)> {
+        let at = usize::try_from(id.checked_sub(1)?).ok()?;
+        match self.steps.get(at)?.act {
+            Act::Send { to, taken } => Some((to, taken)),
+            Act::Receive { .. } => None,
+        }
+    }
+}
+
+/// The number of processors that a header names, and how many of them may be faulty.
+fn read_header(fields: &[Cow<[u8]>]) -> Result<(u8, u8), TraceFault> {
+    let [name, version, processors, faults] = fields else {
+        return Err(TraceFault::BadHeader);
+    };
+    if name.as_ref() != b"dls-trace" {
+        return Err(TraceFault::BadHeader);
+    }
+    if version.as_ref() != b"1" {
+        return Err(TraceFault::BadVersion);
+    }
+    match (number(processors), number(faults)) {
+        (Some(n @ 2..=PROCESSOR_LIMIT), Some(faults)) if faults <= (n - 1) / 2 => {
+            Ok((n as u8, faults as u8))
+        }
+        _ => Err(TraceFault::BadSize),
+    }
+}
+
+fn read_init(fields: &[Cow<[u8]>], processors: u8) -> Result<Vec<u64>, TraceFault> {
+    match fields {
+        [name, values @ ..]
+            if name.as_ref() == b"init" && values.len() == usize::from(processors) =>
+        {
+            let values: Option<Vec<u64>> = values.iter().map(|it| number(it)).collect();
+            values.ok_or(TraceFault::BadInit)
+        }
+        _ => Err(TraceFault::BadInit),
+    }
+}
+
+/// Reads numbers with one space between them, possibly none.
+fn read_ids(field: &[u8], ids: &mut Vec<u64>) -> Option<()> {
+    ids.clear();
+    if !field.is_empty() {
+        for id in field.split(|&byte| byte == b' ') {
+            ids.push(number(id)?);
+        }
+    }
+    Some(())
+}
