@@ -1,9 +1,7 @@
 -- The level of a tick from that of the next tick, and the levels of all ticks.
-use Rattle.std.proofs.Common.{ℕ, ◌≡◌, ◌+◌, ◌-◌, ◌<◌, ◌≤◌, List, [], ◌∷◌, length, get_or, Option, Some, None, refl, sym, subst, ◌∙◌, suc, zero, arith}
+use Rattle.std.proofs.Common.{ℕ, ◌≡◌, ◌+◌, ◌-◌, ◌<◌, ◌≤◌, List, [], ◌∷◌, length, get_or, Some, None, refl, sym, subst, ◌∙◌, suc, zero, arith}
 use Rattle.std.specs.Prelude.{slice_get}
 use Rattle.std.proofs.lemmas.Option.{same_Some, none-some}
-use Rattle.step_trace.specs.declared.rows.Miss.{Miss}
-use Rattle.step_trace.specs.declared.rows.Gap.{Gap}
 use Rattle.step_trace.specs.Processors.{IsWithin}
 use Rattle.step_trace.specs.Ticks.{tick_of, IsTimed}
 use Rattle.step_trace.specs.Traces.{Recorded}
@@ -11,10 +9,9 @@ use Rattle.step_trace.proofs.StepPositions.{step_at_within}
 use Rattle.suffix_staircase.specs.declared.backward_pass.Pass.{Pass}
 use Rattle.suffix_staircase.specs.declared.levels.Level.{Level}
 use Rattle.suffix_staircase.specs.Levels.{StandsBefore, CanStandBefore}
-use Rattle.suffix_staircase.specs.NextSteps.{AreNextSteps, IsLatest}
 use Rattle.suffix_staircase.specs.Analysis.{KnowsMisses, KnowsMissesAfter, KnowsGaps, IsLevelAt, AreLevels, AreLevelsFrom, KnowsStepsAfter, KnowsTicksFrom, AreIdleUpTo, with_gap}
 use Rattle.suffix_staircase.proofs.MissBounds.{IsDelta-from_misses}
-use Rattle.suffix_staircase.proofs.GapBounds.{GapsLowered, GapsLowered-with_gap, IsPhi-from_gaps, phi_positive}
+use Rattle.suffix_staircase.proofs.GapBounds.{GapsLowered, GapsLowered-with_gap, IsPhi-from_gaps}
 use Rattle.suffix_staircase.proofs.TickBorders.{IsBorder-between, KnowsMisses-at_border, AreNextSteps-at_border}
 
 -- after the last step there is no message
@@ -113,7 +110,7 @@ TickLowered-with_gap set t done high g old new levels time within inside idle lo
     let next = steps.next_steps in
     let start : 1 ≤ g = omega (arith, low) in
     let lowered = subst (λ (l : Level). GapsLowered set t g old.level l) (sym is)
-        (GapsLowered-with_gap set t g old.next_steps.latest old.next_steps.by_processor.items old.level start within (AreNextSteps-at_border t done g old.next_steps.by_processor.items border next.next) next.latest known.gaps) in
+    (GapsLowered-with_gap set t g old.next_steps.latest old.next_steps.by_processor.items old.level start within (AreNextSteps-at_border t done g old.next_steps.by_processor.items border next.next) next.latest known.gaps) in
     let misses : KnowsMissesAfter set t done new.level.delta new.level.miss = rw (lowered.delta, lowered.miss) steps.misses in
     record {
       falling = CanStandBefore-through new.level old.level levels (lowered_stands set t g old.level new.level lowered) known.falling;

@@ -1,5 +1,5 @@
 -- Misses by the numbers of their steps, and by their ticks.
-use Rattle.std.proofs.Common.{ℕ, ◌≡◌, ◌+◌, ◌<◌, ◌≤◌, inl, inr, List, length, Some, sym, ap, ◌∙◌, suc, zero, arith}
+use Rattle.std.proofs.Common.{ℕ, ◌≡◌, ◌<◌, ◌≤◌, inl, inr, length, Some, sym, ap, ◌∙◌, suc, zero, arith}
 use Rattle.std.specs.Prelude.{◌↔◌}
 use Rattle.std.proofs.lemmas.Bool.{cases_lt}
 use Rattle.std.proofs.lemmas.Option.{same_Some}
@@ -52,13 +52,16 @@ IsDelivered-numbers t w s a b r at q = (
 -- a miss is one by number whose Receive is in a later tick
 IsMiss-numbers : (set : ℕ) (t : Recorded) → IsTrace t → (m : Miss) → IsMiss set t m ↔ (IsMissByNumber set t.steps m × (tick_of t m.sent < tick_of t m.missed))
 IsMiss-numbers set t w m = (
-  λ i. (record {
-    to = i.to;
-    message = i.message;
-    receive = i.receive;
-    late = number_below t w.time m.sent m.missed _ _ i.message.sent i.receive.step i.late;
-    undelivered = λ d. i.undelivered ((IsDelivered-numbers t w m.sent i.message.from i.to m.missed i.message.sent i.receive).1 d);
-  }, i.late),
+  λ i. (
+    record {
+      to = i.to;
+      message = i.message;
+      receive = i.receive;
+      late = number_below t w.time m.sent m.missed _ _ i.message.sent i.receive.step i.late;
+      undelivered = λ d. i.undelivered ((IsDelivered-numbers t w m.sent i.message.from i.to m.missed i.message.sent i.receive).1 d);
+    },
+    i.late,
+  ),
   λ h. (let i = h.0 in record {
     to = i.to;
     message = i.message;

@@ -6,7 +6,7 @@ use Rattle.std.proofs.lemmas.Bool.{cases_eq, cases_lt}
 use Rattle.step_trace.specs.declared.steps.Step.{Step}
 use Rattle.step_trace.specs.Processors.{has_proc}
 use Rattle.step_trace.specs.Ticks.{tick_of, IsTimed}
-use Rattle.step_trace.specs.Traces.{Recorded, step_at, IsStepOf}
+use Rattle.step_trace.specs.Traces.{Recorded, step_at}
 use Rattle.step_trace.proofs.StepPositions.{step_at_within}
 use Rattle.step_trace.proofs.TickOrder.{ticks_rise}
 use Rattle.suffix_staircase.specs.NextSteps.{IsNextTick, AreNextTicks, IsLatest}

@@ -1,5 +1,5 @@
 -- Between the ticks of two steps in a row, what is known by numbers is known by ticks.
-use Rattle.std.proofs.Common.{ℕ, ◌≡◌, ◌+◌, ◌-◌, ◌<◌, ◌≤◌, ◌⊎◌, inl, inr, List, [], ◌∷◌, length, Option, Some, None, refl, subst, suc, zero, arith}
+use Rattle.std.proofs.Common.{ℕ, ◌≡◌, ◌+◌, ◌-◌, ◌<◌, ◌≤◌, ◌⊎◌, inl, inr, List, [], ◌∷◌, length, Option, Some, None, refl, suc, zero, arith}
 use Rattle.std.proofs.lemmas.Bool.{cases_lt}
 use Rattle.step_trace.specs.declared.steps.Step.{Step}
 use Rattle.step_trace.specs.declared.rows.Miss.{Miss}
@@ -81,7 +81,7 @@ KnowsMisses-at_border set t time done g d o b k = record {
       long = named.long;
       latest = λ n j f e. ticks_rise t time n.sent m.sent _ _ j.message.sent i.message.sent (named.greatest n j (b.below n.sent _ j.message.sent f) e);
       greatest = λ n j e l. (let from = b.above m.sent _ i.message.sent named.after in
-        named.greatest n j (b.below n.sent _ j.message.sent (omega (arith, from, e))) l);
+          named.greatest n j (b.below n.sent _ j.message.sent (omega (arith, from, e))) l);
     },
   )
 

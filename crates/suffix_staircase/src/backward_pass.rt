@@ -9,7 +9,7 @@ ghost use Rattle.step_trace.specs.declared.traces.TheConstants.{MAX_TICKS};
 ghost use Rattle.step_trace.specs.Processors.{IsWithin};
 ghost use Rattle.step_trace.specs.Ticks.{tick_of, IsTimed};
 ghost use Rattle.suffix_staircase.specs.Levels.{StandsBefore};
-ghost use Rattle.suffix_staircase.specs.Analysis.{KnowsStepsAfter, KnowsTicksFrom, KnowsGaps, AreIdleUpTo, with_miss, with_gap};
+ghost use Rattle.suffix_staircase.specs.Analysis.{AreLevels, KnowsStepsAfter, KnowsTicksFrom, KnowsGaps, AreIdleUpTo, with_miss, with_gap};
 
 use crate::levels::Level;
 use crate::next_steps::NextSteps;
@@ -47,8 +47,28 @@ impl Pass {
         })
     }
 
-    /// Goes back over a step.
-    pub(crate) fn step_back(&mut self, trace: &Trace, no: u64)
+    /// Goes back over the whole trace, and puts the level of each tick before those so far, of which there
+    /// are none.
+    pub(crate) fn all_back(
+        &mut self,
+        trace: &Trace,
+        builder: &mut StairBuilder,
+    ) -> Result<(), AllocError>
+        requires within { IsWithin self.old.set trace.now.config.n }
+        requires known { KnowsTicksFrom self.old.set trace.now (length trace.now.steps) (trace.now.last + 1) self.old builder.old }
+        ensures levels { OnOk result (AreLevels self.old.set trace.now builder.new) }
+    {
+        let len = trace.len() as u64;
+        self.ticks_back(trace, len, trace.last_tick(), builder)?;
+        for no in (1..len + 1).rev() {
+            self.step_back(trace, no);
+            self.ticks_back(trace, no - 1, trace.tick(no), builder)?;
+        }
+        Ok(())
+    }
+
+    // Goes back over a step.
+    fn step_back(&mut self, trace: &Trace, no: u64)
         requires low { 1 ≤ no }
         requires high { no ≤ length trace.now.steps }
         requires known { KnowsStepsAfter self.old.set trace.now no self.old }
@@ -63,9 +83,9 @@ impl Pass {
         self.level = with_miss(self.level, Miss { sent: no, missed }, long);
     }
 
-    /// Goes back over the ticks from `high` to the one after that of step `done`, between which there is
-    /// no step, and puts their levels before those so far.
-    pub(crate) fn ticks_back(
+    // Goes back over the ticks from `high` to the one after that of step `done`, between which there is no
+    // step, and puts their levels before those so far.
+    fn ticks_back(
         &mut self,
         trace: &Trace,
         done: u64,
@@ -96,7 +116,12 @@ impl Pass {
         ensures receives { self.new.receives ≡ self.old.receives }
         ensures next_steps { self.new.next_steps ≡ self.old.next_steps }
     {
-        self.level = with_gap(self.level, self.next_steps.latest(), g, self.next_steps.until());
+        self.level = with_gap(
+            self.level,
+            self.next_steps.latest(),
+            g,
+            self.next_steps.until(),
+        );
         self.level
     }
 }

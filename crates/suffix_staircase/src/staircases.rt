@@ -47,12 +47,7 @@ impl Stairs {
     {
         let mut pass = Pass::after_all(alloc, trace, set)?;
         let mut builder = StairBuilder::new(alloc);
-        let len = trace.len() as u64;
-        pass.ticks_back(trace, len, trace.last_tick(), &mut builder)?;
-        for no in (1..len + 1).rev() {
-            pass.step_back(trace, no);
-            pass.ticks_back(trace, no - 1, trace.tick(no), &mut builder)?;
-        }
+        pass.all_back(trace, &mut builder)?;
         Ok(builder.build())
     }
 

@@ -1,5 +1,4 @@
 use Rattle.std.proofs.Common.{◌-◌, set, sym, arith}
-use Rattle.step_trace.specs.Ticks.{tick_of}
 use Rattle.suffix_staircase.specs.NextSteps.{AreNextTicks}
 use Rattle.suffix_staircase.proofs.NextSteps.{AreNextTicks-back, IsLatest-kept, next_tick_above}
 use Rattle.suffix_staircase.proofs.next_steps.NextSteps.step_back.Goals as goal
