@@ -17,15 +17,30 @@ pub fn replay_text_of(alloc: Global, world: &World) -> Result<Vec<u8>, AllocErro
     let mut writer = WriterBuilder::new()
         .flexible(true)
         .from_writer(Vec::new(alloc));
-    write_plain(&mut writer, &[b"proc", b"round", b"decision"])?;
-    let n = world.trace().config().n();
-    for p in 1..n + 1 {
-        write_processor(alloc, &mut writer, world, p)?;
-    }
+    write_records(alloc, &mut writer, world)?;
     match writer.into_inner() {
         Ok(text) => Ok(text),
         Err(_) => Err(AllocError),
     }
+}
+
+/// Writes the header, and the record of each processor.
+fn write_records(
+    alloc: Global,
+    writer: &mut Writer<Vec<u8>>,
+    world: &World,
+) -> Result<(), AllocError>
+    requires { IsReady writer.old }
+    ensures ready { OnOk result (IsReady writer.new) }
+    ensures text { OnOk result (written writer.new
+        ≡ written writer.old ++ replay_text world.now.trace.config world.now.trace.steps) }
+{
+    write_plain(writer, &[b"proc", b"round", b"decision"])?;
+    let n = world.trace().config().n();
+    for p in 1..n + 1 {
+        write_processor(alloc, writer, world, p)?;
+    }
+    Ok(())
 }
 
 /// Writes the record of processor `p`.

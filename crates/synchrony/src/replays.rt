@@ -4,7 +4,8 @@ ghost use Rattle.std.specs.Prelude.{◌≡◌, ℕ, List, OnOk, IfOk, IfErr, IfS
 ghost use Rattle.std.specs.Io.KnownBytes.{IsAtEnd, Appends};
 ghost use Rattle.trace_text.specs.ByteLoops.{WasFaultless};
 ghost use Rattle.trace_text.specs.Faults.{inner_of, faults_of, is_flushed};
-ghost use Rattle.synchrony.specs.Inputs.{IsReadFault};
+ghost use Rattle.step_buffers.specs.Runs.{IsRun};
+ghost use Rattle.synchrony.specs.Inputs.{IsReadFault, IsTextOf};
 ghost use Rattle.synchrony.specs.Printing.{IsWriteFault};
 ghost use Rattle.synchrony.specs.Replays.{IsReplayOf, IsFaultOfReplay, IsReplayFault, IsUnreplayed};
 
@@ -13,7 +14,7 @@ use crate::inputs::trace_of;
 use crate::replay_texts::replay_text_of;
 use std::alloc::Global;
 use std::io::{Read, Write};
-use step_buffers::replay;
+use step_buffers::{World, replay};
 use trace_text::{Counting, read_all, write_text};
 
 /// Reads a trace text to its end, replays its trace as a run of the algorithm, and writes the round and
@@ -50,7 +51,17 @@ fn replay_of(alloc: Global, text: Vec<u8>) -> Result<Vec<u8>, Fault>
     ensures replay { IfOk result (λ replay. IsReplayOf text.items replay.items) }
     ensures refused { IfErr result (IsUnreplayed text.items) }
 {
-    let trace = trace_of(alloc, text)?;
-    let world = replay(alloc, &trace)?;
+    let world = world_of(alloc, text)?;
     Ok(replay_text_of(alloc, &world)?)
+}
+
+/// The World that made the steps of what a text stands for. It lets go of the trace, of which the World
+/// has its own.
+fn world_of(alloc: Global, text: Vec<u8>) -> Result<World, Fault>
+    ensures read { IfOk result (λ world. IsTextOf text.items world.trace) }
+    ensures run { IfOk result (λ world. IsRun world.trace.config world.trace.steps) }
+    ensures refused { IfErr result (IsUnreplayed text.items) }
+{
+    let trace = trace_of(alloc, text)?;
+    Ok(replay(alloc, &trace)?)
 }
