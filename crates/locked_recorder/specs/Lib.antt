@@ -1,0 +1,4 @@
+pub mod Seats
+pub mod Recorders
+pub mod Recordings
+pub mod Lent

@@ -1,0 +1,15 @@
+//! A World that many threads move: the lock, the seats from which they make their steps, and the views of the
+//! trace that they were shown. `specs/` says what each call answers.
+#![tactic(auto)]
+
+mod configs;
+mod errors;
+mod recorders;
+mod recordings;
+mod seats;
+mod views;
+
+pub use errors::RecordError;
+pub use recorders::Recorder;
+pub use seats::Seat;
+pub use views::View;
