@@ -1,4 +1,5 @@
 pub mod StepPositions
+pub mod OwnSteps
 pub mod FittingSteps
 pub mod Refusals
 pub mod Growth

@@ -3,6 +3,8 @@ pub mod ProcessorLists
 pub mod Configurations
 pub mod Steps
 pub mod Traces
+pub mod Extensions
+pub mod OwnSteps
 pub mod PushRefusals
 pub mod PushErrorTexts
 pub mod DeliveryIndex

@@ -1,6 +1,6 @@
 //! How many processors there are, how many of them may be faulty, and their initial values.
 
-ghost use Rattle.std.specs.Prelude.{◌≡◌, length, IfOk, MatchResult, Some, None};
+ghost use Rattle.std.specs.Prelude.{◌≡◌, ◌↔◌, length, IfOk, IsTrue, MatchResult, Some, None};
 
 use std::alloc::{AllocError, Global};
 use std::marker::Model;
@@ -101,5 +101,12 @@ impl Config {
         ensures { result ≡ is_proc self.now p }
     {
         0 < p && p <= self.n
+    }
+
+    /// Whether it is the same configuration as another.
+    pub fn is_same(&self, other: &Config) -> bool
+        ensures { IsTrue result ↔ (self.now ≡ other.now) }
+    {
+        self.init.as_slice() == other.init.as_slice() && self.n == other.n && self.t == other.t
     }
 }

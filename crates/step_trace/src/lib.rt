@@ -4,7 +4,9 @@
 
 mod configurations;
 mod delivery_index;
+mod extensions;
 mod numbers;
+mod own_steps;
 mod processor_lists;
 mod processors;
 mod push_error_texts;

@@ -57,7 +57,7 @@ pub enum Act {
 }
 
 impl Act {
-    ghost use Rattle.std.specs.Prelude.{◌≡◌};
+    ghost use Rattle.std.specs.Prelude.{◌≡◌, ◌↔◌, IsTrue};
     ghost use Rattle.step_trace.specs.Steps.{act_ids};
 
     /// The ids that it takes: none in a Send.
@@ -69,6 +69,23 @@ impl Act {
             Act::Receive { ids, .. } => ids.as_slice(),
         }
     }
+
+    /// Whether it does the same as another.
+    pub fn is_same(&self, other: &Act) -> bool
+        ensures { IsTrue result ↔ (self.now ≡ other.now) }
+    {
+        match (self, other) {
+            (Act::Send { to }, Act::Send { to: other_to }) => *to == *other_to,
+            (
+                Act::Receive { ends, ids },
+                Act::Receive {
+                    ends: other_ends,
+                    ids: other_ids,
+                },
+            ) => *ends == *other_ends && ids.as_slice() == other_ids.as_slice(),
+            _ => false,
+        }
+    }
 }
 
 /// An atomic step: one Send or one Receive of one processor.
@@ -76,4 +93,15 @@ impl Act {
 pub struct Step {
     pub proc: u64,
     pub act: Act,
+}
+
+impl Step {
+    ghost use Rattle.std.specs.Prelude.{◌≡◌, ◌↔◌, IsTrue};
+
+    /// Whether it is the same step as another.
+    pub fn is_same(&self, other: &Step) -> bool
+        ensures { IsTrue result ↔ (self.now ≡ other.now) }
+    {
+        self.proc == other.proc && self.act.is_same(&other.act)
+    }
 }

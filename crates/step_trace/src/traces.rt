@@ -1,9 +1,11 @@
 //! Well-formed lists of steps under a configuration.
 
-ghost use Rattle.std.specs.Prelude.{◌≡◌, [], ◌++◌, ◌∷◌, ◌≤◌, length, option_copied, OnOk, OnErr, IfErr, IfOk, IsTrue, ◌↔◌, None};
+ghost use Rattle.std.specs.Prelude.{◌≡◌, [], ◌++◌, ◌∷◌, ◌≤◌, ◌<◌, length, option_copied, OnOk, OnErr, IfErr, IfOk, IsTrue, ◌↔◌, None};
 
 use crate::configurations::Config;
 use crate::delivery_index::{append, make_room};
+use crate::extensions::begins_with;
+use crate::own_steps::own_steps;
 use crate::push_refusals::{ids_refusal, step_of};
 use crate::steps::{Act, Step};
 use std::alloc::{AllocError, Global};
@@ -57,6 +59,8 @@ impl Model for Trace {
 
 impl Trace {
     ghost use Rattle.step_trace.specs.Traces.{step_at, IsWellFormed};
+    ghost use Rattle.step_trace.specs.Extensions.{Extends};
+    ghost use Rattle.step_trace.specs.OwnSteps.{own_steps};
     ghost use Rattle.step_trace.specs.PushRefusals.{refusal, IsRefusal, IsJustified, NamesLeast};
 
     /// The trace of a configuration that has no steps. Takes no memory.
@@ -112,6 +116,24 @@ impl Trace {
         ensures sound { IsWellFormed self.now.config self.now.steps }
     {
         step_of(&self.steps, no)
+    }
+
+    /// Whether it extends another trace: they have one configuration, and the other's steps are a
+    /// prefix of its own. Takes no memory.
+    pub fn begins(&self, other: &Trace) -> bool
+        ensures { IsTrue result ↔ Extends self.now other.now }
+    {
+        self.config.is_same(&other.config) && begins_with(&self.steps, &other.steps)
+    }
+
+    /// The steps of a processor with their numbers, in order: none where there is no such processor.
+    ///
+    /// Refuses only for want of memory, and only where there is a step to list.
+    pub fn restrict(&self, alloc: Global, proc: u64) -> Result<Vec<(u64, Step)>, AllocError>
+        ensures own { IfOk result (λ own. own.items ≡ own_steps self.now.steps proc) }
+        ensures more { OnErr result (0 < length (own_steps self.now.steps proc)) }
+    {
+        own_steps(alloc, &self.steps, proc)
     }
 
     /// Appends a step, in time that grows with the ids that it takes.

@@ -1,0 +1,32 @@
+//! The steps of one processor.
+
+ghost use Rattle.std.specs.Prelude.{◌≡◌, ◌<◌, length, IfOk, OnErr};
+ghost use Rattle.step_trace.specs.OwnSteps.{own_steps};
+
+use crate::steps::Step;
+use std::alloc::{AllocError, Global};
+
+/// The steps of processor `p` with their numbers, in order. Refuses only where there is one.
+pub(crate) fn own_steps(
+    alloc: Global,
+    steps: &[Step],
+    p: u64,
+) -> Result<Vec<(u64, Step)>, AllocError>
+    ensures own { IfOk result (λ own. own.items ≡ own_steps steps.now p) }
+    ensures more { OnErr result (0 < length (own_steps steps.now p)) }
+{
+    let mut own = Vec::new(alloc);
+    for (i, step) in steps.iter().enumerate() {
+        if step.proc == p {
+            own.push(numbered(i as u64 + 1, step)?)?;
+        }
+    }
+    Ok(own)
+}
+
+// A copy of the step, with its number.
+fn numbered(no: u64, step: &Step) -> Result<(u64, Step), AllocError>
+    ensures { IfOk result (λ pair. pair ≡ (no, step.now)) }
+{
+    Ok((no, step.clone()?))
+}
