@@ -2,7 +2,6 @@
 //! trace that they were shown. `specs/` says what each call answers.
 #![tactic(auto)]
 
-mod configs;
 mod errors;
 mod recorders;
 mod recordings;

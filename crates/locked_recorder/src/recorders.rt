@@ -43,7 +43,7 @@ impl Recorder {
         ensures recorder { IfOk result (λ made. made.0 ≡ record { tag = tag; config = config }) }
         ensures seats { IfOk result (λ made. made.1.items ≡ opening_seats tag config.n) }
     {
-        let seats = opening_seats(alloc, tag, config.n())?;
+        let seats = opening_seats(alloc, tag, &config)?;
         let world = World::new(alloc, config.copy(alloc)?, max_steps)?;
         let recorder = Recorder {
             world: Mutex::new(world),
@@ -61,13 +61,11 @@ impl Recorder {
     }
 }
 
-// A seat for each of `n` processors, in order.
-fn opening_seats(alloc: Global, tag: u64, n: u64) -> Result<Vec<Seat>, AllocError>
-    ensures { IfOk result (λ seats. seats.items ≡ opening_seats tag n) }
+// A seat for each processor, in order.
+fn opening_seats(alloc: Global, tag: u64, config: &Config) -> Result<Vec<Seat>, AllocError>
+    ensures { IfOk result (λ seats. seats.items ≡ opening_seats tag config.now.n) }
 {
-    let mut seats = Vec::new(alloc);
-    for p in 1..n + 1 {
-        seats.push(Seat::new(alloc, tag, p))?;
-    }
-    Ok(seats)
+    (1..config.n() + 1)
+        .map(|p| Seat::new(alloc, tag, p))
+        .collect(alloc)
 }

@@ -5,7 +5,6 @@ ghost use Rattle.std.specs.Borrow.{sem};
 ghost use Rattle.locked_recorder.specs.Lent.{Appends};
 ghost use Rattle.locked_recorder.specs.Recordings.{IsAnswer, IsRefused, IsRecorded, IsRecordRefusal};
 
-use crate::configs::are_same;
 use crate::errors::RecordError;
 use crate::recorders::Recorder;
 use crate::seats::Seat;
@@ -37,7 +36,7 @@ impl Recorder {
         ensures refused { IfErr result (λ e. IsRefused self.now.config p step.entry e) }
     {
         let mut world = self.world.lock(rt);
-        if !are_same(world.trace().config(), &self.config) {
+        if !world.trace().config().is_same(&self.config) {
             return Err(RecordError::ForeignSeat);
         }
         match world.step(alloc, p, step) {
