@@ -2,3 +2,4 @@ pub mod Seats
 pub mod Recorders
 pub mod Recordings
 pub mod Lent
+pub mod Prefixes

@@ -3,12 +3,14 @@
 #![tactic(auto)]
 
 mod errors;
+mod missing_steps;
+mod prefixes;
 mod recorders;
 mod recordings;
 mod seats;
 mod views;
 
-pub use errors::RecordError;
+pub use errors::{MineError, PrefixError, RecordError};
 pub use recorders::Recorder;
 pub use seats::Seat;
 pub use views::View;

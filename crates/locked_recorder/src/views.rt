@@ -19,7 +19,7 @@ impl Model for View {
 }
 
 impl View {
-    ghost use Rattle.std.specs.Prelude.{◌≡◌, None, option_copied};
+    ghost use Rattle.std.specs.Prelude.{◌≡◌, Some, None, option_copied};
 
     // The view of one who was shown nothing.
     pub(crate) fn new() -> Self
@@ -33,5 +33,12 @@ impl View {
         ensures { option_copied result ≡ self.now }
     {
         self.seen.as_ref()
+    }
+
+    // Keeps what was shown.
+    pub(crate) fn see(&mut self, shown: Trace)
+        ensures { self.new ≡ Some shown }
+    {
+        self.seen = Some(shown);
     }
 }

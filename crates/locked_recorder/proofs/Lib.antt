@@ -1,0 +1,2 @@
+pub mod FirstDifferences
+pub mod LeastMissing
