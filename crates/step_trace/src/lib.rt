@@ -1,10 +1,13 @@
 //! Traces of Send and Receive steps: sets of processors, configurations, well-formed lists of steps,
-//! and the plain data in which bounds are reported. `specs/` has the definitions of all of it.
+//! the plain data in which bounds are reported, and the gate that workers enter before their work.
+//! `specs/` has the definitions of all of it.
 #![tactic(auto)]
 
 mod configurations;
 mod delivery_index;
 mod extensions;
+mod gates;
+pub mod meeting;
 mod numbers;
 mod own_steps;
 mod processor_lists;
@@ -16,6 +19,7 @@ mod steps;
 mod traces;
 
 pub use configurations::{Config, ConfigError, MAX_PROCESSORS, MIN_PROCESSORS};
+pub use gates::{Gate, OpenGate};
 pub use numbers::read_number;
 pub use processors::{MAX_MEMBER, ProcSet};
 pub use rows::{Gap, Miss, Row};
