@@ -10,6 +10,7 @@ pub mod AcknowledgingLaws
 pub mod ReleasingLaws
 pub mod OriginLaws
 pub mod SentBodies
+mod Sendings
 mod ValuePlaces
 mod LockPlaces
 pub mod Rising

@@ -24,6 +24,13 @@ kind_sent Locking s owner me to = if me == owner then option_map Lock s.proposal
 kind_sent Acknowledging s owner me to = if s.owes_ack && to == owner then Some Ack else None
 kind_sent Releasing s owner me to = Some (Locks s.locks)
 
+-- what a node says in each part of a phase to whomever it says anything
+abbrev pub kind_in : Part → State → Option Kind
+kind_in Listing s = Some (Listed (values_to_list s))
+kind_in Locking s = option_map Lock s.proposal
+kind_in Acknowledging s = Some Ack
+kind_in Releasing s = Some (Locks s.locks)
+
 -- what processor `me` in state s says to a processor in a round
 abbrev pub kind_out : Setup → State → ℕ → ℕ → ℕ → Option Kind
 kind_out c s me round to = kind_sent (part_at (part_of round)) s (owner c.n (phase_of round)) me to

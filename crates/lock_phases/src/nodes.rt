@@ -1,6 +1,6 @@
 //! Nodes: what one sends in a round, and what becomes of it in the round.
 
-ghost use Rattle.std.specs.Prelude.{◌≡◌, ◌<◌, ◌≤◌, length, ◌&&◌, if◌then◌else◌, IfOk, OnOk, OnErr, IsTrue, IsSome, All, map, option_map};
+ghost use Rattle.std.specs.Prelude.{◌≡◌, ◌<◌, ◌≤◌, length, IfOk, OnOk, OnErr, is_some, IsSome, All, map};
 ghost use Rattle.std.specs.List.Sorted.{IsStrictlyIncreasing};
 
 use crate::bodies::{Body, Kind, LockPairs, Values};
@@ -50,7 +50,8 @@ impl Node {
     ghost use Rattle.lock_phases.specs.Nodes.{Grows, value_of, opening};
     ghost use Rattle.lock_phases.specs.Messages.{sender_of};
     ghost use Rattle.lock_phases.specs.Locks.{heard_lock};
-    ghost use Rattle.lock_phases.specs.NodeFunctions.{values_to_list, kind_out, out, after_listing, after_locking, after_acknowledging, after_releasing, after_part, next};
+    ghost use Rattle.lock_phases.specs.Rounds.{part_of, part_at};
+    ghost use Rattle.lock_phases.specs.NodeFunctions.{values_to_list, kind_in, out, after_listing, after_locking, after_acknowledging, after_releasing, after_part, next};
 
     /// The opening node of a processor with this initial value.
     pub fn new(alloc: Global, value: u64) -> Result<Self, AllocError>
@@ -117,9 +118,25 @@ impl Node {
         self.decision
     }
 
+    /// Whether processor `me` with this node sends anything to processor `to` in a round: whether `out` has
+    /// a message (section 3 of the 1988 paper). Takes no memory.
+    #[tactic(auto, using(crate::proofs::Sendings::sends_by_part))]
+    pub fn sends_to(&self, config: &Config, me: u64, round: u64, to: u64) -> bool
+        requires { 1 ≤ round }
+        ensures { result ≡ is_some (out config.now self.now me round to) }
+    {
+        let owner = owner(config.n(), phase_of(round));
+        match part_of(round) {
+            1 => to == owner,
+            2 => me == owner && self.proposal.is_some(),
+            3 => self.owes_ack && to == owner,
+            _ => true,
+        }
+    }
+
     /// What processor `me` with this node sends to processor `to` in a round, if anything; PROPER is
     /// attached to whatever it sends (section 3 of the 1988 paper).
-    #[tactic(auto, unfolding(crate::specs::NodeFunctions::out))]
+    #[tactic(auto, using(crate::proofs::Sendings::out_by_part))]
     pub fn out(
         &self,
         alloc: Global,
@@ -134,43 +151,32 @@ impl Node {
         ensures ok { IfOk result (λ body. body ≡ out config.now self.now me round to) }
         ensures more { OnErr result (IsSome (out config.now self.now me round to)) }
     {
-        let Some(kind) = self.kind_out(alloc, config, me, round, to)? else {
+        if !self.sends_to(config, me, round, to) {
+            return Ok(None);
+        }
+        let Some(kind) = self.kind_in(alloc, round)? else {
             return Ok(None);
         };
         let proper = Values::new(Vec::from_slice(alloc, &self.proper)?);
         Ok(Some(Body { kind, proper }))
     }
 
-    // What it says, PROPER aside.
-    fn kind_out(
-        &self,
-        alloc: Global,
-        config: &Config,
-        me: u64,
-        round: u64,
-        to: u64,
-    ) -> Result<Option<Kind>, AllocError>
+    // What it says in a round to whomever it sends, PROPER aside.
+    fn kind_in(&self, alloc: Global, round: u64) -> Result<Option<Kind>, AllocError>
         requires { 1 ≤ round }
-        ensures ok { IfOk result (λ kind. kind ≡ kind_out config.now self.now me round to) }
-        ensures more { OnErr result (IsSome (kind_out config.now self.now me round to)) }
+        ensures { IfOk result (λ kind. kind ≡ kind_in (part_at (part_of round)) self.now) }
     {
-        let owner = owner(config.n(), phase_of(round));
         match part_of(round) {
-            1 => self.list_sent(alloc, to == owner),
-            2 => Ok(self.lock_sent(me == owner)),
-            3 => Ok(self.ack_sent(to == owner)),
-            _ => self.locks_sent(alloc),
+            1 => Ok(Some(Kind::List(self.values_to_list(alloc)?))),
+            2 => Ok(self.proposal.map(Kind::Lock)),
+            3 => Ok(Some(Kind::Ack)),
+            _ => Ok(Some(Kind::Locks(self.locks_to_tell(alloc)?))),
         }
     }
 
-    fn list_sent(&self, alloc: Global, to_owner: bool) -> Result<Option<Kind>, AllocError>
-        ensures ok { IfOk result
-            (λ kind. kind ≡ (if to_owner then Some (Kind.List (values_to_list self.now)) else None)) }
-        ensures more { OnErr result (IsTrue to_owner) }
+    fn values_to_list(&self, alloc: Global) -> Result<Values, AllocError>
+        ensures { IfOk result (λ values. values ≡ values_to_list self.now) }
     {
-        if !to_owner {
-            return Ok(None);
-        }
         let locks = &self.locks;
         let values = self
             .proper
@@ -178,34 +184,14 @@ impl Node {
             .copied()
             .filter(|v| is_acceptable(locks, *v))
             .collect(alloc)?;
-        Ok(Some(Kind::List(Values::new(values))))
+        Ok(Values::new(values))
     }
 
-    fn lock_sent(&self, from_owner: bool) -> Option<Kind>
-        ensures { result ≡ (if from_owner then option_map Kind.Lock self.now.proposal else None) }
-    {
-        if from_owner {
-            self.proposal.map(Kind::Lock)
-        } else {
-            None
-        }
-    }
-
-    fn ack_sent(&self, to_owner: bool) -> Option<Kind>
-        ensures { result ≡ (if self.now.owes_ack && to_owner then Some Kind.Ack else None) }
-    {
-        if self.owes_ack && to_owner {
-            Some(Kind::Ack)
-        } else {
-            None
-        }
-    }
-
-    fn locks_sent(&self, alloc: Global) -> Result<Option<Kind>, AllocError>
-        ensures { IfOk result (λ kind. kind ≡ Some (Kind.Locks self.now.locks)) }
+    fn locks_to_tell(&self, alloc: Global) -> Result<LockPairs, AllocError>
+        ensures { IfOk result (λ pairs. pairs ≡ self.now.locks) }
     {
         let pairs = Vec::from_slice(alloc, &self.locks)?;
-        Ok(Some(Kind::Locks(LockPairs::new(pairs))))
+        Ok(LockPairs::new(pairs))
     }
 
     /// Takes processor `me` with this node through a round in which it heard these messages, each with

@@ -1,10 +1,9 @@
 -- The next destination, found by going through the processors.
-use Rattle.std.proofs.Common.{ℕ, zero, suc, ◌≡◌, ◌+◌, ◌<◌, ◌≤◌, ◌⊎◌, inl, inr, Option, Some, None, Bool, true, false, ◌&&◌, refl, ap, ◌∙◌, arith}
-use Rattle.std.specs.Prelude.{find, nat_lt, is_some, IsSome}
+use Rattle.std.proofs.Common.{ℕ, zero, suc, ◌≡◌, ◌+◌, ◌<◌, ◌≤◌, ◌⊎◌, inl, inr, Some, None, Bool, true, false, ◌&&◌, refl, ap, ◌∙◌, arith}
+use Rattle.std.specs.Prelude.{find, nat_lt, is_some}
 use Rattle.std.specs.List.{range_with_len}
 use Rattle.std.proofs.lemmas.Bool.{cases_lt, lt-ltb, le-ltb}
-use Rattle.step_trace.specs.Configurations.{Setup, IsProc}
-use Rattle.lock_phases.specs.declared.bodies.Body.{Body}
+use Rattle.step_trace.specs.Configurations.{Setup}
 use Rattle.lock_phases.specs.Nodes.{State}
 use Rattle.lock_phases.specs.NodeFunctions.{out}
 use Rattle.step_buffers.specs.Runs.{destination_after}
@@ -24,32 +23,21 @@ find-none : (test : ℕ → Bool) (a n : ℕ) → ((j : ℕ) → a ≤ j → j <
 find-none test a zero none = refl
 find-none test a (suc n) none = rw (none a (omega arith) (omega arith)) (find-none test (a + 1) n (λ j b h. none j (omega arith) (omega arith)))
 
-unsent : (c : Setup) (node : State) (p round last to : ℕ) → (last < to → out c node p round to ≡ None) → (nat_lt last to && is_some (out c node p round to)) ≡ false
+unsent : (c : Setup) (node : State) (p round last to : ℕ) → (last < to → is_some (out c node p round to) ≡ false) → (nat_lt last to && is_some (out c node p round to)) ≡ false
 unsent c node p round last to none = go (cases_lt last to)
   where
     go : (last < to) ⊎ (to ≤ last) → (nat_lt last to && is_some (out c node p round to)) ≡ false
     go (inl l) = rw (lt-ltb last to l, none l) refl
     go (inr l) = rw (le-ltb last to l) refl
 
-pub destination_after-found : (c : Setup) (node : State) (p round last to : ℕ) (body : Body) → IsProc c to → last < to
-    → ((t : ℕ) → last < t → t < to → out c node p round t ≡ None) → out c node p round to ≡ Some body → destination_after c node p round last ≡ Some to
-destination_after-found c node p round last to body is l none at =
-    let low = is.0 in
-    let high = is.1 in
+pub destination_after-found : (c : Setup) (node : State) (p round last to : ℕ) → last < to → to < c.n + 1
+    → ((t : ℕ) → last < t → t < to → is_some (out c node p round t) ≡ false) → is_some (out c node p round to) ≡ true → destination_after c node p round last ≡ Some to
+destination_after-found c node p round last to l high none at =
     find-first (λ t. nat_lt last t && is_some (out c node p round t)) 1 c.n to (omega arith) (omega arith)
     (λ t b h. unsent c node p round last t (λ m. none t m h))
     (rw (lt-ltb last to l, at) refl)
 
-pub destination_after-none : (c : Setup) (node : State) (p round last : ℕ) → ((t : ℕ) → last < t → t < c.n + 1 → out c node p round t ≡ None)
+pub destination_after-none : (c : Setup) (node : State) (p round last : ℕ) → ((t : ℕ) → last < t → t < c.n + 1 → is_some (out c node p round t) ≡ false)
     → destination_after c node p round last ≡ None
 destination_after-none c node p round last none =
     find-none (λ t. nat_lt last t && is_some (out c node p round t)) 1 c.n (λ t b h. unsent c node p round last t (λ m. none t m (omega arith)))
-
--- where there is something to send to a later processor, there is a next destination
-pub destination_after-some : (c : Setup) (node : State) (p round last to : ℕ) → IsProc c to → last < to
-    → ((t : ℕ) → last < t → t < to → out c node p round t ≡ None) → IsSome (out c node p round to) → IsSome (destination_after c node p round last)
-destination_after-some c node p round last to is l none at = go (out c node p round to) refl at
-  where
-    go : (o : Option Body) → out c node p round to ≡ o → IsSome o → IsSome (destination_after c node p round last)
-    go (Some body) e h = rw (destination_after-found c node p round last to body is l none e) refl
-    go None e h = cc

@@ -21,6 +21,7 @@ pub mod PostSteps
 pub mod TakenSteps
 pub mod RoundEnds
 pub mod Openings
+mod CopiedProcessors
 pub mod HeardNow
 pub mod HeardInboxes
 pub mod ReceivedProcessors

@@ -41,7 +41,8 @@ IsProcessor-opening c p x is = record {
     node : x.node ≡ node_at c [] p
     node = is.node ∙ sym (state_after-opening c (heard_table []) p)
 
-slice_get-push : {X : Type 0} (xs : List X) (x y : X) (k : ℕ) → slice_get (xs ++ x ∷ []) k ≡ Some y → (slice_get xs k ≡ Some y) ⊎ ((k ≡ length xs) × (x ≡ y))
+-- what stands in a list with one more at its end
+pub slice_get-push : {X : Type 0} (xs : List X) (x y : X) (k : ℕ) → slice_get (xs ++ x ∷ []) k ≡ Some y → (slice_get xs k ≡ Some y) ⊎ ((k ≡ length xs) × (x ≡ y))
 slice_get-push [] x y zero h = inr (refl, same_Some x y h)
 slice_get-push [] x y (suc k) h = absurd (none-some y h)
 slice_get-push (z ∷ xs) x y zero h = inl h

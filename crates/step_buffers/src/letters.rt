@@ -93,7 +93,8 @@ fn heard_from(
     Ok(heard)
 }
 
-fn copied(body: &Body) -> Result<Body, AllocError>
+/// The same body.
+pub(crate) fn copied(body: &Body) -> Result<Body, AllocError>
     ensures { IfOk result (λ copy. copy ≡ body.now) }
 {
     body.clone()

@@ -4,6 +4,7 @@
 #![tactic(auto)]
 
 mod appends;
+mod copies;
 mod laws;
 mod letters;
 mod moves;

@@ -1,12 +1,12 @@
 //! What is kept of a processor: its node, what it sent in its round, and the messages that it may yet hear.
 
-ghost use Rattle.std.specs.Prelude.{◌≡◌, ◌≤◌, IfOk, IfSome, OnErr, IsSome, is_some, option_map, []};
-ghost use Rattle.step_trace.specs.Configurations.{IsProc, IsSetup};
+ghost use Rattle.std.specs.Prelude.{◌≡◌, ◌≤◌, IfOk, IfSome, IsSome, []};
+ghost use Rattle.step_trace.specs.Configurations.{IsSetup};
 ghost use Rattle.lock_phases.specs.NodeFunctions.{out};
 ghost use Rattle.step_buffers.specs.Runs.{destination_after};
 ghost use Rattle.step_buffers.specs.Worlds.{AreProcessors};
 
-use lock_phases::{Body, Node};
+use lock_phases::Node;
 use std::alloc::{AllocError, Global};
 use step_trace::Config;
 
@@ -25,51 +25,26 @@ pub(crate) struct Processor {
     pub inbox: Vec<u64>,
 }
 
-/// The next destination of a processor, with what it sends there. None where all messages of its round are
-/// out.
-pub(crate) fn next_message(
-    alloc: Global,
+/// The next destination of a processor. None where all messages of its round are out. Takes no memory.
+pub(crate) fn next_destination(
     config: &Config,
     p: u64,
     round: u64,
     last: u64,
     node: &Node,
-) -> Result<Option<(u64, Body)>, AllocError>
-    requires processor { IsProc config.now p }
+) -> Option<u64>
     requires positive { 1 ≤ round }
     requires within { last ≤ config.now.n }
-    ensures destination { IfOk result (λ next. option_map (λ m. m.0) next ≡ destination_after config.now node.now p round last) }
-    ensures body { IfOk result (λ next. IfSome next (λ m. out config.now node.now p round m.0 ≡ Some m.1)) }
-    ensures more { OnErr result (IsSome (destination_after config.now node.now p round last)) }
+    ensures destination { result ≡ destination_after config.now node.now p round last }
+    ensures sends { IfSome result (λ to. IsSome (out config.now node.now p round to)) }
 {
     let n = config.n();
     for to in last + 1..n + 1 {
-        if let Some(body) = node.out(alloc, config, p, round, to)? {
-            return Ok(Some((to, body)));
+        if node.sends_to(config, p, round, to) {
+            return Some(to);
         }
     }
-    Ok(None)
-}
-
-/// Whether a processor has more to send in its round.
-pub(crate) fn is_sending(
-    alloc: Global,
-    config: &Config,
-    p: u64,
-    round: u64,
-    last: u64,
-    node: &Node,
-) -> bool
-    requires processor { IsProc config.now p }
-    requires positive { 1 ≤ round }
-    requires within { last ≤ config.now.n }
-    ensures { result ≡ is_some (destination_after config.now node.now p round last) }
-{
-    match next_message(alloc, config, p, round, last, node) {
-        Ok(next) => next.is_some(),
-        // Memory is short only for a message.
-        Err(_) => true,
-    }
+    None
 }
 
 /// What is kept of each processor before the first step.

@@ -14,7 +14,7 @@ ghost use Rattle.step_buffers.specs.Worlds.{AreLetters, IsProcessor, IsWorld};
 use crate::appends::append;
 use crate::letters::{Letter, heard_in, round_of};
 use crate::moves::{StepError, Take};
-use crate::processors::{Processor, is_sending};
+use crate::processors::{Processor, next_destination};
 use crate::takes::{take_out, take_refusal, taken_ids};
 use lock_phases::Node;
 use std::alloc::{AllocError, Global};
@@ -42,7 +42,7 @@ pub(crate) fn receive(
     ensures err { OnErr result (trace.new ≡ trace.old) }
 {
     let receiver = &processors[(p - 1) as usize];
-    if is_early(alloc, trace, receiver, p, ends) {
+    if is_early(trace, receiver, p, ends) {
         return Err(StepError::StillSending);
     }
     if let Some(why) = take_refusal(&receiver.buffer, take) {
@@ -59,19 +59,22 @@ pub(crate) fn receive(
 }
 
 // Whether this would end the round of `p` before all its messages are out.
-fn is_early(alloc: Global, trace: &Trace, receiver: &Processor, p: u64, ends: bool) -> bool
+fn is_early(trace: &Trace, receiver: &Processor, p: u64, ends: bool) -> bool
     requires processor { IsProc trace.now.config p }
     requires receiver { IsProcessor trace.now.config trace.now.steps p receiver.now }
     ensures { result ≡ (ends && is_some (next_send trace.now.config trace.now.steps p)) }
 {
-    ends && is_sending(
-        alloc,
+    if !ends {
+        return false;
+    }
+    let next = next_destination(
         trace.config(),
         p,
         receiver.round,
         receiver.last,
         &receiver.node,
-    )
+    );
+    next.is_some()
 }
 
 // Makes a Receive of `p` that is due.

@@ -1,6 +1,6 @@
 //! A Send.
 
-ghost use Rattle.std.specs.Prelude.{◌≡◌, ◌<◌, ◌++◌, ◌∷◌, [], length, Some, None, IfOk, OnOk, OnErr, IfErr, ◌+◌, is_none, if◌then◌else◌};
+ghost use Rattle.std.specs.Prelude.{◌≡◌, ◌<◌, ◌++◌, ◌∷◌, [], length, Some, None, IfOk, OnOk, OnErr, IfErr, ◌+◌, ◌≤◌, is_none, IsSome, if◌then◌else◌};
 ghost use Rattle.step_trace.specs.declared.traces.TheConstants.{MAX_STEPS};
 ghost use Rattle.step_trace.specs.Configurations.{IsProc};
 ghost use Rattle.lock_phases.specs.NodeFunctions.{out};
@@ -12,9 +12,9 @@ ghost use Rattle.step_buffers.specs.Worlds.{IsWorld};
 use crate::appends::append;
 use crate::letters::Letter;
 use crate::moves::StepError;
-use crate::processors::{Processor, next_message};
+use crate::processors::{Processor, next_destination};
 use std::alloc::{AllocError, Global};
-use step_trace::{Act, Step, Trace};
+use step_trace::{Act, Config, Step, Trace};
 
 /// Sends what processor `p` has to send next, and answers where it went.
 pub(crate) fn send(
@@ -35,29 +35,44 @@ pub(crate) fn send(
     ensures err { OnErr result (trace.new ≡ trace.old) }
 {
     let sender = &processors[(p - 1) as usize];
-    let next = next_message(
-        alloc,
-        trace.config(),
-        p,
-        sender.round,
-        sender.last,
-        &sender.node,
-    );
-    match next {
+    let next = next_destination(trace.config(), p, sender.round, sender.last, &sender.node);
+    let Some(to) = next else {
+        return Err(StepError::NothingToSend);
+    };
+    let Ok(letter) = letter_to(alloc, trace.config(), sender, p, to) else {
+        return Err(StepError::Memory);
+    };
+    match post(trace, letters, processors, p, to, letter) {
+        Ok(()) => Ok(to),
         Err(_) => Err(StepError::Memory),
-        Ok(None) => Err(StepError::NothingToSend),
-        Ok(Some((to, body))) => {
-            let letter = Letter {
-                sender: p,
-                round: sender.round,
-                body,
-            };
-            match post(trace, letters, processors, p, to, letter) {
-                Ok(()) => Ok(to),
-                Err(_) => Err(StepError::Memory),
-            }
-        }
     }
+}
+
+// What `p` sends to a processor to which it sends anything.
+fn letter_to(
+    alloc: Global,
+    config: &Config,
+    sender: &Processor,
+    p: u64,
+    to: u64,
+) -> Result<Letter, AllocError>
+    requires processor { IsProc config.now p }
+    requires receiver { IsProc config.now to }
+    requires positive { 1 ≤ sender.now.round }
+    requires sends { IsSome (out config.now sender.now.node p sender.now.round to) }
+    ensures sender { IfOk result (λ letter. letter.sender ≡ p) }
+    ensures round { IfOk result (λ letter. letter.round ≡ sender.now.round) }
+    ensures body { IfOk result (λ letter. out config.now sender.now.node p sender.now.round to ≡ Some letter.body) }
+{
+    let round = sender.round;
+    let Some(body) = sender.node.out(alloc, config, p, round, to)? else {
+        unreachable!();
+    };
+    Ok(Letter {
+        sender: p,
+        round,
+        body,
+    })
 }
 
 // Sends a message of `p` to its next destination.

@@ -9,6 +9,7 @@ ghost use Rattle.step_buffers.specs.Runs.{node_at, IsRun};
 ghost use Rattle.step_buffers.specs.Buffers.{buffer};
 ghost use Rattle.step_buffers.specs.Moves.{step_of, step_refusal, IsStepRefusal};
 
+use crate::copies::{copied_letters, copied_processors};
 use crate::letters::Letter;
 use crate::moves::{Done, Move, StepError};
 use crate::processors::{Processor, opening_processors};
@@ -59,6 +60,22 @@ impl World {
             limit: max_steps,
             trace: Trace::new(alloc, config),
             letters: Vec::new(alloc),
+            processors,
+        })
+    }
+
+    /// A World that is equal: in it the same steps were made, and as many may be. Takes memory for all that
+    /// is kept.
+    pub fn copy(&self, alloc: Global) -> Result<Self, AllocError>
+        ensures copied { IfOk result (λ copy. copy ≡ self.now) }
+    {
+        let trace = self.trace.copy(alloc)?;
+        let letters = copied_letters(alloc, &self.letters)?;
+        let processors = copied_processors(alloc, &self.processors)?;
+        Ok(World {
+            limit: self.limit,
+            trace,
+            letters,
             processors,
         })
     }

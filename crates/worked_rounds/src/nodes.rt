@@ -94,7 +94,7 @@ pub fn sends(
 {
     let config = config(alloc, 3, 1)?;
     Ok(match node.out(alloc, &config, me, round, to)? {
-        Some(body) => is_body(&body, says, proper),
+        Some(body) => node.sends_to(&config, me, round, to) && is_body(&body, says, proper),
         None => false,
     })
 }
@@ -108,7 +108,8 @@ pub fn is_silent(node: &Node, alloc: Global, me: u64, round: u64, to: u64) -> Re
     requires positive { 1 ≤ round }
 {
     let config = config(alloc, 3, 1)?;
-    Ok(node.out(alloc, &config, me, round, to)?.is_none())
+    Ok(!node.sends_to(&config, me, round, to)
+        && node.out(alloc, &config, me, round, to)?.is_none())
 }
 
 /// A round in which node `me`, of three processors, hears one message.

@@ -1,0 +1,14 @@
+use Rattle.std.proofs.Common.{◌∙◌, refl}
+use Rattle.step_buffers.proofs.CopiedProcessors.{IsProcessor-alike}
+use Rattle.step_buffers.proofs.copies.copied_processor.Goals as goal
+
+pub returns : goal.returns
+returns c = λ config steps p is. IsProcessor-alike config steps p c.args.processor.now _
+    (record {
+      round = refl;
+      last = refl;
+      node = c.in_ok-copy.ensures;
+      buffer = c.in_ok-from_slice.ensures.items ∙ c.deref.ensures.value;
+      inbox = c.in_ok-from_slice-2.ensures.items ∙ c.deref-2.ensures.value;
+    })
+    is

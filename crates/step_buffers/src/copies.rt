@@ -1,0 +1,63 @@
+//! Copies of what a World keeps.
+
+ghost use Rattle.std.specs.Prelude.{ℕ, ◌≡◌, List, IfOk};
+ghost use Rattle.step_trace.specs.declared.steps.Step.{Step};
+ghost use Rattle.step_trace.specs.Configurations.{Setup};
+ghost use Rattle.step_buffers.specs.Worlds.{IsProcessor, AreProcessors};
+
+use crate::letters::{Letter, copied};
+use crate::processors::Processor;
+use std::alloc::{AllocError, Global};
+
+/// The same messages.
+pub(crate) fn copied_letters(
+    alloc: Global,
+    letters: &[Option<Letter>],
+) -> Result<Vec<Option<Letter>>, AllocError>
+    ensures { IfOk result (λ copy. copy.items ≡ letters.now) }
+{
+    let mut copy = Vec::with_capacity(alloc, letters.len())?;
+    for letter in letters {
+        copy.push(copied_letter(letter)?)?;
+    }
+    Ok(copy)
+}
+
+fn copied_letter(letter: &Option<Letter>) -> Result<Option<Letter>, AllocError>
+    ensures { IfOk result (λ copy. copy ≡ letter.now) }
+{
+    match letter {
+        None => Ok(None),
+        Some(letter) => Ok(Some(Letter {
+            sender: letter.sender,
+            round: letter.round,
+            body: copied(&letter.body)?,
+        })),
+    }
+}
+
+/// What serves for the same processors of the same traces.
+pub(crate) fn copied_processors(
+    alloc: Global,
+    processors: &[Processor],
+) -> Result<Vec<Processor>, AllocError>
+    ensures { IfOk result (λ copy. (c : Setup) (steps : List Step) → AreProcessors c steps processors.now → AreProcessors c steps copy.items) }
+{
+    let mut copy = Vec::with_capacity(alloc, processors.len())?;
+    for processor in processors {
+        copy.push(copied_processor(alloc, processor)?)?;
+    }
+    Ok(copy)
+}
+
+fn copied_processor(alloc: Global, processor: &Processor) -> Result<Processor, AllocError>
+    ensures { IfOk result (λ copy. (c : Setup) (steps : List Step) (p : ℕ) → IsProcessor c steps p processor.now → IsProcessor c steps p copy) }
+{
+    Ok(Processor {
+        round: processor.round,
+        last: processor.last,
+        node: processor.node.copy(alloc)?,
+        buffer: Vec::from_slice(alloc, &processor.buffer)?,
+        inbox: Vec::from_slice(alloc, &processor.inbox)?,
+    })
+}
