@@ -26,3 +26,5 @@ pub mod HeardNow
 pub mod HeardInboxes
 pub mod ReceivedProcessors
 pub mod FittingTakes
+pub mod RunSteps
+pub mod ReplayedSteps

@@ -5,3 +5,4 @@ pub mod Moves
 pub mod Letters
 pub mod Worlds
 pub mod Progress
+pub mod Replays

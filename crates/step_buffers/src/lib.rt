@@ -10,6 +10,7 @@ mod letters;
 mod moves;
 mod processors;
 mod receives;
+mod replays;
 mod sends;
 mod steps;
 mod takes;
@@ -17,4 +18,5 @@ mod worlds;
 
 pub use laws::run_laws;
 pub use moves::{Done, Move, StepError, Take};
+pub use replays::{ReplayError, replay};
 pub use worlds::World;

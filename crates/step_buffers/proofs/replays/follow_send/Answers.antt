@@ -1,0 +1,28 @@
+use Rattle.std.proofs.Common.{ℕ, ◌≡◌, ◌∙◌, Some, true, refl, sym, ap, eq-eqb}
+use Rattle.std.specs.Prelude.{option_map}
+use Rattle.std.proofs.lemmas.Bool.{false≢true}
+use Rattle.std.proofs.lemmas.Option.{same_Some}
+use Rattle.step_trace.specs.declared.steps.Act.TheVariants.{Send}
+use Rattle.step_trace.specs.declared.steps.Step.{Step}
+use Rattle.step_trace.specs.Steps.{act_sends_to}
+use Rattle.step_buffers.proofs.RunSteps.{IsDue-from_run, step_refusal-send, off-from_refusal}
+use Rattle.step_buffers.proofs.replays.follow_send.Goals as goal
+
+pub returns-in-Ok-clause-off : goal.returns-in-Ok-clause-off
+returns-in-Ok-clause-off c = λ off run.
+    let config = c.args.world.now.trace.config in
+    let steps = c.args.world.now.trace.steps in
+    let p = c.args.p in
+    let to = c.args.to in
+    let x : Step = record { proc = p; act = Send to } in
+    let due = IsDue-from_run config steps x run in
+    let made : c.in-Ok.done.step ≡ x = same_Some c.in-Ok.done.step x (c.in-Ok.ensures.step ∙ ap (option_map (λ (t : ℕ). record { proc = p; act = Send t })) due) in
+    let yes : c.sends_to.result ≡ true = c.sends_to.ensures ∙ ap (λ (z : Step). act_sends_to z.act to) made ∙ eq-eqb to to refl in
+    false≢true (sym off ∙ yes)
+
+pub returns-in-Err-clause-off : goal.returns-in-Err-clause-off
+returns-in-Err-clause-off c =
+    let config = c.args.world.now.trace.config in
+    let steps = c.args.world.now.trace.steps in
+    off-from_refusal c.not_made.result c.in-Err.why _ _ c.not_made.ensures.reason c.in-Err.ensures.refused
+    (step_refusal-send config c.args.world.now.limit steps c.args.p c.args.to c.requires)

@@ -1,0 +1,20 @@
+-- Traces that are made again, one step after the other (own).
+use Rattle.std.specs.Prelude.{ℕ, ◌-◌, ◌≤◌, List, length, take}
+use Rattle.step_trace.specs.declared.steps.Step.{Step}
+use Rattle.step_trace.specs.Configurations.{Setup}
+use Rattle.step_buffers.specs.declared.replays.ReplayError.{ReplayError}
+use Rattle.step_buffers.specs.declared.replays.ReplayError.TheVariants.{NotARun, Memory}
+use Rattle.step_buffers.specs.Runs.{IsRun}
+
+-- Step no is the first of these steps that isn't one of a run: the steps before it are a run, and with it they
+-- are none.
+pub record IsFirstOff (c : Setup) (steps : List Step) (no : ℕ) : Type 0 where
+  pub positive : 1 ≤ no
+  pub within : no ≤ length steps
+  pub before : IsRun c (take (no - 1) steps)
+  pub off : ¬ IsRun c (take no steps)
+
+-- what a refusal says of the steps; want of memory says nothing
+abbrev pub IsReplayRefusal : Setup → List Step → ReplayError → Type 0
+IsReplayRefusal c steps (NotARun n) = IsFirstOff c steps n
+IsReplayRefusal c steps Memory = Unit {0}

@@ -1,0 +1,139 @@
+//! A World that makes the steps of a given trace.
+
+ghost use Rattle.std.specs.Prelude.{◌≡◌, ◌+◌, ◌<◌, ◌≤◌, ◌++◌, ◌∷◌, [], None, true, false, length, option_copied, IfOk, OnOk, IfErr};
+ghost use Rattle.step_trace.specs.declared.traces.TheConstants.{MAX_STEPS};
+ghost use Rattle.step_trace.specs.Steps.{act_sends_to};
+ghost use Rattle.step_trace.specs.Traces.{step_at};
+ghost use Rattle.step_buffers.specs.Runs.{IsRun};
+ghost use Rattle.step_buffers.specs.Moves.{IsStepRefusal};
+ghost use Rattle.step_buffers.specs.Replays.{IsReplayRefusal};
+
+use crate::moves::{Move, StepError, Take};
+use crate::worlds::World;
+use std::alloc::{AllocError, Global};
+use step_trace::{Act, Config, MAX_STEPS, MessageIds, Step, Trace};
+
+/// Why no World is made of a trace, in the order in which the reasons are tested.
+#[derive(Clone, Copy, Debug, PartialEq, Eq)]
+pub enum ReplayError {
+    /// The step of this number is the first that isn't one of a run: the steps before it are a run, and with
+    /// it they are none.
+    NotARun(u64),
+    /// There was no memory for the World.
+    Memory,
+}
+
+/// The World that made exactly the steps of this trace, and may make up to 1,000,000 in all; it is there where
+/// the trace is a run (section 3 of the 1988 paper).
+///
+/// Refuses: `NotARun` with the number of the first step that isn't a run's, or `Memory`. Takes the memory of
+/// the World's steps, and the time of making each of them once.
+pub fn replay(alloc: Global, trace: &Trace) -> Result<World, ReplayError>
+    ensures trace { IfOk result (λ world. world.trace ≡ trace.now) }
+    ensures limit { IfOk result (λ world. world.limit ≡ MAX_STEPS) }
+    ensures run { OnOk result (IsRun trace.now.config trace.now.steps) }
+    ensures refused { IfErr result (λ e. IsReplayRefusal trace.now.config trace.now.steps e) }
+    ensures complete { IsRun trace.now.config trace.now.steps → IfErr result (λ e. e ≡ ReplayError.Memory) }
+{
+    let Ok(mut world) = opening_world(alloc, trace.config()) else {
+        return Err(ReplayError::Memory);
+    };
+    while let Some(step) = next_step(&world, trace) {
+        follow(alloc, &mut world, step)?;
+    }
+    Ok(world)
+}
+
+// The World of a configuration before the first step, with room for the steps of each trace.
+fn opening_world(alloc: Global, config: &Config) -> Result<World, AllocError>
+    ensures config { IfOk result (λ world. world.trace.config ≡ config.now) }
+    ensures steps { IfOk result (λ world. world.trace.steps ≡ []) }
+    ensures limit { IfOk result (λ world. world.limit ≡ MAX_STEPS) }
+{
+    World::new(alloc, config.copy(alloc)?, MAX_STEPS as u64)
+}
+
+// The step of a trace that comes after as many as a World made.
+fn next_step<'a>(world: &World, trace: &'a Trace) -> Option<&'a Step>
+    ensures value { option_copied result ≡ step_at trace.now.steps (length world.now.trace.steps + 1) }
+    ensures limit { length trace.now.steps ≤ MAX_STEPS }
+    ensures run { IsRun world.now.trace.config world.now.trace.steps }
+{
+    trace.step(world.trace().len() as u64 + 1)
+}
+
+// Makes this step, if it is one that its processor makes next.
+fn follow(alloc: Global, world: &mut World, step: &Step) -> Result<(), ReplayError>
+    requires { length world.old.trace.steps < world.old.limit }
+    ensures made { OnOk result (world.new.trace.steps ≡ world.old.trace.steps ++ step.now ∷ []) }
+    ensures config { world.new.trace.config ≡ world.old.trace.config }
+    ensures limit { world.new.limit ≡ world.old.limit }
+    ensures refused { IfErr result (λ e. IsReplayRefusal world.old.trace.config (world.old.trace.steps ++ step.now ∷ []) e) }
+{
+    let no = world.trace().len() as u64 + 1;
+    let made = match &step.act {
+        Act::Send { to } => follow_send(alloc, world, step.proc, *to),
+        Act::Receive { ends, ids } => follow_receive(alloc, world, step.proc, *ends, ids),
+    };
+    match made {
+        Ok(true) => Ok(()),
+        Ok(false) => Err(ReplayError::NotARun(no)),
+        Err(_) => Err(ReplayError::Memory),
+    }
+}
+
+// Makes the Send that `p` makes next, and says whether it was one to this processor. It says no where `p` has
+// nothing to send, too.
+fn follow_send(alloc: Global, world: &mut World, p: u64, to: u64) -> Result<bool, AllocError>
+    requires { length world.old.trace.steps < world.old.limit }
+    ensures made { IfOk result (λ is. is ≡ true → world.new.trace.steps ≡ world.old.trace.steps ++ record { proc = p; act = Act.Send to } ∷ []) }
+    ensures off { IfOk result (λ is. is ≡ false → ¬ IsRun world.old.trace.config (world.old.trace.steps ++ record { proc = p; act = Act.Send to } ∷ [])) }
+    ensures config { world.new.trace.config ≡ world.old.trace.config }
+    ensures limit { world.new.limit ≡ world.old.limit }
+{
+    match world.step(alloc, p, Move::Send) {
+        Ok(done) => Ok(sends_to(&done.step.act, to)),
+        Err(why) => not_made(why),
+    }
+}
+
+// Makes this Receive, if nothing is against it, and says whether it was made.
+fn follow_receive(
+    alloc: Global,
+    world: &mut World,
+    p: u64,
+    ends: bool,
+    ids: &MessageIds,
+) -> Result<bool, AllocError>
+    requires { length world.old.trace.steps < world.old.limit }
+    ensures made { IfOk result (λ is. is ≡ true → world.new.trace.steps ≡ world.old.trace.steps ++ record { proc = p; act = Act.Receive ends ids.now } ∷ []) }
+    ensures off { IfOk result (λ is. is ≡ false → ¬ IsRun world.old.trace.config (world.old.trace.steps ++ record { proc = p; act = Act.Receive ends ids.now } ∷ [])) }
+    ensures config { world.new.trace.config ≡ world.old.trace.config }
+    ensures limit { world.new.limit ≡ world.old.limit }
+{
+    let take = Take::These(ids.as_slice());
+    let Err(why) = world.step(alloc, p, Move::Receive { take, ends }) else {
+        return Ok(true);
+    };
+    not_made(why)
+}
+
+// Says that a step wasn't made, for a reason that stands against it; want of memory is none.
+fn not_made(why: StepError) -> Result<bool, AllocError>
+    ensures no { IfOk result (λ made. made ≡ false) }
+    ensures reason { OnOk result (¬ IsStepRefusal why None) }
+{
+    match why {
+        StepError::Memory => Err(AllocError),
+        _ => Ok(false),
+    }
+}
+
+fn sends_to(act: &Act, p: u64) -> bool
+    ensures { result ≡ act_sends_to act.now p }
+{
+    match act {
+        Act::Send { to } => *to == p,
+        Act::Receive { .. } => false,
+    }
+}
