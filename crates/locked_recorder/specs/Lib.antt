@@ -3,3 +3,5 @@ pub mod Recorders
 pub mod Recordings
 pub mod Lent
 pub mod Prefixes
+pub mod Audits
+pub mod Drives

@@ -32,3 +32,36 @@ pub enum MineError {
     /// There was no memory for the copy.
     Memory,
 }
+
+/// Why an audit refuses, in the order in which the reasons are tested.
+#[derive(Clone, Copy, Debug, PartialEq, Eq)]
+pub enum AuditError {
+    /// There isn't one seat for each processor, in order.
+    SeatCount,
+    /// A seat is of a recorder with another tag, or of another configuration.
+    ForeignSeat,
+    /// The seat of this processor, the least such, isn't what the trace makes of it.
+    SeatDiffers(u64),
+    /// The trace doesn't extend the view of this index, which counts from 0 and is the least such.
+    ViewDiffers(u64),
+    /// There was no memory for the copies.
+    Memory,
+}
+
+/// Why a drive stopped, in the order in which the reasons are tested.
+#[derive(Clone, Copy, Debug, PartialEq, Eq)]
+pub enum DriveStop {
+    /// The gate held the processor back.
+    Held,
+    /// A step was refused.
+    Record(RecordError),
+}
+
+/// A drive that stopped before its last step.
+#[derive(Clone, Copy, Debug, PartialEq, Eq)]
+pub struct DriveError {
+    /// How many steps it made.
+    pub made: u64,
+    /// Why it made no more.
+    pub why: DriveStop,
+}

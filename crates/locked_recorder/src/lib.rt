@@ -2,15 +2,19 @@
 //! trace that they were shown. `specs/` says what each call answers.
 #![tactic(auto)]
 
+mod audits;
+mod comparisons;
+mod drives;
 mod errors;
 mod missing_steps;
 mod prefixes;
 mod recorders;
 mod recordings;
+mod repeats;
 mod seats;
 mod views;
 
-pub use errors::{MineError, PrefixError, RecordError};
+pub use errors::{AuditError, DriveError, DriveStop, MineError, PrefixError, RecordError};
 pub use recorders::Recorder;
 pub use seats::Seat;
 pub use views::View;

@@ -69,7 +69,7 @@ impl Seat {
     }
 
     // Makes one step, and keeps what was done. The list grows before the lock is taken.
-    fn record<R: Wait>(
+    pub(crate) fn record<R: Wait>(
         &mut self,
         rt: &R,
         alloc: Global,
