@@ -110,7 +110,7 @@ fn has_decided(rt: &impl Abort, world: &World, decision: u64) -> bool {
 #[test]
 fn threads_decide(rt: HostRuntime) -> Result<(), Fail> {
     let alloc = rt.alloc();
-    let (recorder, mut seats) = opened(alloc, 1, 1, &[5, 7, 7], 100)?;
+    let (recorder, mut seats) = opened(&rt, alloc, 1, 1, &[5, 7, 7], 100)?;
     assert!(rt; all_pass(&rt, alloc, &recorder, seats.as_mut_slice()));
     assert!(rt; decides(&rt, alloc, &recorder, seats.as_slice(), 18, 7));
     Ok(())

@@ -60,7 +60,7 @@ fn went_round(seat: &Seat) -> bool {
 #[test]
 fn a_drive_goes_round(rt: HostRuntime) -> Result<(), Fail> {
     let alloc = rt.alloc();
-    let (recorder, mut seats) = opened(alloc, 1, 0, &[5, 7], 3)?;
+    let (recorder, mut seats) = opened(&rt, alloc, 1, 0, &[5, 7], 3)?;
     let full = DriveStop::Record(RecordError::Step(StepError::Full));
     assert!(rt; stops(&rt, alloc, &recorder, &mut seats[0], &OpenGate, 3, full));
     assert!(rt; went_round(&seats[0]));
@@ -70,8 +70,18 @@ fn a_drive_goes_round(rt: HostRuntime) -> Result<(), Fail> {
 #[test]
 fn a_drive_is_held(rt: HostRuntime) -> Result<(), Fail> {
     let alloc = rt.alloc();
-    let (recorder, mut seats) = opened(alloc, 1, 0, &[5, 7], 3)?;
-    assert!(rt; stops(&rt, alloc, &recorder, &mut seats[0], &ClosedGate, 0, DriveStop::Held));
+    let (recorder, mut seats) = opened(&rt, alloc, 1, 0, &[5, 7], 3)?;
+    assert!(rt;
+        stops(
+            &rt,
+            alloc,
+            &recorder,
+            &mut seats[0],
+            &ClosedGate,
+            0,
+            DriveStop::Held
+        )
+    );
     assert!(rt; did(&seats[0], 0));
     Ok(())
 }

@@ -11,6 +11,6 @@ mod prefix_tests;
 #[cfg(test)]
 mod refusal_tests;
 #[cfg(test)]
-mod stranger_tests;
-#[cfg(test)]
 mod seats;
+#[cfg(test)]
+mod stranger_tests;

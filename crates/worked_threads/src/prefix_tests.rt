@@ -96,7 +96,7 @@ fn fits<R: Wait>(
 #[test]
 fn prefixes_grow(rt: HostRuntime) -> Result<(), Fail> {
     let alloc = rt.alloc();
-    let (recorder, mut seats) = opened(alloc, 1, 1, &[5, 7, 7], 100)?;
+    let (recorder, mut seats) = opened(&rt, alloc, 1, 1, &[5, 7, 7], 100)?;
     let mut view = recorder.view();
     assert!(rt; view.seen().is_none() && shows(&rt, alloc, &recorder, &mut view, 0));
     assert!(rt; all_go(&rt, alloc, &recorder, seats.as_mut_slice(), &mut view));

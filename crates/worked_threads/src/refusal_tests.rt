@@ -32,10 +32,18 @@ fn refuses<R: Wait>(
 #[test]
 fn a_full_recorder_refuses(rt: HostRuntime) -> Result<(), Fail> {
     let alloc = rt.alloc();
-    let (recorder, mut seats) = opened(alloc, 1, 1, &[5, 7, 7], 3)?;
+    let (recorder, mut seats) = opened(&rt, alloc, 1, 1, &[5, 7, 7], 3)?;
     let seat = &mut seats[0];
     assert!(rt; waits(&rt, alloc, &recorder, seat, 3));
-    assert!(rt; refuses(&rt, alloc, &recorder, seat, RecordError::Step(StepError::Full)));
+    assert!(rt;
+        refuses(
+            &rt,
+            alloc,
+            &recorder,
+            seat,
+            RecordError::Step(StepError::Full)
+        )
+    );
     assert!(rt; did(seat, 3));
     Ok(())
 }

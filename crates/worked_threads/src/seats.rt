@@ -2,22 +2,22 @@
 
 use locked_recorder::{Recorder, Seat};
 use std::alloc::Global;
+use std::process::Abort;
 use std::sync::Wait;
 use std::test::Fail;
-use step_buffers::{Done, Move, Take};
-use step_trace::{Act, Config};
+use step_buffers::{Move, Take};
+use step_trace::Config;
 
 /// A recorder of this tag over a World of this configuration, which may make so many steps; and its seats.
 pub fn opened(
+    rt: &impl Abort,
     alloc: Global,
     tag: u64,
     t: u64,
     init: &[u64],
     max_steps: u64,
 ) -> Result<(Recorder, Vec<Seat>), Fail> {
-    if max_steps > 1_000_000 {
-        return Err(Fail);
-    }
+    assert!(rt; max_steps <= 1_000_000);
     let init = Vec::from_slice(alloc, init)?;
     let config = Config::new(init.len() as u64, t, init)?;
     Ok(Recorder::new(alloc, config, tag, max_steps)?)

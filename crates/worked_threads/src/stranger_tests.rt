@@ -3,6 +3,7 @@
 use crate::seats::{opened, waits};
 use locked_recorder::{AuditError, MineError, PrefixError, RecordError, Recorder, Seat, View};
 use std::alloc::Global;
+use std::process::Abort;
 use std::sync::Wait;
 use std::test::Fail;
 use step_buffers::Move;
@@ -52,27 +53,33 @@ fn is_foreign<R: Wait>(rt: &R, alloc: Global, recorder: &Recorder, seat: &mut Se
     }
 }
 
-// A recorder of tag 1 whose seat 1 did one step, with its seats and a view that has seen it.
-fn stepped<R: Wait>(rt: &R, alloc: Global) -> Result<(Vec<Seat>, View), Fail> {
-    let (recorder, mut seats) = opened(alloc, 1, 0, &[5, 7], 100)?;
+// A recorder of tag 1 whose seat 1 did one step: its seats, and a view that has seen the step.
+fn stepped<R: Wait + Abort>(rt: &R, alloc: Global) -> Result<(Vec<Seat>, View), Fail> {
+    let (recorder, mut seats) = opened(rt, alloc, 1, 0, &[5, 7], 100)?;
     let mut view = recorder.view();
-    if seats.is_empty() || !waits(rt, alloc, &recorder, &mut seats[0], 1) {
-        return Err(Fail);
-    }
-    match recorder.prefix(rt, alloc, &mut view) {
-        Ok(_) => Ok((seats, view)),
-        Err(_) => Err(Fail),
-    }
+    assert!(rt; !seats.is_empty());
+    assert!(rt; waits(rt, alloc, &recorder, &mut seats[0], 1));
+    assert!(rt; recorder.prefix(rt, alloc, &mut view).is_ok());
+    Ok((seats, view))
 }
 
 #[test]
 fn a_view_of_another_recorder(rt: HostRuntime) -> Result<(), Fail> {
     let alloc = rt.alloc();
     let (_, mut view) = stepped(&rt, alloc)?;
-    let (other, seats) = opened(alloc, 1, 0, &[5, 7], 100)?;
+    let (other, seats) = opened(&rt, alloc, 1, 0, &[5, 7], 100)?;
     assert!(rt; lacks_the_first(&rt, alloc, &other, &mut view));
     let views = vec![in alloc; view]?;
-    assert!(rt; refuses_audit(&rt, alloc, &other, &seats, &views, AuditError::ViewDiffers(0)));
+    assert!(rt;
+        refuses_audit(
+            &rt,
+            alloc,
+            &other,
+            &seats,
+            &views,
+            AuditError::ViewDiffers(0)
+        )
+    );
     Ok(())
 }
 
@@ -80,7 +87,8 @@ fn a_view_of_another_recorder(rt: HostRuntime) -> Result<(), Fail> {
 fn seats_of_another_recorder(rt: HostRuntime) -> Result<(), Fail> {
     let alloc = rt.alloc();
     let (seats, _) = stepped(&rt, alloc)?;
-    let (other, _) = opened(alloc, 1, 0, &[5, 7], 100)?;
+    assert!(rt; seats.len() == 2);
+    let (other, _) = opened(&rt, alloc, 1, 0, &[5, 7], 100)?;
     assert!(rt; refuses_mine(&rt, alloc, &other, &seats[0], MineError::NotMine(1)));
     assert!(rt; refuses_audit(&rt, alloc, &other, &seats, &[], AuditError::SeatDiffers(1)));
     assert!(rt; refuses_audit(&rt, alloc, &other, &seats[..1], &[], AuditError::SeatCount));
@@ -91,7 +99,8 @@ fn seats_of_another_recorder(rt: HostRuntime) -> Result<(), Fail> {
 fn seats_of_another_tag(rt: HostRuntime) -> Result<(), Fail> {
     let alloc = rt.alloc();
     let (mut seats, _) = stepped(&rt, alloc)?;
-    let (other, _) = opened(alloc, 2, 0, &[5, 7], 100)?;
+    assert!(rt; seats.len() == 2);
+    let (other, _) = opened(&rt, alloc, 2, 0, &[5, 7], 100)?;
     assert!(rt; is_foreign(&rt, alloc, &other, &mut seats[0]));
     assert!(rt; refuses_mine(&rt, alloc, &other, &seats[0], MineError::ForeignSeat));
     assert!(rt; refuses_audit(&rt, alloc, &other, &seats, &[], AuditError::ForeignSeat));
@@ -102,7 +111,7 @@ fn seats_of_another_tag(rt: HostRuntime) -> Result<(), Fail> {
 fn a_view_of_another_configuration(rt: HostRuntime) -> Result<(), Fail> {
     let alloc = rt.alloc();
     let (_, mut view) = stepped(&rt, alloc)?;
-    let (other, _) = opened(alloc, 1, 0, &[5, 8], 100)?;
+    let (other, _) = opened(&rt, alloc, 1, 0, &[5, 8], 100)?;
     let shown = match other.prefix(&rt, alloc, &mut view) {
         Err(PrefixError::NotAnExtension { at, found }) => at == 0 && found.is_none(),
         _ => false,
