@@ -4,7 +4,7 @@ ghost use Rattle.std.specs.Prelude.{◌≡◌, ◌↔◌, IsTrue, IfOk, IfErr, I
 ghost use Rattle.step_trace.specs.Extensions.{Extends};
 ghost use Rattle.step_buffers.specs.Runs.{IsRun};
 ghost use Rattle.locked_recorder.specs.Prefixes.{IsRunOf};
-ghost use Rattle.locked_recorder.specs.Audits.{AreInOrder, AreTagged, AgreeWith, AreExtended};
+ghost use Rattle.locked_recorder.specs.Audits.{AreInOrder, AreTagged, AgreeWith, AreExtended, IsOff, IsAuditRefusal};
 
 use crate::comparisons::{are_in_order, are_tagged, first_differing, first_not_extended};
 use crate::errors::AuditError;
@@ -36,6 +36,7 @@ impl Recorder {
         ensures tags { OnOk result (AreTagged self.now.tag seats.now) }
         ensures seats { IfOk result (λ world. AgreeWith world.trace.config world.trace.steps seats.now) }
         ensures views { IfOk result (λ world. AreExtended world.trace views.now) }
+        ensures refused { IfErr result (λ e. IsAuditRefusal self.now seats.now views.now e) }
     {
         if !are_in_order(&self.config, seats) {
             return Err(AuditError::SeatCount);
@@ -69,12 +70,13 @@ fn compare(alloc: Global, trace: &Trace, seats: &[Seat], views: &[View]) -> Resu
     requires { IsRun trace.now.config trace.now.steps }
     ensures seats { OnOk result (AgreeWith trace.now.config trace.now.steps seats.now) }
     ensures views { OnOk result (AreExtended trace.now views.now) }
+    ensures refused { IfErr result (λ e. IsOff trace.now seats.now views.now e) }
 {
     let Ok(all) = all_done(alloc, trace) else {
         return Err(AuditError::Memory);
     };
-    if let Some(proc) = first_differing(&all, seats) {
-        return Err(AuditError::SeatDiffers(proc));
+    if let Some(index) = first_differing(&all, seats) {
+        return Err(AuditError::SeatDiffers(index as u64 + 1));
     }
     match first_not_extended(trace, views) {
         Some(index) => Err(AuditError::ViewDiffers(index)),

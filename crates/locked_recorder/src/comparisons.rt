@@ -1,9 +1,7 @@
 //! Seats and views, compared with a trace and with what was done in it.
 
-ghost use Rattle.std.specs.Prelude.{◌≡◌, ◌↔◌, IsTrue, IfSome, IfNone, All};
-ghost use Rattle.std.specs.Bool.{OnTrue};
-ghost use Rattle.step_trace.specs.Extensions.{Extends};
-ghost use Rattle.locked_recorder.specs.Audits.{done_of, AreInOrder, AreTagged, AreExtended};
+ghost use Rattle.std.specs.Prelude.{◌≡◌, ◌↔◌, Some, slice_get, IsTrue, IfSome, IfNone, All};
+ghost use Rattle.locked_recorder.specs.Audits.{done_of, AreInOrder, AreTagged, IsExtended, AreExtended, IsFirstWithout};
 
 use crate::seats::Seat;
 use crate::views::View;
@@ -32,13 +30,14 @@ pub(crate) fn are_tagged(tag: u64, seats: &[Seat]) -> bool
     seats.iter().all(|seat| seat.tag == tag)
 }
 
-/// The processor of the first seat that didn't do what its processor does of all that was done.
-pub(crate) fn first_differing(all: &[Done], seats: &[Seat]) -> Option<u64>
-    ensures { IfNone result (All (λ s. s.done ≡ done_of all.now s.proc) seats.now) }
+/// The index of the first seat that didn't do what its processor does of all that was done.
+pub(crate) fn first_differing(all: &[Done], seats: &[Seat]) -> Option<usize>
+    ensures none { IfNone result (All (λ s. s.done ≡ done_of all.now s.proc) seats.now) }
+    ensures some { IfSome result (λ k. IsFirstWithout (λ s. s.done ≡ done_of all.now s.proc) seats.now k) }
 {
-    for seat in seats {
+    for (i, seat) in seats.iter().enumerate() {
         if !agrees(all, seat.done(), seat.proc()) {
-            return Some(seat.proc());
+            return Some(i);
         }
     }
     None
@@ -46,18 +45,28 @@ pub(crate) fn first_differing(all: &[Done], seats: &[Seat]) -> Option<u64>
 
 // Whether these are what processor `p` does of all that was done.
 fn agrees(all: &[Done], own: &[Done], p: u64) -> bool
-    ensures { OnTrue result (own.now ≡ done_of all.now p) }
+    ensures { IsTrue result ↔ (own.now ≡ done_of all.now p) }
 {
     let mut next = 0;
     for done in all {
         if done.step.proc == p {
-            if next >= own.len() || !are_same(done, &own[next]) {
+            if !has_at(own, next, done) {
                 return false;
             }
             next += 1;
         }
     }
     next == own.len()
+}
+
+// Whether this stands at an index of a list.
+fn has_at(list: &[Done], index: usize, done: &Done) -> bool
+    ensures { IsTrue result ↔ (slice_get list.now index ≡ Some done.now) }
+{
+    match list.get(index) {
+        Some(one) => are_same(one, done),
+        None => false,
+    }
 }
 
 // Whether the same was done.
@@ -72,7 +81,8 @@ fn are_same(one: &Done, other: &Done) -> bool
 
 /// The index of the first view that has seen what the trace doesn't extend.
 pub(crate) fn first_not_extended(trace: &Trace, views: &[View]) -> Option<u64>
-    ensures { IfNone result (AreExtended trace.now views.now) }
+    ensures none { IfNone result (AreExtended trace.now views.now) }
+    ensures some { IfSome result (λ k. IsFirstWithout (λ v. IsExtended trace.now v) views.now k) }
 {
     for (i, view) in views.iter().enumerate() {
         if !extends(trace, view) {
@@ -84,7 +94,7 @@ pub(crate) fn first_not_extended(trace: &Trace, views: &[View]) -> Option<u64>
 
 // Whether the trace extends what a view has seen.
 fn extends(trace: &Trace, view: &View) -> bool
-    ensures { IsTrue result ↔ IfSome view.now (λ seen. Extends trace.now seen) }
+    ensures { IsTrue result ↔ IsExtended trace.now view.now }
 {
     match view.seen() {
         Some(seen) => trace.begins(seen),
