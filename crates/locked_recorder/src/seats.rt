@@ -46,7 +46,7 @@ impl Seat {
     pub fn done(&self) -> &[Done]
         ensures { result.now ≡ self.now.done }
     {
-        &self.done
+        self.done.as_slice()
     }
 
     // What it did last.
