@@ -3,6 +3,7 @@ use Rattle.std.specs.Prelude.{ℕ, suc, ◌≡◌, ◌+◌, ◌<◌, ◌≤◌, 
 use Rattle.step_trace.specs.declared.steps.Step.{Step}
 use Rattle.step_trace.specs.Configurations.{Setup, IsSetup}
 use Rattle.step_trace.specs.Traces.{Recorded}
+use Rattle.step_trace.specs.Ticks.{IsOnePerTick}
 use Rattle.step_trace.specs.PushRefusals.{is_taken}
 use Rattle.step_buffers.specs.declared.letters.Letter.{Letter}
 use Rattle.step_buffers.specs.declared.processors.Processor.{Processor}
@@ -46,9 +47,10 @@ pub record AreProcessors (c : Setup) (steps : List Step) (kept : List Processor)
   pub count : length kept ≡ c.n
   pub each : (k : ℕ) (x : Processor) → slice_get kept k ≡ Some x → IsProcessor c steps (suc k) x
 
--- What a World keeps: a run, its messages, and what is kept of its processors.
+-- What a World keeps: a run with one step in each tick, its messages, and what is kept of its processors.
 pub record IsWorld (trace : Recorded) (sent : List (Option Letter)) (kept : List Processor) : Type 0 where
   pub setup : IsSetup trace.config
   pub run : IsRun trace.config trace.steps
+  pub one_per_tick : IsOnePerTick trace
   pub letters : AreLetters trace.config trace.steps sent
   pub processors : AreProcessors trace.config trace.steps kept

@@ -4,6 +4,7 @@ ghost use Rattle.std.specs.Prelude.{◌≡◌, ◌+◌, ◌≤◌, ◌++◌, ◌
 ghost use Rattle.std.specs.List.Sorted.{IsStrictlyIncreasing};
 ghost use Rattle.step_trace.specs.declared.traces.TheConstants.{MAX_STEPS};
 ghost use Rattle.step_trace.specs.Configurations.{IsProc};
+ghost use Rattle.step_trace.specs.Ticks.{IsOnePerTick};
 ghost use Rattle.step_buffers.specs.HeardTables.{passed};
 ghost use Rattle.step_buffers.specs.Runs.{node_at, IsRun};
 ghost use Rattle.step_buffers.specs.Buffers.{buffer};
@@ -80,10 +81,11 @@ impl World {
         })
     }
 
-    /// The trace of the steps made. It is a run.
+    /// The trace of the steps made. It is a run, with one step in each tick: the tick of a step is its number.
     pub fn trace(&self) -> &Trace
         ensures value { result.now ≡ self.now.trace }
         ensures run { IsRun self.now.trace.config self.now.trace.steps }
+        ensures one_per_tick { IsOnePerTick self.now.trace }
         ensures within { length self.now.trace.steps ≤ self.now.limit }
     {
         &self.trace
