@@ -9,6 +9,7 @@ use Rattle.step_trace.specs.declared.steps.Step.{Step}
 use Rattle.step_trace.specs.Configurations.{Setup, IsProc}
 use Rattle.step_trace.specs.Steps.{act_sends}
 use Rattle.step_trace.specs.Traces.{Recorded, IsWellFormed}
+use Rattle.step_trace.specs.Ticks.{IsOnePerTick}
 use Rattle.step_trace.proofs.StepPositions.{step_at_last}
 use Rattle.step_buffers.specs.declared.letters.Letter.{Letter}
 use Rattle.step_buffers.specs.declared.processors.Processor.{Processor}
@@ -88,14 +89,15 @@ AreProcessors-received c steps p ends ids kept y w proc are is = record {
 -- the World after a Receive of p
 pub IsWorld-received : (old new : Recorded) (letters sent : List (Option Letter)) (kept : List Processor) (p : ℕ) (ends : Bool) (ids : List ℕ) (y : Processor)
     → IsWorld old letters kept → IsProc old.config p → new.config ≡ old.config → new.steps ≡ old.steps ++ record { proc = p; act = Receive ends ids } ∷ []
-    → IsRun new.config new.steps → AreLetters new.config new.steps sent → IsProcessor new.config new.steps p y → IsWorld new sent (slice_set kept (p - 1) y)
-IsWorld-received old new letters sent kept p ends ids y world proc config steps run are is =
+    → IsRun new.config new.steps → IsOnePerTick new → AreLetters new.config new.steps sent → IsProcessor new.config new.steps p y → IsWorld new sent (slice_set kept (p - 1) y)
+IsWorld-received old new letters sent kept p ends ids y world proc config steps run ticks are is =
     let x : Step = record { proc = p; act = Receive ends ids } in
     let w : IsWellFormed old.config (old.steps ++ x ∷ []) = rw (← config, ← steps) run.well_formed in
     let here : IsProcessor old.config (old.steps ++ x ∷ []) p y = rw (← config, ← steps) is in
     record {
       setup = rw config world.setup;
       run = run;
+      one_per_tick = ticks;
       letters = are;
       processors = rw (config, steps) (AreProcessors-received old.config old.steps p ends ids kept y w proc world.processors here);
     }
@@ -109,6 +111,7 @@ IsWorld-kept old new letters sent kept p y world proc same are is =
     subst (λ (t : Recorded). IsWorld t sent (slice_set kept (p - 1) y)) (sym same) (record {
       setup = world.setup;
       run = world.run;
+      one_per_tick = world.one_per_tick;
       letters = subst (λ (t : Recorded). AreLetters t.config t.steps sent) same are;
       processors = AreProcessors-set old.config old.steps kept (p - 1) y world.processors (subst (λ n. IsProcessor old.config old.steps n y) place there);
     })

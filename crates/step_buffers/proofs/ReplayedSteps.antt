@@ -6,7 +6,7 @@ use Rattle.std.proofs.lemmas.List.{length-append, length_push, take_all, take-ap
 use Rattle.std.proofs.Math.Seq.{take-suc}
 use Rattle.step_trace.specs.declared.steps.Step.{Step}
 use Rattle.step_trace.specs.Configurations.{Setup}
-use Rattle.step_trace.specs.Traces.{Recorded, step_at}
+use Rattle.step_trace.specs.Traces.{step_at}
 use Rattle.step_buffers.specs.declared.replays.ReplayError.{ReplayError}
 use Rattle.step_buffers.specs.declared.replays.ReplayError.TheVariants.{NotARun, Memory}
 use Rattle.step_buffers.specs.Runs.{IsRun}
@@ -59,7 +59,3 @@ memory-from_refusal c steps (NotARun n) h run = absurd (h.off (IsRun-prefix c (t
 pub memory-from_run : {X : Type 0} (c : Setup) (steps : List Step) (r : Result X ReplayError) → IfErr r (λ e. IsReplayRefusal c steps e) → IsRun c steps → IfErr r (λ e. e ≡ Memory)
 memory-from_run c steps (Ok x) h run = tt
 memory-from_run c steps (Err e) h run = memory-from_refusal c steps e h run
-
--- a trace is its configuration and its steps
-pub Recorded-same : (a b : Recorded) → a.config ≡ b.config → a.steps ≡ b.steps → a ≡ b
-Recorded-same a b config steps = ap (λ (c : Setup). record { config = c; steps = a.steps }) config ∙ ap (λ (xs : List Step). record { config = b.config; steps = xs }) steps

@@ -2,17 +2,20 @@
 
 ghost use Rattle.std.specs.Prelude.{◌≡◌, ◌++◌, ◌∷◌, [], None, OnOk, OnErr};
 ghost use Rattle.step_trace.specs.Traces.{IsWellFormed};
+ghost use Rattle.step_trace.specs.Ticks.{IsOnePerTick};
 ghost use Rattle.step_trace.specs.PushRefusals.{refusal};
 
 use std::alloc::AllocError;
 use step_trace::{PushError, Step, Trace};
 
-/// Appends a step against which there is no reason.
+/// Appends a step against which there is no reason, in a tick of its own.
 pub(crate) fn append(trace: &mut Trace, step: Step) -> Result<(), AllocError>
-    requires { refusal trace.old.config trace.old.steps step ≡ None }
+    requires step { refusal trace.old.config trace.old.steps step ≡ None }
+    requires ticks { IsOnePerTick trace.old }
     ensures appended { OnOk result (trace.new.steps ≡ trace.old.steps ++ step ∷ []) }
     ensures config { trace.new.config ≡ trace.old.config }
     ensures well_formed { OnOk result (IsWellFormed trace.old.config (trace.old.steps ++ step ∷ [])) }
+    ensures one_per_tick { IsOnePerTick trace.new }
     ensures err { OnErr result (trace.new ≡ trace.old) }
 {
     match trace.push(step) {

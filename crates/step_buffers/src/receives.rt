@@ -4,6 +4,7 @@ ghost use Rattle.std.specs.Prelude.{◌≡◌, ◌+◌, ◌≤◌, ◌++◌, ◌
 ghost use Rattle.step_trace.specs.declared.traces.TheConstants.{MAX_STEPS};
 ghost use Rattle.step_trace.specs.Configurations.{IsProc};
 ghost use Rattle.step_trace.specs.Traces.{IsWellFormed};
+ghost use Rattle.step_trace.specs.Ticks.{IsOnePerTick};
 ghost use Rattle.step_trace.specs.PushRefusals.{refusal};
 ghost use Rattle.step_buffers.specs.Runs.{node_at, IsRun};
 ghost use Rattle.step_buffers.specs.Buffers.{buffer};
@@ -11,7 +12,7 @@ ghost use Rattle.step_buffers.specs.Moves.{next_send, taken_ids, receive_refusal
 ghost use Rattle.step_buffers.specs.Worlds.{AreLetters, IsProcessor, IsWorld};
 
 use crate::appends::append;
-use crate::kept_messages::{drop_past, take_in};
+use crate::kept_messages::{drop_past, release, take_in};
 use crate::letters::{Letter, heard_in};
 use crate::moves::{StepError, Take};
 use crate::processors::{Processor, next_destination};
@@ -188,10 +189,12 @@ fn settle_taken(
     taken: &MessageIds,
 ) -> Result<(), AllocError>
     requires run { IsRun trace.old.config trace.old.steps }
+    requires ticks { IsOnePerTick trace.old }
     requires letters { AreLetters trace.old.config trace.old.steps letters.old.items }
     requires receiver { IsProcessor trace.old.config trace.old.steps p receiver.old }
     requires step { refusal trace.old.config trace.old.steps (record { proc = p; act = Act.Receive false taken.now }) ≡ None }
     ensures run { IsRun trace.new.config trace.new.steps }
+    ensures one_per_tick { IsOnePerTick trace.new }
     ensures letters { AreLetters trace.new.config trace.new.steps letters.new.items }
     ensures receiver { IsProcessor trace.new.config trace.new.steps p receiver.new }
     ensures config { trace.new.config ≡ trace.old.config }
@@ -199,9 +202,10 @@ fn settle_taken(
     ensures err { OnErr result (trace.new ≡ trace.old) }
 {
     push_receive(trace, letters, &mut receiver.inbox, p, false, taken)?;
-    let round = receiver.round;
-    take_in(receiver, letters, taken.as_slice(), round);
     letters.push_reserved(None);
+    let round = receiver.round;
+    release(letters, taken.as_slice(), round);
+    take_in(receiver, letters, taken.as_slice(), round);
     Ok(())
 }
 
@@ -215,12 +219,14 @@ fn settle_ended(
     node: Node,
 ) -> Result<(), AllocError>
     requires run { IsRun trace.old.config trace.old.steps }
+    requires ticks { IsOnePerTick trace.old }
     requires letters { AreLetters trace.old.config trace.old.steps letters.old.items }
     requires receiver { IsProcessor trace.old.config trace.old.steps p receiver.old }
     requires step { refusal trace.old.config trace.old.steps (record { proc = p; act = Act.Receive true taken.now }) ≡ None }
     requires due { next_send trace.old.config trace.old.steps p ≡ None }
     requires node { node ≡ node_at trace.old.config (trace.old.steps ++ record { proc = p; act = Act.Receive true taken.now } ∷ []) p }
     ensures run { IsRun trace.new.config trace.new.steps }
+    ensures one_per_tick { IsOnePerTick trace.new }
     ensures letters { AreLetters trace.new.config trace.new.steps letters.new.items }
     ensures receiver { IsProcessor trace.new.config trace.new.steps p receiver.new }
     ensures config { trace.new.config ≡ trace.old.config }
@@ -228,10 +234,12 @@ fn settle_ended(
     ensures err { OnErr result (trace.new ≡ trace.old) }
 {
     push_receive(trace, letters, &mut receiver.inbox, p, true, taken)?;
+    letters.push_reserved(None);
     let round = receiver.round + 1;
+    release(letters, &receiver.inbox, round);
+    release(letters, taken.as_slice(), round);
     take_in(receiver, letters, taken.as_slice(), round);
     drop_past(&mut receiver.inbox, letters, round);
-    letters.push_reserved(None);
     receiver.round = round;
     receiver.last = 0;
     receiver.node = node;
@@ -247,7 +255,8 @@ fn push_receive(
     ends: bool,
     taken: &MessageIds,
 ) -> Result<(), AllocError>
-    requires { refusal trace.old.config trace.old.steps (record { proc = p; act = Act.Receive ends taken.now }) ≡ None }
+    requires step { refusal trace.old.config trace.old.steps (record { proc = p; act = Act.Receive ends taken.now }) ≡ None }
+    requires ticks { IsOnePerTick trace.old }
     ensures letters { letters.new.items ≡ letters.old.items }
     ensures inbox { inbox.new.items ≡ inbox.old.items }
     ensures place { OnOk result (vec_len letters.new < vec_capacity letters.new) }
@@ -255,6 +264,7 @@ fn push_receive(
     ensures appended { OnOk result (trace.new.steps ≡ trace.old.steps ++ record { proc = p; act = Act.Receive ends taken.now } ∷ []) }
     ensures config { trace.new.config ≡ trace.old.config }
     ensures well_formed { OnOk result (IsWellFormed trace.old.config (trace.old.steps ++ record { proc = p; act = Act.Receive ends taken.now } ∷ [])) }
+    ensures one_per_tick { IsOnePerTick trace.new }
     ensures err { OnErr result (trace.new ≡ trace.old) }
 {
     let ids = copied(taken)?;

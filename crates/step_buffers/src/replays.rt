@@ -4,6 +4,7 @@ ghost use Rattle.std.specs.Prelude.{◌≡◌, ◌+◌, ◌<◌, ◌≤◌, ◌+
 ghost use Rattle.step_trace.specs.declared.traces.TheConstants.{MAX_STEPS};
 ghost use Rattle.step_trace.specs.Steps.{act_sends_to};
 ghost use Rattle.step_trace.specs.Traces.{step_at};
+ghost use Rattle.step_trace.specs.Ticks.{IsOnePerTick};
 ghost use Rattle.step_buffers.specs.Runs.{IsRun};
 ghost use Rattle.step_buffers.specs.Moves.{IsStepRefusal};
 ghost use Rattle.step_buffers.specs.Replays.{IsReplayRefusal};
@@ -23,14 +24,16 @@ pub enum ReplayError {
     Memory,
 }
 
-/// The World that made exactly the steps of this trace, and may make up to 1,000,000 in all. There is one where
-/// the trace is a run (section 3 of the 1988 paper).
+/// The World that made exactly the steps of this trace, one in each tick, and may make up to 1,000,000 in all.
+/// There is one where the steps are those of a run (section 3 of the 1988 paper); their ticks are not looked at.
 ///
 /// Refuses: `NotARun`, with the number of the first step that isn't a run's; `Memory`, where it lacks for the
 /// World, or for a step before that one or in place of it. Makes each step once, in the time and memory of
 /// `World::step`.
 pub fn replay(alloc: Global, trace: &Trace) -> Result<World, ReplayError>
-    ensures trace { IfOk result (λ world. world.trace ≡ trace.now) }
+    ensures config { IfOk result (λ world. world.trace.config ≡ trace.now.config) }
+    ensures steps { IfOk result (λ world. world.trace.steps ≡ trace.now.steps) }
+    ensures one_per_tick { IfOk result (λ world. IsOnePerTick world.trace) }
     ensures limit { IfOk result (λ world. world.limit ≡ MAX_STEPS) }
     ensures run { OnOk result (IsRun trace.now.config trace.now.steps) }
     ensures refused { IfErr result (λ e. IsReplayRefusal trace.now.config trace.now.steps e) }
@@ -59,6 +62,7 @@ fn next_step<'a>(world: &World, trace: &'a Trace) -> Option<&'a Step>
     ensures value { option_copied result ≡ step_at trace.now.steps (length world.now.trace.steps + 1) }
     ensures limit { length trace.now.steps ≤ MAX_STEPS }
     ensures run { IsRun world.now.trace.config world.now.trace.steps }
+    ensures one_per_tick { IsOnePerTick world.now.trace }
 {
     trace.step(world.trace().len() as u64 + 1)
 }

@@ -5,6 +5,7 @@ ghost use Rattle.step_trace.specs.declared.traces.TheConstants.{MAX_STEPS};
 ghost use Rattle.step_trace.specs.declared.steps.Step.{Step as TraceStep};
 ghost use Rattle.step_trace.specs.Configurations.{Setup, IsProc};
 ghost use Rattle.step_trace.specs.Traces.{IsWellFormed};
+ghost use Rattle.step_trace.specs.Ticks.{IsOnePerTick};
 ghost use Rattle.step_trace.specs.PushRefusals.{refusal};
 ghost use Rattle.lock_phases.specs.NodeFunctions.{out};
 ghost use Rattle.step_buffers.specs.HeardTables.{passed};
@@ -117,6 +118,7 @@ fn push_send(
     to: u64,
 ) -> Result<(), AllocError>
     requires step { refusal trace.old.config trace.old.steps (record { proc = p; act = Act.Send to }) ≡ None }
+    requires ticks { IsOnePerTick trace.old }
     requires low { 1 ≤ to }
     requires high { to ≤ length processors.old.items }
     ensures letters { letters.new.items ≡ letters.old.items }
@@ -127,6 +129,7 @@ fn push_send(
     ensures appended { OnOk result (trace.new.steps ≡ trace.old.steps ++ record { proc = p; act = Act.Send to } ∷ []) }
     ensures config { trace.new.config ≡ trace.old.config }
     ensures well_formed { OnOk result (IsWellFormed trace.old.config (trace.old.steps ++ record { proc = p; act = Act.Send to } ∷ [])) }
+    ensures one_per_tick { IsOnePerTick trace.new }
     ensures err { OnErr result (trace.new ≡ trace.old) }
 {
     make_room(letters, processors, to)?;

@@ -1,6 +1,6 @@
 use Rattle.std.proofs.Common.{◌∙◌, sym}
 use Rattle.std.proofs.lemmas.Result.{err_from_is_err_and}
-use Rattle.step_buffers.proofs.ReplayedSteps.{made-next, made-all, IsReplayRefusal-next, memory-from_run, Recorded-same}
+use Rattle.step_buffers.proofs.ReplayedSteps.{made-next, made-all, IsReplayRefusal-next, memory-from_run}
 use Rattle.step_buffers.proofs.replays.replay.Goals as goal
 
 pub loop-step-preserved : goal.loop-step-preserved
@@ -23,10 +23,10 @@ pub returns-in_err-follow-clause-complete : goal.returns-in_err-follow-clause-co
 returns-in_err-follow-clause-complete c = λ run.
     memory-from_run c.args.trace.now.config c.args.trace.now.steps c.from_residual.result (returns-in_err-follow-clause-refused c) run
 
-pub returns-clause-trace : goal.returns-clause-trace
-returns-clause-trace c =
+pub returns-clause-steps : goal.returns-clause-steps
+returns-clause-steps c =
     let is = c.loop-step.invariant in
-    Recorded-same c.loop-step.world.trace c.args.trace.now is.config (made-all c.args.trace.now.steps c.loop-step.world.trace.steps is.steps (sym c.in_default-next_step.ensures.value))
+    made-all c.args.trace.now.steps c.loop-step.world.trace.steps is.steps (sym c.in_default-next_step.ensures.value)
 
 pub returns-clause-run : goal.returns-clause-run
 returns-clause-run c =

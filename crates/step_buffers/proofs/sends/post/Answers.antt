@@ -38,6 +38,7 @@ returns-in_err-push_send-clause-world c =
     rw c.in_err-push_send.ensures.err (record {
       setup = c.requires.world.setup;
       run = c.requires.world.run;
+      one_per_tick = c.requires.world.one_per_tick;
       letters = rw c.in_err-push_send.ensures.letters c.requires.world.letters;
       processors = c.in_err-push_send.ensures.processors c.args.trace.now.config c.args.trace.now.steps c.requires.world.processors;
     })
@@ -70,6 +71,7 @@ returns-clause-world c =
     record {
       setup = rw c.in_ok-push_send.ensures.config world.setup;
       run = rw (c.in_ok-push_send.ensures.config, c.in_ok-push_send.ensures.appended) (IsRun-push config steps _ world.run w c.requires.destination);
+      one_per_tick = c.in_ok-push_send.ensures.one_per_tick;
       letters = rw (c.in_ok-push_send.ensures.config, c.in_ok-push_send.ensures.appended, c.push_reserved-2.ensures.items, c.in_ok-push_send.ensures.letters) letters;
       processors = rw (c.in_ok-push_send.ensures.config, c.in_ok-push_send.ensures.appended) kept;
     }
