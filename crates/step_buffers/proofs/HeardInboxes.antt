@@ -21,14 +21,14 @@ use Rattle.round_model.proofs.HeardMessages.{IsProc-from_processors}
 use Rattle.step_buffers.specs.declared.letters.Letter.{Letter}
 use Rattle.step_buffers.specs.HeardTables.{passed, round_at}
 use Rattle.step_buffers.specs.Runs.{body_of, IsSend, IsRun}
-use Rattle.step_buffers.specs.Letters.{round_of, of_round, body_from, heard_in}
-use Rattle.step_buffers.specs.Worlds.{IsKept, AreLetters}
-use Rattle.step_buffers.proofs.StepPrefixes.{step_at-prefix, IsWellFormed-prefix}
+use Rattle.step_buffers.specs.Letters.{letter_at, round_of, of_round, body_from, heard_in}
+use Rattle.step_buffers.specs.Worlds.{IsKept, IsLetter, AreLetters}
+use Rattle.step_buffers.proofs.StepPrefixes.{step_at-prefix, round_at-prefix, IsWellFormed-prefix}
 use Rattle.step_buffers.proofs.GrownNodes.{body_of-prefix}
 use Rattle.step_buffers.proofs.Inboxes.{IsTaken, IsInInbox}
 use Rattle.step_buffers.proofs.InboxSteps.{IsTakenNow, IsTaken-old, IsTaken-new, IsTaken-cases}
 use Rattle.step_buffers.proofs.InboxSenders.{IsSend-from_taken, inbox-once}
-use Rattle.step_buffers.proofs.TakenSteps.{round_of-sent, taken-sent}
+use Rattle.step_buffers.proofs.TakenSteps.{kept-ahead, round_of-ahead, round_of-known, taken-sent}
 use Rattle.step_buffers.proofs.HeardNow.{IsSaid, body_from-said, body_from-some}
 
 -- the Receive that ends a round of p
@@ -63,9 +63,9 @@ kept-taken c steps p s w is =
 
 -- what is gathered was taken
 IsGathered-from : (c : Setup) (steps : List Step) (p round s : ℕ) (ids inbox : List ℕ) (letters : List (Option Letter))
-    → IsWellFormed c (steps ++ ending p ids ∷ []) → AreLetters c steps letters → ((i : ℕ) → Contains inbox i ↔ IsKept steps p i)
+    → IsWellFormed c (steps ++ ending p ids ∷ []) → AreLetters c steps letters → ((i : ℕ) → Contains inbox i ↔ IsKept steps p i) → round ≡ passed steps p + 1
     → Contains (gathered letters inbox ids round) s → IsGathered steps p round s ids
-IsGathered-from c steps p round s ids inbox letters w are kept d = go (Contains-append_cases (of_round letters round inbox) (of_round letters round ids) s d)
+IsGathered-from c steps p round s ids inbox letters w are kept now d = go (Contains-append_cases (of_round letters round inbox) (of_round letters round ids) s d)
   where
     x : Step
     x = ending p ids
@@ -74,7 +74,9 @@ IsGathered-from c steps p round s ids inbox letters w are kept d = go (Contains-
     old = IsWellFormed-prefix c steps (x ∷ []) w
 
     in_round : (q : ℕ) → IsSend steps q p s → (round_of letters s == round) ≡ true → round_at steps q s ≡ round
-    in_round q sent t = sym (round_of-sent c steps letters q p s are sent) ∙ eqb-true (round_of letters s) round t
+    in_round q sent t =
+        let e = eqb-true (round_of letters s) round t in
+        sym (round_of-known c steps letters q p s are sent (omega arith)) ∙ e
 
     go : Contains (of_round letters round inbox) s ⊎ Contains (of_round letters round ids) s → IsGathered steps p round s ids
     go (inl e) =
@@ -106,7 +108,7 @@ gathered-from_taken c steps p round q s ids inbox letters w are kept now is sent
     x = ending p ids
 
     in_round : round_at steps q s ≡ round → (round_of letters s == round) ≡ true
-    in_round e = eq-eqb (round_of letters s) round (round_of-sent c steps letters q p s are sent ∙ e)
+    in_round e = eq-eqb (round_of letters s) round (round_of-ahead c steps letters q p s are sent (omega arith) ∙ e)
 
     go : IsTaken steps p round q s ⊎ IsTakenNow steps x p round q s → Contains (gathered letters inbox ids round) s
     go (inl t) =
@@ -134,9 +136,9 @@ Contains-range c p is =
 
 -- what is heard is in the inbox
 heard-in_inbox : (c : Setup) (steps : List Step) (p round : ℕ) (ids inbox : List ℕ) (letters : List (Option Letter)) (m : Message)
-    → IsWellFormed c (steps ++ ending p ids ∷ []) → AreLetters c steps letters → ((i : ℕ) → Contains inbox i ↔ IsKept steps p i)
+    → IsWellFormed c (steps ++ ending p ids ∷ []) → AreLetters c steps letters → ((i : ℕ) → Contains inbox i ↔ IsKept steps p i) → round ≡ passed steps p + 1
     → Contains (heard_in letters inbox ids round c.n) m → IsInInbox c (steps ++ ending p ids ∷ []) p round m
-heard-in_inbox c steps p round ids inbox letters m w are kept d =
+heard-in_inbox c steps p round ids inbox letters m w are kept now d =
     let all = gathered letters inbox ids round in
     let f = Contains-from_filter_map (λ q. option_map (λ (body : Body). (q, body)) (body_from letters all q)) (range_with_len 1 c.n) m d in
     go f.0 (body_from letters all f.0) refl f.2
@@ -152,8 +154,11 @@ heard-in_inbox c steps p round ids inbox letters m w are kept d =
 
     said : (q : ℕ) (body : Body) → IsSaid letters all q body → IsInInbox c (steps ++ x ∷ []) p round (q, body)
     said q body is =
-        let g = IsGathered-from c steps p round is.message ids inbox letters w are kept is.member in
-        let l = are.messages g.sender p is.message g.sent in
+        let g = IsGathered-from c steps p round is.message ids inbox letters w are kept now is.member in
+        let l : (y : Letter) × (letter_at letters is.message ≡ Some y) × IsLetter c steps g.sender p is.message y = elim (are.messages g.sender p is.message g.sent) [
+          | inl m ↦ m
+          | inr e ↦ absurd (none-some is.letter (sym e.0 ∙ is.kept))
+        ] in
         let same : l.0 ≡ is.letter = same_Some l.0 is.letter (sym l.1 ∙ is.kept) in
         let from : g.sender ≡ q = sym l.2.sender ∙ ap (λ (z : Letter). z.sender) same ∙ is.sender in
         let b = step_at_within steps is.message (record { proc = g.sender; act = Send p }) g.sent in
@@ -186,7 +191,9 @@ inbox-is_heard c steps p round ids inbox letters m run are kept now is =
     let high = b.1 in
     let low = e.0 in
     let sent : IsSend steps m.0 p is.message = sym (step_at-prefix steps (x ∷ []) is.message (omega arith)) ∙ IsSend-from_taken c (steps ++ x ∷ []) p round m.0 is.message w is.taken in
-    let l = are.messages m.0 p is.message sent in
+    let round_is = is.taken.sent.round in
+    let same = round_at-prefix steps (x ∷ []) m.0 is.message (omega arith) in
+    let l = kept-ahead c steps letters m.0 p is.message are sent (omega arith) in
     let says : l.0.body ≡ m.1 = same_Some l.0.body m.1 (sym l.2.body ∙ body_of-prefix c steps (x ∷ []) m.0 p is.message (IsWellFormed-prefix c steps (x ∷ []) w) (omega arith) ∙ is.body) in
     let found = body_from-some letters all m.0 m.1 (record {
       message = is.message;
@@ -201,14 +208,14 @@ inbox-is_heard c steps p round ids inbox letters m run are kept now is =
     let here : Contains (heard_in letters inbox ids round c.n) pair =
     Contains-filter_map (λ q. option_map (λ (body : Body). (q, body)) (body_from letters all q)) (range_with_len 1 c.n) m.0 pair (Contains-range c m.0 proc) (rw found.1 refl) in
     subst (Contains (heard_in letters inbox ids round c.n))
-    (inbox-once c (steps ++ x ∷ []) p round pair m run (heard-in_inbox c steps p round ids inbox letters pair w are kept here) is refl) here
+    (inbox-once c (steps ++ x ∷ []) p round pair m run (heard-in_inbox c steps p round ids inbox letters pair w are kept now here) is refl) here
 
 -- so what is heard is just the inbox of the round
 pub heard_in-just : (c : Setup) (steps : List Step) (p round : ℕ) (ids inbox : List ℕ) (letters : List (Option Letter)) (m : Message)
     → IsRun c (steps ++ record { proc = p; act = Receive true ids } ∷ []) → AreLetters c steps letters → ((i : ℕ) → Contains inbox i ↔ IsKept steps p i) → round ≡ passed steps p + 1
     → Contains (heard_in letters inbox ids round c.n) m ↔ IsInInbox c (steps ++ record { proc = p; act = Receive true ids } ∷ []) p round m
 heard_in-just c steps p round ids inbox letters m run are kept now = (
-  λ d. heard-in_inbox c steps p round ids inbox letters m run.well_formed are kept d,
+  λ d. heard-in_inbox c steps p round ids inbox letters m run.well_formed are kept now d,
   λ is. inbox-is_heard c steps p round ids inbox letters m run are kept now is,
 )
 

@@ -10,11 +10,11 @@ use Rattle.step_trace.specs.Traces.{step_at, IsWellFormed}
 use Rattle.step_trace.proofs.StepPositions.{step_at_within, step_at-push_cases}
 use Rattle.lock_phases.specs.NodeFunctions.{out}
 use Rattle.step_buffers.specs.declared.letters.Letter.{Letter}
-use Rattle.step_buffers.specs.HeardTables.{passed}
+use Rattle.step_buffers.specs.HeardTables.{passed, round_at}
 use Rattle.step_buffers.specs.Runs.{node_at}
 use Rattle.step_buffers.specs.Letters.{letter_at}
 use Rattle.step_buffers.specs.Worlds.{IsLetter, AreLetters}
-use Rattle.step_buffers.proofs.StepPrefixes.{round_at-prefix}
+use Rattle.step_buffers.proofs.StepPrefixes.{round_at-prefix, passed-append}
 use Rattle.step_buffers.proofs.GrownNodes.{body_of-prefix, body_of-now, before-now}
 
 -- a place before the last one
@@ -54,20 +54,28 @@ AreLetters-push c steps x letters o w are new = record {
 }
   where
     go : (q to s : ℕ) → (step_at steps s ≡ Some (record { proc = q; act = Send to })) ⊎ ((s ≡ length steps + 1) × (x ≡ record { proc = q; act = Send to }))
-        → (l : Letter) × (letter_at (letters ++ o ∷ []) s ≡ Some l) × IsLetter c (steps ++ x ∷ []) q to s l
+        → ((l : Letter) × (letter_at (letters ++ o ∷ []) s ≡ Some l) × IsLetter c (steps ++ x ∷ []) q to s l)
+        ⊎ ((letter_at (letters ++ o ∷ []) s ≡ None) × (round_at (steps ++ x ∷ []) q s ≤ passed (steps ++ x ∷ []) to))
     go q to s (inl old) =
-        let m = are.messages q to s old in
         let b = step_at_within steps s (record { proc = q; act = Send to }) old in
         let within = b.1 in
         let places = are.places in
-        (m.0, letter_at-old letters o s (omega arith) ∙ m.1, IsLetter-longer c steps x q to s m.0 w within m.2)
+        let same = letter_at-old letters o s (omega arith) in
+        elim (are.messages q to s old) [
+          | inl m ↦ inl (m.0, same ∙ m.1, IsLetter-longer c steps x q to s m.0 w within m.2)
+          | inr e ↦
+              let past = e.1 in
+              let sum = passed-append steps (x ∷ []) to in
+              let round = round_at-prefix steps (x ∷ []) q s (omega arith) in
+              inr (same ∙ e.0, omega arith)
+        ]
     go q to s (inr last) =
         let m = new.each q to last.1 in
         let place = last.0 in
         let places = are.places in
         let e : suc (length steps) ≡ s = omega arith in
         let f : suc (length letters) ≡ s = omega arith in
-        (m.0, subst (λ n. letter_at (letters ++ o ∷ []) n ≡ Some m.0) f (letter_at-last letters o ∙ m.1), subst (λ n. IsLetter c (steps ++ x ∷ []) q to n m.0) e m.2)
+        inl (m.0, subst (λ n. letter_at (letters ++ o ∷ []) n ≡ Some m.0) f (letter_at-last letters o ∙ m.1), subst (λ n. IsLetter c (steps ++ x ∷ []) q to n m.0) e m.2)
 
 -- a Send
 pub AreLetters-sent : (c : Setup) (steps : List Step) (p to : ℕ) (letters : List (Option Letter)) (l : Letter) → IsWellFormed c steps → AreLetters c steps letters

@@ -22,6 +22,7 @@ pub mod TakenSteps
 pub mod RoundEnds
 pub mod Openings
 mod CopiedProcessors
+mod ReleasedLetters
 pub mod HeardNow
 pub mod HeardInboxes
 pub mod ReceivedProcessors

@@ -1,10 +1,11 @@
 -- Messages as they are kept: a place for each step, which has the message of a Send until nobody can hear it.
-use Rattle.std.specs.Prelude.{ℕ, zero, suc, List, [], ◌∷◌, ◌++◌, Option, Some, None, ◌==◌, filter, slice_index_or, option_map, if◌then◌else◌}
+use Rattle.std.specs.Prelude.{ℕ, zero, suc, List, [], ◌∷◌, ◌++◌, Option, Some, None, ◌==◌, ◌&&◌, nat_lt, filter, slice_index_or, option_map, if◌then◌else◌}
 use Rattle.std.specs.Option.{option_map_or, option_or}
 use Rattle.std.specs.List.{filter_map, range_with_len}
 use Rattle.lock_phases.specs.declared.bodies.Body.{Body}
 use Rattle.lock_phases.specs.Messages.{Message}
 use Rattle.step_buffers.specs.declared.letters.Letter.{Letter}
+use Rattle.step_buffers.specs.Moves.{is_in}
 
 -- the message of this id, which counts from 1
 abbrev pub letter_at : List (Option Letter) → ℕ → Option Letter
@@ -14,6 +15,10 @@ letter_at letters (suc k) = slice_index_or letters k None
 -- the round in which it was sent, or 0
 abbrev pub round_of : List (Option Letter) → ℕ → ℕ
 round_of letters s = option_map_or (λ x. x.round) (letter_at letters s) 0
+
+-- the message of an id, after those of these ids were let go that were sent in an earlier round than this one
+abbrev pub letter_left : List (Option Letter) → List ℕ → ℕ → ℕ → Option Letter
+letter_left letters ids round s = if is_in ids s && nat_lt (round_of letters s) round then None else letter_at letters s
 
 -- the body of a message that q sent
 abbrev pub said_by : ℕ → Option Letter → Option Body

@@ -1,5 +1,5 @@
 -- What a World keeps beside its trace, and what it must be for the trace.
-use Rattle.std.specs.Prelude.{ℕ, suc, ◌≡◌, ◌+◌, ◌<◌, ◌≤◌, ◌↔◌, List, length, Option, Some, Contains, true, slice_get}
+use Rattle.std.specs.Prelude.{ℕ, suc, ◌≡◌, ◌+◌, ◌<◌, ◌≤◌, ◌↔◌, ◌⊎◌, List, length, Option, Some, None, Contains, true, slice_get}
 use Rattle.step_trace.specs.declared.steps.Step.{Step}
 use Rattle.step_trace.specs.Configurations.{Setup, IsSetup}
 use Rattle.step_trace.specs.Traces.{Recorded}
@@ -34,10 +34,12 @@ pub record IsLetter (c : Setup) (steps : List Step) (q to s : ℕ) (x : Letter) 
   pub round : x.round ≡ round_at steps q s
   pub body : body_of c steps q to s ≡ Some x.body
 
--- The messages that are kept: a place for each step, and in that of each Send its message.
+-- The messages that are kept: a place for each step, and in that of each Send its message, at least until its
+-- receiver has passed the round in which it was sent.
 pub record AreLetters (c : Setup) (steps : List Step) (letters : List (Option Letter)) : Type 0 where
   pub places : length letters ≡ length steps
-  pub messages : (q to s : ℕ) → IsSend steps q to s → (x : Letter) × (letter_at letters s ≡ Some x) × IsLetter c steps q to s x
+  pub messages : (q to s : ℕ) → IsSend steps q to s
+      → ((x : Letter) × (letter_at letters s ≡ Some x) × IsLetter c steps q to s x) ⊎ ((letter_at letters s ≡ None) × (round_at steps q s ≤ passed steps to))
 
 -- what is kept of all processors, in their order
 pub record AreProcessors (c : Setup) (steps : List Step) (kept : List Processor) : Type 0 where

@@ -1,11 +1,11 @@
-//! What a Receive makes of a buffer and an inbox.
+//! What a Receive makes of a buffer and an inbox, and of the messages that nobody can hear any more.
 
-ghost use Rattle.std.specs.Prelude.{◌≡◌, ◌+◌, ◌≤◌, ◌++◌, length, vec_len, vec_capacity, filter, nat_le, not};
+ghost use Rattle.std.specs.Prelude.{ℕ, ◌∷◌, [], ◌<◌, IsTrue, false, ◌≡◌, ◌+◌, ◌≤◌, ◌++◌, length, vec_len, vec_capacity, filter, nat_le, not};
 ghost use Rattle.std.specs.List.Sorted.{IsStrictlyIncreasing};
-ghost use Rattle.step_buffers.specs.Letters.{round_of};
+ghost use Rattle.step_buffers.specs.Letters.{letter_at, letter_left, round_of};
 ghost use Rattle.step_buffers.specs.Moves.{is_in};
 
-use crate::letters::{Letter, round_of};
+use crate::letters::{Letter, letter_at, round_of};
 use crate::processors::Processor;
 use crate::takes::take_out;
 
@@ -33,6 +33,38 @@ fn keep(inbox: &mut Vec<u64>, letters: &[Option<Letter>], ids: &[u64], round: u6
         if round <= round_of(letters, *id) {
             inbox.push_reserved(*id);
         }
+    }
+}
+
+/// Lets go of those of these messages that were sent in an earlier round than this one.
+pub(crate) fn release(letters: &mut Vec<Option<Letter>>, ids: &[u64], round: u64)
+    ensures places { length letters.new.items ≡ length letters.old.items }
+    ensures left { (s : ℕ) → letter_at letters.new.items s ≡ letter_left letters.old.items ids.now round s }
+{
+    for id in ids {
+        release_one(letters, *id, round);
+    }
+}
+
+fn release_one(letters: &mut Vec<Option<Letter>>, id: u64, round: u64)
+    ensures places { length letters.new.items ≡ length letters.old.items }
+    ensures left { (s : ℕ) → letter_at letters.new.items s ≡ letter_left letters.old.items (id ∷ []) round s }
+{
+    if is_past(letters, id, round) {
+        letters[id as usize - 1] = None;
+    }
+}
+
+// Whether the message of this id was sent in an earlier round than this one.
+fn is_past(letters: &[Option<Letter>], id: u64, round: u64) -> bool
+    ensures past { IsTrue result → round_of letters.now id < round }
+    ensures low { IsTrue result → 1 ≤ id }
+    ensures high { IsTrue result → id ≤ length letters.now }
+    ensures other { result ≡ false → letter_left letters.now (id ∷ []) round id ≡ letter_at letters.now id }
+{
+    match letter_at(letters, id) {
+        Some(letter) => letter.round < round,
+        None => false,
     }
 }
 

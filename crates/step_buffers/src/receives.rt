@@ -11,7 +11,7 @@ ghost use Rattle.step_buffers.specs.Moves.{next_send, taken_ids, receive_refusal
 ghost use Rattle.step_buffers.specs.Worlds.{AreLetters, IsProcessor, IsWorld};
 
 use crate::appends::append;
-use crate::kept_messages::{drop_past, take_in};
+use crate::kept_messages::{drop_past, release, take_in};
 use crate::letters::{Letter, heard_in};
 use crate::moves::{StepError, Take};
 use crate::processors::{Processor, next_destination};
@@ -199,9 +199,10 @@ fn settle_taken(
     ensures err { OnErr result (trace.new ≡ trace.old) }
 {
     push_receive(trace, letters, &mut receiver.inbox, p, false, taken)?;
-    let round = receiver.round;
-    take_in(receiver, letters, taken.as_slice(), round);
     letters.push_reserved(None);
+    let round = receiver.round;
+    release(letters, taken.as_slice(), round);
+    take_in(receiver, letters, taken.as_slice(), round);
     Ok(())
 }
 
@@ -228,10 +229,12 @@ fn settle_ended(
     ensures err { OnErr result (trace.new ≡ trace.old) }
 {
     push_receive(trace, letters, &mut receiver.inbox, p, true, taken)?;
+    letters.push_reserved(None);
     let round = receiver.round + 1;
+    release(letters, &receiver.inbox, round);
+    release(letters, taken.as_slice(), round);
     take_in(receiver, letters, taken.as_slice(), round);
     drop_past(&mut receiver.inbox, letters, round);
-    letters.push_reserved(None);
     receiver.round = round;
     receiver.last = 0;
     receiver.node = node;

@@ -25,7 +25,7 @@ use step_trace::{Config, Step, Trace};
 pub struct World {
     limit: u64,
     trace: Trace,
-    // For each step the message that it sent.
+    // For each step the message that it sent, until its receiver took it and can't hear it any more.
     letters: Vec<Option<Letter>>,
     // For each processor what is kept of it.
     processors: Vec<Processor>,
@@ -127,8 +127,9 @@ impl World {
     ///
     /// Refuses in the order of `StepError`: Full, BadProc, NothingToSend, StillSending, IdsNotRising,
     /// NotInBuffer, Memory. Then everything is as it was. Takes memory for the step, for the message that it
-    /// sends or the ids that it takes, and for its node. Takes time in these, and in the messages that wait
-    /// for the processor or are kept for it, not in the length of the trace.
+    /// sends or the ids that it takes, and for the node where its round ends. Takes time in these, in the
+    /// messages that wait for the processor and, where its round ends, in those that it took and may yet
+    /// hear; not in the length of the trace.
     pub fn step(&mut self, alloc: Global, p: u64, step: Move) -> Result<Done, StepError>
         ensures step { IfOk result (λ done. Some done.step ≡ step_of self.old.trace.config self.old.trace.steps p step.entry) }
         ensures made { IfOk result (λ done. self.new.trace.steps ≡ self.old.trace.steps ++ done.step ∷ []) }

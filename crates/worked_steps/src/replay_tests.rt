@@ -5,8 +5,8 @@ use crate::scripts::{E, R, Row, S, all_stand, recorded, records};
 use std::alloc::Global;
 use std::process::Abort;
 use std::test::Fail;
-use step_buffers::{Move, ReplayError, replay};
-use step_trace::Trace;
+use step_buffers::{Move, ReplayError, StepError, replay};
+use step_trace::{Act, MAX_STEPS, MessageIds, Step, Trace};
 
 // Whether a World makes all steps of a trace, and its processors then stand so.
 fn replays(
@@ -118,5 +118,39 @@ fn a_run_goes_on(rt: HostRuntime) -> Result<(), Fail> {
     let alloc = rt.alloc();
     let trace = recorded(&rt, alloc, 1, &[5, 7, 7], &DECIDES_SEVEN)?;
     assert!(rt; next_number(alloc, &trace) == Some(19));
+    Ok(())
+}
+
+// A run of so many steps: 1 receives nothing, and ends no round.
+fn idle_run(rt: &impl Abort, alloc: Global, count: usize) -> Result<Trace, Fail> {
+    let mut trace = recorded(rt, alloc, 0, &[5, 7], &[])?;
+    for _ in 0..count {
+        trace.push(Step {
+            proc: 1,
+            act: Act::Receive {
+                ids: MessageIds::new(Vec::new(alloc)),
+                ends: false,
+            },
+        })?;
+    }
+    Ok(trace)
+}
+
+// Whether the World of a trace may make no further step.
+fn is_full(alloc: Global, trace: &Trace) -> bool {
+    let Ok(mut world) = replay(alloc, trace) else {
+        return false;
+    };
+    match world.step(alloc, 1, Move::Send) {
+        Ok(_) => false,
+        Err(why) => why == StepError::Full,
+    }
+}
+
+#[test]
+fn the_longest_trace_is_made_again(rt: HostRuntime) -> Result<(), Fail> {
+    let alloc = rt.alloc();
+    let trace = idle_run(&rt, alloc, MAX_STEPS)?;
+    assert!(rt; is_full(alloc, &trace));
     Ok(())
 }

@@ -1,5 +1,5 @@
-use Rattle.std.proofs.Common.{◌≡◌, ◌+◌, ◌∙◌, ◌++◌, ◌∷◌, [], filter, true, refl, sym, ap, arith}
-use Rattle.std.specs.Prelude.{nat_le, not}
+use Rattle.std.proofs.Common.{subst, ◌≡◌, ◌+◌, ◌∙◌, ◌++◌, ◌∷◌, [], filter, true, refl, sym, ap, arith}
+use Rattle.std.specs.Prelude.{Contains, nat_le, not}
 use Rattle.step_trace.specs.declared.steps.Act.TheVariants.{Receive}
 use Rattle.step_trace.specs.declared.steps.Step.{Step}
 use Rattle.step_trace.proofs.Refusals.{Fits-from_none}
@@ -7,13 +7,15 @@ use Rattle.lock_phases.specs.Nodes.{State}
 use Rattle.step_buffers.specs.HeardTables.{passed}
 use Rattle.step_buffers.specs.Runs.{destination_after}
 use Rattle.step_buffers.specs.Letters.{round_of}
+use Rattle.step_buffers.specs.Worlds.{AreLetters}
 use Rattle.step_buffers.specs.Moves.{is_in}
 use Rattle.step_buffers.proofs.RunPrefixes.{IsRun-push}
 use Rattle.step_buffers.proofs.GrownNodes.{passed-ends}
 use Rattle.step_buffers.proofs.RoundEnds.{next_send-ended}
 use Rattle.step_buffers.proofs.LetterSteps.{AreLetters-received}
+use Rattle.step_buffers.proofs.ReleasedLetters.{AreLetters-released}
 use Rattle.step_buffers.proofs.BufferSteps.{buffer-received}
-use Rattle.step_buffers.proofs.TakenSteps.{inbox-taken, tested-these}
+use Rattle.step_buffers.proofs.TakenSteps.{taken-sent_after, inbox-sent_after, inbox-taken, tested-these}
 use Rattle.step_buffers.proofs.receives.settle_ended.Goals as goal
 
 pub returns-in_err-push_receive-clause-receiver : goal.returns-in_err-push_receive-clause-receiver
@@ -25,7 +27,7 @@ returns-in_err-push_receive-clause-receiver c =
 pub take_in-requires-clause-rising : goal.take_in-requires-clause-rising
 take_in-requires-clause-rising c =
     let x : Step = record { proc = c.args.p; act = Receive true c.args.taken.now } in
-    rw c.as_slice.ensures (Fits-from_none c.args.trace.now.config c.args.trace.now.steps x c.requires.step).rising
+    rw c.as_slice-2.ensures (Fits-from_none c.args.trace.now.config c.args.trace.now.steps x c.requires.step).rising
 
 pub returns-clause-run : goal.returns-clause-run
 returns-clause-run c =
@@ -34,8 +36,25 @@ returns-clause-run c =
 
 pub returns-clause-letters : goal.returns-clause-letters
 returns-clause-letters c =
-    rw (c.in_ok-push_receive.ensures.config, c.in_ok-push_receive.ensures.appended, c.push_reserved.ensures.items, c.in_ok-push_receive.ensures.letters)
-    (AreLetters-received c.args.trace.now.config c.args.trace.now.steps c.args.p true c.args.taken.now c.args.letters.now.items c.requires.run.well_formed c.requires.letters)
+    let config = c.args.trace.now.config in
+    let steps = c.args.trace.now.steps in
+    let p = c.args.p in
+    let ids = c.args.taken.now in
+    let x : Step = record { proc = p; act = Receive true ids } in
+    let is = c.requires.receiver in
+    let first : AreLetters config (steps ++ x ∷ []) c.push_reserved.new.self.items =
+    rw (c.push_reserved.ensures.items, c.in_ok-push_receive.ensures.letters) (AreLetters-received config steps p true ids c.args.letters.now.items c.requires.run.well_formed c.requires.letters) in
+    let round = c.args.receiver.now.round + 1 in
+    let before = is.round in
+    let more = passed-ends steps x refl in
+    let now : round ≡ passed (steps ++ x ∷ []) p + 1 = omega arith in
+    let second = AreLetters-released config (steps ++ x ∷ []) p round c.deref.result.now c.push_reserved.new.self.items c.release.new.letters.items first now
+    (λ s d. inbox-sent_after steps x p s c.args.receiver.now.inbox.items is.inbox (subst (λ xs. Contains xs s) (c.deref.ensures.value ∙ c.in_ok-push_receive.ensures.inbox) d))
+    c.release.ensures.places c.release.ensures.left in
+    rw (c.in_ok-push_receive.ensures.config, c.in_ok-push_receive.ensures.appended)
+    (AreLetters-released config (steps ++ x ∷ []) p round c.as_slice.result.now c.release.new.letters.items c.release-2.new.letters.items second now
+    (λ s d. taken-sent_after config steps p s true ids c.in_ok-push_receive.ensures.well_formed (subst (λ xs. Contains xs s) c.as_slice.ensures d))
+    c.release-2.ensures.places c.release-2.ensures.left)
 
 pub returns-clause-receiver : goal.returns-clause-receiver
 returns-clause-receiver c =
@@ -44,16 +63,17 @@ returns-clause-receiver c =
     let p = c.args.p in
     let ids = c.args.taken.now in
     let old = c.args.receiver.now.inbox.items in
-    let letters = c.args.letters.now.items in
+    let letters = c.release-2.new.letters.items in
+    let are = rw (c.in_ok-push_receive.ensures.config, c.in_ok-push_receive.ensures.appended) at (returns-clause-letters c) in
     let x : Step = record { proc = p; act = Receive true ids } in
     let is = c.requires.receiver in
     let round = c.args.receiver.now.round + 1 in
     let before = is.round in
     let more = passed-ends steps x refl in
     let now : round ≡ passed (steps ++ x ∷ []) p + 1 = omega arith in
-    let waiting : c.take_in.new.receiver.buffer.items ≡ filter (λ s. not (is_in ids s)) c.args.receiver.now.buffer.items = c.take_in.ensures.buffer ∙ rw c.as_slice.ensures refl in
+    let waiting : c.take_in.new.receiver.buffer.items ≡ filter (λ s. not (is_in ids s)) c.args.receiver.now.buffer.items = c.take_in.ensures.buffer ∙ rw c.as_slice-2.ensures refl in
     let inbox : c.drop_past.new.inbox.items ≡ filter (λ i. nat_le round (round_of letters i)) (old ++ filter (λ i. nat_le round (round_of letters i)) ids) =
-    c.drop_past.ensures ∙ rw (c.take_in.ensures.inbox, c.in_ok-push_receive.ensures.inbox, c.as_slice.ensures, c.deref.ensures.value, c.deref-2.ensures.value, c.in_ok-push_receive.ensures.letters) refl in
+    c.drop_past.ensures ∙ rw (c.take_in.ensures.inbox, c.in_ok-push_receive.ensures.inbox, c.as_slice-2.ensures, c.deref-2.ensures.value, c.deref-3.ensures.value) refl in
     rw (c.in_ok-push_receive.ensures.config, c.in_ok-push_receive.ensures.appended) (record {
       round = now;
       node = c.requires.node;
@@ -62,6 +82,6 @@ returns-clause-receiver c =
           ∙ ap (λ (s : State). destination_after config s p (passed (steps ++ x ∷ []) p + 1) 0) (sym c.requires.node)
           ∙ ap (λ r. destination_after config c.args.node p r 0) (sym now);
       buffer = waiting ∙ ap (filter (λ s. not (is_in ids s))) is.buffer ∙ sym (buffer-received config steps p p true ids c.requires.run.well_formed);
-      inbox = λ s. rw inbox (inbox-taken config steps p s round true ids old _ letters c.in_ok-push_receive.ensures.well_formed c.requires.letters is.inbox now
+      inbox = λ s. rw inbox (inbox-taken config steps p s round true ids old _ letters c.in_ok-push_receive.ensures.well_formed are is.inbox now
           (tested-these (λ i. nat_le round (round_of letters i)) old ids s));
     })

@@ -1,18 +1,20 @@
-use Rattle.std.proofs.Common.{◌≡◌, ◌+◌, ◌∙◌, ◌++◌, ◌∷◌, [], filter, false, ◌==◌, refl, sym, ap}
-use Rattle.std.specs.Prelude.{nat_le, not}
+use Rattle.std.proofs.Common.{subst, ◌≡◌, ◌+◌, ◌∙◌, ◌++◌, ◌∷◌, [], filter, false, ◌==◌, refl, sym, ap}
+use Rattle.std.specs.Prelude.{Contains, nat_le, not}
 use Rattle.step_trace.specs.declared.steps.Act.TheVariants.{Receive}
 use Rattle.step_trace.specs.declared.steps.Step.{Step}
 use Rattle.step_trace.proofs.Refusals.{Fits-from_none}
 use Rattle.step_buffers.specs.HeardTables.{passed}
 use Rattle.step_buffers.specs.Letters.{round_of}
+use Rattle.step_buffers.specs.Worlds.{AreLetters}
 use Rattle.step_buffers.specs.Moves.{is_in}
 use Rattle.step_buffers.proofs.RunPrefixes.{IsRun-push}
 use Rattle.step_buffers.proofs.GrownNodes.{passed-stays, node_at-stays}
 use Rattle.step_buffers.proofs.PostSteps.{and_false}
 use Rattle.step_buffers.proofs.LetterSteps.{AreLetters-received}
+use Rattle.step_buffers.proofs.ReleasedLetters.{AreLetters-released}
 use Rattle.step_buffers.proofs.BufferSteps.{buffer-received}
 use Rattle.step_buffers.proofs.ReceivedProcessors.{next_send-took}
-use Rattle.step_buffers.proofs.TakenSteps.{inbox-taken, inbox-ahead, added-these}
+use Rattle.step_buffers.proofs.TakenSteps.{taken-sent_after, inbox-taken, inbox-ahead, added-these}
 use Rattle.step_buffers.proofs.receives.settle_taken.Goals as goal
 
 pub returns-in_err-push_receive-clause-receiver : goal.returns-in_err-push_receive-clause-receiver
@@ -24,7 +26,7 @@ returns-in_err-push_receive-clause-receiver c =
 pub take_in-requires-clause-rising : goal.take_in-requires-clause-rising
 take_in-requires-clause-rising c =
     let x : Step = record { proc = c.args.p; act = Receive false c.args.taken.now } in
-    rw c.as_slice.ensures (Fits-from_none c.args.trace.now.config c.args.trace.now.steps x c.requires.step).rising
+    rw c.as_slice-2.ensures (Fits-from_none c.args.trace.now.config c.args.trace.now.steps x c.requires.step).rising
 
 pub returns-clause-run : goal.returns-clause-run
 returns-clause-run c =
@@ -33,8 +35,19 @@ returns-clause-run c =
 
 pub returns-clause-letters : goal.returns-clause-letters
 returns-clause-letters c =
-    rw (c.in_ok-push_receive.ensures.config, c.in_ok-push_receive.ensures.appended, c.push_reserved.ensures.items, c.in_ok-push_receive.ensures.letters)
-    (AreLetters-received c.args.trace.now.config c.args.trace.now.steps c.args.p false c.args.taken.now c.args.letters.now.items c.requires.run.well_formed c.requires.letters)
+    let config = c.args.trace.now.config in
+    let steps = c.args.trace.now.steps in
+    let p = c.args.p in
+    let ids = c.args.taken.now in
+    let x : Step = record { proc = p; act = Receive false ids } in
+    let is = c.requires.receiver in
+    let first : AreLetters config (steps ++ x ∷ []) c.push_reserved.new.self.items =
+    rw (c.push_reserved.ensures.items, c.in_ok-push_receive.ensures.letters) (AreLetters-received config steps p false ids c.args.letters.now.items c.requires.run.well_formed c.requires.letters) in
+    let now : c.args.receiver.now.round ≡ passed (steps ++ x ∷ []) p + 1 = is.round ∙ ap (λ n. n + 1) (sym (passed-stays steps x p (and_false (p == p)))) in
+    rw (c.in_ok-push_receive.ensures.config, c.in_ok-push_receive.ensures.appended)
+    (AreLetters-released config (steps ++ x ∷ []) p c.args.receiver.now.round c.as_slice.result.now c.push_reserved.new.self.items c.release.new.letters.items first now
+    (λ s d. taken-sent_after config steps p s false ids c.in_ok-push_receive.ensures.well_formed (subst (λ xs. Contains xs s) c.as_slice.ensures d))
+    c.release.ensures.places c.release.ensures.left)
 
 pub returns-clause-receiver : goal.returns-clause-receiver
 returns-clause-receiver c =
@@ -43,20 +56,21 @@ returns-clause-receiver c =
     let p = c.args.p in
     let ids = c.args.taken.now in
     let old = c.args.receiver.now.inbox.items in
-    let letters = c.args.letters.now.items in
+    let letters = c.release.new.letters.items in
+    let are = rw (c.in_ok-push_receive.ensures.config, c.in_ok-push_receive.ensures.appended) at (returns-clause-letters c) in
     let x : Step = record { proc = p; act = Receive false ids } in
     let is = c.requires.receiver in
     let round = c.args.receiver.now.round in
     let now : round ≡ passed (steps ++ x ∷ []) p + 1 = is.round ∙ ap (λ n. n + 1) (sym (passed-stays steps x p (and_false (p == p)))) in
-    let waiting : c.take_in.new.receiver.buffer.items ≡ filter (λ s. not (is_in ids s)) c.args.receiver.now.buffer.items = c.take_in.ensures.buffer ∙ rw c.as_slice.ensures refl in
+    let waiting : c.take_in.new.receiver.buffer.items ≡ filter (λ s. not (is_in ids s)) c.args.receiver.now.buffer.items = c.take_in.ensures.buffer ∙ rw c.as_slice-2.ensures refl in
     let inbox : c.take_in.new.receiver.inbox.items ≡ old ++ filter (λ i. nat_le round (round_of letters i)) ids =
-    c.take_in.ensures.inbox ∙ rw (c.in_ok-push_receive.ensures.inbox, c.as_slice.ensures, c.deref.ensures.value, c.in_ok-push_receive.ensures.letters) refl in
+    c.take_in.ensures.inbox ∙ rw (c.in_ok-push_receive.ensures.inbox, c.as_slice-2.ensures, c.deref.ensures.value) refl in
     rw (c.in_ok-push_receive.ensures.config, c.in_ok-push_receive.ensures.appended) (record {
       round = c.take_in.ensures.round ∙ now;
       node = c.take_in.ensures.node ∙ is.node ∙ sym (node_at-stays config steps x p c.requires.run.well_formed (and_false (p == p)));
       last = rw c.take_in.ensures.last is.last;
       next = next_send-took config steps p ids c.requires.run.well_formed ∙ is.next ∙ rw (c.take_in.ensures.round, c.take_in.ensures.last, c.take_in.ensures.node) refl;
       buffer = waiting ∙ ap (filter (λ s. not (is_in ids s))) is.buffer ∙ sym (buffer-received config steps p p false ids c.requires.run.well_formed);
-      inbox = λ s. rw inbox (inbox-taken config steps p s round false ids old _ letters c.in_ok-push_receive.ensures.well_formed c.requires.letters is.inbox now
-          (added-these (λ i. nat_le round (round_of letters i)) old ids s (inbox-ahead config steps p s round old letters c.requires.letters is.inbox is.round)));
+      inbox = λ s. rw inbox (inbox-taken config steps p s round false ids old _ letters c.in_ok-push_receive.ensures.well_formed are is.inbox now
+          (added-these (λ i. nat_le round (round_of letters i)) old ids s (inbox-ahead config steps x p s round old letters are is.inbox now is.round)));
     })

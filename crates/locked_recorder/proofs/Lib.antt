@@ -1,0 +1,6 @@
+pub mod FirstDifferences
+pub mod LeastMissing
+pub mod RepeatedSteps
+pub mod DoneOf
+pub mod DrivenSeats
+pub mod SeatOrder

@@ -1,0 +1,20 @@
+//! A World that many threads move: the lock, the seats from which they make their steps, and the views of the
+//! trace that they were shown. `specs/` says what each call answers.
+#![tactic(auto)]
+
+mod audits;
+mod comparisons;
+mod drives;
+mod errors;
+mod missing_steps;
+mod prefixes;
+mod recorders;
+mod recordings;
+mod repeats;
+mod seats;
+mod views;
+
+pub use errors::{AuditError, DriveError, DriveStop, MineError, PrefixError, RecordError};
+pub use recorders::Recorder;
+pub use seats::Seat;
+pub use views::View;

@@ -1,0 +1,140 @@
+//! Prefixes of a recorder's trace, for views and for seats.
+
+ghost use Rattle.std.specs.Prelude.{◌≡◌, ◌↔◌, IsTrue, Some, option_copied, IfOk, IfErr, OnOk, OnErr, IfSome, IfNone, All};
+ghost use Rattle.step_trace.specs.Traces.{step_at};
+ghost use Rattle.step_trace.specs.Extensions.{BeginsWith, Extends};
+ghost use Rattle.step_buffers.specs.Runs.{IsRun};
+ghost use Rattle.locked_recorder.specs.Prefixes.{IsRunOf, IsFirstDifference, IsPrefixRefusal, IsMineRefusal, Stands};
+
+use crate::errors::{MineError, PrefixError};
+use crate::missing_steps::least_missing;
+use crate::recorders::Recorder;
+use crate::seats::Seat;
+use crate::views::View;
+use std::alloc::{AllocError, Global};
+use std::sync::Wait;
+use step_trace::{Step, Trace};
+
+impl Recorder {
+    /// The trace as it is now, shown to a view: it extends what the view had seen, and the view has then seen
+    /// it. A refusal leaves the view as it was.
+    ///
+    /// Refuses in the order of `PrefixError`. Waits for the lock. Takes memory for two copies.
+    pub fn prefix<R: Wait>(
+        &self,
+        rt: &R,
+        alloc: Global,
+        view: &mut View,
+    ) -> Result<Trace, PrefixError>
+        ensures run { IfOk result (λ trace. IsRunOf self.now.config trace) }
+        ensures extends { IfOk result (λ trace. IfSome view.old (λ seen. Extends trace seen)) }
+        ensures seen { IfOk result (λ trace. view.new ≡ Some trace) }
+        ensures refused { IfErr result (λ e. IsPrefixRefusal self.now.config view.old e) }
+        ensures err { OnErr result (view.new ≡ view.old) }
+    {
+        let trace = match self.shown(rt, alloc) {
+            Ok(Some(trace)) => trace,
+            Ok(None) => return Err(PrefixError::NotAnExtension { at: 0, found: None }),
+            Err(_) => return Err(PrefixError::Memory),
+        };
+        if let Some(seen) = view.seen() {
+            compare(alloc, &trace, seen)?;
+        }
+        let Ok(copy) = trace.copy(alloc) else {
+            return Err(PrefixError::Memory);
+        };
+        view.see(copy);
+        Ok(trace)
+    }
+
+    /// The trace as it is now, with all that a seat did.
+    ///
+    /// Refuses in the order of `MineError`. Waits for the lock. Takes memory for the copy.
+    pub fn prefix_mine<R: Wait>(
+        &self,
+        rt: &R,
+        alloc: Global,
+        seat: &Seat,
+    ) -> Result<Trace, MineError>
+        ensures tag { OnOk result (seat.now.tag ≡ self.now.tag) }
+        ensures run { IfOk result (λ trace. IsRunOf self.now.config trace) }
+        ensures mine { IfOk result (λ trace. All (λ done. Stands trace.steps done) seat.now.done) }
+        ensures refused { IfErr result (λ e. IsMineRefusal self.now seat.now e) }
+    {
+        if seat.tag != self.tag {
+            return Err(MineError::ForeignSeat);
+        }
+        let trace = match self.shown(rt, alloc) {
+            Ok(Some(trace)) => trace,
+            Ok(None) => return Err(MineError::ForeignSeat),
+            Err(_) => return Err(MineError::Memory),
+        };
+        match least_missing(&trace, seat.done()) {
+            Some(no) => Err(MineError::NotMine(no)),
+            None => Ok(trace),
+        }
+    }
+
+    // A copy of the trace, made under the lock; none where the World is of another configuration.
+    fn shown<R: Wait>(&self, rt: &R, alloc: Global) -> Result<Option<Trace>, AllocError>
+        ensures { IfOk result (λ shown. IfSome shown (λ trace. IsRunOf self.now.config trace)) }
+    {
+        let world = self.world.lock(rt);
+        if !world.trace().config().is_same(&self.config) {
+            return Ok(None);
+        }
+        Ok(Some(world.trace().copy(alloc)?))
+    }
+}
+
+// Whether a trace extends what was seen; else the first difference, with a copy of what the trace has there.
+fn compare(alloc: Global, trace: &Trace, seen: &Trace) -> Result<(), PrefixError>
+    requires { IsRun trace.now.config trace.now.steps }
+    ensures extends { OnOk result (Extends trace.now seen.now) }
+    ensures refused { IfErr result (λ e. IsPrefixRefusal trace.now.config (Some seen.now) e) }
+{
+    if !trace.config().is_same(seen.config()) {
+        return Err(PrefixError::NotAnExtension { at: 0, found: None });
+    }
+    let Some(at) = first_difference(trace, seen) else {
+        return Ok(());
+    };
+    match copied(trace.step(at)) {
+        Ok(found) => Err(PrefixError::NotAnExtension { at, found }),
+        Err(_) => Err(PrefixError::Memory),
+    }
+}
+
+// A copy of a step, if there is one.
+fn copied(step: Option<&Step>) -> Result<Option<Step>, AllocError>
+    ensures { IfOk result (λ copy. copy ≡ option_copied step.entry) }
+{
+    match step {
+        Some(step) => Ok(Some(step.clone()?)),
+        None => Ok(None),
+    }
+}
+
+// The least number of a step that was seen at which the trace has none, or another one.
+fn first_difference(trace: &Trace, seen: &Trace) -> Option<u64>
+    ensures none { IfNone result (BeginsWith trace.now.steps seen.now.steps) }
+    ensures some { IfSome result (λ no. IsFirstDifference trace.now.steps seen.now.steps no (step_at trace.now.steps no)) }
+{
+    for no in 1..seen.len() as u64 + 1 {
+        if !is_same_at(trace, seen, no) {
+            return Some(no);
+        }
+    }
+    None
+}
+
+// Whether two traces have the same at this number: one step, or both none.
+fn is_same_at(one: &Trace, other: &Trace, no: u64) -> bool
+    ensures { IsTrue result ↔ (step_at one.now.steps no ≡ step_at other.now.steps no) }
+{
+    match (one.step(no), other.step(no)) {
+        (Some(step), Some(other_step)) => step.is_same(other_step),
+        (None, None) => true,
+        _ => false,
+    }
+}

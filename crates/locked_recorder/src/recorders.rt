@@ -1,0 +1,71 @@
+//! The recorder: a World under a lock.
+
+ghost use Rattle.std.specs.Prelude.{◌≡◌, ◌≤◌, IfOk, None};
+ghost use Rattle.step_trace.specs.declared.traces.TheConstants.{MAX_STEPS};
+ghost use Rattle.locked_recorder.specs.Seats.{opening_seats};
+
+use crate::seats::Seat;
+use crate::views::View;
+use std::alloc::{AllocError, Global};
+use std::marker::Model;
+use std::sync::Mutex;
+use step_buffers::World;
+use step_trace::Config;
+
+/// A World under a lock, with the tag by which its seats are known and the configuration of the World.
+#[derive(Drop)]
+pub struct Recorder {
+    pub(crate) world: Mutex<World>,
+    pub(crate) tag: u64,
+    pub(crate) config: Config,
+}
+
+impl Model for Recorder {
+    ghost use Rattle.locked_recorder.specs.Recorders.{Identity};
+
+    ghost Value = { Identity };
+
+    ghost view = { λ a. record { tag = a.tag; config = a.config } };
+}
+
+impl Recorder {
+    /// A recorder over the World of a configuration in which no step was made and at most so many may be; and
+    /// a seat for each processor, in order. Recorders of one tag can't be told apart by their seats.
+    ///
+    /// Asks for at most 1,000,000 steps. Takes memory for each processor.
+    pub fn new(
+        alloc: Global,
+        config: Config,
+        tag: u64,
+        max_steps: u64,
+    ) -> Result<(Recorder, Vec<Seat>), AllocError>
+        requires { max_steps ≤ MAX_STEPS }
+        ensures recorder { IfOk result (λ made. made.0 ≡ record { tag = tag; config = config }) }
+        ensures seats { IfOk result (λ made. made.1.items ≡ opening_seats tag config.n) }
+    {
+        let seats = opening_seats(alloc, tag, &config)?;
+        let world = World::new(alloc, config.copy(alloc)?, max_steps)?;
+        let recorder = Recorder {
+            world: Mutex::new(world),
+            tag,
+            config,
+        };
+        Ok((recorder, seats))
+    }
+
+    /// The view of one who was shown nothing of its trace.
+    pub fn view(&self) -> View
+        ensures { result ≡ None }
+    {
+        View::new()
+    }
+}
+
+// A seat for each processor, in order.
+fn opening_seats(alloc: Global, tag: u64, config: &Config) -> Result<Vec<Seat>, AllocError>
+    ensures { IfOk result (λ seats. seats.items ≡ opening_seats tag config.now.n) }
+{
+    (1..config.n() + 1)
+        .map(|p| Seat::new(alloc, tag, p))
+        .collect(alloc)
+}

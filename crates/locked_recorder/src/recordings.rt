@@ -1,0 +1,94 @@
+//! Recorded steps: a step from a seat, made under the lock.
+
+ghost use Rattle.std.specs.Prelude.{◌≡◌, IfOk, IfErr, OnOk, OnErr};
+ghost use Rattle.std.specs.Borrow.{sem};
+ghost use Rattle.locked_recorder.specs.Lent.{Appends};
+ghost use Rattle.locked_recorder.specs.Recordings.{IsAnswer, IsRefused, IsRecorded, IsRecordRefusal};
+
+use crate::errors::RecordError;
+use crate::recorders::Recorder;
+use crate::seats::Seat;
+use std::alloc::Global;
+use std::sync::Wait;
+use step_buffers::{Done, Move, StepError};
+
+impl Recorder {
+    /// Makes one step from a seat, and lends what was done from the seat's list.
+    ///
+    /// `Seat::step` does the same, and says what the seat is afterwards.
+    pub fn step<'a, R: Wait>(
+        &self,
+        rt: &R,
+        alloc: Global,
+        seat: &'a mut Seat,
+        step: Move,
+    ) -> Result<&'a Done, RecordError>
+        ensures tag { OnOk result (seat.old.tag ≡ self.now.tag) }
+        ensures answered { IfOk result (λ done. IsAnswer self.now.config seat.old.proc step.entry done.now) }
+        ensures refused { IfErr result (λ e. IsRecordRefusal self.now seat.old step.entry e) }
+    {
+        seat.step(rt, alloc, self, step)
+    }
+
+    // Makes one step of processor `p` under the lock.
+    fn make<R: Wait>(&self, rt: &R, alloc: Global, p: u64, step: Move) -> Result<Done, RecordError>
+        ensures answered { IfOk result (λ done. IsAnswer self.now.config p step.entry done) }
+        ensures refused { IfErr result (λ e. IsRefused self.now.config p step.entry e) }
+    {
+        let mut world = self.world.lock(rt);
+        if !world.trace().config().is_same(&self.config) {
+            return Err(RecordError::ForeignSeat);
+        }
+        match world.step(alloc, p, step) {
+            Ok(done) => Ok(done),
+            Err(why) => Err(RecordError::Step(why)),
+        }
+    }
+}
+
+impl Seat {
+    /// Makes one step from this seat, under the recorder's lock, and lends what was done from the seat's list,
+    /// which grows by it. A refusal leaves the seat as it was.
+    ///
+    /// Refuses in the order of `RecordError`. Waits for the lock. Takes memory for the list, before it waits,
+    /// and for the step.
+    pub fn step<'a, R: Wait>(
+        &'a mut self,
+        rt: &R,
+        alloc: Global,
+        recorder: &Recorder,
+        step: Move,
+    ) -> Result<&'a Done, RecordError>
+        ensures* lends { sem 𝓛 (Appends self.entry result) }
+        ensures tag { OnOk result (self.old.tag ≡ recorder.now.tag) }
+        ensures answered { IfOk result (λ done. IsAnswer recorder.now.config self.old.proc step.entry done.now) }
+        ensures refused { IfErr result (λ e. IsRecordRefusal recorder.now self.old step.entry e) }
+    {
+        self.record(rt, alloc, recorder, step)?;
+        Ok(self.last())
+    }
+
+    // Makes one step, and keeps what was done. The list grows before the lock is taken.
+    pub(crate) fn record<R: Wait>(
+        &mut self,
+        rt: &R,
+        alloc: Global,
+        recorder: &Recorder,
+        step: Move,
+    ) -> Result<(), RecordError>
+        ensures tag { OnOk result (self.old.tag ≡ recorder.now.tag) }
+        ensures recorded { OnOk result (IsRecorded recorder.now.config step.entry self.old self.new) }
+        ensures refused { IfErr result (λ e. IsRecordRefusal recorder.now self.old step.entry e) }
+        ensures err { OnErr result (self.new ≡ self.old) }
+    {
+        if self.tag != recorder.tag {
+            return Err(RecordError::ForeignSeat);
+        }
+        if self.done.reserve(1).is_err() {
+            return Err(RecordError::Step(StepError::Memory));
+        }
+        let done = recorder.make(rt, alloc, self.proc, step)?;
+        self.done.push(done).unwrap();
+        Ok(())
+    }
+}

@@ -1,0 +1,107 @@
+//! Prefixes that are shown while three threads go on.
+
+use crate::seats::opened;
+use locked_recorder::{Recorder, Seat, View};
+use std::alloc::Global;
+use std::sync::Wait;
+use std::test::Fail;
+use std::thread;
+use std::thread::Threads;
+use step_trace::{OpenGate, Trace};
+
+// Makes twenty steps.
+fn drives<R: Wait>(rt: &R, alloc: Global, recorder: &Recorder, seat: &mut Seat) -> bool {
+    match recorder.drive(rt, alloc, seat, &OpenGate, 1, 20) {
+        Ok(made) => made == 20,
+        Err(_) => false,
+    }
+}
+
+// Shows the trace again and again, and says whether each prefix extends the one before it.
+fn watches<R: Wait>(rt: &R, alloc: Global, recorder: &Recorder, view: &mut View) -> bool {
+    let Ok(mut last) = recorder.prefix(rt, alloc, view) else {
+        return false;
+    };
+    for _ in 0..20 {
+        match recorder.prefix(rt, alloc, view) {
+            Ok(next) => {
+                if !next.begins(&last) {
+                    return false;
+                }
+                last = next;
+            }
+            Err(_) => return false,
+        }
+    }
+    true
+}
+
+// Drives each seat in a thread of its own, while one more watches.
+fn all_go<R: Threads + Wait + Sync>(
+    rt: &R,
+    alloc: Global,
+    recorder: &Recorder,
+    seats: &mut [Seat],
+    view: &mut View,
+) -> bool {
+    thread::scope(thread::scope_env(), rt, |scope| {
+        let mut threads = Vec::new(alloc);
+        for seat in seats.iter_mut() {
+            let Ok(started) = scope.spawn(move || drives(rt, alloc, recorder, seat)) else {
+                return false;
+            };
+            if threads.push(started).is_err() {
+                return false;
+            }
+        }
+        let Ok(watcher) = scope.spawn(move || watches(rt, alloc, recorder, view)) else {
+            return false;
+        };
+        let mut all = watcher.join(rt);
+        for started in threads {
+            all = started.join(rt) && all;
+        }
+        all
+    })
+}
+
+// Whether the trace that is shown has so many steps.
+fn shows<R: Wait>(
+    rt: &R,
+    alloc: Global,
+    recorder: &Recorder,
+    view: &mut View,
+    steps: usize,
+) -> bool {
+    match recorder.prefix(rt, alloc, view) {
+        Ok(trace) => trace.len() == steps,
+        Err(_) => false,
+    }
+}
+
+// Whether an audit finds that all was as it was shown.
+fn fits<R: Wait>(
+    rt: &R,
+    alloc: Global,
+    recorder: &Recorder,
+    seats: &[Seat],
+    views: &[View],
+) -> bool {
+    match recorder.audit(rt, alloc, seats, views) {
+        Ok(world) => world.trace().len() == 60,
+        Err(_) => false,
+    }
+}
+
+#[test]
+fn prefixes_grow(rt: HostRuntime) -> Result<(), Fail> {
+    let alloc = rt.alloc();
+    let (recorder, mut seats) = opened(&rt, alloc, 1, 1, &[5, 7, 7], 100)?;
+    let mut view = recorder.view();
+    assert!(rt; view.seen().is_none() && shows(&rt, alloc, &recorder, &mut view, 0));
+    assert!(rt; all_go(&rt, alloc, &recorder, seats.as_mut_slice(), &mut view));
+    assert!(rt; shows(&rt, alloc, &recorder, &mut view, 60));
+    let views = vec![in alloc; view]?;
+    assert!(rt; fits(&rt, alloc, &recorder, &seats, &views));
+    Ok(())
+}
