@@ -8,8 +8,8 @@ use Rattle.std.proofs.lemmas.List.Elements.{Contains-push, Contains-push_cases, 
 use Rattle.std.proofs.lemmas.List.Quantifiers.{all_pairs_push}
 use Rattle.step_trace.specs.declared.rows.Gap.{Gap}
 use Rattle.step_trace.specs.Processors.{has_proc, IsWithin}
-use Rattle.step_trace.specs.Traces.{Recorded, step_at, IsStepOf}
-use Rattle.step_trace.specs.Ticks.{tick_of, StepsIn, IsTimed}
+use Rattle.step_trace.specs.Traces.{Recorded, IsStepOf}
+use Rattle.step_trace.specs.Ticks.{tick_of, IsTimed}
 use Rattle.step_trace.specs.Witnesses.{IsGap}
 use Rattle.step_trace.proofs.StepPositions.{step_at_within}
 use Rattle.step_trace.proofs.TickOrder.{own_ticks_rise}

@@ -1,6 +1,6 @@
-//! Worked traces, with the bounds and the witnesses of each real-time step.
+//! Worked traces, with the bounds and the witnesses of each tick.
 
-ghost use Rattle.std.specs.Prelude.{◌≤◌, length};
+ghost use Rattle.std.specs.Prelude.{◌≤◌};
 ghost use Rattle.step_trace.specs.Processors.{IsWithin};
 
 use crate::traces::trace_of;
@@ -8,7 +8,7 @@ use bound_witness::{delta_at, phi_at};
 use std::test::Fail;
 use step_trace::{Gap, Miss, ProcSet, Row, Trace};
 
-fn row(gst: u64, delta: u64, miss: Option<Miss>, phi: u64, gap: Option<Gap>) -> Row {
+pub(crate) fn row(gst: u64, delta: u64, miss: Option<Miss>, phi: u64, gap: Option<Gap>) -> Row {
     Row {
         gst,
         delta,
@@ -18,15 +18,15 @@ fn row(gst: u64, delta: u64, miss: Option<Miss>, phi: u64, gap: Option<Gap>) -> 
     }
 }
 
-fn missed(sent: u64, missed: u64) -> Option<Miss> {
+pub(crate) fn missed(sent: u64, missed: u64) -> Option<Miss> {
     Some(Miss { sent, missed })
 }
 
-fn silent(proc: u64, from: u64, to: u64) -> Option<Gap> {
+pub(crate) fn silent(proc: u64, from: u64, to: u64) -> Option<Gap> {
     Some(Gap { proc, from, to })
 }
 
-fn both() -> ProcSet {
+pub(crate) fn both() -> ProcSet {
     ProcSet::empty().with(1).with(2)
 }
 
@@ -34,7 +34,7 @@ fn both() -> ProcSet {
 fn has_row(trace: &Trace, set: ProcSet, g: u64, rows: &[Row]) -> bool
     requires set { IsWithin set trace.now.config.n }
     requires start { 1 ≤ g }
-    requires end { g ≤ length trace.now.steps }
+    requires end { g ≤ trace.now.last }
 {
     match rows.iter().rev().find(|row| row.gst <= g) {
         None => false,
@@ -45,12 +45,12 @@ fn has_row(trace: &Trace, set: ProcSet, g: u64, rows: &[Row]) -> bool
     }
 }
 
-// Whether each row holds from its own step up to the next row's.
-fn has_rows(trace: &Trace, set: ProcSet, rows: &[Row]) -> bool {
+// Whether each row holds from its own tick up to the next row's.
+pub(crate) fn has_rows(trace: &Trace, set: ProcSet, rows: &[Row]) -> bool {
     if !set.within(trace.config().n()) {
         return false;
     }
-    for g in 1..trace.len() as u64 + 1 {
+    for g in 1..trace.last_tick() + 1 {
         if !has_row(trace, set, g, rows) {
             return false;
         }

@@ -10,8 +10,8 @@ fn both() -> ProcSet {
     ProcSet::empty().with(1).with(2)
 }
 
-// Whether these are the longest gaps, each as its processor, its first and its last step.
-fn lists_gaps(
+// Whether these are the longest gaps, each as its processor, its first and its last tick.
+pub(crate) fn lists_gaps(
     alloc: Global,
     trace: &Trace,
     set: ProcSet,
@@ -33,7 +33,7 @@ fn lists_gaps(
 }
 
 // Whether the last miss of the message is at this Receive; None stands for no miss.
-fn misses_at(trace: &Trace, set: ProcSet, sent: u64, missed: Option<u64>) -> bool {
+pub(crate) fn misses_at(trace: &Trace, set: ProcSet, sent: u64, missed: Option<u64>) -> bool {
     let want = missed.map(|missed| Miss { sent, missed });
     set.within(trace.config().n()) && last_miss(trace, set, sent) == want
 }

@@ -27,4 +27,6 @@ mod texts_by_hand;
 #[cfg(test)]
 mod tick_stairs_tests;
 #[cfg(test)]
+mod tick_bounds_tests;
+#[cfg(test)]
 mod traces;

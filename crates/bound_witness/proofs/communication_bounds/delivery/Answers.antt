@@ -1,4 +1,4 @@
-use Rattle.std.proofs.Common.{◌+◌, ◌<◌, ◌≤◌, ap, arith, below_more, refl}
+use Rattle.std.proofs.Common.{ap, arith, below_more, refl}
 use Rattle.step_trace.specs.Traces.{TakesAt}
 use Rattle.step_trace.specs.Ticks.{tick_of}
 use Rattle.step_trace.proofs.StepPositions.{step_at_within}

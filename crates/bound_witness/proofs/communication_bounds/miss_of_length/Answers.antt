@@ -1,4 +1,4 @@
-use Rattle.std.proofs.Common.{◌≡◌, ◌+◌, arith}
+use Rattle.std.proofs.Common.{arith}
 use Rattle.bound_witness.proofs.MissSearches.{NoMissUntil-pass, NoMissUntil-end}
 use Rattle.bound_witness.proofs.communication_bounds.miss_of_length.Goals as goal
 use Rattle.bound_witness.proofs.communication_bounds.miss_of_length.Goals.{else-tick-from-via-then-tick-from+else-is_miss, else-tick-from-via-else-tick-from}

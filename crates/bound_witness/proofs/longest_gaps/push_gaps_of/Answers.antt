@@ -1,4 +1,4 @@
-use Rattle.std.proofs.Common.{◌≡◌, ◌+◌, arith, refl, sym}
+use Rattle.std.proofs.Common.{arith, refl, sym}
 use Rattle.std.proofs.lemmas.Result.{on_ok_weaker, on_err_weaker, err_from_is_err_and}
 use Rattle.bound_witness.proofs.GapLists.{IsScanned-begin, IsScanned-gap, IsScanned-last_gap, IsScanned-step, IsScanned-pass, IsScanned-end, ListsGapsBy-pass}
 use Rattle.bound_witness.proofs.longest_gaps.push_gaps_of.Goals as goal
