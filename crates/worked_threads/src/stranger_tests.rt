@@ -16,6 +16,19 @@ fn lacks_the_first<R: Wait>(rt: &R, alloc: Global, recorder: &Recorder, view: &m
     }
 }
 
+// Whether the trace of a recorder has a step of 2 in tick 1, where the view has seen another one.
+fn has_another_first<R: Wait>(rt: &R, alloc: Global, recorder: &Recorder, view: &mut View) -> bool {
+    match recorder.prefix(rt, alloc, view) {
+        Err(
+            PrefixError::NotAnExtension {
+                at,
+                found: Some((tick, step)),
+            },
+        ) => at == 1 && tick == 1 && step.proc == 2,
+        _ => false,
+    }
+}
+
 // Whether no prefix is shown to the seat, for this reason.
 fn refuses_mine<R: Wait>(
     rt: &R,
@@ -80,6 +93,17 @@ fn a_view_of_another_recorder(rt: HostRuntime) -> Result<(), Fail> {
             AuditError::ViewDiffers(0)
         )
     );
+    Ok(())
+}
+
+#[test]
+fn a_view_of_another_step(rt: HostRuntime) -> Result<(), Fail> {
+    let alloc = rt.alloc();
+    let (_, mut view) = stepped(&rt, alloc)?;
+    let (other, mut seats) = opened(&rt, alloc, 1, 0, &[5, 7], 100)?;
+    assert!(rt; seats.len() == 2);
+    assert!(rt; waits(&rt, alloc, &other, &mut seats[1], 1));
+    assert!(rt; has_another_first(&rt, alloc, &other, &mut view));
     Ok(())
 }
 
