@@ -1,75 +1,96 @@
 -- The miss of one length that a search has found so far, and the named miss at its end.
-use Rattle.std.proofs.Common.{ℕ, ◌≡◌, ◌≢◌, ◌+◌, ◌-◌, ◌<◌, ◌≤◌, inl, inr, List, length, Option, Some, None, arith, subst}
+use Rattle.std.proofs.Common.{ℕ, ◌≡◌, ◌≢◌, ◌+◌, ◌-◌, ◌<◌, ◌≤◌, inl, inr, length, Option, Some, None, refl, arith, subst}
 use Rattle.std.proofs.lemmas.Bool.{cases_eq}
 use Rattle.std.specs.Prelude.{MatchOption}
-use Rattle.step_trace.specs.declared.steps.Step.{Step}
 use Rattle.step_trace.specs.declared.rows.Miss.{Miss}
+use Rattle.step_trace.specs.Traces.{Recorded}
+use Rattle.step_trace.specs.Ticks.{tick_of, IsTimed}
 use Rattle.step_trace.specs.Bounds.{IsDelta}
 use Rattle.step_trace.specs.Witnesses.{IsMiss, IsNamedMiss, NamesMiss}
 use Rattle.step_trace.proofs.StepPositions.{step_at_within}
+use Rattle.step_trace.proofs.TickOrder.{ticks_rise}
 use Rattle.step_trace.proofs.BoundLaws.{Miss-same, MissRefutes-sound}
 use Rattle.step_trace.proofs.BoundDecisions.{DeltaHolds-unrefuted}
-use Rattle.bound_witness.specs.WitnessSearches.{HasNoMissOf}
+use Rattle.bound_witness.specs.WitnessSearches.{IsMissOf, HasNoMissOf, SentHasNoMissOf, IsMissOfSent}
 
--- no message from g on and below `until` has a miss of this length
-pub record NoMissBelow (set : ℕ) (steps : List Step) (g span until : ℕ) : Type 0 where
-  pub none : (o : Miss) → IsMiss set steps o → g ≤ o.sent → o.sent + span ≡ o.missed → o.sent < until → ⊥
+-- no message of a number below `until` has such a miss
+pub record NoMissBelow (set : ℕ) (trace : Recorded) (g span until : ℕ) : Type 0 where
+  pub none : (o : Miss) → IsMissOf set trace g span o → o.sent < until → ⊥
 
--- of the misses of this length of the messages from g on and below `until`, the last
-pub record IsLastMissBelow (set : ℕ) (steps : List Step) (g span until : ℕ) (m : Miss) : Type 0 where
-  pub miss : IsMiss set steps m
-  pub from : g ≤ m.sent
-  pub long : m.sent + span ≡ m.missed
-  pub last : (o : Miss) → IsMiss set steps o → g ≤ o.sent → o.sent + span ≡ o.missed → o.sent < until → o.sent ≤ m.sent
+-- of the misses of this length of the messages of numbers below `until`, one of the last message
+pub record IsLastMissBelow (set : ℕ) (trace : Recorded) (g span until : ℕ) (m : Miss) : Type 0 where
+  pub miss : IsMissOf set trace g span m
+  pub last : (o : Miss) → IsMissOf set trace g span o → o.sent < until → o.sent ≤ m.sent
 
 -- what was found below `until`: the last such miss, or that there is none
-abbrev pub LastMissBelow : ℕ → List Step → ℕ → ℕ → ℕ → Option Miss → Type 0
-LastMissBelow set steps g span until None = NoMissBelow set steps g span until
-LastMissBelow set steps g span until (Some m) = IsLastMissBelow set steps g span until m
+abbrev pub LastMissBelow : ℕ → Recorded → ℕ → ℕ → ℕ → Option Miss → Type 0
+LastMissBelow set trace g span until None = NoMissBelow set trace g span until
+LastMissBelow set trace g span until (Some m) = IsLastMissBelow set trace g span until m
 
--- a miss of this length at `until` is the last one found
-pub LastMissBelow-hit : (set : ℕ) (steps : List Step) (g span until : ℕ) → g ≤ until → IsMiss set steps (record { sent = until; missed = until + span }) → LastMissBelow set steps g span (until + 1) (Some (record { sent = until; missed = until + span }))
-LastMissBelow-hit set steps g span until l i = record { miss = i; from = l; long = omega arith; last = λ o j f e b. omega arith }
+-- a miss of this length of message `until` is the last one found
+pub LastMissBelow-hit : (set : ℕ) (trace : Recorded) (g span until : ℕ) (m : Miss) → IsMissOfSent set trace g span until m → LastMissBelow set trace g span (until + 1) (Some m)
+LastMissBelow-hit set trace g span until m i = let q = i.sent in record { miss = i.miss; last = λ o j b. omega arith }
 
--- a miss of this length at `until` is the one that was tested
-tested : (set : ℕ) (steps : List Step) (span until : ℕ) (o : Miss) → (¬ IsMiss set steps (record { sent = until; missed = until + span })) → IsMiss set steps o → o.sent + span ≡ o.missed → o.sent ≡ until → ⊥
-tested set steps span until o n i e q =
-    let same = Miss-same o (record { sent = until; missed = until + span }) q (omega arith) in
-    n (subst (λ (m : Miss). IsMiss set steps m) same i)
-
--- where `until` has no miss of this length, what was found stays the last
-pub LastMissBelow-pass : (set : ℕ) (steps : List Step) (g span until : ℕ) (found : Option Miss) → (¬ IsMiss set steps (record { sent = until; missed = until + span })) → LastMissBelow set steps g span until found → LastMissBelow set steps g span (until + 1) found
-LastMissBelow-pass set steps g span until None n b = record {
-  none = λ o i f e l. elim (cases_eq o.sent until) [ inl q ↦ tested set steps span until o n i e q | inr q ↦ b.none o i f e (omega arith) ];
+-- where message `until` has no miss of this length, what was found stays the last
+pub LastMissBelow-pass : (set : ℕ) (trace : Recorded) (g span until : ℕ) (found : Option Miss) → SentHasNoMissOf set trace g span until → LastMissBelow set trace g span until found → LastMissBelow set trace g span (until + 1) found
+LastMissBelow-pass set trace g span until None n b = record {
+  none = λ o i l. elim (cases_eq o.sent until) [ inl q ↦ n.none o q i | inr q ↦ b.none o i (omega arith) ];
 }
-LastMissBelow-pass set steps g span until (Some m) n b = record {
+LastMissBelow-pass set trace g span until (Some m) n b = record {
   miss = b.miss;
-  from = b.from;
-  long = b.long;
-  last = λ o i f e l. elim (cases_eq o.sent until) [ inl q ↦ absurd (tested set steps span until o n i e q) | inr q ↦ b.last o i f e (omega arith) ];
+  last = λ o i l. elim (cases_eq o.sent until) [ inl q ↦ absurd (n.none o q i) | inr q ↦ b.last o i (omega arith) ];
 }
 
--- a search up to the trace's end finds the named miss
-pub LastMissBelow-end : (set : ℕ) (steps : List Step) (g span until : ℕ) (found : Option Miss) → length steps < until → LastMissBelow set steps g span until found → MatchOption found (HasNoMissOf set steps g span) (IsNamedMiss set steps g (span + 1))
-LastMissBelow-end set steps g span until None u b = record {
-  none = λ o i f e. b.none o i f e (let w = step_at_within steps o.sent _ i.message.sent in omega arith);
+-- a search up to the trace's end finds the named miss: since ticks don't fall, the greatest number of a Send is
+-- in the greatest tick
+pub LastMissBelow-end : (set : ℕ) (trace : Recorded) (g span until : ℕ) (found : Option Miss) → IsTimed trace → length trace.steps < until → LastMissBelow set trace g span until found
+    → MatchOption found (HasNoMissOf set trace g span) (IsNamedMiss set trace g (span + 1))
+LastMissBelow-end set trace g span until None time u b = record {
+  none = λ o i. b.none o i (let w = step_at_within trace.steps o.sent _ i.miss.message.sent in omega arith);
 }
-LastMissBelow-end set steps g span until (Some m) u b = let z = b.long in record {
-  miss = b.miss;
-  from = b.from;
-  long = omega arith;
-  greatest = λ o i f e. b.last o i f (omega arith) (let w = step_at_within steps o.sent _ i.message.sent in omega arith);
+LastMissBelow-end set trace g span until (Some m) time u b =
+    let z = b.miss.long in
+    let f = b.miss.from in record {
+      miss = b.miss.miss;
+      from = b.miss.from;
+      long = omega arith;
+      latest = λ o i l e. ticks_rise trace time o.sent m.sent _ _ i.message.sent b.miss.miss.message.sent (below o i l e);
+      greatest = λ o i q e. below o i (omega arith) e;
+    } where
+      below : (o : Miss) → IsMiss set trace o → g ≤ tick_of trace o.sent → tick_of trace o.sent + (span + 1) ≡ tick_of trace o.missed + 1 → o.sent ≤ m.sent
+      below o i l e = b.last o (record { miss = i; from = l; long = omega arith }) (let w = step_at_within trace.steps o.sent _ i.message.sent in omega arith)
+
+-- the receives before number `until` end no miss of message s of this length
+pub record NoMissUntil (set : ℕ) (trace : Recorded) (span s until : ℕ) : Type 0 where
+  pub none : (r : ℕ) → r < until → IsMiss set trace (record { sent = s; missed = r }) → tick_of trace s + span ≡ tick_of trace r → ⊥
+
+-- where the step `until` ends no such miss, none is ended before the next number
+pub NoMissUntil-pass : (set : ℕ) (trace : Recorded) (span s until : ℕ) → (IsMiss set trace (record { sent = s; missed = until }) → tick_of trace s + span ≡ tick_of trace until → ⊥) → NoMissUntil set trace span s until → NoMissUntil set trace span s (until + 1)
+NoMissUntil-pass set trace span s until n b = record {
+  none = λ r l i e. elim (cases_eq r until) [
+    | inl q ↦ n (subst (λ k. IsMiss set trace (record { sent = s; missed = k })) q i) (subst (λ k. tick_of trace s + span ≡ tick_of trace k) q e)
+    | inr q ↦ b.none r (omega arith) i e
+  ];
 }
 
--- beside a least bound above 1 there is a witness one step shorter
-pub NamesMiss-found : (set : ℕ) (steps : List Step) (g d : ℕ) (found : Option Miss) → IsDelta set steps g d → d ≢ 1 → MatchOption found (HasNoMissOf set steps g (d - 1)) (IsNamedMiss set steps g (d - 1 + 1)) → NamesMiss set steps g d found
-NamesMiss-found set steps g d None h k n =
+-- a search over all receives shows that the message has no such miss
+pub NoMissUntil-end : (set : ℕ) (trace : Recorded) (g span s until : ℕ) → length trace.steps < until → NoMissUntil set trace span s until → SentHasNoMissOf set trace g span s
+NoMissUntil-end set trace g span s until u b = record {
+  none = λ m q i.
+      let same = Miss-same m (record { sent = s; missed = m.missed }) q refl in
+      let w = step_at_within trace.steps m.missed _ i.miss.receive.step in
+      b.none m.missed (omega arith) (subst (λ (o : Miss). IsMiss set trace o) same i.miss) (subst (λ k. tick_of trace k + span ≡ tick_of trace m.missed) q i.long);
+}
+
+-- beside a least bound above 1 there is a witness one tick shorter
+pub NamesMiss-found : (set : ℕ) (trace : Recorded) (g d : ℕ) (found : Option Miss) → IsDelta set trace g d → d ≢ 1 → MatchOption found (HasNoMissOf set trace g (d - 1)) (IsNamedMiss set trace g (d - 1 + 1)) → NamesMiss set trace g d found
+NamesMiss-found set trace g d None h k n =
     let p = h.positive in
-    let e : d ≤ d - 1 = h.least (d - 1) (omega arith) (DeltaHolds-unrefuted set steps g (d - 1) (omega arith) (λ m r. elim (cases_eq (m.sent + (d - 1)) m.missed) [
-      | inl q ↦ n.none m r.miss r.from q
-      | inr q ↦ (let l = r.long in MissRefutes-sound set steps g d m (record { miss = r.miss; from = r.from; long = omega arith }) h.holds)
+    let e : d ≤ d - 1 = h.least (d - 1) (omega arith) (DeltaHolds-unrefuted set trace g (d - 1) (omega arith) (λ m r. elim (cases_eq (tick_of trace m.sent + (d - 1)) (tick_of trace m.missed)) [
+      | inl q ↦ n.none m (record { miss = r.miss; from = r.from; long = q })
+      | inr q ↦ (let l = r.long in MissRefutes-sound set trace g d m (record { miss = r.miss; from = r.from; long = omega arith }) h.holds)
     ])) in
     absurd (omega arith)
-NamesMiss-found set steps g d (Some m) h k n =
+NamesMiss-found set trace g d (Some m) h k n =
     let p = h.positive in
-    (omega arith, subst (λ e. IsNamedMiss set steps g e m) (omega arith) n)
+    (omega arith, subst (λ e. IsNamedMiss set trace g e m) (omega arith) n)

@@ -1,3 +1,4 @@
 pub mod LastMisses
 pub mod LongestGaps
+pub mod TickWindows
 pub mod WitnessSearches

@@ -1,4 +1,4 @@
-//! The least bounds of a trace from one real-time step on, and the evidence against smaller ones.
+//! The least bounds of a trace from one tick on, and the evidence against smaller ones.
 #![tactic(auto)]
 
 mod communication_bounds;

@@ -1,32 +1,32 @@
 //! Steps that members don't take, and the processor bound.
 
-ghost use Rattle.std.specs.Prelude.{◌≡◌, ℕ, ◌+◌, ◌^◌, ◌<◌, ◌≤◌, ◌↔◌, length, IsTrue, IfSome, MatchOption};
+ghost use Rattle.std.specs.Prelude.{◌≡◌, ℕ, ◌+◌, ◌^◌, ◌<◌, ◌≤◌, ◌↔◌, IsTrue, IfSome, MatchOption};
 ghost use Rattle.step_trace.specs.Processors.{IsWithin};
 ghost use Rattle.step_trace.specs.Bounds.{StepsWithin, PhiHolds, IsPhi};
 ghost use Rattle.step_trace.specs.Witnesses.{IsNamedGap, GapRefutes, NamesGap};
 ghost use Rattle.bound_witness.specs.WitnessSearches.{AllStepWithin, IsFirstSilent, IsSteadyGap};
 
-use crate::step_tests::is_step_of;
+use crate::step_tests::is_step_between;
 use step_trace::{Gap, ProcSet, Trace};
 
-/// Whether processor `p` takes one of the `f` real-time steps from `x` on.
+/// Whether processor `p` takes a step in one of the `f` ticks from `x` on.
 fn steps_within(trace: &Trace, p: u64, x: u64, f: u64) -> bool
     requires { x + f < 2 ^ 64 }
-    ensures { IsTrue result ↔ StepsWithin trace.now.steps p x f }
+    ensures { IsTrue result ↔ StepsWithin trace.now p x f }
 {
-    for no in x..x + f {
-        if is_step_of(trace, no, p) {
+    for no in 1..trace.len() as u64 + 1 {
+        if is_step_between(trace, no, p, x, x + f) {
             return true;
         }
     }
     false
 }
 
-/// The least member that takes none of the `f` real-time steps from `x` on.
+/// The least member that takes no step in the `f` ticks from `x` on.
 fn first_silent(trace: &Trace, set: ProcSet, x: u64, f: u64) -> Option<u64>
     requires set { IsWithin set trace.now.config.n }
     requires fits { x + f < 2 ^ 64 }
-    ensures { MatchOption result (AllStepWithin set trace.now.steps x f) (IsFirstSilent set trace.now.steps x f) }
+    ensures { MatchOption result (AllStepWithin set trace.now x f) (IsFirstSilent set trace.now x f) }
 {
     for p in 1..trace.config().n() + 1 {
         if set.contains(p) && !steps_within(trace, p, x, f) {
@@ -36,13 +36,13 @@ fn first_silent(trace: &Trace, set: ProcSet, x: u64, f: u64) -> Option<u64>
     None
 }
 
-/// Whether the processor bound `f` holds from `g`.
+/// Whether the processor bound `f` holds from tick `g`.
 fn phi_holds(trace: &Trace, set: ProcSet, g: u64, f: u64) -> bool
     requires set { IsWithin set trace.now.config.n }
-    requires bound { f ≤ length trace.now.steps }
-    ensures { IsTrue result ↔ PhiHolds set trace.now.steps g f }
+    requires bound { f ≤ trace.now.last }
+    ensures { IsTrue result ↔ PhiHolds set trace.now g f }
 {
-    for x in g..trace.len() as u64 - f + 2 {
+    for x in g..trace.last_tick() - f + 2 {
         if first_silent(trace, set, x, f).is_some() {
             return false;
         }
@@ -50,14 +50,14 @@ fn phi_holds(trace: &Trace, set: ProcSet, g: u64, f: u64) -> bool
     true
 }
 
-/// The least processor bound that holds from `g`.
+/// The least processor bound that holds from tick `g`.
 fn least_phi(trace: &Trace, set: ProcSet, g: u64) -> u64
     requires set { IsWithin set trace.now.config.n }
     requires start { 1 ≤ g }
-    ensures least { IsPhi set trace.now.steps g result }
-    ensures limit { result ≤ length trace.now.steps + 1 }
+    ensures least { IsPhi set trace.now g result }
+    ensures limit { result ≤ trace.now.last + 1 }
 {
-    let end = trace.len() as u64 + 1;
+    let end = trace.last_tick() + 1;
     for f in 1..end {
         if phi_holds(trace, set, g, f) {
             return f;
@@ -66,17 +66,17 @@ fn least_phi(trace: &Trace, set: ProcSet, g: u64) -> u64
     end
 }
 
-/// Of the gaps of this length that begin at `g` or later, the one with the greatest beginning, and
+/// Of the gaps of this length that begin in tick `g` or later, the one with the greatest beginning, and
 /// of these the one of the least processor.
 fn last_gap_of_length(trace: &Trace, set: ProcSet, g: u64, span: u64) -> Option<Gap>
     requires set { IsWithin set trace.now.config.n }
     requires start { 1 ≤ g }
     requires positive { 1 ≤ span }
-    requires bound { span ≤ length trace.now.steps }
-    ensures { MatchOption result (PhiHolds set trace.now.steps g span) (IsNamedGap set trace.now.steps g (span + 1)) }
+    requires bound { span ≤ trace.now.last }
+    ensures { MatchOption result (PhiHolds set trace.now g span) (IsNamedGap set trace.now g (span + 1)) }
 {
     let mut found = None;
-    for from in g..trace.len() as u64 - span + 2 {
+    for from in g..trace.last_tick() - span + 2 {
         if let Some(proc) = first_silent(trace, set, from, span) {
             found = Some(Gap {
                 proc,
@@ -88,20 +88,20 @@ fn last_gap_of_length(trace: &Trace, set: ProcSet, g: u64, span: u64) -> Option<
     found
 }
 
-/// The least positive processor bound that holds from `g`, in real-time steps, and its witness
-/// (section 2 of the 1988 paper).
+/// The least positive processor bound that holds from tick `g` to the last tick, in ticks, which are
+/// the real-time steps, and its witness (section 2 of the 1988 paper).
 ///
-/// The witness of a bound above 1 refutes each smaller bound: of the gaps that begin at `g` or later
-/// and are one step shorter than the bound, the one with the greatest beginning, and of these the one
+/// The witness of a bound above 1 refutes each smaller bound: of the gaps that begin in `g` or later
+/// and are one tick shorter than the bound, the one with the greatest beginning, and of these the one
 /// of the least processor. At 1 there is none. Takes no memory.
 pub fn phi_at(trace: &Trace, set: ProcSet, g: u64) -> (u64, Option<Gap>)
     requires set { IsWithin set trace.now.config.n }
     requires start { 1 ≤ g }
-    requires end { g ≤ length trace.now.steps }
-    ensures phi { IsPhi set trace.now.steps g result.0 }
-    ensures gap { NamesGap set trace.now.steps g result.0 result.1 }
-    ensures steady { IsSteadyGap set trace.now.steps g result.0 result.1 }
-    ensures refutes { IfSome result.1 (λ w. (f : ℕ) → f < result.0 → GapRefutes set trace.now.steps g f w) }
+    requires end { g ≤ trace.now.last }
+    ensures phi { IsPhi set trace.now g result.0 }
+    ensures gap { NamesGap set trace.now g result.0 result.1 }
+    ensures steady { IsSteadyGap set trace.now g result.0 result.1 }
+    ensures refutes { IfSome result.1 (λ w. (f : ℕ) → f < result.0 → GapRefutes set trace.now g f w) }
 {
     let phi = least_phi(trace, set, g);
     if phi == 1 {

@@ -3,6 +3,7 @@
 ghost use Rattle.std.specs.Prelude.{◌≡◌, ℕ, ◌↔◌, IsTrue, MatchOption};
 ghost use Rattle.step_trace.specs.Traces.{step_at, IsReceiveOf, IsStepOf, TakesAt};
 ghost use Rattle.step_trace.specs.Bounds.{IsMessage};
+ghost use Rattle.bound_witness.specs.TickWindows.{IsReceiveBetween, IsStepBetween};
 
 use step_trace::{Act, ProcSet, Trace};
 
@@ -27,6 +28,29 @@ pub(crate) fn is_receive_of(trace: &Trace, no: u64, p: u64) -> bool
             Act::Receive { .. } => step.proc == p,
         },
     }
+}
+
+/// Whether the step of number `no` is one of processor `p`, in a tick from `from` on and before `before`.
+pub(crate) fn is_step_between(trace: &Trace, no: u64, p: u64, from: u64, before: u64) -> bool
+    ensures { IsTrue result ↔ IsStepBetween trace.now no p from before }
+{
+    if !is_step_of(trace, no, p) {
+        return false;
+    }
+    let tick = trace.tick(no);
+    from <= tick && tick < before
+}
+
+/// Whether the step of number `no` is a Receive of processor `p`, in a tick from `from` on and before
+/// `before`.
+pub(crate) fn is_receive_between(trace: &Trace, no: u64, p: u64, from: u64, before: u64) -> bool
+    ensures { IsTrue result ↔ IsReceiveBetween trace.now no p from before }
+{
+    if !is_receive_of(trace, no, p) {
+        return false;
+    }
+    let tick = trace.tick(no);
+    from <= tick && tick < before
 }
 
 /// Whether the step of number `no` takes message `s`.

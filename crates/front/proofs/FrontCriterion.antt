@@ -2,15 +2,15 @@
 -- the first one or one of these bounds isn't the least one from the step before.
 use Rattle.std.proofs.Common.{ℕ, ◌≡◌, ◌-◌, ◌<◌, ◌≤◌, inl, inr, List, length, subst, arith}
 use Rattle.std.proofs.lemmas.Bool.{cases_lt}
-use Rattle.step_trace.specs.declared.steps.Step.{Step}
+use Rattle.step_trace.specs.Traces.{Recorded}
 use Rattle.step_trace.specs.Bounds.{DeltaHolds, PhiHolds, IsDelta, IsPhi}
 use Rattle.step_trace.specs.Fronts.{Triple, IsOnFront}
 use Rattle.step_trace.proofs.BoundLaws.{DeltaHolds-later, PhiHolds-later}
 use Rattle.front.proofs.LeastBounds.{IsDelta-earlier, IsPhi-earlier}
 
 -- the bounds of a triple on the front are the least ones
-pub IsDelta-on_front : (set : ℕ) (steps : List Step) (t : Triple) → IsOnFront set steps t → IsDelta set steps t.gst t.delta
-IsDelta-on_front set steps t f = record {
+pub IsDelta-on_front : (set : ℕ) (trace : Recorded) (t : Triple) → IsOnFront set trace t → IsDelta set trace t.gst t.delta
+IsDelta-on_front set trace t f = record {
   positive = f.feasible.delta_positive;
   holds = f.feasible.delta;
   least = λ e p h. elim (cases_lt e t.delta) [
@@ -21,8 +21,8 @@ IsDelta-on_front set steps t f = record {
   ];
 }
 
-pub IsPhi-on_front : (set : ℕ) (steps : List Step) (t : Triple) → IsOnFront set steps t → IsPhi set steps t.gst t.phi
-IsPhi-on_front set steps t f = record {
+pub IsPhi-on_front : (set : ℕ) (trace : Recorded) (t : Triple) → IsOnFront set trace t → IsPhi set trace t.gst t.phi
+IsPhi-on_front set trace t f = record {
   positive = f.feasible.phi_positive;
   holds = f.feasible.phi;
   least = λ e p h. elim (cases_lt e t.phi) [
@@ -34,22 +34,22 @@ IsPhi-on_front set steps t f = record {
 }
 
 -- no triple of the front has the least bounds of the step before
-pub on_front-changes : (set : ℕ) (steps : List Step) (t : Triple) (h : ℕ) → IsOnFront set steps t → 1 ≤ h → h < t.gst
-    → IsDelta set steps h t.delta → IsPhi set steps h t.phi → ⊥
-on_front-changes set steps t h f p l d e = f.undominated (record { gst = h; delta = t.delta; phi = t.phi })
+pub on_front-changes : (set : ℕ) (trace : Recorded) (t : Triple) (h : ℕ) → IsOnFront set trace t → 1 ≤ h → h < t.gst
+    → IsDelta set trace h t.delta → IsPhi set trace h t.phi → ⊥
+on_front-changes set trace t h f p l d e = f.undominated (record { gst = h; delta = t.delta; phi = t.phi })
     (record { start = p; end = let m = f.feasible.end in omega arith; delta_positive = d.positive; phi_positive = e.positive; delta = d.holds; phi = e.holds })
     (record { gst = omega arith; delta = omega arith; phi = omega arith; smaller = inl l })
 
 -- a step and its least bounds are on the front, unless these are the least bounds of the step before
-pub IsOnFront-from_change : (set : ℕ) (steps : List Step) (t : Triple) → 1 ≤ t.gst → t.gst ≤ length steps
-    → IsDelta set steps t.gst t.delta → IsPhi set steps t.gst t.phi
-    → (1 < t.gst → IsDelta set steps (t.gst - 1) t.delta → IsPhi set steps (t.gst - 1) t.phi → ⊥)
-    → IsOnFront set steps t
-IsOnFront-from_change set steps t start end d f change = record {
+pub IsOnFront-from_change : (set : ℕ) (trace : Recorded) (t : Triple) → 1 ≤ t.gst → t.gst ≤ trace.last
+    → IsDelta set trace t.gst t.delta → IsPhi set trace t.gst t.phi
+    → (1 < t.gst → IsDelta set trace (t.gst - 1) t.delta → IsPhi set trace (t.gst - 1) t.phi → ⊥)
+    → IsOnFront set trace t
+IsOnFront-from_change set trace t start end d f change = record {
   feasible = record { start = start; end = end; delta_positive = d.positive; phi_positive = f.positive; delta = d.holds; phi = f.holds };
   undominated = λ o feasible dominates.
-      let delta : t.delta ≤ o.delta = d.least o.delta feasible.delta_positive (DeltaHolds-later set steps o.gst t.gst o.delta dominates.gst feasible.delta) in
-      let phi : t.phi ≤ o.phi = f.least o.phi feasible.phi_positive (PhiHolds-later set steps o.gst t.gst o.phi dominates.gst feasible.phi) in
+      let delta : t.delta ≤ o.delta = d.least o.delta feasible.delta_positive (DeltaHolds-later set trace o.gst t.gst o.delta dominates.gst feasible.delta) in
+      let phi : t.phi ≤ o.phi = f.least o.phi feasible.phi_positive (PhiHolds-later set trace o.gst t.gst o.phi dominates.gst feasible.phi) in
       let below_delta : o.delta ≤ t.delta = dominates.delta in
       let below_phi : o.phi ≤ t.phi = dominates.phi in
       let same_delta : o.delta ≡ t.delta = omega arith in
@@ -57,9 +57,9 @@ IsOnFront-from_change set steps t start end d f change = record {
       let earlier : o.gst < t.gst = elim dominates.smaller [ inl l ↦ l | inr m ↦ elim m [ inl l ↦ absurd (omega arith) | inr l ↦ absurd (omega arith) ] ] in
       let first : 1 ≤ o.gst = feasible.start in
       let before : o.gst ≤ t.gst - 1 = omega arith in
-      let delta_before : DeltaHolds set steps (t.gst - 1) t.delta = subst (λ e. DeltaHolds set steps (t.gst - 1) e) same_delta (DeltaHolds-later set steps o.gst (t.gst - 1) o.delta before feasible.delta) in
-      let phi_before : PhiHolds set steps (t.gst - 1) t.phi = subst (λ e. PhiHolds set steps (t.gst - 1) e) same_phi (PhiHolds-later set steps o.gst (t.gst - 1) o.phi before feasible.phi) in
+      let delta_before : DeltaHolds set trace (t.gst - 1) t.delta = subst (λ e. DeltaHolds set trace (t.gst - 1) e) same_delta (DeltaHolds-later set trace o.gst (t.gst - 1) o.delta before feasible.delta) in
+      let phi_before : PhiHolds set trace (t.gst - 1) t.phi = subst (λ e. PhiHolds set trace (t.gst - 1) e) same_phi (PhiHolds-later set trace o.gst (t.gst - 1) o.phi before feasible.phi) in
       change (omega arith)
-      (IsDelta-earlier set steps (t.gst - 1) t.gst t.delta d (omega arith) delta_before)
-      (IsPhi-earlier set steps (t.gst - 1) t.gst t.phi f (omega arith) phi_before);
+      (IsDelta-earlier set trace (t.gst - 1) t.gst t.delta d (omega arith) delta_before)
+      (IsPhi-earlier set trace (t.gst - 1) t.gst t.phi f (omega arith) phi_before);
 }

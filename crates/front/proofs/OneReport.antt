@@ -2,7 +2,8 @@
 use Rattle.std.proofs.Common.{ℕ, ◌≡◌, List, [], ◌∷◌, map, Contains, Option, refl, sym, subst, ap, inl, inr, arith}
 use Rattle.std.specs.List.Sorted.{IsStrictlyIncreasing}
 use Rattle.step_trace.proofs.BoundLaws.{NamesMiss-steady, NamesGap-steady}
-use Rattle.step_trace.specs.declared.steps.Step.{Step}
+use Rattle.step_trace.specs.Traces.{Recorded}
+use Rattle.step_trace.specs.Ticks.{IsTimed}
 use Rattle.step_trace.specs.declared.rows.Miss.{Miss}
 use Rattle.step_trace.specs.declared.rows.Gap.{Gap}
 use Rattle.step_trace.specs.declared.rows.Row.{Row}
@@ -44,21 +45,21 @@ row-parts a b gst delta phi miss gap = go a.gst a.delta a.phi a.miss a.gap gst d
   go g d f m w i j k l n = rw (i, j, k, l, n) refl
 
 -- rows of one triple, with its named witnesses, are one
-row-same : (set : ℕ) (steps : List Step) (a b : Row) → IsReportRow set steps a → IsReportRow set steps b → triple_of a ≡ triple_of b → a ≡ b
-row-same set steps a b x y e =
+row-same : (set : ℕ) (trace : Recorded) (a b : Row) → IsTimed trace → IsReportRow set trace a → IsReportRow set trace b → triple_of a ≡ triple_of b → a ≡ b
+row-same set trace a b time x y e =
     let gst : a.gst ≡ b.gst = ap (λ (t : Triple). t.gst) e in
     let delta : a.delta ≡ b.delta = ap (λ (t : Triple). t.delta) e in
     let phi : a.phi ≡ b.phi = ap (λ (t : Triple). t.phi) e in
     row-parts a b gst delta phi
-    (NamesMiss-steady set steps b.gst b.gst b.delta b.miss a.miss (omega arith) y.miss (rw (gst, delta) at x.miss))
-    (NamesGap-steady set steps b.gst b.gst b.phi b.gap a.gap (omega arith) y.gap (rw (gst, phi) at x.gap))
+    (NamesMiss-steady set trace b.gst b.gst b.delta b.miss a.miss time (omega arith) y.miss (rw (gst, delta) at x.miss))
+    (NamesGap-steady set trace b.gst b.gst b.phi b.gap a.gap (omega arith) y.gap (rw (gst, phi) at x.gap))
 
-report-has : (set : ℕ) (steps : List Step) (xs ys : List Row) → IsReport set steps xs → IsReport set steps ys → (r : Row) → Contains xs r → Contains ys r
-report-has set steps xs ys a b r c =
+report-has : (set : ℕ) (trace : Recorded) (xs ys : List Row) → IsTimed trace → IsReport set trace xs → IsReport set trace ys → (r : Row) → Contains xs r → Contains ys r
+report-has set trace xs ys time a b r c =
     let row = a.sound r c in
     let m = Contains-unmapped triple_of ys (triple_of r) (b.complete (triple_of r) row.front) in
-    subst (Contains ys) (row-same set steps m.0 r (b.sound m.0 m.1) row m.2) m.1
+    subst (Contains ys) (row-same set trace m.0 r time (b.sound m.0 m.1) row m.2) m.1
 
 -- two reports of a trace and a set are the same
-pub IsReport-unique : (set : ℕ) (steps : List Step) (xs ys : List Row) → IsReport set steps xs → IsReport set steps ys → xs ≡ ys
-IsReport-unique set steps xs ys a b = rising-same xs ys a.rising b.rising (report-has set steps xs ys a b) (report-has set steps ys xs b a)
+pub IsReport-unique : (set : ℕ) (trace : Recorded) (xs ys : List Row) → IsTimed trace → IsReport set trace xs → IsReport set trace ys → xs ≡ ys
+IsReport-unique set trace xs ys time a b = rising-same xs ys a.rising b.rising (report-has set trace xs ys time a b) (report-has set trace ys xs time b a)

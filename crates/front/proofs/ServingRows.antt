@@ -1,26 +1,26 @@
--- The rows of a report serve every real-time step of the trace.
+-- The rows of a report serve every tick of the trace.
 use Rattle.std.proofs.Common.{ℕ, ◌≡◌, ◌+◌, ◌<◌, ◌≤◌, inl, inr, List, [], ◌∷◌, length, map, Contains, Option, Some, None, Bool, true, false, refl, sym, subst, ap, suc, zero, arith}
 use Rattle.std.specs.Prelude.{IsSomeAnd, nat_le, cond}
 use Rattle.std.specs.List.Sorted.{IsStrictlyIncreasing}
 use Rattle.std.proofs.lemmas.Bool.{cases_lt}
 use Rattle.std.proofs.lemmas.Bool.Decides.{nat_tests}
 use Rattle.std.proofs.lemmas.Option.{same_Some, none-some}
-use Rattle.step_trace.specs.declared.steps.Step.{Step}
+use Rattle.step_trace.specs.Traces.{Recorded}
 use Rattle.step_trace.specs.declared.rows.Row.{Row}
+use Rattle.step_trace.specs.Ticks.{IsTimed}
 use Rattle.step_trace.specs.Bounds.{DeltaHolds, PhiHolds, IsDelta, IsPhi}
 use Rattle.step_trace.specs.Fronts.{Triple, IsFeasible, IsOnFront, IsReport, triple_of}
-use Rattle.step_trace.proofs.StepPositions.{step_at_within}
 use Rattle.front.specs.Reports.{Reported, Serves, first_of, last_begun, row_at}
-use Rattle.step_trace.proofs.BoundLaws.{DeltaHolds-later, PhiHolds-later}
+use Rattle.step_trace.proofs.BoundLaws.{DeltaHolds-later, PhiHolds-later, DeltaHolds-past_end, PhiHolds-past_end}
 use Rattle.front.proofs.FrontCriterion.{IsDelta-on_front, IsPhi-on_front}
 use Rattle.front.proofs.Stretches.{miss-refutes, gap-refutes}
 use Rattle.trace_text.proofs.ListMembers.{Contains-nil, Contains-first, Contains-later, Contains-mapped, Contains-cons_cases, Contains-unmapped, rising-tail, rising-first}
 
 -- no feasible triple has nothing of the front at or below it
-pub front-below : (set : ℕ) (steps : List Step) (size : ℕ) (t : Triple) → t.gst + t.delta + t.phi ≤ size → IsFeasible set steps t
-    → ((o : Triple) → IsOnFront set steps o → o.gst ≤ t.gst → o.delta ≤ t.delta → o.phi ≤ t.phi → ⊥) → ⊥
-front-below set steps zero t most feasible none = let start = feasible.start in omega arith
-front-below set steps (suc n) t most feasible none = none t
+pub front-below : (set : ℕ) (trace : Recorded) (size : ℕ) (t : Triple) → t.gst + t.delta + t.phi ≤ size → IsFeasible set trace t
+    → ((o : Triple) → IsOnFront set trace o → o.gst ≤ t.gst → o.delta ≤ t.delta → o.phi ≤ t.phi → ⊥) → ⊥
+front-below set trace zero t most feasible none = let start = feasible.start in omega arith
+front-below set trace (suc n) t most feasible none = none t
     (record {
       feasible = feasible;
       undominated = λ o lower dominates.
@@ -28,56 +28,56 @@ front-below set steps (suc n) t most feasible none = none t
           let delta : o.delta ≤ t.delta = dominates.delta in
           let phi : o.phi ≤ t.phi = dominates.phi in
           let less : o.gst + o.delta + o.phi ≤ n = elim dominates.smaller [ inl l ↦ omega arith | inr m ↦ elim m [ inl l ↦ omega arith | inr l ↦ omega arith ] ] in
-          front-below set steps n o less lower (λ q front a b c. none q front (omega arith) (omega arith) (omega arith));
+          front-below set trace n o less lower (λ q front a b c. none q front (omega arith) (omega arith) (omega arith));
     })
     (omega arith) (omega arith) (omega arith)
 
--- bounds as long as the trace hold from each step
-IsFeasible-greatest : (set : ℕ) (steps : List Step) (g : ℕ) → 1 ≤ g → g ≤ length steps → IsFeasible set steps (record { gst = g; delta = length steps + 1; phi = length steps + 1 })
-IsFeasible-greatest set steps g start end = record {
+-- bounds past the last tick hold from each tick
+IsFeasible-greatest : (set : ℕ) (trace : Recorded) (g : ℕ) → IsTimed trace → 1 ≤ g → g ≤ trace.last → IsFeasible set trace (record { gst = g; delta = trace.last + 1; phi = trace.last + 1 })
+IsFeasible-greatest set trace g time start end = record {
   start = start;
   end = end;
   delta_positive = omega arith;
   phi_positive = omega arith;
-  delta = record { each = λ s from inside. record { on_time = λ r b message receive late. let w = step_at_within steps r _ receive.step in let m = w.1 in absurd (omega arith) } };
-  phi = record { each = λ x from inside p member. absurd (omega arith) };
+  delta = DeltaHolds-past_end set trace g (trace.last + 1) time (omega arith);
+  phi = PhiHolds-past_end set trace g (trace.last + 1) start (omega arith);
 }
 
 -- a row of the report that begins at g or before, after which none does, serves g
-pub Serves-from_row : (set : ℕ) (steps : List Step) (rows : List Row) (g : ℕ) (r : Row) → IsReport set steps rows → Contains rows r
-    → r.gst ≤ g → g ≤ length steps → ((o : Row) → Contains rows o → o.gst ≤ g → o.gst ≤ r.gst) → Serves set steps g r
-Serves-from_row set steps rows g r report member begun end latest =
+pub Serves-from_row : (set : ℕ) (trace : Recorded) (rows : List Row) (g : ℕ) (r : Row) → IsReport set trace rows → Contains rows r
+    → r.gst ≤ g → g ≤ trace.last → ((o : Row) → Contains rows o → o.gst ≤ g → o.gst ≤ r.gst) → Serves set trace g r
+Serves-from_row set trace rows g r report member begun end latest =
     let row = report.sound r member in
     let start : 1 ≤ r.gst = row.front.feasible.start in
-    let delta = IsDelta-on_front set steps (triple_of r) row.front in
-    let phi = IsPhi-on_front set steps (triple_of r) row.front in
-    let delta_here : DeltaHolds set steps g r.delta = DeltaHolds-later set steps r.gst g r.delta begun delta.holds in
-    let phi_here : PhiHolds set steps g r.phi = PhiHolds-later set steps r.gst g r.phi begun phi.holds in
+    let delta = IsDelta-on_front set trace (triple_of r) row.front in
+    let phi = IsPhi-on_front set trace (triple_of r) row.front in
+    let delta_here : DeltaHolds set trace g r.delta = DeltaHolds-later set trace r.gst g r.delta begun delta.holds in
+    let phi_here : PhiHolds set trace g r.phi = PhiHolds-later set trace r.gst g r.phi begun phi.holds in
     let delta_positive : 1 ≤ r.delta = delta.positive in
     let phi_positive : 1 ≤ r.phi = phi.positive in
-    let at_most = λ (o : Triple) (front : IsOnFront set steps o) (l : o.gst ≤ g).
+    let at_most = λ (o : Triple) (front : IsOnFront set trace o) (l : o.gst ≤ g).
     let m = Contains-unmapped triple_of rows o (report.complete o front) in
     let same : (m.0).gst ≡ o.gst = ap (λ (x : Triple). x.gst) m.2 in
     let most : (m.0).gst ≤ r.gst = latest m.0 m.1 (omega arith) in
     let below : o.gst ≤ r.gst = omega arith in
     below in
-    let least_delta : IsDelta set steps g r.delta = record {
+    let least_delta : IsDelta set trace g r.delta = record {
       positive = delta_positive;
       holds = delta_here;
       least = λ e positive holds. elim (cases_lt e r.delta) [
         | inr m ↦ m
-        | inl l ↦ absurd (front-below set steps (g + e + r.phi) (record { gst = g; delta = e; phi = r.phi }) (omega arith)
+        | inl l ↦ absurd (front-below set trace (g + e + r.phi) (record { gst = g; delta = e; phi = r.phi }) (omega arith)
             (record { start = omega arith; end = end; delta_positive = positive; phi_positive = phi_positive; delta = holds; phi = phi_here })
             (λ o front a b c. row.front.undominated o front.feasible
             (record { gst = at_most o front a; delta = omega arith; phi = c; smaller = inr (inl (omega arith)) })))
       ];
     } in
-    let least_phi : IsPhi set steps g r.phi = record {
+    let least_phi : IsPhi set trace g r.phi = record {
       positive = phi_positive;
       holds = phi_here;
       least = λ e positive holds. elim (cases_lt e r.phi) [
         | inr m ↦ m
-        | inl l ↦ absurd (front-below set steps (g + r.delta + e) (record { gst = g; delta = r.delta; phi = e }) (omega arith)
+        | inl l ↦ absurd (front-below set trace (g + r.delta + e) (record { gst = g; delta = r.delta; phi = e }) (omega arith)
             (record { start = omega arith; end = end; delta_positive = delta_positive; phi_positive = positive; delta = delta_here; phi = holds })
             (λ o front a b c. row.front.undominated o front.feasible
             (record { gst = at_most o front a; delta = b; phi = omega arith; smaller = inr (inr (omega arith)) })))
@@ -86,8 +86,8 @@ Serves-from_row set steps rows g r report member begun end latest =
     record {
       delta = least_delta;
       phi = least_phi;
-      miss = λ d low high. miss-refutes set steps r.gst g r.delta r.miss begun delta.holds least_delta row.miss d low high;
-      gap = λ f low high. gap-refutes set steps r.gst g r.phi r.gap start begun least_phi row.gap f low high;
+      miss = λ d low high. miss-refutes set trace r.gst g r.delta r.miss begun delta.holds least_delta row.miss d low high;
+      gap = λ f low high. gap-refutes set trace r.gst g r.phi r.gap start begun least_phi row.gap f low high;
     }
 
 -- where no row has begun, each begins after g
@@ -137,19 +137,19 @@ last_begun-some (x ∷ rest) g r rising some = go (last_begun rest g) refl (nat_
   })
   go None e false t more f = absurd (none-some r f)
 
--- the row at each step of the trace serves it
-pub row_at-serves : (report : Reported) (g set : ℕ) (steps : List Step) → IsReport set steps report.rows → report.len ≡ length steps → 1 ≤ g → g ≤ report.len
-    → IsSomeAnd (row_at report g) (Serves set steps g)
-row_at-serves report g set steps is_report len start end =
+-- the row at each tick of the trace serves it
+pub row_at-serves : (report : Reported) (g set : ℕ) (trace : Recorded) → IsTimed trace → IsReport set trace report.rows → report.len ≡ trace.last → 1 ≤ g → g ≤ report.len
+    → IsSomeAnd (row_at report g) (Serves set trace g)
+row_at-serves report g set trace time is_report len start end =
     let low : nat_le 1 g ≡ true = grind (arith, nat_tests) in
     let high : nat_le g report.len ≡ true = grind (arith, nat_tests) in
     rw (low, high) (go (last_begun report.rows g) refl)
   where
-    go : (o : Option Row) → last_begun report.rows g ≡ o → IsSomeAnd o (Serves set steps g)
+    go : (o : Option Row) → last_begun report.rows g ≡ o → IsSomeAnd o (Serves set trace g)
     go (Some r) e =
         let last = last_begun-some report.rows g r is_report.rising e in
-        Serves-from_row set steps report.rows g r is_report last.member last.begun (omega arith) last.latest
-    go None e = absurd (front-below set steps (g + (length steps + 1) + (length steps + 1)) _ (omega arith) (IsFeasible-greatest set steps g start (omega arith))
+        Serves-from_row set trace report.rows g r is_report last.member last.begun (omega arith) last.latest
+    go None e = absurd (front-below set trace (g + (trace.last + 1) + (trace.last + 1)) _ (omega arith) (IsFeasible-greatest set trace g time start (omega arith))
         (λ o front a b c.
         let m = Contains-unmapped triple_of report.rows o (is_report.complete o front) in
         let same : (m.0).gst ≡ o.gst = ap (λ (x : Triple). x.gst) m.2 in

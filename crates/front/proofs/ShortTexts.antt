@@ -1,4 +1,4 @@
--- The text of a report is shorter than a text may be: its rows are no more than the steps, and their
+-- The text of a report is shorter than a text may be: its rows are no more than the ticks, and their
 -- numbers have at most seven digits.
 use Rattle.std.proofs.Common.{ℕ, ◌≡◌, ◌+◌, ◌*◌, ◌<◌, ◌≤◌, ◌^◌, List, [], ◌∷◌, ◌++◌, length, map, get_or, Option, Some, None, IsTrue, ◌&&◌, Contains, decimal, refl, subst, suc, zero, arith, length-append}
 use Rattle.std.specs.Prelude.{nat_le, nat_lt}
@@ -6,7 +6,8 @@ use Rattle.std.specs.List.Sorted.{IsStrictlyIncreasing}
 use Rattle.std.proofs.lemmas.Bool.{and_parts, leb-true}
 use Rattle.std.proofs.lemmas.List.Elements.{Contains-get_or}
 use Rattle.std.proofs.lemmas.List.{length-map}
-use Rattle.step_trace.specs.declared.steps.Step.{Step}
+use Rattle.step_trace.specs.Traces.{Recorded}
+use Rattle.step_trace.specs.Ticks.{IsTrace}
 use Rattle.step_trace.specs.declared.rows.Miss.{Miss}
 use Rattle.step_trace.specs.declared.rows.Gap.{Gap}
 use Rattle.step_trace.specs.declared.rows.Row.{Row}
@@ -46,22 +47,26 @@ record IsShortBeside (d n : ℕ) (fields : List (List ℕ)) : Type 0 where
   short : AreShort fields
   count : length fields ≡ n
 
-short-miss : (members : ℕ) (steps : List Step) (g d : ℕ) (o : Option Miss) → length steps ≤ 1000000 → NamesMiss members steps g d o → IsShortBeside d 2 (miss_fields o)
-short-miss members steps g d None limit named = record { bound = omega (arith, named); short = (omega arith, (omega arith, tt)); count = refl }
-short-miss members steps g d (Some m) limit named =
+short-miss : (members : ℕ) (trace : Recorded) (g d : ℕ) (o : Option Miss) → IsTrace trace → NamesMiss members trace g d o → IsShortBeside d 2 (miss_fields o)
+short-miss members trace g d None sound named = record { bound = omega (arith, named); short = (omega arith, (omega arith, tt)); count = refl }
+short-miss members trace g d (Some m) sound named =
     let miss = named.1.miss in
+    let limit : length trace.steps ≤ 1000000 = sound.steps.short in
+    let end : trace.last ≤ 1000000 = sound.time.end in
+    let late = (sound.time.inside m.missed _ miss.receive.step).1 in
     let long = named.1.long in
-    let sent = step_at_within steps m.sent _ miss.message.sent in
-    let missed = step_at_within steps m.missed _ miss.receive.step in
+    let sent = step_at_within trace.steps m.sent _ miss.message.sent in
+    let missed = step_at_within trace.steps m.missed _ miss.receive.step in
     record {
-      bound = omega (arith, limit, long, missed);
+      bound = omega (arith, end, long, late);
       short = (short-decimal m.sent (omega (arith, limit, sent)), (short-decimal m.missed (omega (arith, limit, missed)), tt));
       count = refl;
     }
 
-short-gap : (members : ℕ) (steps : List Step) (g f : ℕ) (o : Option Gap) → length steps ≤ 1000000 → NamesGap members steps g f o → IsShortBeside f 3 (gap_fields o)
-short-gap members steps g f None limit named = record { bound = omega (arith, named); short = (omega arith, (omega arith, (omega arith, tt))); count = refl }
-short-gap members steps g f (Some w) limit named =
+short-gap : (members : ℕ) (trace : Recorded) (g f : ℕ) (o : Option Gap) → IsTrace trace → NamesGap members trace g f o → IsShortBeside f 3 (gap_fields o)
+short-gap members trace g f None sound named = record { bound = omega (arith, named); short = (omega arith, (omega arith, (omega arith, tt))); count = refl }
+short-gap members trace g f (Some w) sound named =
+    let limit : trace.last ≤ 1000000 = sound.time.end in
     let gap = named.1.gap in
     let long = named.1.long in
     let inside = gap.inside in
@@ -73,10 +78,11 @@ short-gap members steps g f (Some w) limit named =
       count = refl;
     }
 
-length-row_line : (members : ℕ) (steps : List Step) (r : Row) → length steps ≤ 1000000 → IsReportRow members steps r → length (record_line (row_record r)) ≤ 65
-length-row_line members steps r limit row =
-    let miss = short-miss members steps r.gst r.delta r.miss limit row.miss in
-    let gap = short-gap members steps r.gst r.phi r.gap limit row.gap in
+length-row_line : (members : ℕ) (trace : Recorded) (r : Row) → IsTrace trace → IsReportRow members trace r → length (record_line (row_record r)) ≤ 65
+length-row_line members trace r sound row =
+    let limit : trace.last ≤ 1000000 = sound.time.end in
+    let miss = short-miss members trace r.gst r.delta r.miss sound row.miss in
+    let gap = short-gap members trace r.gst r.phi r.gap sound row.gap in
     let end = row.front.feasible.end in
     let bounds : List (List ℕ) = decimal r.gst ∷ decimal r.delta ∷ decimal r.phi ∷ [] in
     let short = short-append bounds (miss_fields r.miss ++ gap_fields r.gap)
@@ -103,10 +109,10 @@ rising-at ns rising positive (suc k) inside =
     let step = subst (λ (j : ℕ). get_or ns k 0 < get_or ns j 0) (let next : k + 1 ≡ suc k = omega arith in next) (rising k (omega arith)) in
     omega (arith, before, step)
 
--- a report has no more rows than the trace has steps
-length-rows : (members : ℕ) (steps : List Step) (rows : List Row) → IsReport members steps rows → length rows ≤ length steps
-length-rows members steps [] report = omega arith
-length-rows members steps (r ∷ rest) report =
+-- a report has no more rows than the trace has ticks
+length-rows : (members : ℕ) (trace : Recorded) (rows : List Row) → IsReport members trace rows → length rows ≤ trace.last
+length-rows members trace [] report = omega arith
+length-rows members trace (r ∷ rest) report =
     let numbers = map (λ (row : Row). row.gst) (r ∷ rest) in
     let size : length numbers ≡ suc (length rest) = length-map (r ∷ rest) (λ (row : Row). row.gst) in
     let feasible = λ (n : ℕ) (c : Contains numbers n).
@@ -114,15 +120,16 @@ length-rows members steps (r ∷ rest) report =
     let is = row.2 in
     let start = (report.sound row.0 row.1).front.feasible.start in
     let end = (report.sound row.0 row.1).front.feasible.end in
-    let both : (1 ≤ n) × (n ≤ length steps) = (omega (arith, is, start), omega (arith, is, end)) in both in
+    let both : (1 ≤ n) × (n ≤ trace.last) = (omega (arith, is, start), omega (arith, is, end)) in both in
     let above = rising-at numbers report.rising (λ n c. (feasible n c).0) (length rest) (omega (arith, size)) in
     let last = (feasible (get_or numbers (length rest) 0) (Contains-get_or numbers (length rest) 0 (omega (arith, size)))).1 in
     omega (arith, above, last)
 
 -- the text of a report is shorter than 64 MiB
-pub short-report_text : (members : ℕ) (steps : List Step) (rows : List Row) → length steps ≤ 1000000 → IsReport members steps rows → length (report_text rows) < 67108864
-short-report_text members steps rows limit report =
-    let lines = length-lines rows (λ r c. length-row_line members steps r limit (report.sound r c)) in
-    let count = length-rows members steps rows report in
+pub short-report_text : (members : ℕ) (trace : Recorded) (rows : List Row) → IsTrace trace → IsReport members trace rows → length (report_text rows) < 67108864
+short-report_text members trace rows sound report =
+    let limit : trace.last ≤ 1000000 = sound.time.end in
+    let lines = length-lines rows (λ r c. length-row_line members trace r sound (report.sound r c)) in
+    let count = length-rows members trace rows report in
     let header : length (record_line report_header) ≡ 39 = refl in
     rw (length-append (record_line report_header) (text_of_records (map row_record rows))) (omega (arith, lines, count, header, limit))

@@ -5,7 +5,7 @@ use Rattle.std.proofs.Math.Seq.{take-suc}
 use Rattle.std.proofs.lemmas.Bool.{cases_lt, eqb-true}
 use Rattle.std.proofs.lemmas.Option.{same_Some, none-some, slice_get_within, slice_get-get_or}
 use Rattle.std.proofs.lemmas.List.{map-append}
-use Rattle.step_trace.specs.declared.steps.Step.{Step}
+use Rattle.step_trace.specs.Traces.{Recorded}
 use Rattle.step_trace.specs.declared.rows.Row.{Row}
 use Rattle.step_trace.specs.Bounds.{IsDelta, IsPhi, DeltaHolds, PhiHolds}
 use Rattle.step_trace.specs.Fronts.{Triple, IsOnFront, IsReport, triple_of}
@@ -52,32 +52,32 @@ differ : (a b c d : ℕ) → a ≡ b → c ≡ d → (a == b && c == d) ≡ fals
 differ a b c d e f h = let g : true ≡ false = rw (eq-eqb a b e, eq-eqb c d f) at h in cc
 
 -- a start hasn't both least bounds of the step before
-start-changes : (set : ℕ) (steps : List Step) (levels : List Level) (r : Row) (last : Level) → AreLevels set steps levels → IsStart levels r.gst
+start-changes : (set : ℕ) (trace : Recorded) (levels : List Level) (r : Row) (last : Level) → AreLevels set trace levels → IsStart levels r.gst
     → slice_get levels (r.gst - 1) ≡ Some (level_of r) → 1 < r.gst → slice_get levels (r.gst - 2) ≡ Some last
-    → IsDelta set steps (r.gst - 1) r.delta → IsPhi set steps (r.gst - 1) r.phi → ⊥
-start-changes set steps levels r last are start stands later found delta phi =
+    → IsDelta set trace (r.gst - 1) r.delta → IsPhi set trace (r.gst - 1) r.phi → ⊥
+start-changes set trace levels r last are start stands later found delta phi =
     let place : r.gst - 2 ≡ r.gst - 1 - 1 = omega arith in
-    let known : IsLevelAt set steps (r.gst - 1) last = are.each (r.gst - 1) last (omega arith) (rw place at found) in
+    let known : IsLevelAt set trace (r.gst - 1) last = are.each (r.gst - 1) last (omega arith) (rw place at found) in
     let own : start.level ≡ level_of r = same_Some _ _ (sym start.stands ∙ stands) in
     differ r.delta last.delta r.phi last.phi
-    (IsLeastBound-unique (DeltaHolds set steps (r.gst - 1)) r.delta last.delta delta known.delta)
-    (IsLeastBound-unique (PhiHolds set steps (r.gst - 1)) r.phi last.phi phi known.phi)
+    (IsLeastBound-unique (DeltaHolds set trace (r.gst - 1)) r.delta last.delta delta known.delta)
+    (IsLeastBound-unique (PhiHolds set trace (r.gst - 1)) r.phi last.phi phi known.phi)
     (subst (λ (x : Level). same_bounds x last ≡ false) own (start.other last (omega arith) found))
 
 -- a start and its least bounds are on the front
-start-on_front : (set : ℕ) (steps : List Step) (levels : List Level) (r : Row) → AreLevels set steps levels → IsStart levels r.gst
-    → slice_get levels (r.gst - 1) ≡ Some (level_of r) → IsLevelAt set steps r.gst (level_of r) → IsOnFront set steps (triple_of r)
-start-on_front set steps levels r are start stands level =
+start-on_front : (set : ℕ) (trace : Recorded) (levels : List Level) (r : Row) → AreLevels set trace levels → IsStart levels r.gst
+    → slice_get levels (r.gst - 1) ≡ Some (level_of r) → IsLevelAt set trace r.gst (level_of r) → IsOnFront set trace (triple_of r)
+start-on_front set trace levels r are start stands level =
     let within : r.gst - 1 < length levels = slice_get_within levels (r.gst - 1) (level_of r) stands in
-    let count : length levels ≡ length steps = are.count in
+    let count : length levels ≡ trace.last = are.count in
     let here : 1 ≤ r.gst = start.here in
-    IsOnFront-from_change set steps (triple_of r) here (omega arith) level.delta level.phi (λ later delta phi.
-    start-changes set steps levels r (get_or levels (r.gst - 2) (level_of r)) are start stands later (slice_get-get_or levels (r.gst - 2) (level_of r) (omega arith)) delta phi)
+    IsOnFront-from_change set trace (triple_of r) here (omega arith) level.delta level.phi (λ later delta phi.
+    start-changes set trace levels r (get_or levels (r.gst - 2) (level_of r)) are start stands later (slice_get-get_or levels (r.gst - 2) (level_of r) (omega arith)) delta phi)
 
 -- what the front has begins at a start
-front-start : (set : ℕ) (steps : List Step) (levels : List Level) (t : Triple) (level : Level) → AreLevels set steps levels → IsOnFront set steps t
-    → slice_get levels (t.gst - 1) ≡ Some level → IsLevelAt set steps t.gst level → IsStart levels t.gst
-front-start set steps levels t level are front stands known = record {
+front-start : (set : ℕ) (trace : Recorded) (levels : List Level) (t : Triple) (level : Level) → AreLevels set trace levels → IsOnFront set trace t
+    → slice_get levels (t.gst - 1) ≡ Some level → IsLevelAt set trace t.gst level → IsStart levels t.gst
+front-start set trace levels t level are front stands known = record {
   level = level;
   here = front.feasible.start;
   stands = stands;
@@ -88,12 +88,12 @@ front-start set steps levels t level are front stands known = record {
   go last later found true e =
       let same = both level.delta last.delta level.phi last.phi e in
       let place : t.gst - 2 ≡ t.gst - 1 - 1 = omega arith in
-      let before : IsLevelAt set steps (t.gst - 1) last = are.each (t.gst - 1) last (omega arith) (rw place at found) in
-      let delta : level.delta ≡ t.delta = IsLeastBound-unique (DeltaHolds set steps t.gst) level.delta t.delta known.delta (IsDelta-on_front set steps t front) in
-      let phi : level.phi ≡ t.phi = IsLeastBound-unique (PhiHolds set steps t.gst) level.phi t.phi known.phi (IsPhi-on_front set steps t front) in
-      absurd (on_front-changes set steps t (t.gst - 1) front (omega arith) (omega arith)
-      (subst (IsDelta set steps (t.gst - 1)) (sym same.0 ∙ delta) before.delta)
-      (subst (IsPhi set steps (t.gst - 1)) (sym same.1 ∙ phi) before.phi))
+      let before : IsLevelAt set trace (t.gst - 1) last = are.each (t.gst - 1) last (omega arith) (rw place at found) in
+      let delta : level.delta ≡ t.delta = IsLeastBound-unique (DeltaHolds set trace t.gst) level.delta t.delta known.delta (IsDelta-on_front set trace t front) in
+      let phi : level.phi ≡ t.phi = IsLeastBound-unique (PhiHolds set trace t.gst) level.phi t.phi known.phi (IsPhi-on_front set trace t front) in
+      absurd (on_front-changes set trace t (t.gst - 1) front (omega arith) (omega arith)
+      (subst (IsDelta set trace (t.gst - 1)) (sym same.0 ∙ delta) before.delta)
+      (subst (IsPhi set trace (t.gst - 1)) (sym same.1 ∙ phi) before.phi))
 
 same-triple : (r : Row) (t : Triple) → r.gst ≡ t.gst → r.delta ≡ t.delta → r.phi ≡ t.phi → triple_of r ≡ t
 same-triple r t gst delta phi = go r.gst r.delta r.phi gst delta phi where
@@ -101,36 +101,36 @@ same-triple r t gst delta phi = go r.gst r.delta r.phi gst delta phi where
   go g d f a b c = rw (a, b, c) refl
 
 -- the triple of the front at a row's beginning is the row's
-row-triple : (set : ℕ) (steps : List Step) (r : Row) (t : Triple) → IsOnFront set steps t → r.gst ≡ t.gst → IsLevelAt set steps r.gst (level_of r) → triple_of r ≡ t
-row-triple set steps r t front e known = same-triple r t e
-    (IsLeastBound-unique (DeltaHolds set steps r.gst) r.delta t.delta known.delta (subst (λ g. IsDelta set steps g t.delta) (sym e) (IsDelta-on_front set steps t front)))
-    (IsLeastBound-unique (PhiHolds set steps r.gst) r.phi t.phi known.phi (subst (λ g. IsPhi set steps g t.phi) (sym e) (IsPhi-on_front set steps t front)))
+row-triple : (set : ℕ) (trace : Recorded) (r : Row) (t : Triple) → IsOnFront set trace t → r.gst ≡ t.gst → IsLevelAt set trace r.gst (level_of r) → triple_of r ≡ t
+row-triple set trace r t front e known = same-triple r t e
+    (IsLeastBound-unique (DeltaHolds set trace r.gst) r.delta t.delta known.delta (subst (λ g. IsDelta set trace g t.delta) (sym e) (IsDelta-on_front set trace t front)))
+    (IsLeastBound-unique (PhiHolds set trace r.gst) r.phi t.phi known.phi (subst (λ g. IsPhi set trace g t.phi) (sym e) (IsPhi-on_front set trace t front)))
 
 -- the rows of all starts are the report
-pub IsReport-from_starts : (set : ℕ) (steps : List Step) (levels : List Level) (numbers : List ℕ) (rows : List Row)
-    → AreLevels set steps levels → AreStarts levels numbers → AreRowsAt levels numbers rows → IsReport set steps rows
-IsReport-from_starts set steps levels numbers rows are starts at = record {
+pub IsReport-from_starts : (set : ℕ) (trace : Recorded) (levels : List Level) (numbers : List ℕ) (rows : List Row)
+    → AreLevels set trace levels → AreStarts levels numbers → AreRowsAt levels numbers rows → IsReport set trace rows
+IsReport-from_starts set trace levels numbers rows are starts at = record {
   rising = rw at.begin starts.rising;
   sound = λ r c.
       let start = starts.sound r.gst (begun r c) in
       let known = are.each r.gst (level_of r) start.here (at.each r c) in
-      record { front = start-on_front set steps levels r are start (at.each r c) known; miss = known.miss; gap = known.gap };
+      record { front = start-on_front set trace levels r are start (at.each r c) known; miss = known.miss; gap = known.gap };
   complete = λ t front. whole t front;
 } where
   begun : (r : Row) → Contains rows r → Contains numbers r.gst
   begun r c = subst (λ (ns : List ℕ). Contains ns r.gst) at.begin (Contains-mapped (λ (x : Row). x.gst) rows r c)
 
-  whole : (t : Triple) → IsOnFront set steps t → Contains (map triple_of rows) t
+  whole : (t : Triple) → IsOnFront set trace t → Contains (map triple_of rows) t
   whole t front =
-      let count : length levels ≡ length steps = are.count in
+      let count : length levels ≡ trace.last = are.count in
       let first : 1 ≤ t.gst = front.feasible.start in
-      let end : t.gst ≤ length steps = front.feasible.end in
+      let end : t.gst ≤ trace.last = front.feasible.end in
       let level : Level = get_or levels (t.gst - 1) (record { delta = 1; miss = None; phi = 1; gap = None }) in
       let stands : slice_get levels (t.gst - 1) ≡ Some level = slice_get-get_or levels (t.gst - 1) (record { delta = 1; miss = None; phi = 1; gap = None }) (omega arith) in
-      let start = front-start set steps levels t level are front stands (are.each t.gst level first stands) in
+      let start = front-start set trace levels t level are front stands (are.each t.gst level first stands) in
       let row = Contains-unmapped (λ (r : Row). r.gst) rows t.gst (subst (λ (ns : List ℕ). Contains ns t.gst) (sym at.begin) (starts.complete t.gst start)) in
       let known = are.each row.0.gst (level_of row.0) (starts.sound row.0.gst (begun row.0 row.1)).here (at.each row.0 row.1) in
-      subst (Contains (map triple_of rows)) (row-triple set steps row.0 t front row.2 known) (Contains-mapped triple_of rows row.0 row.1)
+      subst (Contains (map triple_of rows)) (row-triple set trace row.0 t front row.2 known) (Contains-mapped triple_of rows row.0 row.1)
 
 -- what stands in a list is a member of it
 pub Contains-slice_get : (xs : List ℕ) (k x : ℕ) → slice_get xs k ≡ Some x → Contains xs x

@@ -1,12 +1,12 @@
--- What a report is to its readers, and what a row says of the real-time steps that it serves.
+-- What a report is to its readers, and what a row says of the ticks that it serves.
 use Rattle.std.specs.Prelude.{ℕ, ◌≡◌, ◌<◌, ◌≤◌, ◌-◌, List, [], ◌∷◌, map, Contains, slice_get, Option, Some, None, IsSomeAnd, nat_le, ◌&&◌, if◌then◌else◌}
-use Rattle.step_trace.specs.declared.steps.Step.{Step}
+use Rattle.step_trace.specs.Traces.{Recorded}
 use Rattle.step_trace.specs.declared.rows.Row.{Row}
 use Rattle.step_trace.specs.Bounds.{IsDelta, IsPhi}
 use Rattle.step_trace.specs.Witnesses.{MissRefutes, GapRefutes}
 use Rattle.suffix_staircase.specs.declared.levels.Level.{Level}
 
--- the number of real-time steps, and the rows in rising stabilization time
+-- the last tick, and the rows in rising stabilization time
 pub record Reported : Type 0 where
   pub len : ℕ
   pub rows : List Row
@@ -26,11 +26,11 @@ abbrev pub row_at : Reported → ℕ → Option Row
 row_at report g = if nat_le 1 g && nat_le g report.len then last_begun report.rows g else None
 
 -- The row's bounds are the least ones from g, and its witnesses refute each smaller positive bound from g.
-pub record Serves (set : ℕ) (steps : List Step) (g : ℕ) (r : Row) : Type 0 where
-  pub delta : IsDelta set steps g r.delta
-  pub phi : IsPhi set steps g r.phi
-  pub miss : (d : ℕ) → 1 ≤ d → d < r.delta → IsSomeAnd r.miss (λ m. MissRefutes set steps g d m)
-  pub gap : (f : ℕ) → 1 ≤ f → f < r.phi → IsSomeAnd r.gap (λ w. GapRefutes set steps g f w)
+pub record Serves (set : ℕ) (trace : Recorded) (g : ℕ) (r : Row) : Type 0 where
+  pub delta : IsDelta set trace g r.delta
+  pub phi : IsPhi set trace g r.phi
+  pub miss : (d : ℕ) → 1 ≤ d → d < r.delta → IsSomeAnd r.miss (λ m. MissRefutes set trace g d m)
+  pub gap : (f : ℕ) → 1 ≤ f → f < r.phi → IsSomeAnd r.gap (λ w. GapRefutes set trace g f w)
 
 -- the level that a row has from its stabilization time on
 abbrev pub level_of : Row → Level

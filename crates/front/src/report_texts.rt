@@ -4,7 +4,8 @@ ghost use Rattle.std.specs.Prelude.{◌≡◌, ◌<◌, ◌≤◌, ℕ, List, �
 ghost use Rattle.std.specs.Io.KnownBytes.{Appends};
 ghost use Rattle.trace_text.specs.ByteLoops.{WasFaultless};
 ghost use Rattle.trace_text.specs.Faults.{inner_of, is_flushed};
-ghost use Rattle.step_trace.specs.declared.steps.Step.{Step};
+ghost use Rattle.step_trace.specs.Traces.{Recorded};
+ghost use Rattle.step_trace.specs.Ticks.{IsTrace};
 ghost use Rattle.step_trace.specs.Fronts.{IsReport};
 ghost use Rattle.trace_text.specs.TextWriting.{WroteBefore, IsWriteCause};
 ghost use Rattle.trace_text.specs.RecordWriting.{IsReady, ArePlain, written};
@@ -37,8 +38,8 @@ pub fn write_report<W: Write>(
         (W.contents (inner_of writer.new))) }
     ensures cause { IfErr result (λ e. IsWriteCause e writer.old writer.new) }
     ensures stands { All IsRow64 rows.now → StandsFor (report_text rows.now) rows.now }
-    ensures short { (set : ℕ) (steps : List Step) → IsReport set steps rows.now
-        → length steps ≤ MAX_STEPS → length (report_text rows.now) < MAX_TEXT_BYTES }
+    ensures short { (set : ℕ) (trace : Recorded) → IsTrace trace → IsReport set trace rows.now
+        → length (report_text rows.now) < MAX_TEXT_BYTES }
 {
     let Ok(text) = report_text_of(alloc, rows) else {
         return Err(WriteError::Memory);

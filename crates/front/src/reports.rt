@@ -1,8 +1,9 @@
-//! Reports: the rows of the front, and the row that serves each real-time step.
+//! Reports: the rows of the front, and the row that serves each tick.
 
 ghost use Rattle.std.specs.Prelude.{◌≡◌, ◌-◌, ◌≤◌, length, map, slice_get, Some, IfOk, IsSomeAnd, ℕ, List};
 ghost use Rattle.std.specs.List.Sorted.{IsStrictlyIncreasing};
-ghost use Rattle.step_trace.specs.declared.steps.Step.{Step};
+ghost use Rattle.step_trace.specs.Traces.{Recorded};
+ghost use Rattle.step_trace.specs.Ticks.{IsTimed};
 ghost use Rattle.step_trace.specs.Fronts.{IsReport};
 ghost use Rattle.suffix_staircase.specs.Levels.{starts, AreStarts};
 ghost use Rattle.suffix_staircase.specs.Analysis.{AreLevels};
@@ -35,10 +36,11 @@ impl Model for Report {
 }
 
 impl Report {
-    ghost use Rattle.step_trace.specs.declared.steps.Step.{Step};
+    ghost use Rattle.step_trace.specs.Traces.{Recorded};
+    ghost use Rattle.step_trace.specs.Ticks.{IsTimed};
     ghost use Rattle.front.specs.Reports.{row_at, Serves};
 
-    /// The number of real-time steps of the trace.
+    /// The last tick of the trace.
     pub fn len(&self) -> usize
         ensures { result ≡ self.now.len }
     {
@@ -52,16 +54,16 @@ impl Report {
         &self.rows
     }
 
-    /// The row that serves the real-time step `g`: the last one that begins at `g` or before, or
-    /// none where `g` is no step of the trace.
+    /// The row that serves the tick `g`: the last one that begins at `g` or before, or none where `g`
+    /// is no tick of the trace.
     ///
     /// In a report its bounds are the least ones that hold from `g`, and its evidence refutes each
     /// smaller positive bound from `g`.
     pub fn at(&self, g: u64) -> Option<Row>
         ensures row { result ≡ row_at self.now g }
-        ensures serves { (set : ℕ) (steps : List Step) → IsReport set steps self.now.rows
-            → self.now.len ≡ length steps → 1 ≤ g → g ≤ self.now.len
-            → IsSomeAnd result (Serves set steps g) }
+        ensures serves { (set : ℕ) (trace : Recorded) → IsTimed trace → IsReport set trace self.now.rows
+            → self.now.len ≡ trace.last → 1 ≤ g → g ≤ self.now.len
+            → IsSomeAnd result (Serves set trace g) }
     {
         let Report { len, rows } = self;
         if g == 0 || (*len as u64) < g {
@@ -76,11 +78,11 @@ impl Report {
 /// Takes time that grows with the rows, not with the steps.
 pub fn front(alloc: Global, stairs: &Stairs) -> Result<Report, AllocError>
     ensures report { IfOk result
-        (λ r. (set : ℕ) (steps : List Step) → AreLevels set steps stairs.now
-        → IsReport set steps r.rows) }
+        (λ r. (set : ℕ) (trace : Recorded) → AreLevels set trace stairs.now
+        → IsReport set trace r.rows) }
     ensures only { IfOk result
-        (λ r. (set : ℕ) (steps : List Step) (rows : List Row) → AreLevels set steps stairs.now
-        → IsReport set steps rows → rows ≡ r.rows) }
+        (λ r. (set : ℕ) (trace : Recorded) (rows : List Row) → IsTimed trace → AreLevels set trace stairs.now
+        → IsReport set trace rows → rows ≡ r.rows) }
     ensures len { IfOk result (λ r. r.len ≡ length stairs.now) }
     ensures rising { IfOk result (λ r. IsStrictlyIncreasing (map (λ row. row.gst) r.rows)) }
 {

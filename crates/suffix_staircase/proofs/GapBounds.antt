@@ -1,8 +1,7 @@
--- The least processor bound from the gaps, one step back.
+-- The least processor bound from the gaps, one tick back.
 use Rattle.std.proofs.Common.{ℕ, ◌≡◌, ◌+◌, ◌-◌, ◌<◌, ◌≤◌, inl, inr, List, length, get_or, set, Option, Some, None, Bool, true, false, cond, refl, arith}
 use Rattle.std.specs.Prelude.{nat_le}
 use Rattle.std.proofs.lemmas.Bool.{cases_eq, cases_lt, leb-true, leb-false}
-use Rattle.step_trace.specs.declared.steps.Step.{Step}
 use Rattle.step_trace.specs.declared.rows.Gap.{Gap}
 use Rattle.step_trace.specs.Processors.{IsWithin}
 use Rattle.step_trace.specs.Traces.{Recorded}
@@ -16,36 +15,36 @@ use Rattle.step_trace.proofs.BoundDecisions.{PhiHolds-unrefuted}
 use Rattle.suffix_staircase.proofs.LongestGaps.{IsLongest, IsLongest-from_latest}
 
 -- a bound with its named gap is positive
-pub phi_positive : (set : ℕ) (steps : List Step) (g f : ℕ) (o : Option Gap) → NamesGap set steps g f o → 1 ≤ f
-phi_positive set steps g f None h = omega arith
-phi_positive set steps g f (Some w) h = let l = h.0 in omega arith
+pub phi_positive : (set : ℕ) (trace : Recorded) (g f : ℕ) (o : Option Gap) → NamesGap set trace g f o → 1 ≤ f
+phi_positive set trace g f None h = omega arith
+phi_positive set trace g f (Some w) h = let l = h.0 in omega arith
 
 -- no smaller bound holds than the one beside its named gap
-phi_least : (set : ℕ) (steps : List Step) (g f : ℕ) (o : Option Gap) → NamesGap set steps g f o → (e : ℕ) → 1 ≤ e → PhiHolds set steps g e → f ≤ e
-phi_least set steps g f None h e p holds = omega arith
-phi_least set steps g f (Some w) h e p holds = elim (cases_lt e f) [
-  | inl low ↦ absurd (GapRefutes-sound set steps g e w (IsNamedGap-refutes set steps g f e w low h.1) holds)
+phi_least : (set : ℕ) (trace : Recorded) (g f : ℕ) (o : Option Gap) → NamesGap set trace g f o → (e : ℕ) → 1 ≤ e → PhiHolds set trace g e → f ≤ e
+phi_least set trace g f None h e p holds = omega arith
+phi_least set trace g f (Some w) h e p holds = elim (cases_lt e f) [
+  | inl low ↦ absurd (GapRefutes-sound set trace g e w (IsNamedGap-refutes set trace g f e w low h.1) holds)
   | inr high ↦ high
 ]
 
 -- the bound above all gaps, of which one is shorter by one only, is the least
-pub IsPhi-from_gaps : (set : ℕ) (steps : List Step) (g f : ℕ) (o : Option Gap) → 1 ≤ g → KnowsGaps set steps g f o → IsPhi set steps g f
-IsPhi-from_gaps set steps g f o start k =
-    let positive = phi_positive set steps g f o k.named in
+pub IsPhi-from_gaps : (set : ℕ) (trace : Recorded) (g f : ℕ) (o : Option Gap) → 1 ≤ g → KnowsGaps set trace g f o → IsPhi set trace g f
+IsPhi-from_gaps set trace g f o start k =
+    let positive = phi_positive set trace g f o k.named in
     record {
       positive = positive;
-      holds = PhiHolds-unrefuted set steps g f start positive (λ w r.
+      holds = PhiHolds-unrefuted set trace g f start positive (λ w r.
           let short = k.shorter w r.gap r.from in
           let long = r.long in
           omega (arith, short, long));
-      least = phi_least set steps g f o k.named;
+      least = phi_least set trace g f o k.named;
     }
 
 -- the longest gap that begins at x is longer than all that begin later
-gaps_longer : (set : ℕ) (steps : List Step) (x f q until : ℕ) (o : Option Gap) → KnowsGaps set steps (x + 1) f o → IsLongest set steps x q until → f ≤ until - x
-    → KnowsGaps set steps x (until - x + 1) (Some (record { proc = q; from = x; to = until - 1 }))
-gaps_longer set steps x f q until o k l h =
-    let positive = phi_positive set steps (x + 1) f o k.named in
+gaps_longer : (set : ℕ) (trace : Recorded) (x f q until : ℕ) (o : Option Gap) → KnowsGaps set trace (x + 1) f o → IsLongest set trace x q until → f ≤ until - x
+    → KnowsGaps set trace x (until - x + 1) (Some (record { proc = q; from = x; to = until - 1 }))
+gaps_longer set trace x f q until o k l h =
+    let positive = phi_positive set trace (x + 1) f o k.named in
     let above : x < until = omega arith in
     record {
       shorter = λ w i a. elim (cases_eq w.from x) [
@@ -68,15 +67,15 @@ gaps_longer set steps x f q until o k l h =
     }
 
 -- no gap that begins at x is as long as the named one
-gaps_kept : (set : ℕ) (steps : List Step) (x f q until : ℕ) (o : Option Gap) → KnowsGaps set steps (x + 1) f o → IsLongest set steps x q until → until - x < f → KnowsGaps set steps x f o
-gaps_kept set steps x f q until o k l h = record {
+gaps_kept : (set : ℕ) (trace : Recorded) (x f q until : ℕ) (o : Option Gap) → KnowsGaps set trace (x + 1) f o → IsLongest set trace x q until → until - x < f → KnowsGaps set trace x f o
+gaps_kept set trace x f q until o k l h = record {
   shorter = λ w i a. elim (cases_eq w.from x) [
     | inl e ↦ (let short = l.longest w i e in omega (arith, short, e, h))
     | inr n ↦ (let later : x + 1 ≤ w.from = omega (arith, n, a) in k.shorter w i later)
   ];
   named = go o k.named;
 } where
-  go : (o : Option Gap) → NamesGap set steps (x + 1) f o → NamesGap set steps x f o
+  go : (o : Option Gap) → NamesGap set trace (x + 1) f o → NamesGap set trace x f o
   go None h = h
   go (Some w) h = let named = h.1 in let from = named.from in (
     h.0,
@@ -89,29 +88,29 @@ gaps_kept set steps x f q until o k l h = record {
     },
   )
 
--- the level, one step back, as far as its gaps go
-pub record GapsLowered (set : ℕ) (steps : List Step) (x : ℕ) (old new : Level) : Type 0 where
-  pub gaps : KnowsGaps set steps x new.phi new.gap
+-- the level, one tick back, as far as its gaps go
+pub record GapsLowered (set : ℕ) (trace : Recorded) (x : ℕ) (old new : Level) : Type 0 where
+  pub gaps : KnowsGaps set trace x new.phi new.gap
   pub phi : old.phi ≤ new.phi
   pub gap : new.phi ≡ old.phi → new.gap ≡ old.gap
   pub delta : new.delta ≡ old.delta
   pub miss : new.miss ≡ old.miss
 
--- one step back, the level takes the longest gap that begins there where its bound allows it no more
+-- one tick back, the level takes the longest gap that begins there where its bound allows it no more
 pub GapsLowered-with_gap : (set : ℕ) (t : Recorded) (x q : ℕ) (next : List ℕ) (level : Level) → 1 ≤ x → IsWithin set t.config.n → AreNextSteps t x next → IsLatest set next (length next) q
-    → KnowsGaps set t.steps (x + 1) level.phi level.gap → GapsLowered set t.steps x level (with_gap level q x (get_or next q 0))
+    → KnowsGaps set t (x + 1) level.phi level.gap → GapsLowered set t x level (with_gap level q x (get_or next q 0))
 GapsLowered-with_gap set t x q next level start within known latest k = go (nat_le level.phi (get_or next q 0 - x)) refl where
   go : (b : Bool) → nat_le level.phi (get_or next q 0 - x) ≡ b
-      → GapsLowered set t.steps x level (cond b (record { delta = level.delta; miss = level.miss; phi = get_or next q 0 - x + 1; gap = Some (record { proc = q; from = x; to = get_or next q 0 - 1 }) }) level)
+      → GapsLowered set t x level (cond b (record { delta = level.delta; miss = level.miss; phi = get_or next q 0 - x + 1; gap = Some (record { proc = q; from = x; to = get_or next q 0 - 1 }) }) level)
   go true e = let h = leb-true level.phi (get_or next q 0 - x) e in record {
-    gaps = gaps_longer set t.steps x level.phi q (get_or next q 0) level.gap k (IsLongest-from_latest set t x q next start within known latest) h;
+    gaps = gaps_longer set t x level.phi q (get_or next q 0) level.gap k (IsLongest-from_latest set t x q next start within known latest) h;
     phi = omega arith;
     gap = λ same. absurd (omega (arith, same, h));
     delta = refl;
     miss = refl;
   }
   go false e = let h = leb-false level.phi (get_or next q 0 - x) e in record {
-    gaps = gaps_kept set t.steps x level.phi q (get_or next q 0) level.gap k (IsLongest-from_latest set t x q next start within known latest) h;
+    gaps = gaps_kept set t x level.phi q (get_or next q 0) level.gap k (IsLongest-from_latest set t x q next start within known latest) h;
     phi = omega arith;
     gap = λ same. refl;
     delta = refl;

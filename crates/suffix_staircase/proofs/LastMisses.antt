@@ -1,4 +1,4 @@
--- The last Receive that misses a message.
+-- The last Receive that misses a message, by its number.
 use Rattle.std.proofs.Common.{ℕ, ◌≡◌, ◌+◌, ◌<◌, ◌≤◌, ◌==◌, inl, inr, List, length, get_or, set, Some, Bool, true, false, cond, refl, ap, subst, ◌∙◌, arith}
 use Rattle.std.specs.Prelude.{Contains}
 use Rattle.std.proofs.lemmas.Bool.{cases_lt, eqb-true, eqb-false}
@@ -7,12 +7,11 @@ use Rattle.step_trace.specs.declared.steps.Act.TheVariants.{Send, Receive}
 use Rattle.step_trace.specs.declared.steps.Step.{Step}
 use Rattle.step_trace.specs.Configurations.{Setup}
 use Rattle.step_trace.specs.Steps.{act_ids}
-use Rattle.step_trace.specs.Traces.{Recorded, step_at, TakesAt, IsReceiveOf, IsWellFormed, IsDelivered}
+use Rattle.step_trace.specs.Traces.{Recorded, step_at, TakesAt, IsReceiveOf, IsWellFormed}
 use Rattle.step_trace.specs.Bounds.{IsMessage}
-use Rattle.step_trace.specs.Witnesses.{IsMiss}
 use Rattle.step_trace.proofs.StepPositions.{step_at_within}
 use Rattle.suffix_staircase.specs.declared.receives.Receives.{Receives}
-use Rattle.suffix_staircase.specs.Receives.{last_missed, IsLastReceive, KnowsReceives, IsLastMissOf}
+use Rattle.suffix_staircase.specs.Receives.{last_missed, IsLastReceive, KnowsReceives, IsDeliveredByNumber, IsMissByNumber, IsLastMissByNumber}
 use Rattle.suffix_staircase.proofs.ReceivesLowered.{same_step}
 
 -- who takes a message is its receiver
@@ -38,28 +37,28 @@ message_unique set steps x a b q h m =
     cc
 
 -- the bounds between which the misses of a message lie
-IsLastMissOf-from_last : (set : ℕ) (steps : List Step) (x b high r : ℕ) → IsMessage set steps x b → (IsDelivered steps x r → r < high → ⊥) → ((y : ℕ) → IsMiss set steps (record { sent = x; missed = y }) → y < high)
-    → IsLastReceive steps b x high r → IsLastMissOf set steps x r
-IsLastMissOf-from_last set steps x b high r m undelivered below l = record {
+IsLastMissByNumber-from_last : (set : ℕ) (steps : List Step) (x b high r : ℕ) → IsMessage set steps x b → (IsDeliveredByNumber steps x r → r < high → ⊥) → ((y : ℕ) → IsMissByNumber set steps (record { sent = x; missed = y }) → y < high)
+    → IsLastReceive steps b x high r → IsLastMissByNumber set steps x r
+IsLastMissByNumber-from_last set steps x b high r m undelivered below l = record {
   found = λ h. let f = l.found h in record { to = b; message = m; receive = f.2; late = f.0; undelivered = λ d. undelivered d f.1 };
   last = λ y i. l.last y (subst (λ (q : ℕ). IsReceiveOf steps y q) (message_unique set steps x _ b _ m.sent i.message) i.receive) i.late (below y i);
 }
 
 -- the last miss of a message stands in the notes
-pub IsLastMissOf-from_known : (set : ℕ) (t : Recorded) (x b : ℕ) (r : Receives) → IsWellFormed t.config t.steps → b ≤ t.config.n → IsMessage set t.steps x b → KnowsReceives t x r
-    → IsLastMissOf set t.steps x (last_missed r x b)
-IsLastMissOf-from_known set t x b r w within m k = go (get_or r.taken_by.items x 0 == 0) refl where
-  go : (none : Bool) → (get_or r.taken_by.items x 0 == 0) ≡ none → IsLastMissOf set t.steps x (cond none (get_or r.last.items b 0) (get_or r.before.items (get_or r.taken_by.items x 0) 0))
+pub IsLastMissByNumber-from_known : (set : ℕ) (t : Recorded) (x b : ℕ) (r : Receives) → IsWellFormed t.config t.steps → b ≤ t.config.n → IsMessage set t.steps x b → KnowsReceives t x r
+    → IsLastMissByNumber set t.steps x (last_missed r x b)
+IsLastMissByNumber-from_known set t x b r w within m k = go (get_or r.taken_by.items x 0 == 0) refl where
+  go : (none : Bool) → (get_or r.taken_by.items x 0 == 0) ≡ none → IsLastMissByNumber set t.steps x (cond none (get_or r.last.items b 0) (get_or r.before.items (get_or r.taken_by.items x 0) 0))
   go true e =
       let none : get_or r.taken_by.items x 0 ≡ 0 = eqb-true _ _ e in
-      IsLastMissOf-from_last set t.steps x b (length t.steps + 1) (get_or r.last.items b 0) m
+      IsLastMissByNumber-from_last set t.steps x b (length t.steps + 1) (get_or r.last.items b 0) m
       (λ d l. (k.taken x).none none d.place d.after d.takes)
       (λ y i. let inside = step_at_within t.steps y _ i.receive.step in omega (arith, inside))
       (k.last b within)
   go false e =
       let some = eqb-false _ _ e in
       let f = (k.taken x).found (let positive : 0 < get_or r.taken_by.items x 0 = omega (arith, some) in positive) in
-      IsLastMissOf-from_last set t.steps x b (get_or r.taken_by.items x 0) (get_or r.before.items (get_or r.taken_by.items x 0) 0) m
+      IsLastMissByNumber-from_last set t.steps x b (get_or r.taken_by.items x 0) (get_or r.before.items (get_or r.taken_by.items x 0) 0) m
       (λ d l. let same = w.once d.place (get_or r.taken_by.items x 0) x d.takes f.1 in let until = d.until in omega (arith, same, until, l))
       (λ y i. elim (cases_lt y (get_or r.taken_by.items x 0)) [ inl l ↦ l | inr late ↦ absurd (i.undelivered (record { place = get_or r.taken_by.items x 0; after = f.0; until = late; takes = f.1 })) ])
       (k.before b (get_or r.taken_by.items x 0) (taker_receives t.config t.steps x b _ _ w m.sent f.1) f.0)

@@ -1,106 +1,138 @@
--- The level of a step from that of the next step, and the levels of all steps.
-use Rattle.std.proofs.Common.{ℕ, ◌≡◌, ◌+◌, ◌-◌, ◌≤◌, List, [], ◌∷◌, length, get_or, Some, None, Bool, true, false, cond, refl, sym, subst, ◌∙◌, suc, zero, arith}
-use Rattle.std.specs.Prelude.{slice_get, nat_le}
+-- The level of a tick from that of the next tick, and the levels of all ticks.
+use Rattle.std.proofs.Common.{ℕ, ◌≡◌, ◌+◌, ◌-◌, ◌<◌, ◌≤◌, List, [], ◌∷◌, length, get_or, Some, None, refl, sym, subst, ◌∙◌, suc, zero, arith}
+use Rattle.std.specs.Prelude.{slice_get}
 use Rattle.std.proofs.lemmas.Option.{same_Some, none-some}
-use Rattle.step_trace.specs.declared.steps.Step.{Step}
 use Rattle.step_trace.specs.Processors.{IsWithin}
+use Rattle.step_trace.specs.Ticks.{tick_of, IsTimed}
 use Rattle.step_trace.specs.Traces.{Recorded}
 use Rattle.step_trace.proofs.StepPositions.{step_at_within}
+use Rattle.suffix_staircase.specs.declared.backward_pass.Pass.{Pass}
 use Rattle.suffix_staircase.specs.declared.levels.Level.{Level}
-use Rattle.suffix_staircase.specs.Levels.{StandsBefore}
-use Rattle.suffix_staircase.specs.Receives.{IsLastMissOf}
-use Rattle.suffix_staircase.specs.NextSteps.{AreNextSteps, IsLatest}
-use Rattle.suffix_staircase.specs.Analysis.{KnowsMisses, KnowsGaps, KnowsLevel, IsLevelAt, AreLevels, AreLevelsFrom, with_miss, with_gap}
-use Rattle.suffix_staircase.proofs.MissBounds.{MissesLowered, MissesLowered-with_miss, IsDelta-from_misses}
+use Rattle.suffix_staircase.specs.Levels.{StandsBefore, CanStandBefore}
+use Rattle.suffix_staircase.specs.Analysis.{KnowsMisses, KnowsMissesAfter, KnowsGaps, IsLevelAt, AreLevels, AreLevelsFrom, KnowsStepsAfter, KnowsTicksFrom, AreIdleUpTo, with_gap}
+use Rattle.suffix_staircase.proofs.MissBounds.{IsDelta-from_misses}
 use Rattle.suffix_staircase.proofs.GapBounds.{GapsLowered, GapsLowered-with_gap, IsPhi-from_gaps}
+use Rattle.suffix_staircase.proofs.TickBorders.{IsBorder-between, KnowsMisses-at_border, AreNextSteps-at_border}
 
--- one step back: what is known of the level, and that it isn't below the next one
-pub record LevelLowered (set : ℕ) (steps : List Step) (x : ℕ) (old new : Level) : Type 0 where
-  pub known : KnowsLevel set steps x new
-  pub falling : StandsBefore new old
-
--- what is known of misses is known beside an equal bound and witness
-KnowsMisses-same : (set : ℕ) (steps : List Step) (x : ℕ) (a b : Level) → b.delta ≡ a.delta → b.miss ≡ a.miss → KnowsMisses set steps x a.delta a.miss → KnowsMisses set steps x b.delta b.miss
-KnowsMisses-same set steps x a b d m k = rw (d, m) k
-
--- so of gaps
-KnowsGaps-same : (set : ℕ) (steps : List Step) (x : ℕ) (a b : Level) → b.phi ≡ a.phi → b.gap ≡ a.gap → KnowsGaps set steps x a.phi a.gap → KnowsGaps set steps x b.phi b.gap
-KnowsGaps-same set steps x a b d m k = rw (d, m) k
-
--- one step back by its misses and then by its gaps
-lowered : (set : ℕ) (steps : List Step) (x : ℕ) (old middle new : Level) → MissesLowered set steps x old middle → GapsLowered set steps x middle new → LevelLowered set steps x old new
-lowered set steps x old middle new m g = record {
-  known = record { misses = KnowsMisses-same set steps x middle new g.delta g.miss m.misses; gaps = g.gaps };
-  falling = record {
-    delta = let a = m.delta in let b = g.delta in omega arith;
-    phi = let a = m.phi in let b = g.phi in omega arith;
-    miss = λ e. g.miss ∙ m.miss (sym g.delta ∙ e);
-    gap = λ e. g.gap (e ∙ sym m.phi) ∙ m.gap;
-  };
+-- after the last step there is no message
+pub KnowsMissesAfter-after_all : (set : ℕ) (t : Recorded) → KnowsMissesAfter set t (length t.steps) 1 None
+KnowsMissesAfter-after_all set t = record {
+  shorter = λ m i l. absurd (let inside = step_at_within t.steps m.sent _ i.message.sent in omega (arith, inside, l));
+  named = refl;
 }
 
--- one step back by the last miss of its message and by the longest gap that begins there
-pub LevelLowered-from_step : (set : ℕ) (t : Recorded) (x r q : ℕ) (next : List ℕ) (level : Level) → 1 ≤ x → IsWithin set t.config.n → KnowsLevel set t.steps (x + 1) level → IsLastMissOf set t.steps x r
-    → AreNextSteps t x next → IsLatest set next (length next) q → LevelLowered set t.steps x level (with_gap (with_miss level x r) q x (get_or next q 0))
-LevelLowered-from_step set t x r q next level start within known last steps_known latest =
-    let m = MissesLowered-with_miss set t.steps x r level known.misses last in
-    lowered set t.steps x level (with_miss level x r) (with_gap (with_miss level x r) q x (get_or next q 0)) m
-    (GapsLowered-with_gap set t x q next (with_miss level x r) start within steps_known latest (KnowsGaps-same set t.steps (x + 1) level (with_miss level x r) m.phi m.gap known.gaps))
-
--- after the last step there is no message and no gap
-pub KnowsLevel-after_all : (set : ℕ) (steps : List Step) → KnowsLevel set steps (length steps + 1) (record { delta = 1; miss = None; phi = 1; gap = None })
-KnowsLevel-after_all set steps = record {
-  misses = record {
-    shorter = λ m i l. absurd (let inside = step_at_within steps m.sent _ i.message.sent in omega (arith, inside, l));
-    named = refl;
-  };
-  gaps = record {
-    shorter = λ w i l. absurd (let order = i.order in let inside = i.inside in omega (arith, order, inside, l));
-    named = refl;
-  };
+-- after the last tick there is no gap
+pub KnowsGaps-after_all : (set : ℕ) (t : Recorded) → KnowsGaps set t (t.last + 1) 1 None
+KnowsGaps-after_all set t = record {
+  shorter = λ w i l. absurd (let order = i.order in let inside = i.inside in omega (arith, order, inside, l));
+  named = refl;
 }
 
--- what is known of a level makes it the least bounds with their named witnesses
-pub IsLevelAt-from_known : (set : ℕ) (steps : List Step) (g : ℕ) (level : Level) → 1 ≤ g → KnowsLevel set steps g level → IsLevelAt set steps g level
-IsLevelAt-from_known set steps g level start k = record {
-  delta = IsDelta-from_misses set steps g level.delta level.miss k.misses;
-  miss = k.misses.named;
-  phi = IsPhi-from_gaps set steps g level.phi level.gap start k.gaps;
-  gap = k.gaps.named;
+-- what is known of misses and gaps makes a level the least bounds with their named witnesses
+IsLevelAt-from_known : (set : ℕ) (t : Recorded) (g : ℕ) (level : Level) → 1 ≤ g → KnowsMisses set t g level.delta level.miss → KnowsGaps set t g level.phi level.gap → IsLevelAt set t g level
+IsLevelAt-from_known set t g level start misses gaps = record {
+  delta = IsDelta-from_misses set t g level.delta level.miss misses;
+  miss = misses.named;
+  phi = IsPhi-from_gaps set t g level.phi level.gap start gaps;
+  gap = gaps.named;
 }
 
--- after the last step there is no level
-pub AreLevelsFrom-after_all : (set : ℕ) (steps : List Step) → AreLevelsFrom set steps (length steps + 1) []
-AreLevelsFrom-after_all set steps = record {
-  count = let e : 0 + (length steps + 1) ≡ length steps + 1 = omega arith in e;
+-- after the last tick there is no level
+pub AreLevelsFrom-after_all : (set : ℕ) (t : Recorded) → AreLevelsFrom set t (t.last + 1) []
+AreLevelsFrom-after_all set t = record {
+  count = let e : 0 + (t.last + 1) ≡ t.last + 1 = omega arith in e;
   each = λ k level h. absurd (none-some level h);
 }
 
--- one level more, of the step before
-pub AreLevelsFrom-before : (set : ℕ) (steps : List Step) (x : ℕ) (level : Level) (levels : List Level) → IsLevelAt set steps x level → AreLevelsFrom set steps (x + 1) levels → AreLevelsFrom set steps x (level ∷ levels)
-AreLevelsFrom-before set steps x level levels here a = record {
+-- one level more, of the tick before
+AreLevelsFrom-before : (set : ℕ) (t : Recorded) (x : ℕ) (level : Level) (levels : List Level) → IsLevelAt set t x level → AreLevelsFrom set t (x + 1) levels → AreLevelsFrom set t x (level ∷ levels)
+AreLevelsFrom-before set t x level levels here a = record {
   count = let count = a.count in omega arith;
   each = each;
 } where
-  each : (k : ℕ) (l : Level) → slice_get (level ∷ levels) k ≡ Some l → IsLevelAt set steps (x + k) l
-  each zero l h = let e : x + 0 ≡ x = omega arith in rw e (subst (λ (m : Level). IsLevelAt set steps x m) (same_Some level l h) here)
+  each : (k : ℕ) (l : Level) → slice_get (level ∷ levels) k ≡ Some l → IsLevelAt set t (x + k) l
+  each zero l h = let e : x + 0 ≡ x = omega arith in rw e (subst (λ (m : Level). IsLevelAt set t x m) (same_Some level l h) here)
   each (suc k) l h = let e : x + suc k ≡ x + 1 + k = omega arith in rw e (a.each k l h)
 
--- from the first step on they are all levels
-pub AreLevels-from_first : (set : ℕ) (steps : List Step) (levels : List Level) → AreLevelsFrom set steps 1 levels → AreLevels set steps levels
-AreLevels-from_first set steps levels a = record {
+-- from the first tick on they are all levels
+pub AreLevels-from_first : (set : ℕ) (t : Recorded) (levels : List Level) → AreLevelsFrom set t 1 levels → AreLevels set t levels
+AreLevels-from_first set t levels a = record {
   count = let count = a.count in omega arith;
   each = λ g level start h. (let e : 1 + (g - 1) ≡ g = omega arith in rw e at (a.each (g - 1) level h));
 }
 
 -- a level may stand before itself
-pub StandsBefore-itself : (level : Level) → StandsBefore level level
+StandsBefore-itself : (level : Level) → StandsBefore level level
 StandsBefore-itself level = record { delta = omega arith; phi = omega arith; miss = λ e. refl; gap = λ e. refl }
 
--- a miss leaves the processor bound as it is
-pub with_miss-phi : (level : Level) (sent missed : ℕ) → (with_miss level sent missed).phi ≡ level.phi
-with_miss-phi level sent missed = go (nat_le level.delta (missed - sent)) where
-  go : (longer : Bool)
-      → (let new : Level = cond longer (record { delta = missed - sent + 1; miss = Some (record { sent = sent; missed = missed }); phi = level.phi; gap = level.gap }) level in new).phi ≡ level.phi
-  go true = refl
-  go false = refl
+-- a level that may stand before one that may stand before others may stand before them
+CanStandBefore-through : (a b : Level) (levels : List Level) → StandsBefore a b → CanStandBefore b levels → CanStandBefore a levels
+CanStandBefore-through a b [] h k = tt
+CanStandBefore-through a b (c ∷ rest) h k =
+    let dh = h.delta in
+    let dk = k.delta in
+    let ph = h.phi in
+    let pk = k.phi in
+    record {
+      delta = omega arith;
+      phi = omega arith;
+      miss = λ e. h.miss (omega (arith, e)) ∙ k.miss (omega (arith, e));
+      gap = λ e. h.gap (omega (arith, e)) ∙ k.gap (omega (arith, e));
+    }
+
+-- the level of a tick may stand before that of the next
+lowered_stands : (set : ℕ) (t : Recorded) (g : ℕ) (old new : Level) → GapsLowered set t g old new → StandsBefore new old
+lowered_stands set t g old new l = record {
+  delta = let e = l.delta in omega arith;
+  phi = l.phi;
+  miss = λ e. l.miss;
+  gap = l.gap;
+}
+
+-- One tick back: the level that a pass has then may stand before those so far, and is the tick's.
+pub record TickLowered (set : ℕ) (trace : Recorded) (done g : ℕ) (pass : Pass) (levels : List Level) : Type 0 where
+  pub falling : CanStandBefore pass.level levels
+  pub known : KnowsTicksFrom set trace done g pass (pass.level ∷ levels)
+
+-- a pass that differs from another in its level alone
+pub record IsSameButLevel (old new : Pass) : Type 0 where
+  pub set : new.set ≡ old.set
+  pub receives : new.receives ≡ old.receives
+  pub next_steps : new.next_steps ≡ old.next_steps
+
+-- one tick back by the longest gap that begins there
+pub TickLowered-with_gap : (set : ℕ) (t : Recorded) (done high g : ℕ) (old new : Pass) (levels : List Level) → IsTimed t → IsWithin set t.config.n → done ≤ length t.steps → AreIdleUpTo t done high
+    → tick_of t done < g → g ≤ high → KnowsTicksFrom set t done (g + 1) old levels → IsSameButLevel old new
+    → new.level ≡ with_gap old.level old.next_steps.latest g (get_or old.next_steps.by_processor.items old.next_steps.latest 0) → TickLowered set t done g new levels
+TickLowered-with_gap set t done high g old new levels time within inside idle low up known same is =
+    let border = IsBorder-between t time done high g inside idle low up in
+    let steps = known.steps in
+    let next = steps.next_steps in
+    let start : 1 ≤ g = omega (arith, low) in
+    let lowered = subst (λ (l : Level). GapsLowered set t g old.level l) (sym is)
+    (GapsLowered-with_gap set t g old.next_steps.latest old.next_steps.by_processor.items old.level start within (AreNextSteps-at_border t done g old.next_steps.by_processor.items border next.next) next.latest known.gaps) in
+    let misses : KnowsMissesAfter set t done new.level.delta new.level.miss = rw (lowered.delta, lowered.miss) steps.misses in
+    record {
+      falling = CanStandBefore-through new.level old.level levels (lowered_stands set t g old.level new.level lowered) known.falling;
+      known = record {
+        steps = record {
+          members = same.set ∙ steps.members;
+          receives = rw same.receives steps.receives;
+          next_steps = rw same.next_steps steps.next_steps;
+          misses = misses;
+        };
+        gaps = lowered.gaps;
+        each = AreLevelsFrom-before set t g new.level levels (IsLevelAt-from_known set t g new.level start (KnowsMisses-at_border set t time done g _ _ border misses) lowered.gaps) known.each;
+        falling = StandsBefore-itself new.level;
+      };
+    }
+
+-- one step back the ticks that are known stay known
+pub KnowsTicksFrom-step : (set : ℕ) (t : Recorded) (k g : ℕ) (old new : Pass) (levels : List Level) → KnowsTicksFrom set t k g old levels → KnowsStepsAfter set t (k - 1) new
+    → StandsBefore new.level old.level → new.level.phi ≡ old.level.phi → new.level.gap ≡ old.level.gap → KnowsTicksFrom set t (k - 1) g new levels
+KnowsTicksFrom-step set t k g old new levels known steps falling phi gap = record {
+  steps = steps;
+  gaps = rw (phi, gap) known.gaps;
+  each = known.each;
+  falling = CanStandBefore-through new.level old.level levels falling known.falling;
+}

@@ -3,6 +3,7 @@ pub mod StretchGrowth
 pub mod StretchDepths
 pub mod StartNumbers
 pub mod StartLaws
+pub mod MissNumbers
 pub mod MissBounds
 pub mod NextSteps
 pub mod LongestGaps
@@ -11,4 +12,5 @@ pub mod ReceivesLowered
 pub mod ReceiveNotes
 pub mod LastMisses
 pub mod ReceiveBounds
+pub mod TickBorders
 pub mod LevelBounds

@@ -1,8 +1,7 @@
--- The longest of the gaps that begin at a step is that of the member whose next step comes last.
+-- The longest of the gaps that begin at a tick is that of the member whose next step comes last.
 use Rattle.std.proofs.Common.{ℕ, ◌≡◌, ◌+◌, ◌-◌, ◌<◌, ◌≤◌, inl, inr, List, length, get_or, set, IsTrue, ◌&&◌, suc, zero, arith}
 use Rattle.std.specs.Prelude.{nat_le, nat_lt}
 use Rattle.std.proofs.lemmas.Bool.{cases_lt, ltb-true, and_parts}
-use Rattle.step_trace.specs.declared.steps.Step.{Step}
 use Rattle.step_trace.specs.declared.rows.Gap.{Gap}
 use Rattle.step_trace.specs.Processors.{has_proc, IsWithin}
 use Rattle.step_trace.specs.Traces.{Recorded}
@@ -18,7 +17,7 @@ member_low mask p m =
     omega arith
 
 -- a gap from x on ends before the next step of its processor
-gap_until : (set : ℕ) (t : Recorded) (x : ℕ) (next : List ℕ) (w : Gap) → IsWithin set t.config.n → AreNextSteps t x next → IsGap set t.steps w → w.from ≡ x → w.to < get_or next w.proc 0
+gap_until : (set : ℕ) (t : Recorded) (x : ℕ) (next : List ℕ) (w : Gap) → IsWithin set t.config.n → AreNextSteps t x next → IsGap set t w → w.from ≡ x → w.to < get_or next w.proc 0
 gap_until set t x next w within k gap e = elim (cases_lt w.to (get_or next w.proc 0)) [
   | inl l ↦ l
   | inr h ↦ (let own = k.each w.proc (member_low set w.proc gap.member) (within w.proc gap.member) in
@@ -28,14 +27,14 @@ gap_until set t x next w within k gap e = elim (cases_lt w.to (get_or next w.pro
 ]
 
 -- what the latest next step of a member says of the gaps that begin at x
-pub record IsLongest (set : ℕ) (steps : List Step) (x q until : ℕ) : Type 0 where
-  pub gap : x < until → IsGap set steps (record { proc = q; from = x; to = until - 1 })
-  pub longest : (w : Gap) → IsGap set steps w → w.from ≡ x → w.to < until
-  pub least : (w : Gap) → IsGap set steps w → w.from ≡ x → w.to + 1 ≡ until → q ≤ w.proc
+pub record IsLongest (set : ℕ) (trace : Recorded) (x q until : ℕ) : Type 0 where
+  pub gap : x < until → IsGap set trace (record { proc = q; from = x; to = until - 1 })
+  pub longest : (w : Gap) → IsGap set trace w → w.from ≡ x → w.to < until
+  pub least : (w : Gap) → IsGap set trace w → w.from ≡ x → w.to + 1 ≡ until → q ≤ w.proc
 
 -- the member whose next step comes last has the longest gap
 pub IsLongest-from_latest : (set : ℕ) (t : Recorded) (x q : ℕ) (next : List ℕ) → 1 ≤ x → IsWithin set t.config.n → AreNextSteps t x next → IsLatest set next (length next) q
-    → IsLongest set t.steps x q (get_or next q 0)
+    → IsLongest set t x q (get_or next q 0)
 IsLongest-from_latest set t x q next start within k latest = record {
   gap = gap q latest;
   longest = λ w i e.
@@ -51,7 +50,7 @@ IsLongest-from_latest set t x q next start within k latest = record {
     | inr h ↦ h
   ];
 } where
-  gap : (p : ℕ) → IsLatest set next (length next) p → x < get_or next p 0 → IsGap set t.steps (record { proc = p; from = x; to = get_or next p 0 - 1 })
+  gap : (p : ℕ) → IsLatest set next (length next) p → x < get_or next p 0 → IsGap set t (record { proc = p; from = x; to = get_or next p 0 - 1 })
   gap zero l h = absurd (let z = k.zero in omega (arith, z, h))
   gap (suc p) l h =
       let member = l.member (omega arith) in

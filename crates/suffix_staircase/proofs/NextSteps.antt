@@ -1,47 +1,54 @@
--- The next step of each processor, one step back, and the processor whose next step comes last.
-use Rattle.std.proofs.Common.{ℕ, ◌≡◌, ◌+◌, ◌<◌, ◌≤◌, ◌≢◌, inl, inr, List, length, get_or, set, Some, IsTrue, refl, sym, ap, subst, ◌∙◌, suc, zero, arith, replicate, get_or-set_same, get_or-set_other}
+-- The tick of the next step of each processor, one step back, and the processor whose next step comes last.
+use Rattle.std.proofs.Common.{ℕ, ◌≡◌, ◌+◌, ◌-◌, ◌<◌, ◌≤◌, ◌≢◌, inl, inr, List, length, get_or, set, Some, IsTrue, refl, sym, ap, subst, ◌∙◌, suc, zero, arith, replicate, get_or-set_same, get_or-set_other}
 use Rattle.std.proofs.lemmas.List.{length-set, length-replicate}
 use Rattle.std.proofs.lemmas.Option.{same_Some}
-use Rattle.std.proofs.lemmas.Bool.{cases_eq}
+use Rattle.std.proofs.lemmas.Bool.{cases_eq, cases_lt}
 use Rattle.step_trace.specs.declared.steps.Step.{Step}
 use Rattle.step_trace.specs.Processors.{has_proc}
-use Rattle.step_trace.specs.Traces.{Recorded, step_at, IsStepOf}
+use Rattle.step_trace.specs.Ticks.{tick_of, IsTimed}
+use Rattle.step_trace.specs.Traces.{Recorded, step_at}
 use Rattle.step_trace.proofs.StepPositions.{step_at_within}
-use Rattle.suffix_staircase.specs.NextSteps.{IsNextStep, AreNextSteps, IsLatest}
-
--- a step is of one processor
-IsStepOf-unique : (steps : List Step) (x : ℕ) (s : Step) (p : ℕ) → step_at steps x ≡ Some s → IsStepOf steps x p → s.proc ≡ p
-IsStepOf-unique steps x s p h i = ap (λ (y : Step). y.proc) (same_Some s _ (sym h ∙ i.1))
+use Rattle.step_trace.proofs.TickOrder.{ticks_rise}
+use Rattle.suffix_staircase.specs.NextSteps.{IsNextTick, AreNextTicks, IsLatest}
 
 -- going back over a step, its processor gets it as its next step
-pub AreNextSteps-back : (t : Recorded) (x : ℕ) (s : Step) (next : List ℕ) → 1 ≤ s.proc → s.proc ≤ t.config.n → step_at t.steps x ≡ Some s → AreNextSteps t (x + 1) next
-    → AreNextSteps t x (set next s.proc x)
-AreNextSteps-back t x s next low high h k =
-    let inside = step_at_within t.steps x s h in
+IsNextTick-own : (t : Recorded) → IsTimed t → (x : ℕ) (s : Step) → step_at t.steps x ≡ Some s → IsNextTick t s.proc (x - 1) (tick_of t x)
+IsNextTick-own t time x s h = let low = step_at_within t.steps x s h in record {
+  until = let i = (time.inside x s h).1 in omega arith;
+  first = λ k l i. ticks_rise t time x k s _ h i.1 (omega (arith, l));
+  step = λ l. (x, omega (arith, low), (s.act, h), refl);
+}
+
+-- and every other keeps its own
+IsNextTick-other : (t : Recorded) (p x next : ℕ) (s : Step) → step_at t.steps x ≡ Some s → (s.proc ≡ p → ⊥) → IsNextTick t p x next → IsNextTick t p (x - 1) next
+IsNextTick-other t p x next s h other n = record {
+  until = n.until;
+  first = λ k l i. elim (cases_eq k x) [
+    | inl e ↦ absurd (other (ap (λ (y : Step). y.proc) (same_Some _ _ (sym h ∙ ap (step_at t.steps) (sym e) ∙ i.1))))
+    | inr d ↦ n.first k (omega (arith, d, l)) i
+  ];
+  step = λ l. (let i = n.step l in let a = i.1 in (i.0, omega (arith, a), i.2, i.3));
+}
+
+-- a step isn't in a later tick than the next one of any processor
+pub next_tick_above : (t : Recorded) → IsTimed t → (p x next : ℕ) (s : Step) → step_at t.steps x ≡ Some s → IsNextTick t p x next → tick_of t x ≤ next
+next_tick_above t time p x next s h n = elim (cases_lt t.last next) [
+  | inl l ↦ (let i = (time.inside x s h).1 in omega (arith, i, l))
+  | inr l ↦ (let i = n.step l in let a = i.1 in let e = i.3 in let r = ticks_rise t time x i.0 s _ h i.2.1 (omega (arith, a)) in omega (arith, r, e))
+]
+
+-- going back over a step, the notes are right again
+pub AreNextTicks-back : (t : Recorded) → IsTimed t → (x : ℕ) (s : Step) (next : List ℕ) → 1 ≤ s.proc → s.proc ≤ t.config.n → step_at t.steps x ≡ Some s → AreNextTicks t x next
+    → AreNextTicks t (x - 1) (set next s.proc (tick_of t x))
+AreNextTicks-back t time x s next low high h k =
     let wide = k.long in
     let place : s.proc < length next = omega (arith, wide, high) in
     record {
-      long = length-set next s.proc x ∙ k.long;
+      long = length-set next s.proc (tick_of t x) ∙ k.long;
       zero = (let other : 0 ≢ s.proc = omega arith in rw get_or-set_other k.zero);
       each = λ p a b. elim (cases_eq p s.proc) [
-        | inl e ↦ subst (λ (m : ℕ). IsNextStep t.steps m x (get_or (set next s.proc x) m 0)) (sym e) (rw get_or-set_same (record {
-          from = omega arith;
-          until = let i = inside.1 in omega arith;
-          silent = λ z l u. absurd (omega arith);
-          step = λ l. (s.act, h);
-        }))
-        | inr ne ↦ (let old = k.each p a b in
-            let from = old.from in
-            let other : p ≢ s.proc = ne in
-            rw get_or-set_other (record {
-              from = omega (arith, from);
-              until = old.until;
-              silent = λ z l u. elim (cases_eq z x) [
-                | inl e ↦ (λ i. ne (sym (IsStepOf-unique t.steps x s p h (subst (λ (y : ℕ). IsStepOf t.steps y p) e i))))
-                | inr d ↦ old.silent z (let later : x + 1 ≤ z = omega (arith, d, l) in later) u
-              ];
-              step = old.step;
-            }))
+        | inl e ↦ subst (λ (m : ℕ). IsNextTick t m (x - 1) (get_or (set next s.proc (tick_of t x)) m 0)) (sym e) (rw get_or-set_same (IsNextTick-own t time x s h))
+        | inr ne ↦ (let other : p ≢ s.proc = ne in rw get_or-set_other (IsNextTick-other t p x _ s h (λ e. ne (sym e)) (k.each p a b)))
       ];
     }
 
@@ -52,17 +59,16 @@ get_or-replicate_all (suc m) v zero h = refl
 get_or-replicate_all (suc m) v (suc k) h = get_or-replicate_all m v k (omega arith)
 
 -- after the last step no processor has a next step
-pub AreNextSteps-after_all : (t : Recorded) (next : List ℕ) → next ≡ set (replicate (t.config.n + 1) (length t.steps + 1)) 0 0 → AreNextSteps t (length t.steps + 1) next
-AreNextSteps-after_all t next e = subst (λ (xs : List ℕ). AreNextSteps t (length t.steps + 1) xs) (sym e) (record {
-  long = length-set (replicate (t.config.n + 1) (length t.steps + 1)) 0 0 ∙ length-replicate (t.config.n + 1) (length t.steps + 1);
-  zero = get_or-set_same (replicate (t.config.n + 1) (length t.steps + 1)) 0 0 0 (let l = length-replicate (t.config.n + 1) (length t.steps + 1) in omega (arith, l));
+pub AreNextTicks-after_all : (t : Recorded) (next : List ℕ) → next ≡ set (replicate (t.config.n + 1) (t.last + 1)) 0 0 → AreNextTicks t (length t.steps) next
+AreNextTicks-after_all t next e = subst (λ (xs : List ℕ). AreNextTicks t (length t.steps) xs) (sym e) (record {
+  long = length-set (replicate (t.config.n + 1) (t.last + 1)) 0 0 ∙ length-replicate (t.config.n + 1) (t.last + 1);
+  zero = get_or-set_same (replicate (t.config.n + 1) (t.last + 1)) 0 0 0 (let l = length-replicate (t.config.n + 1) (t.last + 1) in omega (arith, l));
   each = λ p a b.
       let other : p ≢ 0 = omega arith in
-      let value = get_or-replicate_all (t.config.n + 1) (length t.steps + 1) p (omega arith) in
+      let value = get_or-replicate_all (t.config.n + 1) (t.last + 1) p (omega arith) in
       rw (get_or-set_other, value) (record {
-        from = omega arith;
         until = omega arith;
-        silent = λ z l u. absurd (omega arith);
+        first = λ k l i. absurd (let inside = step_at_within t.steps k _ i.1 in omega (arith, l, inside));
         step = λ l. absurd (omega arith);
       });
 })

@@ -1,4 +1,4 @@
--- The levels of a trace: the least bounds from each step on, which fall from step to step.
+-- The levels of a trace: the least bounds from each tick on, which fall from tick to tick.
 use Rattle.std.specs.Prelude.{ℕ, ◌≡◌, ◌+◌, ◌-◌, ◌≤◌, List, [], ◌∷◌, Some, Bool, true, false, not, ◌==◌, ◌&&◌, slice_get, Contains, if◌then◌else◌}
 use Rattle.std.specs.List.Sorted.{IsStrictlyIncreasing}
 use Rattle.suffix_staircase.specs.declared.levels.Level.{Level}

@@ -1,22 +1,34 @@
--- The next step of each processor from a step on, in numbers from 1.
+-- The tick of the next step of each processor: after a step by its number, and from a tick on.
 use Rattle.std.specs.Prelude.{ℕ, ◌≡◌, ◌+◌, ◌<◌, ◌≤◌, List, length, slice_index, IsTrue}
-use Rattle.step_trace.specs.declared.steps.Step.{Step}
 use Rattle.step_trace.specs.Processors.{has_proc}
 use Rattle.step_trace.specs.Traces.{Recorded, IsStepOf}
+use Rattle.step_trace.specs.Ticks.{tick_of, StepsIn}
 use Rattle.suffix_staircase.specs.declared.next_steps.NextSteps.{NextSteps}
 
--- the first step of p at x or later, or one after the last step where there is none
-pub record IsNextStep (steps : List Step) (p x next : ℕ) : Type 0 where
-  pub from : x ≤ next
-  pub until : next ≤ length steps + 1
-  pub silent : (z : ℕ) → x ≤ z → z < next → ¬ IsStepOf steps z p
-  pub step : next ≤ length steps → IsStepOf steps next p
+-- the tick of the first step of p after number done, or one after the last tick where there is none
+pub record IsNextTick (trace : Recorded) (p done next : ℕ) : Type 0 where
+  pub until : next ≤ trace.last + 1
+  pub first : (k : ℕ) → done < k → IsStepOf trace.steps k p → next ≤ tick_of trace k
+  pub step : next ≤ trace.last → (k : ℕ) × (done < k) × IsStepOf trace.steps k p × (tick_of trace k ≡ next)
 
--- the next step of each processor of a trace from step x on, and 0 at number 0
-pub record AreNextSteps (trace : Recorded) (x : ℕ) (next : List ℕ) : Type 0 where
+-- the tick of the next step of each processor of a trace after number done, and 0 at number 0
+pub record AreNextTicks (trace : Recorded) (done : ℕ) (next : List ℕ) : Type 0 where
   pub long : length next ≡ trace.config.n + 1
   pub zero : slice_index next 0 ≡ 0
-  pub each : (p : ℕ) → 1 ≤ p → p ≤ trace.config.n → IsNextStep trace.steps p x (slice_index next p)
+  pub each : (p : ℕ) → 1 ≤ p → p ≤ trace.config.n → IsNextTick trace p done (slice_index next p)
+
+-- the first tick from g on in which p takes a step, or one after the last tick where there is none
+pub record IsNextStep (trace : Recorded) (p g next : ℕ) : Type 0 where
+  pub from : g ≤ next
+  pub until : next ≤ trace.last + 1
+  pub silent : (x : ℕ) → g ≤ x → x < next → ¬ StepsIn trace x p
+  pub step : next ≤ trace.last → StepsIn trace next p
+
+-- the next step of each processor of a trace from tick g on, and 0 at number 0
+pub record AreNextSteps (trace : Recorded) (g : ℕ) (next : List ℕ) : Type 0 where
+  pub long : length next ≡ trace.config.n + 1
+  pub zero : slice_index next 0 ≡ 0
+  pub each : (p : ℕ) → 1 ≤ p → p ≤ trace.config.n → IsNextStep trace p g (slice_index next p)
 
 -- of the members of the set below `until`, the one whose number here is greatest, and of these the
 -- least: 0 where there is none
@@ -26,7 +38,7 @@ pub record IsLatest (set : ℕ) (next : List ℕ) (until latest : ℕ) : Type 0 
   pub greatest : (p : ℕ) → p < until → 1 ≤ p → IsTrue (has_proc set p) → slice_index next p ≤ slice_index next latest
   pub least : (p : ℕ) → p < latest → 1 ≤ p → IsTrue (has_proc set p) → slice_index next p < slice_index next latest
 
--- what is known of the gaps that begin at step x
-pub record KnowsNextSteps (set : ℕ) (trace : Recorded) (x : ℕ) (known : NextSteps) : Type 0 where
-  pub next : AreNextSteps trace x known.by_processor.items
+-- what is known of the next steps after number done
+pub record KnowsNextSteps (set : ℕ) (trace : Recorded) (done : ℕ) (known : NextSteps) : Type 0 where
+  pub next : AreNextTicks trace done known.by_processor.items
   pub latest : IsLatest set known.by_processor.items (length known.by_processor.items) known.latest

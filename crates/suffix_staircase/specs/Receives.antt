@@ -1,10 +1,32 @@
--- What is known of the Receives after a step, in numbers from 1 with 0 for none.
+-- What is known of the Receives after a step, in numbers from 1 with 0 for none. Numbers rise with ticks, so a miss
+-- is one by the numbers of its steps too, as long as its Receive is in a later tick than its Send.
 use Rattle.std.specs.Prelude.{ℕ, ◌≡◌, ◌+◌, ◌<◌, ◌≤◌, ◌==◌, List, length, slice_index, slice_set, if◌then◌else◌}
 use Rattle.std.specs.List.{list_any}
+use Rattle.step_trace.specs.declared.rows.Miss.{Miss}
 use Rattle.step_trace.specs.declared.steps.Step.{Step}
 use Rattle.step_trace.specs.Traces.{Recorded, TakesAt, IsReceiveOf}
-use Rattle.step_trace.specs.Witnesses.{IsMiss}
+use Rattle.step_trace.specs.Bounds.{IsMessage}
 use Rattle.suffix_staircase.specs.declared.receives.Receives.{Receives}
+
+-- some Receive after message s, up to number y, takes it
+pub record IsDeliveredByNumber (steps : List Step) (s y : ℕ) : Type 0 where
+  pub place : ℕ
+  pub after : s < place
+  pub until : place ≤ y
+  pub takes : TakesAt steps place s
+
+-- a message between members, and a later Receive of its receiver up to which none took it
+pub record IsMissByNumber (set : ℕ) (steps : List Step) (m : Miss) : Type 0 where
+  pub to : ℕ
+  pub message : IsMessage set steps m.sent to
+  pub receive : IsReceiveOf steps m.missed to
+  pub late : m.sent < m.missed
+  pub undelivered : ¬ IsDeliveredByNumber steps m.sent m.missed
+
+-- the last Receive that misses message s by number
+pub record IsLastMissByNumber (set : ℕ) (steps : List Step) (s r : ℕ) : Type 0 where
+  pub found : 0 < r → IsMissByNumber set steps (record { sent = s; missed = r })
+  pub last : (y : ℕ) → IsMissByNumber set steps (record { sent = s; missed = y }) → y ≤ r
 
 -- the Receive after step x that takes message s
 pub record IsTaker (steps : List Step) (x s place : ℕ) : Type 0 where
@@ -50,8 +72,3 @@ abbrev pub last_missed : Receives → ℕ → ℕ → ℕ
 last_missed r s p =
     let taker = slice_index r.taken_by.items s in
     if taker == 0 then slice_index r.last.items p else slice_index r.before.items taker
-
--- the last Receive that misses message s
-pub record IsLastMissOf (set : ℕ) (steps : List Step) (s r : ℕ) : Type 0 where
-  pub found : 0 < r → IsMiss set steps (record { sent = s; missed = r })
-  pub last : (y : ℕ) → IsMiss set steps (record { sent = s; missed = y }) → y ≤ r

@@ -2,7 +2,7 @@
 use Rattle.std.specs.Prelude.{◌-◌, ◌<◌, ◌≤◌, List, [], ◌∷◌, ◌++◌, length, replicate, IsTrue}
 use Rattle.suffix_staircase.specs.declared.levels.Level.{Level}
 use Rattle.suffix_staircase.specs.declared.stretches.Stretch.{Stretch}
-use Rattle.step_trace.specs.declared.traces.TheConstants.{MAX_STEPS}
+use Rattle.step_trace.specs.declared.traces.TheConstants.{MAX_TICKS}
 use Rattle.suffix_staircase.specs.Levels.{begins, IsStaircase}
 
 -- the levels of a stretch, put before these
@@ -25,8 +25,8 @@ AreStretchesFrom after (s ∷ rest) = (length after < s.reach) × IsTrue (begins
 abbrev pub AreStretches : List Stretch → Type 0
 AreStretches stretches = AreStretchesFrom [] stretches
 
--- stretches that are stairs: their levels fall, and are no more than a trace has steps
+-- stretches that are stairs: their levels fall, and are no more than a trace has ticks
 abbrev pub AreStairs : List Stretch → Type 0
 AreStairs stretches =
     let levels = levels_of stretches in
-    AreStretches stretches × IsStaircase levels × (length levels ≤ MAX_STEPS)
+    AreStretches stretches × IsStaircase levels × (length levels ≤ MAX_TICKS)

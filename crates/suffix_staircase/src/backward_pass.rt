@@ -1,34 +1,41 @@
-//! The backward pass: from the last step to the first, the level of each step from that of the next.
+//! The backward pass: from the last tick to the first, the level of each tick from that of the next.
 //!
-//! Going back over a step adds at most one miss that counts, the last one of the step's message,
-//! and one gap, the longest that begins there. An equal length keeps the witness that comes later.
+//! Steps are gone over by falling number. Going back over a Send adds at most one miss that counts, the
+//! last one of its message; going back over a tick adds one gap, the longest that begins there. An equal
+//! length keeps the witness that comes later.
 
-ghost use Rattle.std.specs.Prelude.{◌≡◌, ◌-◌, ◌≤◌, length, IfOk};
+ghost use Rattle.std.specs.Prelude.{◌≡◌, ◌+◌, ◌-◌, ◌<◌, ◌≤◌, length, slice_index, IfOk, OnOk};
+ghost use Rattle.step_trace.specs.declared.traces.TheConstants.{MAX_TICKS};
 ghost use Rattle.step_trace.specs.Processors.{IsWithin};
+ghost use Rattle.step_trace.specs.Ticks.{tick_of, IsTimed};
 ghost use Rattle.suffix_staircase.specs.Levels.{StandsBefore};
-ghost use Rattle.suffix_staircase.specs.Analysis.{IsLevelAt, KnowsStepsAfter, with_miss, with_gap};
+ghost use Rattle.suffix_staircase.specs.Analysis.{AreLevels, KnowsStepsAfter, KnowsTicksFrom, KnowsGaps, AreIdleUpTo, with_miss, with_gap};
 
 use crate::levels::Level;
 use crate::next_steps::NextSteps;
 use crate::receives::Receives;
+use crate::staircases::StairBuilder;
 use std::alloc::{AllocError, Global};
 use step_trace::{Gap, Miss, ProcSet, Trace};
 
-/// What is known of the steps of a trace that were gone over, from the last one back.
+/// What is known of the steps of a trace that were gone over, from the last one back, and of the ticks.
 #[derive(Debug, Drop)]
 pub(crate) struct Pass {
+    set: ProcSet,
     receives: Receives,
     next_steps: NextSteps,
-    // The level of the step that was gone over last.
+    // The level of the tick that was gone over last, with the misses of the steps since.
     level: Level,
 }
 
 impl Pass {
     /// A pass that has gone over no step.
     pub(crate) fn after_all(alloc: Global, trace: &Trace, set: ProcSet) -> Result<Self, AllocError>
-        ensures { IfOk result (λ p. KnowsStepsAfter set trace.now (length trace.now.steps) p) }
+        ensures steps { IfOk result (λ p. KnowsStepsAfter set trace.now (length trace.now.steps) p) }
+        ensures gaps { IfOk result (λ p. KnowsGaps set trace.now (trace.now.last + 1) p.level.phi p.level.gap) }
     {
         Ok(Pass {
+            set,
             receives: Receives::after_all(alloc, trace)?,
             next_steps: NextSteps::after_all(alloc, trace, set)?,
             level: Level {
@@ -40,35 +47,103 @@ impl Pass {
         })
     }
 
-    /// Goes back over a step, and gives its level.
-    pub(crate) fn step_back(&mut self, trace: &Trace, set: ProcSet, no: u64) -> Level
+    /// Goes back over the whole trace, and puts the level of each tick before those so far, of which there
+    /// are none.
+    pub(crate) fn all_back(
+        &mut self,
+        trace: &Trace,
+        builder: &mut StairBuilder,
+    ) -> Result<(), AllocError>
+        requires within { IsWithin self.old.set trace.now.config.n }
+        requires known { KnowsTicksFrom self.old.set trace.now (length trace.now.steps) (trace.now.last + 1) self.old builder.old }
+        ensures levels { OnOk result (AreLevels self.old.set trace.now builder.new) }
+    {
+        let len = trace.len() as u64;
+        self.ticks_back(trace, len, trace.last_tick(), builder)?;
+        for no in (1..len + 1).rev() {
+            self.step_back(trace, no);
+            self.ticks_back(trace, no - 1, trace.tick(no), builder)?;
+        }
+        Ok(())
+    }
+
+    // Goes back over a step.
+    fn step_back(&mut self, trace: &Trace, no: u64)
         requires low { 1 ≤ no }
         requires high { no ≤ length trace.now.steps }
-        requires within { IsWithin set trace.now.config.n }
-        requires known { KnowsStepsAfter set trace.now no self.old }
-        ensures known { KnowsStepsAfter set trace.now (no - 1) self.new }
-        ensures level { IsLevelAt set trace.now.steps no result }
-        ensures falling { StandsBefore result self.old.level }
-        ensures kept { self.new.level ≡ result }
+        requires known { KnowsStepsAfter self.old.set trace.now no self.old }
+        ensures known { KnowsStepsAfter self.old.set trace.now (no - 1) self.new }
+        ensures falling { StandsBefore self.new.level self.old.level }
+        ensures phi { self.new.level.phi ≡ self.old.level.phi }
+        ensures gap { self.new.level.gap ≡ self.old.level.gap }
     {
-        let missed = self.receives.step_back(trace, set, no);
-        self.next_steps.step_back(trace, set, no);
-        let level = with_miss(self.level, no, missed);
-        self.level = with_gap(level, self.next_steps.latest(), no, self.next_steps.until());
+        let missed = self.receives.step_back(trace, self.set, no);
+        self.next_steps.step_back(trace, self.set, no);
+        let long = tick_of(trace, missed).saturating_sub(trace.tick(no));
+        self.level = with_miss(self.level, Miss { sent: no, missed }, long);
+    }
+
+    // Goes back over the ticks from `high` to the one after that of step `done`, between which there is no
+    // step, and puts their levels before those so far.
+    fn ticks_back(
+        &mut self,
+        trace: &Trace,
+        done: u64,
+        high: u64,
+        builder: &mut StairBuilder,
+    ) -> Result<(), AllocError>
+        requires done { done ≤ length trace.now.steps }
+        requires timed { IsTimed trace.now }
+        requires within { IsWithin self.old.set trace.now.config.n }
+        requires idle { AreIdleUpTo trace.now done high }
+        requires known { KnowsTicksFrom self.old.set trace.now done (high + 1) self.old builder.old }
+        ensures known { OnOk result (KnowsTicksFrom self.old.set trace.now done (tick_of trace.now done + 1) self.new builder.new) }
+    {
+        for g in (tick_of(trace, done) + 1..high + 1).rev() {
+            builder.lower(self.tick_back(g))?;
+        }
+        Ok(())
+    }
+
+    // The level of a tick whose steps were gone over.
+    fn tick_back(&mut self, g: u64) -> Level
+        requires low { 1 ≤ g }
+        requires positive { 1 ≤ self.old.level.phi }
+        requires latest { self.old.next_steps.latest < length self.old.next_steps.by_processor.items }
+        ensures level { result ≡ with_gap self.old.level self.old.next_steps.latest g (slice_index self.old.next_steps.by_processor.items self.old.next_steps.latest) }
+        ensures kept { self.new.level ≡ result }
+        ensures set { self.new.set ≡ self.old.set }
+        ensures receives { self.new.receives ≡ self.old.receives }
+        ensures next_steps { self.new.next_steps ≡ self.old.next_steps }
+    {
+        self.level = with_gap(
+            self.level,
+            self.next_steps.latest(),
+            g,
+            self.next_steps.until(),
+        );
         self.level
     }
 }
 
-// The level with the miss of message `sent` at `missed`, where its bound allows no such miss.
-fn with_miss(level: Level, sent: u64, missed: u64) -> Level
-    requires positive { 1 ≤ level.delta }
-    requires sent { 1 ≤ sent }
-    ensures { result ≡ with_miss level sent missed }
+// The tick of the step of this number, and 0 for number 0.
+fn tick_of(trace: &Trace, no: u64) -> u64
+    requires { no ≤ length trace.now.steps }
+    ensures value { result ≡ tick_of trace.now no }
+    ensures limit { result ≤ MAX_TICKS }
 {
-    if level.delta <= missed.saturating_sub(sent) {
+    if no == 0 { 0 } else { trace.tick(no) }
+}
+
+// The level with a miss of this length, where its bound allows no such miss.
+fn with_miss(level: Level, miss: Miss, long: u64) -> Level
+    requires { long ≤ MAX_TICKS }
+    ensures { result ≡ with_miss level miss long }
+{
+    if level.delta <= long {
         Level {
-            delta: missed - sent + 1,
-            miss: Some(Miss { sent, missed }),
+            delta: long + 1,
+            miss: Some(miss),
             ..level
         }
     } else {

@@ -1,4 +1,4 @@
-//! The bounds from one step on, with their witnesses.
+//! The bounds from one tick on, with their witnesses.
 
 ghost use Rattle.std.specs.Prelude.{◌≡◌};
 ghost use Rattle.suffix_staircase.specs.Levels.{same_bounds};
@@ -6,7 +6,7 @@ ghost use Rattle.suffix_staircase.specs.Levels.{same_bounds};
 use step_trace::{Gap, Miss};
 
 /// The least communication bound and the least processor bound (section 2 of the 1988 paper) that
-/// hold from one real-time step to the end, counted in real-time steps, each with its named witness:
+/// hold from one tick to the end, counted in ticks, each with its named witness:
 /// none beside a bound of 1.
 #[derive(Clone, Copy, Debug, PartialEq, Eq)]
 pub struct Level {

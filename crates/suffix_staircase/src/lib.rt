@@ -1,4 +1,4 @@
-//! The least bounds of every step of a trace, found by one backward pass.
+//! The least bounds of every tick of a trace, found by one backward pass.
 #![tactic(auto)]
 
 mod backward_pass;

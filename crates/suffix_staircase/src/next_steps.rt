@@ -1,28 +1,28 @@
-//! The next step of each processor, as far as the gaps from a step on depend on it.
+//! The tick of the next step of each processor, as far as the gaps from a tick on depend on it.
 //!
 //! Processors are numbered from 1. The entry of number 0 is 0, so that each member comes later.
 
-ghost use Rattle.std.specs.Prelude.{◌≡◌, ◌+◌, ◌<◌, ◌≤◌, length, IfOk, slice_index};
-ghost use Rattle.suffix_staircase.specs.NextSteps.{AreNextSteps, IsLatest, KnowsNextSteps};
+ghost use Rattle.std.specs.Prelude.{◌≡◌, ◌+◌, ◌-◌, ◌<◌, ◌≤◌, length, IfOk, slice_index};
+ghost use Rattle.suffix_staircase.specs.NextSteps.{AreNextTicks, IsLatest, KnowsNextSteps};
 
 use crate::receives::step_of;
 use std::alloc::{AllocError, Global};
 use step_trace::{ProcSet, Trace};
 
-/// What is known of the gaps that begin at a step: the longest is that of the member whose next step
+/// What is known of the gaps that begin at a tick: the longest is that of the member whose next step
 /// comes last.
 #[derive(Debug, Drop)]
 pub(crate) struct NextSteps {
-    // For each processor, its next step: one after the last where there is none.
+    // For each processor, the tick of its next step: one after the last where there is none.
     by_processor: Vec<u64>,
-    // The member whose next step comes last, and of these the least: 0 if there is no member.
+    // The member whose next step comes in the last tick, and of these the least: 0 if there is no member.
     latest: u64,
 }
 
 impl NextSteps {
     /// What is known after the last step.
     pub(crate) fn after_all(alloc: Global, trace: &Trace, set: ProcSet) -> Result<Self, AllocError>
-        ensures { IfOk result (λ n. KnowsNextSteps set trace.now (length trace.now.steps + 1) n) }
+        ensures { IfOk result (λ n. KnowsNextSteps set trace.now (length trace.now.steps) n) }
     {
         let by_processor = no_next_steps(alloc, trace)?;
         let latest = latest_member(&by_processor, set);
@@ -36,25 +36,25 @@ impl NextSteps {
     pub(crate) fn step_back(&mut self, trace: &Trace, set: ProcSet, no: u64)
         requires low { 1 ≤ no }
         requires high { no ≤ length trace.now.steps }
-        requires known { KnowsNextSteps set trace.now (no + 1) self.old }
-        ensures { KnowsNextSteps set trace.now no self.new }
+        requires known { KnowsNextSteps set trace.now no self.old }
+        ensures { KnowsNextSteps set trace.now (no - 1) self.new }
     {
         let proc = step_of(trace, no).proc;
-        self.by_processor[proc as usize] = no;
+        self.by_processor[proc as usize] = trace.tick(no);
         // Another processor's next step came no later than the latest, and now comes earlier.
         if proc == self.latest {
             self.latest = latest_member(&self.by_processor, set);
         }
     }
 
-    /// The member whose next step comes last, and of these the least: 0 if there is no member.
+    /// The member whose next step comes in the last tick, and of these the least: 0 if there is no member.
     pub(crate) fn latest(&self) -> u64
         ensures { result ≡ self.now.latest }
     {
         self.latest
     }
 
-    /// Its next step.
+    /// The tick of its next step.
     pub(crate) fn until(&self) -> u64
         requires { self.now.latest < length self.now.by_processor.items }
         ensures { result ≡ slice_index self.now.by_processor.items self.now.latest }
@@ -63,17 +63,17 @@ impl NextSteps {
     }
 }
 
-// The next steps from the end of a trace on: each is one after the last.
+// The next steps from the end of a trace on: each is one after the last tick.
 fn no_next_steps(alloc: Global, trace: &Trace) -> Result<Vec<u64>, AllocError>
-    ensures { IfOk result (λ n. AreNextSteps trace.now (length trace.now.steps + 1) n.items) }
+    ensures { IfOk result (λ n. AreNextTicks trace.now (length trace.now.steps) n.items) }
 {
     let processors = trace.config().n() as usize + 1;
-    let mut next_steps = vec![in alloc; trace.len() as u64 + 1; processors]?;
+    let mut next_steps = vec![in alloc; trace.last_tick() + 1; processors]?;
     next_steps[0] = 0;
     Ok(next_steps)
 }
 
-// The member whose next step comes last, and of these the least: 0 if there is no member.
+// The member whose next step comes in the last tick, and of these the least: 0 if there is no member.
 fn latest_member(next_steps: &[u64], set: ProcSet) -> u64
     requires some { 0 < length next_steps.now }
     requires zero { slice_index next_steps.now 0 ≡ 0 }

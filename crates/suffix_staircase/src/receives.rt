@@ -5,7 +5,7 @@
 ghost use Rattle.std.specs.Prelude.{◌≡◌, ◌-◌, ◌<◌, ◌≤◌, length, Some, All, IfOk, slice_index, replicate};
 ghost use Rattle.step_trace.specs.declared.traces.TheConstants.{MAX_STEPS};
 ghost use Rattle.step_trace.specs.Traces.{step_at, IsWellFormed};
-ghost use Rattle.suffix_staircase.specs.Receives.{KnowsReceives, NotesReceive, NotesTakes, IsLastMissOf, last_missed};
+ghost use Rattle.suffix_staircase.specs.Receives.{KnowsReceives, NotesReceive, NotesTakes, IsLastMissByNumber, last_missed};
 
 use std::alloc::{AllocError, Global};
 use step_trace::{Act, ProcSet, Step, Trace};
@@ -67,7 +67,8 @@ impl Receives {
         requires high { no ≤ length trace.now.steps }
         requires known { KnowsReceives trace.now no self.old }
         ensures known { KnowsReceives trace.now (no - 1) self.new }
-        ensures missed { IsLastMissOf set trace.now.steps no result }
+        ensures missed { IsLastMissByNumber set trace.now.steps no result }
+        ensures sound { IsWellFormed trace.now.config trace.now.steps }
     {
         let step = step_of(trace, no);
         match &step.act {

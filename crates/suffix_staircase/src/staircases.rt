@@ -1,7 +1,7 @@
 //! The levels of a whole trace.
 
 ghost use Rattle.std.specs.Prelude.{◌≡◌, ◌∷◌, [], ◌-◌, ◌<◌, ◌≤◌, length, Some, slice_get, IfOk, OnOk, OnErr, IsTrue};
-ghost use Rattle.step_trace.specs.declared.traces.TheConstants.{MAX_STEPS};
+ghost use Rattle.step_trace.specs.declared.traces.TheConstants.{MAX_TICKS};
 ghost use Rattle.step_trace.specs.Processors.{IsWithin};
 ghost use Rattle.suffix_staircase.specs.Analysis.{AreLevels};
 ghost use Rattle.suffix_staircase.specs.Levels.{CanStandBefore, IsStaircase, begins, starts, AreStarts};
@@ -13,8 +13,8 @@ use std::alloc::{AllocError, Global};
 use std::marker::Model;
 use step_trace::{ProcSet, Trace};
 
-/// The level of each real-time step g of a trace, from 1 to its last. Neither bound rises with g, and
-/// a bound that stays keeps its witness.
+/// The level of each tick g of a trace, from 1 to its last. Neither bound rises with g, and a bound that
+/// stays keeps its witness.
 ///
 /// It keeps one record for each stretch of levels of equal bounds.
 #[derive(Debug, Drop)]
@@ -36,33 +36,31 @@ impl Model for Stairs {
 }
 
 impl Stairs {
-    /// The level of each step of a trace, where the members of a set count as correct: the least
-    /// bounds of section 2 of the 1988 paper from that step on, and their named witnesses.
+    /// The level of each tick of a trace, where the members of a set count as correct: the least bounds
+    /// of section 2 of the 1988 paper from that tick on, and their named witnesses.
     ///
-    /// One pass from the last step to the first, in time that grows with the steps, the ids in them
-    /// and, for some steps, the processors. Fails only for want of memory.
+    /// One pass from the last tick to the first, in time that grows with the ticks, the steps, the ids in
+    /// them and, for some steps, the processors. Fails only for want of memory.
     pub fn of_trace(alloc: Global, trace: &Trace, set: ProcSet) -> Result<Stairs, AllocError>
         requires { IsWithin set trace.now.config.n }
-        ensures { IfOk result (λ stairs. AreLevels set trace.now.steps stairs) }
+        ensures { IfOk result (λ stairs. AreLevels set trace.now stairs) }
     {
         let mut pass = Pass::after_all(alloc, trace, set)?;
         let mut builder = StairBuilder::new(alloc);
-        for no in (1..trace.len() as u64 + 1).rev() {
-            builder.lower(pass.step_back(trace, set, no))?;
-        }
+        pass.all_back(trace, &mut builder)?;
         Ok(builder.build())
     }
 
-    /// The number of its levels, and so of the trace's steps.
+    /// The number of its levels, and so of the trace's ticks.
     pub fn len(&self) -> usize
         ensures value { result ≡ length self.now }
-        ensures limit { result ≤ MAX_STEPS }
+        ensures limit { result ≤ MAX_TICKS }
         ensures falling { IsStaircase self.now }
     {
         height(&self.stretches) as usize
     }
 
-    /// The level of step `g`.
+    /// The level of tick `g`.
     pub fn at(&self, g: u64) -> Level
         requires low { 1 ≤ g }
         requires high { g ≤ length self.now }
@@ -71,8 +69,8 @@ impl Stairs {
         level_at(&self.stretches, g)
     }
 
-    /// The start of number `i`, counted from 0 in rising order. A start is a step that is 1, or one
-    /// whose level has another bound than the step before. Takes no memory.
+    /// The start of number `i`, counted from 0 in rising order. A start is a tick that is 1, or one
+    /// whose level has another bound than the tick before. Takes no memory.
     pub fn start(&self, i: usize) -> Option<u64>
         ensures value { result ≡ slice_get (starts self.now) i }
         ensures starts { AreStarts self.now (starts self.now) }
@@ -112,7 +110,7 @@ impl StairBuilder {
     /// the level that stands first, and a bound equal to it has the same witness. Takes memory only
     /// where one of the bounds is another than that of the level that stands first.
     pub fn lower(&mut self, level: Level) -> Result<(), AllocError>
-        requires room { length self.old < MAX_STEPS }
+        requires room { length self.old < MAX_TICKS }
         requires falling { CanStandBefore level self.old }
         ensures ok { OnOk result (self.new ≡ level ∷ self.old) }
         ensures err { OnErr result (self.new ≡ self.old) }

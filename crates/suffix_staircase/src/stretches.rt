@@ -2,7 +2,7 @@
 //! level to the first.
 
 ghost use Rattle.std.specs.Prelude.{◌≡◌, ◌∷◌, [], ◌+◌, ◌-◌, ◌<◌, ◌≤◌, length, Some, slice_get, OnOk, OnErr, IsTrue};
-ghost use Rattle.step_trace.specs.declared.traces.TheConstants.{MAX_STEPS};
+ghost use Rattle.step_trace.specs.declared.traces.TheConstants.{MAX_TICKS};
 ghost use Rattle.suffix_staircase.specs.Levels.{CanStandBefore, begins, starts};
 ghost use Rattle.suffix_staircase.specs.Stretches.{levels_of, AreStretches};
 
@@ -61,7 +61,7 @@ pub(crate) fn start_of(stretches: &[Stretch], i: usize) -> Option<u64>
 
 /// Puts a level before the others.
 pub(crate) fn put_before(stretches: &mut Vec<Stretch>, level: Level) -> Result<(), AllocError>
-    requires room { length (levels_of stretches.old.items) < MAX_STEPS }
+    requires room { length (levels_of stretches.old.items) < MAX_TICKS }
     requires stretches { AreStretches stretches.old.items }
     requires falling { CanStandBefore level (levels_of stretches.old.items) }
     ensures ok { OnOk result (levels_of stretches.new.items ≡ level ∷ levels_of stretches.old.items) }

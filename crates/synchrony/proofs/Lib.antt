@@ -1,3 +1,5 @@
 pub mod CommandJobs
 pub mod ReportFaults
 pub mod CommandLines
+pub mod ValueLists
+pub mod RunRows

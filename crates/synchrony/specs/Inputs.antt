@@ -4,14 +4,14 @@ use Rattle.step_trace.specs.Traces.{Recorded}
 use Rattle.trace_text.specs.declared.byte_loops.TheConstants.{MAX_TEXT_BYTES}
 use Rattle.trace_text.specs.declared.refusals.TextError.TheVariants as why
 use Rattle.trace_text.specs.Faults.{Rose}
-use Rattle.trace_text.specs.TraceTexts.{IsTrace, StandsFor}
+use Rattle.trace_text.specs.TraceTexts.{IsTextTrace, StandsFor}
 use Rattle.trace_text.specs.TextRefusals.{IsFirstRefusal}
 use Rattle.synchrony.specs.declared.faults.Fault.{Fault}
 use Rattle.synchrony.specs.declared.faults.Fault.TheVariants as fault
 
 -- The text stands for this trace, and isn't too large.
 pub record IsTextOf (text : List ℕ) (t : Recorded) : Type 0 where
-  pub trace : IsTrace t
+  pub trace : IsTextTrace t
   pub stands : StandsFor text t
   pub size : length text ≤ MAX_TEXT_BYTES
 

@@ -18,7 +18,7 @@ pub record AreRowsOf (set : ℕ) (text : List ℕ) (rows : List Row) : Type 0 wh
   pub trace : Recorded
   pub read : IsTextOf text trace
   pub within : IsWithin set trace.config.n
-  pub exact : IsReport set trace.steps rows
+  pub exact : IsReport set trace rows
 
 -- The second text is the text of the report of what the first one stands for.
 pub record IsReportOf (set : ℕ) (text report : List ℕ) : Type 0 where

@@ -74,7 +74,7 @@ fn trace_within(alloc: Global, text: Vec<u8>, set: ProcSet) -> Result<Trace, Fau
 /// The report of a trace.
 fn rows_of(alloc: Global, trace: &Trace, set: ProcSet) -> Result<Report, AllocError>
     requires { IsWithin set trace.now.config.n }
-    ensures { IfOk result (λ r. IsReport set trace.now.steps r.rows) }
+    ensures { IfOk result (λ r. IsReport set trace.now r.rows) }
 {
     let stairs = Stairs::of_trace(alloc, trace, set)?;
     front(alloc, &stairs)

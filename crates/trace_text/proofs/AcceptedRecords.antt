@@ -1,5 +1,5 @@
 -- Records that are accepted are the records of the trace that they give.
-use Rattle.std.proofs.Common.{ℕ, zero, suc, ◌≡◌, ◌+◌, ◌*◌, ◌==◌, ◌∙◌, List, [], ◌∷◌, ◌++◌, length, drop, Option, Some, None, Ok, Bool, true, false, ◌&&◌, ◌||◌, cond, refl, sym, ap, arith, codes, decimal, append_assoc}
+use Rattle.std.proofs.Common.{ℕ, zero, suc, ◌≡◌, ◌≤◌, ◌+◌, ◌*◌, ◌==◌, ◌∙◌, List, [], ◌∷◌, ◌++◌, length, drop, Option, Some, None, Ok, Bool, true, false, ◌&&◌, ◌||◌, cond, refl, sym, ap, subst, arith, codes, decimal, append_assoc}
 use Rattle.std.specs.Prelude.{nat_lt, is_none}
 use Rattle.std.specs.Str.{bytes_eq}
 use Rattle.std.specs.Option.{option_map}
@@ -12,16 +12,17 @@ use Rattle.step_trace.specs.declared.steps.Step.{Step}
 use Rattle.step_trace.specs.Configurations.{Setup, IsSetup, config_refusal}
 use Rattle.step_trace.specs.declared.configurations.ConfigError.TheVariants.{BadSize, BadFaults, BadInit}
 use Rattle.step_trace.specs.declared.traces.PushError.{PushError}
-use Rattle.step_trace.specs.Traces.{Recorded, IsWellFormed}
-use Rattle.step_trace.specs.PushRefusals.{refusal}
-use Rattle.step_trace.proofs.Refusals.{Fits-from_none}
-use Rattle.step_trace.proofs.Growth.{IsWellFormed-push}
+use Rattle.step_trace.specs.Traces.{Recorded, step_at, IsWellFormed}
+use Rattle.step_trace.specs.Ticks.{tick_of, IsTimed, IsTrace, IsOnePerTick, with_step}
+use Rattle.step_trace.specs.TickRefusals.{refusal_in}
+use Rattle.step_trace.proofs.FittingTicks.{IsTrace-push}
+use Rattle.step_trace.proofs.TickReasons.{FitsIn-from_none, IsOnePerTick-push}
 use Rattle.trace_text.specs.declared.step_records.Operation.{Operation}
 use Rattle.trace_text.specs.declared.step_records.Operation.TheVariants as op
 use Rattle.trace_text.specs.declared.reading.Stage.{Stage}
 use Rattle.trace_text.specs.declared.reading.Stage.TheVariants.{Opening, Sized, Recording, Ended}
 use Rattle.trace_text.specs.declared.refusals.TextError.TheVariants as why
-use Rattle.trace_text.specs.TraceTexts.{header_record, init_record, op_text, arg_text, step_record, step_records, end_record, trace_records, IsTrace}
+use Rattle.trace_text.specs.TraceTexts.{header_record, init_record, op_text, arg_text, step_record, step_records, end_record, trace_records, IsTextTrace}
 use Rattle.trace_text.specs.Records.{field_of, number_of, after_records}
 use Rattle.trace_text.specs.TextRefusals.{numbers_of, ids_of, operation_of, act_of, is_size, header_stage, init_stage, step_of, pushed, step_stage, end_stage, next_stage, trace_at_end, trace_of_records}
 use Rattle.trace_text.proofs.Numbers.{number_of-some, same-from_bytes_eq}
@@ -32,8 +33,8 @@ use Rattle.trace_text.proofs.StageInversions.{passed, both, neither, read_part, 
 abbrev pub LeadsTo : List (List (List ℕ)) → Stage → Type 0
 LeadsTo records Opening = records ≡ []
 LeadsTo records (Sized n t) = records ≡ header_record n t ∷ []
-LeadsTo records (Recording t) = IsTrace t × (records ≡ header_record t.config.n t.config.t ∷ init_record t.config.init ∷ step_records 1 t.steps)
-LeadsTo records (Ended t) = IsTrace t × (records ≡ trace_records t)
+LeadsTo records (Recording t) = IsTextTrace t × IsOnePerTick t × (records ≡ header_record t.config.n t.config.t ∷ init_record t.config.init ∷ step_records 1 t.steps)
+LeadsTo records (Ended t) = IsTextTrace t × IsOnePerTick t × (records ≡ trace_records t)
 
 -- the header
 from_header : (fields : List (List ℕ)) (s : Stage) → header_stage fields ≡ Ok s → LeadsTo (fields ∷ []) s
@@ -78,6 +79,14 @@ none_is : {E : Type 0} (o : Option E) → is_none o ≡ true → o ≡ None
 none_is None h = refl
 none_is (Some e) h = cc h
 
+nothing : (k : ℕ) (x : Step) → step_at [] k ≡ Some x → ⊥
+nothing zero x h = cc h
+nothing (suc k) x h = cc h
+
+-- the trace of a configuration without steps
+abbrev no_steps : Setup → Recorded
+no_steps c = record { config = c; steps = []; ticks = []; last = 0 }
+
 IsWellFormed-none : (c : Setup) → IsWellFormed c []
 IsWellFormed-none c = record {
   short = omega arith;
@@ -86,10 +95,22 @@ IsWellFormed-none c = record {
   rising = λ k x h. absurd (nothing k x h);
   earlier = λ k s x h t. absurd (nothing k x h);
   once = λ m n s a b. absurd (nothing m a.0 a.1);
-} where
-  nothing : (k : ℕ) (x : Step) → Rattle.step_trace.specs.Traces.step_at [] k ≡ Some x → ⊥
-  nothing zero x h = cc h
-  nothing (suc k) x h = cc h
+}
+
+IsTimed-none : (c : Setup) → IsTimed (no_steps c)
+IsTimed-none c = record {
+  each = refl;
+  end = omega arith;
+  inside = λ k x h. absurd (nothing k x h);
+  order = λ j k a b l h g. absurd (nothing j a h);
+  later = λ k s t. absurd (nothing k t.0 t.1);
+}
+
+IsOnePerTick-none : (c : Setup) → IsOnePerTick (no_steps c)
+IsOnePerTick-none c = record { end = refl; each = λ k l. first k l } where
+  first : (k : ℕ) → k ≤ 0 → tick_of (no_steps c) k ≡ k
+  first zero l = refl
+  first (suc k) l = absurd (omega (arith, l))
 
 -- the initial values
 from_init : (records : List (List (List ℕ))) (n t : ℕ) (fields : List (List ℕ)) (s : Stage) → LeadsTo records (Sized n t) → init_stage n t fields ≡ Ok s → LeadsTo (records ++ fields ∷ []) s
@@ -98,12 +119,13 @@ from_init records n t fields s before h =
     let values = read_part (numbers_of (drop 1 fields)) why.BadInit _ s first.1 in
     let start = passed (is_none (config_refusal n t (length values.0))) _ _ s values.2 in
     let config : Setup = record { n = n; t = t; init = values.0 } in
-    let stage : Recording (record { config = config; steps = [] }) ≡ s = cc (start.1) in
+    let stage : Recording (no_steps config) ≡ s = cc (start.1) in
     let numbers = numbers_of-some (drop 1 fields) values.0 values.1 in
     let name = same-from_bytes_eq (field_of fields 0) (codes "init") first.0 in
     let whole : fields ≡ init_record values.0 = first_field fields 105 (codes "nit") name ∙ ap (λ r. codes "init" ∷ r) numbers.0 in
     rw (← stage) (
-      record { setup = IsSetup-from_none n t values.0 (none_is _ start.0); values = numbers.1; well_formed = IsWellFormed-none config },
+      record { setup = IsSetup-from_none n t values.0 (none_is _ start.0); values = numbers.1; well_formed = record { steps = IsWellFormed-none config; time = IsTimed-none config } },
+      IsOnePerTick-none config,
       append_one records (header_record n t ∷ []) fields (init_record values.0) before whole,
     )
 
@@ -152,10 +174,10 @@ from_fields at fields x h =
     rw (← step) ((number_of-some (field_of fields 1) p.0 p.1).0, from_operation (field_of fields 2) o.0 o.1 ∙ act.0, act.1)
 
 -- a step that the trace takes
-from_push : (t : Recorded) (x : Step) (s : Stage) (r : Option PushError) → refusal t.config t.steps x ≡ r → pushed t x r ≡ Ok s
-    → (refusal t.config t.steps x ≡ None) × (Recording (record { config = t.config; steps = t.steps ++ x ∷ [] }) ≡ s)
-from_push t x s None e h = (e, cc h)
-from_push t x s (Some f) e h = cc h
+from_push : (t : Recorded) (tick : ℕ) (x : Step) (s : Stage) (r : Option PushError) → refusal_in t tick x ≡ r → pushed t tick x r ≡ Ok s
+    → (refusal_in t tick x ≡ None) × (Recording (with_step t tick x) ≡ s)
+from_push t tick x s None e h = (e, cc h)
+from_push t tick x s (Some f) e h = cc h
 
 -- the records of the steps with one step more
 pub step_records-more : (at : ℕ) (xs : List Step) (x : Step) → step_records at (xs ++ x ∷ []) ≡ step_records at xs ++ step_record (at + length xs) x ∷ []
@@ -170,7 +192,7 @@ from_step records t fields s before h =
     let four = passed (length fields == 4) _ _ s h in
     let number = passed (bytes_eq (field_of fields 0) (decimal (length t.steps + 1))) _ _ s four.1 in
     let step = read_result (step_of (length t.steps + 1) fields) _ s number.1 in
-    let push = from_push t step.0 s (refusal t.config t.steps step.0) refl step.2 in
+    let push = from_push t (length t.steps + 1) step.0 s (refusal_in t (length t.steps + 1) step.0) refl step.2 in
     let parts = from_fields (length t.steps + 1) fields step.0 step.1 in
     let first = same-from_bytes_eq (field_of fields 0) (decimal (length t.steps + 1)) number.0 in
     let e : length t.steps + 1 ≡ 1 + length t.steps = omega arith in
@@ -178,8 +200,9 @@ from_step records t fields s before h =
     four_are fields (decimal (1 + length t.steps)) (decimal step.0.proc) (op_text step.0.act) (arg_text step.0.act) (eqb-true (length fields) 4 four.0) (first ∙ ap decimal e) parts.0 parts.1 parts.2 in
     let trace = before.0 in
     rw (← push.1) (
-      record { setup = trace.setup; values = trace.values; well_formed = IsWellFormed-push t.config t.steps step.0 trace.well_formed (Fits-from_none t.config t.steps step.0 push.0) },
-      append_one records _ fields (step_record (1 + length t.steps) step.0) before.1 whole
+      record { setup = trace.setup; values = trace.values; well_formed = IsTrace-push t (length t.steps + 1) step.0 trace.well_formed (FitsIn-from_none t (length t.steps + 1) step.0 trace.well_formed push.0) },
+      subst (λ n. IsOnePerTick (with_step t (n + 1) step.0)) before.1.end (IsOnePerTick-push t step.0 trace.well_formed before.1),
+      append_one records _ fields (step_record (1 + length t.steps) step.0) before.2 whole
           ∙ ap (λ r. header_record t.config.n t.config.t ∷ init_record t.config.init ∷ r) (sym (step_records-more 1 t.steps step.0)),
     )
 
@@ -191,7 +214,7 @@ from_end records t fields s before name h =
     let stage : Ended t ≡ s = cc (number.1) in
     let count = same-from_bytes_eq (field_of fields 1) (decimal (length t.steps)) number.0 in
     let whole = two_are fields (codes "end") (decimal (length t.steps)) (eqb-true (length fields) 2 two.0) name count in
-    rw (← stage) (before.0, append_one records _ fields (end_record (length t.steps)) before.1 whole)
+    rw (← stage) (before.0, before.1, append_one records _ fields (end_record t.last) before.2 (whole ∙ ap end_record (sym before.1.end)))
 
 -- one record more
 from_record : (records : List (List (List ℕ))) (a : Stage) (fields : List (List ℕ)) (s : Stage) → LeadsTo records a → next_stage a fields ≡ Ok s → LeadsTo (records ++ fields ∷ []) s
@@ -210,14 +233,14 @@ from_records records a (fields ∷ more) s before h =
     let next = read_result (next_stage a fields) _ s h in
     rw (← append_assoc records (fields ∷ []) more) (from_records (records ++ fields ∷ []) next.0 more s (from_record records a fields next.0 before next.1) next.2)
 
-at_end : (records : List (List (List ℕ))) (s : Stage) (t : Recorded) → LeadsTo records s → trace_at_end s ≡ Ok t → IsTrace t × (records ≡ trace_records t)
+at_end : (records : List (List (List ℕ))) (s : Stage) (t : Recorded) → LeadsTo records s → trace_at_end s ≡ Ok t → IsTextTrace t × IsOnePerTick t × (records ≡ trace_records t)
 at_end records Opening t before h = cc h
 at_end records (Sized n f) t before h = cc h
 at_end records (Recording u) t before h = cc h
 at_end records (Ended u) t before h = let same : u ≡ t = cc h in rw (← same) before
 
 -- records that give a trace are its records, and it is a trace
-pub accepted-records : (records : List (List (List ℕ))) (t : Recorded) → trace_of_records records ≡ Ok t → IsTrace t × (records ≡ trace_records t)
+pub accepted-records : (records : List (List (List ℕ))) (t : Recorded) → trace_of_records records ≡ Ok t → IsTextTrace t × IsOnePerTick t × (records ≡ trace_records t)
 accepted-records records t h =
     let s = read_result (after_records next_stage Opening records) _ t h in
     at_end records s.0 t (from_records [] Opening records s.0 refl s.1) s.2

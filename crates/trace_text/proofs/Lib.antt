@@ -1,5 +1,6 @@
 pub mod AcceptedRecords
 pub mod Bytes
+pub mod KeptRecords
 pub mod LineLengths
 pub mod LinesRead
 pub mod ListMembers

@@ -7,7 +7,7 @@ use Rattle.step_trace.specs.declared.traces.PushError.{PushError}
 use Rattle.step_trace.specs.declared.steps.Step.{Step}
 use Rattle.step_trace.specs.Configurations.{config_refusal}
 use Rattle.step_trace.specs.Traces.{Recorded}
-use Rattle.step_trace.specs.PushRefusals.{refusal}
+use Rattle.step_trace.specs.TickRefusals.{refusal_in}
 use Rattle.trace_text.specs.declared.reading.Stage.{Stage}
 use Rattle.trace_text.specs.declared.reading.Stage.TheVariants.{Opening, Sized, Recording, Ended}
 use Rattle.trace_text.specs.declared.refusals.TextError.{TextError}
@@ -68,15 +68,15 @@ of_fields at fields =
     part (operation_of (field_of fields 2)) (BadOp at) _ refl (λ o. part (number_of (field_of fields 1)) (BadNumber at) _ refl
     (λ p. part (act_of o (field_of fields 3)) (BadNumber at) _ refl (λ a. good _)))
 
-of_push : (t : Recorded) (x : Step) (o : Option PushError) → IsOfRecords (pushed t x o)
-of_push t x None = good _
-of_push t x (Some e) = bad (BadStep _ e) refl
+of_push : (t : Recorded) (tick : ℕ) (x : Step) (o : Option PushError) → IsOfRecords (pushed t tick x o)
+of_push t tick x None = good _
+of_push t tick x (Some e) = bad (BadStep _ e) refl
 
 of_step : (t : Recorded) (fields : List (List ℕ)) → IsOfRecords (step_stage t fields)
 of_step t fields =
     either (length fields == 4)
     (either (bytes_eq (field_of fields 0) (decimal (length t.steps + 1)))
-    (then (step_of (length t.steps + 1) fields) _ (of_fields (length t.steps + 1) fields) (λ x. of_push t x (refusal t.config t.steps x)))
+    (then (step_of (length t.steps + 1) fields) _ (of_fields (length t.steps + 1) fields) (λ x. of_push t (length t.steps + 1) x (refusal_in t (length t.steps + 1) x)))
     (bad (WrongNumber (length t.steps + 1)) refl))
     (bad (BadFields (length t.steps + 1)) refl)
 

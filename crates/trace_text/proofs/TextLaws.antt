@@ -7,7 +7,7 @@ use Rattle.trace_text.specs.declared.byte_loops.TheConstants.{MAX_TEXT_BYTES}
 use Rattle.trace_text.specs.declared.refusals.TextError.{TextError}
 use Rattle.trace_text.specs.declared.refusals.TextError.TheVariants as why
 use Rattle.trace_text.specs.Records.{records_of_text}
-use Rattle.trace_text.specs.TraceTexts.{StandsFor, IsTrace}
+use Rattle.trace_text.specs.TraceTexts.{StandsFor, IsTextTrace}
 use Rattle.trace_text.specs.TextRefusals.{Gives, IsFirstRefusal, trace_of_records, trace_of_text, is_memory}
 use Rattle.trace_text.proofs.AcceptedRecords.{accepted-records}
 use Rattle.trace_text.proofs.TableReasons.{is_of_records, never-answered}
@@ -15,16 +15,16 @@ use Rattle.trace_text.proofs.TraceRecords.{reads-trace}
 
 -- an accepted text stands for its trace
 pub gives-stands : (text : List ℕ) (r : Result Recorded TextError) → Gives r (trace_of_records (records_of_text text)) → IfOk r (λ t. StandsFor text t)
-gives-stands text (Ok t) h = (accepted-records (records_of_text text) t h).1
+gives-stands text (Ok t) h = let a = accepted-records (records_of_text text) t h in (a.1, a.2)
 gives-stands text (Err e) h = tt
 
-pub gives-sound : (text : List ℕ) (r : Result Recorded TextError) → Gives r (trace_of_records (records_of_text text)) → IfOk r (λ t. IsTrace t)
+pub gives-sound : (text : List ℕ) (r : Result Recorded TextError) → Gives r (trace_of_records (records_of_text text)) → IfOk r (λ t. IsTextTrace t)
 gives-sound text (Ok t) h = (accepted-records (records_of_text text) t h).0
 gives-sound text (Err e) h = tt
 
 -- what stands for a trace gives it
-stands-gives : (text : List ℕ) (t : Recorded) → IsTrace t → StandsFor text t → trace_of_records (records_of_text text) ≡ Ok t
-stands-gives text t h s = ap trace_of_records s ∙ reads-trace t h
+stands-gives : (text : List ℕ) (t : Recorded) → IsTextTrace t → StandsFor text t → trace_of_records (records_of_text text) ≡ Ok t
+stands-gives text t h s = ap trace_of_records s.1 ∙ reads-trace t h s.0
 
 only_memory : (e : TextError) (t : Recorded) (table : Result Recorded TextError) → table ≡ Ok t → MatchBool (is_memory e) ⊤ (table ≡ Err e) → e ≡ why.Memory
 only_memory why.Memory t table h k = refl
@@ -43,13 +43,13 @@ only_memory why.NoEnd t table h k = cc (h, k)
 only_memory why.WrongEnd t table h k = cc (h, k)
 only_memory why.AfterEnd t table h k = cc (h, k)
 
-pub gives-complete : (text : List ℕ) (r : Result Recorded TextError) (t : Recorded) → Gives r (trace_of_records (records_of_text text)) → IsTrace t → StandsFor text t
+pub gives-complete : (text : List ℕ) (r : Result Recorded TextError) (t : Recorded) → Gives r (trace_of_records (records_of_text text)) → IsTextTrace t → StandsFor text t
     → MatchResult r (λ u. u ≡ t) (λ e. e ≡ why.Memory)
 gives-complete text (Ok u) t h i s = let k = stands-gives text t i s in cc
 gives-complete text (Err e) t h i s = only_memory e t (trace_of_records (records_of_text text)) (stands-gives text t i s) h
 
 -- a text stands for at most one trace
-pub stands-one : (text : List ℕ) (t u : Recorded) → IsTrace t → IsTrace u → StandsFor text t → StandsFor text u → t ≡ u
+pub stands-one : (text : List ℕ) (t u : Recorded) → IsTextTrace t → IsTextTrace u → StandsFor text t → StandsFor text u → t ≡ u
 stands-one text t u h k s r = let a = stands-gives text t h s in let b = stands-gives text u k r in cc
 
 first-refusal : (m : Bool) (P Q R : Type 0) → R → (P → Q) → MatchBool m ⊤ P → MatchBool m R Q

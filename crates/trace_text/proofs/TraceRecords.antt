@@ -1,12 +1,11 @@
 -- The records of a trace give that trace.
-use Rattle.std.proofs.Common.{ℕ, ◌≡◌, ◌+◌, ◌*◌, ◌<◌, ◌≤◌, ◌^◌, ◌∙◌, List, [], ◌∷◌, ◌++◌, length, Option, Some, None, Ok, true, false, refl, ap, arith, codes, decimal, append_assoc, eq-eqb}
+use Rattle.std.proofs.Common.{ℕ, ◌≡◌, ◌+◌, ◌*◌, ◌<◌, ◌≤◌, ◌^◌, ◌∙◌, List, [], ◌∷◌, ◌++◌, length, Option, Some, None, Ok, true, false, refl, sym, ap, subst, arith, suc, length-append, codes, decimal, append_assoc, eq-eqb}
 use Rattle.std.specs.Prelude.{All, Contains, IfSome, nat_lt, nat_le}
 use Rattle.std.specs.Str.{bytes_eq}
 use Rattle.std.specs.Char.{digit_value}
 use Rattle.std.specs.Str.Parse.{AllDigits}
 use Rattle.std.proofs.lemmas.Bool.Decides.{nat_tests}
 use Rattle.std.proofs.lemmas.Fmt.{digits_decimal}
-use Rattle.std.proofs.lemmas.Grind.{common_steps}
 use Rattle.std.proofs.lemmas.List.{append-nil}
 use Rattle.std.proofs.lemmas.List.Elements.{All-weaker, All-contains_itself}
 use Rattle.csv.specs.Records.{field_at}
@@ -15,18 +14,20 @@ use Rattle.step_trace.specs.declared.steps.Act.TheVariants.{Send, Receive}
 use Rattle.step_trace.specs.declared.steps.Step.{Step}
 use Rattle.step_trace.specs.Configurations.{Setup, IsSetup, IsProc, config_refusal}
 use Rattle.step_trace.specs.Steps.{act_dest, act_ids}
-use Rattle.step_trace.specs.Traces.{Recorded, IsWellFormed}
+use Rattle.step_trace.specs.Traces.{Recorded}
+use Rattle.step_trace.specs.Ticks.{tick_at, IsTrace, IsOnePerTick, CanAppend, with_step}
 use Rattle.step_trace.proofs.StepPositions.{step_at_within}
-use Rattle.step_trace.proofs.FittingSteps.{Fits-from_well_formed, none_from_Fits}
+use Rattle.step_trace.proofs.FittingTicks.{FitsIn-from_append}
+use Rattle.step_trace.proofs.TickReasons.{none_from_FitsIn}
 use Rattle.trace_text.specs.declared.reading.Stage.TheVariants.{Opening, Sized, Recording, Ended}
 use Rattle.trace_text.specs.declared.step_records.Operation.{Operation}
 use Rattle.trace_text.specs.declared.step_records.Operation.TheVariants as op
-use Rattle.trace_text.specs.TraceTexts.{header_record, init_record, op_text, arg_text, step_record, step_records, end_record, trace_records, IsTrace}
+use Rattle.trace_text.specs.TraceTexts.{header_record, init_record, op_text, arg_text, step_record, step_records, end_record, trace_records, IsTextTrace}
 use Rattle.trace_text.specs.Records.{after_records, ◌>>=◌}
 use Rattle.trace_text.specs.TextRefusals.{operation_of, act_of, step_of, next_stage, trace_of_records}
 use Rattle.trace_text.proofs.Numbers.{own, number_of-decimal, bytes_eq-same, bytes_eq-other}
 use Rattle.trace_text.proofs.NumberLists.{numbers_of-decimals, ids_of-joined}
-use Rattle.trace_text.proofs.Prefixes.{IsWellFormed-front}
+use Rattle.trace_text.proofs.Prefixes.{so_far, IsTrace-front, CanAppend-next, with_next, place-value}
 
 test_lt : (n m : ℕ) → n < m → nat_lt n m ≡ true
 test_lt n m h = grind (arith, nat_tests)
@@ -56,7 +57,7 @@ none_from_IsSetup c s =
     rw (test_not_lt c.n 2 least, test_not_lt 16 c.n most, test_not_lt c.n (2 * c.t + 1) faults, eq-eqb (length c.init) c.n s.values) refl
 
 -- the initial values are read
-reads-init : (c : Setup) → IsSetup c → All (λ v. v < 2 ^ 64) c.init → next_stage (Sized c.n c.t) (init_record c.init) ≡ Ok (Recording (record { config = c; steps = [] }))
+reads-init : (c : Setup) → IsSetup c → All (λ v. v < 2 ^ 64) c.init → next_stage (Sized c.n c.t) (init_record c.init) ≡ Ok (Recording (so_far c [] []))
 unfolding field_at
 reads-init c s h = rw (numbers_of-decimals c.init h, none_from_IsSetup c s) refl
 
@@ -79,39 +80,54 @@ dest_small : (c : Setup) (o : Option ℕ) → c.n ≤ 16 → IfSome o (IsProc c)
 dest_small c None h d = tt
 dest_small c (Some p) h d = let high = d.1 in omega (arith, high, h)
 
--- a step that fits is read
-reads-step : (t : Recorded) (x : Step) → IsSetup t.config → IsWellFormed t.config (t.steps ++ x ∷ [])
-    → next_stage (Recording t) (step_record (length t.steps + 1) x) ≡ Ok (Recording (record { config = t.config; steps = t.steps ++ x ∷ [] }))
+-- a step that may be appended is read
+reads-step : (t : Recorded) (x : Step) → IsSetup t.config → IsTrace t → CanAppend t (length t.steps + 1) x
+    → next_stage (Recording t) (step_record (length t.steps + 1) x) ≡ Ok (Recording (with_step t (length t.steps + 1) x))
 unfolding field_at
-reads-step t x s w =
-    let f = Fits-from_well_formed t.config t.steps x w in
+reads-step t x s w a =
+    let f = FitsIn-from_append t (length t.steps + 1) x w a in
     let most = s.most in
-    let room = f.room in
-    let high = f.proc.1 in
+    let room = f.fits.room in
+    let high = f.fits.proc.1 in
     let at : length t.steps + 1 < 2 ^ 64 = omega (arith, room) in
     let proc : x.proc < 2 ^ 64 = omega (arith, most, high) in
-    let ids = All-weaker (Contains (act_ids x.act)) (λ n. n < 2 ^ 64) (λ n d. let within = step_at_within t.steps n _ (f.sent n d).1 in let l = within.1 in omega (arith, l, room)) (act_ids x.act) (All-contains_itself (act_ids x.act)) in
-    let fields = reads-fields (length t.steps + 1) x proc (dest_small t.config (act_dest x.act) most f.dest) ids in
-    rw (not_end (length t.steps + 1) at, bytes_eq-same (decimal (length t.steps + 1)) (decimal (length t.steps + 1)) refl, fields, none_from_Fits t.config t.steps x f) refl
+    let ids = All-weaker (Contains (act_ids x.act)) (λ n. n < 2 ^ 64) (λ n d. let within = step_at_within t.steps n _ (f.fits.sent n d).1 in let l = within.1 in omega (arith, l, room)) (act_ids x.act) (All-contains_itself (act_ids x.act)) in
+    let fields = reads-fields (length t.steps + 1) x proc (dest_small t.config (act_dest x.act) most f.fits.dest) ids in
+    rw (not_end (length t.steps + 1) at, bytes_eq-same (decimal (length t.steps + 1)) (decimal (length t.steps + 1)) refl, fields, none_from_FitsIn t (length t.steps + 1) x f) refl
 
 -- the end is read
-reads-end : (t : Recorded) → next_stage (Recording t) (end_record (length t.steps)) ≡ Ok (Ended t)
+reads-end : (t : Recorded) → IsOnePerTick t → next_stage (Recording t) (end_record t.last) ≡ Ok (Ended t)
 unfolding field_at
-reads-end t = rw (bytes_eq-same (decimal (length t.steps)) (decimal (length t.steps)) refl) refl
+reads-end t one = rw (one.end, bytes_eq-same (decimal (length t.steps)) (decimal (length t.steps)) refl) refl
 
 -- the steps are read
-reads-steps : (c : Setup) (done xs : List Step) (rest : List (List (List ℕ))) → IsSetup c → IsWellFormed c (done ++ xs)
-    → after_records next_stage (Recording (record { config = c; steps = done })) (step_records (length done + 1) xs ++ rest) ≡ after_records next_stage (Recording (record { config = c; steps = done ++ xs })) rest
-reads-steps c done [] rest s w = rw (append-nil done) refl
-reads-steps c done (x ∷ xs) rest s w =
-    let whole : IsWellFormed c ((done ++ x ∷ []) ++ xs) = rw (append_assoc done (x ∷ []) xs) w in
-    let one = reads-step (record { config = c; steps = done }) x s (IsWellFormed-front c (done ++ x ∷ []) xs whole) in
-    let at : length (done ++ x ∷ []) + 1 ≡ length done + 1 + 1 = grind (arith, common_steps) in
-    let more = rw (at, append_assoc done (x ∷ []) xs) at (reads-steps c (done ++ x ∷ []) xs rest s whole) in
-    ap (λ r. r >>= λ next. after_records next_stage next (step_records (length done + 1 + 1) xs ++ rest)) one ∙ more
+reads-steps : (c : Setup) (done xs : List Step) (before ts : List ℕ) (rest : List (List (List ℕ))) → IsSetup c → length before ≡ length done → IsTrace (so_far c (done ++ xs) (before ++ ts))
+    → ((k : ℕ) → k ≤ length (done ++ xs) → tick_at (before ++ ts) k ≡ k)
+    → after_records next_stage (Recording (so_far c done before)) (step_records (length done + 1) xs ++ rest) ≡ after_records next_stage (Recording (so_far c (done ++ xs) (before ++ ts))) rest
+reads-steps c done [] before [] rest s long w one = rw (append-nil done, append-nil before) refl
+reads-steps c done [] before (t ∷ ts) rest s long w one = absurd (let each = w.time.each in let a = length-append done [] in let b = length-append before (t ∷ ts) in omega (arith, each, a, b, long))
+reads-steps c done (x ∷ xs) before [] rest s long w one = absurd (let each = w.time.each in let a = length-append done (x ∷ xs) in let b = length-append before [] in omega (arith, each, a, b, long))
+reads-steps c done (x ∷ xs) before (t ∷ ts) rest s long w one =
+    let more = append_assoc done (x ∷ []) xs in
+    let later = append_assoc before (t ∷ []) ts in
+    let count : length (done ++ x ∷ []) ≡ length done + 1 = length-append done (x ∷ []) in
+    let grown : length (before ++ t ∷ []) ≡ length (done ++ x ∷ []) = let b = length-append before (t ∷ []) in omega (arith, b, count, long) in
+    let whole : IsTrace (so_far c ((done ++ x ∷ []) ++ xs) ((before ++ t ∷ []) ++ ts)) = rw (more, later) w in
+    let number : t ≡ length done + 1 = place-value before t ts ∙ one (suc (length before)) (let a = length-append done (x ∷ xs) in omega (arith, a, long)) ∙ (let e : suc (length before) ≡ length done + 1 = omega (arith, long) in e) in
+    let next = CanAppend-next c done before x t long (IsTrace-front c (done ++ x ∷ []) xs (before ++ t ∷ []) ts _ grown whole) in
+    let step = reads-step (so_far c done before) x s (IsTrace-front c done (x ∷ xs) before (t ∷ ts) _ long w) (subst (λ n. CanAppend (so_far c done before) n x) number next) in
+    let same : with_step (so_far c done before) (length done + 1) x ≡ so_far c (done ++ x ∷ []) (before ++ t ∷ []) = ap (λ n. with_step (so_far c done before) n x) (sym number) ∙ with_next c done before x t long in
+    let at : length (done ++ x ∷ []) + 1 ≡ length done + 1 + 1 = ap (λ n. n + 1) count in
+    let tail = rw (at, more, later) at (reads-steps c (done ++ x ∷ []) xs (before ++ t ∷ []) ts rest s grown whole (rw (more, later) one)) in
+    ap (λ r. r >>= λ next. after_records next_stage next (step_records (length done + 1 + 1) xs ++ rest)) (step ∙ ap (λ z. Ok (Recording z)) same) ∙ tail
+
+-- with one step in each tick, a trace ends in the tick of its last step
+ends-with_step : (t : Recorded) → IsOnePerTick t → so_far t.config t.steps t.ticks ≡ t
+ends-with_step t one = ap (λ n. record { config = t.config; steps = t.steps; ticks = t.ticks; last = n }) (one.each (length t.steps) (omega arith) ∙ sym one.end)
 
 -- the records of a trace give it
-pub reads-trace : (t : Recorded) → IsTrace t → trace_of_records (trace_records t) ≡ Ok t
-reads-trace t h =
-    let steps = reads-steps t.config [] t.steps (end_record (length t.steps) ∷ []) h.setup h.well_formed in
-    rw (reads-header t.config h.setup, reads-init t.config h.setup h.values, steps, reads-end t) refl
+pub reads-trace : (t : Recorded) → IsTextTrace t → IsOnePerTick t → trace_of_records (trace_records t) ≡ Ok t
+reads-trace t h one =
+    let same = ends-with_step t one in
+    let steps = reads-steps t.config [] t.steps [] t.ticks (end_record t.last ∷ []) h.setup refl (subst (λ (z : Recorded). IsTrace z) (sym same) h.well_formed) one.each in
+    rw (reads-header t.config h.setup, reads-init t.config h.setup h.values, steps, same, reads-end t one) refl

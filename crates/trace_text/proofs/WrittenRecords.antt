@@ -88,13 +88,13 @@ ArePlain-decimals [] small = tt
 ArePlain-decimals (n ∷ ns) small = (IsPlain-decimal n (All-head (λ k. k < 2 ^ 64) n ns small), ArePlain-decimals ns (All-tail (λ k. k < 2 ^ 64) n ns small))
 
 -- the parts of a trace's text
-pub trace_text-parts : (t : Recorded) → (((record_line (header_record t.config.n t.config.t) ++ record_line (init_record t.config.init)) ++ text_of_records (step_records 1 t.steps)) ++ record_line (end_record (length t.steps))) ≡ trace_text t
+pub trace_text-parts : (t : Recorded) → (((record_line (header_record t.config.n t.config.t) ++ record_line (init_record t.config.init)) ++ text_of_records (step_records 1 t.steps)) ++ record_line (end_record t.last)) ≡ trace_text t
 trace_text-parts t =
     let header = record_line (header_record t.config.n t.config.t) in
     let init = record_line (init_record t.config.init) in
     let steps = text_of_records (step_records 1 t.steps) in
-    let end = record_line (end_record (length t.steps)) in
-    rw (text_of_records-more (step_records 1 t.steps) (end_record (length t.steps)))
+    let end = record_line (end_record t.last) in
+    rw (text_of_records-more (step_records 1 t.steps) (end_record t.last))
     (append_assoc (header ++ init) steps end ∙ append_assoc header init (steps ++ end))
 
 -- numbers of 64 bits, one by one

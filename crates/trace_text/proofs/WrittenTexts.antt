@@ -10,11 +10,12 @@ use Rattle.step_trace.specs.declared.steps.Step.{Step}
 use Rattle.step_trace.specs.Configurations.{Setup, IsSetup, IsProc}
 use Rattle.step_trace.specs.Steps.{act_dest, act_ids}
 use Rattle.step_trace.specs.Traces.{Recorded, step_at, IsWellFormed}
+use Rattle.step_trace.specs.Ticks.{IsOnePerTick}
 use Rattle.step_trace.proofs.StepPositions.{step_at_within}
 use Rattle.trace_text.specs.declared.byte_loops.TheConstants.{MAX_TEXT_BYTES}
 use Rattle.trace_text.specs.Records.{record_line, text_of_records}
 use Rattle.trace_text.specs.RecordWriting.{IsPlain}
-use Rattle.trace_text.specs.TraceTexts.{IsTrace, StandsFor, header_record, init_record, step_record, step_records, end_record, op_text, arg_text, trace_records, trace_text}
+use Rattle.trace_text.specs.TraceTexts.{IsTextTrace, StandsFor, header_record, init_record, step_record, step_records, end_record, op_text, arg_text, trace_records, trace_text}
 use Rattle.trace_text.proofs.LineLengths.{bytes_of-decimals, length-ids, length-line, short-decimal}
 use Rattle.trace_text.proofs.LinesRead.{AreLines, AreLines-append, lines-read}
 use Rattle.trace_text.proofs.PlainFields.{IsPlain-decimal}
@@ -75,29 +76,31 @@ lines-steps at (x ∷ xs) room short =
     )
 
 -- all steps of a trace are short
-short-trace : (t : Recorded) → IsTrace t → AreShort t.steps
-short-trace t h = short-steps t.steps (λ k x e. short-step t.config t.steps (suc k) x h.setup h.well_formed e)
+short-trace : (t : Recorded) → IsTextTrace t → AreShort t.steps
+short-trace t h = short-steps t.steps (λ k x e. short-step t.config t.steps (suc k) x h.setup h.well_formed.steps e)
 
-lines-trace : (t : Recorded) → IsTrace t → AreLines (trace_records t)
+lines-trace : (t : Recorded) → IsTextTrace t → AreLines (trace_records t)
 lines-trace t h =
     let setup = h.setup in
     let least = setup.least in
     let most = setup.most in
     let faults = setup.faults in
     let values = setup.values in
-    let limit = h.well_formed in
+    let limit = h.well_formed.steps in
     let short = limit.short in
+    let time = h.well_formed.time in
+    let last = time.end in
     let count = length-map t.config.init decimal in
     let n : t.config.n < 2 ^ 64 = omega (arith, most) in
     let f : t.config.t < 2 ^ 64 = omega (arith, most, faults) in
     let steps = lines-steps 1 t.steps (omega (arith, short)) (short-trace t h) in
-    let end : AreLines (end_record (length t.steps) ∷ []) = (omega arith, (refl, (IsPlain-decimal (length t.steps) (omega (arith, short)), tt)), tt) in (
+    let end : AreLines (end_record t.last ∷ []) = (omega arith, (refl, (IsPlain-decimal t.last (omega (arith, last)), tt)), tt) in (
       omega arith,
       (refl, (refl, (IsPlain-decimal t.config.n n, (IsPlain-decimal t.config.t f, tt)))),
       (
         omega (arith, least, values, count),
         (refl, ArePlain-decimals t.config.init h.values),
-        AreLines-append (step_records 1 t.steps) (end_record (length t.steps) ∷ []) steps end,
+        AreLines-append (step_records 1 t.steps) (end_record t.last ∷ []) steps end,
       ),
     )
 
@@ -106,8 +109,8 @@ unfolding strip_bom
 no-mark t = refl
 
 -- the text of a trace stands for it
-pub StandsFor-trace_text : (t : Recorded) → IsTrace t → StandsFor (trace_text t) t
-StandsFor-trace_text t h = lines-read (trace_records t) (lines-trace t h) (no-mark t)
+pub StandsFor-trace_text : (t : Recorded) → IsTextTrace t → IsOnePerTick t → StandsFor (trace_text t) t
+StandsFor-trace_text t h one = (one, lines-read (trace_records t) (lines-trace t h) (no-mark t))
 
 -- a step's line
 length-arg : (a : Act) → IfSome (act_dest a) (λ p. p < 10 ^ 7) → All (λ s. s < 10 ^ 7) (act_ids a) → length (arg_text a) ≤ 7 + 8 * length (act_ids a)
@@ -138,14 +141,16 @@ length-steps at (x ∷ xs) room short =
     rw (length-append (record_line (step_record at x)) (text_of_records (step_records (at + 1) xs))) (omega (arith, line, more, ids))
 
 -- the text of a trace is shorter than 64 MiB
-pub short-trace_text : (t : Recorded) → IsTrace t → length (trace_text t) < MAX_TEXT_BYTES
+pub short-trace_text : (t : Recorded) → IsTextTrace t → length (trace_text t) < MAX_TEXT_BYTES
 short-trace_text t h =
     let setup = h.setup in
     let most = setup.most in
     let faults = setup.faults in
     let values = setup.values in
-    let well = h.well_formed in
+    let well = h.well_formed.steps in
     let short = well.short in
+    let time = h.well_formed.time in
+    let high = time.end in
     let count = length-map t.config.init decimal in
     let n = short-decimal t.config.n (omega (arith, most)) in
     let f = short-decimal t.config.t (omega (arith, most, faults)) in
@@ -154,10 +159,10 @@ short-trace_text t h =
     let numbers = bytes_of-decimals t.config.init h.values in
     let steps = length-steps 1 t.steps (omega (arith, short)) (short-trace t h) in
     let ids = length-taken_ids t.config t.steps well in
-    let last = short-decimal (length t.steps) (omega (arith, short)) in
-    let end = length-line (end_record (length t.steps)) in
-    let whole = length-append (record_line (header_record t.config.n t.config.t)) (record_line (init_record t.config.init) ++ text_of_records (step_records 1 t.steps ++ end_record (length t.steps) ∷ [])) in
-    let rest = length-append (record_line (init_record t.config.init)) (text_of_records (step_records 1 t.steps ++ end_record (length t.steps) ∷ [])) in
-    let parts : length (text_of_records (step_records 1 t.steps ++ end_record (length t.steps) ∷ [])) ≡ length (text_of_records (step_records 1 t.steps)) + length (record_line (end_record (length t.steps))) =
-    rw (text_of_records-more (step_records 1 t.steps) (end_record (length t.steps))) (length-append (text_of_records (step_records 1 t.steps)) (record_line (end_record (length t.steps)))) in
+    let last = short-decimal t.last (omega (arith, high)) in
+    let end = length-line (end_record t.last) in
+    let whole = length-append (record_line (header_record t.config.n t.config.t)) (record_line (init_record t.config.init) ++ text_of_records (step_records 1 t.steps ++ end_record t.last ∷ [])) in
+    let rest = length-append (record_line (init_record t.config.init)) (text_of_records (step_records 1 t.steps ++ end_record t.last ∷ [])) in
+    let parts : length (text_of_records (step_records 1 t.steps ++ end_record t.last ∷ [])) ≡ length (text_of_records (step_records 1 t.steps)) + length (record_line (end_record t.last)) =
+    rw (text_of_records-more (step_records 1 t.steps) (end_record t.last)) (length-append (text_of_records (step_records 1 t.steps)) (record_line (end_record t.last))) in
     omega (arith, whole, rest, parts, header, init, steps, end, numbers, count, n, f, last, ids, short, most, values)

@@ -1,5 +1,5 @@
 -- The first refusal of a trace text, record by record.
-use Rattle.std.specs.Prelude.{ℕ, ◌≡◌, ◌+◌, ◌*◌, ◌^◌, ◌≤◌, List, [], ◌∷◌, ◌++◌, length, drop, Option, Some, None, Result, Ok, Err, Bool, true, false, ◌&&◌, ◌||◌, ◌==◌, nat_le, if◌then◌else◌, codes, decimal, option_map, MatchBool, ⊤, is_none, is_some, is_ok}
+use Rattle.std.specs.Prelude.{ℕ, ◌≡◌, ◌+◌, ◌*◌, ◌^◌, ◌≤◌, List, [], ◌∷◌, length, drop, Option, Some, None, Result, Ok, Err, Bool, true, false, ◌&&◌, ◌||◌, ◌==◌, nat_le, if◌then◌else◌, codes, decimal, option_map, MatchBool, ⊤, is_none, is_some, is_ok}
 use Rattle.std.specs.Str.{bytes_eq}
 use Rattle.std.specs.List.{slice_split}
 use Rattle.std.specs.Option.{option_and_then, ok_or}
@@ -10,7 +10,8 @@ use Rattle.step_trace.specs.declared.traces.PushError.{PushError}
 use Rattle.step_trace.specs.declared.configurations.TheConstants.{MIN_PROCESSORS, MAX_PROCESSORS}
 use Rattle.step_trace.specs.Configurations.{config_refusal}
 use Rattle.step_trace.specs.Traces.{Recorded}
-use Rattle.step_trace.specs.PushRefusals.{refusal}
+use Rattle.step_trace.specs.Ticks.{with_step}
+use Rattle.step_trace.specs.TickRefusals.{refusal_in}
 use Rattle.trace_text.specs.declared.byte_loops.TheConstants.{MAX_TEXT_BYTES}
 use Rattle.trace_text.specs.declared.step_records.Operation.{Operation}
 use Rattle.trace_text.specs.declared.step_records.Operation.TheVariants as op
@@ -72,7 +73,7 @@ header_stage fields =
 -- as many initial values as processors (N and t are within their limits by then)
 abbrev pub started : ℕ → ℕ → List ℕ → Result Stage TextError
 started n t values =
-    if is_none (config_refusal n t (length values)) then Ok (Recording (record { config = record { n = n; t = t; init = values }; steps = [] }))
+    if is_none (config_refusal n t (length values)) then Ok (Recording (record { config = record { n = n; t = t; init = values }; steps = []; ticks = []; last = 0 }))
     else Err BadInit
 
 abbrev pub values_stage : ℕ → ℕ → List (List ℕ) → Result Stage TextError
@@ -88,13 +89,14 @@ step_of at fields =
     ok_or (operation_of (field_of fields 2)) (BadOp at) >>= λ o. ok_or (number_of (field_of fields 1)) (BadNumber at)
     >>= λ p. ok_or (act_of o (field_of fields 3)) (BadNumber at) >>= λ a. Ok (record { proc = p; act = a })
 
--- one more step, where the trace doesn't refuse it
-abbrev pub pushed : Recorded → Step → Option PushError → Result Stage TextError
-pushed t x None = Ok (Recording (record { config = t.config; steps = t.steps ++ x ∷ [] }))
-pushed t x (Some why) = Err (BadStep (length t.steps + 1) why)
+-- one more step in this tick, where the trace doesn't refuse it
+abbrev pub pushed : Recorded → ℕ → Step → Option PushError → Result Stage TextError
+pushed t tick x None = Ok (Recording (with_step t tick x))
+pushed t tick x (Some why) = Err (BadStep (length t.steps + 1) why)
 
+-- a step, whose number is its tick
 abbrev pub push_stage : Recorded → List (List ℕ) → Result Stage TextError
-push_stage t fields = step_of (length t.steps + 1) fields >>= λ x. pushed t x (refusal t.config t.steps x)
+push_stage t fields = step_of (length t.steps + 1) fields >>= λ x. pushed t (length t.steps + 1) x (refusal_in t (length t.steps + 1) x)
 
 -- a step: four fields, its number, and what the trace takes
 abbrev pub step_stage : Recorded → List (List ℕ) → Result Stage TextError

@@ -1,11 +1,12 @@
 -- Trace text, version 1: the records of a trace, and the texts that stand for it.
-use Rattle.std.specs.Prelude.{ℕ, ◌≡◌, ◌+◌, ◌<◌, ◌^◌, List, [], ◌∷◌, ◌++◌, length, map, All, true, false, codes, decimal}
+use Rattle.std.specs.Prelude.{ℕ, ◌≡◌, ◌+◌, ◌<◌, ◌^◌, List, [], ◌∷◌, ◌++◌, map, All, true, false, codes, decimal}
 use Rattle.std.specs.List.{join_with_byte}
 use Rattle.step_trace.specs.declared.steps.Act.{Act}
 use Rattle.step_trace.specs.declared.steps.Act.TheVariants.{Send, Receive}
 use Rattle.step_trace.specs.declared.steps.Step.{Step}
 use Rattle.step_trace.specs.Configurations.{IsSetup}
-use Rattle.step_trace.specs.Traces.{Recorded, IsWellFormed}
+use Rattle.step_trace.specs.Traces.{Recorded}
+use Rattle.step_trace.specs.Ticks.{IsTrace, IsOnePerTick}
 use Rattle.trace_text.specs.Records.{records_of_text, text_of_records}
 
 -- dls-trace,1,N,t
@@ -36,24 +37,24 @@ abbrev pub step_records : ℕ → List Step → List (List (List ℕ))
 step_records at [] = []
 step_records at (x ∷ xs) = step_record at x ∷ step_records (at + 1) xs
 
--- end,L
+-- end,L, where L is the last tick
 abbrev pub end_record : ℕ → List (List ℕ)
-end_record steps = codes "end" ∷ decimal steps ∷ []
+end_record last = codes "end" ∷ decimal last ∷ []
 
 -- the records of a trace
 abbrev pub trace_records : Recorded → List (List (List ℕ))
-trace_records t = header_record t.config.n t.config.t ∷ init_record t.config.init ∷ step_records 1 t.steps ++ end_record (length t.steps) ∷ []
+trace_records t = header_record t.config.n t.config.t ∷ init_record t.config.init ∷ step_records 1 t.steps ++ end_record t.last ∷ []
 
 -- the text of a trace, as it is written
 abbrev pub trace_text : Recorded → List ℕ
 trace_text t = text_of_records (trace_records t)
 
--- a text stands for the trace whose records csv reads from it
+-- a text stands for the trace whose records csv reads from it: with one step in each tick
 abbrev pub StandsFor : List ℕ → Recorded → Type 0
-StandsFor text t = records_of_text text ≡ trace_records t
+StandsFor text t = IsOnePerTick t × (records_of_text text ≡ trace_records t)
 
 -- a trace as texts have it: within its limits, with initial values of 64 bits, and well formed
-pub record IsTrace (t : Recorded) : Type 0 where
+pub record IsTextTrace (t : Recorded) : Type 0 where
   pub setup : IsSetup t.config
   pub values : All (λ v. v < 2 ^ 64) t.config.init
-  pub well_formed : IsWellFormed t.config t.steps
+  pub well_formed : IsTrace t

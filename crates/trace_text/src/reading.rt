@@ -4,7 +4,7 @@ ghost use Rattle.std.specs.Prelude.{◌≡◌, ◌≢◌, ◌<◌, ◌≤◌, �
 ghost use Rattle.csv.specs.Records.{fields_of};
 ghost use Rattle.step_trace.specs.Traces.{Recorded};
 ghost use Rattle.trace_text.specs.Records.{WantsOnlyWhere, records_of_text};
-ghost use Rattle.trace_text.specs.TraceTexts.{StandsFor, IsTrace};
+ghost use Rattle.trace_text.specs.TraceTexts.{StandsFor, IsTextTrace};
 ghost use Rattle.trace_text.specs.TextRefusals.{IsFirstRefusal, Gives, LeadsTo, is_memory, trace_of_records, trace_at_end, next_stage, header_stage, init_stage, step_stage, step_of, act_of, ids_of, end_stage, record_keeps, init_keeps, step_record_keeps, step_keeps, act_keeps, parts_of, begins_with_number};
 ghost use Rattle.std.specs.Option.{ok_or};
 
@@ -37,14 +37,14 @@ enum Stage {
 pub fn read_trace(alloc: Global, text: &[u8]) -> Result<Trace, TextError>
     ensures stands { IfOk result (λ t. StandsFor text.now t) }
     ensures size { OnOk result (length text.now ≤ MAX_TEXT_BYTES) }
-    ensures sound { IfOk result (λ t. IsTrace t) }
-    ensures complete { (t : Recorded) → IsTrace t → StandsFor text.now t
+    ensures sound { IfOk result (λ t. IsTextTrace t) }
+    ensures complete { (t : Recorded) → IsTextTrace t → StandsFor text.now t
         → length text.now ≤ MAX_TEXT_BYTES
         → MatchResult result (λ u. u ≡ t) (λ e. e ≡ TextError.Memory) }
     ensures too_large { IsErrOf result TextError.TooLarge ↔ (MAX_TEXT_BYTES < length text.now) }
     ensures no_fault { IfErr result (λ e. e ≢ TextError.Read) }
     ensures refused { IfErr result (λ e. IsFirstRefusal text.now e) }
-    ensures unique { (t u : Recorded) → IsTrace t → IsTrace u → StandsFor text.now t
+    ensures unique { (t u : Recorded) → IsTextTrace t → IsTextTrace u → StandsFor text.now t
         → StandsFor text.now u → t ≡ u }
 {
     if text.len() > MAX_TEXT_BYTES {
@@ -170,7 +170,7 @@ fn read_step(alloc: Global, trace: &mut Trace, fields: &ByteRecord) -> Result<()
         return Err(TextError::WrongNumber(no));
     }
     let step = step_of(alloc, no, fields)?;
-    match trace.push(step) {
+    match trace.push_at(no, step) {
         Ok(()) => Ok(()),
         Err(PushError::Memory) => Err(TextError::Memory),
         Err(why) => Err(TextError::BadStep(no, why)),

@@ -4,12 +4,13 @@ ghost use Rattle.std.specs.Prelude.{◌≡◌, ◌<◌, ◌^◌, ◌++◌, IfOk,
 ghost use Rattle.std.specs.List.{join_with_byte};
 ghost use Rattle.std.specs.Io.KnownBytes.{Appends};
 ghost use Rattle.csv.specs.Records.{fields_of};
+ghost use Rattle.step_trace.specs.Ticks.{IsOnePerTick};
 ghost use Rattle.trace_text.specs.ByteLoops.{WasFaultless};
 ghost use Rattle.trace_text.specs.Faults.{inner_of, is_flushed};
 ghost use Rattle.trace_text.specs.Records.{record_line, text_of_records};
 ghost use Rattle.trace_text.specs.RecordWriting.{IsReady, IsPlain, ArePlain, written};
 ghost use Rattle.trace_text.specs.TextWriting.{WroteBefore, IsWriteCause};
-ghost use Rattle.trace_text.specs.TraceTexts.{IsTrace, StandsFor, trace_text, header_record, init_record, step_record, step_records, end_record, op_text, arg_text};
+ghost use Rattle.trace_text.specs.TraceTexts.{IsTextTrace, StandsFor, trace_text, header_record, init_record, step_record, step_records, end_record, op_text, arg_text};
 
 use crate::byte_loops::{MAX_TEXT_BYTES, write_text};
 use crate::counting::Counting;
@@ -40,8 +41,8 @@ pub fn write_trace<W: Write>(
         (λ e. WroteBefore e (trace_text trace.now) (W.contents (inner_of writer.old))
         (W.contents (inner_of writer.new))) }
     ensures cause { IfErr result (λ e. IsWriteCause e writer.old writer.new) }
-    ensures sound { IsTrace trace.now }
-    ensures stands { StandsFor (trace_text trace.now) trace.now }
+    ensures sound { IsTextTrace trace.now }
+    ensures stands { IsOnePerTick trace.now → StandsFor (trace_text trace.now) trace.now }
     ensures short { length (trace_text trace.now) < MAX_TEXT_BYTES }
 {
     let Ok(text) = trace_text_of(alloc, trace) else {
@@ -53,17 +54,18 @@ pub fn write_trace<W: Write>(
 // The text of a trace.
 fn trace_text_of(alloc: Global, trace: &Trace) -> Result<Vec<u8>, AllocError>
     ensures text { IfOk result (λ text. text.items ≡ trace_text trace.now) }
-    ensures sound { IsTrace trace.now }
+    ensures sound { IsTextTrace trace.now }
 {
     let config = trace.config();
     let n = config.n();
-    let steps = trace.len() as u64;
+    let _ = trace.len();
+    let last = trace.last_tick();
     let init = init_fields(alloc, config.init())?;
     let mut writer = record_writer(alloc);
     write_header(alloc, &mut writer, n, config.t())?;
     write_byte_record(&mut writer, &init)?;
     write_steps(alloc, &mut writer, trace)?;
-    write_end(alloc, &mut writer, steps)?;
+    write_end(alloc, &mut writer, last)?;
     text_written(writer)
 }
 
@@ -177,12 +179,12 @@ fn ids_text(alloc: Global, ids: &[u64]) -> Result<String, AllocError>
 }
 
 // `end,L`
-fn write_end(alloc: Global, writer: &mut Writer<Vec<u8>>, steps: u64) -> Result<(), AllocError>
+fn write_end(alloc: Global, writer: &mut Writer<Vec<u8>>, last: u64) -> Result<(), AllocError>
     requires { IsReady writer.old }
     ensures ready { OnOk result (IsReady writer.new) }
     ensures text { OnOk result
-        (written writer.new ≡ written writer.old ++ record_line (end_record steps)) }
+        (written writer.new ≡ written writer.old ++ record_line (end_record last)) }
 {
-    let steps = number_text(alloc, steps)?;
-    write_record(writer, &[b"end", steps.as_bytes()])
+    let last = number_text(alloc, last)?;
+    write_record(writer, &[b"end", last.as_bytes()])
 }

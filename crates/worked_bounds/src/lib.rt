@@ -25,4 +25,6 @@ mod stairs_by_hand;
 #[cfg(test)]
 mod texts_by_hand;
 #[cfg(test)]
+mod tick_stairs_tests;
+#[cfg(test)]
 mod traces;

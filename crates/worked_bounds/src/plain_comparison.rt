@@ -1,6 +1,6 @@
 //! The backward pass beside the plain searches, on small traces of a fixed seed.
 
-ghost use Rattle.std.specs.Prelude.{◌<◌, ◌≤◌, length};
+ghost use Rattle.std.specs.Prelude.{◌<◌, ◌≤◌};
 ghost use Rattle.step_trace.specs.Processors.{IsWithin};
 
 use bound_witness::{delta_at, phi_at};
@@ -9,14 +9,15 @@ use std::test::Fail;
 use step_trace::{Act, Config, MessageIds, ProcSet, Step, Trace};
 use suffix_staircase::{Level, Stairs};
 
-// A linear congruential generator.
+/// A linear congruential generator.
 #[derive(Drop)]
-struct Draws {
-    state: u64,
+pub(crate) struct Draws {
+    pub(crate) state: u64,
 }
 
 impl Draws {
-    fn below_four(&mut self) -> u64
+    /// A number below 4.
+    pub(crate) fn below_four(&mut self) -> u64
         ensures { result < 4 }
     {
         self.state = self
@@ -48,7 +49,13 @@ fn some_ids(alloc: Global, draws: &mut Draws, trace: &Trace, proc: u64) -> Resul
     Ok(ids)
 }
 
-fn some_act(alloc: Global, draws: &mut Draws, trace: &Trace, proc: u64) -> Result<Act, Fail> {
+/// A Send, or as often a Receive of some messages to this processor.
+pub(crate) fn some_act(
+    alloc: Global,
+    draws: &mut Draws,
+    trace: &Trace,
+    proc: u64,
+) -> Result<Act, Fail> {
     if draws.below_four() < 2 {
         return Ok(Act::Send {
             to: draws.below_four().max(1),
@@ -80,7 +87,8 @@ fn some_trace(alloc: Global, draws: &mut Draws) -> Result<Trace, Fail> {
     Ok(trace)
 }
 
-fn some_set(draws: &mut Draws) -> ProcSet {
+/// Some of the first three processors.
+pub(crate) fn some_set(draws: &mut Draws) -> ProcSet {
     let mut set = ProcSet::empty();
     for p in 1..4u64 {
         if draws.below_four() > 0 {
@@ -94,7 +102,7 @@ fn some_set(draws: &mut Draws) -> ProcSet {
 fn is_searched(trace: &Trace, set: ProcSet, g: u64, level: Level) -> bool
     requires set { IsWithin set trace.now.config.n }
     requires start { 1 ≤ g }
-    requires end { g ≤ length trace.now.steps }
+    requires end { g ≤ trace.now.last }
 {
     let (delta, miss) = delta_at(trace, set, g);
     let (phi, gap) = phi_at(trace, set, g);
@@ -107,13 +115,14 @@ fn is_searched(trace: &Trace, set: ProcSet, g: u64, level: Level) -> bool
     level == searched
 }
 
-fn all_searched(stairs: &Stairs, trace: &Trace, set: ProcSet) -> bool
+/// Whether each level is the one that the plain searches give.
+pub(crate) fn all_searched(stairs: &Stairs, trace: &Trace, set: ProcSet) -> bool
     requires set { IsWithin set trace.now.config.n }
 {
-    if stairs.len() != trace.len() {
+    if stairs.len() as u64 != trace.last_tick() {
         return false;
     }
-    for g in 1..trace.len() as u64 + 1 {
+    for g in 1..trace.last_tick() + 1 {
         if !is_searched(trace, set, g, stairs.at(g)) {
             return false;
         }

@@ -50,8 +50,8 @@ fn both() -> ProcSet {
     ProcSet::empty().with(1).with(2)
 }
 
-// Whether the stairs of a trace for this set have these levels and starts.
-fn climbs(
+/// Whether the stairs of a trace for this set have these levels and starts.
+pub(crate) fn climbs(
     alloc: Global,
     trace: &Trace,
     set: ProcSet,

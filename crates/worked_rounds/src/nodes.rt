@@ -108,8 +108,7 @@ pub fn is_silent(node: &Node, alloc: Global, me: u64, round: u64, to: u64) -> Re
     requires positive { 1 ≤ round }
 {
     let config = config(alloc, 3, 1)?;
-    Ok(!node.sends_to(&config, me, round, to)
-        && node.out(alloc, &config, me, round, to)?.is_none())
+    Ok(!node.sends_to(&config, me, round, to) && node.out(alloc, &config, me, round, to)?.is_none())
 }
 
 /// A round in which node `me`, of three processors, hears one message.

@@ -1,7 +1,7 @@
 //! Worked runs, and what becomes of their nodes.
 
 use crate::long_scripts::{DECIDES_SEVEN, LOST_LOCK, NO_PROPOSAL};
-use crate::scripts::{E, R, Row, S, all_hold, all_stand, holds, makes, ran};
+use crate::scripts::{E, R, Row, S, all_hold, all_stand, copy_holds, holds, makes, ran};
 use std::test::Fail;
 
 // Message 1 is of 2, and comes after the end of round 1; message 2 is of 1 itself.
@@ -45,6 +45,15 @@ fn an_early_message_waits_for_its_round(rt: HostRuntime) -> Result<(), Fail> {
     let world = ran(&rt, alloc, 0, &[5, 7], &EARLY[..13])?;
     assert!(rt; all_stand(&rt, &world, &[(1, 4, None), (2, 4, None)]));
     assert!(rt; holds(&rt, &world, 1, &[5], &[]));
+    Ok(())
+}
+
+#[test]
+fn a_copy_goes_on_alone(rt: HostRuntime) -> Result<(), Fail> {
+    let alloc = rt.alloc();
+    let world = ran(&rt, alloc, 0, &[5, 7], &EARLY[..13])?;
+    assert!(rt; copy_holds(&rt, alloc, &world, &EARLY[13..], 1, &[5, 7])?);
+    assert!(rt; all_stand(&rt, &world, &[(1, 4, None), (2, 4, None)]));
     Ok(())
 }
 

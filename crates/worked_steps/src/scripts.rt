@@ -95,6 +95,19 @@ pub fn recorded(
     Ok(trace)
 }
 
+/// Whether a copy of a World makes these steps, and then holds these values for a processor.
+pub fn copy_holds(
+    rt: &impl Abort,
+    alloc: Global,
+    world: &World,
+    rows: &[Row],
+    p: u64,
+    proper: &[u64],
+) -> Result<bool, Fail> {
+    let mut copy = world.copy(alloc)?;
+    Ok(makes(rt, alloc, &mut copy, rows) && holds(rt, &copy, p, proper, &[]))
+}
+
 /// Whether each of these processors is in this round, with this decision.
 pub fn all_stand(rt: &impl Abort, world: &World, rows: &[(u64, u64, Option<u64>)]) -> bool {
     for (p, round, decision) in rows {

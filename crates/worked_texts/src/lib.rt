@@ -12,3 +12,5 @@ mod report_texts;
 mod trace_reports;
 #[cfg(test)]
 mod trace_texts;
+#[cfg(test)]
+mod written_traces;

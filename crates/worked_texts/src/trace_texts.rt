@@ -5,7 +5,7 @@ use std::test::Fail;
 use step_trace::{Act, Trace};
 use trace_text::{MAX_TEXT_BYTES, read_trace};
 
-const ONE_MISS: &str = "dls-trace,1,2,0\ninit,5,7\n1,1,S,2\n2,2,R,\n3,2,R,1\nend,3\n";
+pub(crate) const ONE_MISS: &str = "dls-trace,1,2,0\ninit,5,7\n1,1,S,2\n2,2,R,\n3,2,R,1\nend,3\n";
 
 /// Whether the answer for a text is this: `accepted`, or the name of the refusal.
 fn is_answer(alloc: Global, text: &[u8], wanted: &str) -> Result<bool, AllocError> {
@@ -52,7 +52,7 @@ fn is_one_miss(alloc: Global, text: &[u8]) -> Result<bool, Fail> {
 }
 
 /// A text of so many empty Receives, which names 1,000,000 as their number.
-fn empty_receives(alloc: Global, steps: u64) -> Result<String, AllocError> {
+pub(crate) fn empty_receives(alloc: Global, steps: u64) -> Result<String, AllocError> {
     let mut text = String::from_str(alloc, "dls-trace,1,2,0\ninit,5,7\n")?;
     for no in 0..steps {
         let number = no.saturating_add(1).to_string(alloc)?;

@@ -6,11 +6,11 @@ use Rattle.bound_witness.proofs.processor_bounds.last_gap_of_length.Goals.{in-So
 
 pub loop-from-preserved : goal.loop-from-preserved
 loop-from-preserved c = elim c.match-first_silent.branch [
-  | in-Some w ↦ subst (λ (o : Option Gap). LastGapBelow c.args.set c.args.trace.now.steps c.args.g c.args.span (c.loop-from.from + 1) o) (sym w.found-is)
-      (LastGapBelow-hit c.args.set c.args.trace.now.steps c.args.g c.args.span c.loop-from.from w.in-Some.proc (omega arith) c.requires.positive (omega arith) w.in-Some.ensures)
-  | in_default w ↦ subst (λ (o : Option Gap). LastGapBelow c.args.set c.args.trace.now.steps c.args.g c.args.span (c.loop-from.from + 1) o) (sym w.found-is)
-      (LastGapBelow-pass c.args.set c.args.trace.now.steps c.args.g c.args.span c.loop-from.from c.loop-from.found w.in_default.ensures c.loop-from.invariant)
+  | in-Some w ↦ subst (λ (o : Option Gap). LastGapBelow c.args.set c.args.trace.now c.args.g c.args.span (c.loop-from.from + 1) o) (sym w.found-is)
+      (LastGapBelow-hit c.args.set c.args.trace.now c.args.g c.args.span c.loop-from.from w.in-Some.proc (omega arith) c.requires.positive (omega arith) w.in-Some.ensures)
+  | in_default w ↦ subst (λ (o : Option Gap). LastGapBelow c.args.set c.args.trace.now c.args.g c.args.span (c.loop-from.from + 1) o) (sym w.found-is)
+      (LastGapBelow-pass c.args.set c.args.trace.now c.args.g c.args.span c.loop-from.from c.loop-from.found w.in_default.ensures c.loop-from.invariant)
 ]
 
 pub returns : goal.returns
-returns c = LastGapBelow-end c.args.set c.args.trace.now.steps c.args.g c.args.span c.loop-from.from c.loop-from.found c.requires.start c.requires.positive (omega arith) c.loop-from.invariant
+returns c = LastGapBelow-end c.args.set c.args.trace.now c.args.g c.args.span c.loop-from.from c.loop-from.found c.requires.start c.requires.positive (omega arith) c.loop-from.invariant

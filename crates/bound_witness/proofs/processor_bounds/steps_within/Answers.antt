@@ -1,9 +1,22 @@
-use Rattle.std.proofs.Common.{◌≤◌, below_more, arith}
-use Rattle.step_trace.specs.Traces.{IsStepOf}
+use Rattle.std.proofs.Common.{◌+◌, ◌≤◌, below_more, arith, refl, sym, subst}
+use Rattle.step_trace.specs.Ticks.{tick_of}
+use Rattle.step_trace.proofs.StepPositions.{step_at_within}
+use Rattle.bound_witness.specs.TickWindows.{IsStepBetween}
 use Rattle.bound_witness.proofs.processor_bounds.steps_within.Goals as goal
 
 pub loop-no-preserved : goal.loop-no-preserved
-loop-no-preserved c = below_more (λ y. c.args.x ≤ y → IsStepOf c.args.trace.now.steps y c.args.p → ⊥) _ c.loop-no.invariant (λ _ s. let e = c.if-is_step_of.ensures.1 s in cc)
+loop-no-preserved c = below_more (λ k. IsStepBetween c.args.trace.now k c.args.p c.args.x (c.args.x + c.args.f) → ⊥) _ c.loop-no.invariant (λ s. let e = c.if-is_step_between.ensures.1 s in cc)
+
+pub returns-then-is_step_between : goal.returns-then-is_step_between
+returns-then-is_step_between c = (
+  λ _. (let s = c.if-is_step_between.ensures.0 refl in record { tick = tick_of c.args.trace.now c.loop-no.no; from = s.from; until = s.before; step = record { place = c.loop-no.no; step = s.step; tick = refl } }),
+  λ _. refl,
+)
 
 pub returns : goal.returns
-returns c = (λ h. cc, λ s. absurd (c.loop-no.invariant s.place (let u = s.until in omega arith) s.from s.step))
+returns c = (
+  λ h. cc,
+  λ s. absurd (c.loop-no.invariant s.step.place
+      (let w = (step_at_within c.args.trace.now.steps s.step.place _ s.step.step.1).1 in omega arith)
+      (record { step = s.step.step; from = subst (λ k. c.args.x ≤ k) (sym s.step.tick) s.from; before = (let q = s.step.tick in let u = s.until in omega (arith, q, u)) })),
+)

@@ -22,7 +22,7 @@ pub returns-clause-stands : goal.returns-clause-stands
 returns-clause-stands g c = StandsFor-report_text c.args.rows.now
 
 pub returns-in_default-clause-short : goal.returns-in_default-clause-short
-returns-in_default-clause-short g c = λ members steps report limit. short-report_text members steps c.args.rows.now limit report
+returns-in_default-clause-short g c = λ members trace sound report. short-report_text members trace c.args.rows.now sound report
 
 pub returns-clause-short : goal.returns-clause-short
-returns-clause-short g c = λ members steps report limit. short-report_text members steps c.args.rows.now limit report
+returns-clause-short g c = λ members trace sound report. short-report_text members trace c.args.rows.now sound report

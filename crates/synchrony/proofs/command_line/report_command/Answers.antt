@@ -3,7 +3,7 @@ use Rattle.std.specs.Prelude.{◌||◌}
 use Rattle.std.proofs.lemmas.Result.{IfOk-weaker}
 use Rattle.clap.specs.Words.{app_of, rule_of, with_rule}
 use Rattle.clap.specs.declared.builder.Command.TheViews.{out-Command}
-use Rattle.synchrony.specs.Commands.{correct_rule, file_rule}
+use Rattle.synchrony.specs.Commands.{correct_rule}
 use Rattle.synchrony.proofs.command_line.report_command.Goals as goal
 
 pub returns-clause-app : goal.returns-clause-app

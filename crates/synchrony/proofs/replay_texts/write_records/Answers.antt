@@ -3,7 +3,7 @@ use Rattle.std.specs.List.{flat_map, range_with_len}
 use Rattle.std.proofs.lemmas.List.{flat_map_more}
 use Rattle.std.proofs.lemmas.List.FromFn.{map-range_with_len_more}
 use Rattle.trace_text.specs.Records.{record_line}
-use Rattle.front.specs.CsvWriting.{written}
+use Rattle.trace_text.specs.RecordWriting.{written}
 use Rattle.synchrony.specs.ReplayTexts.{processor_record, replay_header}
 use Rattle.synchrony.proofs.replay_texts.write_records.Goals as goal
 

@@ -1,7 +1,7 @@
 use Rattle.std.proofs.Common.{◌≡◌, ◌-◌, ◌++◌, ◌∷◌, map}
 use Rattle.std.specs.List.{range_with_len}
 use Rattle.trace_text.specs.Records.{text_of_records}
-use Rattle.front.specs.CsvWriting.{IsReady, written}
+use Rattle.trace_text.specs.RecordWriting.{IsReady, written}
 use Rattle.synchrony.specs.ReplayTexts.{processor_record, replay_header}
 use Rattle.synchrony.proofs.replay_texts.write_records.Given as goal
 

@@ -11,7 +11,7 @@ returns-clause-text c =
     let n = c.n-n.ensures.value ∙ ap (λ (s : Setup). s.n) config in
     let t = c.t.ensures ∙ ap (λ (s : Setup). s.t) config in
     let init = c.init.ensures ∙ ap (λ (s : Setup). s.init) config in
-    let steps = c.len-steps.ensures.value in
+    let last = c.last_tick-last.ensures.value in
     let whole : written c.write_end.new.writer ≡ trace_text c.args.trace.now = rw (
       c.in_ok-write_end.ensures.text,
       c.in_ok-write_steps.ensures.text,
@@ -22,7 +22,7 @@ returns-clause-text c =
       n,
       t,
       init,
-      steps,
+      last,
     ) (trace_text-parts c.args.trace.now) in
     rw whole at c.text_written.ensures
 
@@ -32,5 +32,5 @@ returns-clause-sound c =
     record {
       setup = rw config at c.n-n.ensures.sound;
       values = rw (c.init.ensures, config) at c.init_fields.ensures.numbers;
-      well_formed = c.len-steps.ensures.sound;
+      well_formed = record { steps = c.len.ensures.sound; time = c.last_tick-last.ensures.timed };
     }

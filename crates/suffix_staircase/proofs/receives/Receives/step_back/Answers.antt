@@ -1,7 +1,7 @@
 use Rattle.std.proofs.Common.{arith, sym}
 use Rattle.suffix_staircase.proofs.ReceivesLowered.{KnowsReceives-send}
 use Rattle.suffix_staircase.proofs.ReceiveNotes.{KnowsReceives-receive}
-use Rattle.suffix_staircase.proofs.LastMisses.{IsLastMissOf-from_known}
+use Rattle.suffix_staircase.proofs.LastMisses.{IsLastMissByNumber-from_known}
 use Rattle.suffix_staircase.proofs.ReceiveBounds.{with_act, dest_bound, ids_bound, first_bound, taker_bound}
 use Rattle.suffix_staircase.proofs.receives.Receives.step_back.Goals as goal
 
@@ -30,7 +30,7 @@ returns-else-contains-clause-known c = KnowsReceives-send c.args.trace.now c.arg
 pub returns-then-contains-2-clause-missed : goal.returns-then-contains-2-clause-missed
 returns-then-contains-2-clause-missed c =
     let sent = with_act c.args.trace.now.steps c.args.no c.step_of-step.result.now _ c.step_of-step.ensures.step c.in-Send.is in
-    rw c.last_missed.ensures (IsLastMissOf-from_known c.args.set c.args.trace.now c.args.no c.in-Send.to c.args.self.now c.step_of-step.ensures.sound
+    rw c.last_missed.ensures (IsLastMissByNumber-from_known c.args.set c.args.trace.now c.args.no c.in-Send.to c.args.self.now c.step_of-step.ensures.sound
     (dest_bound c.args.trace.now.config c.args.trace.now.steps c.args.no c.step_of-step.result.now.proc c.in-Send.to c.step_of-step.ensures.sound sent)
     (record { from = c.step_of-step.result.now.proc; sent = sent; sender = sym c.if-contains.ensures; receiver = sym c.if-contains-2.ensures }) c.requires.known)
 

@@ -1,35 +1,24 @@
-use Rattle.std.proofs.Common.{◌≡◌, ◌+◌, ◌-◌, length, ap, ℕ, arith}
-use Rattle.suffix_staircase.proofs.LevelBounds.{AreLevelsFrom-after_all, AreLevelsFrom-before, AreLevels-from_first, StandsBefore-itself}
+use Rattle.std.proofs.Common.{ℕ, ◌+◌, [], length, sym, subst}
+use Rattle.suffix_staircase.specs.Analysis.{AreLevels, KnowsTicksFrom}
+use Rattle.suffix_staircase.proofs.LevelBounds.{AreLevelsFrom-after_all}
 use Rattle.suffix_staircase.proofs.staircases.Stairs.of_trace.Goals as goal
 
-pub loop-no-init : goal.loop-no-init
-loop-no-init c =
-    let count : c.len.result + 1 ≡ length c.args.trace.now.steps + 1 = ap (λ (n : ℕ). n + 1) c.len.ensures.value in
-    let last : c.len.result + 1 - 1 ≡ length c.args.trace.now.steps = omega (arith, count) in
-    record {
-      start = omega arith;
-      known = rw last c.in_ok-pass.ensures;
-      levels = rw (count, c.new-builder.ensures) (AreLevelsFrom-after_all c.args.set c.args.trace.now.steps);
-      falling = rw c.new-builder.ensures tt;
-    }
+pub all_back-requires-clause-within : goal.all_back-requires-clause-within
+all_back-requires-clause-within c = rw c.in_ok-pass.ensures.steps.members c.requires
 
-pub loop-no-preserved : goal.loop-no-preserved
-loop-no-preserved c =
-    let no = c.loop-no.no - 1 in
-    let back = c.step_back.ensures in
-    let below = c.loop-no-test.true in
-    let next : c.loop-no.no ≡ no + 1 = omega (arith, below) in
-    record {
-      start = omega (arith, below);
-      known = back.known;
-      levels = rw c.in_ok-lower.ensures.ok
-          (AreLevelsFrom-before c.args.set c.args.trace.now.steps no c.step_back.result c.loop-no.builder back.level (rw next at c.loop-no.invariant.levels));
-      falling = rw (c.in_ok-lower.ensures.ok, back.kept) (StandsBefore-itself c.step_back.result);
-    }
+pub all_back-requires-clause-known : goal.all_back-requires-clause-known
+all_back-requires-clause-known c =
+    let t = c.args.trace.now in
+    let pass = c.in_ok-pass.pass in
+    let known : KnowsTicksFrom c.args.set t (length t.steps) (t.last + 1) pass [] = record {
+      steps = c.in_ok-pass.ensures.steps;
+      gaps = c.in_ok-pass.ensures.gaps;
+      each = AreLevelsFrom-after_all c.args.set t;
+      falling = tt;
+    } in
+    rw c.new-builder.ensures
+    (subst (λ (s : ℕ). KnowsTicksFrom s t (length t.steps) (t.last + 1) pass []) (sym c.in_ok-pass.ensures.steps.members) known)
 
 pub returns : goal.returns
-returns c =
-    let start = c.loop-no.invariant.start in
-    let end = c.loop-no-test.false in
-    let first : c.loop-no.no ≡ 1 = omega (arith, start, end) in
-    rw c.build.ensures (AreLevels-from_first c.args.set c.args.trace.now.steps c.loop-no.builder (rw first at c.loop-no.invariant.levels))
+returns c = rw c.build.ensures
+    (subst (λ (s : ℕ). AreLevels s c.args.trace.now c.all_back.new.builder) c.in_ok-pass.ensures.steps.members c.in_ok-all_back.ensures.levels)
