@@ -61,6 +61,7 @@ fn went_round(seat: &Seat) -> bool {
 fn a_drive_goes_round(rt: HostRuntime) -> Result<(), Fail> {
     let alloc = rt.alloc();
     let (recorder, mut seats) = opened(&rt, alloc, 1, 0, &[5, 7], 3)?;
+    assert!(rt; !seats.is_empty());
     let full = DriveStop::Record(RecordError::Step(StepError::Full));
     assert!(rt; stops(&rt, alloc, &recorder, &mut seats[0], &OpenGate, 3, full));
     assert!(rt; went_round(&seats[0]));
@@ -71,6 +72,7 @@ fn a_drive_goes_round(rt: HostRuntime) -> Result<(), Fail> {
 fn a_drive_is_held(rt: HostRuntime) -> Result<(), Fail> {
     let alloc = rt.alloc();
     let (recorder, mut seats) = opened(&rt, alloc, 1, 0, &[5, 7], 3)?;
+    assert!(rt; !seats.is_empty());
     assert!(rt;
         stops(
             &rt,

@@ -33,6 +33,7 @@ fn refuses<R: Wait>(
 fn a_full_recorder_refuses(rt: HostRuntime) -> Result<(), Fail> {
     let alloc = rt.alloc();
     let (recorder, mut seats) = opened(&rt, alloc, 1, 1, &[5, 7, 7], 3)?;
+    assert!(rt; !seats.is_empty());
     let seat = &mut seats[0];
     assert!(rt; waits(&rt, alloc, &recorder, seat, 3));
     assert!(rt;

@@ -4,16 +4,74 @@ use crate::seats::{opened, waits};
 use locked_recorder::{AuditError, MineError, PrefixError, RecordError, Recorder, Seat, View};
 use std::alloc::Global;
 use std::process::Abort;
+use std::slice::from_ref;
 use std::sync::Wait;
 use std::test::Fail;
 use step_buffers::Move;
 
-// Whether the trace of a recorder lacks step 1 of the view.
-fn lacks_the_first<R: Wait>(rt: &R, alloc: Global, recorder: &Recorder, view: &mut View) -> bool {
+// A recorder of two processors with this tag, whose second initial value is this, and its seats. No step was made.
+fn stranger(
+    rt: &impl Abort,
+    alloc: Global,
+    tag: u64,
+    value: u64,
+) -> Result<(Recorder, Vec<Seat>), Fail> {
+    opened(rt, alloc, tag, 0, &[5, value], 100)
+}
+
+// The seats of a recorder with tag 1, from the first of which one step was made.
+fn stepped_seats<R: Wait + Abort>(rt: &R, alloc: Global) -> Result<Vec<Seat>, Fail> {
+    let (recorder, mut seats) = stranger(rt, alloc, 1, 7)?;
+    assert!(rt; seats.len() == 2);
+    assert!(rt; waits(rt, alloc, &recorder, &mut seats[0], 1));
+    Ok(seats)
+}
+
+// Shows the trace of a recorder to a view, once a step was made.
+fn shows_a_step<R: Wait + Abort>(
+    rt: &R,
+    alloc: Global,
+    recorder: &Recorder,
+    seats: &mut [Seat],
+    view: &mut View,
+) -> bool {
+    assert!(rt; !seats.is_empty());
+    waits(rt, alloc, recorder, &mut seats[0], 1) && recorder.prefix(rt, alloc, view).is_ok()
+}
+
+// A view that has seen the one step of a recorder with tag 1.
+fn seen_step<R: Wait + Abort>(rt: &R, alloc: Global) -> Result<View, Fail> {
+    let (recorder, mut seats) = stranger(rt, alloc, 1, 7)?;
+    let mut view = recorder.view();
+    assert!(rt; shows_a_step(rt, alloc, &recorder, seats.as_mut_slice(), &mut view));
+    Ok(view)
+}
+
+// Whether nothing is shown to the view, since the trace has no step of this number.
+fn is_off_at<R: Wait>(
+    rt: &R,
+    alloc: Global,
+    recorder: &Recorder,
+    view: &mut View,
+    no: u64,
+) -> bool {
     match recorder.prefix(rt, alloc, view) {
-        Err(PrefixError::NotAnExtension { at, found }) => at == 1 && found.is_none(),
+        Err(PrefixError::NotAnExtension { at, found }) => at == no && found.is_none(),
         _ => false,
     }
+}
+
+// The same of a stranger.
+fn lacks<R: Wait + Abort>(
+    rt: &R,
+    alloc: Global,
+    value: u64,
+    view: &mut View,
+    no: u64,
+) -> Result<bool, Fail> {
+    let (recorder, _) = stranger(rt, alloc, 1, value)?;
+    let is_off = is_off_at(rt, alloc, &recorder, view, no);
+    Ok(is_off)
 }
 
 // Whether the trace of a recorder has a step of 2 in tick 1, where the view has seen another one.
@@ -29,117 +87,106 @@ fn has_another_first<R: Wait>(rt: &R, alloc: Global, recorder: &Recorder, view: 
     }
 }
 
-// Whether no prefix is shown to the seat, for this reason.
-fn refuses_mine<R: Wait>(
+// The same of a stranger, whose second seat did one step.
+fn goes_another_way<R: Wait + Abort>(rt: &R, alloc: Global, view: &mut View) -> Result<bool, Fail> {
+    let (recorder, mut seats) = stranger(rt, alloc, 1, 7)?;
+    assert!(rt; seats.len() == 2);
+    assert!(rt; waits(rt, alloc, &recorder, &mut seats[1], 1));
+    let goes = has_another_first(rt, alloc, &recorder, view);
+    Ok(goes)
+}
+
+// Whether a stranger shows no prefix to the seat, for this reason.
+fn refuses_mine<R: Wait + Abort>(
     rt: &R,
     alloc: Global,
-    recorder: &Recorder,
+    tag: u64,
     seat: &Seat,
     why: MineError,
-) -> bool {
-    match recorder.prefix_mine(rt, alloc, seat) {
+) -> Result<bool, Fail> {
+    let (recorder, _) = stranger(rt, alloc, tag, 7)?;
+    Ok(match recorder.prefix_mine(rt, alloc, seat) {
         Ok(_) => false,
         Err(e) => e == why,
-    }
+    })
 }
 
-// Whether an audit refuses for this reason.
-fn refuses_audit<R: Wait>(
+// Whether a stranger's audit of the seats refuses for this reason.
+fn refuses_seats<R: Wait + Abort>(
     rt: &R,
     alloc: Global,
-    recorder: &Recorder,
+    tag: u64,
     seats: &[Seat],
-    views: &[View],
     why: AuditError,
-) -> bool {
-    match recorder.audit(rt, alloc, seats, views) {
+) -> Result<bool, Fail> {
+    let (recorder, _) = stranger(rt, alloc, tag, 7)?;
+    Ok(match recorder.audit(rt, alloc, seats, &[]) {
         Ok(_) => false,
         Err(e) => e == why,
-    }
+    })
 }
 
-// Whether the seat is foreign to the recorder.
-fn is_foreign<R: Wait>(rt: &R, alloc: Global, recorder: &Recorder, seat: &mut Seat) -> bool {
-    match seat.step(rt, alloc, recorder, Move::Send) {
+// Whether a stranger's audit of its own seats and of a view names the view.
+fn refuses_view<R: Wait + Abort>(rt: &R, alloc: Global, views: &[View]) -> Result<bool, Fail> {
+    let (recorder, seats) = stranger(rt, alloc, 1, 7)?;
+    Ok(match recorder.audit(rt, alloc, &seats, views) {
+        Ok(_) => false,
+        Err(e) => e == AuditError::ViewDiffers(0),
+    })
+}
+
+// Whether the seat is foreign to a recorder of tag 2.
+fn is_foreign<R: Wait + Abort>(rt: &R, alloc: Global, seat: &mut Seat) -> Result<bool, Fail> {
+    let (recorder, _) = stranger(rt, alloc, 2, 7)?;
+    Ok(match seat.step(rt, alloc, &recorder, Move::Send) {
         Ok(_) => false,
         Err(e) => e == RecordError::ForeignSeat,
-    }
-}
-
-// A recorder of tag 1 whose seat 1 did one step: its seats, and a view that has seen the step.
-fn stepped<R: Wait + Abort>(rt: &R, alloc: Global) -> Result<(Vec<Seat>, View), Fail> {
-    let (recorder, mut seats) = opened(rt, alloc, 1, 0, &[5, 7], 100)?;
-    let mut view = recorder.view();
-    assert!(rt; !seats.is_empty());
-    assert!(rt; waits(rt, alloc, &recorder, &mut seats[0], 1));
-    assert!(rt; recorder.prefix(rt, alloc, &mut view).is_ok());
-    Ok((seats, view))
+    })
 }
 
 #[test]
 fn a_view_of_another_recorder(rt: HostRuntime) -> Result<(), Fail> {
     let alloc = rt.alloc();
-    let (_, mut view) = stepped(&rt, alloc)?;
-    let (other, seats) = opened(&rt, alloc, 1, 0, &[5, 7], 100)?;
-    assert!(rt; lacks_the_first(&rt, alloc, &other, &mut view));
-    let views = vec![in alloc; view]?;
-    assert!(rt;
-        refuses_audit(
-            &rt,
-            alloc,
-            &other,
-            &seats,
-            &views,
-            AuditError::ViewDiffers(0)
-        )
-    );
+    let mut view = seen_step(&rt, alloc)?;
+    assert!(rt; lacks(&rt, alloc, 7, &mut view, 1)?);
+    assert!(rt; refuses_view(&rt, alloc, from_ref(&view))?);
     Ok(())
 }
 
 #[test]
 fn a_view_of_another_step(rt: HostRuntime) -> Result<(), Fail> {
     let alloc = rt.alloc();
-    let (_, mut view) = stepped(&rt, alloc)?;
-    let (other, mut seats) = opened(&rt, alloc, 1, 0, &[5, 7], 100)?;
-    assert!(rt; seats.len() == 2);
-    assert!(rt; waits(&rt, alloc, &other, &mut seats[1], 1));
-    assert!(rt; has_another_first(&rt, alloc, &other, &mut view));
-    Ok(())
-}
-
-#[test]
-fn seats_of_another_recorder(rt: HostRuntime) -> Result<(), Fail> {
-    let alloc = rt.alloc();
-    let (seats, _) = stepped(&rt, alloc)?;
-    assert!(rt; seats.len() == 2);
-    let (other, _) = opened(&rt, alloc, 1, 0, &[5, 7], 100)?;
-    assert!(rt; refuses_mine(&rt, alloc, &other, &seats[0], MineError::NotMine(1)));
-    assert!(rt; refuses_audit(&rt, alloc, &other, &seats, &[], AuditError::SeatDiffers(1)));
-    assert!(rt; refuses_audit(&rt, alloc, &other, &seats[..1], &[], AuditError::SeatCount));
-    Ok(())
-}
-
-#[test]
-fn seats_of_another_tag(rt: HostRuntime) -> Result<(), Fail> {
-    let alloc = rt.alloc();
-    let (mut seats, _) = stepped(&rt, alloc)?;
-    assert!(rt; seats.len() == 2);
-    let (other, _) = opened(&rt, alloc, 2, 0, &[5, 7], 100)?;
-    assert!(rt; is_foreign(&rt, alloc, &other, &mut seats[0]));
-    assert!(rt; refuses_mine(&rt, alloc, &other, &seats[0], MineError::ForeignSeat));
-    assert!(rt; refuses_audit(&rt, alloc, &other, &seats, &[], AuditError::ForeignSeat));
+    let mut view = seen_step(&rt, alloc)?;
+    assert!(rt; goes_another_way(&rt, alloc, &mut view)?);
     Ok(())
 }
 
 #[test]
 fn a_view_of_another_configuration(rt: HostRuntime) -> Result<(), Fail> {
     let alloc = rt.alloc();
-    let (_, mut view) = stepped(&rt, alloc)?;
-    let (other, _) = opened(&rt, alloc, 1, 0, &[5, 8], 100)?;
-    let shown = match other.prefix(&rt, alloc, &mut view) {
-        Err(PrefixError::NotAnExtension { at, found }) => at == 0 && found.is_none(),
-        _ => false,
-    };
-    assert!(rt; shown);
+    let mut view = seen_step(&rt, alloc)?;
+    assert!(rt; lacks(&rt, alloc, 8, &mut view, 0)?);
+    Ok(())
+}
+
+#[test]
+fn seats_of_another_recorder(rt: HostRuntime) -> Result<(), Fail> {
+    let alloc = rt.alloc();
+    let seats = stepped_seats(&rt, alloc)?;
+    assert!(rt; seats.len() == 2);
+    assert!(rt; refuses_mine(&rt, alloc, 1, &seats[0], MineError::NotMine(1))?);
+    assert!(rt; refuses_seats(&rt, alloc, 1, &seats, AuditError::SeatDiffers(1))?);
+    assert!(rt; refuses_seats(&rt, alloc, 1, &seats[..1], AuditError::SeatCount)?);
+    Ok(())
+}
+
+#[test]
+fn seats_of_another_tag(rt: HostRuntime) -> Result<(), Fail> {
+    let alloc = rt.alloc();
+    let mut seats = stepped_seats(&rt, alloc)?;
+    assert!(rt; seats.len() == 2);
+    assert!(rt; is_foreign(&rt, alloc, &mut seats[0])?);
+    assert!(rt; refuses_mine(&rt, alloc, 2, &seats[0], MineError::ForeignSeat)?);
+    assert!(rt; refuses_seats(&rt, alloc, 2, &seats, AuditError::ForeignSeat)?);
     Ok(())
 }
