@@ -15,9 +15,10 @@ pub enum RecordError {
 /// Why no prefix was shown to a view, in the order in which the reasons are tested.
 #[derive(Debug, Drop)]
 pub enum PrefixError {
-    /// The trace doesn't extend what the view has seen. At number `at`, the least such, it has `found`, which
-    /// isn't the view's step. At 0 it is of another configuration.
-    NotAnExtension { at: u64, found: Option<Step> },
+    /// The trace doesn't extend what the view has seen. At number `at`, the least such, it has `found`, a step
+    /// with its tick, which isn't the view's; where it has all steps of the view, `at` is the number after
+    /// them. At 0 it is of another configuration.
+    NotAnExtension { at: u64, found: Option<(u64, Step)> },
     /// There was no memory for the copies.
     Memory,
 }

@@ -1,10 +1,8 @@
 //! Prefixes of a recorder's trace, for views and for seats.
 
-ghost use Rattle.std.specs.Prelude.{◌≡◌, ◌↔◌, IsTrue, Some, option_copied, IfOk, IfErr, OnOk, OnErr, IfSome, IfNone, All};
-ghost use Rattle.step_trace.specs.Traces.{step_at};
-ghost use Rattle.step_trace.specs.Extensions.{BeginsWith, Extends};
-ghost use Rattle.step_buffers.specs.Runs.{IsRun};
-ghost use Rattle.locked_recorder.specs.Prefixes.{IsRunOf, IsFirstDifference, IsPrefixRefusal, IsMineRefusal, Stands};
+ghost use Rattle.std.specs.Prelude.{◌≡◌, ◌≢◌, ◌↔◌, ◌+◌, ◌<◌, ◌≤◌, ℕ, IsTrue, Some, length, IfOk, IfErr, OnOk, OnErr, IfSome, All};
+ghost use Rattle.step_trace.specs.Extensions.{Extends};
+ghost use Rattle.locked_recorder.specs.Prefixes.{IsRunOf, placed_at, IsPrefixRefusal, IsMineRefusal, Stands};
 
 use crate::errors::{MineError, PrefixError};
 use crate::missing_steps::least_missing;
@@ -89,51 +87,58 @@ impl Recorder {
 
 // Whether a trace extends what was seen; else the first difference, with a copy of what the trace has there.
 fn compare(alloc: Global, trace: &Trace, seen: &Trace) -> Result<(), PrefixError>
-    requires { IsRun trace.now.config trace.now.steps }
+    requires { IsRunOf trace.now.config trace.now }
     ensures extends { OnOk result (Extends trace.now seen.now) }
     ensures refused { IfErr result (λ e. IsPrefixRefusal trace.now.config (Some seen.now) e) }
 {
+    if trace.begins(seen) {
+        return Ok(());
+    }
     if !trace.config().is_same(seen.config()) {
         return Err(PrefixError::NotAnExtension { at: 0, found: None });
     }
-    let Some(at) = first_difference(trace, seen) else {
-        return Ok(());
-    };
-    match copied(trace.step(at)) {
+    let at = first_difference(trace, seen);
+    match placed(trace, at) {
         Ok(found) => Err(PrefixError::NotAnExtension { at, found }),
         Err(_) => Err(PrefixError::Memory),
     }
 }
 
-// A copy of a step, if there is one.
-fn copied(step: Option<&Step>) -> Result<Option<Step>, AllocError>
-    ensures { IfOk result (λ copy. copy ≡ option_copied step.entry) }
+// A copy of the step of this number, with its tick, if there is one.
+fn placed(trace: &Trace, no: u64) -> Result<Option<(u64, Step)>, AllocError>
+    ensures { IfOk result (λ there. there ≡ placed_at trace.now no) }
 {
-    match step {
-        Some(step) => Ok(Some(step.clone()?)),
+    match trace.step(no) {
+        Some(step) => Ok(Some((trace.tick(no), step.clone()?))),
         None => Ok(None),
     }
 }
 
-// The least number of a step that was seen at which the trace has none, or another one.
-fn first_difference(trace: &Trace, seen: &Trace) -> Option<u64>
-    ensures none { IfNone result (BeginsWith trace.now.steps seen.now.steps) }
-    ensures some { IfSome result (λ no. IsFirstDifference trace.now.steps seen.now.steps no (step_at trace.now.steps no)) }
+// The least number of a step that was seen at which the trace has none, another one, or one in another tick;
+// or else the number after all of these.
+fn first_difference(trace: &Trace, seen: &Trace) -> u64
+    ensures first { 1 ≤ result }
+    ensures last { result ≤ length seen.now.steps + 1 }
+    ensures before { (k : ℕ) → k < result → placed_at trace.now k ≡ placed_at seen.now k }
+    ensures differs { result ≤ length seen.now.steps → placed_at trace.now result ≢ placed_at seen.now result }
 {
-    for no in 1..seen.len() as u64 + 1 {
+    let end = seen.len() as u64 + 1;
+    for no in 1..end {
         if !is_same_at(trace, seen, no) {
-            return Some(no);
+            return no;
         }
     }
-    None
+    end
 }
 
-// Whether two traces have the same at this number: one step, or both none.
+// Whether two traces have the same at this number: one step, in one tick; or both none.
 fn is_same_at(one: &Trace, other: &Trace, no: u64) -> bool
-    ensures { IsTrue result ↔ (step_at one.now.steps no ≡ step_at other.now.steps no) }
+    ensures { IsTrue result ↔ (placed_at one.now no ≡ placed_at other.now no) }
 {
     match (one.step(no), other.step(no)) {
-        (Some(step), Some(other_step)) => step.is_same(other_step),
+        (Some(step), Some(other_step)) => {
+            step.is_same(other_step) && one.tick(no) == other.tick(no)
+        }
         (None, None) => true,
         _ => false,
     }

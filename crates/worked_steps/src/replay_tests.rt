@@ -154,3 +154,47 @@ fn the_longest_trace_is_made_again(rt: HostRuntime) -> Result<(), Fail> {
     assert!(rt; is_full(alloc, &trace));
     Ok(())
 }
+
+// Whether a trace has so many steps, one in each tick.
+fn is_one_per_tick(trace: &Trace, count: usize) -> bool {
+    if trace.len() != count || trace.last_tick() != count as u64 {
+        return false;
+    }
+    for no in 1..trace.len() as u64 + 1 {
+        if trace.tick(no) != no {
+            return false;
+        }
+    }
+    true
+}
+
+// Whether a World makes so many steps of a trace, one in each tick.
+fn replays_in_own_ticks(alloc: Global, trace: &Trace, count: usize) -> bool {
+    match replay(alloc, trace) {
+        Ok(world) => is_one_per_tick(world.trace(), count),
+        Err(_) => false,
+    }
+}
+
+// A run in which 1 and 2 receive nothing in one tick, after idle ticks and before some more.
+fn shared_tick(rt: &impl Abort, alloc: Global) -> Result<Trace, Fail> {
+    let mut trace = recorded(rt, alloc, 0, &[5, 7], &[])?;
+    for p in 1..3 {
+        let act = Act::Receive {
+            ids: MessageIds::new(Vec::new(alloc)),
+            ends: false,
+        };
+        trace.push_at(3, Step { proc: p, act })?;
+    }
+    assert!(rt; trace.idle_to(9).is_ok());
+    Ok(trace)
+}
+
+#[test]
+fn steps_of_one_tick_are_made_one_by_one(rt: HostRuntime) -> Result<(), Fail> {
+    let alloc = rt.alloc();
+    let trace = shared_tick(&rt, alloc)?;
+    assert!(rt; trace.last_tick() == 9);
+    assert!(rt; replays_in_own_ticks(alloc, &trace, 2));
+    Ok(())
+}

@@ -74,6 +74,28 @@ fn lacks<R: Wait + Abort>(
     Ok(is_off)
 }
 
+// Whether the trace of a recorder has a step of 2 in tick 1, where the view has seen another one.
+fn has_another_first<R: Wait>(rt: &R, alloc: Global, recorder: &Recorder, view: &mut View) -> bool {
+    match recorder.prefix(rt, alloc, view) {
+        Err(
+            PrefixError::NotAnExtension {
+                at,
+                found: Some((tick, step)),
+            },
+        ) => at == 1 && tick == 1 && step.proc == 2,
+        _ => false,
+    }
+}
+
+// The same of a stranger, whose second seat did one step.
+fn goes_another_way<R: Wait + Abort>(rt: &R, alloc: Global, view: &mut View) -> Result<bool, Fail> {
+    let (recorder, mut seats) = stranger(rt, alloc, 1, 7)?;
+    assert!(rt; seats.len() == 2);
+    assert!(rt; waits(rt, alloc, &recorder, &mut seats[1], 1));
+    let goes = has_another_first(rt, alloc, &recorder, view);
+    Ok(goes)
+}
+
 // Whether a stranger shows no prefix to the seat, for this reason.
 fn refuses_mine<R: Wait + Abort>(
     rt: &R,
@@ -128,6 +150,14 @@ fn a_view_of_another_recorder(rt: HostRuntime) -> Result<(), Fail> {
     let mut view = seen_step(&rt, alloc)?;
     assert!(rt; lacks(&rt, alloc, 7, &mut view, 1)?);
     assert!(rt; refuses_view(&rt, alloc, from_ref(&view))?);
+    Ok(())
+}
+
+#[test]
+fn a_view_of_another_step(rt: HostRuntime) -> Result<(), Fail> {
+    let alloc = rt.alloc();
+    let mut view = seen_step(&rt, alloc)?;
+    assert!(rt; goes_another_way(&rt, alloc, &mut view)?);
     Ok(())
 }
 

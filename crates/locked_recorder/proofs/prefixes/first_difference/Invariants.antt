@@ -1,6 +1,6 @@
-use Rattle.std.proofs.Common.{ℕ, ◌≡◌, ◌<◌}
-use Rattle.step_trace.specs.Traces.{step_at}
+use Rattle.std.proofs.Common.{ℕ, ◌≡◌, ◌<◌, ◌≤◌}
+use Rattle.locked_recorder.specs.Prefixes.{placed_at}
 use Rattle.locked_recorder.proofs.prefixes.first_difference.Given as goal
 
 abbrev pub invariant-loop-no : goal.invariant-loop-no
-invariant-loop-no l = (k : ℕ) → k < l.no → step_at l.trace.steps k ≡ step_at l.seen.steps k
+invariant-loop-no l = (1 ≤ l.no) × ((k : ℕ) → k < l.no → placed_at l.trace k ≡ placed_at l.seen k)
