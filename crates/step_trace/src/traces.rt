@@ -162,7 +162,7 @@ impl Trace {
             return false;
         }
         // The ticks of the steps after the next one are no lower than its own.
-        self.steps.len() == other.steps.len()
+        other.steps.len() == self.steps.len()
             || other.last <= tick_at(&self.ticks, other.steps.len() as u64 + 1)
     }
 
