@@ -80,7 +80,7 @@ impl Pass {
         let missed = self.receives.step_back(trace, self.set, no);
         self.next_steps.step_back(trace, self.set, no);
         let long = tick_of(trace, missed).saturating_sub(trace.tick(no));
-        self.level = with_miss(self.level, Miss { sent: no, missed }, long);
+        note_miss(&mut self.level, Miss { sent: no, missed }, long);
     }
 
     // Goes back over the ticks from `high` to the one after that of step `done`, between which there is no
@@ -116,12 +116,8 @@ impl Pass {
         ensures receives { self.new.receives ≡ self.old.receives }
         ensures next_steps { self.new.next_steps ≡ self.old.next_steps }
     {
-        self.level = with_gap(
-            self.level,
-            self.next_steps.latest(),
-            g,
-            self.next_steps.until(),
-        );
+        let until = self.next_steps.until();
+        note_gap(&mut self.level, self.next_steps.latest(), g, until);
         self.level
     }
 }
@@ -135,39 +131,29 @@ fn tick_of(trace: &Trace, no: u64) -> u64
     if no == 0 { 0 } else { trace.tick(no) }
 }
 
-// The level with a miss of this length, where its bound allows no such miss.
-fn with_miss(level: Level, miss: Miss, long: u64) -> Level
+// Takes a miss of this length into the level, where its bound allows no such miss.
+fn note_miss(level: &mut Level, miss: Miss, long: u64)
     requires { long ≤ MAX_TICKS }
-    ensures { result ≡ with_miss level miss long }
+    ensures { level.new ≡ with_miss level.old miss long }
 {
     if level.delta <= long {
-        Level {
-            delta: long + 1,
-            miss: Some(miss),
-            ..level
-        }
-    } else {
-        level
+        level.delta = long + 1;
+        level.miss = Some(miss);
     }
 }
 
-// The level with the gap of `proc` from `from` to before `until`, where its bound allows no such gap.
-fn with_gap(level: Level, proc: u64, from: u64, until: u64) -> Level
-    requires positive { 1 ≤ level.phi }
+// Takes the gap of `proc` from `from` to before `until` into the level, where its bound allows no such gap.
+fn note_gap(level: &mut Level, proc: u64, from: u64, until: u64)
+    requires positive { 1 ≤ level.old.phi }
     requires from { 1 ≤ from }
-    ensures { result ≡ with_gap level proc from until }
+    ensures { level.new ≡ with_gap level.old proc from until }
 {
     if level.phi <= until.saturating_sub(from) {
-        Level {
-            phi: until - from + 1,
-            gap: Some(Gap {
-                proc,
-                from,
-                to: until - 1,
-            }),
-            ..level
-        }
-    } else {
-        level
+        level.phi = until - from + 1;
+        level.gap = Some(Gap {
+            proc,
+            from,
+            to: until - 1,
+        });
     }
 }

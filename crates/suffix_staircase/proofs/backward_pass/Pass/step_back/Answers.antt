@@ -5,20 +5,20 @@ use Rattle.suffix_staircase.specs.Analysis.{with_miss}
 use Rattle.suffix_staircase.proofs.MissBounds.{MissesLowered, MissesLowered-with_miss}
 use Rattle.suffix_staircase.proofs.MissNumbers.{IsLastMissOf-from_numbers, last_miss_bound}
 use Rattle.suffix_staircase.proofs.backward_pass.Pass.step_back.Goals as goal
-use Rattle.suffix_staircase.proofs.backward_pass.Pass.step_back.Goals.{After-with_miss-self}
+use Rattle.suffix_staircase.proofs.backward_pass.Pass.step_back.Goals.{After-note_miss}
 
 pub tick_of-requires : goal.tick_of-requires
 tick_of-requires c = last_miss_bound c.args.self.now.set c.args.trace.now c.args.no c.step_back-missed.result c.step_back-missed.ensures.missed
 
 -- one step back by the last Receive that misses its message
-lowered : (c : After-with_miss-self) → MissesLowered c.args.self.now.set c.args.trace.now (c.args.no - 1) c.args.self.now.level c.with_miss-self.result
+lowered : (c : After-note_miss) → MissesLowered c.args.self.now.set c.args.trace.now (c.args.no - 1) c.args.self.now.level c.note_miss.new.level
 lowered c =
     let t = c.args.trace.now in
     let level = c.args.self.now.level in
     let missed = c.step_back-missed.result in
     let last = IsLastMissOf-from_numbers c.args.self.now.set t (record { steps = c.step_back-missed.ensures.sound; time = c.tick.ensures.timed }) c.args.no missed c.step_back-missed.ensures.missed in
     let long : c.saturating_sub-long.result ≡ tick_of t missed - tick_of t c.args.no = omega (arith, c.saturating_sub-long.ensures, c.tick_of.ensures.value, c.tick.ensures.value) in
-    let is = c.with_miss-self.ensures ∙ ap (λ (n : ℕ). with_miss level (record { sent = c.args.no; missed = missed }) n) long in
+    let is = c.note_miss.ensures ∙ ap (λ (n : ℕ). with_miss level (record { sent = c.args.no; missed = missed }) n) long in
     subst (λ (l : Level). MissesLowered c.args.self.now.set t (c.args.no - 1) level l) (sym is)
     (MissesLowered-with_miss c.args.self.now.set t c.args.no missed level c.requires.low c.requires.known.misses last)
 
@@ -27,14 +27,14 @@ returns-clause-known c = record {
   members = refl;
   receives = c.step_back-missed.ensures.known;
   next_steps = c.step_back.ensures;
-  misses = (lowered (goal.at.returns-clause-known c).After-with_miss-self).misses;
+  misses = (lowered (goal.at.returns-clause-known c).After-note_miss).misses;
 }
 
 pub returns-clause-falling : goal.returns-clause-falling
-returns-clause-falling c = (lowered (goal.at.returns-clause-falling c).After-with_miss-self).falling
+returns-clause-falling c = (lowered (goal.at.returns-clause-falling c).After-note_miss).falling
 
 pub returns-clause-phi : goal.returns-clause-phi
-returns-clause-phi c = (lowered (goal.at.returns-clause-phi c).After-with_miss-self).phi
+returns-clause-phi c = (lowered (goal.at.returns-clause-phi c).After-note_miss).phi
 
 pub returns-clause-gap : goal.returns-clause-gap
-returns-clause-gap c = (lowered (goal.at.returns-clause-gap c).After-with_miss-self).gap
+returns-clause-gap c = (lowered (goal.at.returns-clause-gap c).After-note_miss).gap
