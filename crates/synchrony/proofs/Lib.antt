@@ -3,3 +3,4 @@ pub mod ReportFaults
 pub mod CommandLines
 pub mod ValueLists
 pub mod RunRows
+pub mod EvenRuns

@@ -9,3 +9,4 @@ pub mod Inputs
 pub mod Reports
 pub mod ReplayTexts
 pub mod Replays
+pub mod Runs

@@ -28,6 +28,7 @@ pub record IsTextOffRun (text : List ℕ) (number : ℕ) : Type 0 where
 abbrev pub IsFaultOfReplay : Fault → Type 0
 IsFaultOfReplay (fault.Command words) = ⊥
 IsFaultOfReplay fault.Set = ⊥
+IsFaultOfReplay fault.Threads = ⊥
 IsFaultOfReplay (fault.Trace reason) = (reason ≢ why.Read) × (reason ≢ why.Memory)
 IsFaultOfReplay _ = ⊤
 

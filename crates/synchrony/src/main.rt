@@ -18,6 +18,9 @@ mod replays;
 mod report_tests;
 mod reports;
 mod run_lines;
+#[cfg(test)]
+mod run_tests;
+mod runs;
 mod value_lists;
 
 use crate::command_line::{Job, names_standard_input, read_command, refuse_words};
@@ -25,14 +28,17 @@ use crate::faults::{Fault, status, unopened};
 use crate::printing::{print, tell};
 use crate::replays::run_replay;
 use crate::reports::run_report;
+use crate::runs::run_nodes;
 use std::env;
 use std::fs::File;
 use std::process::ExitCode;
-use step_trace::ProcSet;
+use std::sync::Wait;
+use std::thread::Threads;
+use step_trace::{OpenGate, ProcSet};
 use trace_text::Counting;
 
 fn main(rt: HostRuntime) -> ExitCode {
-    match run(&rt) {
+    match run(&rt, &rt) {
         Ok(()) => ExitCode::SUCCESS,
         Err(fault) => {
             // Where it can't be told, the status is all that is left to say.
@@ -42,8 +48,8 @@ fn main(rt: HostRuntime) -> ExitCode {
     }
 }
 
-/// Does what the words of the command line ask for.
-fn run(rt: &HostRuntime) -> Result<(), Fault> {
+/// Does what the words of the command line ask for. `threads` starts the threads of a run.
+fn run<R: Threads + Wait + Sync>(rt: &HostRuntime, threads: &R) -> Result<(), Fault> {
     let words = match env::args(rt) {
         Ok(words) => words.collect(rt.alloc())?,
         Err(error) => return Err(refuse_words(rt.alloc(), error.kind())?),
@@ -51,7 +57,14 @@ fn run(rt: &HostRuntime) -> Result<(), Fault> {
     match read_command(rt.alloc(), words)? {
         Job::Report { file, set } => report(rt, file.as_str(), set),
         Job::Replay { file } => replay(rt, file.as_str()),
-        Job::Run { .. } => Err(Fault::Memory),
+        Job::Run {
+            config,
+            patience,
+            steps,
+        } => {
+            let mut output = Counting::new(rt.stdout());
+            run_nodes(threads, rt.alloc(), &config, patience, steps, &OpenGate, &mut output)
+        }
         Job::Help(text) => print(text.as_str(), &mut Counting::new(rt.stdout())),
     }
 }
