@@ -109,7 +109,7 @@ fn replay_command<'a>(alloc: Global) -> Result<Command<'a>, AllocError>
     ensures local { IfOk result (λ c. (out-Command c).has_globals ≡ false) }
 {
     Command::new(alloc, "replay")
-        .about("Prints each processor's round and decision at the end of a run")
+        .about("Prints the round and the decision of each processor at the end of a run")
         .after_help(replay_help())
         .arg(file_argument(alloc))
 }

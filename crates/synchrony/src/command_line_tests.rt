@@ -180,7 +180,7 @@ fn asks_for_text(alloc: Global, words: &[&str], begins: &str) -> bool {
 fn reads_requests_for_texts(rt: HostRuntime) -> Result<(), Fail> {
     assert!(rt; asks_for_text(rt.alloc(), &["--help"], "Tells how synchronous"));
     assert!(rt; asks_for_text(rt.alloc(), &["report", "--help"], "Prints the report"));
-    assert!(rt; asks_for_text(rt.alloc(), &["replay", "--help"], "Prints each processor"));
+    assert!(rt; asks_for_text(rt.alloc(), &["replay", "--help"], "Prints the round"));
     assert!(rt; asks_for_text(rt.alloc(), &["run", "--help"], "Runs the agreement"));
     assert!(rt; asks_for_text(rt.alloc(), &["--version"], "synchrony 0.1.0\n"));
     Ok(())

@@ -50,7 +50,7 @@ pub fn run_command<'a>(alloc: Global) -> Result<Command<'a>, AllocError>
     ensures local { IfOk result (λ c. (out-Command c).has_globals ≡ false) }
 {
     Command::new(alloc, "run")
-        .about("Runs the agreement algorithm and prints the trace of its steps")
+        .about("Runs the agreement algorithm, a thread for each processor, and prints the trace")
         .after_help(run_help())
         .arg(number_option(alloc, "nodes", "N", NODES_HELP, 0, u64::MAX))?
         .arg(number_option(alloc, "faults", "T", FAULTS_HELP, 0, u64::MAX))?
