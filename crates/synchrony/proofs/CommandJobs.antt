@@ -15,11 +15,11 @@ use Rattle.synchrony.specs.declared.command_line.Job.{Job}
 use Rattle.synchrony.specs.declared.command_line.Job.TheVariants as job
 use Rattle.synchrony.specs.declared.faults.Fault.{Fault}
 use Rattle.synchrony.specs.declared.faults.Fault.TheVariants as fault
-use Rattle.synchrony.specs.Commands.{AreRunRows, AsksForReplay, AsksForReport, NamesReplay, NamesReport, NamesRun, is_flag, program, replay_line, report_line}
+use Rattle.synchrony.specs.Commands.{AsksForReplay, AsksForReport, NamesReplay, NamesReport, is_flag, program, replay_line, report_line}
 use Rattle.synchrony.specs.Jobs.{IsHelpFor, IsJobIn, IsJobOf, IsLineFault, IsListFault, IsMemory, IsNoList, IsRefusalFor, IsRefusalIn, IsRefusalOf, IsReplay, IsReport}
 use Rattle.synchrony.proofs.CommandLines.{asks_for_replay, asks_for_report, replay_faultless, report_faultless}
 
-pub same_some : {A : Type 0} (a b : A) → Some a ≡ Some b → a ≡ b
+same_some : {A : Type 0} (a b : A) → Some a ≡ Some b → a ≡ b
 same_some a b e = cc
 
 no_some : {A : Type 0} (o : Option A) (a : A) → o ≡ None → o ≡ Some a → ⊥
@@ -78,22 +78,11 @@ replayed_in sub rows named file h =
 one_replayed : (sub : Option (Text × List Row)) (f g : Text) → NamesReplay sub f → NamesReplay sub g → f ≡ g
 one_replayed sub f g a b = same_some f g (sym a.file_is ∙ replayed_in sub a.rows a.named g b)
 
--- no subcommand has two names
-same_letter : (sub : Option (Text × List Row)) (a b : Text) (rows more : List Row) (place : ℕ) → sub ≡ Some (a, rows) → sub ≡ Some (b, more) → get_or a place 0 ≡ get_or b place 0
-same_letter sub a b rows more place first second =
-    ap (λ (word : Text). get_or word place 0) (ap (λ (p : Text × List Row). p.0) (same_some (a, rows) (b, more) (sym first ∙ second)))
-
-no_report_and_replay : (sub : Option (Text × List Row)) (f l g : Text) → NamesReport sub f l → NamesReplay sub g → ⊥
-no_report_and_replay sub f l g a b =
-    let letter : ◌≡◌ {A = ℕ} 111 108 = same_letter sub (codes "report") (codes "replay") a.rows b.rows 3 a.named b.named in absurd (omega arith)
-
-no_report_and_run : (sub : Option (Text × List Row)) (f l : Text) (n t : ℕ) (values : Text) (patience steps : ℕ) → NamesReport sub f l → NamesRun sub n t values patience steps → ⊥
-no_report_and_run sub f l n t values patience steps a b =
-    let letter : ◌≡◌ {A = ℕ} 101 117 = same_letter sub (codes "report") (codes "run") a.rows b.rows 1 a.named b.named in absurd (omega arith)
-
-no_replay_and_run : (sub : Option (Text × List Row)) (f : Text) (n t : ℕ) (values : Text) (patience steps : ℕ) → NamesReplay sub f → NamesRun sub n t values patience steps → ⊥
-no_replay_and_run sub f n t values patience steps a b =
-    let letter : ◌≡◌ {A = ℕ} 101 117 = same_letter sub (codes "replay") (codes "run") a.rows b.rows 1 a.named b.named in absurd (omega arith)
+-- no subcommand is both
+one_command : (sub : Option (Text × List Row)) (f l g : Text) → NamesReport sub f l → NamesReplay sub g → ⊥
+one_command sub f l g a b =
+    let same : codes "report" ≡ codes "replay" = ap (λ (p : Text × List Row). p.0) (same_some _ _ (sym a.named ∙ b.named)) in
+    let letter : ◌≡◌ {A = ℕ} 111 108 = ap (λ (word : Text). get_or word 3 0) same in absurd (omega arith)
 
 -- the file of `replay`, where a getter reads it
 pub replay_found : (m found : ArgMatches) (a : Option (Bor Text)) → subcommand_rows_of m ≡ Some (codes "replay", rows_of (found_of found))
@@ -102,23 +91,16 @@ replay_found m found None named in_rows = tt
 replay_found m found (Some file) named in_rows =
     record { rows = rows_of (found_of found); named = named; file_is = has_value found (codes "file") (Some file) file in_rows refl }
 
--- where `run` is named, its rows have what it names
-pub run_in : (sub : Option (Text × List Row)) (rows : List Row) → sub ≡ Some (codes "run", rows) → (n t : ℕ) (values : Text) (patience steps : ℕ)
-    → NamesRun sub n t values patience steps → AreRunRows rows n t values patience steps
-run_in sub rows named n t values patience steps h =
-    let same = ap (λ (p : Text × List Row). p.1) (same_some (codes "run", h.rows) (codes "run", rows) (sym h.named ∙ named)) in
-    subst (λ rs. AreRunRows rs n t values patience steps) same h.has
-
 -- a refusal where no job is named
 pub nothing_named : (sub : Option (Text × List Row)) (w : Fault) → IsLineFault w → ((file list : Text) → ¬ NamesReport sub file list)
-    → ((file : Text) → ¬ NamesReplay sub file) → ((n t : ℕ) (values : Text) (patience steps : ℕ) → ¬ NamesRun sub n t values patience steps) → IsRefusalIn sub w
-nothing_named sub (fault.Command text) h report replay run = inr (inr (record { no_report = report; no_replay = replay; no_run = run }))
-nothing_named sub fault.Set h report replay run = absurd h
-nothing_named sub (fault.Trace e) h report replay run = absurd h
-nothing_named sub fault.Memory h report replay run = absurd h
-nothing_named sub fault.Read h report replay run = absurd h
-nothing_named sub (fault.Write n) h report replay run = absurd h
-nothing_named sub (fault.NotARun n) h report replay run = absurd h
+    → ((file : Text) → ¬ NamesReplay sub file) → IsRefusalIn sub w
+nothing_named sub (fault.Command text) h report replay = inr (record { no_report = report; no_replay = replay })
+nothing_named sub fault.Set h report replay = absurd h
+nothing_named sub (fault.Trace e) h report replay = absurd h
+nothing_named sub fault.Memory h report replay = absurd h
+nothing_named sub fault.Read h report replay = absurd h
+nothing_named sub (fault.Write n) h report replay = absurd h
+nothing_named sub (fault.NotARun n) h report replay = absurd h
 
 -- the parse of the program's command line is known
 is_simple_program : is_simple program ≡ true
@@ -140,7 +122,6 @@ kinds_known a words error e h = subst (λ b. HasKind (fault_of b words) error) e
 pub job_of : (words : List Text) (sub : Option (Text × List Row)) → sub ≡ subcommand_of program words → (j : Job) → IsJobIn sub j → IsJobOf words j
 job_of words sub e (job.Report name set) h = subst (λ s. IsJobIn s (job.Report name set)) e h
 job_of words sub e (job.Replay name) h = subst (λ s. IsJobIn s (job.Replay name)) e h
-job_of words sub e (job.Run config patience steps) h = subst (λ s. IsJobIn s (job.Run config patience steps)) e h
 job_of words sub e (job.Help text) h = absurd h
 
 -- and what is refused in them is refused in the words
@@ -162,7 +143,6 @@ among words kind other (inr h) = h
 pub help_of : (words : List Text) (kind : ErrorKind) → (kind ≡ OutOfMemory) ⊎ IsAmong kind (fault_of program words) → (j : Job) → IsHelpFor kind j → IsJobOf words j
 help_of words kind has (job.Report file set) h = absurd h
 help_of words kind has (job.Replay file) h = absurd h
-help_of words kind has (job.Run config patience steps) h = absurd h
 help_of words kind has (job.Help text) h = record { kind = kind; among = among words kind h.0 has; help = h.1 }
 
 -- a refusal for an error of the words that asks for none
@@ -184,9 +164,7 @@ line_job : (words : List Text) (file list : Text) → fault_of program words ≡
 line_job words file list none asks (job.Report name set) h =
     let same = one_file (subcommand_of program words) (string_bytes name) h.0 file list h.1 asks in
     (same.0, subst (λ l. IsSetIn l set) same.1 h.2)
-line_job words file list none asks (job.Replay name) h = absurd (no_report_and_replay (subcommand_of program words) file list (string_bytes name) asks h)
-line_job words file list none asks (job.Run config patience steps) h =
-    absurd (no_report_and_run (subcommand_of program words) file list config.n config.t h.text patience steps asks h.named)
+line_job words file list none asks (job.Replay name) h = absurd (one_command (subcommand_of program words) file list (string_bytes name) asks h)
 line_job words file list none asks (job.Help text) h = absurd (none_among h.kind (fault_of program words) none h.among)
 
 -- and their refusals
@@ -194,9 +172,7 @@ line_refusal : (words : List Text) (file list : Text) → fault_of program words
 line_refusal words file list none asks (fault.Command text) (inl h) = absurd (none_among h.kind (fault_of program words) none h.among)
 line_refusal words file list none asks (fault.Command text) (inr (inl h)) =
     (h.told, subst IsNoList (one_file (subcommand_of program words) h.file h.list file list h.named asks).1 h.no_list)
-line_refusal words file list none asks (fault.Command text) (inr (inr (inl h))) =
-    absurd (no_report_and_run (subcommand_of program words) file list h.n h.t h.values h.patience h.steps asks h.named)
-line_refusal words file list none asks (fault.Command text) (inr (inr (inr h))) = absurd (h.no_report file list asks)
+line_refusal words file list none asks (fault.Command text) (inr (inr h)) = absurd (h.no_report file list asks)
 line_refusal words file list none asks fault.Set h = h
 line_refusal words file list none asks (fault.Trace e) h = h
 line_refusal words file list none asks fault.Memory h = h
@@ -216,18 +192,14 @@ line_is words (Err w) _ h name file list line plain_file plain_list =
 
 -- the same of a replay, which no list can keep from it
 replayed_job : (words : List Text) (file : Text) → fault_of program words ≡ [] → AsksForReplay words file → (j : Job) → IsJobOf words j → IsReplay file j
-replayed_job words file none asks (job.Report name set) h = absurd (no_report_and_replay (subcommand_of program words) (string_bytes name) h.0 file h.1 asks)
+replayed_job words file none asks (job.Report name set) h = absurd (one_command (subcommand_of program words) (string_bytes name) h.0 file h.1 asks)
 replayed_job words file none asks (job.Replay name) h = one_replayed (subcommand_of program words) (string_bytes name) file h asks
-replayed_job words file none asks (job.Run config patience steps) h =
-    absurd (no_replay_and_run (subcommand_of program words) file config.n config.t h.text patience steps asks h.named)
 replayed_job words file none asks (job.Help text) h = absurd (none_among h.kind (fault_of program words) none h.among)
 
 replayed_refusal : (words : List Text) (file : Text) → fault_of program words ≡ [] → AsksForReplay words file → (w : Fault) → IsRefusalOf words w → IsMemory w
 replayed_refusal words file none asks (fault.Command text) (inl h) = absurd (none_among h.kind (fault_of program words) none h.among)
-replayed_refusal words file none asks (fault.Command text) (inr (inl h)) = absurd (no_report_and_replay (subcommand_of program words) h.file h.list file h.named asks)
-replayed_refusal words file none asks (fault.Command text) (inr (inr (inl h))) =
-    absurd (no_replay_and_run (subcommand_of program words) file h.n h.t h.values h.patience h.steps asks h.named)
-replayed_refusal words file none asks (fault.Command text) (inr (inr (inr h))) = absurd (h.no_replay file asks)
+replayed_refusal words file none asks (fault.Command text) (inr (inl h)) = absurd (one_command (subcommand_of program words) h.file h.list file h.named asks)
+replayed_refusal words file none asks (fault.Command text) (inr (inr h)) = absurd (h.no_replay file asks)
 replayed_refusal words file none asks fault.Set h = h
 replayed_refusal words file none asks (fault.Trace e) h = h
 replayed_refusal words file none asks fault.Memory h = h

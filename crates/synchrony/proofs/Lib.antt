@@ -1,5 +1,3 @@
 pub mod CommandJobs
 pub mod ReportFaults
 pub mod CommandLines
-pub mod ValueLists
-pub mod RunRows

@@ -9,12 +9,11 @@ ghost use Rattle.synchrony.specs.Jobs.{IsJobOf, IsJobIn, IsHelpFor, IsMemory, Is
 
 use crate::faults::Fault;
 use crate::help_texts::{program_help, replay_help, report_help};
-use crate::run_lines::{run_command, run_job, run_words};
 use clap::error::ErrorKind;
 use clap::{Arg, ArgAction, ArgMatches, Command};
 use std::alloc::{AllocError, Global};
 use std::io;
-use step_trace::{Config, ProcSet};
+use step_trace::ProcSet;
 
 /// What the program is to do.
 #[derive(Debug, Drop)]
@@ -33,15 +32,6 @@ pub enum Job {
         /// The path of the file.
         file: String,
     },
-    /// Run the nodes of a configuration, a thread for each, and print the trace of their steps.
-    Run {
-        /// The processors and their initial values.
-        config: Config,
-        /// Which Receive of a round ends it, from 1 on.
-        patience: u64,
-        /// How many steps each processor makes; all together make at most `MAX_STEPS`.
-        steps: u64,
-    },
     /// Print this text, which was asked for.
     Help(String),
 }
@@ -49,8 +39,7 @@ pub enum Job {
 /// The job that a command line asks for; its first word is the program's name.
 ///
 /// Refuses what the reader of the command line refuses, in its words; a list that isn't one, by
-/// `bad --correct`; the numbers or values of a run that are outside its limits, by the first of
-/// `bad --nodes`, `bad --faults`, `bad --values` and `too many steps`; and Memory. The line `report FILE --correct LIST` asks for the report of FILE for
+/// `bad --correct`; and Memory. The line `report FILE --correct LIST` asks for the report of FILE for
 /// LIST, where neither begins with a hyphen and goes on; and so `replay FILE` for the replay of FILE.
 pub fn read_command(alloc: Global, words: Vec<String>) -> Result<Job, Fault>
     ensures job { IfOk result (IsJobOf (map string_bytes words.items)) }
@@ -83,8 +72,7 @@ fn command<'a>(alloc: Global) -> Result<Command<'a>, AllocError>
         .after_help(program_help())
         .subcommand_required(true)
         .subcommand(report_command(alloc)?)?
-        .subcommand(replay_command(alloc)?)?
-        .subcommand(run_command(alloc)?)
+        .subcommand(replay_command(alloc)?)
 }
 
 fn report_command<'a>(alloc: Global) -> Result<Command<'a>, AllocError>
@@ -175,9 +163,6 @@ fn job_found(alloc: Global, matches: &ArgMatches<'_>) -> Result<Job, Fault>
 {
     if let Some((file, list)) = report_values(matches) {
         return report_job(alloc, file, list);
-    }
-    if let Some(words) = run_words(matches) {
-        return run_job(alloc, words);
     }
     let Some(file) = replay_file(matches) else {
         return Err(unknown(alloc)?);

@@ -4,5 +4,4 @@ use Rattle.synchrony.proofs.command_line.job_found.Goals as goal
 
 pub returns-in_default-replay_file-clause-refused : goal.returns-in_default-replay_file-clause-refused
 returns-in_default-replay_file-clause-refused c =
-    nothing_named _ c.in_ok-unknown.field-0 c.in_ok-unknown.ensures
-    (c.in_default.ensures.none refl) (c.in_default-replay_file.ensures.none refl) (c.in_default-run_words.ensures.none refl)
+    nothing_named _ c.in_ok-unknown.field-0 c.in_ok-unknown.ensures (c.in_default.ensures.none refl) (c.in_default-replay_file.ensures.none refl)
