@@ -16,5 +16,6 @@ pub mod TakenRecords
 pub mod TableReasons
 pub mod TextLaws
 pub mod TraceRecords
+pub mod OnePerTick
 pub mod WrittenRecords
 pub mod WrittenTexts

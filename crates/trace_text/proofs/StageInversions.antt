@@ -48,6 +48,20 @@ two_fields (a ∷ b ∷ c ∷ more) h = let l : suc (suc (suc (length more))) �
 pub four_are : (fields : List (List ℕ)) (a b c d : List ℕ) → length fields ≡ 4 → field_of fields 0 ≡ a → field_of fields 1 ≡ b → field_of fields 2 ≡ c → field_of fields 3 ≡ d → fields ≡ a ∷ b ∷ c ∷ d ∷ []
 four_are fields a b c d l p q r s = let e = four_fields fields l in cc
 
+five_fields : (fields : List (List ℕ)) → length fields ≡ 5 → fields ≡ field_of fields 0 ∷ field_of fields 1 ∷ field_of fields 2 ∷ field_of fields 3 ∷ field_of fields 4 ∷ []
+unfolding field_at
+five_fields [] h = absurd (omega (arith, h))
+five_fields (a ∷ []) h = absurd (omega (arith, h))
+five_fields (a ∷ b ∷ []) h = absurd (omega (arith, h))
+five_fields (a ∷ b ∷ c ∷ []) h = absurd (omega (arith, h))
+five_fields (a ∷ b ∷ c ∷ d ∷ []) h = absurd (omega (arith, h))
+five_fields (a ∷ b ∷ c ∷ d ∷ e ∷ []) h = refl
+five_fields (a ∷ b ∷ c ∷ d ∷ e ∷ f ∷ more) h = let l : suc (suc (suc (suc (suc (suc (length more)))))) ≡ 5 = h in absurd (omega (arith, l))
+
+pub five_are : (fields : List (List ℕ)) (a b c d e : List ℕ) → length fields ≡ 5 → field_of fields 0 ≡ a → field_of fields 1 ≡ b → field_of fields 2 ≡ c → field_of fields 3 ≡ d → field_of fields 4 ≡ e
+    → fields ≡ a ∷ b ∷ c ∷ d ∷ e ∷ []
+five_are fields a b c d e l p q r s t = let f = five_fields fields l in cc
+
 pub two_are : (fields : List (List ℕ)) (a b : List ℕ) → length fields ≡ 2 → field_of fields 0 ≡ a → field_of fields 1 ≡ b → fields ≡ a ∷ b ∷ []
 two_are fields a b l p q = let e = two_fields fields l in cc
 

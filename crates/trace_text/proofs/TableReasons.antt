@@ -7,13 +7,16 @@ use Rattle.step_trace.specs.declared.traces.PushError.{PushError}
 use Rattle.step_trace.specs.declared.steps.Step.{Step}
 use Rattle.step_trace.specs.Configurations.{config_refusal}
 use Rattle.step_trace.specs.Traces.{Recorded}
-use Rattle.step_trace.specs.TickRefusals.{refusal_in}
+use Rattle.step_trace.specs.Ticks.{with_last}
+use Rattle.step_trace.specs.TickRefusals.{may_end_in, refusal_in}
+use Rattle.trace_text.specs.declared.versions.Version.{Version}
+use Rattle.trace_text.specs.declared.versions.Version.TheVariants.{One, Two}
 use Rattle.trace_text.specs.declared.reading.Stage.{Stage}
 use Rattle.trace_text.specs.declared.reading.Stage.TheVariants.{Opening, Sized, Recording, Ended}
 use Rattle.trace_text.specs.declared.refusals.TextError.{TextError}
 use Rattle.trace_text.specs.declared.refusals.TextError.TheVariants.{TooLarge, Read, BadHeader, BadVersion, BadSize, BadInit, BadFields, WrongNumber, BadOp, BadNumber, BadStep, NoEnd, WrongEnd, AfterEnd, Memory}
 use Rattle.trace_text.specs.Records.{field_of, number_of, after_records, ◌>>=◌}
-use Rattle.trace_text.specs.TextRefusals.{numbers_of, operation_of, act_of, is_size, size_stage, started, header_stage, init_stage, step_of, pushed, step_stage, end_stage, next_stage, trace_at_end, trace_of_records, is_memory}
+use Rattle.trace_text.specs.TextRefusals.{numbers_of, version_named, operation_of, act_of, step_fields, proc_place, step_tick, ended, is_size, size_stage, started, header_stage, init_stage, step_of, pushed, step_stage, end_stage, next_stage, trace_at_end, trace_of_records, is_memory}
 
 -- whether records may give the reason
 abbrev pub is_of_records : TextError → Bool
@@ -48,47 +51,52 @@ part : {A B : Type 0} (o : Option A) (e : TextError) (f : A → Result B TextErr
 part None e f h k = record { reason = h }
 part (Some x) e f h k = k x
 
-of_size : (fields : List (List ℕ)) → IsOfRecords (size_stage fields)
-of_size fields = part (number_of (field_of fields 2)) BadSize _ refl (λ n. part (number_of (field_of fields 3)) BadSize _ refl (λ t. either (is_size n t) (good (Sized n t)) (bad BadSize refl)))
+of_size : (v : Version) (fields : List (List ℕ)) → IsOfRecords (size_stage v fields)
+of_size v fields = part (number_of (field_of fields 2)) BadSize _ refl (λ n. part (number_of (field_of fields 3)) BadSize _ refl (λ t. either (is_size n t) (good (Sized v n t)) (bad BadSize refl)))
 
 of_header : (fields : List (List ℕ)) → IsOfRecords (header_stage fields)
 of_header fields =
     either ((length fields == 4) && bytes_eq (field_of fields 0) (codes "dls-trace"))
-    (either (bytes_eq (field_of fields 1) (codes "1")) (of_size fields) (bad BadVersion refl))
+    (part (version_named (field_of fields 1)) BadVersion _ refl (λ v. of_size v fields))
     (bad BadHeader refl)
 
-of_values : (n t : ℕ) (values : List ℕ) → IsOfRecords (started n t values)
-of_values n t values = either (is_none (config_refusal n t (length values))) (good _) (bad BadInit refl)
+of_values : (v : Version) (n t : ℕ) (values : List ℕ) → IsOfRecords (started v n t values)
+of_values v n t values = either (is_none (config_refusal n t (length values))) (good _) (bad BadInit refl)
 
-of_init : (n t : ℕ) (fields : List (List ℕ)) → IsOfRecords (init_stage n t fields)
-of_init n t fields = either (bytes_eq (field_of fields 0) (codes "init")) (part (numbers_of (drop 1 fields)) BadInit _ refl (of_values n t)) (bad BadInit refl)
+of_init : (v : Version) (n t : ℕ) (fields : List (List ℕ)) → IsOfRecords (init_stage v n t fields)
+of_init v n t fields = either (bytes_eq (field_of fields 0) (codes "init")) (part (numbers_of (drop 1 fields)) BadInit _ refl (of_values v n t)) (bad BadInit refl)
 
-of_fields : (at : ℕ) (fields : List (List ℕ)) → IsOfRecords (step_of at fields)
-of_fields at fields =
-    part (operation_of (field_of fields 2)) (BadOp at) _ refl (λ o. part (number_of (field_of fields 1)) (BadNumber at) _ refl
-    (λ p. part (act_of o (field_of fields 3)) (BadNumber at) _ refl (λ a. good _)))
+of_fields : (v : Version) (at : ℕ) (fields : List (List ℕ)) → IsOfRecords (step_of v at fields)
+of_fields v at fields =
+    part (operation_of (field_of fields (proc_place v + 1))) (BadOp at) _ refl (λ o. part (step_tick v at fields) (BadNumber at) _ refl
+    (λ tick. part (number_of (field_of fields (proc_place v))) (BadNumber at) _ refl
+    (λ p. part (act_of o (field_of fields (proc_place v + 2))) (BadNumber at) _ refl (λ a. good _))))
 
-of_push : (t : Recorded) (tick : ℕ) (x : Step) (o : Option PushError) → IsOfRecords (pushed t tick x o)
-of_push t tick x None = good _
-of_push t tick x (Some e) = bad (BadStep _ e) refl
+of_push : (v : Version) (t : Recorded) (tick : ℕ) (x : Step) (o : Option PushError) → IsOfRecords (pushed v t tick x o)
+of_push v t tick x None = good _
+of_push v t tick x (Some e) = bad (BadStep _ e) refl
 
-of_step : (t : Recorded) (fields : List (List ℕ)) → IsOfRecords (step_stage t fields)
-of_step t fields =
-    either (length fields == 4)
+of_step : (v : Version) (t : Recorded) (fields : List (List ℕ)) → IsOfRecords (step_stage v t fields)
+of_step v t fields =
+    either (length fields == step_fields v)
     (either (bytes_eq (field_of fields 0) (decimal (length t.steps + 1)))
-    (then (step_of (length t.steps + 1) fields) _ (of_fields (length t.steps + 1) fields) (λ x. of_push t (length t.steps + 1) x (refusal_in t (length t.steps + 1) x)))
+    (then (step_of v (length t.steps + 1) fields) _ (of_fields v (length t.steps + 1) fields) (λ x. of_push v t x.0 x.1 (refusal_in t x.0 x.1)))
     (bad (WrongNumber (length t.steps + 1)) refl))
     (bad (BadFields (length t.steps + 1)) refl)
 
-of_end : (t : Recorded) (fields : List (List ℕ)) → IsOfRecords (end_stage t fields)
-of_end t fields =
-    either (length fields == 2) (either (bytes_eq (field_of fields 1) (decimal (length t.steps))) (good (Ended t)) (bad WrongEnd refl))
+of_last : (v : Version) (t : Recorded) (field : List ℕ) → IsOfRecords (ended v t field)
+of_last One t field = either (bytes_eq field (decimal (length t.steps))) (good (Ended t)) (bad WrongEnd refl)
+of_last Two t field = part (number_of field) WrongEnd _ refl (λ last. either (may_end_in t last) (good (Ended (with_last t last))) (bad WrongEnd refl))
+
+of_end : (v : Version) (t : Recorded) (fields : List (List ℕ)) → IsOfRecords (end_stage v t fields)
+of_end v t fields =
+    either (length fields == 2) (of_last v t (field_of fields 1))
     (bad (BadFields (length t.steps + 1)) refl)
 
 of_next : (s : Stage) (fields : List (List ℕ)) → IsOfRecords (next_stage s fields)
 of_next Opening fields = of_header fields
-of_next (Sized n t) fields = of_init n t fields
-of_next (Recording t) fields = either (bytes_eq (field_of fields 0) (codes "end")) (of_end t fields) (of_step t fields)
+of_next (Sized v n t) fields = of_init v n t fields
+of_next (Recording v t) fields = either (bytes_eq (field_of fields 0) (codes "end")) (of_end v t fields) (of_step v t fields)
 of_next (Ended t) fields = bad AfterEnd refl
 
 of_all : (s : Stage) (records : List (List (List ℕ))) → IsOfRecords (after_records next_stage s records)
@@ -97,8 +105,8 @@ of_all s (fields ∷ records) = then (next_stage s fields) _ (of_next s fields) 
 
 at_end : (s : Stage) → IsOfRecords (trace_at_end s)
 at_end Opening = bad BadHeader refl
-at_end (Sized n t) = bad BadInit refl
-at_end (Recording t) = bad NoEnd refl
+at_end (Sized v n t) = bad BadInit refl
+at_end (Recording v t) = bad NoEnd refl
 at_end (Ended t) = good t
 
 of_whole : (records : List (List (List ℕ))) → IsOfRecords (trace_of_records records)

@@ -15,7 +15,7 @@ use Rattle.trace_text.proofs.TraceRecords.{reads-trace}
 
 -- an accepted text stands for its trace
 pub gives-stands : (text : List ℕ) (r : Result Recorded TextError) → Gives r (trace_of_records (records_of_text text)) → IfOk r (λ t. StandsFor text t)
-gives-stands text (Ok t) h = let a = accepted-records (records_of_text text) t h in (a.1, a.2)
+gives-stands text (Ok t) h = (accepted-records (records_of_text text) t h).1
 gives-stands text (Err e) h = tt
 
 pub gives-sound : (text : List ℕ) (r : Result Recorded TextError) → Gives r (trace_of_records (records_of_text text)) → IfOk r (λ t. IsTextTrace t)
@@ -24,7 +24,7 @@ gives-sound text (Err e) h = tt
 
 -- what stands for a trace gives it
 stands-gives : (text : List ℕ) (t : Recorded) → IsTextTrace t → StandsFor text t → trace_of_records (records_of_text text) ≡ Ok t
-stands-gives text t h s = ap trace_of_records s.1 ∙ reads-trace t h s.0
+stands-gives text t h s = ap trace_of_records s.2 ∙ reads-trace s.0 t h s.1
 
 only_memory : (e : TextError) (t : Recorded) (table : Result Recorded TextError) → table ≡ Ok t → MatchBool (is_memory e) ⊤ (table ≡ Err e) → e ≡ why.Memory
 only_memory why.Memory t table h k = refl

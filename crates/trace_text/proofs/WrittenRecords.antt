@@ -14,7 +14,9 @@ use Rattle.step_trace.proofs.StepPositions.{step_at_within}
 use Rattle.csv.specs.Writing.{needs_byte}
 use Rattle.trace_text.specs.Records.{record_line, text_of_records}
 use Rattle.trace_text.specs.RecordWriting.{our_writer, IsPlain, ArePlain}
-use Rattle.trace_text.specs.TraceTexts.{header_record, init_record, step_record, step_records, end_record, trace_text}
+use Rattle.step_trace.specs.Ticks.{tick_at}
+use Rattle.trace_text.specs.declared.versions.Version.{Version}
+use Rattle.trace_text.specs.TraceTexts.{header_record, init_record, step_record, step_records, end_record, version_text}
 use Rattle.trace_text.proofs.AcceptedRecords.{step_records-more}
 use Rattle.trace_text.proofs.PlainFields.{IsPlain-decimal}
 
@@ -31,16 +33,16 @@ take-step steps (suc k) x h =
     rw (place, before) (take-suc steps k x (slice_get_within steps k x h) ∙ ap (λ (y : Step). take k steps ++ y ∷ []) (get_or_from_slice_get steps k x x h))
 
 -- the text of the steps before a step, and that step's record
-pub text-step : (steps : List Step) (k : ℕ) (x : Step) → step_at steps k ≡ Some x
-    → text_of_records (step_records 1 (take (k + 1 - 1) steps)) ≡ text_of_records (step_records 1 (take (k - 1) steps)) ++ record_line (step_record k x)
-text-step steps k x h =
+pub text-step : (v : Version) (ticks : List ℕ) (steps : List Step) (k : ℕ) (x : Step) → step_at steps k ≡ Some x
+    → text_of_records (step_records v ticks 1 (take (k + 1 - 1) steps)) ≡ text_of_records (step_records v ticks 1 (take (k - 1) steps)) ++ record_line (step_record v k (tick_at ticks k) x)
+text-step v ticks steps k x h =
     let within = step_at_within steps k x h in
     let size : length (take (k - 1) steps) ≡ k - 1 = length-take-le (k - 1) steps (omega (arith, within)) in
     let at : 1 + length (take (k - 1) steps) ≡ k = omega (arith, size, within) in
     rw (take-step steps k x h)
-    (ap text_of_records (step_records-more 1 (take (k - 1) steps) x)
-    ∙ text_of_records-more (step_records 1 (take (k - 1) steps)) (step_record (1 + length (take (k - 1) steps)) x)
-    ∙ ap (λ (i : ℕ). text_of_records (step_records 1 (take (k - 1) steps)) ++ record_line (step_record i x)) at)
+    (ap text_of_records (step_records-more v ticks 1 (take (k - 1) steps) x)
+    ∙ text_of_records-more (step_records v ticks 1 (take (k - 1) steps)) (step_record v (1 + length (take (k - 1) steps)) (tick_at ticks (1 + length (take (k - 1) steps))) x)
+    ∙ ap (λ (i : ℕ). text_of_records (step_records v ticks 1 (take (k - 1) steps)) ++ record_line (step_record v i (tick_at ticks i) x)) at)
 
 -- where there is no step of a number, the steps before it are all
 pub take-all_steps : (steps : List Step) (k : ℕ) → 1 ≤ k → step_at steps k ≡ None → take (k - 1) steps ≡ steps
@@ -88,13 +90,14 @@ ArePlain-decimals [] small = tt
 ArePlain-decimals (n ∷ ns) small = (IsPlain-decimal n (All-head (λ k. k < 2 ^ 64) n ns small), ArePlain-decimals ns (All-tail (λ k. k < 2 ^ 64) n ns small))
 
 -- the parts of a trace's text
-pub trace_text-parts : (t : Recorded) → (((record_line (header_record t.config.n t.config.t) ++ record_line (init_record t.config.init)) ++ text_of_records (step_records 1 t.steps)) ++ record_line (end_record t.last)) ≡ trace_text t
-trace_text-parts t =
-    let header = record_line (header_record t.config.n t.config.t) in
+pub version_text-parts : (v : Version) (t : Recorded)
+    → (((record_line (header_record v t.config.n t.config.t) ++ record_line (init_record t.config.init)) ++ text_of_records (step_records v t.ticks 1 t.steps)) ++ record_line (end_record t.last)) ≡ version_text v t
+version_text-parts v t =
+    let header = record_line (header_record v t.config.n t.config.t) in
     let init = record_line (init_record t.config.init) in
-    let steps = text_of_records (step_records 1 t.steps) in
+    let steps = text_of_records (step_records v t.ticks 1 t.steps) in
     let end = record_line (end_record t.last) in
-    rw (text_of_records-more (step_records 1 t.steps) (end_record t.last))
+    rw (text_of_records-more (step_records v t.ticks 1 t.steps) (end_record t.last))
     (append_assoc (header ++ init) steps end ∙ append_assoc header init (steps ++ end))
 
 -- numbers of 64 bits, one by one

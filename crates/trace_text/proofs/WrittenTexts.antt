@@ -10,12 +10,15 @@ use Rattle.step_trace.specs.declared.steps.Step.{Step}
 use Rattle.step_trace.specs.Configurations.{Setup, IsSetup, IsProc}
 use Rattle.step_trace.specs.Steps.{act_dest, act_ids}
 use Rattle.step_trace.specs.Traces.{Recorded, step_at, IsWellFormed}
-use Rattle.step_trace.specs.Ticks.{IsOnePerTick}
+use Rattle.step_trace.specs.Ticks.{tick_at}
+use Rattle.step_trace.proofs.TickPositions.{tick_of-limit}
+use Rattle.trace_text.specs.declared.versions.Version.{Version}
+use Rattle.trace_text.specs.declared.versions.Version.TheVariants.{One, Two}
 use Rattle.step_trace.proofs.StepPositions.{step_at_within}
 use Rattle.trace_text.specs.declared.byte_loops.TheConstants.{MAX_TEXT_BYTES}
 use Rattle.trace_text.specs.Records.{record_line, text_of_records}
-use Rattle.trace_text.specs.RecordWriting.{IsPlain}
-use Rattle.trace_text.specs.TraceTexts.{IsTextTrace, StandsFor, header_record, init_record, step_record, step_records, end_record, op_text, arg_text, trace_records, trace_text}
+use Rattle.trace_text.specs.RecordWriting.{IsPlain, ArePlain}
+use Rattle.trace_text.specs.TraceTexts.{IsTextTrace, HasTextsOf, StandsFor, version_field, header_record, init_record, step_record, step_records, end_record, op_text, arg_text, trace_records, version_text}
 use Rattle.trace_text.proofs.LineLengths.{bytes_of-decimals, length-ids, length-line, short-decimal}
 use Rattle.trace_text.proofs.LinesRead.{AreLines, AreLines-append, lines-read}
 use Rattle.trace_text.proofs.PlainFields.{IsPlain-decimal}
@@ -64,23 +67,49 @@ plain-arg : (a : Act) → IfSome (act_dest a) (λ p. p < 10 ^ 7) → All (λ s. 
 plain-arg (Send to) dest ids = IsPlain-decimal to (omega (arith, dest))
 plain-arg (Receive ends ns) dest ids = IsPlain-ids ns (fits-ids ns ids)
 
-lines-steps : (at : ℕ) (xs : List Step) → at + length xs ≤ 10 ^ 7 → AreShort xs → AreLines (step_records at xs)
-unfolding AreShort
-lines-steps at [] room short = tt
-lines-steps at (x ∷ xs) room short =
-    let one = short.0 in
-    let proc = one.proc in (
-      omega arith,
-      (IsPlain-decimal at (omega (arith, room)), (IsPlain-decimal x.proc (omega (arith, proc)), (plain-op x.act, (plain-arg x.act one.dest one.ids, tt)))),
-      lines-steps (at + 1) xs (omega (arith, room)) short.1,
-    )
+-- no tick has more than seven digits
+AreShortTicks : List ℕ → Type 0
+AreShortTicks ticks = (k : ℕ) → tick_at ticks k < 10 ^ 7
+
+plain-step : (v : Version) (at tick : ℕ) (x : Step) → at < 10 ^ 7 → tick < 10 ^ 7 → IsShort x → ArePlain (step_record v at tick x)
+plain-step One at tick x l m short =
+    let proc = short.proc in (IsPlain-decimal at (omega (arith, l)), (IsPlain-decimal x.proc (omega (arith, proc)), (plain-op x.act, (plain-arg x.act short.dest short.ids, tt))))
+plain-step Two at tick x l m short =
+    let proc = short.proc in
+    (IsPlain-decimal at (omega (arith, l)), (IsPlain-decimal tick (omega (arith, m)), (IsPlain-decimal x.proc (omega (arith, proc)), (plain-op x.act, (plain-arg x.act short.dest short.ids, tt)))))
+
+two-fields : (v : Version) (at tick : ℕ) (x : Step) → 2 ≤ length (step_record v at tick x)
+two-fields One at tick x = omega arith
+two-fields Two at tick x = omega arith
+
+lines-steps : (v : Version) (ticks : List ℕ) (at : ℕ) (xs : List Step) → at + length xs ≤ 10 ^ 7 → AreShortTicks ticks → AreShort xs → AreLines (step_records v ticks at xs)
+unfolding AreShort AreShortTicks
+lines-steps v ticks at [] room low short = tt
+lines-steps v ticks at (x ∷ xs) room low short = (
+  two-fields v at (tick_at ticks at) x,
+  plain-step v at (tick_at ticks at) x (omega (arith, room)) (low at) short.0,
+  lines-steps v ticks (at + 1) xs (omega (arith, room)) low short.1,
+)
+
+-- all ticks of a trace are short
+short-ticks : (t : Recorded) → IsTextTrace t → AreShortTicks t.ticks
+unfolding AreShortTicks
+short-ticks t h = λ k. let time = h.well_formed.time in let limit = tick_of-limit t time k in let end = time.end in omega (arith, limit, end)
+
+plain-version : (v : Version) → IsPlain (version_field v)
+plain-version One = refl
+plain-version Two = refl
+
+length-version : (v : Version) → length (version_field v) ≤ 1
+length-version One = omega arith
+length-version Two = omega arith
 
 -- all steps of a trace are short
 short-trace : (t : Recorded) → IsTextTrace t → AreShort t.steps
 short-trace t h = short-steps t.steps (λ k x e. short-step t.config t.steps (suc k) x h.setup h.well_formed.steps e)
 
-lines-trace : (t : Recorded) → IsTextTrace t → AreLines (trace_records t)
-lines-trace t h =
+lines-trace : (v : Version) (t : Recorded) → IsTextTrace t → AreLines (trace_records v t)
+lines-trace v t h =
     let setup = h.setup in
     let least = setup.least in
     let most = setup.most in
@@ -93,24 +122,24 @@ lines-trace t h =
     let count = length-map t.config.init decimal in
     let n : t.config.n < 2 ^ 64 = omega (arith, most) in
     let f : t.config.t < 2 ^ 64 = omega (arith, most, faults) in
-    let steps = lines-steps 1 t.steps (omega (arith, short)) (short-trace t h) in
+    let steps = lines-steps v t.ticks 1 t.steps (omega (arith, short)) (short-ticks t h) (short-trace t h) in
     let end : AreLines (end_record t.last ∷ []) = (omega arith, (refl, (IsPlain-decimal t.last (omega (arith, last)), tt)), tt) in (
       omega arith,
-      (refl, (refl, (IsPlain-decimal t.config.n n, (IsPlain-decimal t.config.t f, tt)))),
+      (refl, (plain-version v, (IsPlain-decimal t.config.n n, (IsPlain-decimal t.config.t f, tt)))),
       (
         omega (arith, least, values, count),
         (refl, ArePlain-decimals t.config.init h.values),
-        AreLines-append (step_records 1 t.steps) (end_record t.last ∷ []) steps end,
+        AreLines-append (step_records v t.ticks 1 t.steps) (end_record t.last ∷ []) steps end,
       ),
     )
 
-no-mark : (t : Recorded) → strip_bom (trace_text t) ≡ trace_text t
+no-mark : (v : Version) (t : Recorded) → strip_bom (version_text v t) ≡ version_text v t
 unfolding strip_bom
-no-mark t = refl
+no-mark v t = refl
 
 -- the text of a trace stands for it
-pub StandsFor-trace_text : (t : Recorded) → IsTextTrace t → IsOnePerTick t → StandsFor (trace_text t) t
-StandsFor-trace_text t h one = (one, lines-read (trace_records t) (lines-trace t h) (no-mark t))
+pub StandsFor-version_text : (v : Version) (t : Recorded) → IsTextTrace t → HasTextsOf v t → StandsFor (version_text v t) t
+StandsFor-version_text v t h has = (v, has, lines-read (trace_records v t) (lines-trace v t h) (no-mark v t))
 
 -- a step's line
 length-arg : (a : Act) → IfSome (act_dest a) (λ p. p < 10 ^ 7) → All (λ s. s < 10 ^ 7) (act_ids a) → length (arg_text a) ≤ 7 + 8 * length (act_ids a)
@@ -122,27 +151,36 @@ length-op (Send to) = omega arith
 length-op (Receive false ids) = omega arith
 length-op (Receive true ids) = omega arith
 
-length-step : (at : ℕ) (x : Step) → at < 10 ^ 7 → IsShort x → length (record_line (step_record at x)) ≤ 27 + 8 * length (act_ids x.act)
-length-step at x l short =
+length-step : (v : Version) (at tick : ℕ) (x : Step) → at < 10 ^ 7 → tick < 10 ^ 7 → IsShort x → length (record_line (step_record v at tick x)) ≤ 35 + 8 * length (act_ids x.act)
+length-step One at tick x l m short =
     let number = short-decimal at l in
     let proc = short-decimal x.proc short.proc in
     let op = length-op x.act in
     let arg = length-arg x.act short.dest short.ids in
-    let line = length-line (step_record at x) in
+    let line = length-line (step_record One at tick x) in
     omega (arith, line, number, proc, op, arg)
+length-step Two at tick x l m short =
+    let number = short-decimal at l in
+    let moment = short-decimal tick m in
+    let proc = short-decimal x.proc short.proc in
+    let op = length-op x.act in
+    let arg = length-arg x.act short.dest short.ids in
+    let line = length-line (step_record Two at tick x) in
+    omega (arith, line, number, moment, proc, op, arg)
 
-length-steps : (at : ℕ) (xs : List Step) → at + length xs ≤ 10 ^ 7 → AreShort xs → length (text_of_records (step_records at xs)) ≤ 27 * length xs + 8 * length (taken_ids xs)
-unfolding AreShort
-length-steps at [] room short = omega arith
-length-steps at (x ∷ xs) room short =
-    let line = length-step at x (omega (arith, room)) short.0 in
-    let more = length-steps (at + 1) xs (omega (arith, room)) short.1 in
+length-steps : (v : Version) (ticks : List ℕ) (at : ℕ) (xs : List Step) → at + length xs ≤ 10 ^ 7 → AreShortTicks ticks → AreShort xs
+    → length (text_of_records (step_records v ticks at xs)) ≤ 35 * length xs + 8 * length (taken_ids xs)
+unfolding AreShort AreShortTicks
+length-steps v ticks at [] room low short = omega arith
+length-steps v ticks at (x ∷ xs) room low short =
+    let line = length-step v at (tick_at ticks at) x (omega (arith, room)) (low at) short.0 in
+    let more = length-steps v ticks (at + 1) xs (omega (arith, room)) low short.1 in
     let ids = length-append (act_ids x.act) (taken_ids xs) in
-    rw (length-append (record_line (step_record at x)) (text_of_records (step_records (at + 1) xs))) (omega (arith, line, more, ids))
+    rw (length-append (record_line (step_record v at (tick_at ticks at) x)) (text_of_records (step_records v ticks (at + 1) xs))) (omega (arith, line, more, ids))
 
 -- the text of a trace is shorter than 64 MiB
-pub short-trace_text : (t : Recorded) → IsTextTrace t → length (trace_text t) < MAX_TEXT_BYTES
-short-trace_text t h =
+pub short-version_text : (v : Version) (t : Recorded) → IsTextTrace t → length (version_text v t) < MAX_TEXT_BYTES
+short-version_text v t h =
     let setup = h.setup in
     let most = setup.most in
     let faults = setup.faults in
@@ -154,15 +192,16 @@ short-trace_text t h =
     let count = length-map t.config.init decimal in
     let n = short-decimal t.config.n (omega (arith, most)) in
     let f = short-decimal t.config.t (omega (arith, most, faults)) in
-    let header = length-line (header_record t.config.n t.config.t) in
+    let name = length-version v in
+    let header = length-line (header_record v t.config.n t.config.t) in
     let init = length-line (init_record t.config.init) in
     let numbers = bytes_of-decimals t.config.init h.values in
-    let steps = length-steps 1 t.steps (omega (arith, short)) (short-trace t h) in
+    let steps = length-steps v t.ticks 1 t.steps (omega (arith, short)) (short-ticks t h) (short-trace t h) in
     let ids = length-taken_ids t.config t.steps well in
     let last = short-decimal t.last (omega (arith, high)) in
     let end = length-line (end_record t.last) in
-    let whole = length-append (record_line (header_record t.config.n t.config.t)) (record_line (init_record t.config.init) ++ text_of_records (step_records 1 t.steps ++ end_record t.last ∷ [])) in
-    let rest = length-append (record_line (init_record t.config.init)) (text_of_records (step_records 1 t.steps ++ end_record t.last ∷ [])) in
-    let parts : length (text_of_records (step_records 1 t.steps ++ end_record t.last ∷ [])) ≡ length (text_of_records (step_records 1 t.steps)) + length (record_line (end_record t.last)) =
-    rw (text_of_records-more (step_records 1 t.steps) (end_record t.last)) (length-append (text_of_records (step_records 1 t.steps)) (record_line (end_record t.last))) in
-    omega (arith, whole, rest, parts, header, init, steps, end, numbers, count, n, f, last, ids, short, most, values)
+    let whole = length-append (record_line (header_record v t.config.n t.config.t)) (record_line (init_record t.config.init) ++ text_of_records (step_records v t.ticks 1 t.steps ++ end_record t.last ∷ [])) in
+    let rest = length-append (record_line (init_record t.config.init)) (text_of_records (step_records v t.ticks 1 t.steps ++ end_record t.last ∷ [])) in
+    let parts : length (text_of_records (step_records v t.ticks 1 t.steps ++ end_record t.last ∷ [])) ≡ length (text_of_records (step_records v t.ticks 1 t.steps)) + length (record_line (end_record t.last)) =
+    rw (text_of_records-more (step_records v t.ticks 1 t.steps) (end_record t.last)) (length-append (text_of_records (step_records v t.ticks 1 t.steps)) (record_line (end_record t.last))) in
+    omega (arith, whole, rest, parts, name, header, init, steps, end, numbers, count, n, f, last, ids, short, most, values)

@@ -10,11 +10,13 @@ use Rattle.step_trace.specs.declared.traces.PushError.{PushError}
 use Rattle.step_trace.specs.declared.configurations.TheConstants.{MIN_PROCESSORS, MAX_PROCESSORS}
 use Rattle.step_trace.specs.Configurations.{config_refusal}
 use Rattle.step_trace.specs.Traces.{Recorded}
-use Rattle.step_trace.specs.Ticks.{with_step}
-use Rattle.step_trace.specs.TickRefusals.{refusal_in}
+use Rattle.step_trace.specs.Ticks.{with_step, with_last}
+use Rattle.step_trace.specs.TickRefusals.{may_end_in, refusal_in}
 use Rattle.trace_text.specs.declared.byte_loops.TheConstants.{MAX_TEXT_BYTES}
 use Rattle.trace_text.specs.declared.step_records.Operation.{Operation}
 use Rattle.trace_text.specs.declared.step_records.Operation.TheVariants as op
+use Rattle.trace_text.specs.declared.versions.Version.{Version}
+use Rattle.trace_text.specs.declared.versions.Version.TheVariants.{One, Two}
 use Rattle.trace_text.specs.declared.reading.Stage.{Stage}
 use Rattle.trace_text.specs.declared.reading.Stage.TheVariants.{Opening, Sized, Recording, Ended}
 use Rattle.trace_text.specs.declared.refusals.TextError.{TextError}
@@ -40,6 +42,13 @@ abbrev pub ids_of : List ℕ → Option (List ℕ)
 ids_of [] = Some []
 ids_of (b ∷ bs) = numbers_of (parts_of (b ∷ bs))
 
+-- the version that a field names
+abbrev pub version_named : List ℕ → Option Version
+version_named field =
+    if bytes_eq field (codes "1") then Some One
+    else if bytes_eq field (codes "2") then Some Two
+    else None
+
 abbrev pub operation_of : List ℕ → Option Operation
 operation_of field =
     if bytes_eq field (codes "S") then Some op.Send
@@ -57,72 +66,90 @@ act_of op.EndRound arg = option_map (λ ids. Receive true ids) (ids_of arg)
 abbrev pub is_size : ℕ → ℕ → Bool
 is_size n t = nat_le MIN_PROCESSORS n && nat_le n MAX_PROCESSORS && nat_le (2 * t + 1) n
 
-abbrev pub sized : ℕ → ℕ → Result Stage TextError
-sized n t = if is_size n t then Ok (Sized n t) else Err BadSize
+abbrev pub sized : Version → ℕ → ℕ → Result Stage TextError
+sized v n t = if is_size n t then Ok (Sized v n t) else Err BadSize
 
-abbrev pub size_stage : List (List ℕ) → Result Stage TextError
-size_stage fields = ok_or (number_of (field_of fields 2)) BadSize >>= λ n. ok_or (number_of (field_of fields 3)) BadSize >>= λ t. sized n t
+abbrev pub size_stage : Version → List (List ℕ) → Result Stage TextError
+size_stage v fields = ok_or (number_of (field_of fields 2)) BadSize >>= λ n. ok_or (number_of (field_of fields 3)) BadSize >>= λ t. sized v n t
 
 -- the header: four fields, the name, the version, and the size
 abbrev pub header_stage : List (List ℕ) → Result Stage TextError
 header_stage fields =
     if (length fields == 4) && bytes_eq (field_of fields 0) (codes "dls-trace") then
-    (if bytes_eq (field_of fields 1) (codes "1") then size_stage fields else Err BadVersion)
+    (ok_or (version_named (field_of fields 1)) BadVersion >>= λ v. size_stage v fields)
     else Err BadHeader
 
 -- as many initial values as processors (N and t are within their limits by then)
-abbrev pub started : ℕ → ℕ → List ℕ → Result Stage TextError
-started n t values =
-    if is_none (config_refusal n t (length values)) then Ok (Recording (record { config = record { n = n; t = t; init = values }; steps = []; ticks = []; last = 0 }))
+abbrev pub started : Version → ℕ → ℕ → List ℕ → Result Stage TextError
+started v n t values =
+    if is_none (config_refusal n t (length values)) then Ok (Recording v (record { config = record { n = n; t = t; init = values }; steps = []; ticks = []; last = 0 }))
     else Err BadInit
 
-abbrev pub values_stage : ℕ → ℕ → List (List ℕ) → Result Stage TextError
-values_stage n t fields = ok_or (numbers_of fields) BadInit >>= λ values. started n t values
+abbrev pub values_stage : Version → ℕ → ℕ → List (List ℕ) → Result Stage TextError
+values_stage v n t fields = ok_or (numbers_of fields) BadInit >>= λ values. started v n t values
 
 -- the initial values: `init` and the numbers
-abbrev pub init_stage : ℕ → ℕ → List (List ℕ) → Result Stage TextError
-init_stage n t fields = if bytes_eq (field_of fields 0) (codes "init") then values_stage n t (drop 1 fields) else Err BadInit
+abbrev pub init_stage : Version → ℕ → ℕ → List (List ℕ) → Result Stage TextError
+init_stage v n t fields = if bytes_eq (field_of fields 0) (codes "init") then values_stage v n t (drop 1 fields) else Err BadInit
 
--- the operation of a step, then its processor and its argument
-abbrev pub step_of : ℕ → List (List ℕ) → Result Step TextError
-step_of at fields =
-    ok_or (operation_of (field_of fields 2)) (BadOp at) >>= λ o. ok_or (number_of (field_of fields 1)) (BadNumber at)
-    >>= λ p. ok_or (act_of o (field_of fields 3)) (BadNumber at) >>= λ a. Ok (record { proc = p; act = a })
+-- how many fields a step has
+abbrev pub step_fields : Version → ℕ
+step_fields One = 4
+step_fields Two = 5
+
+-- the place of a step's processor; the operation and the argument follow
+abbrev pub proc_place : Version → ℕ
+proc_place One = 1
+proc_place Two = 2
+
+-- the tick of a step: its number in version 1, the second field in version 2
+abbrev pub step_tick : Version → ℕ → List (List ℕ) → Option ℕ
+step_tick One at fields = Some at
+step_tick Two at fields = number_of (field_of fields 1)
+
+-- the operation of a step, then its tick, its processor and its argument
+abbrev pub step_of : Version → ℕ → List (List ℕ) → Result (ℕ × Step) TextError
+step_of v at fields =
+    ok_or (operation_of (field_of fields (proc_place v + 1))) (BadOp at) >>= λ o. ok_or (step_tick v at fields) (BadNumber at)
+    >>= λ tick. ok_or (number_of (field_of fields (proc_place v))) (BadNumber at)
+    >>= λ p. ok_or (act_of o (field_of fields (proc_place v + 2))) (BadNumber at) >>= λ a. Ok (tick, record { proc = p; act = a })
 
 -- one more step in this tick, where the trace doesn't refuse it
-abbrev pub pushed : Recorded → ℕ → Step → Option PushError → Result Stage TextError
-pushed t tick x None = Ok (Recording (with_step t tick x))
-pushed t tick x (Some why) = Err (BadStep (length t.steps + 1) why)
+abbrev pub pushed : Version → Recorded → ℕ → Step → Option PushError → Result Stage TextError
+pushed v t tick x None = Ok (Recording v (with_step t tick x))
+pushed v t tick x (Some why) = Err (BadStep (length t.steps + 1) why)
 
--- a step, whose number is its tick
-abbrev pub push_stage : Recorded → List (List ℕ) → Result Stage TextError
-push_stage t fields = step_of (length t.steps + 1) fields >>= λ x. pushed t (length t.steps + 1) x (refusal_in t (length t.steps + 1) x)
+abbrev pub push_stage : Version → Recorded → List (List ℕ) → Result Stage TextError
+push_stage v t fields = step_of v (length t.steps + 1) fields >>= λ x. pushed v t x.0 x.1 (refusal_in t x.0 x.1)
 
--- a step: four fields, its number, and what the trace takes
-abbrev pub step_stage : Recorded → List (List ℕ) → Result Stage TextError
-step_stage t fields =
-    if length fields == 4 then
-    (if bytes_eq (field_of fields 0) (decimal (length t.steps + 1)) then push_stage t fields else Err (WrongNumber (length t.steps + 1)))
+-- a step: its fields, its number, and what the trace takes
+abbrev pub step_stage : Version → Recorded → List (List ℕ) → Result Stage TextError
+step_stage v t fields =
+    if length fields == step_fields v then
+    (if bytes_eq (field_of fields 0) (decimal (length t.steps + 1)) then push_stage v t fields else Err (WrongNumber (length t.steps + 1)))
     else Err (BadFields (length t.steps + 1))
 
--- the end: two fields, the second the number of steps
-abbrev pub end_stage : Recorded → List (List ℕ) → Result Stage TextError
-end_stage t fields =
-    if length fields == 2 then (if bytes_eq (field_of fields 1) (decimal (length t.steps)) then Ok (Ended t) else Err WrongEnd)
-    else Err (BadFields (length t.steps + 1))
+-- the end of a trace: in version 1 the text of the number of steps, in version 2 a tick in which the trace may end
+abbrev pub ended : Version → Recorded → List ℕ → Result Stage TextError
+ended One t field = if bytes_eq field (decimal (length t.steps)) then Ok (Ended t) else Err WrongEnd
+ended Two t field = ok_or (number_of field) WrongEnd >>= λ last. if may_end_in t last then Ok (Ended (with_last t last)) else Err WrongEnd
+
+-- the end: two fields
+abbrev pub end_stage : Version → Recorded → List (List ℕ) → Result Stage TextError
+end_stage v t fields = if length fields == 2 then ended v t (field_of fields 1) else Err (BadFields (length t.steps + 1))
 
 -- what one more record makes of a stage
 abbrev pub next_stage : Stage → List (List ℕ) → Result Stage TextError
 next_stage Opening fields = header_stage fields
-next_stage (Sized n t) fields = init_stage n t fields
-next_stage (Recording t) fields = if bytes_eq (field_of fields 0) (codes "end") then end_stage t fields else step_stage t fields
+next_stage (Sized v n t) fields = init_stage v n t fields
+next_stage (Recording v t) fields = if bytes_eq (field_of fields 0) (codes "end") then end_stage v t fields else step_stage v t fields
 next_stage (Ended t) fields = Err AfterEnd
 
 -- what the end of the text says of a stage
 abbrev pub trace_at_end : Stage → Result Recorded TextError
 trace_at_end Opening = Err BadHeader
-trace_at_end (Sized n t) = Err BadInit
-trace_at_end (Recording t) = Err NoEnd
+trace_at_end (Sized v n t) = Err BadInit
+trace_at_end (Recording v t) = Err NoEnd
 trace_at_end (Ended t) = Ok t
 
 -- the trace of these records, or the first refusal
@@ -151,21 +178,21 @@ act_keeps op.Send arg = false
 act_keeps op.Receive arg = begins_with_number (parts_of arg)
 act_keeps op.EndRound arg = begins_with_number (parts_of arg)
 
--- the same of a step's record, once its operation and its processor are read
-abbrev pub named_act_keeps : Option Operation → List (List ℕ) → Bool
-named_act_keeps None fields = false
-named_act_keeps (Some o) fields = is_some (number_of (field_of fields 1)) && act_keeps o (field_of fields 3)
+-- the same of a step's record, once its operation, its tick and its processor are read
+abbrev pub named_act_keeps : Version → ℕ → Option Operation → List (List ℕ) → Bool
+named_act_keeps v at None fields = false
+named_act_keeps v at (Some o) fields = is_some (step_tick v at fields) && is_some (number_of (field_of fields (proc_place v))) && act_keeps o (field_of fields (proc_place v + 2))
 
-abbrev pub step_keeps : List (List ℕ) → Bool
-step_keeps fields = named_act_keeps (operation_of (field_of fields 2)) fields
+abbrev pub step_keeps : Version → ℕ → List (List ℕ) → Bool
+step_keeps v at fields = named_act_keeps v at (operation_of (field_of fields (proc_place v + 1))) fields
 
--- whether a record has a step's four fields and the step's number
-abbrev pub is_numbered : ℕ → List (List ℕ) → Bool
-is_numbered at fields = (length fields == 4) && bytes_eq (field_of fields 0) (decimal at)
+-- whether a record has a step's fields and the step's number
+abbrev pub is_numbered : Version → ℕ → List (List ℕ) → Bool
+is_numbered v at fields = (length fields == step_fields v) && bytes_eq (field_of fields 0) (decimal at)
 
 -- whether something has to be kept for a step's record: its ids, or the step, where the trace takes it
-abbrev pub step_record_keeps : Recorded → List (List ℕ) → Bool
-step_record_keeps t fields = is_ok (step_stage t fields) || (is_numbered (length t.steps + 1) fields && step_keeps fields)
+abbrev pub step_record_keeps : Version → Recorded → List (List ℕ) → Bool
+step_record_keeps v t fields = is_ok (step_stage v t fields) || (is_numbered v (length t.steps + 1) fields && step_keeps v (length t.steps + 1) fields)
 
 -- whether initial values have to be kept for a record
 abbrev pub init_keeps : List (List ℕ) → Bool
@@ -174,8 +201,8 @@ init_keeps fields = bytes_eq (field_of fields 0) (codes "init") && begins_with_n
 -- whether something has to be kept for a record: initial values, or what a step needs
 abbrev pub record_keeps : Stage → List (List ℕ) → Bool
 record_keeps Opening fields = false
-record_keeps (Sized n t) fields = init_keeps fields
-record_keeps (Recording t) fields = if bytes_eq (field_of fields 0) (codes "end") then false else step_record_keeps t fields
+record_keeps (Sized v n t) fields = init_keeps fields
+record_keeps (Recording v t) fields = if bytes_eq (field_of fields 0) (codes "end") then false else step_record_keeps v t fields
 record_keeps (Ended t) fields = false
 
 -- the refusal is the first of the table, or want of memory in a text that isn't too large

@@ -11,10 +11,11 @@ pub mod record_writing;
 pub mod records;
 mod refusals;
 mod step_records;
+mod versions;
 mod writing;
 
 pub use byte_loops::{MAX_TEXT_BYTES, read_all, write_text};
 pub use counting::Counting;
 pub use reading::read_trace;
 pub use refusals::{TextError, WriteError};
-pub use writing::write_trace;
+pub use writing::{write_trace, write_trace_2};

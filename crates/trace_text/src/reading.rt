@@ -1,17 +1,19 @@
 //! Reading of trace text, record by record. The first record that is refused decides.
 
-ghost use Rattle.std.specs.Prelude.{◌≡◌, ◌≢◌, ◌<◌, ◌≤◌, ◌↔◌, ◌+◌, ◌&&◌, ◌||◌, drop, IsErrOf, IfOk, OnOk, IfErr, MatchResult, length, option_map, is_ok, Ok, Err};
+ghost use Rattle.std.specs.Prelude.{◌≡◌, ◌≢◌, ◌<◌, ◌≤◌, ◌↔◌, ◌+◌, ◌&&◌, ◌||◌, drop, IsErrOf, IfOk, OnOk, IfErr, MatchResult, length, option_map, is_ok, Ok, Err, IsTrue, decimal, false};
+ghost use Rattle.std.specs.Str.{bytes_eq};
 ghost use Rattle.csv.specs.Records.{fields_of};
 ghost use Rattle.step_trace.specs.Traces.{Recorded};
-ghost use Rattle.trace_text.specs.Records.{WantsOnlyWhere, records_of_text};
+ghost use Rattle.trace_text.specs.Records.{WantsOnlyWhere, field_of, records_of_text};
 ghost use Rattle.trace_text.specs.TraceTexts.{StandsFor, IsTextTrace};
-ghost use Rattle.trace_text.specs.TextRefusals.{IsFirstRefusal, Gives, LeadsTo, is_memory, trace_of_records, trace_at_end, next_stage, header_stage, init_stage, step_stage, step_of, act_of, ids_of, end_stage, record_keeps, init_keeps, step_record_keeps, step_keeps, act_keeps, parts_of, begins_with_number};
+ghost use Rattle.trace_text.specs.TextRefusals.{IsFirstRefusal, Gives, LeadsTo, is_memory, trace_of_records, trace_at_end, next_stage, header_stage, init_stage, step_stage, step_of, act_of, ids_of, ended, end_stage, record_keeps, init_keeps, step_record_keeps, step_keeps, act_keeps, parts_of, begins_with_number};
 ghost use Rattle.std.specs.Option.{ok_or};
 
 use crate::byte_loops::MAX_TEXT_BYTES;
 use crate::records::{TakeRecords, field, field_is, field_is_number, number, read_records};
 use crate::refusals::TextError;
 use crate::step_records::{Operation, ids, operation_of, values};
+use crate::versions::{Version, proc_place, step_fields, step_tick, version_named};
 use csv::ByteRecord;
 use std::alloc::Global;
 use std::mem;
@@ -22,10 +24,10 @@ use step_trace::{Act, Config, MAX_PROCESSORS, MIN_PROCESSORS, MessageIds, PushEr
 enum Stage {
     // No record yet.
     Opening,
-    // The header: how many processors there are, and how many may be faulty.
-    Sized { n: u64, t: u64 },
+    // The header: the version, how many processors there are, and how many may be faulty.
+    Sized { version: Version, n: u64, t: u64 },
     // The initial values, and these steps.
-    Recording(Trace),
+    Recording(Version, Trace),
     // The whole trace.
     Ended(Trace),
 }
@@ -69,7 +71,7 @@ fn trace_at_end(stage: Stage) -> Result<Trace, TextError>
     match stage {
         Stage::Opening => Err(TextError::BadHeader),
         Stage::Sized { .. } => Err(TextError::BadInit),
-        Stage::Recording(_) => Err(TextError::NoEnd),
+        Stage::Recording(..) => Err(TextError::NoEnd),
         Stage::Ended(trace) => Ok(trace),
     }
 }
@@ -86,12 +88,14 @@ impl TakeRecords for Stage {
     fn take(&mut self, alloc: Global, fields: &ByteRecord) -> Result<(), TextError> {
         match self {
             Stage::Opening => *self = read_header(fields)?,
-            Stage::Sized { n, t } => *self = read_init(alloc, *n, *t, fields)?,
-            Stage::Recording(trace) => {
+            Stage::Sized { version, n, t } => {
+                *self = read_init(alloc, *version, *n, *t, fields)?;
+            }
+            Stage::Recording(version, trace) => {
                 if !field_is(fields, 0, b"end") {
-                    return read_step(alloc, trace, fields);
+                    return read_step(alloc, *version, trace, fields);
                 }
-                check_end(trace, fields)?;
+                read_end(*version, trace, fields)?;
                 end(self);
             }
             Stage::Ended(_) => return Err(TextError::AfterEnd),
@@ -106,23 +110,23 @@ impl TakeRecords for Stage {
 
 // Ends the trace, where one is being recorded.
 fn end(stage: &mut Stage)
-    ensures { (t : Recorded) → stage.old ≡ Stage.Recording t → stage.new ≡ Stage.Ended t }
+    ensures { (v : Version) (t : Recorded) → stage.old ≡ Stage.Recording v t → stage.new ≡ Stage.Ended t }
 {
-    if let Stage::Recording(trace) = mem::replace(stage, Stage::Opening) {
+    if let Stage::Recording(_, trace) = mem::replace(stage, Stage::Opening) {
         *stage = Stage::Ended(trace);
     }
 }
 
-// `dls-trace,1,N,t`
+// `dls-trace,V,N,t`
 fn read_header(fields: &ByteRecord) -> Result<Stage, TextError>
     ensures { result ≡ header_stage (fields_of fields.now) }
 {
     if fields.len() != 4 || !field_is(fields, 0, b"dls-trace") {
         return Err(TextError::BadHeader);
     }
-    if !field_is(fields, 1, b"1") {
+    let Some(version) = version_named(field(fields, 1)) else {
         return Err(TextError::BadVersion);
-    }
+    };
     let Some(n) = number(field(fields, 2)) else {
         return Err(TextError::BadSize);
     };
@@ -132,12 +136,18 @@ fn read_header(fields: &ByteRecord) -> Result<Stage, TextError>
     if n < MIN_PROCESSORS || MAX_PROCESSORS < n || n <= t || n < t + t + 1 {
         return Err(TextError::BadSize);
     }
-    Ok(Stage::Sized { n, t })
+    Ok(Stage::Sized { version, n, t })
 }
 
 // `init,v1,..,vN`
-fn read_init(alloc: Global, n: u64, t: u64, fields: &ByteRecord) -> Result<Stage, TextError>
-    ensures stage { Gives result (init_stage n t (fields_of fields.now)) }
+fn read_init(
+    alloc: Global,
+    version: Version,
+    n: u64,
+    t: u64,
+    fields: &ByteRecord,
+) -> Result<Stage, TextError>
+    ensures stage { Gives result (init_stage version n t (fields_of fields.now)) }
     ensures more { WantsOnlyWhere is_memory result (init_keeps (fields_of fields.now)) }
 {
     if !field_is(fields, 0, b"init") {
@@ -150,46 +160,60 @@ fn read_init(alloc: Global, n: u64, t: u64, fields: &ByteRecord) -> Result<Stage
         return Err(TextError::BadInit);
     };
     match Config::new(n, t, init) {
-        Ok(config) => Ok(Stage::Recording(Trace::new(alloc, config))),
+        Ok(config) => Ok(Stage::Recording(version, Trace::new(alloc, config))),
         Err(_) => Err(TextError::BadInit),
     }
 }
 
-// `no,proc,op,arg`
-fn read_step(alloc: Global, trace: &mut Trace, fields: &ByteRecord) -> Result<(), TextError>
-    ensures stage { LeadsTo result (Stage.Recording trace.new)
-        (step_stage trace.old (fields_of fields.now)) }
+// `no,proc,op,arg`, in version 2 `no,tick,proc,op,arg`
+fn read_step(
+    alloc: Global,
+    version: Version,
+    trace: &mut Trace,
+    fields: &ByteRecord,
+) -> Result<(), TextError>
+    ensures stage { LeadsTo result (Stage.Recording version trace.new)
+        (step_stage version trace.old (fields_of fields.now)) }
     ensures more { WantsOnlyWhere is_memory result
-        (step_record_keeps trace.old (fields_of fields.now)) }
+        (step_record_keeps version trace.old (fields_of fields.now)) }
 {
     let no = trace.len() as u64 + 1;
-    if fields.len() != 4 {
+    if fields.len() != step_fields(version) {
         return Err(TextError::BadFields(no));
     }
     if !field_is_number(fields, 0, no) {
         return Err(TextError::WrongNumber(no));
     }
-    let step = step_of(alloc, no, fields)?;
-    match trace.push_at(no, step) {
+    let (tick, step) = step_of(alloc, version, no, fields)?;
+    match trace.push_at(tick, step) {
         Ok(()) => Ok(()),
         Err(PushError::Memory) => Err(TextError::Memory),
         Err(why) => Err(TextError::BadStep(no, why)),
     }
 }
 
-// The step of a record of four fields that bears its number.
-fn step_of(alloc: Global, no: u64, fields: &ByteRecord) -> Result<Step, TextError>
-    ensures step { Gives result (step_of no (fields_of fields.now)) }
-    ensures more { WantsOnlyWhere is_memory result (step_keeps (fields_of fields.now)) }
+// The step of a record that has its fields and its number, and its tick.
+fn step_of(
+    alloc: Global,
+    version: Version,
+    no: u64,
+    fields: &ByteRecord,
+) -> Result<(u64, Step), TextError>
+    ensures step { Gives result (step_of version no (fields_of fields.now)) }
+    ensures more { WantsOnlyWhere is_memory result (step_keeps version no (fields_of fields.now)) }
 {
-    let Some(operation) = operation_of(field(fields, 2)) else {
+    let place = proc_place(version);
+    let Some(operation) = operation_of(field(fields, place + 1)) else {
         return Err(TextError::BadOp(no));
     };
-    let Some(proc) = number(field(fields, 1)) else {
+    let Some(tick) = step_tick(version, no, fields) else {
         return Err(TextError::BadNumber(no));
     };
-    let act = act_of(alloc, no, operation, field(fields, 3))?;
-    Ok(Step { proc, act })
+    let Some(proc) = number(field(fields, place)) else {
+        return Err(TextError::BadNumber(no));
+    };
+    let act = act_of(alloc, no, operation, field(fields, place + 2))?;
+    Ok((tick, Step { proc, act }))
 }
 
 fn act_of(alloc: Global, no: u64, operation: Operation, arg: &[u8]) -> Result<Act, TextError>
@@ -227,17 +251,45 @@ fn received(alloc: Global, no: u64, arg: &[u8], ends: bool) -> Result<Act, TextE
 }
 
 // `end,L`
-fn check_end(trace: &Trace, fields: &ByteRecord) -> Result<(), TextError>
+fn read_end(version: Version, trace: &mut Trace, fields: &ByteRecord) -> Result<(), TextError>
     ensures { MatchResult result
-        (λ _. end_stage trace.now (fields_of fields.now) ≡ Ok (Stage.Ended trace.now))
-        (λ e. end_stage trace.now (fields_of fields.now) ≡ Err e) }
+        (λ _. end_stage version trace.old (fields_of fields.now) ≡ Ok (Stage.Ended trace.new))
+        (λ e. end_stage version trace.old (fields_of fields.now) ≡ Err e) }
 {
     let steps = trace.len() as u64;
     if fields.len() != 2 {
         return Err(TextError::BadFields(steps + 1));
     }
+    match version {
+        Version::One => check_count(fields, steps),
+        Version::Two => end_in(trace, field(fields, 1)),
+    }
+}
+
+// The end of version 1 tells the number of steps.
+fn check_count(fields: &ByteRecord, steps: u64) -> Result<(), TextError>
+    ensures { MatchResult result
+        (λ _. IsTrue (bytes_eq (field_of (fields_of fields.now) 1) (decimal steps)))
+        (λ e. (bytes_eq (field_of (fields_of fields.now) 1) (decimal steps) ≡ false)
+        × (e ≡ TextError.WrongEnd)) }
+{
     if !field_is_number(fields, 1, steps) {
         return Err(TextError::WrongEnd);
     }
+    Ok(())
+}
+
+// The end of version 2 tells the last tick.
+fn end_in(trace: &mut Trace, last: &[u8]) -> Result<(), TextError>
+    ensures { MatchResult result
+        (λ _. ended Version.Two trace.old last.now ≡ Ok (Stage.Ended trace.new))
+        (λ e. ended Version.Two trace.old last.now ≡ Err e) }
+{
+    let Some(last) = number(last) else {
+        return Err(TextError::WrongEnd);
+    };
+    let Ok(()) = trace.idle_to(last) else {
+        return Err(TextError::WrongEnd);
+    };
     Ok(())
 }

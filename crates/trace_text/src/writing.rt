@@ -1,6 +1,6 @@
 //! Writing of trace text: the whole text first, then its bytes.
 
-ghost use Rattle.std.specs.Prelude.{◌≡◌, ◌<◌, ◌^◌, ◌++◌, IfOk, OnOk, IfErr, IsTrue, All, length, map, decimal, string_bytes};
+ghost use Rattle.std.specs.Prelude.{◌≡◌, ◌<◌, ◌^◌, ◌++◌, ◌↔◌, IfOk, OnOk, IfErr, IsTrue, All, length, map, decimal, string_bytes};
 ghost use Rattle.std.specs.List.{join_with_byte};
 ghost use Rattle.std.specs.Io.KnownBytes.{Appends};
 ghost use Rattle.csv.specs.Records.{fields_of};
@@ -10,7 +10,7 @@ ghost use Rattle.trace_text.specs.Faults.{inner_of, is_flushed};
 ghost use Rattle.trace_text.specs.Records.{record_line, text_of_records};
 ghost use Rattle.trace_text.specs.RecordWriting.{IsReady, IsPlain, ArePlain, written};
 ghost use Rattle.trace_text.specs.TextWriting.{WroteBefore, IsWriteCause};
-ghost use Rattle.trace_text.specs.TraceTexts.{IsTextTrace, StandsFor, trace_text, header_record, init_record, step_record, step_records, end_record, op_text, arg_text};
+ghost use Rattle.trace_text.specs.TraceTexts.{IsTextTrace, StandsFor, is_one_per_tick, trace_text, trace_text_2, version_text, version_field, header_record, init_record, step_record, step_records, end_record, op_text, arg_text};
 
 use crate::byte_loops::{MAX_TEXT_BYTES, write_text};
 use crate::counting::Counting;
@@ -18,12 +18,14 @@ use crate::record_writing::{
     number_text, record_writer, text_written, write_byte_record, write_record,
 };
 use crate::refusals::WriteError;
+use crate::versions::{Version, version_of};
 use csv::{ByteRecord, Writer};
 use std::alloc::{AllocError, Global};
 use std::io::Write;
 use step_trace::{Act, Step, Trace};
 
-/// Writes the text of a trace, and flushes.
+/// Writes the text of a trace, and flushes: in version 1 where each step's tick is its number and the last
+/// tick is the number of steps, else in version 2.
 ///
 /// Refusals: Write with the number of bytes that went out before, the text's first, only where the
 /// writer answered a fault or took no byte; Memory, and nothing was written.
@@ -41,19 +43,63 @@ pub fn write_trace<W: Write>(
         (λ e. WroteBefore e (trace_text trace.now) (W.contents (inner_of writer.old))
         (W.contents (inner_of writer.new))) }
     ensures cause { IfErr result (λ e. IsWriteCause e writer.old writer.new) }
+    ensures version { IsTrue (is_one_per_tick trace.now) ↔ IsOnePerTick trace.now }
     ensures sound { IsTextTrace trace.now }
-    ensures stands { IsOnePerTick trace.now → StandsFor (trace_text trace.now) trace.now }
+    ensures stands { StandsFor (trace_text trace.now) trace.now }
     ensures short { length (trace_text trace.now) < MAX_TEXT_BYTES }
 {
-    let Ok(text) = trace_text_of(alloc, trace) else {
+    write_version(alloc, version_of(trace), trace, writer)
+}
+
+/// Writes the text of a trace in version 2, and flushes. Refusals as of `write_trace`.
+pub fn write_trace_2<W: Write>(
+    alloc: Global,
+    trace: &Trace,
+    writer: &mut Counting<W>,
+) -> Result<(), WriteError>
+    ensures whole { OnOk result
+        (Appends (W.contents (inner_of writer.old)) (W.contents (inner_of writer.new))
+        (trace_text_2 trace.now)) }
+    ensures flushed { OnOk result (IsTrue (is_flushed writer.new)) }
+    ensures faultless { OnOk result (WasFaultless writer.old writer.new) }
+    ensures part { IfErr result
+        (λ e. WroteBefore e (trace_text_2 trace.now) (W.contents (inner_of writer.old))
+        (W.contents (inner_of writer.new))) }
+    ensures cause { IfErr result (λ e. IsWriteCause e writer.old writer.new) }
+    ensures sound { IsTextTrace trace.now }
+    ensures stands { StandsFor (trace_text_2 trace.now) trace.now }
+    ensures short { length (trace_text_2 trace.now) < MAX_TEXT_BYTES }
+{
+    write_version(alloc, Version::Two, trace, writer)
+}
+
+// Writes the text of a trace in a version.
+fn write_version<W: Write>(
+    alloc: Global,
+    version: Version,
+    trace: &Trace,
+    writer: &mut Counting<W>,
+) -> Result<(), WriteError>
+    ensures whole { OnOk result
+        (Appends (W.contents (inner_of writer.old)) (W.contents (inner_of writer.new))
+        (version_text version trace.now)) }
+    ensures flushed { OnOk result (IsTrue (is_flushed writer.new)) }
+    ensures faultless { OnOk result (WasFaultless writer.old writer.new) }
+    ensures part { IfErr result
+        (λ e. WroteBefore e (version_text version trace.now) (W.contents (inner_of writer.old))
+        (W.contents (inner_of writer.new))) }
+    ensures cause { IfErr result (λ e. IsWriteCause e writer.old writer.new) }
+    ensures sound { IsTextTrace trace.now }
+{
+    let Ok(text) = trace_text_of(alloc, version, trace) else {
         return Err(WriteError::Memory);
     };
     write_text(&text, writer)
 }
 
-// The text of a trace.
-fn trace_text_of(alloc: Global, trace: &Trace) -> Result<Vec<u8>, AllocError>
-    ensures text { IfOk result (λ text. text.items ≡ trace_text trace.now) }
+// The text of a trace in a version.
+fn trace_text_of(alloc: Global, version: Version, trace: &Trace) -> Result<Vec<u8>, AllocError>
+    ensures text { IfOk result (λ text. text.items ≡ version_text version trace.now) }
     ensures sound { IsTextTrace trace.now }
 {
     let config = trace.config();
@@ -62,31 +108,47 @@ fn trace_text_of(alloc: Global, trace: &Trace) -> Result<Vec<u8>, AllocError>
     let last = trace.last_tick();
     let init = init_fields(alloc, config.init())?;
     let mut writer = record_writer(alloc);
-    write_header(alloc, &mut writer, n, config.t())?;
+    write_header(alloc, &mut writer, version, n, config.t())?;
     write_byte_record(&mut writer, &init)?;
-    write_steps(alloc, &mut writer, trace)?;
+    write_steps(alloc, &mut writer, version, trace)?;
     write_end(alloc, &mut writer, last)?;
     text_written(writer)
 }
 
-// `dls-trace,1,N,t`
+// `dls-trace,V,N,t`
 fn write_header(
     alloc: Global,
     writer: &mut Writer<Vec<u8>>,
+    version: Version,
     n: u64,
     t: u64,
 ) -> Result<(), AllocError>
     requires { IsReady writer.old }
     ensures ready { OnOk result (IsReady writer.new) }
     ensures text { OnOk result
-        (written writer.new ≡ written writer.old ++ record_line (header_record n t)) }
+        (written writer.new ≡ written writer.old ++ record_line (header_record version n t)) }
 {
     let processors = number_text(alloc, n)?;
     let faulty = number_text(alloc, t)?;
     write_record(
         writer,
-        &[b"dls-trace", b"1", processors.as_bytes(), faulty.as_bytes()],
+        &[
+            b"dls-trace",
+            version_field(version),
+            processors.as_bytes(),
+            faulty.as_bytes(),
+        ],
     )
+}
+
+fn version_field<'a>(version: Version) -> &'a [u8]
+    ensures text { result.now ≡ version_field version }
+    ensures plain { IsPlain result.now }
+{
+    match version {
+        Version::One => b"1",
+        Version::Two => b"2",
+    }
 }
 
 // `init,v1,..,vN`
@@ -104,22 +166,47 @@ fn init_fields(alloc: Global, values: &[u64]) -> Result<ByteRecord, AllocError>
 }
 
 // A record for each step.
-fn write_steps(alloc: Global, writer: &mut Writer<Vec<u8>>, trace: &Trace) -> Result<(), AllocError>
+fn write_steps(
+    alloc: Global,
+    writer: &mut Writer<Vec<u8>>,
+    version: Version,
+    trace: &Trace,
+) -> Result<(), AllocError>
     requires { IsReady writer.old }
     ensures ready { OnOk result (IsReady writer.new) }
-    ensures text { OnOk result (written writer.new
-        ≡ written writer.old ++ text_of_records (step_records 1 trace.now.steps)) }
+    ensures text { OnOk result (written writer.new ≡ written writer.old
+        ++ text_of_records (step_records version trace.now.ticks 1 trace.now.steps)) }
 {
     let mut no = 1;
     while let Some(step) = trace.step(no) {
-        write_step(alloc, writer, no, step)?;
+        write_step(alloc, writer, version, no, trace.tick(no), step)?;
         no += 1;
     }
     Ok(())
 }
 
-// `no,proc,op,arg`
+// `no,proc,op,arg`, in version 2 `no,tick,proc,op,arg`
 fn write_step(
+    alloc: Global,
+    writer: &mut Writer<Vec<u8>>,
+    version: Version,
+    no: u64,
+    tick: u64,
+    step: &Step,
+) -> Result<(), AllocError>
+    requires { IsReady writer.old }
+    ensures ready { OnOk result (IsReady writer.new) }
+    ensures text { OnOk result (written writer.new
+        ≡ written writer.old ++ record_line (step_record version no tick step.now)) }
+{
+    match version {
+        Version::One => write_numbered(alloc, writer, no, step),
+        Version::Two => write_timed(alloc, writer, no, tick, step),
+    }
+}
+
+// `no,proc,op,arg`
+fn write_numbered(
     alloc: Global,
     writer: &mut Writer<Vec<u8>>,
     no: u64,
@@ -127,8 +214,8 @@ fn write_step(
 ) -> Result<(), AllocError>
     requires { IsReady writer.old }
     ensures ready { OnOk result (IsReady writer.new) }
-    ensures text { OnOk result
-        (written writer.new ≡ written writer.old ++ record_line (step_record no step.now)) }
+    ensures text { OnOk result (written writer.new
+        ≡ written writer.old ++ record_line (step_record Version.One no no step.now)) }
 {
     let number = number_text(alloc, no)?;
     let proc = number_text(alloc, step.proc)?;
@@ -137,6 +224,36 @@ fn write_step(
     write_record(
         writer,
         &[number.as_bytes(), proc.as_bytes(), op, arg.as_bytes()],
+    )
+}
+
+// `no,tick,proc,op,arg`
+fn write_timed(
+    alloc: Global,
+    writer: &mut Writer<Vec<u8>>,
+    no: u64,
+    tick: u64,
+    step: &Step,
+) -> Result<(), AllocError>
+    requires { IsReady writer.old }
+    ensures ready { OnOk result (IsReady writer.new) }
+    ensures text { OnOk result (written writer.new
+        ≡ written writer.old ++ record_line (step_record Version.Two no tick step.now)) }
+{
+    let number = number_text(alloc, no)?;
+    let tick = number_text(alloc, tick)?;
+    let proc = number_text(alloc, step.proc)?;
+    let arg = arg_text(alloc, &step.act)?;
+    let op = op_text(&step.act);
+    write_record(
+        writer,
+        &[
+            number.as_bytes(),
+            tick.as_bytes(),
+            proc.as_bytes(),
+            op,
+            arg.as_bytes(),
+        ],
     )
 }
 

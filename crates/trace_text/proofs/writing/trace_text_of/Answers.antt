@@ -1,8 +1,8 @@
 use Rattle.std.proofs.Common.{◌≡◌, ◌∙◌, ap}
 use Rattle.step_trace.specs.Configurations.{Setup}
 use Rattle.trace_text.specs.RecordWriting.{written}
-use Rattle.trace_text.specs.TraceTexts.{trace_text}
-use Rattle.trace_text.proofs.WrittenRecords.{trace_text-parts}
+use Rattle.trace_text.specs.TraceTexts.{version_text}
+use Rattle.trace_text.proofs.WrittenRecords.{version_text-parts}
 use Rattle.trace_text.proofs.writing.trace_text_of.Goals as goal
 
 pub returns-clause-text : goal.returns-clause-text
@@ -12,7 +12,7 @@ returns-clause-text c =
     let t = c.t.ensures ∙ ap (λ (s : Setup). s.t) config in
     let init = c.init.ensures ∙ ap (λ (s : Setup). s.init) config in
     let last = c.last_tick-last.ensures.value in
-    let whole : written c.write_end.new.writer ≡ trace_text c.args.trace.now = rw (
+    let whole : written c.write_end.new.writer ≡ version_text c.args.version c.args.trace.now = rw (
       c.in_ok-write_end.ensures.text,
       c.in_ok-write_steps.ensures.text,
       c.in_ok-write_byte_record.ensures.text,
@@ -23,7 +23,7 @@ returns-clause-text c =
       t,
       init,
       last,
-    ) (trace_text-parts c.args.trace.now) in
+    ) (version_text-parts c.args.version c.args.trace.now) in
     rw whole at c.text_written.ensures
 
 pub returns-clause-sound : goal.returns-clause-sound

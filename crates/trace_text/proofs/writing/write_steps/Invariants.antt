@@ -10,7 +10,7 @@ invariant-loop-step l = record {
   first : 1 ≤ l.no;
   last : l.no ≤ length l.trace.steps + 1;
   ready : IsReady l.writer;
-  text : written l.writer ≡ written l.fn.writer ++ text_of_records (step_records 1 (take (l.no - 1) l.trace.steps));
+  text : written l.writer ≡ written l.fn.writer ++ text_of_records (step_records l.version l.trace.ticks 1 (take (l.no - 1) l.trace.steps));
 }
 
 abbrev pub decreases-loop-step : goal.decreases-loop-step
