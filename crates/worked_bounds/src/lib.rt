@@ -25,8 +25,8 @@ mod stairs_by_hand;
 #[cfg(test)]
 mod texts_by_hand;
 #[cfg(test)]
-mod tick_stairs_tests;
-#[cfg(test)]
 mod tick_bounds_tests;
+#[cfg(test)]
+mod tick_stairs_tests;
 #[cfg(test)]
 mod traces;
