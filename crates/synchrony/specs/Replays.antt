@@ -1,6 +1,8 @@
 -- What the program makes of a trace text in a replay.
 use Rattle.std.specs.Prelude.{ℕ, ◌≡◌, ◌≢◌, ◌≤◌, List, length, take, Option, ⊤}
 use Rattle.std.specs.Io.KnownBytes.{Appends}
+use Rattle.step_trace.specs.declared.steps.Step.{Step}
+use Rattle.step_trace.specs.Configurations.{Setup}
 use Rattle.step_trace.specs.Traces.{Recorded}
 use Rattle.trace_text.specs.declared.refusals.TextError.TheVariants as why
 use Rattle.step_buffers.specs.Runs.{IsRun}
@@ -9,6 +11,13 @@ use Rattle.synchrony.specs.declared.faults.Fault.{Fault}
 use Rattle.synchrony.specs.declared.faults.Fault.TheVariants as fault
 use Rattle.synchrony.specs.Inputs.{IsTextOf, IsTraceFault}
 use Rattle.synchrony.specs.ReplayTexts.{replay_text}
+
+-- The text stands for a trace with this configuration and these steps.
+pub record IsTextOfSteps (text : List ℕ) (c : Setup) (steps : List Step) : Type 0 where
+  pub trace : Recorded
+  pub read : IsTextOf text trace
+  pub config : c ≡ trace.config
+  pub same : steps ≡ trace.steps
 
 -- The first text stands for a trace that is a run, and the second is the text of its replay.
 pub record IsReplayOf (text replay : List ℕ) : Type 0 where

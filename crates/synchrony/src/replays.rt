@@ -5,9 +5,9 @@ ghost use Rattle.std.specs.Io.KnownBytes.{IsAtEnd, Appends};
 ghost use Rattle.trace_text.specs.ByteLoops.{WasFaultless};
 ghost use Rattle.trace_text.specs.Faults.{inner_of, faults_of, is_flushed};
 ghost use Rattle.step_buffers.specs.Runs.{IsRun};
-ghost use Rattle.synchrony.specs.Inputs.{IsReadFault, IsTextOf};
+ghost use Rattle.synchrony.specs.Inputs.{IsReadFault};
 ghost use Rattle.synchrony.specs.Printing.{IsWriteFault};
-ghost use Rattle.synchrony.specs.Replays.{IsReplayOf, IsFaultOfReplay, IsReplayFault, IsUnreplayed};
+ghost use Rattle.synchrony.specs.Replays.{IsReplayOf, IsFaultOfReplay, IsReplayFault, IsTextOfSteps, IsUnreplayed};
 
 use crate::faults::Fault;
 use crate::inputs::trace_of;
@@ -55,10 +55,10 @@ fn replay_of(alloc: Global, text: Vec<u8>) -> Result<Vec<u8>, Fault>
     Ok(replay_text_of(alloc, &world)?)
 }
 
-/// The World that made the steps of what a text stands for. It lets go of the trace, of which the World
-/// has its own.
+/// The World that made the steps of what a text stands for, whatever their ticks. It lets go of the trace,
+/// of whose steps the World has its own.
 fn world_of(alloc: Global, text: Vec<u8>) -> Result<World, Fault>
-    ensures read { IfOk result (λ world. IsTextOf text.items world.trace) }
+    ensures read { IfOk result (λ world. IsTextOfSteps text.items world.trace.config world.trace.steps) }
     ensures run { IfOk result (λ world. IsRun world.trace.config world.trace.steps) }
     ensures refused { IfErr result (IsUnreplayed text.items) }
 {
