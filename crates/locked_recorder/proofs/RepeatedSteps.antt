@@ -9,7 +9,6 @@ use Rattle.step_trace.specs.declared.steps.Act.TheVariants.{Send}
 use Rattle.step_trace.specs.declared.steps.Step.{Step}
 use Rattle.step_trace.specs.Configurations.{Setup}
 use Rattle.step_trace.specs.Traces.{Recorded, step_at}
-use Rattle.step_trace.specs.declared.traces.TheConstants.{MAX_STEPS}
 use Rattle.step_buffers.specs.declared.moves.Done.{Done}
 use Rattle.step_buffers.specs.Progress.{Progress}
 use Rattle.step_buffers.specs.HeardTables.{passed}
@@ -17,6 +16,7 @@ use Rattle.step_buffers.specs.Runs.{node_at, IsRun}
 use Rattle.step_buffers.specs.declared.moves.Move.TheVariants as move
 use Rattle.step_buffers.specs.Moves.{next_send, step_of}
 use Rattle.step_buffers.proofs.RunPrefixes.{IsRun-prefix}
+use Rattle.locked_recorder.specs.Repeats.{AreRepeated}
 use Rattle.locked_recorder.specs.Audits.{done_last, done_at}
 
 map-enumerate_push : {X Y : Type 0} (f : ℕ × X → Y) (n : ℕ) (xs : List X) (x : X) → map f (enumerate_from n (xs ++ x ∷ [])) ≡ map f (enumerate_from n xs) ++ f (n + length xs, x) ∷ []
@@ -31,13 +31,6 @@ IsRun-take c steps n run = IsRun-prefix c (take n steps) (drop n steps) (subst (
 -- the first n + 1 steps end with the step of that number
 pub take_next : (steps : List Step) (n : ℕ) (x : Step) → step_at steps (suc n) ≡ Some x → take (n + 1) steps ≡ take n steps ++ x ∷ []
 take_next steps n x at = take_more steps n x (slice_get_within steps n x at) ∙ ap (λ y. take n steps ++ y ∷ []) (get_or_from_slice_get steps n x x at)
-
--- A World that made the first n steps of a trace, with all that was done in them.
-pub record AreRepeated (trace : Recorded) (n : ℕ) (world : Progress) (all : List Done) : Type 0 where
-  pub config : world.trace.config ≡ trace.config
-  pub steps : world.trace.steps ≡ take n trace.steps
-  pub limit : world.limit ≡ MAX_STEPS
-  pub done : all ≡ map (λ x. done_at trace.config trace.steps x) (enumerate_from 1 (take n trace.steps))
 
 -- with the next step it is a run, for which there is room
 pub goes_on : (trace : Recorded) (n : ℕ) (world : Progress) (all : List Done) (x : Step) → IsRun trace.config trace.steps → AreRepeated trace n world all

@@ -5,3 +5,4 @@ pub mod Lent
 pub mod Prefixes
 pub mod Audits
 pub mod Drives
+pub mod Repeats

@@ -1,30 +1,58 @@
 //! What was done in a trace, found by making its steps again.
 
-ghost use Rattle.std.specs.Prelude.{◌≡◌, ◌+◌, ◌<◌, ◌++◌, ◌∷◌, [], None, Some, length, IfOk, OnOk};
+ghost use Rattle.std.specs.Prelude.{◌≡◌, ◌+◌, ◌-◌, ◌<◌, ◌≤◌, ◌++◌, ◌∷◌, [], None, Some, length, IfOk, OnOk};
 ghost use Rattle.step_trace.specs.declared.traces.TheConstants.{MAX_STEPS};
 ghost use Rattle.step_buffers.specs.HeardTables.{passed};
 ghost use Rattle.step_buffers.specs.Runs.{node_at, IsRun};
 ghost use Rattle.step_buffers.specs.Moves.{step_of, step_refusal};
 ghost use Rattle.locked_recorder.specs.Audits.{done_last, all_done};
+ghost use Rattle.locked_recorder.specs.Repeats.{AreRepeated};
 
 use std::alloc::{AllocError, Global};
 use step_buffers::{Done, Move, StepError, Take, World};
-use step_trace::{Act, MAX_STEPS, Step, Trace};
+use step_trace::{Act, Config, MAX_STEPS, Step, Trace};
 
 /// All that was done in a run.
 pub(crate) fn all_done(alloc: Global, trace: &Trace) -> Result<Vec<Done>, AllocError>
     requires { IsRun trace.now.config trace.now.steps }
     ensures { IfOk result (λ all. all.items ≡ all_done trace.now.config trace.now.steps) }
 {
-    let mut world = World::new(alloc, trace.config().copy(alloc)?, MAX_STEPS as u64)?;
-    let mut all = Vec::with_capacity(alloc, trace.len())?;
+    let mut world = opening_world(alloc, trace.config())?;
+    let mut all = Vec::new(alloc);
     for no in 1..trace.len() as u64 + 1 {
-        let Some(step) = trace.step(no) else {
-            unreachable!()
-        };
-        all.push(repeat(alloc, &mut world, step)?)?;
+        add_done(alloc, trace, no, &mut world, &mut all)?;
     }
     Ok(all)
+}
+
+// The World of a configuration before the first step, with room for the steps of each trace.
+fn opening_world(alloc: Global, config: &Config) -> Result<World, AllocError>
+    ensures config { IfOk result (λ world. world.trace.config ≡ config.now) }
+    ensures steps { IfOk result (λ world. world.trace.steps ≡ []) }
+    ensures limit { IfOk result (λ world. world.limit ≡ MAX_STEPS) }
+{
+    World::new(alloc, config.copy(alloc)?, MAX_STEPS as u64)
+}
+
+// Makes the step of this number, which comes next, and adds what was done.
+fn add_done(
+    alloc: Global,
+    trace: &Trace,
+    no: u64,
+    world: &mut World,
+    all: &mut Vec<Done>,
+) -> Result<(), AllocError>
+    requires run { IsRun trace.now.config trace.now.steps }
+    requires number { (1 ≤ no) × (no ≤ length trace.now.steps) }
+    requires so_far { AreRepeated trace.now (no - 1) world.old all.old.items }
+    ensures { OnOk result (AreRepeated trace.now no world.new all.new.items) }
+{
+    let Some(step) = trace.step(no) else {
+        unreachable!()
+    };
+    let done = repeat(alloc, world, step)?;
+    all.push(done)?;
+    Ok(())
 }
 
 // Makes the step with which the run goes on.

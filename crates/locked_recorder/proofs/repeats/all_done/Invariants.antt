@@ -1,5 +1,5 @@
 use Rattle.std.proofs.Common.{◌≤◌, ◌-◌}
-use Rattle.locked_recorder.proofs.RepeatedSteps.{AreRepeated}
+use Rattle.locked_recorder.specs.Repeats.{AreRepeated}
 use Rattle.locked_recorder.proofs.repeats.all_done.Given as goal
 
 abbrev pub invariant-loop-no : goal.invariant-loop-no
