@@ -1,9 +1,10 @@
 //! Writing of trace text: the whole text first, then its bytes.
 
-ghost use Rattle.std.specs.Prelude.{◌≡◌, ◌<◌, ◌^◌, ◌++◌, IfOk, OnOk, IfErr, IsTrue, All, length, map, decimal, string_bytes};
+ghost use Rattle.std.specs.Prelude.{◌≡◌, ◌<◌, ◌^◌, [], ◌∷◌, ◌++◌, IfOk, OnOk, IfErr, IsTrue, All, length, map, decimal, string_bytes};
 ghost use Rattle.std.specs.List.{join_with_byte};
 ghost use Rattle.std.specs.Io.KnownBytes.{Appends};
-ghost use Rattle.csv.specs.Records.{fields_of};
+ghost use Rattle.csv.specs.Records.{fields_of, partial_of};
+ghost use Rattle.step_trace.specs.Configurations.{IsSetup};
 ghost use Rattle.trace_text.specs.ByteLoops.{WasFaultless};
 ghost use Rattle.trace_text.specs.Faults.{inner_of, is_flushed};
 ghost use Rattle.trace_text.specs.Records.{record_line, text_of_records};
@@ -20,9 +21,10 @@ use crate::refusals::WriteError;
 use csv::{ByteRecord, Writer};
 use std::alloc::{AllocError, Global};
 use std::io::Write;
-use step_trace::{Act, Step, Trace};
+use step_trace::{Act, Config, Step, Trace};
 
-/// Writes the text of a trace, and flushes.
+/// Writes the text of a trace, and flushes. The text stands for the trace, and is shorter than
+/// `MAX_TEXT_BYTES`; so it can be read again.
 ///
 /// Refusals: Write with the number of bytes that went out before, the text's first, only where the
 /// writer answered a fault or took no byte; Memory, and nothing was written.
@@ -55,16 +57,43 @@ fn trace_text_of(alloc: Global, trace: &Trace) -> Result<Vec<u8>, AllocError>
     ensures text { IfOk result (λ text. text.items ≡ trace_text trace.now) }
     ensures sound { IsTrace trace.now }
 {
-    let config = trace.config();
-    let n = config.n();
-    let steps = trace.len() as u64;
-    let init = init_fields(alloc, config.init())?;
     let mut writer = record_writer(alloc);
-    write_header(alloc, &mut writer, n, config.t())?;
-    write_byte_record(&mut writer, &init)?;
-    write_steps(alloc, &mut writer, trace)?;
-    write_end(alloc, &mut writer, steps)?;
+    write_records(alloc, &mut writer, trace)?;
     text_written(writer)
+}
+
+fn write_records(
+    alloc: Global,
+    writer: &mut Writer<Vec<u8>>,
+    trace: &Trace,
+) -> Result<(), AllocError>
+    requires { IsReady writer.old }
+    ensures text { OnOk result (written writer.new ≡ written writer.old ++ trace_text trace.now) }
+    ensures sound { IsTrace trace.now }
+{
+    let steps = trace.len() as u64;
+    write_config(alloc, writer, trace.config())?;
+    write_steps(alloc, writer, trace)?;
+    write_end(alloc, writer, steps)
+}
+
+// The header and the initial values.
+fn write_config(
+    alloc: Global,
+    writer: &mut Writer<Vec<u8>>,
+    config: &Config,
+) -> Result<(), AllocError>
+    requires { IsReady writer.old }
+    ensures ready { OnOk result (IsReady writer.new) }
+    ensures text { OnOk result (written writer.new ≡ (written writer.old
+        ++ record_line (header_record config.now.n config.now.t)) ++ record_line (init_record config.now.init)) }
+    ensures setup { IsSetup config.now }
+    ensures numbers { All (λ v. v < 2 ^ 64) config.now.init }
+{
+    let n = config.n();
+    let init = init_fields(alloc, config.init())?;
+    write_header(alloc, writer, n, config.t())?;
+    write_byte_record(writer, &init)
 }
 
 // `dls-trace,1,N,t`
@@ -96,9 +125,18 @@ fn init_fields(alloc: Global, values: &[u64]) -> Result<ByteRecord, AllocError>
     let mut fields = ByteRecord::new(alloc);
     fields.push_field(b"init")?;
     for value in values {
-        fields.push_field(number_text(alloc, *value)?.as_bytes())?;
+        push_value(alloc, &mut fields, *value)?;
     }
     Ok(fields)
+}
+
+fn push_value(alloc: Global, fields: &mut ByteRecord, value: u64) -> Result<(), AllocError>
+    requires { partial_of fields.old ≡ [] }
+    ensures whole { OnOk result (partial_of fields.new ≡ []) }
+    ensures field { OnOk result
+        (fields_of fields.new ≡ fields_of fields.old ++ decimal value ∷ []) }
+{
+    fields.push_field(number_text(alloc, value)?.as_bytes())
 }
 
 // A record for each step.
@@ -128,14 +166,28 @@ fn write_step(
     ensures text { OnOk result
         (written writer.new ≡ written writer.old ++ record_line (step_record no step.now)) }
 {
-    let number = number_text(alloc, no)?;
-    let proc = number_text(alloc, step.proc)?;
     let arg = arg_text(alloc, &step.act)?;
     let op = op_text(&step.act);
-    write_record(
-        writer,
-        &[number.as_bytes(), proc.as_bytes(), op, arg.as_bytes()],
-    )
+    write_fields(alloc, writer, no, step.proc, op, arg.as_bytes())
+}
+
+fn write_fields(
+    alloc: Global,
+    writer: &mut Writer<Vec<u8>>,
+    no: u64,
+    proc: u64,
+    op: &[u8],
+    arg: &[u8],
+) -> Result<(), AllocError>
+    requires ready { IsReady writer.old }
+    requires plain { ArePlain (op.now ∷ arg.now ∷ []) }
+    ensures ready { OnOk result (IsReady writer.new) }
+    ensures text { OnOk result (written writer.new
+        ≡ written writer.old ++ record_line (decimal no ∷ decimal proc ∷ op.now ∷ arg.now ∷ [])) }
+{
+    let no = number_text(alloc, no)?;
+    let proc = number_text(alloc, proc)?;
+    write_record(writer, &[no.as_bytes(), proc.as_bytes(), op, arg])
 }
 
 fn op_text(act: &Act) -> &[u8]
@@ -170,10 +222,17 @@ fn ids_text(alloc: Global, ids: &[u64]) -> Result<String, AllocError>
     };
     let mut text = number_text(alloc, *first)?;
     for id in rest {
-        text.push(' ')?;
-        text.push_str(number_text(alloc, *id)?.as_str())?;
+        push_id(alloc, &mut text, *id)?;
     }
     Ok(text)
+}
+
+fn push_id(alloc: Global, text: &mut String, id: u64) -> Result<(), AllocError>
+    ensures { OnOk result
+        (string_bytes text.new ≡ (string_bytes text.old ++ 32 ∷ []) ++ decimal id) }
+{
+    text.push(' ')?;
+    text.push_str(number_text(alloc, id)?.as_str())
 }
 
 // `end,L`
