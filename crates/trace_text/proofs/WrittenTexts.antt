@@ -106,8 +106,8 @@ unfolding strip_bom
 no-mark t = refl
 
 -- the text of a trace stands for it
-pub StandsFor-trace_text : (t : Recorded) → IsTrace t → StandsFor (trace_text t) t
-StandsFor-trace_text t h = lines-read (trace_records t) (lines-trace t h) (no-mark t)
+pub trace_text_stands : (t : Recorded) → IsTrace t → StandsFor (trace_text t) t
+trace_text_stands t h = lines-read (trace_records t) (lines-trace t h) (no-mark t)
 
 -- a step's line
 length-arg : (a : Act) → IfSome (act_dest a) (λ p. p < 10 ^ 7) → All (λ s. s < 10 ^ 7) (act_ids a) → length (arg_text a) ≤ 7 + 8 * length (act_ids a)
@@ -138,8 +138,8 @@ length-steps at (x ∷ xs) room short =
     rw (length-append (record_line (step_record at x)) (text_of_records (step_records (at + 1) xs))) (omega (arith, line, more, ids))
 
 -- the text of a trace is shorter than 64 MiB
-pub short-trace_text : (t : Recorded) → IsTrace t → length (trace_text t) < MAX_TEXT_BYTES
-short-trace_text t h =
+pub trace_text_is_short : (t : Recorded) → IsTrace t → length (trace_text t) < MAX_TEXT_BYTES
+trace_text_is_short t h =
     let setup = h.setup in
     let most = setup.most in
     let faults = setup.faults in

@@ -28,6 +28,7 @@ use step_trace::{Act, Config, Step, Trace};
 ///
 /// Refusals: Write with the number of bytes that went out before, the text's first, only where the
 /// writer answered a fault or took no byte; Memory, and nothing was written.
+#[tactic(auto, using(crate::proofs::WrittenTexts::trace_text_stands, crate::proofs::WrittenTexts::trace_text_is_short))]
 pub fn write_trace<W: Write>(
     alloc: Global,
     trace: &Trace,
