@@ -8,7 +8,7 @@ use trace_text::{MAX_TEXT_BYTES, read_trace};
 pub(crate) const ONE_MISS: &str = "dls-trace,1,2,0\ninit,5,7\n1,1,S,2\n2,2,R,\n3,2,R,1\nend,3\n";
 
 /// Whether the answer for a text is this: `accepted`, or the name of the refusal.
-fn is_answer(alloc: Global, text: &[u8], wanted: &str) -> Result<bool, AllocError> {
+pub(crate) fn is_answer(alloc: Global, text: &[u8], wanted: &str) -> Result<bool, AllocError> {
     match read_trace(alloc, text) {
         Ok(_) => Ok(wanted == "accepted"),
         Err(why) => Ok(format!(in alloc; "{why:?}")?.as_str() == wanted),

@@ -9,7 +9,7 @@ use trace_text::failing_devices::{FailingWriter, WriteFailure};
 use trace_text::{Counting, TextError, WriteError, read_trace, write_trace};
 
 /// Whether what is written of the trace that a text stands for is this.
-fn is_written_as(alloc: Global, text: &str, wanted: &str) -> Result<bool, Fail> {
+pub(crate) fn is_written_as(alloc: Global, text: &str, wanted: &str) -> Result<bool, Fail> {
     let trace = read_trace(alloc, text.as_bytes())?;
     let mut written = Vec::new(alloc);
     write_trace(alloc, &trace, &mut Counting::new(&mut written))?;
