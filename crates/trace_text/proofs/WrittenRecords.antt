@@ -89,16 +89,16 @@ pub ArePlain-decimals : (ns : List ℕ) → All (λ k. k < 2 ^ 64) ns → ArePla
 ArePlain-decimals [] small = tt
 ArePlain-decimals (n ∷ ns) small = (IsPlain-decimal n (All-head (λ k. k < 2 ^ 64) n ns small), ArePlain-decimals ns (All-tail (λ k. k < 2 ^ 64) n ns small))
 
--- the parts of a trace's text
-pub version_text-parts : (v : Version) (t : Recorded)
-    → (((record_line (header_record v t.config.n t.config.t) ++ record_line (init_record t.config.init)) ++ text_of_records (step_records v t.ticks 1 t.steps)) ++ record_line (end_record t.last)) ≡ version_text v t
-version_text-parts v t =
+-- the parts of a trace's text, after what was written before
+pub version_text-parts : (before : List ℕ) (v : Version) (t : Recorded)
+    → (((before ++ record_line (header_record v t.config.n t.config.t)) ++ record_line (init_record t.config.init)) ++ text_of_records (step_records v t.ticks 1 t.steps)) ++ record_line (end_record t.last) ≡ before ++ version_text v t
+version_text-parts before v t =
     let header = record_line (header_record v t.config.n t.config.t) in
     let init = record_line (init_record t.config.init) in
     let steps = text_of_records (step_records v t.ticks 1 t.steps) in
     let end = record_line (end_record t.last) in
     rw (text_of_records-more (step_records v t.ticks 1 t.steps) (end_record t.last))
-    (append_assoc (header ++ init) steps end ∙ append_assoc header init (steps ++ end))
+    (append_assoc ((before ++ header) ++ init) steps end ∙ append_assoc (before ++ header) init (steps ++ end) ∙ append_assoc before header (init ++ (steps ++ end)))
 
 -- numbers of 64 bits, one by one
 pub All-fit : (ns : List ℕ) → ((i : ℕ) → Fits w64 (get_or ns i 0)) → All (λ k. k < 2 ^ 64) ns

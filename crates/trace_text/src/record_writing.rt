@@ -1,4 +1,5 @@
-//! Records written one after the other by csv's writer, none of whose fields calls for quotes.
+//! Records written one after the other by csv's writer, none of whose fields calls for quotes. A writer
+//! comes from `record_writer`; after a refusal it is of no more use.
 
 ghost use Rattle.std.specs.Prelude.{◌≡◌, ◌≤◌, [], ◌++◌, IfOk, OnOk, length, map, decimal, string_bytes};
 ghost use Rattle.csv.specs.Records.{fields_of};

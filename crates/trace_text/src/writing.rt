@@ -1,9 +1,10 @@
 //! Writing of trace text: the whole text first, then its bytes.
 
-ghost use Rattle.std.specs.Prelude.{◌≡◌, ◌<◌, ◌^◌, ◌++◌, ◌↔◌, IfOk, OnOk, IfErr, IsTrue, All, length, map, decimal, string_bytes};
+ghost use Rattle.std.specs.Prelude.{◌≡◌, ◌<◌, ◌^◌, [], ◌∷◌, ◌++◌, ◌↔◌, IfOk, OnOk, IfErr, IsTrue, All, length, map, decimal, string_bytes};
 ghost use Rattle.std.specs.List.{join_with_byte};
 ghost use Rattle.std.specs.Io.KnownBytes.{Appends};
-ghost use Rattle.csv.specs.Records.{fields_of};
+ghost use Rattle.csv.specs.Records.{fields_of, partial_of};
+ghost use Rattle.step_trace.specs.Configurations.{IsSetup};
 ghost use Rattle.step_trace.specs.Ticks.{IsOnePerTick};
 ghost use Rattle.trace_text.specs.ByteLoops.{WasFaultless};
 ghost use Rattle.trace_text.specs.Faults.{inner_of, is_flushed};
@@ -22,10 +23,11 @@ use crate::versions::{Version, version_of};
 use csv::{ByteRecord, Writer};
 use std::alloc::{AllocError, Global};
 use std::io::Write;
-use step_trace::{Act, Step, Trace};
+use step_trace::{Act, Config, Step, Trace};
 
 /// Writes the text of a trace, and flushes: in version 1 where each step's tick is its number and the last
-/// tick is the number of steps, else in version 2.
+/// tick is the number of steps, else in version 2. The text stands for the trace, and is shorter than
+/// `MAX_TEXT_BYTES`; so it can be read again.
 ///
 /// Refusals: Write with the number of bytes that went out before, the text's first, only where the
 /// writer answered a fault or took no byte; Memory, and nothing was written.
@@ -102,17 +104,47 @@ fn trace_text_of(alloc: Global, version: Version, trace: &Trace) -> Result<Vec<u
     ensures text { IfOk result (λ text. text.items ≡ version_text version trace.now) }
     ensures sound { IsTextTrace trace.now }
 {
-    let config = trace.config();
-    let n = config.n();
+    let mut writer = record_writer(alloc);
+    write_records(alloc, &mut writer, version, trace)?;
+    text_written(writer)
+}
+
+fn write_records(
+    alloc: Global,
+    writer: &mut Writer<Vec<u8>>,
+    version: Version,
+    trace: &Trace,
+) -> Result<(), AllocError>
+    requires { IsReady writer.old }
+    ensures text { OnOk result
+        (written writer.new ≡ written writer.old ++ version_text version trace.now) }
+    ensures sound { IsTextTrace trace.now }
+{
     let _ = trace.len();
     let last = trace.last_tick();
+    write_config(alloc, writer, version, trace.config())?;
+    write_steps(alloc, writer, version, trace)?;
+    write_end(alloc, writer, last)
+}
+
+// The header and the initial values.
+fn write_config(
+    alloc: Global,
+    writer: &mut Writer<Vec<u8>>,
+    version: Version,
+    config: &Config,
+) -> Result<(), AllocError>
+    requires { IsReady writer.old }
+    ensures ready { OnOk result (IsReady writer.new) }
+    ensures text { OnOk result (written writer.new ≡ (written writer.old
+        ++ record_line (header_record version config.now.n config.now.t)) ++ record_line (init_record config.now.init)) }
+    ensures setup { IsSetup config.now }
+    ensures numbers { All (λ v. v < 2 ^ 64) config.now.init }
+{
+    let n = config.n();
     let init = init_fields(alloc, config.init())?;
-    let mut writer = record_writer(alloc);
-    write_header(alloc, &mut writer, version, n, config.t())?;
-    write_byte_record(&mut writer, &init)?;
-    write_steps(alloc, &mut writer, version, trace)?;
-    write_end(alloc, &mut writer, last)?;
-    text_written(writer)
+    write_header(alloc, writer, version, n, config.t())?;
+    write_byte_record(writer, &init)
 }
 
 // `dls-trace,V,N,t`
@@ -160,9 +192,18 @@ fn init_fields(alloc: Global, values: &[u64]) -> Result<ByteRecord, AllocError>
     let mut fields = ByteRecord::new(alloc);
     fields.push_field(b"init")?;
     for value in values {
-        fields.push_field(number_text(alloc, *value)?.as_bytes())?;
+        push_value(alloc, &mut fields, *value)?;
     }
     Ok(fields)
+}
+
+fn push_value(alloc: Global, fields: &mut ByteRecord, value: u64) -> Result<(), AllocError>
+    requires { partial_of fields.old ≡ [] }
+    ensures whole { OnOk result (partial_of fields.new ≡ []) }
+    ensures field { OnOk result
+        (fields_of fields.new ≡ fields_of fields.old ++ decimal value ∷ []) }
+{
+    fields.push_field(number_text(alloc, value)?.as_bytes())
 }
 
 // A record for each step.
@@ -199,61 +240,54 @@ fn write_step(
     ensures text { OnOk result (written writer.new
         ≡ written writer.old ++ record_line (step_record version no tick step.now)) }
 {
+    let arg = arg_text(alloc, &step.act)?;
+    let op = op_text(&step.act);
     match version {
-        Version::One => write_numbered(alloc, writer, no, step),
-        Version::Two => write_timed(alloc, writer, no, tick, step),
+        Version::One => write_numbered(alloc, writer, no, step.proc, op, arg.as_bytes()),
+        Version::Two => write_timed(alloc, writer, no, tick, step.proc, op, arg.as_bytes()),
     }
 }
 
-// `no,proc,op,arg`
 fn write_numbered(
     alloc: Global,
     writer: &mut Writer<Vec<u8>>,
     no: u64,
-    step: &Step,
+    proc: u64,
+    op: &[u8],
+    arg: &[u8],
 ) -> Result<(), AllocError>
-    requires { IsReady writer.old }
+    requires ready { IsReady writer.old }
+    requires plain { ArePlain (op.now ∷ arg.now ∷ []) }
     ensures ready { OnOk result (IsReady writer.new) }
     ensures text { OnOk result (written writer.new
-        ≡ written writer.old ++ record_line (step_record Version.One no no step.now)) }
+        ≡ written writer.old ++ record_line (decimal no ∷ decimal proc ∷ op.now ∷ arg.now ∷ [])) }
 {
-    let number = number_text(alloc, no)?;
-    let proc = number_text(alloc, step.proc)?;
-    let arg = arg_text(alloc, &step.act)?;
-    let op = op_text(&step.act);
-    write_record(
-        writer,
-        &[number.as_bytes(), proc.as_bytes(), op, arg.as_bytes()],
-    )
+    let no = number_text(alloc, no)?;
+    let proc = number_text(alloc, proc)?;
+    write_record(writer, &[no.as_bytes(), proc.as_bytes(), op, arg])
 }
 
-// `no,tick,proc,op,arg`
 fn write_timed(
     alloc: Global,
     writer: &mut Writer<Vec<u8>>,
     no: u64,
     tick: u64,
-    step: &Step,
+    proc: u64,
+    op: &[u8],
+    arg: &[u8],
 ) -> Result<(), AllocError>
-    requires { IsReady writer.old }
+    requires ready { IsReady writer.old }
+    requires plain { ArePlain (op.now ∷ arg.now ∷ []) }
     ensures ready { OnOk result (IsReady writer.new) }
-    ensures text { OnOk result (written writer.new
-        ≡ written writer.old ++ record_line (step_record Version.Two no tick step.now)) }
+    ensures text { OnOk result (written writer.new ≡ written writer.old
+        ++ record_line (decimal no ∷ decimal tick ∷ decimal proc ∷ op.now ∷ arg.now ∷ [])) }
 {
-    let number = number_text(alloc, no)?;
+    let no = number_text(alloc, no)?;
     let tick = number_text(alloc, tick)?;
-    let proc = number_text(alloc, step.proc)?;
-    let arg = arg_text(alloc, &step.act)?;
-    let op = op_text(&step.act);
+    let proc = number_text(alloc, proc)?;
     write_record(
         writer,
-        &[
-            number.as_bytes(),
-            tick.as_bytes(),
-            proc.as_bytes(),
-            op,
-            arg.as_bytes(),
-        ],
+        &[no.as_bytes(), tick.as_bytes(), proc.as_bytes(), op, arg],
     )
 }
 
@@ -289,10 +323,17 @@ fn ids_text(alloc: Global, ids: &[u64]) -> Result<String, AllocError>
     };
     let mut text = number_text(alloc, *first)?;
     for id in rest {
-        text.push(' ')?;
-        text.push_str(number_text(alloc, *id)?.as_str())?;
+        push_id(alloc, &mut text, *id)?;
     }
     Ok(text)
+}
+
+fn push_id(alloc: Global, text: &mut String, id: u64) -> Result<(), AllocError>
+    ensures { OnOk result
+        (string_bytes text.new ≡ (string_bytes text.old ++ 32 ∷ []) ++ decimal id) }
+{
+    text.push(' ')?;
+    text.push_str(number_text(alloc, id)?.as_str())
 }
 
 // `end,L`

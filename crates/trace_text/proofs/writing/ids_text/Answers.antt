@@ -10,7 +10,7 @@ loop-id-init c = rw c.in-Some.ensures.cases.0 c.in_ok-text.ensures.digits
 
 pub loop-id-preserved : goal.loop-id-preserved
 loop-id-preserved c =
-    rw (c.in_ok-push_str.ensures.bytes, c.in_ok-push.ensures.bytes, c.in_ok-push.ensures.ascii (omega arith), c.as_str.ensures.value, c.in_ok-number_text.ensures.digits, c.loop-id.invariant)
+    rw (c.in_ok-push_id.ensures, c.loop-id.invariant)
     (ids-turn c.args.ids.now c.in-Some.rest.now c.in-Some.first.now c.loop-id.id-index c.in-Some.ensures.cases.0 c.loop-id-test.true)
 
 -- all ids
