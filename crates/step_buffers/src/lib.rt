@@ -12,6 +12,7 @@ mod moves;
 mod processors;
 mod receives;
 mod replays;
+mod round_inboxes;
 mod sends;
 mod steps;
 mod takes;
