@@ -1,11 +1,13 @@
 //! The messages that a processor took and may yet hear, by the rounds in which they were sent.
 
-ghost use Rattle.std.specs.Prelude.{◌≡◌, ◌+◌, ◌≤◌, ◌<◌, ◌∷◌, ◌++◌, [], true, false, All, Contains, IfOk, IfSome, IfNone, OnOk};
+ghost use Rattle.std.specs.Prelude.{filter, nat_le, length, ◌⊎◌, ◌≡◌, ◌+◌, ◌≤◌, ◌<◌, ◌∷◌, ◌++◌, [], true, false, All, Contains, IfOk, IfSome, IfNone, OnOk};
 ghost use Rattle.std.specs.BinaryHeap.{IsHeap, heap_items, heap_len, heap_capacity};
 ghost use Rattle.std.specs.List.Sorted.{IsPermutation};
 ghost use Rattle.std.proofs.Props.{props};
+ghost use Rattle.step_buffers.specs.Letters.{round_of};
 ghost use Rattle.step_buffers.specs.InboxRounds.{Entry, earlier_first, ids_of};
 
+use crate::letters::{Letter, round_of};
 use std::alloc::{AllocError, Global};
 use std::cmp::Reverse;
 use std::collections::BinaryHeap;
@@ -105,4 +107,19 @@ pub(crate) fn copied_inbox(alloc: Global, inbox: &Inbox) -> Result<Inbox, AllocE
         near: Vec::from_slice(alloc, &inbox.near)?,
         later: BinaryHeap::from(Vec::from_slice(alloc, inbox.later.as_slice())?),
     })
+}
+
+/// Keeps those of these messages that are of this round or a later one, where there is room.
+pub(crate) fn keep_ahead(inbox: &mut Inbox, letters: &[Option<Letter>], ids: &[u64], round: u64)
+    requires { heap_len inbox.old.later + length ids.now ≤ heap_capacity inbox.old.later }
+    ensures near { inbox.new.near.items ≡ inbox.old.near.items }
+    ensures later { IsPermutation (ids_of (heap_items inbox.old.later) ++ filter (λ s. nat_le round (round_of letters.now s)) ids.now) (ids_of (heap_items inbox.new.later)) }
+    ensures rounds { (e : Entry) → Contains (heap_items inbox.new.later) e → Contains (heap_items inbox.old.later) e ⊎ (e.0.0 ≡ round_of letters.now e.0.1) }
+{
+    for id in ids {
+        let sent = round_of(letters, *id);
+        if round <= sent {
+            keep_for_later(inbox, sent, *id);
+        }
+    }
 }
