@@ -9,7 +9,7 @@ use std::marker::Model;
 pub const MIN_PROCESSORS: u64 = 2;
 
 /// The greatest number of processors.
-pub const MAX_PROCESSORS: u64 = 16;
+pub const MAX_PROCESSORS: u64 = 64;
 
 /// Why a configuration is refused.
 #[derive(Clone, Copy, Debug, PartialEq, Eq)]

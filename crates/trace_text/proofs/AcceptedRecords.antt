@@ -10,6 +10,7 @@ use Rattle.step_trace.specs.declared.steps.Act.{Act}
 use Rattle.step_trace.specs.declared.steps.Act.TheVariants.{Send, Receive}
 use Rattle.step_trace.specs.declared.steps.Step.{Step}
 use Rattle.step_trace.specs.Configurations.{Setup, IsSetup, config_refusal}
+use Rattle.step_trace.specs.declared.configurations.TheConstants.{MIN_PROCESSORS, MAX_PROCESSORS}
 use Rattle.step_trace.specs.declared.configurations.ConfigError.TheVariants.{BadSize, BadFaults, BadInit}
 use Rattle.step_trace.specs.declared.traces.PushError.{PushError}
 use Rattle.step_trace.specs.Traces.{Recorded, step_at, IsWellFormed}
@@ -76,10 +77,10 @@ none_last false e h = cc h
 -- a configuration that isn't refused is one
 IsSetup-from_none : (n t : ℕ) (values : List ℕ) → config_refusal n t (length values) ≡ None → IsSetup (record { n = n; t = t; init = values })
 IsSetup-from_none n t values h =
-    let size = none_cond (nat_lt n 2 || nat_lt 16 n) BadSize _ h in
+    let size = none_cond (nat_lt n MIN_PROCESSORS || nat_lt MAX_PROCESSORS n) BadSize _ h in
     let faults = none_cond (nat_lt n (2 * t + 1)) BadFaults _ size.1 in
     let count = none_last (length values == n) BadInit faults.1 in
-    let ends = neither (nat_lt n 2) (nat_lt 16 n) size.0 in
+    let ends = neither (nat_lt n MIN_PROCESSORS) (nat_lt MAX_PROCESSORS n) size.0 in
     let low = ends.0 in
     let high = ends.1 in
     let few = faults.0 in

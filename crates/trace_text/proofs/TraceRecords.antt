@@ -9,6 +9,7 @@ use Rattle.std.proofs.lemmas.Fmt.{digits_decimal}
 use Rattle.std.proofs.lemmas.List.{append-nil}
 use Rattle.std.proofs.lemmas.List.Elements.{All-weaker, All-contains_itself}
 use Rattle.csv.specs.Records.{field_at}
+use Rattle.step_trace.specs.declared.configurations.TheConstants.{MIN_PROCESSORS, MAX_PROCESSORS}
 use Rattle.step_trace.specs.declared.steps.Act.{Act}
 use Rattle.step_trace.specs.declared.steps.Act.TheVariants.{Send, Receive}
 use Rattle.step_trace.specs.declared.steps.Step.{Step}
@@ -55,14 +56,14 @@ reads-header v c s =
     let faults = s.faults in
     let n : c.n < 2 ^ 64 = omega (arith, most) in
     let t : c.t < 2 ^ 64 = omega (arith, most, faults) in
-    rw (reads-version v, number_of-decimal c.n n, number_of-decimal c.t t, test_le 2 c.n least, test_le c.n 16 most, test_le (2 * c.t + 1) c.n faults) refl
+    rw (reads-version v, number_of-decimal c.n n, number_of-decimal c.t t, test_le MIN_PROCESSORS c.n least, test_le c.n MAX_PROCESSORS most, test_le (2 * c.t + 1) c.n faults) refl
 
 none_from_IsSetup : (c : Setup) → IsSetup c → config_refusal c.n c.t (length c.init) ≡ None
 none_from_IsSetup c s =
     let least = s.least in
     let most = s.most in
     let faults = s.faults in
-    rw (test_not_lt c.n 2 least, test_not_lt 16 c.n most, test_not_lt c.n (2 * c.t + 1) faults, eq-eqb (length c.init) c.n s.values) refl
+    rw (test_not_lt c.n MIN_PROCESSORS least, test_not_lt MAX_PROCESSORS c.n most, test_not_lt c.n (2 * c.t + 1) faults, eq-eqb (length c.init) c.n s.values) refl
 
 -- the initial values are read
 reads-init : (v : Version) (c : Setup) → IsSetup c → All (λ n. n < 2 ^ 64) c.init → next_stage (Sized v c.n c.t) (init_record c.init) ≡ Ok (Recording v (so_far c [] []))
@@ -100,7 +101,7 @@ all-fields Two at tick x = refl
 not_end : (n : ℕ) → n < 2 ^ 64 → bytes_eq (decimal n) (codes "end") ≡ false
 not_end n h = bytes_eq-other (decimal n) (codes "end") (λ e. let digits : AllDigits 10 (codes "end") = rw e at (digits_decimal own n h) in let low : digit_value 101 < 10 = digits.0 in absurd (omega (arith, low)))
 
-dest_small : (c : Setup) (o : Option ℕ) → c.n ≤ 16 → IfSome o (IsProc c) → IfSome o (λ p. p < 2 ^ 64)
+dest_small : (c : Setup) (o : Option ℕ) → c.n ≤ MAX_PROCESSORS → IfSome o (IsProc c) → IfSome o (λ p. p < 2 ^ 64)
 dest_small c None h d = tt
 dest_small c (Some p) h d = let high = d.1 in omega (arith, high, h)
 
