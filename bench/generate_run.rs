@@ -21,7 +21,7 @@ mod world;
 use std::env;
 use std::io::{self, BufWriter, Write};
 use std::process::ExitCode;
-use texts::Setup;
+use texts::{Setup, PROCESSOR_LIMIT};
 use world::World;
 
 const PROCESSORS: u64 = 16;
@@ -47,7 +47,7 @@ impl Words {
             [processors, burst] => (processors, burst),
             _ => return None,
         };
-        let is_meant = (2..=PROCESSORS).contains(&processors) && burst > 0;
+        let is_meant = (2..=PROCESSOR_LIMIT).contains(&processors) && burst > 0;
         is_meant.then_some(Words {
             steps,
             seed,

@@ -17,6 +17,7 @@ use std::process::exit;
 
 const TEXT_LIMIT: u64 = 67_108_864;
 const STEP_LIMIT: usize = 1_000_000;
+const PROCESSOR_LIMIT: u64 = 64;
 
 type Processor = u64;
 type Number = u64;
@@ -344,7 +345,7 @@ fn read_trace(text: &[u8]) -> Result<Trace, String> {
     let (Some(n), Some(t)) = (number(n), number(t)) else {
         return Err("bad size".into());
     };
-    if !(2..=16).contains(&n) || u128::from(t) * 2 + 1 > u128::from(n) {
+    if !(2..=PROCESSOR_LIMIT).contains(&n) || u128::from(t) * 2 + 1 > u128::from(n) {
         return Err("bad size".into());
     }
     let is_init = |record: &Vec<Vec<u8>>| {

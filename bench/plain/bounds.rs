@@ -22,7 +22,8 @@ impl ProcessorSet {
     }
 
     pub fn is_within(self, processors: u8) -> bool {
-        self.0 >> processors == 0
+        // (past all bits nothing is left)
+        self.0.checked_shr(processors.into()).is_none_or(|it| it == 0)
     }
 
     fn contains(self, processor: u8) -> bool {

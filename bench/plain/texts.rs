@@ -6,7 +6,7 @@ use std::fmt;
 /// The most steps that a trace may have.
 const STEP_LIMIT: usize = 1_000_000;
 /// The most processors that a trace may be of.
-pub const PROCESSOR_LIMIT: u64 = 16;
+pub const PROCESSOR_LIMIT: u64 = 64;
 
 /// The number that a field says in decimal digits, with no sign and no leading zero but `0` itself.
 pub fn number(field: &[u8]) -> Option<u64> {

@@ -15,12 +15,16 @@ fn reason(alloc: Global, n: u64, t: u64, values: usize) -> Result<Option<ConfigE
 fn limits_of_a_configuration(rt: HostRuntime) -> Result<(), AllocError> {
     let cases = [
         (1, 0, 1, Some(ConfigError::BadSize)),
-        (17, 0, 17, Some(ConfigError::BadSize)),
+        (65, 0, 65, Some(ConfigError::BadSize)),
+        (u64::MAX, 0, 65, Some(ConfigError::BadSize)),
         (2, 1, 2, Some(ConfigError::BadFaults)),
+        (64, 32, 64, Some(ConfigError::BadFaults)),
         (3, u64::MAX, 3, Some(ConfigError::BadFaults)),
         (2, 0, 3, Some(ConfigError::BadInit)),
+        (64, 31, 65, Some(ConfigError::BadInit)),
         (2, 0, 2, None),
-        (16, 7, 16, None),
+        (17, 8, 17, None),
+        (64, 31, 64, None),
     ];
     for (n, t, values, why) in cases {
         assert!(rt;

@@ -1,6 +1,7 @@
 //! What tests of rounds need: tables of who heard whom, and what became of the nodes over one.
 
 ghost use Rattle.std.specs.Prelude.{◌≤◌};
+ghost use Rattle.step_trace.specs.declared.configurations.TheConstants.{MAX_PROCESSORS};
 
 use lock_phases::Node;
 use round_model::{Heard, MAX_ROUNDS, decided, run_rounds};
@@ -10,7 +11,7 @@ use std::test::Fail;
 use step_trace::{Config, ProcSet};
 
 fn all_of(n: u64) -> ProcSet
-    requires { n ≤ 16 }
+    requires { n ≤ MAX_PROCESSORS }
 {
     let mut set = ProcSet::empty();
     for p in 1..n + 1 {
@@ -46,7 +47,7 @@ fn all_hear_all(rt: &impl Abort, heard: &mut Heard, round: u64) {
 /// The table in which everybody hears everybody in every round.
 pub fn all_heard(rt: &impl Abort, alloc: Global, n: u64, rounds: u64) -> Result<Heard, Fail>
     requires least { 2 ≤ n }
-    requires most { n ≤ 16 }
+    requires most { n ≤ MAX_PROCESSORS }
     requires limit { rounds ≤ MAX_ROUNDS }
 {
     let mut heard = Heard::new(alloc, n, rounds)?;

@@ -86,9 +86,10 @@ const BAD_STARTS: &[(&str, &str)] = &[
     ("dls-trace,3,2,0", "BadVersion"),
     ("dls-trace,01,1,0", "BadVersion"),
     ("dls-trace,1,1,0", "BadSize"),
-    ("dls-trace,1,17,0", "BadSize"),
+    ("dls-trace,1,65,0", "BadSize"),
     ("dls-trace,1,2,1", "BadSize"),
     ("dls-trace,1,16,8", "BadSize"),
+    ("dls-trace,1,64,32", "BadSize"),
     ("dls-trace,1,02,0", "BadSize"),
     ("dls-trace,1,2,+0", "BadSize"),
     ("dls-trace,1,,0", "BadSize"),
@@ -118,6 +119,16 @@ const INITIAL_VALUES: &[(&str, &str)] = &[
     (
         "dls-trace,1,16,7\ninit,1,2,3,4,5,6,7,8,9,0,1,2,3,4,5,6\nend,0",
         "accepted",
+    ),
+    (
+        "dls-trace,1,64,31\ninit,1,2,3,4,5,6,7,8,9,0,1,2,3,4,5,6,7,8,9,0,1,2,3,4,5,6,7,8,9,0,\
+        1,2,3,4,5,6,7,8,9,0,1,2,3,4,5,6,7,8,9,0,1,2,3,4,5,6,7,8,9,0,1,2,3,4\nend,0",
+        "accepted",
+    ),
+    (
+        "dls-trace,1,64,31\ninit,1,2,3,4,5,6,7,8,9,0,1,2,3,4,5,6,7,8,9,0,1,2,3,4,5,6,7,8,9,0,\
+        1,2,3,4,5,6,7,8,9,0,1,2,3,4,5,6,7,8,9,0,1,2,3,4,5,6,7,8,9,0,1,2,3,4,5\nend,0",
+        "BadInit",
     ),
 ];
 

@@ -48,7 +48,8 @@ fn forms_of_one_miss(rt: HostRuntime) -> Result<(), Fail> {
 /// Texts that are written as they are.
 const PLAIN_TEXTS: &[&str] = &[
     "dls-trace,1,2,0\ninit,5,18446744073709551615\nend,0\n",
-    "dls-trace,1,16,7\ninit,1,2,3,4,5,6,7,8,9,0,1,2,3,4,5,6\n1,16,S,10\n2,10,E,1\nend,2\n",
+    "dls-trace,1,64,31\ninit,1,2,3,4,5,6,7,8,9,0,1,2,3,4,5,6,7,8,9,0,1,2,3,4,5,6,7,8,9,0,\
+    1,2,3,4,5,6,7,8,9,0,1,2,3,4,5,6,7,8,9,0,1,2,3,4,5,6,7,8,9,0,1,2,3,4\n1,64,S,40\n2,40,E,1\nend,2\n",
     "dls-trace,1,3,1\ninit,5,7,7\n1,1,S,1\n2,2,S,1\n3,3,S,1\n4,1,E,1 2 3\n5,2,E,\n6,3,R,\nend,6\n",
     "dls-trace,1,2,0\ninit,0,0\n1,1,S,2\n2,1,S,2\n3,1,S,2\n4,2,R,1 3\n5,2,R,2\nend,5\n",
 ];
