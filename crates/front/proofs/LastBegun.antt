@@ -6,7 +6,7 @@ use Rattle.std.proofs.lemmas.List.Elements.{Contains-get_or}
 use Rattle.std.proofs.lemmas.Option.{slice_get-get_or}
 use Rattle.step_trace.specs.declared.rows.Row.{Row}
 use Rattle.front.specs.Reports.{last_begun}
-use Rattle.trace_text.proofs.ListMembers.{Contains-mapped, rising-tail, rising-first}
+use Rattle.step_trace.proofs.ListMembers.{Contains-mapped, rising-tail, rising-first}
 
 -- what rises doesn't fall
 pub IsNonDecreasingBy-rising : (rows : List Row) → IsStrictlyIncreasing (map (λ r. r.gst) rows) → IsNonDecreasingBy (λ r. r.gst) rows

@@ -1,5 +1,3 @@
-pub mod LeastBounds
-pub mod FrontCriterion
 pub mod Stretches
 pub mod StartRows
 pub mod ServingRows

@@ -8,7 +8,7 @@ use Rattle.step_trace.specs.declared.rows.Miss.{Miss}
 use Rattle.step_trace.specs.declared.rows.Gap.{Gap}
 use Rattle.step_trace.specs.declared.rows.Row.{Row}
 use Rattle.step_trace.specs.Fronts.{Triple, IsReport, IsReportRow, triple_of}
-use Rattle.trace_text.proofs.ListMembers.{Contains-nil, Contains-first, Contains-later, Contains-mapped, Contains-cons_cases, Contains-unmapped, rising-tail, rising-first}
+use Rattle.step_trace.proofs.ListMembers.{Contains-nil, Contains-first, Contains-later, Contains-mapped, Contains-cons_cases, Contains-unmapped, rising-tail, rising-first}
 
 -- what rises and has the same members is the same
 rising-same : (xs ys : List Row) → IsStrictlyIncreasing (map (λ r. r.gst) xs) → IsStrictlyIncreasing (map (λ r. r.gst) ys)

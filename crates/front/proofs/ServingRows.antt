@@ -12,9 +12,9 @@ use Rattle.step_trace.specs.Bounds.{DeltaHolds, PhiHolds, IsDelta, IsPhi}
 use Rattle.step_trace.specs.Fronts.{Triple, IsFeasible, IsOnFront, IsReport, triple_of}
 use Rattle.front.specs.Reports.{Reported, Serves, first_of, last_begun, row_at}
 use Rattle.step_trace.proofs.BoundLaws.{DeltaHolds-later, PhiHolds-later, DeltaHolds-past_end, PhiHolds-past_end}
-use Rattle.front.proofs.FrontCriterion.{IsDelta-on_front, IsPhi-on_front}
+use Rattle.step_trace.proofs.FrontCriterion.{IsDelta-on_front, IsPhi-on_front}
 use Rattle.front.proofs.Stretches.{miss-refutes, gap-refutes}
-use Rattle.trace_text.proofs.ListMembers.{Contains-nil, Contains-first, Contains-later, Contains-mapped, Contains-cons_cases, Contains-unmapped, rising-tail, rising-first}
+use Rattle.step_trace.proofs.ListMembers.{Contains-nil, Contains-first, Contains-later, Contains-mapped, Contains-cons_cases, Contains-unmapped, rising-tail, rising-first}
 
 -- no feasible triple has nothing of the front at or below it
 pub front-below : (set : ℕ) (trace : Recorded) (size : ℕ) (t : Triple) → t.gst + t.delta + t.phi ≤ size → IsFeasible set trace t

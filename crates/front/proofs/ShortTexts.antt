@@ -18,7 +18,7 @@ use Rattle.step_trace.proofs.StepPositions.{step_at_within}
 use Rattle.trace_text.specs.Records.{record_line, text_of_records}
 use Rattle.front.specs.ReportTexts.{report_header, report_text, row_record, miss_fields, gap_fields}
 use Rattle.trace_text.proofs.LineLengths.{bytes_of, length-line, short-decimal}
-use Rattle.trace_text.proofs.ListMembers.{Contains-first, Contains-later, Contains-unmapped}
+use Rattle.step_trace.proofs.ListMembers.{Contains-first, Contains-later, Contains-unmapped}
 
 -- fields of at most seven bytes
 abbrev AreShort : List (List ℕ) → Type 0

@@ -14,8 +14,8 @@ use Rattle.suffix_staircase.specs.declared.levels.Level.{Level}
 use Rattle.suffix_staircase.specs.Levels.{IsStart, AreStarts, same_bounds}
 use Rattle.suffix_staircase.specs.Analysis.{IsLevelAt, AreLevels}
 use Rattle.front.specs.Reports.{level_of, AreRowsAt}
-use Rattle.front.proofs.FrontCriterion.{IsDelta-on_front, IsPhi-on_front, on_front-changes, IsOnFront-from_change}
-use Rattle.trace_text.proofs.ListMembers.{Contains-nil, Contains-push_cases, Contains-unmapped, Contains-mapped}
+use Rattle.step_trace.proofs.FrontCriterion.{IsDelta-on_front, IsPhi-on_front, on_front-changes, IsOnFront-from_change}
+use Rattle.step_trace.proofs.ListMembers.{Contains-nil, Contains-push_cases, Contains-unmapped, Contains-mapped}
 
 pub AreRowsAt-none : (levels : List Level) (numbers : List ℕ) → AreRowsAt levels (take 0 numbers) []
 AreRowsAt-none levels numbers = record { begin = refl; each = λ r c. absurd (Contains-nil r c) }

@@ -14,3 +14,6 @@ pub mod TickReasons
 pub mod ExtendedTraces
 pub mod BoundLaws
 pub mod BoundDecisions
+pub mod ListMembers
+pub mod LeastBounds
+pub mod FrontCriterion

@@ -3,7 +3,6 @@ pub mod Bytes
 pub mod KeptRecords
 pub mod LineLengths
 pub mod LinesRead
-pub mod ListMembers
 pub mod NumberLists
 pub mod Numbers
 pub mod PlainFields

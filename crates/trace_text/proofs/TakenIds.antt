@@ -12,7 +12,7 @@ use Rattle.step_trace.specs.Steps.{act_ids}
 use Rattle.step_trace.specs.Configurations.{Setup}
 use Rattle.step_trace.specs.Traces.{IsWellFormed}
 use Rattle.step_trace.proofs.StepPositions.{step_at_within}
-use Rattle.trace_text.proofs.ListMembers.{Contains-first, Contains-later, Contains-nil, rising-first, rising-tail}
+use Rattle.step_trace.proofs.ListMembers.{Contains-first, Contains-later, Contains-nil, rising-first, rising-tail}
 
 -- the ids of all Receives, one step after the other
 abbrev pub taken_ids : List Step → List ℕ

@@ -6,7 +6,7 @@ use Rattle.step_trace.specs.Traces.{Recorded}
 use Rattle.step_trace.specs.Bounds.{DeltaHolds, PhiHolds, IsDelta, IsPhi}
 use Rattle.step_trace.specs.Fronts.{Triple, IsOnFront}
 use Rattle.step_trace.proofs.BoundLaws.{DeltaHolds-later, PhiHolds-later}
-use Rattle.front.proofs.LeastBounds.{IsDelta-earlier, IsPhi-earlier}
+use Rattle.step_trace.proofs.LeastBounds.{IsDelta-earlier, IsPhi-earlier}
 
 -- the bounds of a triple on the front are the least ones
 pub IsDelta-on_front : (set : ℕ) (trace : Recorded) (t : Triple) → IsOnFront set trace t → IsDelta set trace t.gst t.delta
