@@ -22,11 +22,10 @@ impl ProcessorSet {
     }
 
     pub fn is_within(self, processors: u8) -> bool {
-        // (past all bits nothing is left)
-        self.0.checked_shr(processors.into()).is_none_or(|it| it == 0)
+        self.0.checked_shr(processors.into()).unwrap_or(0) == 0
     }
 
-    fn contains(self, processor: u8) -> bool {
+    pub fn contains(self, processor: u8) -> bool {
         self.0 >> (processor - 1) & 1 == 1
     }
 
@@ -37,22 +36,24 @@ impl ProcessorSet {
 
 // Bounds
 
-/// A message and a Receive of its receiver by which it was not delivered.
+/// A message and the last Receive of its receiver by which it was not delivered, by their numbers, and the ticks
+/// between the two.
 #[derive(Clone, Copy)]
-struct Miss {
-    sent: u32,
-    missed: u32,
+pub struct Miss {
+    pub sent: u32,
+    pub missed: u32,
+    pub length: u32,
 }
 
-/// An interval in which a processor makes no step.
+/// Ticks in which a processor makes no step.
 #[derive(Clone, Copy)]
-struct Gap {
-    processor: u8,
-    from: u32,
-    to: u32,
+pub struct Gap {
+    pub processor: u8,
+    pub from: u32,
+    pub to: u32,
 }
 
-/// The bounds that hold from a step to the trace's end, with a witness against each smaller one.
+/// The bounds that hold from a tick to the trace's end, with a witness against each smaller one.
 #[derive(Clone, Copy)]
 pub struct Row {
     gst: u32,
@@ -62,20 +63,20 @@ pub struct Row {
     gap: Option<Gap>,
 }
 
-/// What the steps from the one at hand to the trace's end say of the silence of the correct processors.
-struct Silence {
+/// What the ticks from the one at hand to the trace's end say of the silence of the correct processors.
+pub struct Silence {
     /// The correct processors, rising.
     members: Vec<u8>,
-    /// The next step of each processor, by its number less one; one past the end where there is none.
+    /// The tick of the next step of each processor, by its number less one; one past the end where there is none.
     next: [u32; PROCESSOR_LIMIT as usize],
     /// The correct processor whose next step comes last, and of several the one with the least number.
     last: Option<u8>,
 }
 
 impl Silence {
-    fn new(correct: ProcessorSet, length: u32) -> Silence {
+    pub fn new(correct: ProcessorSet, last_tick: u32) -> Silence {
         let members: Vec<u8> = correct.members().collect();
-        let next = [length + 1; PROCESSOR_LIMIT as usize];
+        let next = [last_tick + 1; PROCESSOR_LIMIT as usize];
         let last = members.first().copied();
         Silence {
             members,
@@ -89,8 +90,8 @@ impl Silence {
     }
 
     /// Takes in the step before all those so far.
-    fn step(&mut self, no: u32, processor: u8) {
-        self.next[usize::from(processor) - 1] = no;
+    pub fn step(&mut self, tick: u32, processor: u8) {
+        self.next[usize::from(processor) - 1] = tick;
         if self.last == Some(processor) {
             // (of equal ones `max_by_key` gives the last)
             let members = self.members.iter().copied().rev();
@@ -98,21 +99,28 @@ impl Silence {
         }
     }
 
-    /// The longest silence that begins at a step, if a correct processor is silent there.
-    fn at(&self, no: u32) -> Option<Gap> {
+    /// The longest silence that begins in a tick, if a correct processor is silent there.
+    pub fn at(&self, tick: u32) -> Option<Gap> {
         let processor = self.last?;
         let to = self.next_of(processor) - 1;
-        (to >= no).then_some(Gap {
+        (to >= tick).then_some(Gap {
             processor,
-            from: no,
+            from: tick,
             to,
         })
     }
 }
 
+impl Gap {
+    pub fn length(self) -> u32 {
+        self.to - self.from + 1
+    }
+}
+
 /// The last miss of the message that a step sends between correct processors, if it sends one that was missed.
-fn last_miss(trace: &Trace, correct: ProcessorSet, sent: u32) -> Option<Miss> {
+pub fn last_miss(trace: &Trace, correct: ProcessorSet, sent: u32) -> Option<Miss> {
     let Step {
+        tick,
         processor,
         act: Act::Send { to, taken },
     } = trace.step(sent)
@@ -129,14 +137,23 @@ fn last_miss(trace: &Trace, correct: ProcessorSet, sent: u32) -> Option<Miss> {
             Act::Send { .. } => 0,
         },
     };
-    (missed > sent).then_some(Miss { sent, missed })
+    let length = match missed {
+        0 => 0,
+        missed => trace.step(missed).tick.saturating_sub(tick),
+    };
+    (length > 0).then_some(Miss {
+        sent,
+        missed,
+        length,
+    })
 }
 
 /// The triples of bounds that no other triple dominates, in rising stabilization time: one backward pass, in which
-/// the bounds only grow, keeps a row where the step before has another bound.
+/// the bounds only grow, keeps a row where the tick before has another bound.
 pub fn front(trace: &Trace, correct: ProcessorSet) -> Vec<Row> {
     let mut rows = Vec::new();
-    let mut silence = Silence::new(correct, trace.len());
+    let mut silence = Silence::new(correct, trace.last_tick);
+    let mut no = trace.len();
     let mut row = Row {
         gst: 0,
         delta: 1,
@@ -144,24 +161,20 @@ pub fn front(trace: &Trace, correct: ProcessorSet) -> Vec<Row> {
         miss: None,
         gap: None,
     };
-    for gst in (1..=trace.len()).rev() {
+    for gst in (1..=trace.last_tick).rev() {
         let after = row;
-        if let Some(miss) =
-            last_miss(trace, correct, gst).filter(|it| it.missed - it.sent >= row.delta)
-        {
-            row = Row {
-                delta: miss.missed - miss.sent + 1,
-                miss: Some(miss),
-                ..row
-            };
+        while no > 0 && trace.step(no).tick == gst {
+            let miss = last_miss(trace, correct, no);
+            if let Some(miss) = miss.filter(|it| it.length >= row.delta) {
+                row.delta = miss.length + 1;
+                row.miss = Some(miss);
+            }
+            silence.step(gst, trace.step(no).processor);
+            no -= 1;
         }
-        silence.step(gst, trace.step(gst).processor);
-        if let Some(gap) = silence.at(gst).filter(|it| it.to - it.from + 1 >= row.phi) {
-            row = Row {
-                phi: gap.to - gap.from + 2,
-                gap: Some(gap),
-                ..row
-            };
+        if let Some(gap) = silence.at(gst).filter(|it| it.length() >= row.phi) {
+            row.phi = gap.length() + 1;
+            row.gap = Some(gap);
         }
         if after.gst != 0 && (row.delta, row.phi) != (after.delta, after.phi) {
             rows.push(after);
@@ -187,7 +200,7 @@ pub fn write_report(rows: &[Row], out: &mut impl Write) -> io::Result<()> {
     {
         write!(out, "{gst},{delta},{phi},")?;
         match miss {
-            Some(Miss { sent, missed }) => write!(out, "{sent},{missed},")?,
+            Some(Miss { sent, missed, .. }) => write!(out, "{sent},{missed},")?,
             None => write!(out, ",,")?,
         }
         match gap {

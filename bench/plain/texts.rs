@@ -5,6 +5,8 @@ use std::fmt;
 
 /// The most steps that a trace may have.
 const STEP_LIMIT: usize = 1_000_000;
+/// The last tick that a trace may have.
+const TICK_LIMIT: u64 = 1_000_000;
 /// The most processors that a trace may be of.
 pub const PROCESSOR_LIMIT: u64 = 64;
 
@@ -26,7 +28,7 @@ pub fn number(field: &[u8]) -> Option<u64> {
 
 /// Reads the records of a text: fields may be quoted, a line ends by a line feed, a carriage return or both, and
 /// blank lines are no records.
-struct Records<'a> {
+pub struct Records<'a> {
     rest: &'a [u8],
 }
 
@@ -37,14 +39,14 @@ enum FieldEnd {
 }
 
 impl<'a> Records<'a> {
-    fn new(text: &'a [u8]) -> Self {
+    pub fn new(text: &'a [u8]) -> Self {
         Records {
             rest: text.strip_prefix(b"\xef\xbb\xbf").unwrap_or(text),
         }
     }
 
     /// Reads the next record into `fields`, and returns whether there was one.
-    fn read(&mut self, fields: &mut Vec<Cow<'a, [u8]>>) -> bool {
+    pub fn read(&mut self, fields: &mut Vec<Cow<'a, [u8]>>) -> bool {
         fields.clear();
         while let [b'\n' | b'\r', rest @ ..] = self.rest {
             self.rest = rest;
@@ -127,6 +129,7 @@ pub enum Act {
 
 #[derive(Clone, Copy)]
 pub struct Step {
+    pub tick: u32,
     pub processor: u8,
     pub act: Act,
 }
@@ -139,9 +142,17 @@ pub struct Setup {
     pub values: Vec<u64>,
 }
 
+/// The two versions of a trace text: in the first the tick of a step is its number.
+#[derive(Clone, Copy, PartialEq, Eq)]
+enum Version {
+    Numbers,
+    Ticks,
+}
+
 pub struct Trace {
     pub setup: Setup,
     pub steps: Vec<Step>,
+    pub last_tick: u32,
     /// The last Receive of each processor, by its number less one.
     pub last_receives: [u32; PROCESSOR_LIMIT as usize],
 }
@@ -164,11 +175,14 @@ pub enum StepFault {
     BadOperation,
     BadNumber,
     Full,
+    BadTick,
     NoProcessor,
+    ProcessorOrder,
     NoDestination,
     IdsNotRising,
     Unknown(u64),
     NotAddressed(u64),
+    SameTick(u64),
     Redelivered(u64),
 }
 
@@ -196,11 +210,14 @@ impl fmt::Display for StepFault {
             StepFault::BadOperation => f.write_str("bad operation"),
             StepFault::BadNumber => f.write_str("bad number"),
             StepFault::Full => f.write_str("trace is full"),
+            StepFault::BadTick => f.write_str("bad tick"),
             StepFault::NoProcessor => f.write_str("no such processor"),
+            StepFault::ProcessorOrder => f.write_str("processors do not rise"),
             StepFault::NoDestination => f.write_str("no such destination"),
             StepFault::IdsNotRising => f.write_str("ids do not rise"),
             StepFault::Unknown(id) => write!(f, "message {id} unknown"),
             StepFault::NotAddressed(id) => write!(f, "message {id} is for another processor"),
+            StepFault::SameTick(id) => write!(f, "message {id} was sent in this tick"),
             StepFault::Redelivered(id) => write!(f, "message {id} was received before"),
         }
     }
@@ -212,7 +229,7 @@ impl Trace {
         let mut records = Records::new(text);
         let mut fields = Vec::new();
         records.read(&mut fields);
-        let (processors, faults) = read_header(&fields)?;
+        let (version, processors, faults) = read_header(&fields)?;
         records.read(&mut fields);
         let values = read_init(&fields, processors)?;
         let mut trace = Trace {
@@ -222,20 +239,21 @@ impl Trace {
                 values,
             },
             steps: Vec::new(),
+            last_tick: 0,
             last_receives: [0; PROCESSOR_LIMIT as usize],
         };
         let mut ids = Vec::new();
         while records.read(&mut fields) {
             let no = trace.len() + 1;
             if fields[0] == b"end".as_slice() {
-                trace.check_end(no, &fields)?;
+                trace.last_tick = trace.read_end(no, &fields, version)?;
                 return match records.read(&mut fields) {
                     false => Ok(trace),
                     true => Err(TraceFault::AfterEnd),
                 };
             }
             trace
-                .read_step(no, &fields, &mut ids)
+                .read_step(no, &fields, version, &mut ids)
                 .map_err(|why| TraceFault::BadStep(no, why))?;
         }
         Err(TraceFault::NoEnd)
@@ -250,23 +268,32 @@ impl Trace {
         self.steps[no as usize - 1]
     }
 
-    fn check_end(&self, no: u32, fields: &[Cow<[u8]>]) -> Result<(), TraceFault> {
-        let [_, length] = fields else {
+    /// The last tick by the record of the end.
+    fn read_end(&self, no: u32, fields: &[Cow<[u8]>], version: Version) -> Result<u32, TraceFault> {
+        let [_, end] = fields else {
             return Err(TraceFault::BadStep(no, StepFault::BadFields));
         };
-        match number(length) == Some(self.len().into()) {
-            true => Ok(()),
-            false => Err(TraceFault::WrongEnd),
-        }
+        let end = number(end).ok_or(TraceFault::WrongEnd)?;
+        let is_end = match version {
+            Version::Numbers => end == self.len().into(),
+            Version::Ticks => (self.last_tick.into()..=TICK_LIMIT).contains(&end),
+        };
+        is_end.then_some(end as u32).ok_or(TraceFault::WrongEnd)
     }
 
     fn read_step(
         &mut self,
         no: u32,
         fields: &[Cow<[u8]>],
+        version: Version,
         ids: &mut Vec<u64>,
     ) -> Result<(), StepFault> {
-        let [first, processor, operation, argument] = fields else {
+        let (first, tick, rest) = match (fields, version) {
+            ([first, rest @ ..], Version::Numbers) => (first, None, rest),
+            ([first, tick, rest @ ..], Version::Ticks) => (first, Some(tick), rest),
+            _ => return Err(StepFault::BadFields),
+        };
+        let [processor, operation, argument] = rest else {
             return Err(StepFault::BadFields);
         };
         if number(first) != Some(no.into()) {
@@ -276,22 +303,54 @@ impl Trace {
             &[operation @ (b'S' | b'R' | b'E')] => operation,
             _ => return Err(StepFault::BadOperation),
         };
+        let tick = tick.map_or(Some(no.into()), |it| number(it));
+        let tick = tick.ok_or(StepFault::BadNumber)?;
         let processor = number(processor).ok_or(StepFault::BadNumber)?;
-        if operation == b'S' {
-            let to = number(argument).ok_or(StepFault::BadNumber)?;
-            self.push_send(processor, to)
-        } else {
+        let to = match operation {
+            b'S' => Some(number(argument).ok_or(StepFault::BadNumber)?),
+            _ => None,
+        };
+        if to.is_none() {
             read_ids(argument, ids).ok_or(StepFault::BadNumber)?;
-            self.push_receive(no, processor, ids, operation == b'E')
         }
+        let (tick, processor) = self.stepping(tick, processor)?;
+        let act = match to {
+            Some(to) => Act::Send {
+                to: self.processor(to).ok_or(StepFault::NoDestination)?,
+                taken: 0,
+            },
+            None => {
+                self.check_ids(tick, processor, ids)?;
+                Act::Receive {
+                    before: self.take(no, processor, ids),
+                    ends: operation == b'E',
+                }
+            }
+        };
+        self.last_tick = tick;
+        self.steps.push(Step {
+            tick,
+            processor,
+            act,
+        });
+        Ok(())
     }
 
-    /// The processor with a number, if the trace has room for a step of it.
-    fn stepping(&self, processor: u64) -> Result<u8, StepFault> {
+    /// The tick and the processor with these numbers, if the trace has room for a step of it there.
+    fn stepping(&self, tick: u64, processor: u64) -> Result<(u32, u8), StepFault> {
         if self.steps.len() == STEP_LIMIT {
             return Err(StepFault::Full);
         }
-        self.processor(processor).ok_or(StepFault::NoProcessor)
+        if tick == 0 || tick < self.last_tick.into() || tick > TICK_LIMIT {
+            return Err(StepFault::BadTick);
+        }
+        let processor = self.processor(processor).ok_or(StepFault::NoProcessor)?;
+        match self.steps.last() {
+            Some(last) if last.processor >= processor && u64::from(last.tick) == tick => {
+                Err(StepFault::ProcessorOrder)
+            }
+            _ => Ok((tick as u32, processor)),
+        }
     }
 
     fn processor(&self, number: u64) -> Option<u8> {
@@ -300,87 +359,78 @@ impl Trace {
             .then_some(number as u8)
     }
 
-    fn push_send(&mut self, processor: u64, to: u64) -> Result<(), StepFault> {
-        let processor = self.stepping(processor)?;
-        let to = self.processor(to).ok_or(StepFault::NoDestination)?;
-        self.steps.push(Step {
-            processor,
-            act: Act::Send { to, taken: 0 },
-        });
-        Ok(())
-    }
-
-    fn push_receive(
-        &mut self,
-        no: u32,
-        processor: u64,
-        ids: &[u64],
-        ends: bool,
-    ) -> Result<(), StepFault> {
-        let processor = self.stepping(processor)?;
-        self.check_ids(processor, ids)?;
+    /// Has a Receive take these messages, and returns the Receive of its processor before it.
+    fn take(&mut self, no: u32, processor: u8, ids: &[u64]) -> u32 {
         for &id in ids {
             if let Act::Send { taken, .. } = &mut self.steps[id as usize - 1].act {
                 *taken = no;
             }
         }
         let last = &mut self.last_receives[usize::from(processor) - 1];
-        self.steps.push(Step {
-            processor,
-            act: Act::Receive {
-                before: *last,
-                ends,
-            },
-        });
-        *last = no;
-        Ok(())
+        std::mem::replace(last, no)
     }
 
-    fn check_ids(&self, processor: u8, ids: &[u64]) -> Result<(), StepFault> {
+    fn check_ids(&self, tick: u32, processor: u8, ids: &[u64]) -> Result<(), StepFault> {
         if !ids.is_sorted_by(|a, b| a < b) {
             return Err(StepFault::IdsNotRising);
         }
         if let Some(id) = self.least(ids, |message| message.is_none()) {
             return Err(StepFault::Unknown(id));
         }
-        if let Some(id) = self.least(ids, |it| it.is_some_and(|(to, _)| to != processor)) {
+        if let Some(id) = self.least(ids, |it| it.is_some_and(|it| it.to != processor)) {
             return Err(StepFault::NotAddressed(id));
         }
-        if let Some(id) = self.least(ids, |it| it.is_some_and(|(_, taken)| taken != 0)) {
+        if let Some(id) = self.least(ids, |it| it.is_some_and(|it| it.tick == tick)) {
+            return Err(StepFault::SameTick(id));
+        }
+        if let Some(id) = self.least(ids, |it| it.is_some_and(|it| it.taken != 0)) {
             return Err(StepFault::Redelivered(id));
         }
         Ok(())
     }
 
     /// The first of the ids whose message, if there is one, is bad.
-    fn least(&self, ids: &[u64], is_bad: impl Fn(Option<(u8, u32)>) -> bool) -> Option<u64> {
+    fn least(&self, ids: &[u64], is_bad: impl Fn(Option<Message>) -> bool) -> Option<u64> {
         ids.iter().copied().find(|&id| is_bad(self.message(id)))
     }
 
-    /// The destination of the message with an id, and the Receive that took it.
-    fn message(&self, id: u64) -> Option<(u8, u32)> {
+    fn message(&self, id: u64) -> Option<Message> {
         let at = usize::try_from(id.checked_sub(1)?).ok()?;
-        match self.steps.get(at)?.act {
-            Act::Send { to, taken } => Some((to, taken)),
+        let step = self.steps.get(at)?;
+        match step.act {
+            Act::Send { to, taken } => Some(Message {
+                tick: step.tick,
+                to,
+                taken,
+            }),
             Act::Receive { .. } => None,
         }
     }
 }
 
-/// The number of processors that a header names, and how many of them may be faulty.
-fn read_header(fields: &[Cow<[u8]>]) -> Result<(u8, u8), TraceFault> {
+/// The tick and the destination of a Send, and the Receive that took its message.
+struct Message {
+    tick: u32,
+    to: u8,
+    taken: u32,
+}
+
+/// The version and the number of processors that a header names, and how many of them may be faulty.
+fn read_header(fields: &[Cow<[u8]>]) -> Result<(Version, u8, u8), TraceFault> {
     let [name, version, processors, faults] = fields else {
         return Err(TraceFault::BadHeader);
     };
     if name.as_ref() != b"dls-trace" {
         return Err(TraceFault::BadHeader);
     }
-    if version.as_ref() != b"1" {
-        return Err(TraceFault::BadVersion);
-    }
+    let version = match version.as_ref() {
+        b"1" => Version::Numbers,
+        b"2" => Version::Ticks,
+        _ => return Err(TraceFault::BadVersion),
+    };
     match (number(processors), number(faults)) {
         (Some(n @ 2..=PROCESSOR_LIMIT), Some(faults)) if faults <= (n - 1) / 2 => {
-            Ok((n as u8, faults as u8))
+            Ok((version, n as u8, faults as u8))
         }
         _ => Err(TraceFault::BadSize),
     }
