@@ -1,8 +1,9 @@
 //! Writes a trace text of a stated length to standard output: the same text for the same length and seed.
 //!
-//!     generate STEPS SEED
+//!     generate STEPS SEED [TICKS]
 //!
-//! There are 16 processors. 1 to 12 are meant as the correct ones; the others step seldom and lose a third of what
+//! The trace is of version 1, or where a last tick is named, of version 2: then ticks hold steps of several
+//! processors, or none. There are 16 processors. 1 to 12 are meant as the correct ones; the others step seldom and lose a third of what
 //! is sent to them. In the first half of the trace some messages between the correct ones are lost and many are
 //! late, and processors fall silent for long; later nothing is lost, and delays and silences shrink, so that the
 //! front has many rows of both bounds.
@@ -49,40 +50,49 @@ struct Processor {
 struct Network {
     chance: Chance,
     steps: u64,
+    last_tick: u64,
     processors: Vec<Processor>,
 }
 
 impl Network {
-    fn new(steps: u64, seed: u64) -> Network {
+    fn new(steps: u64, seed: u64, last_tick: u64) -> Network {
         let processors = (0..PROCESSORS).map(|_| Processor::default()).collect();
         Network {
             chance: Chance(seed),
             steps,
+            last_tick,
             processors,
         }
     }
 
-    /// How unsettled the network is at a step, from 64 at the start down to 0 at the end.
-    fn unrest(&self, no: u64) -> u64 {
-        64 * (self.steps - no) / self.steps
+    /// How unsettled the network is in a tick, from 64 at the start down to 0 at the end.
+    fn unrest(&self, tick: u64) -> u64 {
+        64 * (self.last_tick - tick) / self.last_tick
+    }
+
+    /// How many ticks there are for each step, at least 1.
+    fn pace(&self) -> u64 {
+        (self.last_tick / self.steps.max(1)).max(1)
+    }
+
+    fn is_asleep(&mut self, at: usize, tick: u64) -> bool {
+        self.processors[at].silent_until > tick || at >= CORRECT && !self.chance.once_in(4)
     }
 
     /// The processor of the next step: one that is not silent, and seldom one of the faulty.
-    fn stepping(&mut self, no: u64) -> usize {
+    fn stepping(&mut self, tick: u64) -> usize {
         loop {
             let at = self.chance.below(PROCESSORS as u64) as usize;
-            let is_asleep =
-                self.processors[at].silent_until > no || at >= CORRECT && !self.chance.once_in(4);
-            if !is_asleep {
+            if !self.is_asleep(at, tick) {
                 return at;
             }
         }
     }
 
     /// Sends the message `no`, and returns its destination.
-    fn send(&mut self, no: u64) -> usize {
+    fn send(&mut self, no: u64, tick: u64) -> usize {
         let to = self.chance.below(PROCESSORS as u64) as usize;
-        let unrest = self.unrest(no);
+        let unrest = self.unrest(tick);
         let is_lost = match to < CORRECT {
             true => unrest >= 32 && self.chance.once_in(100),
             false => self.chance.once_in(3),
@@ -92,17 +102,19 @@ impl Network {
             let delay = self
                 .chance
                 .below(if is_late { 50 + 100 * unrest } else { 50 });
-            self.processors[to].arriving.push(Reverse((no + delay, no)));
+            let due = tick + self.pace() * delay;
+            self.processors[to].arriving.push(Reverse((due, no)));
         }
         to
     }
 
-    /// The messages that a processor takes at the step `no`, in rising order.
-    fn receive(&mut self, at: usize, no: u64) -> Vec<u64> {
+    /// The messages that a processor takes in a tick, in rising order: those that were sent before this tick's first
+    /// step `first`.
+    fn receive(&mut self, at: usize, tick: u64, first: u64) -> Vec<u64> {
         let arriving = &mut self.processors[at].arriving;
         let mut ids = Vec::new();
         while let Some(&Reverse((due, id))) = arriving.peek() {
-            if due > no {
+            if due > tick || id >= first {
                 break;
             }
             arriving.pop();
@@ -113,46 +125,93 @@ impl Network {
     }
 
     /// Lets a processor be silent after its step, now and then, while others go on.
-    fn rest(&mut self, at: usize, no: u64) {
+    fn rest(&mut self, at: usize, tick: u64) {
         if at > 0 && self.chance.once_in(1000) {
-            self.processors[at].silent_until = no + self.chance.below(100 + 50 * self.unrest(no));
+            let silence = self.chance.below(100 + 50 * self.unrest(tick));
+            self.processors[at].silent_until = tick + self.pace() * silence;
         }
     }
 
-    fn write(&mut self, out: &mut impl Write) -> io::Result<()> {
-        writeln!(out, "dls-trace,1,{PROCESSORS},7")?;
+    /// Writes what the step `no` of a processor does, in a tick whose first step is `first`.
+    fn write_act(
+        &mut self,
+        out: &mut impl Write,
+        no: u64,
+        at: usize,
+        tick: u64,
+        first: u64,
+    ) -> io::Result<()> {
+        if self.chance.below(10) < 6 {
+            let to = self.send(no, tick);
+            writeln!(out, "S,{}", to + 1)?;
+        } else {
+            let operation = if self.chance.once_in(4) { 'E' } else { 'R' };
+            write!(out, "{operation},")?;
+            for (place, id) in self.receive(at, tick, first).into_iter().enumerate() {
+                write!(out, "{}{id}", if place == 0 { "" } else { " " })?;
+            }
+            writeln!(out)?;
+        }
+        self.rest(at, tick);
+        Ok(())
+    }
+
+    fn write_head(&mut self, out: &mut impl Write, version: u64) -> io::Result<()> {
+        writeln!(out, "dls-trace,{version},{PROCESSORS},7")?;
         write!(out, "init")?;
         for _ in 0..PROCESSORS {
             write!(out, ",{}", self.chance.below(10))?;
         }
-        writeln!(out)?;
+        writeln!(out)
+    }
+
+    /// Writes a trace with one step in each tick.
+    fn write_numbers(&mut self, out: &mut impl Write) -> io::Result<()> {
+        self.write_head(out, 1)?;
         for no in 1..=self.steps {
             let at = self.stepping(no);
-            if self.chance.below(10) < 6 {
-                let to = self.send(no);
-                writeln!(out, "{no},{},S,{}", at + 1, to + 1)?;
-            } else {
-                let operation = if self.chance.once_in(4) { 'E' } else { 'R' };
-                write!(out, "{no},{},{operation},", at + 1)?;
-                for (place, id) in self.receive(at, no).into_iter().enumerate() {
-                    write!(out, "{}{id}", if place == 0 { "" } else { " " })?;
-                }
-                writeln!(out)?;
-            }
-            self.rest(at, no);
+            write!(out, "{no},{},", at + 1)?;
+            self.write_act(out, no, at, no, no)?;
         }
         writeln!(out, "end,{}", self.steps)?;
+        out.flush()
+    }
+
+    /// Writes a trace whose steps are spread over the ticks, as many as are asked for if they have room: in each tick
+    /// each processor is asked in turn, and steps as often as makes up the number.
+    fn write_ticks(&mut self, out: &mut impl Write) -> io::Result<()> {
+        self.write_head(out, 2)?;
+        let mut left = self.steps;
+        for tick in 1..=self.last_tick {
+            let first = self.steps - left + 1;
+            for at in 0..PROCESSORS {
+                let places = (self.last_tick - tick) * PROCESSORS as u64 + (PROCESSORS - at) as u64;
+                let is_asked = self.chance.below(places) < left;
+                if is_asked && (places <= left || !self.is_asleep(at, tick)) {
+                    let no = self.steps - left + 1;
+                    write!(out, "{no},{tick},{},", at + 1)?;
+                    self.write_act(out, no, at, tick, first)?;
+                    left -= 1;
+                }
+            }
+        }
+        writeln!(out, "end,{}", self.last_tick)?;
         out.flush()
     }
 }
 
 fn main() -> ExitCode {
     let words: Vec<Option<u64>> = env::args().skip(1).map(|word| word.parse().ok()).collect();
-    let &[Some(steps), Some(seed)] = words.as_slice() else {
-        eprintln!("Usage: generate STEPS SEED");
-        return ExitCode::from(2);
+    let out = &mut BufWriter::new(io::stdout().lock());
+    let written = match *words.as_slice() {
+        [Some(steps), Some(seed)] => Network::new(steps, seed, steps).write_numbers(out),
+        [Some(steps), Some(seed), Some(ticks)] => Network::new(steps, seed, ticks).write_ticks(out),
+        _ => {
+            eprintln!("Usage: generate STEPS SEED [TICKS]");
+            return ExitCode::from(2);
+        }
     };
-    match Network::new(steps, seed).write(&mut BufWriter::new(io::stdout().lock())) {
+    match written {
         Ok(()) => ExitCode::SUCCESS,
         Err(error) => {
             eprintln!("generate: {error}");

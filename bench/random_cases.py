@@ -261,8 +261,8 @@ def changed_list(chance, lines, rows):
 
 def lowered(chance, lines, rows):
     """Rows whose bounds don't hold, though their witnesses are true: some rows have a bound of a later one."""
-    field, part = chance.choice([(1, slice(3, 5)), (2, slice(5, 8))])
-    at = chance.randrange(len(rows))
+    field, part = chance.choice([(1, slice(3, 5)), (1, slice(3, 5)), (2, slice(5, 8))])
+    at = chance.choice([chance.randrange(len(rows)), len(rows) - 1])
     first = chance.choice([0, chance.randint(0, at)])
     for row in rows[first:at]:
         row[field], row[part] = rows[at][field], rows[at][part]

@@ -2,14 +2,16 @@
 //! measures the proved program against. Build it with `rustc -O`.
 //!
 //!     plain report FILE --correct LIST
+//!     plain check FILE CERT --correct LIST
 //!     plain replay FILE
 //!     plain run --nodes N --faults T --values V1,..,VN --patience P --steps S
 //!
 //! `report` finds the least communication bound and the least processor bound of every candidate stabilization time
-//! of a trace by one backward pass, `replay` makes the steps of a trace that is a run of Algorithm 1, and `run` makes
+//! of a trace by one backward pass, `check` says whether the rows of a report are one of a trace, `replay` makes the steps of a trace that is a run of Algorithm 1, and `run` makes
 //! such a run in threads under one lock. Faults, statuses and bytes are those of `synchrony`.
 
 mod bounds;
+mod certificates;
 mod replay;
 mod rounds;
 mod texts;
@@ -17,6 +19,7 @@ mod threads;
 mod world;
 
 use bounds::ProcessorSet;
+use certificates::{Rows, RowsFault};
 use std::env;
 use std::ffi::OsString;
 use std::fmt;
@@ -32,17 +35,19 @@ const RUN_LIMIT: u64 = 1_000_000;
 
 const USAGE: &str = "\
 Usage: plain report FILE --correct LIST
+       plain check FILE CERT --correct LIST
        plain replay FILE
        plain run --nodes N --faults T --values V1,..,VN --patience P --steps S
 
-Prints the least communication and processor bounds of a trace, with their witnesses; or the
-round and the decision of each processor of a run; or a run in threads.
+Prints the least communication and processor bounds of a trace, with their witnesses; or whether
+CERT, a report, is one of a trace; or the round and the decision of each processor of a run; or a
+run in threads.
 FILE is a trace text, or - for standard input. LIST is 'none' or processors, as 1,2,3.
 ";
 
 fn main() -> ExitCode {
     match run(env::args_os().skip(1)) {
-        Ok(()) => ExitCode::SUCCESS,
+        Ok(status) => ExitCode::from(status),
         Err(fault) => {
             eprintln!("synchrony: {fault}");
             ExitCode::from(fault.status())
@@ -50,20 +55,36 @@ fn main() -> ExitCode {
     }
 }
 
-fn run(words: impl Iterator<Item = OsString>) -> Result<(), Fault> {
+/// Does what the words ask for, and returns the status: 1 for a certificate that is refuted.
+fn run(words: impl Iterator<Item = OsString>) -> Result<u8, Fault> {
     let mut out = BufWriter::new(io::stdout().lock());
+    let mut status = 0;
     let written = match Job::from_words(words)? {
         Job::Help => out.write_all(USAGE.as_bytes()).and_then(|()| out.flush()),
         Job::Report { file, correct } => {
             let correct = ProcessorSet::from_list(&correct).ok_or(Fault::BadList)?;
-            let trace = read_trace(&file)?;
-            if !correct.is_within(trace.setup.processors) {
-                return Err(Fault::NoSuchProcessor);
-            }
+            let trace = read_trace_with(Input::open(&file)?, correct)?;
             bounds::write_report(&bounds::front(&trace, correct), &mut out)
         }
+        Job::Check { files, correct } => {
+            let correct = ProcessorSet::from_list(&correct).ok_or(Fault::BadList)?;
+            if files.iter().all(|it| it == "-") {
+                return Err(Fault::OneStandardInput);
+            }
+            let [file, certificate] = &files;
+            let (file, certificate) = (Input::open(file)?, Input::open(certificate)?);
+            let trace = read_trace_with(file, correct)?;
+            let rows = read_rows(certificate)?;
+            let verdict = certificates::check(&trace, correct, &rows);
+            status = verdict.is_err().into();
+            match verdict {
+                Ok(()) => writeln!(out, "yes").and_then(|()| out.flush()),
+                Err(reason) => writeln!(out, "no {reason}").and_then(|()| out.flush()),
+            }
+        }
         Job::Replay { file } => {
-            let world = replay::replay(&read_trace(&file)?).map_err(Fault::NotARun)?;
+            let trace = read_trace(Input::open(&file)?)?;
+            let world = replay::replay(&trace).map_err(Fault::NotARun)?;
             replay::write_standing(&world, &mut out)
         }
         Job::Run(setup, patience, steps) => {
@@ -71,7 +92,8 @@ fn run(words: impl Iterator<Item = OsString>) -> Result<(), Fault> {
             threads::write_trace(&run, &mut out)
         }
     };
-    written.map_err(|_| Fault::Write)
+    written.map_err(|_| Fault::Write)?;
+    Ok(status)
 }
 
 // Commands, faults and files
@@ -79,15 +101,16 @@ fn run(words: impl Iterator<Item = OsString>) -> Result<(), Fault> {
 enum Job {
     Help,
     Report { file: String, correct: String },
+    Check { files: [String; 2], correct: String },
     Replay { file: String },
     Run(Setup, u64, u64),
 }
 
-/// The words after a command: options with their values, and one file at most.
+/// The words after a command: options with their values, and files.
 #[derive(Default)]
 struct Words {
     options: Vec<(String, String)>,
-    file: Option<String>,
+    files: Vec<String>,
     wants_help: bool,
 }
 
@@ -100,9 +123,7 @@ impl Words {
                 break;
             }
             if word == "-" || !word.starts_with('-') {
-                if read.file.replace(word).is_some() {
-                    return Err(Fault::Usage);
-                }
+                read.files.push(word);
                 continue;
             }
             let (name, value) = match word.split_once('=') {
@@ -128,8 +149,9 @@ impl Words {
         }
     }
 
-    fn file(&self) -> Result<String, Fault> {
-        self.file.clone().ok_or(Fault::Usage)
+    /// The files, if there are so many.
+    fn files<const N: usize>(&self) -> Result<[String; N], Fault> {
+        self.files.clone().try_into().map_err(|_| Fault::Usage)
     }
 }
 
@@ -142,17 +164,22 @@ impl Job {
         }
         let words = Words::read(words)?;
         match command.as_str() {
-            "report" | "replay" | "run" if words.wants_help => Ok(Job::Help),
+            "report" | "check" | "replay" | "run" if words.wants_help => Ok(Job::Help),
             "report" => {
                 let [correct] = words.values(["--correct"])?;
                 let correct = correct.to_owned();
-                words.file().map(|file| Job::Report { file, correct })
+                words.files().map(|[file]| Job::Report { file, correct })
+            }
+            "check" => {
+                let [correct] = words.values(["--correct"])?;
+                let correct = correct.to_owned();
+                words.files().map(|files| Job::Check { files, correct })
             }
             "replay" => {
                 let [] = words.values([])?;
-                words.file().map(|file| Job::Replay { file })
+                words.files().map(|[file]| Job::Replay { file })
             }
-            "run" if words.file.is_none() => run_job(&words),
+            "run" if words.files.is_empty() => run_job(&words),
             _ => Err(Fault::Usage),
         }
     }
@@ -196,9 +223,11 @@ fn run_job(words: &Words) -> Result<Job, Fault> {
 enum Fault {
     Usage,
     BadList,
+    OneStandardInput,
     NoSuchProcessor,
     BadRun(&'static str),
     Trace(TraceFault),
+    Certificate(RowsFault),
     Read,
     Write,
     NotARun(u32),
@@ -208,8 +237,10 @@ enum Fault {
 impl Fault {
     fn status(&self) -> u8 {
         match self {
-            Fault::Usage | Fault::BadList | Fault::NoSuchProcessor | Fault::BadRun(_) => 2,
+            Fault::Usage | Fault::BadList | Fault::OneStandardInput => 2,
+            Fault::NoSuchProcessor | Fault::BadRun(_) => 2,
             Fault::Trace(_) => 3,
+            Fault::Certificate(_) => 4,
             Fault::Read | Fault::Write => 6,
             Fault::NotARun(_) => 7,
             Fault::Threads => 8,
@@ -222,9 +253,11 @@ impl fmt::Display for Fault {
         match self {
             Fault::Usage => write!(f, "bad command line\n{USAGE}"),
             Fault::BadList => f.write_str("bad --correct"),
+            Fault::OneStandardInput => f.write_str("only one file can be -"),
             Fault::NoSuchProcessor => f.write_str("no such processor in --correct"),
             Fault::BadRun(why) => f.write_str(why),
             Fault::Trace(why) => write!(f, "trace: {why}"),
+            Fault::Certificate(why) => write!(f, "certificate: {why}"),
             Fault::Read => f.write_str("cannot read"),
             Fault::Write => f.write_str("cannot write"),
             Fault::NotARun(no) => write!(f, "not a run: step {no}"),
@@ -233,28 +266,49 @@ impl fmt::Display for Fault {
     }
 }
 
-fn read_trace(file: &str) -> Result<Trace, Fault> {
-    Trace::from_text(&read_text(file)?).map_err(Fault::Trace)
+/// An open file, or standard input, and how many bytes it is said to have.
+struct Input {
+    reader: Box<dyn Read>,
+    size: u64,
 }
 
-fn read_text(file: &str) -> Result<Vec<u8>, Fault> {
-    if file == "-" {
-        return read_limited(io::stdin().lock(), 0);
+impl Input {
+    fn open(file: &str) -> Result<Input, Fault> {
+        if file == "-" {
+            let reader = Box::new(io::stdin().lock());
+            return Ok(Input { reader, size: 0 });
+        }
+        let file = File::open(file).map_err(|_| Fault::Read)?;
+        let size = file.metadata().map_or(0, |it| it.len());
+        let reader = Box::new(file);
+        Ok(Input { reader, size })
     }
-    let file = File::open(file).map_err(|_| Fault::Read)?;
-    let size = file.metadata().map_or(0, |it| it.len());
-    read_limited(file, size)
+
+    /// All bytes, or None where they are more than a text may have.
+    fn read(self) -> Result<Option<Vec<u8>>, Fault> {
+        let limit = TEXT_LIMIT + 1;
+        let mut text = Vec::with_capacity(self.size.min(limit) as usize + 1);
+        let read = self.reader.take(limit).read_to_end(&mut text);
+        read.map_err(|_| Fault::Read)?;
+        Ok((text.len() as u64 != limit).then_some(text))
+    }
 }
 
-fn read_limited(reader: impl Read, size: u64) -> Result<Vec<u8>, Fault> {
-    let limit = TEXT_LIMIT + 1;
-    let mut text = Vec::with_capacity(size.min(limit) as usize + 1);
-    reader
-        .take(limit)
-        .read_to_end(&mut text)
-        .map_err(|_| Fault::Read)?;
-    if text.len() as u64 == limit {
-        return Err(Fault::Trace(TraceFault::TooLarge));
-    }
-    Ok(text)
+fn read_trace(file: Input) -> Result<Trace, Fault> {
+    let text = file.read()?.ok_or(Fault::Trace(TraceFault::TooLarge))?;
+    Trace::from_text(&text).map_err(Fault::Trace)
+}
+
+/// A trace whose processors are a set's too.
+fn read_trace_with(file: Input, correct: ProcessorSet) -> Result<Trace, Fault> {
+    let trace = read_trace(file)?;
+    let is_within = correct.is_within(trace.setup.processors);
+    is_within.then_some(trace).ok_or(Fault::NoSuchProcessor)
+}
+
+fn read_rows(file: Input) -> Result<Rows, Fault> {
+    let text = file
+        .read()?
+        .ok_or(Fault::Certificate(RowsFault::TooLarge))?;
+    Rows::from_text(&text).map_err(Fault::Certificate)
 }
