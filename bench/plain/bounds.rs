@@ -120,7 +120,6 @@ impl Gap {
 /// The last miss of the message that a step sends between correct processors, if it sends one that was missed.
 pub fn last_miss(trace: &Trace, correct: ProcessorSet, sent: u32) -> Option<Miss> {
     let Step {
-        tick,
         processor,
         act: Act::Send { to, taken },
     } = trace.step(sent)
@@ -139,7 +138,7 @@ pub fn last_miss(trace: &Trace, correct: ProcessorSet, sent: u32) -> Option<Miss
     };
     let length = match missed {
         0 => 0,
-        missed => trace.step(missed).tick.saturating_sub(tick),
+        missed => trace.tick(missed).saturating_sub(trace.tick(sent)),
     };
     (length > 0).then_some(Miss {
         sent,
@@ -163,7 +162,7 @@ pub fn front(trace: &Trace, correct: ProcessorSet) -> Vec<Row> {
     };
     for gst in (1..=trace.last_tick).rev() {
         let after = row;
-        while no > 0 && trace.step(no).tick == gst {
+        while no > 0 && trace.tick(no) == gst {
             let miss = last_miss(trace, correct, no);
             if let Some(miss) = miss.filter(|it| it.length >= row.delta) {
                 row.delta = miss.length + 1;

@@ -173,8 +173,8 @@ fn check_order(rows: &[Row], last_tick: u64) -> Result<(), Reason> {
 /// The ticks of the steps of each processor, rising, by its number less one.
 fn step_ticks(trace: &Trace) -> Vec<Vec<u32>> {
     let mut ticks = vec![Vec::new(); trace.setup.processors.into()];
-    for step in &trace.steps {
-        ticks[usize::from(step.processor) - 1].push(step.tick);
+    for no in 1..=trace.len() {
+        ticks[usize::from(trace.step(no).processor) - 1].push(trace.tick(no));
     }
     ticks
 }
@@ -209,6 +209,7 @@ impl Checks<'_> {
             return false;
         }
         let (send, receive) = (self.trace.step(sent as u32), self.trace.step(missed as u32));
+        let tick = |no| self.trace.tick(no as u32);
         let last = last_miss(self.trace, self.correct, sent as u32);
         let is_receive = match (send.act, receive.act) {
             (Act::Send { to, .. }, Act::Receive { .. }) => receive.processor == to,
@@ -216,10 +217,10 @@ impl Checks<'_> {
         };
         // (between a Send and its last miss each Receive misses it)
         is_receive
-            && receive.tick > send.tick
+            && tick(missed) > tick(sent)
             && last.is_some_and(|it| missed <= it.missed.into())
-            && u64::from(receive.tick - send.tick) + 1 == self.rows[at].delta
-            && u64::from(send.tick) >= self.end_of_stretch(at)
+            && u64::from(tick(missed) - tick(sent)) + 1 == self.rows[at].delta
+            && u64::from(tick(sent)) >= self.end_of_stretch(at)
     }
 
     fn shows_phi(&self, at: usize) -> bool {
@@ -253,7 +254,7 @@ impl Checks<'_> {
                 at -= 1;
             }
             let row = &self.rows[at - 1];
-            while no > 0 && self.trace.step(no).tick == tick {
+            while no > 0 && self.trace.tick(no) == tick {
                 let fails = |it: &Miss| {
                     let is_worse = worst_miss.is_none_or(|worst| it.length > worst.length);
                     is_worse && u64::from(it.length) >= row.delta
