@@ -1,6 +1,7 @@
 -- What the matches and the faults of a command line say of its job and of its refusals.
-use Rattle.std.proofs.Common.{ℕ, ◌≡◌, ◌≢◌, ◌∙◌, ◌⊎◌, inl, inr, get_or, arith, IfSome, ap, sym, subst, refl, false, true, List, [], Option, Some, None, Result, Ok, Err, IfOk, IfErr, MatchResult, option_map, codes, string_bytes}
+use Rattle.std.proofs.Common.{◌≡◌, ◌≢◌, ◌∙◌, ◌⊎◌, inl, inr, IfSome, ap, sym, subst, refl, false, true, List, [], Option, Some, None, Result, Ok, Err, IfOk, IfErr, MatchResult, option_map, codes, string_bytes}
 use Rattle.std.specs.Borrow.{Bor}
+use Rattle.std.specs.Str.{bytes_eq}
 use Rattle.clap.proofs.OnLiterals.{clap_on_literals}
 use Rattle.clap.proofs.WalkLemmas.{first_value-rows}
 use Rattle.clap.specs.Faults.{is_simple_and_free}
@@ -15,9 +16,10 @@ use Rattle.synchrony.specs.declared.command_line.Job.{Job}
 use Rattle.synchrony.specs.declared.command_line.Job.TheVariants as job
 use Rattle.synchrony.specs.declared.faults.Fault.{Fault}
 use Rattle.synchrony.specs.declared.faults.Fault.TheVariants as fault
-use Rattle.synchrony.specs.Commands.{AsksForReplay, AsksForReport, NamesReplay, NamesReport, is_flag, program, replay_line, report_line}
-use Rattle.synchrony.specs.Jobs.{IsHelpFor, IsJobIn, IsJobOf, IsLineFault, IsListFault, IsMemory, IsNoList, IsRefusalFor, IsRefusalIn, IsRefusalOf, IsReplay, IsReport}
-use Rattle.synchrony.proofs.CommandLines.{asks_for_replay, asks_for_report, replay_faultless, report_faultless}
+use Rattle.synchrony.specs.Commands.{AsksForReplay, AsksForReport, AsksForUpgrade, NamesFile, NamesReplay, NamesReport, NamesUpgrade, is_flag, program, replay_line, report_line, upgrade_line}
+use Rattle.synchrony.specs.Jobs.{IsHelpFor, IsJobIn, IsJobOf, IsLineFault, IsListFault, IsMemory, IsNoList, IsRefusalFor, IsRefusalIn, IsRefusalOf, IsReplay, IsReport, IsUpgrade}
+use Rattle.trace_text.proofs.Numbers.{bytes_eq-same}
+use Rattle.synchrony.proofs.CommandLines.{asks_for_replay, asks_for_report, asks_for_upgrade, replay_faultless, report_faultless, upgrade_faultless}
 
 same_some : {A : Type 0} (a b : A) → Some a ≡ Some b → a ≡ b
 same_some a b e = cc
@@ -68,39 +70,48 @@ one_file : (sub : Option (Text × List Row)) (f l g m : Text) → NamesReport su
 one_file sub f l g m a b =
     let other = values_in sub a.rows a.named g m b in (same_some f g (sym a.file_is ∙ other.0), same_some l m (sym a.list_is ∙ other.1))
 
--- where `replay` is named, its rows have the file
-pub replayed_in : (sub : Option (Text × List Row)) (rows : List Row) → sub ≡ Some (codes "replay", rows) → (file : Text) → NamesReplay sub file
+-- where a command is named that has a file, its rows have it
+pub file_in : (command : Text) (sub : Option (Text × List Row)) (rows : List Row) → sub ≡ Some (command, rows) → (file : Text) → NamesFile command sub file
     → first_of (codes "file") rows ≡ Some file
-replayed_in sub rows named file h =
-    let same = ap (λ (p : Text × List Row). p.1) (same_some (codes "replay", h.rows) (codes "replay", rows) (sym h.named ∙ named)) in
+file_in command sub rows named file h =
+    let same = ap (λ (p : Text × List Row). p.1) (same_some (command, h.rows) (command, rows) (sym h.named ∙ named)) in
     ap (first_of (codes "file")) (sym same) ∙ h.file_is
 
-one_replayed : (sub : Option (Text × List Row)) (f g : Text) → NamesReplay sub f → NamesReplay sub g → f ≡ g
-one_replayed sub f g a b = same_some f g (sym a.file_is ∙ replayed_in sub a.rows a.named g b)
+one_file_of : (command : Text) (sub : Option (Text × List Row)) (f g : Text) → NamesFile command sub f → NamesFile command sub g → f ≡ g
+one_file_of command sub f g a b = same_some f g (sym a.file_is ∙ file_in command sub a.rows a.named g b)
 
--- no subcommand is both
-one_command : (sub : Option (Text × List Row)) (f l g : Text) → NamesReport sub f l → NamesReplay sub g → ⊥
-one_command sub f l g a b =
-    let same : codes "report" ≡ codes "replay" = ap (λ (p : Text × List Row). p.0) (same_some _ _ (sym a.named ∙ b.named)) in
-    let letter : ◌≡◌ {A = ℕ} 111 108 = ap (λ (word : Text). get_or word 3 0) same in absurd (omega arith)
+-- no subcommand is two commands
+two_commands : (sub : Option (Text × List Row)) (a b : Text) (xs ys : List Row) → sub ≡ Some (a, xs) → sub ≡ Some (b, ys) → bytes_eq a b ≡ false → ⊥
+two_commands sub a b xs ys left right other =
+    let same : a ≡ b = ap (λ (p : Text × List Row). p.0) (same_some (a, xs) (b, ys) (sym left ∙ right)) in
+    let twice = bytes_eq-same a b same in cc
 
--- the file of `replay`, where a getter reads it
-pub replay_found : (m found : ArgMatches) (a : Option (Bor Text)) → subcommand_rows_of m ≡ Some (codes "replay", rows_of (found_of found))
-    → option_map (λ s. s.now) a ≡ first_value (found_of found) (codes "file") → IfSome a (λ file. NamesReplay (subcommand_rows_of m) file.now)
-replay_found m found None named in_rows = tt
-replay_found m found (Some file) named in_rows =
+no_report_replays : (sub : Option (Text × List Row)) (f l g : Text) → NamesReport sub f l → NamesReplay sub g → ⊥
+no_report_replays sub f l g a b = two_commands sub (codes "report") (codes "replay") a.rows b.rows a.named b.named refl
+
+no_report_upgrades : (sub : Option (Text × List Row)) (f l g : Text) → NamesReport sub f l → NamesUpgrade sub g → ⊥
+no_report_upgrades sub f l g a b = two_commands sub (codes "report") (codes "upgrade") a.rows b.rows a.named b.named refl
+
+no_replay_upgrades : (sub : Option (Text × List Row)) (f g : Text) → NamesReplay sub f → NamesUpgrade sub g → ⊥
+no_replay_upgrades sub f g a b = two_commands sub (codes "replay") (codes "upgrade") a.rows b.rows a.named b.named refl
+
+-- the file of a command, where a getter reads it
+pub file_found : (command : Text) (m found : ArgMatches) (a : Option (Bor Text)) → subcommand_rows_of m ≡ Some (command, rows_of (found_of found))
+    → option_map (λ s. s.now) a ≡ first_value (found_of found) (codes "file") → IfSome a (λ file. NamesFile command (subcommand_rows_of m) file.now)
+file_found command m found None named in_rows = tt
+file_found command m found (Some file) named in_rows =
     record { rows = rows_of (found_of found); named = named; file_is = has_value found (codes "file") (Some file) file in_rows refl }
 
 -- a refusal where no job is named
 pub nothing_named : (sub : Option (Text × List Row)) (w : Fault) → IsLineFault w → ((file list : Text) → ¬ NamesReport sub file list)
-    → ((file : Text) → ¬ NamesReplay sub file) → IsRefusalIn sub w
-nothing_named sub (fault.Command text) h report replay = inr (record { no_report = report; no_replay = replay })
-nothing_named sub fault.Set h report replay = absurd h
-nothing_named sub (fault.Trace e) h report replay = absurd h
-nothing_named sub fault.Memory h report replay = absurd h
-nothing_named sub fault.Read h report replay = absurd h
-nothing_named sub (fault.Write n) h report replay = absurd h
-nothing_named sub (fault.NotARun n) h report replay = absurd h
+    → ((file : Text) → ¬ NamesReplay sub file) → ((file : Text) → ¬ NamesUpgrade sub file) → IsRefusalIn sub w
+nothing_named sub (fault.Command text) h report replay upgrade = inr (record { no_report = report; no_replay = replay; no_upgrade = upgrade })
+nothing_named sub fault.Set h report replay upgrade = absurd h
+nothing_named sub (fault.Trace e) h report replay upgrade = absurd h
+nothing_named sub fault.Memory h report replay upgrade = absurd h
+nothing_named sub fault.Read h report replay upgrade = absurd h
+nothing_named sub (fault.Write n) h report replay upgrade = absurd h
+nothing_named sub (fault.NotARun n) h report replay upgrade = absurd h
 
 -- the parse of the program's command line is known
 is_simple_program : is_simple program ≡ true
@@ -122,6 +133,7 @@ kinds_known a words error e h = subst (λ b. HasKind (fault_of b words) error) e
 pub job_of : (words : List Text) (sub : Option (Text × List Row)) → sub ≡ subcommand_of program words → (j : Job) → IsJobIn sub j → IsJobOf words j
 job_of words sub e (job.Report name set) h = subst (λ s. IsJobIn s (job.Report name set)) e h
 job_of words sub e (job.Replay name) h = subst (λ s. IsJobIn s (job.Replay name)) e h
+job_of words sub e (job.Upgrade name) h = subst (λ s. IsJobIn s (job.Upgrade name)) e h
 job_of words sub e (job.Help text) h = absurd h
 
 -- and what is refused in them is refused in the words
@@ -143,6 +155,7 @@ among words kind other (inr h) = h
 pub help_of : (words : List Text) (kind : ErrorKind) → (kind ≡ OutOfMemory) ⊎ IsAmong kind (fault_of program words) → (j : Job) → IsHelpFor kind j → IsJobOf words j
 help_of words kind has (job.Report file set) h = absurd h
 help_of words kind has (job.Replay file) h = absurd h
+help_of words kind has (job.Upgrade file) h = absurd h
 help_of words kind has (job.Help text) h = record { kind = kind; among = among words kind h.0 has; help = h.1 }
 
 -- a refusal for an error of the words that asks for none
@@ -164,7 +177,8 @@ line_job : (words : List Text) (file list : Text) → fault_of program words ≡
 line_job words file list none asks (job.Report name set) h =
     let same = one_file (subcommand_of program words) (string_bytes name) h.0 file list h.1 asks in
     (same.0, subst (λ l. IsSetIn l set) same.1 h.2)
-line_job words file list none asks (job.Replay name) h = absurd (one_command (subcommand_of program words) file list (string_bytes name) asks h)
+line_job words file list none asks (job.Replay name) h = absurd (no_report_replays (subcommand_of program words) file list (string_bytes name) asks h)
+line_job words file list none asks (job.Upgrade name) h = absurd (no_report_upgrades (subcommand_of program words) file list (string_bytes name) asks h)
 line_job words file list none asks (job.Help text) h = absurd (none_among h.kind (fault_of program words) none h.among)
 
 -- and their refusals
@@ -192,13 +206,14 @@ line_is words (Err w) _ h name file list line plain_file plain_list =
 
 -- the same of a replay, which no list can keep from it
 replayed_job : (words : List Text) (file : Text) → fault_of program words ≡ [] → AsksForReplay words file → (j : Job) → IsJobOf words j → IsReplay file j
-replayed_job words file none asks (job.Report name set) h = absurd (one_command (subcommand_of program words) (string_bytes name) h.0 file h.1 asks)
-replayed_job words file none asks (job.Replay name) h = one_replayed (subcommand_of program words) (string_bytes name) file h asks
+replayed_job words file none asks (job.Report name set) h = absurd (no_report_replays (subcommand_of program words) (string_bytes name) h.0 file h.1 asks)
+replayed_job words file none asks (job.Replay name) h = one_file_of (codes "replay") (subcommand_of program words) (string_bytes name) file h asks
+replayed_job words file none asks (job.Upgrade name) h = absurd (no_replay_upgrades (subcommand_of program words) file (string_bytes name) asks h)
 replayed_job words file none asks (job.Help text) h = absurd (none_among h.kind (fault_of program words) none h.among)
 
 replayed_refusal : (words : List Text) (file : Text) → fault_of program words ≡ [] → AsksForReplay words file → (w : Fault) → IsRefusalOf words w → IsMemory w
 replayed_refusal words file none asks (fault.Command text) (inl h) = absurd (none_among h.kind (fault_of program words) none h.among)
-replayed_refusal words file none asks (fault.Command text) (inr (inl h)) = absurd (one_command (subcommand_of program words) h.file h.list file h.named asks)
+replayed_refusal words file none asks (fault.Command text) (inr (inl h)) = absurd (no_report_replays (subcommand_of program words) h.file h.list file h.named asks)
 replayed_refusal words file none asks (fault.Command text) (inr (inr h)) = absurd (h.no_replay file asks)
 replayed_refusal words file none asks fault.Set h = h
 replayed_refusal words file none asks (fault.Trace e) h = h
@@ -216,3 +231,31 @@ replay_is words (Ok j) h _ name file line plain =
 replay_is words (Err w) _ h name file line plain =
     replayed_refusal words file (ap (fault_of program) line ∙ replay_faultless name file plain)
     (subst (λ ws. AsksForReplay ws file) (sym line) (asks_for_replay name file plain)) w h
+
+-- and the same of an upgrade
+upgraded_job : (words : List Text) (file : Text) → fault_of program words ≡ [] → AsksForUpgrade words file → (j : Job) → IsJobOf words j → IsUpgrade file j
+upgraded_job words file none asks (job.Report name set) h = absurd (no_report_upgrades (subcommand_of program words) (string_bytes name) h.0 file h.1 asks)
+upgraded_job words file none asks (job.Replay name) h = absurd (no_replay_upgrades (subcommand_of program words) (string_bytes name) file h asks)
+upgraded_job words file none asks (job.Upgrade name) h = one_file_of (codes "upgrade") (subcommand_of program words) (string_bytes name) file h asks
+upgraded_job words file none asks (job.Help text) h = absurd (none_among h.kind (fault_of program words) none h.among)
+
+upgraded_refusal : (words : List Text) (file : Text) → fault_of program words ≡ [] → AsksForUpgrade words file → (w : Fault) → IsRefusalOf words w → IsMemory w
+upgraded_refusal words file none asks (fault.Command text) (inl h) = absurd (none_among h.kind (fault_of program words) none h.among)
+upgraded_refusal words file none asks (fault.Command text) (inr (inl h)) = absurd (no_report_upgrades (subcommand_of program words) h.file h.list file h.named asks)
+upgraded_refusal words file none asks (fault.Command text) (inr (inr h)) = absurd (h.no_upgrade file asks)
+upgraded_refusal words file none asks fault.Set h = h
+upgraded_refusal words file none asks (fault.Trace e) h = h
+upgraded_refusal words file none asks fault.Memory h = h
+upgraded_refusal words file none asks fault.Read h = h
+upgraded_refusal words file none asks (fault.Write n) h = h
+upgraded_refusal words file none asks (fault.NotARun n) h = h
+
+-- the line `upgrade FILE` gives the upgrade of that file
+pub upgrade_is : (words : List Text) (r : Result Job Fault) → IfOk r (IsJobOf words) → IfErr r (IsRefusalOf words) → (name file : Text)
+    → words ≡ upgrade_line name file → is_flag file ≡ false → MatchResult r (IsUpgrade file) IsMemory
+upgrade_is words (Ok j) h _ name file line plain =
+    upgraded_job words file (ap (fault_of program) line ∙ upgrade_faultless name file plain)
+    (subst (λ ws. AsksForUpgrade ws file) (sym line) (asks_for_upgrade name file plain)) j h
+upgrade_is words (Err w) _ h name file line plain =
+    upgraded_refusal words file (ap (fault_of program) line ∙ upgrade_faultless name file plain)
+    (subst (λ ws. AsksForUpgrade ws file) (sym line) (asks_for_upgrade name file plain)) w h

@@ -1,5 +1,5 @@
--- The lines `report FILE --correct LIST` and `replay FILE` ask for that report and that replay, and nothing
--- in them is refused.
+-- The lines `report FILE --correct LIST`, `replay FILE` and `upgrade FILE` ask for that report, that replay and
+-- that upgrade, and nothing in them is refused.
 use Rattle.std.proofs.Common.{◌≡◌, ◌∙◌, ap, ap₂, refl, ℕ, Bool, true, false, ◌==◌, List, [], ◌∷◌, Some, None, codes}
 use Rattle.std.specs.Prelude.{◌&&◌, if◌then◌else◌, option_and_then}
 use Rattle.std.specs.Str.{bytes_eq}
@@ -10,7 +10,7 @@ use Rattle.clap.specs.Simple.{Shape, built, names_of}
 use Rattle.clap.specs.Walk.{Held, Text, Waiting, Walk, after_step, finished, nothing_held, plain_word, settled, subcommand_met, walk, walk_from, walked, word_met}
 use Rattle.clap.specs.Words.{Rule, fault_of}
 use Rattle.clap.proofs.OnLiterals.{clap_on_literals}
-use Rattle.synchrony.specs.Commands.{AsksForReplay, AsksForReport, is_flag, program, replay_app, replay_line, report_app, report_line}
+use Rattle.synchrony.specs.Commands.{AsksForReplay, AsksForReport, AsksForUpgrade, is_flag, program, replay_app, replay_line, report_app, report_line, upgrade_app, upgrade_line}
 
 -- a word that is no flag is neither `--` nor a long nor a short flag
 pub not_dashes : (word : Text) → is_flag word ≡ false → bytes_eq word (45 ∷ 45 ∷ []) ≡ false
@@ -75,6 +75,14 @@ second_shape (s ∷ more) = first_shape more
 -- `replay` likewise
 abbrev replay : Shape
 replay = second_shape (built program).subs
+
+abbrev third_shape : List Shape → Shape
+third_shape [] = upgrade_app.top
+third_shape (s ∷ more) = second_shape more
+
+-- `upgrade` likewise
+abbrev upgrade : Shape
+upgrade = third_shape (built program).subs
 
 -- where the walk over the words after a command stands
 abbrev start : Walk
@@ -157,3 +165,29 @@ unfolding clap_on_literals
 replay_faultless name file plain =
     ap (λ below. level_fault (built program).top (names_of (built program)) nothing_held (codes "replay" ∷ file ∷ []) true below)
     (replay_passes file plain)
+
+after_upgraded : (file : Text) → is_flag file ≡ false → walk upgrade.rules [] nothing_held (file ∷ []) ≡ after_plain upgrade.rules start file
+unfolding clap_on_literals
+after_upgraded file plain = walked_plain upgrade.rules start file plain refl refl refl
+
+pub asks_for_upgrade : (name file : Text) → is_flag file ≡ false → AsksForUpgrade (upgrade_line name file) file
+unfolding clap_on_literals
+asks_for_upgrade name file plain = record {
+  rows = finished upgrade.rules (after_plain upgrade.rules start file).held;
+  named = ap (λ (w : Walk). Some (codes "upgrade", finished upgrade.rules w.held)) (after_upgraded file plain);
+  file_is = refl;
+}
+
+upgraded_passes : (file : Text) → is_flag file ≡ false → walk_fault upgrade [] start (file ∷ []) ≡ []
+unfolding clap_on_literals
+upgraded_passes file plain = ap (λ k. or_else k []) (turn_plain upgrade start file plain refl refl refl)
+
+upgrade_passes : (file : Text) → is_flag file ≡ false → level_fault upgrade [] nothing_held (file ∷ []) false [] ≡ []
+unfolding clap_on_literals
+upgrade_passes file plain = ap₂ (level_end upgrade) (upgraded_passes file plain) (after_upgraded file plain)
+
+pub upgrade_faultless : (name file : Text) → is_flag file ≡ false → fault_of program (upgrade_line name file) ≡ []
+unfolding clap_on_literals
+upgrade_faultless name file plain =
+    ap (λ below. level_fault (built program).top (names_of (built program)) nothing_held (codes "upgrade" ∷ file ∷ []) true below)
+    (upgrade_passes file plain)

@@ -1,3 +1,4 @@
 pub mod CommandJobs
 pub mod ReportFaults
 pub mod CommandLines
+pub mod UpgradeFaults

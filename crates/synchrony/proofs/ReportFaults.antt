@@ -23,7 +23,7 @@ use Rattle.synchrony.specs.Inputs.{IsReadFault, IsTextOf, IsTraceFault}
 use Rattle.synchrony.specs.Reports.{AreRowsOf, IsFaultOfReport, IsReportFault, IsTextFault}
 
 -- what holds of the text that was read holds of the bytes that are known
-of_known : (P : List ℕ → Type 0) (text : List ℕ) (known : Option (List ℕ)) → IfSome known (λ xs. text ≡ xs) → P text → IfSome known P
+pub of_known : (P : List ℕ → Type 0) (text : List ℕ) (known : Option (List ℕ)) → IfSome known (λ xs. text ≡ xs) → P text → IfSome known P
 of_known P text None same p = tt
 of_known P text (Some xs) same p = subst P same p
 

@@ -28,9 +28,13 @@ bare_program = on_top (λ s. record s { has_version = true; subcommand_required 
 abbrev pub replay_app : App
 replay_app = with_rule (new_app (codes "replay")) file_rule
 
+-- upgrade FILE
+abbrev pub upgrade_app : App
+upgrade_app = with_rule (new_app (codes "upgrade")) file_rule
+
 -- the program, which has a version and these commands
 abbrev pub program : App
-program = with_subcommand (with_subcommand bare_program report_app.top) replay_app.top
+program = with_subcommand (with_subcommand (with_subcommand bare_program report_app.top) replay_app.top) upgrade_app.top
 
 -- a subcommand and its matches are `report` with this file and this list
 pub record NamesReport (sub : Option (Text × List Row)) (file list : Text) : Type 0 where
@@ -39,16 +43,24 @@ pub record NamesReport (sub : Option (Text × List Row)) (file list : Text) : Ty
   pub file_is : first_of (codes "file") rows ≡ Some file
   pub list_is : first_of (codes "correct") rows ≡ Some list
 
--- a subcommand and its matches are `replay` with this file
-pub record NamesReplay (sub : Option (Text × List Row)) (file : Text) : Type 0 where
+-- a subcommand and its matches are this command with this file
+pub record NamesFile (command : Text) (sub : Option (Text × List Row)) (file : Text) : Type 0 where
   pub rows : List Row
-  pub named : sub ≡ Some (codes "replay", rows)
+  pub named : sub ≡ Some (command, rows)
   pub file_is : first_of (codes "file") rows ≡ Some file
+
+-- they are `replay`, or `upgrade`
+abbrev pub NamesReplay : Option (Text × List Row) → Text → Type 0
+NamesReplay sub file = NamesFile (codes "replay") sub file
+
+abbrev pub NamesUpgrade : Option (Text × List Row) → Text → Type 0
+NamesUpgrade sub file = NamesFile (codes "upgrade") sub file
 
 -- a subcommand and its matches name none of the jobs above
 pub record NamesNoJob (sub : Option (Text × List Row)) : Type 0 where
   pub no_report : (file list : Text) → ¬ NamesReport sub file list
   pub no_replay : (file : Text) → ¬ NamesReplay sub file
+  pub no_upgrade : (file : Text) → ¬ NamesUpgrade sub file
 
 -- the words ask for the report of this file, for this list
 abbrev pub AsksForReport : List Text → Text → Text → Type 0
@@ -61,6 +73,10 @@ IsHelp kind = (kind ≡ DisplayHelp) ⊎ (kind ≡ DisplayVersion)
 -- the words ask for the replay of this file
 abbrev pub AsksForReplay : List Text → Text → Type 0
 AsksForReplay words file = NamesReplay (subcommand_of program words) file
+
+-- the words ask for the upgrade of this file
+abbrev pub AsksForUpgrade : List Text → Text → Type 0
+AsksForUpgrade words file = NamesUpgrade (subcommand_of program words) file
 
 -- the words ask for a help text
 pub record AsksForHelp (words : List Text) : Type 0 where
@@ -87,3 +103,7 @@ report_line name file list = name ∷ codes "report" ∷ file ∷ codes "--corre
 -- the line `replay FILE`, after the program's name
 abbrev pub replay_line : Text → Text → List Text
 replay_line name file = name ∷ codes "replay" ∷ file ∷ []
+
+-- the line `upgrade FILE`, after the program's name
+abbrev pub upgrade_line : Text → Text → List Text
+upgrade_line name file = name ∷ codes "upgrade" ∷ file ∷ []

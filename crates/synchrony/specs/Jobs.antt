@@ -4,7 +4,7 @@ use Rattle.clap.specs.Words.{Row, Text, subcommand_of}
 use Rattle.clap.specs.declared.error.kind.ErrorKind.{ErrorKind}
 use Rattle.clap.specs.declared.error.kind.ErrorKind.TheVariants.{OutOfMemory}
 use Rattle.step_trace.specs.ProcessorLists.{IsSetIn, IsListOf}
-use Rattle.synchrony.specs.Commands.{AsksForHelp, IsHelp, IsMisread, NamesNoJob, NamesReplay, NamesReport, program}
+use Rattle.synchrony.specs.Commands.{AsksForHelp, IsHelp, IsMisread, NamesNoJob, NamesReplay, NamesReport, NamesUpgrade, program}
 use Rattle.synchrony.specs.declared.command_line.Job.{Job}
 use Rattle.synchrony.specs.declared.command_line.Job.TheVariants as job
 use Rattle.synchrony.specs.declared.faults.Fault.{Fault}
@@ -20,17 +20,24 @@ abbrev pub IsReplay : List ℕ → Job → Type 0
 IsReplay name (job.Replay file) = string_bytes file ≡ name
 IsReplay name _ = ⊥
 
--- the report that a subcommand and its matches name, for the set that their list is; or the replay
+-- the upgrade of the file of this name
+abbrev pub IsUpgrade : List ℕ → Job → Type 0
+IsUpgrade name (job.Upgrade file) = string_bytes file ≡ name
+IsUpgrade name _ = ⊥
+
+-- the report that a subcommand and its matches name, for the set that their list is; or the replay, or the upgrade
 abbrev pub IsJobIn : Option (Text × List Row) → Job → Type 0
 IsJobIn sub (job.Report file set) = (list : Text) × NamesReport sub (string_bytes file) list × IsSetIn list set
 IsJobIn sub (job.Replay file) = NamesReplay sub (string_bytes file)
+IsJobIn sub (job.Upgrade file) = NamesUpgrade sub (string_bytes file)
 IsJobIn sub (job.Help text) = ⊥
 
 -- the job that the words ask for: the report of the file that they name, for the set that their list
--- is; or the replay of the file that they name; or a help text
+-- is; or the replay of the file that they name, or its upgrade; or a help text
 abbrev pub IsJobOf : List Text → Job → Type 0
 IsJobOf words (job.Report file set) = IsJobIn (subcommand_of program words) (job.Report file set)
 IsJobOf words (job.Replay file) = IsJobIn (subcommand_of program words) (job.Replay file)
+IsJobOf words (job.Upgrade file) = IsJobIn (subcommand_of program words) (job.Upgrade file)
 IsJobOf words (job.Help text) = AsksForHelp words
 
 -- a help text, which an answer of this kind is

@@ -7,3 +7,4 @@ pub mod Inputs
 pub mod Reports
 pub mod ReplayTexts
 pub mod Replays
+pub mod Upgrades

@@ -4,11 +4,11 @@ ghost use Rattle.std.specs.Prelude.{◌≡◌, ◌≢◌, ℕ, List, None, false
 ghost use Rattle.std.specs.declared.io.ErrorKind.TheVariants.{OutOfMemory};
 ghost use Rattle.clap.specs.Words.{app_of, kind_of, rule_of, subcommand_rows_of};
 ghost use Rattle.clap.specs.declared.builder.Command.TheViews.{out-Command};
-ghost use Rattle.synchrony.specs.Commands.{NamesReplay, NamesReport, file_rule, is_flag, program, replay_app, replay_line, report_app, report_line};
-ghost use Rattle.synchrony.specs.Jobs.{IsJobOf, IsJobIn, IsHelpFor, IsMemory, IsReplay, IsReport, IsLineFault, IsListFault, IsRefusalOf, IsRefusalIn, IsRefusalFor};
+ghost use Rattle.synchrony.specs.Commands.{NamesFile, NamesReport, file_rule, is_flag, program, replay_app, replay_line, report_app, report_line, upgrade_app, upgrade_line};
+ghost use Rattle.synchrony.specs.Jobs.{IsJobOf, IsJobIn, IsHelpFor, IsMemory, IsReplay, IsReport, IsUpgrade, IsLineFault, IsListFault, IsRefusalOf, IsRefusalIn, IsRefusalFor};
 
 use crate::faults::Fault;
-use crate::help_texts::{program_help, replay_help, report_help};
+use crate::help_texts::{program_help, replay_help, report_help, upgrade_help};
 use clap::error::ErrorKind;
 use clap::{Arg, ArgAction, ArgMatches, Command};
 use std::alloc::{AllocError, Global};
@@ -32,6 +32,11 @@ pub enum Job {
         /// The path of the file.
         file: String,
     },
+    /// Print the version 2 text of the trace in a file. The file `-` is standard input.
+    Upgrade {
+        /// The path of the file.
+        file: String,
+    },
     /// Print this text, which was asked for.
     Help(String),
 }
@@ -40,7 +45,8 @@ pub enum Job {
 ///
 /// Refuses what the reader of the command line refuses, in its words; a list that isn't one, by
 /// `bad --correct`; and Memory. The line `report FILE --correct LIST` asks for the report of FILE for
-/// LIST, where neither begins with a hyphen and goes on; and so `replay FILE` for the replay of FILE.
+/// LIST, where neither begins with a hyphen and goes on; and so `replay FILE` for the replay of FILE, and
+/// `upgrade FILE` for its upgrade.
 pub fn read_command(alloc: Global, words: Vec<String>) -> Result<Job, Fault>
     ensures job { IfOk result (IsJobOf (map string_bytes words.items)) }
     ensures refused { IfErr result (IsRefusalOf (map string_bytes words.items)) }
@@ -48,6 +54,8 @@ pub fn read_command(alloc: Global, words: Vec<String>) -> Result<Job, Fault>
         → is_flag file ≡ false → is_flag list ≡ false → MatchResult result (IsReport file list) (IsListFault list) }
     ensures replay { (name file : List ℕ) → map string_bytes words.items ≡ replay_line name file
         → is_flag file ≡ false → MatchResult result (IsReplay file) IsMemory }
+    ensures upgrade { (name file : List ℕ) → map string_bytes words.items ≡ upgrade_line name file
+        → is_flag file ≡ false → MatchResult result (IsUpgrade file) IsMemory }
 {
     read_words(alloc, words.as_slice())
 }
@@ -72,7 +80,8 @@ fn command<'a>(alloc: Global) -> Result<Command<'a>, AllocError>
         .after_help(program_help())
         .subcommand_required(true)
         .subcommand(report_command(alloc)?)?
-        .subcommand(replay_command(alloc)?)
+        .subcommand(replay_command(alloc)?)?
+        .subcommand(upgrade_command(alloc)?)
 }
 
 fn report_command<'a>(alloc: Global) -> Result<Command<'a>, AllocError>
@@ -99,6 +108,16 @@ fn replay_command<'a>(alloc: Global) -> Result<Command<'a>, AllocError>
     Command::new(alloc, "replay")
         .about("Prints the round and the decision of each processor at the end of a run")
         .after_help(replay_help())
+        .arg(file_argument(alloc))
+}
+
+fn upgrade_command<'a>(alloc: Global) -> Result<Command<'a>, AllocError>
+    ensures app { IfOk result (λ c. app_of c ≡ upgrade_app) }
+    ensures local { IfOk result (λ c. (out-Command c).has_globals ≡ false) }
+{
+    Command::new(alloc, "upgrade")
+        .about("Prints a trace of either version as a trace text of version 2")
+        .after_help(upgrade_help())
         .arg(file_argument(alloc))
 }
 
@@ -164,12 +183,15 @@ fn job_found(alloc: Global, matches: &ArgMatches<'_>) -> Result<Job, Fault>
     if let Some((file, list)) = report_values(matches) {
         return report_job(alloc, file, list);
     }
-    let Some(file) = replay_file(matches) else {
-        return Err(unknown(alloc)?);
-    };
-    Ok(Job::Replay {
-        file: String::from_str(alloc, file)?,
-    })
+    if let Some(file) = file_of(matches, "replay") {
+        let file = String::from_str(alloc, file)?;
+        return Ok(Job::Replay { file });
+    }
+    if let Some(file) = file_of(matches, "upgrade") {
+        let file = String::from_str(alloc, file)?;
+        return Ok(Job::Upgrade { file });
+    }
+    Err(unknown(alloc)?)
 }
 
 /// The file and the list of the command `report`, where the matches name it and have both.
@@ -186,14 +208,15 @@ fn report_values<'a>(matches: &ArgMatches<'a>) -> Option<(&'a str, &'a str)>
     Some((file, list))
 }
 
-/// The file of the command `replay`, where the matches name it and have it.
-fn replay_file<'a>(matches: &ArgMatches<'a>) -> Option<&'a str>
-    ensures some { IfSome result (λ file. NamesReplay (subcommand_rows_of matches.now) file.now) }
-    ensures none { result ≡ None → (file : List ℕ) → ¬ NamesReplay (subcommand_rows_of matches.now) file }
+/// The file of a command, where the matches name this command and have it.
+fn file_of<'a>(matches: &ArgMatches<'a>, command: &str) -> Option<&'a str>
+    ensures some { IfSome result (λ file. NamesFile command.now (subcommand_rows_of matches.now) file.now) }
+    ensures none { result ≡ None → (file : List ℕ) → ¬ NamesFile command.now (subcommand_rows_of matches.now) file }
 {
-    let Some(("replay", found)) = matches.subcommand() else {
+    let (name, found) = matches.subcommand()?;
+    if name != command {
         return None;
-    };
+    }
     found.get_str("file")
 }
 

@@ -71,6 +71,24 @@ fn reads_replays(rt: HostRuntime) -> Result<(), Fail> {
     Ok(())
 }
 
+fn asks_for_upgrade(alloc: Global, words: &[&str], name: &str) -> bool {
+    match read(alloc, words) {
+        Ok(Job::Upgrade { file }) => file.as_str() == name,
+        _ => false,
+    }
+}
+
+#[test]
+fn reads_upgrades(rt: HostRuntime) -> Result<(), Fail> {
+    for name in ["t.trace", "-", "a b", ""] {
+        assert!(rt;
+            asks_for_upgrade(rt.alloc(), &["upgrade", name], name),
+            "{name:?}"
+        );
+    }
+    Ok(())
+}
+
 fn asks_for_text(alloc: Global, words: &[&str], begins: &str) -> bool {
     match read(alloc, words) {
         Ok(Job::Help(text)) => text.as_str().starts_with(begins),
@@ -83,6 +101,7 @@ fn reads_requests_for_texts(rt: HostRuntime) -> Result<(), Fail> {
     assert!(rt; asks_for_text(rt.alloc(), &["--help"], "Tells how synchronous"));
     assert!(rt; asks_for_text(rt.alloc(), &["report", "--help"], "Prints the report"));
     assert!(rt; asks_for_text(rt.alloc(), &["replay", "--help"], "Prints the round"));
+    assert!(rt; asks_for_text(rt.alloc(), &["upgrade", "--help"], "Prints a trace"));
     assert!(rt; asks_for_text(rt.alloc(), &["--version"], "synchrony 0.1.0\n"));
     Ok(())
 }
@@ -98,10 +117,11 @@ fn is_refused(alloc: Global, words: &[&str], begins: &str) -> Result<bool, Alloc
 
 #[test]
 fn refuses_other_lines(rt: HostRuntime) -> Result<(), Fail> {
-    let lines: [(&[&str], &str); 6] = [
+    let lines: [(&[&str], &str); 7] = [
         (&["report", "-"], "error: the following required arguments"),
         (&["replay"], "error: the following required arguments"),
         (&["replay", "a", "b"], "error: unexpected argument 'b'"),
+        (&["upgrade"], "error: the following required arguments"),
         (
             &["report", "-", "--correct", "1", "--workers", "65"],
             "error: unexpected argument '--workers'",

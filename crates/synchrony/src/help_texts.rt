@@ -9,6 +9,7 @@ were correct. For each stabilization time, `report` finds the least
 communication bound and the least processor bound that hold from there to the
 end of the trace, and evidence against each smaller bound. `replay` takes the
 steps as those of the agreement algorithm, and says what each processor decided.
+`upgrade` writes a trace of either version as one of version 2.
 
 A row of the report, all of it but proc in real-time steps:
   gst           a stabilization time: the row holds from step gst to the end
@@ -24,6 +25,7 @@ Examples, at the top of the repository:
   ./synchrony report examples/one-miss.trace --correct 1,2
   ./synchrony report - --correct 1,2 <examples/one-miss.trace
   ./synchrony replay examples/decides-seven.trace
+  ./synchrony upgrade examples/one-miss.trace
   printf '%s\\n' dls-trace,1,2,0 init,5,7 1,1,S,2 2,2,R, 3,2,R,1 end,3 |
     ./synchrony report - --correct 1,2
 
@@ -108,5 +110,34 @@ Exit status:
   5  out of memory
   6  FILE can't be opened or read, or the output can't be written
   7  the trace is no run; the fault names the first step that can't be one's
+A fault is told on standard error. Nothing is printed before it stands whole."
+}
+
+/// What an upgrade prints.
+pub fn upgrade_help() -> &'static str {
+    "\
+In version 1 of the trace text each tick holds one step, so a record of a step
+is no,proc,op,arg, and its tick is its number. In version 2 a tick holds any
+number of steps, at most one of each processor, possibly none: a record of a
+step is no,tick,proc,op,arg, and the last record is end and the last tick. What
+is printed is the trace of FILE in version 2, whichever version FILE has. The
+two have the same report and the same replay.
+
+Example, at the top of the repository:
+  ./synchrony upgrade examples/one-miss.trace
+prints
+  dls-trace,2,2,0
+  init,5,7
+  1,1,1,S,2
+  2,2,2,R,
+  3,3,2,R,1
+  end,3
+
+Exit status:
+  0  the trace is printed, or this text
+  2  the command line is refused
+  3  the trace is refused
+  5  out of memory
+  6  FILE can't be opened or read, or the output can't be written
 A fault is told on standard error. Nothing is printed before it stands whole."
 }

@@ -1,5 +1,5 @@
 //! The program: reads a trace of Send and Receive steps, and prints the report of its bounds, for the
-//! processors that are named as correct, or replays it as a run of the agreement algorithm.
+//! processors that are named as correct, replays it as a run of the agreement algorithm, or upgrades its text.
 #![tactic(auto)]
 
 mod command_line;
@@ -17,12 +17,16 @@ mod replays;
 #[cfg(test)]
 mod report_tests;
 mod reports;
+#[cfg(test)]
+mod upgrade_tests;
+mod upgrades;
 
 use crate::command_line::{Job, names_standard_input, read_command, refuse_words};
 use crate::faults::{Fault, status, unopened};
 use crate::printing::{print, tell};
 use crate::replays::run_replay;
 use crate::reports::run_report;
+use crate::upgrades::run_upgrade;
 use std::env;
 use std::fs::File;
 use std::process::ExitCode;
@@ -49,6 +53,7 @@ fn run(rt: &HostRuntime) -> Result<(), Fault> {
     match read_command(rt.alloc(), words)? {
         Job::Report { file, set } => report(rt, file.as_str(), set),
         Job::Replay { file } => replay(rt, file.as_str()),
+        Job::Upgrade { file } => upgrade(rt, file.as_str()),
         Job::Help(text) => print(text.as_str(), &mut Counting::new(rt.stdout())),
     }
 }
@@ -71,4 +76,14 @@ fn replay(rt: &HostRuntime, file: &str) -> Result<(), Fault> {
     }
     let opened = File::open(rt, file).map_err(unopened)?;
     run_replay(rt.alloc(), &mut Counting::new(opened), &mut output)
+}
+
+/// Prints the version 2 text of the trace in a file.
+fn upgrade(rt: &HostRuntime, file: &str) -> Result<(), Fault> {
+    let mut output = Counting::new(rt.stdout());
+    if names_standard_input(file) {
+        return run_upgrade(rt.alloc(), &mut Counting::new(rt.stdin()), &mut output);
+    }
+    let opened = File::open(rt, file).map_err(unopened)?;
+    run_upgrade(rt.alloc(), &mut Counting::new(opened), &mut output)
 }

@@ -1,4 +1,4 @@
-use Rattle.synchrony.proofs.CommandJobs.{line_is, replay_is}
+use Rattle.synchrony.proofs.CommandJobs.{line_is, replay_is, upgrade_is}
 use Rattle.synchrony.proofs.command_line.read_command.Goals as goal
 
 pub returns-clause-line : goal.returns-clause-line
@@ -8,3 +8,7 @@ returns-clause-line c =
 pub returns-clause-replay : goal.returns-clause-replay
 returns-clause-replay c =
     replay_is _ c.read_words.result (rw c.as_slice.ensures.value at c.read_words.ensures.job) (rw c.as_slice.ensures.value at c.read_words.ensures.refused)
+
+pub returns-clause-upgrade : goal.returns-clause-upgrade
+returns-clause-upgrade c =
+    upgrade_is _ c.read_words.result (rw c.as_slice.ensures.value at c.read_words.ensures.job) (rw c.as_slice.ensures.value at c.read_words.ensures.refused)

@@ -1,0 +1,118 @@
+//! Upgrades of worked traces, refused traces, and devices that fail.
+
+use crate::fault_lines::fault_text;
+use crate::faults::{Fault, status};
+use crate::upgrades::run_upgrade;
+use std::alloc::{AllocError, Global};
+use std::io::ErrorKind;
+use std::test::Fail;
+use trace_text::Counting;
+use trace_text::failing_devices::{AfterBytes, FailingReader, FailingWriter, WriteFailure};
+
+const ONE_MISS: &str = "dls-trace,1,2,0\ninit,5,7\n1,1,S,2\n2,2,R,\n3,2,R,1\nend,3\n";
+
+const ONE_MISS_UPGRADE: &str = "dls-trace,2,2,0\ninit,5,7\n1,1,1,S,2\n2,2,2,R,\n3,3,2,R,1\nend,3\n";
+
+const SHARED_TICKS: &str =
+    "dls-trace,2,2,0\ninit,5,7\n1,1,1,S,2\n2,1,2,S,1\n3,4,1,E,2\n4,4,2,R,1\nend,9\n";
+
+const REDELIVERED: &str = "dls-trace,1,2,0\ninit,5,7\n1,1,S,2\n2,2,R,1\n3,2,R,1\nend,3\n";
+
+const SAME_TICK: &str = "dls-trace,2,2,0\ninit,5,7\n1,1,1,S,2\n2,1,2,R,1\nend,1\n";
+
+/// Upgrades a text to a writer, in reads of 7 bytes.
+fn upgrade(
+    alloc: Global,
+    text: &str,
+    after: AfterBytes,
+    writer: &mut FailingWriter,
+) -> Result<(), Fault> {
+    let reader = FailingReader::new(text.as_bytes(), 7, after);
+    run_upgrade(
+        alloc,
+        &mut Counting::new(reader),
+        &mut Counting::new(writer),
+    )
+}
+
+fn is_upgraded(alloc: Global, text: &str, wanted: &str) -> bool {
+    let mut writer = FailingWriter::new(alloc, 10, WriteFailure::Never);
+    let ended = upgrade(alloc, text, AfterBytes::End, &mut writer);
+    ended.is_ok() && writer.taken() == wanted.as_bytes()
+}
+
+#[test]
+fn prints_version_2(rt: HostRuntime) -> Result<(), Fail> {
+    for (text, wanted) in [
+        (ONE_MISS, ONE_MISS_UPGRADE),
+        (ONE_MISS_UPGRADE, ONE_MISS_UPGRADE),
+        (SHARED_TICKS, SHARED_TICKS),
+    ] {
+        assert!(rt; is_upgraded(rt.alloc(), text, wanted), "{wanted}");
+    }
+    Ok(())
+}
+
+fn is_refused(
+    alloc: Global,
+    text: &str,
+    after: AfterBytes,
+    told: (u8, &str),
+) -> Result<bool, AllocError> {
+    let mut writer = FailingWriter::new(alloc, 10, WriteFailure::Never);
+    let Err(fault) = upgrade(alloc, text, after, &mut writer) else {
+        return Ok(false);
+    };
+    let line = fault_text(alloc, &fault)?;
+    let (code, wanted) = told;
+    Ok(status(&fault) == code && line.as_str() == wanted && writer.taken().is_empty())
+}
+
+#[test]
+fn writes_nothing_of_what_is_no_trace(rt: HostRuntime) -> Result<(), Fail> {
+    for (text, after, told) in [
+        (
+            REDELIVERED,
+            AfterBytes::End,
+            (3, "synchrony: trace: step 3: message 1 was received before"),
+        ),
+        (
+            SAME_TICK,
+            AfterBytes::End,
+            (
+                3,
+                "synchrony: trace: step 2: message 1 was sent in this tick",
+            ),
+        ),
+        (
+            ONE_MISS,
+            AfterBytes::Fail(ErrorKind::Other),
+            (6, "synchrony: cannot read"),
+        ),
+    ] {
+        assert!(rt; is_refused(rt.alloc(), text, after, told)?, "{told:?}");
+    }
+    Ok(())
+}
+
+/// Whether the upgrade of one-miss, in writes of 10 bytes, ends with Write(count), and its first `count`
+/// bytes went out.
+fn is_cut(alloc: Global, failure: WriteFailure, count: usize) -> bool {
+    let mut writer = FailingWriter::new(alloc, 10, failure);
+    let ended = upgrade(alloc, ONE_MISS, AfterBytes::End, &mut writer);
+    matches!(&ended, Err(Fault::Write(written)) if *written == count as u64)
+        && writer.taken().len() == count
+        && ONE_MISS_UPGRADE.as_bytes().starts_with(writer.taken())
+}
+
+#[test]
+fn says_how_much_of_an_upgrade_it_wrote(rt: HostRuntime) -> Result<(), Fail> {
+    for (failure, count) in [
+        (WriteFailure::FailAfter(25, ErrorKind::Other), 25),
+        (WriteFailure::TakeNothingAfter(0), 0),
+        (WriteFailure::FailFlush(ErrorKind::Other), 60),
+    ] {
+        assert!(rt; is_cut(rt.alloc(), failure, count), "{failure:?}");
+    }
+    Ok(())
+}
