@@ -1,0 +1,11 @@
+pub mod BestCandidates
+pub mod WitnessDecisions
+pub mod LongestOrNone
+pub mod DecidedBounds
+pub mod RowPlaces
+pub mod Stretches
+pub mod ShownBounds
+pub mod Soundness
+pub mod Completeness
+pub mod OneVerdict
+pub mod VerdictLaws

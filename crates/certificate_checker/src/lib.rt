@@ -2,7 +2,9 @@
 //! the rows, which shares nothing with the analyser but the definitions and the row types.
 #![tactic(auto)]
 
+mod laws;
 mod verdicts;
 
+pub use laws::certificate_laws;
 pub use step_trace::{Gap, Miss, Row};
 pub use verdicts::{Reason, Verdict};

@@ -1,0 +1,20 @@
+-- What a verdict says of rows, and of the report.
+use Rattle.std.proofs.Common.{ℕ, ◌≡◌, List, refl, subst}
+use Rattle.step_trace.specs.declared.rows.Row.{Row}
+use Rattle.step_trace.specs.Traces.{Recorded}
+use Rattle.step_trace.specs.Fronts.{IsReport}
+use Rattle.certificate_checker.specs.declared.verdicts.Verdict.{Verdict}
+use Rattle.certificate_checker.specs.declared.verdicts.Verdict.TheVariants.{Yes, No}
+use Rattle.certificate_checker.specs.Certificates.{Certifies}
+use Rattle.certificate_checker.specs.Verdicts.{IsVerdict}
+use Rattle.certificate_checker.proofs.Soundness.{Certifies-unopposed}
+use Rattle.certificate_checker.proofs.Completeness.{IsUnopposed-report}
+
+-- rows of which the verdict is Yes certify themselves
+pub Certifies-from_verdict : (set : ℕ) (trace : Recorded) (rows : List Row) (v : Verdict) → IsVerdict set trace rows v → v ≡ Yes → Certifies set trace rows
+Certifies-from_verdict set trace rows v verdict same = Certifies-unopposed set trace rows (subst (IsVerdict set trace rows) same verdict)
+
+-- the verdict on the report is Yes
+pub IsVerdict-report : (set : ℕ) (trace : Recorded) (rows : List Row) → IsReport set trace rows → (v : Verdict) → IsVerdict set trace rows v → v ≡ Yes
+IsVerdict-report set trace rows report Yes verdict = refl
+IsVerdict-report set trace rows report (No w) verdict = absurd (IsUnopposed-report set trace rows report w verdict.0)

@@ -1,0 +1,101 @@
+-- Whether something is a miss, or a gap, can be decided.
+use Rattle.std.proofs.Common.{ℕ, ◌≡◌, ◌+◌, ◌-◌, ◌⊎◌, inl, inr, List, Option, Some, None, refl, ap, sym, ◌∙◌, subst, arith}
+use Rattle.std.specs.Prelude.{IsTrue}
+use Rattle.std.proofs.lemmas.Bool.{cases_lt, cases_eq, cases_Bool, both_ways}
+use Rattle.std.proofs.lemmas.Option.{none-some, same_Some}
+use Rattle.step_trace.specs.declared.steps.Act.{Act}
+use Rattle.step_trace.specs.declared.steps.Act.TheVariants.{Send, Receive}
+use Rattle.step_trace.specs.declared.steps.Step.{Step}
+use Rattle.step_trace.specs.declared.rows.Miss.{Miss}
+use Rattle.step_trace.specs.declared.rows.Gap.{Gap}
+use Rattle.step_trace.specs.Processors.{has_proc}
+use Rattle.step_trace.specs.Traces.{Recorded, step_at, IsReceiveOf}
+use Rattle.step_trace.specs.Ticks.{tick_of}
+use Rattle.step_trace.specs.Bounds.{IsMessage}
+use Rattle.step_trace.specs.Witnesses.{IsMiss, IsGap}
+use Rattle.step_trace.proofs.BoundLaws.{IsMessage-receiver}
+use Rattle.step_trace.proofs.BoundDecisions.{delivered_or_not, steps_within_or_not}
+
+-- p is a member of the set, or it isn't
+member_or_not : (set p : ℕ) → IsTrue (has_proc set p) ⊎ (¬ IsTrue (has_proc set p))
+member_or_not set p = elim (cases_Bool (has_proc set p)) [ inl t ↦ inl t | inr f ↦ inr (λ t. both_ways _ f t) ]
+
+-- s is a message between members, or it isn't
+message_or_not : (set : ℕ) (steps : List Step) (s : ℕ) → ((b : ℕ) × IsMessage set steps s b) ⊎ ((b : ℕ) → ¬ IsMessage set steps s b)
+message_or_not set steps s = at (step_at steps s) refl where
+  at : (o : Option Step) → step_at steps s ≡ o → ((b : ℕ) × IsMessage set steps s b) ⊎ ((b : ℕ) → ¬ IsMessage set steps s b)
+  at None e = inr (λ b m. none-some _ (sym e ∙ m.sent))
+  at (Some x) e = by x.act refl where
+    same : (b : ℕ) (m : IsMessage set steps s b) → record { proc = m.from; act = Send b } ≡ x
+    same b m = same_Some _ x (sym m.sent ∙ e)
+
+    by : (a : Act) → x.act ≡ a → ((b : ℕ) × IsMessage set steps s b) ⊎ ((b : ℕ) → ¬ IsMessage set steps s b)
+    by (Receive ends ids) h = inr (λ b m. let q = ap (λ (z : Step). z.act) (same b m) ∙ h in cc)
+    by (Send b) h = elim (member_or_not set x.proc) [
+      | inr n ↦ inr (λ c m. n (subst (λ p. IsTrue (has_proc set p)) (ap (λ (z : Step). z.proc) (same c m)) m.sender))
+      | inl sender ↦ elim (member_or_not set b) [
+        | inr n ↦ inr (λ c m. let q = ap (λ (z : Step). z.act) (same c m) ∙ h in let d : c ≡ b = cc in n (subst (λ p. IsTrue (has_proc set p)) d m.receiver))
+        | inl receiver ↦ inl (b, record { from = x.proc; sent = e ∙ ap (λ (a : Act). let z : Step = record { proc = x.proc; act = a } in Some z) h; sender = sender; receiver = receiver })
+      ]
+    ]
+
+-- step r is a Receive of p, or it isn't
+receive_or_not : (steps : List Step) (r p : ℕ) → IsReceiveOf steps r p ⊎ (¬ IsReceiveOf steps r p)
+receive_or_not steps r p = at (step_at steps r) refl where
+  at : (o : Option Step) → step_at steps r ≡ o → IsReceiveOf steps r p ⊎ (¬ IsReceiveOf steps r p)
+  at None e = inr (λ m. none-some _ (sym e ∙ m.step))
+  at (Some x) e = by x.act refl where
+    same : (m : IsReceiveOf steps r p) → record { proc = p; act = Receive m.ends m.ids } ≡ x
+    same m = same_Some _ x (sym m.step ∙ e)
+
+    by : (a : Act) → x.act ≡ a → IsReceiveOf steps r p ⊎ (¬ IsReceiveOf steps r p)
+    by (Send b) h = inr (λ m. let q = ap (λ (z : Step). z.act) (same m) ∙ h in cc)
+    by (Receive ends ids) h = elim (cases_eq x.proc p) [
+      | inl q ↦ inl (record {
+        ends = ends;
+        ids = ids;
+        step = e ∙ ap (λ (a : Act). let z : Step = record { proc = x.proc; act = a } in Some z) h ∙ ap (λ (c : ℕ). let z : Step = record { proc = c; act = Receive ends ids } in Some z) q;
+      })
+      | inr n ↦ inr (λ m. n (sym (ap (λ (z : Step). z.proc) (same m))))
+    ]
+
+-- this is a miss, or it isn't
+pub miss_or_not : (set : ℕ) (trace : Recorded) (m : Miss) → IsMiss set trace m ⊎ (¬ IsMiss set trace m)
+miss_or_not set trace m = elim (message_or_not set trace.steps m.sent) [
+  | inr n ↦ inr (λ i. n i.to i.message)
+  | inl message ↦ elim (receive_or_not trace.steps m.missed message.0) [
+    | inr n ↦ inr (λ i. n (subst (IsReceiveOf trace.steps m.missed) (IsMessage-receiver set trace.steps m.sent _ _ i.message message.1) i.receive))
+    | inl receive ↦ elim (cases_lt (tick_of trace m.sent) (tick_of trace m.missed)) [
+      | inr n ↦ inr (λ i. let l = i.late in absurd (omega (arith, l, n)))
+      | inl late ↦ elim (delivered_or_not trace m.sent (tick_of trace m.missed)) [
+        | inl d ↦ inr (λ i. i.undelivered d)
+        | inr undelivered ↦ inl (record { to = message.0; message = message.1; receive = receive; late = late; undelivered = undelivered })
+      ]
+    ]
+  ]
+]
+
+-- this is a gap, or it isn't
+pub gap_or_not : (set : ℕ) (trace : Recorded) (w : Gap) → IsGap set trace w ⊎ (¬ IsGap set trace w)
+gap_or_not set trace w = elim (member_or_not set w.proc) [
+  | inr n ↦ inr (λ i. n i.member)
+  | inl member ↦ elim (cases_lt 0 w.from) [
+    | inr n ↦ inr (λ i. let l = i.start in absurd (omega (arith, l, n)))
+    | inl start ↦ elim (cases_lt w.to w.from) [
+      | inl n ↦ inr (λ i. let l = i.order in absurd (omega (arith, l, n)))
+      | inr order ↦ elim (cases_lt trace.last w.to) [
+        | inl n ↦ inr (λ i. let l = i.inside in absurd (omega (arith, l, n)))
+        | inr inside ↦ elim (steps_within_or_not trace w.proc w.from (w.to + 1 - w.from)) [
+          | inl s ↦ inr (λ i. let u = s.until in i.silent s.tick s.from (omega (arith, u, order)) s.step)
+          | inr n ↦ inl (record {
+            member = member;
+            start = start;
+            order = order;
+            inside = inside;
+            silent = λ x a b s. n (record { tick = x; from = a; until = omega (arith, a, b, order); step = s });
+          })
+        ]
+      ]
+    ]
+  ]
+]
