@@ -1,10 +1,15 @@
 -- Copies of what is kept of processors: they serve for whatever traces the processors served for.
 use Rattle.std.proofs.Common.{ℕ, suc, ◌≡◌, inl, inr, List, [], ◌∷◌, ◌++◌, length, Some, ap, ◌∙◌, subst}
-use Rattle.std.specs.Prelude.{slice_get}
+use Rattle.std.specs.Prelude.{slice_get, Contains}
+use Rattle.std.specs.BinaryHeap.{heap_items}
+use Rattle.std.specs.List.Sorted.{IsPermutation}
 use Rattle.step_trace.specs.declared.steps.Step.{Step}
 use Rattle.step_trace.specs.Configurations.{Setup}
 use Rattle.step_buffers.specs.declared.processors.Processor.{Processor}
+use Rattle.step_buffers.specs.InboxRounds.{Entry}
+use Rattle.step_buffers.specs.Inboxes.{kept_ids}
 use Rattle.step_buffers.specs.Worlds.{IsProcessor, AreProcessors}
+use Rattle.step_buffers.proofs.KeptInboxes.{IsInbox-moved}
 use Rattle.step_buffers.proofs.Openings.{slice_get-push}
 
 -- the same is kept of both
@@ -13,7 +18,8 @@ pub record IsAlike (x y : Processor) : Type 0 where
   pub last : y.last ≡ x.last
   pub node : y.node ≡ x.node
   pub buffer : y.buffer.items ≡ x.buffer.items
-  pub inbox : y.inbox.items ≡ x.inbox.items
+  pub inbox : IsPermutation (kept_ids x.inbox) (kept_ids y.inbox)
+  pub entries : (e : Entry) → Contains (heap_items y.inbox.later) e → Contains (heap_items x.inbox.later) e
 
 pub IsProcessor-alike : (c : Setup) (steps : List Step) (p : ℕ) (x y : Processor) → IsAlike x y → IsProcessor c steps p x → IsProcessor c steps p y
 IsProcessor-alike c steps p x y like is = record {
@@ -22,7 +28,7 @@ IsProcessor-alike c steps p x y like is = record {
   last = rw like.last is.last;
   next = rw (like.round, like.last, like.node) is.next;
   buffer = like.buffer ∙ is.buffer;
-  inbox = λ s. rw like.inbox (is.inbox s);
+  inbox = IsInbox-moved steps p x.inbox y.inbox like.inbox like.entries is.inbox;
 }
 
 -- the second serves for the traces and processors that the first serves for

@@ -17,8 +17,9 @@ pub mod DestinationSearch
 pub mod BufferSteps
 pub mod ProcessorSteps
 pub mod LetterSteps
-pub mod PostSteps
 pub mod TakenSteps
+pub mod KeptInboxes
+pub mod PostSteps
 pub mod RoundEnds
 pub mod Openings
 mod CopiedProcessors

@@ -1,6 +1,7 @@
 -- What is kept before the first step.
 use Rattle.std.proofs.Common.{ℕ, zero, suc, ◌≡◌, ◌⊎◌, inl, inr, List, [], ◌∷◌, ◌++◌, length, Some, refl, sym, ap, ◌∙◌, subst, arith}
-use Rattle.std.specs.Prelude.{Contains, slice_get}
+use Rattle.std.specs.Prelude.{slice_get}
+use Rattle.std.specs.BinaryHeap.{heap_items}
 use Rattle.std.proofs.lemmas.Option.{same_Some, none-some}
 use Rattle.step_trace.specs.declared.steps.Act.TheVariants.{Send}
 use Rattle.step_trace.specs.declared.steps.Step.{Step}
@@ -8,13 +9,13 @@ use Rattle.step_trace.specs.Configurations.{Setup}
 use Rattle.step_trace.specs.Traces.{step_at}
 use Rattle.step_trace.proofs.StepPositions.{step_at_within}
 use Rattle.lock_phases.specs.Nodes.{opening}
-use Rattle.lock_phases.proofs.Membership.{Contains-nil}
 use Rattle.round_model.specs.RoundStates.{initial_value}
 use Rattle.round_model.proofs.RoundEquations.{state_after-opening}
 use Rattle.step_buffers.specs.declared.processors.Processor.{Processor}
 use Rattle.step_buffers.specs.HeardTables.{heard_table}
 use Rattle.step_buffers.specs.Runs.{node_at, IsRun}
-use Rattle.step_buffers.specs.Worlds.{IsProcessor, AreProcessors, AreLetters}
+use Rattle.step_buffers.specs.Worlds.{IsKept, IsProcessor, AreProcessors, AreLetters}
+use Rattle.step_buffers.proofs.KeptInboxes.{IsInbox-opening}
 use Rattle.step_buffers.proofs.RoundEnds.{next_send-opening}
 
 -- what is kept of a processor before the first step
@@ -23,7 +24,8 @@ pub record IsOpening (c : Setup) (p : ℕ) (x : Processor) : Type 0 where
   pub last : x.last ≡ 0
   pub node : x.node ≡ opening (initial_value c p)
   pub buffer : x.buffer.items ≡ []
-  pub inbox : x.inbox.items ≡ []
+  pub near : x.inbox.near.items ≡ []
+  pub later : heap_items x.inbox.later ≡ []
 
 IsProcessor-opening : (c : Setup) (p : ℕ) (x : Processor) → IsOpening c p x → IsProcessor c [] p x
 IsProcessor-opening c p x is = record {
@@ -32,12 +34,12 @@ IsProcessor-opening c p x is = record {
   last = (let l = is.last in omega arith);
   next = next_send-opening c p ∙ rw (node, is.round, is.last) refl;
   buffer = is.buffer;
-  inbox = λ s. (
-    λ d. absurd (Contains-nil s (subst (λ (ids : List ℕ). Contains ids s) is.inbox d)),
-    λ k. absurd (let b = step_at_within [] s (record { proc = k.sender; act = Send p }) k.sent in let low = b.0 in let high = b.1 in omega arith),
-  );
+  inbox = IsInbox-opening p x.inbox nothing is.near is.later;
 }
   where
+    nothing : (s : ℕ) → IsKept [] p s → ⊥
+    nothing s k = let b = step_at_within [] s (record { proc = k.sender; act = Send p }) k.sent in let low = b.0 in let high = b.1 in omega arith
+
     node : x.node ≡ node_at c [] p
     node = is.node ∙ sym (state_after-opening c (heard_table []) p)
 

@@ -1,6 +1,6 @@
 -- What is kept of the processors, when one of them sends.
-use Rattle.std.proofs.Common.{ℕ, zero, suc, ◌≡◌, ◌≢◌, ◌+◌, ◌-◌, ◌<◌, ◌≤◌, ◌⊎◌, inl, inr, ◌↔◌, List, [], ◌∷◌, ◌++◌, length, get_or, Some, Bool, true, false, ◌==◌, ◌&&◌, Vec, Global, refl, sym, ap, ◌∙◌, subst, arith}
-use Rattle.std.specs.Prelude.{Contains, slice_get, slice_set}
+use Rattle.std.proofs.Common.{ℕ, zero, suc, ◌≡◌, ◌≢◌, ◌+◌, ◌-◌, ◌<◌, ◌≤◌, ◌⊎◌, inl, inr, List, [], ◌∷◌, ◌++◌, length, get_or, Some, Bool, true, false, ◌==◌, ◌&&◌, Vec, Global, refl, sym, ap, ◌∙◌, subst, arith}
+use Rattle.std.specs.Prelude.{slice_get, slice_set}
 use Rattle.std.proofs.lemmas.Option.{same_Some, none-some, slice_get_within, slice_get_read, get_or_from_slice_get}
 use Rattle.step_trace.specs.declared.traces.TheConstants.{MAX_STEPS}
 use Rattle.step_trace.specs.declared.steps.Act.TheVariants.{Send}
@@ -15,19 +15,21 @@ use Rattle.std.specs.Prelude.{is_some}
 use Rattle.lock_phases.proofs.Membership.{Contains-from_filter, Contains-nil}
 use Rattle.round_model.specs.RoundStates.{processors}
 use Rattle.round_model.proofs.HeardMessages.{IsProc-from_processors}
+use Rattle.step_buffers.specs.declared.inbox_entries.Inbox.{Inbox}
 use Rattle.step_buffers.specs.declared.processors.Processor.{Processor}
 use Rattle.step_buffers.specs.HeardTables.{act_ends, passed, is_sent_in}
 use Rattle.step_buffers.specs.Runs.{node_at, destinations, destination_after}
 use Rattle.step_buffers.specs.Buffers.{buffer}
 use Rattle.step_buffers.specs.Moves.{next_send}
-use Rattle.step_buffers.specs.Worlds.{IsKept, IsProcessor, AreProcessors}
+use Rattle.step_buffers.specs.Worlds.{IsInbox, IsProcessor, AreProcessors}
 use Rattle.step_buffers.proofs.StepPrefixes.{IsWellFormed-prefix}
 use Rattle.step_buffers.proofs.HeardSenders.{IsSentIn-from_test}
 use Rattle.step_buffers.proofs.GrownNodes.{passed-stays, node_at-stays, next_destination-now}
 use Rattle.step_buffers.proofs.PresentSends.{sent_now, sent_now-send}
 use Rattle.step_buffers.proofs.NextDestinations.{later-destination}
 use Rattle.step_buffers.proofs.BufferSteps.{buffer-sent_to, buffer-sent_elsewhere}
-use Rattle.step_buffers.proofs.ProcessorSteps.{IsKept-stays, next_destination-stays}
+use Rattle.step_buffers.proofs.ProcessorSteps.{next_destination-stays}
+use Rattle.step_buffers.proofs.KeptInboxes.{IsInbox-stays}
 
 -- a step of another is no Send of p
 pub not_sent-other : (steps : List Step) (x : Step) (p r : ℕ) → x.proc ≢ p → is_sent_in (steps ++ x ∷ []) p r (suc (length steps)) ≡ false
@@ -86,10 +88,10 @@ record IsPosted (c : Setup) (steps : List Step) (p q : ℕ) (x : Processor) : Ty
   pub last : x.last ≤ c.n
   pub next : q ≢ p → next_send c steps q ≡ destination_after c x.node q x.round x.last
   pub buffer : x.buffer.items ≡ buffer steps q
-  pub inbox : (s : ℕ) → Contains x.inbox.items s ↔ IsKept steps q s
+  pub inbox : IsInbox steps q x.inbox
 
 IsPosted-from : (c : Setup) (steps : List Step) (p to q : ℕ) (z y : Processor) → IsWellFormed c (steps ++ record { proc = p; act = Send to } ∷ []) → IsProcessor c steps q z
-    → y.round ≡ z.round → y.node ≡ z.node → y.last ≡ z.last → y.inbox.items ≡ z.inbox.items → y.buffer.items ≡ buffer (steps ++ record { proc = p; act = Send to } ∷ []) q
+    → y.round ≡ z.round → y.node ≡ z.node → y.last ≡ z.last → y.inbox ≡ z.inbox → y.buffer.items ≡ buffer (steps ++ record { proc = p; act = Send to } ∷ []) q
     → IsPosted c (steps ++ record { proc = p; act = Send to } ∷ []) p q y
 IsPosted-from c steps p to q z y w is round node last inbox waiting = record {
   round = round ∙ is.round ∙ ap (λ n. n + 1) (sym (passed-stays steps x q quiet));
@@ -97,10 +99,7 @@ IsPosted-from c steps p to q z y w is round node last inbox waiting = record {
   last = (let l = is.last in omega arith);
   next = λ other. next_destination-stays c steps x q old quiet (not_sent-other steps x q (passed steps q + 1) (λ e. other (sym e))) ∙ is.next ∙ rw (node, round, last) refl;
   buffer = waiting;
-  inbox = λ s. subst (λ (ids : List ℕ). Contains ids s ↔ IsKept (steps ++ x ∷ []) q s) (sym inbox) (
-    λ d. (IsKept-stays c steps x q s w quiet (λ e. refl)).0 ((is.inbox s).0 d),
-    λ k. (is.inbox s).1 ((IsKept-stays c steps x q s w quiet (λ e. refl)).1 k),
-  );
+  inbox = subst (λ (b : Inbox). IsInbox (steps ++ x ∷ []) q b) (sym inbox) (IsInbox-stays c steps x q z.inbox w quiet (λ e. refl) is.inbox);
 }
   where
     x : Step

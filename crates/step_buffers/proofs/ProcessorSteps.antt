@@ -16,7 +16,7 @@ use Rattle.step_buffers.specs.declared.processors.Processor.{Processor}
 use Rattle.step_buffers.specs.HeardTables.{act_ends, passed, round_at, is_sent_in}
 use Rattle.step_buffers.specs.Runs.{node_at, destinations, destination_after, next_destination, IsSend}
 use Rattle.step_buffers.specs.Buffers.{buffer}
-use Rattle.step_buffers.specs.Worlds.{IsKept, IsProcessor}
+use Rattle.step_buffers.specs.Worlds.{IsKept, IsInbox, IsProcessor}
 use Rattle.step_buffers.proofs.StepPrefixes.{step_at-prefix, step_at-prefix_old, round_at-prefix}
 use Rattle.step_buffers.proofs.GrownNodes.{passed-stays, node_at-stays, next_destination-now}
 use Rattle.step_buffers.proofs.PresentSends.{sent_now, sent_now-stays}
@@ -110,7 +110,7 @@ next_destination-stays c steps x p w quiet silent =
 pub IsProcessor-stays : (c : Setup) (steps : List Step) (x : Step) (p : ℕ) (z y : Processor) → IsWellFormed c steps → (x.proc == p && act_ends x.act) ≡ false
     → IsProcessor c steps p z → y.round ≡ z.round → y.node ≡ z.node → y.last ≤ c.n
     → next_destination c (steps ++ x ∷ []) p (length (steps ++ x ∷ []) + 1) ≡ destination_after c z.node p z.round y.last
-    → y.buffer.items ≡ buffer (steps ++ x ∷ []) p → ((s : ℕ) → Contains y.inbox.items s ↔ IsKept (steps ++ x ∷ []) p s) → IsProcessor c (steps ++ x ∷ []) p y
+    → y.buffer.items ≡ buffer (steps ++ x ∷ []) p → IsInbox (steps ++ x ∷ []) p y.inbox → IsProcessor c (steps ++ x ∷ []) p y
 IsProcessor-stays c steps x p z y w quiet is round node last next waiting inbox = record {
   round = round ∙ is.round ∙ ap (λ n. n + 1) (sym (passed-stays steps x p quiet));
   node = node ∙ is.node ∙ sym (node_at-stays c steps x p w quiet);

@@ -1,6 +1,7 @@
 -- What is kept of the processors, when one of them takes messages.
-use Rattle.std.proofs.Common.{ℕ, suc, ◌≡◌, ◌≢◌, ◌+◌, ◌-◌, ◌≤◌, ◌⊎◌, inl, inr, List, [], ◌∷◌, ◌++◌, length, Option, Some, Bool, true, false, ◌==◌, ◌&&◌, refl, sym, ap, ◌∙◌, subst, arith}
-use Rattle.std.specs.Prelude.{slice_get, slice_set}
+use Rattle.std.proofs.Common.{ℕ, suc, ◌≡◌, ◌≢◌, ◌+◌, ◌-◌, ◌≤◌, ◌⊎◌, inl, inr, List, [], ◌∷◌, ◌++◌, length, get_or, heap_items, Option, Some, Bool, true, false, ◌==◌, ◌&&◌, refl, sym, ap, ◌∙◌, subst, arith}
+use Rattle.std.specs.Prelude.{Contains, slice_get, slice_set}
+use Rattle.std.specs.List.Sorted.{IsPermutation}
 use Rattle.std.proofs.lemmas.Bool.{ne_eqb}
 use Rattle.std.proofs.lemmas.Option.{same_Some}
 use Rattle.std.proofs.lemmas.List.Sums.{count_by-le-length}
@@ -12,16 +13,20 @@ use Rattle.step_trace.specs.Traces.{Recorded, IsWellFormed}
 use Rattle.step_trace.specs.Ticks.{IsOnePerTick}
 use Rattle.step_trace.proofs.StepPositions.{step_at_last}
 use Rattle.step_buffers.specs.declared.letters.Letter.{Letter}
+use Rattle.step_buffers.specs.declared.inbox_entries.Inbox.{Inbox}
 use Rattle.step_buffers.specs.declared.processors.Processor.{Processor}
 use Rattle.step_buffers.specs.HeardTables.{act_ends, passed, is_sent_in}
 use Rattle.step_buffers.specs.Runs.{IsRun}
 use Rattle.step_buffers.specs.Moves.{next_send}
+use Rattle.step_buffers.specs.InboxRounds.{Entry}
+use Rattle.step_buffers.specs.Inboxes.{kept_ids}
 use Rattle.step_buffers.specs.Worlds.{IsProcessor, AreLetters, AreProcessors, IsWorld}
 use Rattle.step_buffers.proofs.StepPrefixes.{IsWellFormed-prefix}
 use Rattle.step_buffers.proofs.HeardSenders.{IsSentIn-from_test}
 use Rattle.step_buffers.proofs.BufferSteps.{buffer-received_elsewhere}
-use Rattle.step_buffers.proofs.ProcessorSteps.{IsKept-stays, next_destination-stays, IsProcessor-stays}
-use Rattle.step_buffers.proofs.PostSteps.{not_sent-other, slice_get-set_cases, length-slice_set, AreProcessors-set}
+use Rattle.step_buffers.proofs.ProcessorSteps.{next_destination-stays, IsProcessor-stays}
+use Rattle.step_buffers.proofs.KeptInboxes.{IsInbox-stays, IsProcessor-moved}
+use Rattle.step_buffers.proofs.PostSteps.{not_sent-other, slice_get-set_cases, length-slice_set, AreProcessors-set, IsProcessor-at}
 
 -- no processor passed more rounds than there are steps
 pub passed-within : (steps : List Step) (p : ℕ) → passed steps p ≤ length steps
@@ -77,10 +82,7 @@ AreProcessors-received c steps p ends ids kept y w proc are is = record {
         IsProcessor-stays c steps x q z z old quiet before refl refl before.last
         (next_destination-stays c steps x q old quiet (not_sent-other steps x q (passed steps q + 1) other) ∙ before.next)
         (before.buffer ∙ sym (buffer-received_elsewhere c steps p q ends ids w other))
-        (λ s. (
-          λ d. (IsKept-stays c steps x q s w quiet (λ e. absurd (other e))).0 ((before.inbox s).0 d),
-          λ k. (before.inbox s).1 ((IsKept-stays c steps x q s w quiet (λ e. absurd (other e))).1 k),
-        ))
+        (IsInbox-stays c steps x q z.inbox w quiet (λ e. absurd (other e)) before.inbox)
 
     go : (k : ℕ) (z : Processor) → ((k ≡ p - 1) × (y ≡ z)) ⊎ ((k ≢ p - 1) × (slice_get kept k ≡ Some z)) → IsProcessor c (steps ++ x ∷ []) (suc k) z
     go k z (inl e) = subst (λ n. IsProcessor c (steps ++ x ∷ []) n z) (sym place ∙ ap suc (sym e.0)) (subst (IsProcessor c (steps ++ x ∷ []) p) e.1 is)
@@ -115,3 +117,11 @@ IsWorld-kept old new letters sent kept p y world proc same are is =
       letters = subst (λ (t : Recorded). AreLetters t.config t.steps sent) same are;
       processors = AreProcessors-set old.config old.steps kept (p - 1) y world.processors (subst (λ n. IsProcessor old.config old.steps n y) place there);
     })
+
+-- and where messages were moved in the inbox of p
+pub IsWorld-moved : (trace : Recorded) (letters : List (Option Letter)) (kept : List Processor) (p : ℕ) (x : Processor) (inbox : Inbox) → IsWorld trace letters kept → IsProc trace.config p
+    → x ≡ get_or kept (p - 1) x → IsPermutation (kept_ids x.inbox) (kept_ids inbox) → ((e : Entry) → Contains (heap_items inbox.later) e → Contains (heap_items x.inbox.later) e)
+    → IsWorld trace letters (slice_set kept (p - 1) (record x { inbox = inbox }))
+IsWorld-moved trace letters kept p x inbox world proc at same less =
+    let is = IsProcessor-at trace.config trace.steps kept p x world.processors proc at in
+    IsWorld-kept trace trace letters letters kept p (record x { inbox = inbox }) world proc refl world.letters (IsProcessor-moved trace.config trace.steps p x inbox same less is)

@@ -95,7 +95,7 @@ tested-these test inbox ids s = (forth, back)
         is.1
 
 -- a message of the shorter trace has its round in the longer one
-sent-longer : (steps : List Step) (x : Step) (q p s : ℕ) → IsSend steps q p s → IsSend (steps ++ x ∷ []) q p s × (round_at (steps ++ x ∷ []) q s ≡ round_at steps q s)
+pub sent-longer : (steps : List Step) (x : Step) (q p s : ℕ) → IsSend steps q p s → IsSend (steps ++ x ∷ []) q p s × (round_at (steps ++ x ∷ []) q s ≡ round_at steps q s)
 sent-longer steps x q p s h =
     let b = step_at_within steps s (record { proc = q; act = Send p }) h in
     let high = b.1 in

@@ -3,6 +3,8 @@ pub mod Runs
 pub mod Buffers
 pub mod Moves
 pub mod Letters
+pub mod InboxRounds
+pub mod Inboxes
 pub mod Worlds
 pub mod Progress
 pub mod Replays

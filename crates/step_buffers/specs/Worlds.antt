@@ -1,16 +1,20 @@
 -- What a World keeps beside its trace, and what it must be for the trace.
 use Rattle.std.specs.Prelude.{ℕ, suc, ◌≡◌, ◌+◌, ◌<◌, ◌≤◌, ◌↔◌, ◌⊎◌, List, length, Option, Some, None, Contains, true, slice_get}
+use Rattle.std.specs.BinaryHeap.{heap_items}
 use Rattle.step_trace.specs.declared.steps.Step.{Step}
 use Rattle.step_trace.specs.Configurations.{Setup, IsSetup}
 use Rattle.step_trace.specs.Traces.{Recorded}
 use Rattle.step_trace.specs.Ticks.{IsOnePerTick}
 use Rattle.step_trace.specs.PushRefusals.{is_taken}
 use Rattle.step_buffers.specs.declared.letters.Letter.{Letter}
+use Rattle.step_buffers.specs.declared.inbox_entries.Inbox.{Inbox}
 use Rattle.step_buffers.specs.declared.processors.Processor.{Processor}
 use Rattle.step_buffers.specs.HeardTables.{passed, round_at}
 use Rattle.step_buffers.specs.Runs.{node_at, body_of, IsSend, destination_after, next_destination, IsRun}
 use Rattle.step_buffers.specs.Buffers.{buffer}
 use Rattle.step_buffers.specs.Letters.{letter_at}
+use Rattle.step_buffers.specs.InboxRounds.{Entry}
+use Rattle.step_buffers.specs.Inboxes.{kept_ids}
 
 -- p took message s, which was sent in a round that p has not passed
 pub record IsKept (steps : List Step) (p s : ℕ) : Type 0 where
@@ -18,6 +22,17 @@ pub record IsKept (steps : List Step) (p s : ℕ) : Type 0 where
   pub sent : IsSend steps sender p s
   pub taken : is_taken steps s ≡ true
   pub ahead : passed steps p < round_at steps sender s
+
+-- an entry for later is a message to p, with the round in which it was sent
+pub record IsEntry (steps : List Step) (p : ℕ) (e : Entry) : Type 0 where
+  pub sender : ℕ
+  pub sent : IsSend steps sender p e.0.1
+  pub round : round_at steps sender e.0.1 ≡ e.0.0
+
+-- the messages that p took and may hear in its round or a later one; those for later with their rounds
+pub record IsInbox (steps : List Step) (p : ℕ) (x : Inbox) : Type 0 where
+  pub ids : (s : ℕ) → Contains (kept_ids x) s ↔ IsKept steps p s
+  pub entries : (e : Entry) → Contains (heap_items x.later) e → IsEntry steps p e
 
 -- What is kept of a processor: its round, its node, where it sends next, the messages that wait for it, and
 -- those that it took and may hear in its round or a later one.
@@ -27,7 +42,7 @@ pub record IsProcessor (c : Setup) (steps : List Step) (p : ℕ) (x : Processor)
   pub last : x.last ≤ c.n
   pub next : next_destination c steps p (length steps + 1) ≡ destination_after c x.node p x.round x.last
   pub buffer : x.buffer.items ≡ buffer steps p
-  pub inbox : (s : ℕ) → Contains x.inbox.items s ↔ IsKept steps p s
+  pub inbox : IsInbox steps p x.inbox
 
 -- the message of a Send is kept: who sent it in which round, and what it says
 pub record IsLetter (c : Setup) (steps : List Step) (q to s : ℕ) (x : Letter) : Type 0 where

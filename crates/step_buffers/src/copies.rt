@@ -7,6 +7,7 @@ ghost use Rattle.step_buffers.specs.Worlds.{IsProcessor, AreProcessors};
 
 use crate::letters::{Letter, copied};
 use crate::processors::Processor;
+use crate::round_inboxes::copied_inbox;
 use std::alloc::{AllocError, Global};
 
 /// The same messages.
@@ -58,6 +59,6 @@ fn copied_processor(alloc: Global, processor: &Processor) -> Result<Processor, A
         last: processor.last,
         node: processor.node.copy(alloc)?,
         buffer: Vec::from_slice(alloc, &processor.buffer)?,
-        inbox: Vec::from_slice(alloc, &processor.inbox)?,
+        inbox: copied_inbox(alloc, &processor.inbox)?,
     })
 }

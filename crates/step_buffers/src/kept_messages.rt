@@ -1,39 +1,34 @@
 //! What a Receive makes of a buffer and an inbox, and of the messages that nobody can hear any more.
 
-ghost use Rattle.std.specs.Prelude.{ℕ, ◌∷◌, [], ◌<◌, IsTrue, false, ◌≡◌, ◌+◌, ◌≤◌, ◌++◌, length, vec_len, vec_capacity, filter, nat_le, not};
-ghost use Rattle.std.specs.List.Sorted.{IsStrictlyIncreasing};
+ghost use Rattle.std.specs.Prelude.{ℕ, ◌∷◌, [], ◌<◌, IsTrue, false, ◌≡◌, ◌+◌, ◌≤◌, ◌⊎◌, ◌++◌, length, vec_len, vec_capacity, filter, nat_le, not, Contains};
+ghost use Rattle.std.specs.BinaryHeap.{heap_items, heap_len, heap_capacity};
+ghost use Rattle.std.specs.List.Sorted.{IsPermutation, IsStrictlyIncreasing};
 ghost use Rattle.step_buffers.specs.Letters.{letter_at, letter_left, round_of};
 ghost use Rattle.step_buffers.specs.Moves.{is_in};
+ghost use Rattle.step_buffers.specs.InboxRounds.{Entry};
+ghost use Rattle.step_buffers.specs.Inboxes.{kept_ids};
 
 use crate::letters::{Letter, letter_at, round_of};
 use crate::processors::Processor;
+use crate::round_inboxes::keep_ahead;
 use crate::takes::take_out;
 
 /// Takes these messages out of the buffer, and puts those of this round and of later ones into the inbox, in
 /// which there is room.
 pub(crate) fn take_in(receiver: &mut Processor, letters: &[Option<Letter>], ids: &[u64], round: u64)
     requires rising { IsStrictlyIncreasing ids.now }
-    requires room { vec_len receiver.old.inbox + length ids.now ≤ vec_capacity receiver.old.inbox }
+    requires room_near { vec_len receiver.old.inbox.near + length ids.now ≤ vec_capacity receiver.old.inbox.near }
+    requires room_later { heap_len receiver.old.inbox.later + length ids.now ≤ heap_capacity receiver.old.inbox.later }
     ensures buffer { receiver.new.buffer.items ≡ filter (λ s. not (is_in ids.now s)) receiver.old.buffer.items }
-    ensures inbox { receiver.new.inbox.items ≡ receiver.old.inbox.items ++ filter (λ s. nat_le round (round_of letters.now s)) ids.now }
+    ensures inbox { IsPermutation (kept_ids receiver.old.inbox ++ filter (λ s. nat_le round (round_of letters.now s)) ids.now) (kept_ids receiver.new.inbox) }
+    ensures entries { (e : Entry) → Contains (heap_items receiver.new.inbox.later) e
+        → Contains (heap_items receiver.old.inbox.later) e ⊎ ((round ≤ e.0.0) × (e.0.0 ≡ round_of letters.now e.0.1)) }
     ensures round { receiver.new.round ≡ receiver.old.round }
     ensures last { receiver.new.last ≡ receiver.old.last }
     ensures node { receiver.new.node ≡ receiver.old.node }
 {
     take_out(&mut receiver.buffer, ids);
-    keep(&mut receiver.inbox, letters, ids, round);
-}
-
-// Adds those of these messages that are of this round or a later one.
-fn keep(inbox: &mut Vec<u64>, letters: &[Option<Letter>], ids: &[u64], round: u64)
-    requires { vec_len inbox.old + length ids.now ≤ vec_capacity inbox.old }
-    ensures { inbox.new.items ≡ inbox.old.items ++ filter (λ s. nat_le round (round_of letters.now s)) ids.now }
-{
-    for id in ids {
-        if round <= round_of(letters, *id) {
-            inbox.push_reserved(*id);
-        }
-    }
+    keep_ahead(&mut receiver.inbox, letters, ids, round);
 }
 
 /// Lets go of those of these messages that were sent in an earlier round than this one.

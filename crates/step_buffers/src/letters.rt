@@ -51,7 +51,8 @@ pub(crate) fn heard_in(
     requires { n ≤ MAX_PROCESSORS }
     ensures { IfOk result (λ heard. heard.items ≡ heard_in letters.now inbox.now taken.now round n) }
 {
-    let mut ids = Vec::new(alloc);
+    // (a processor says no more than one thing in a round)
+    let mut ids = Vec::with_capacity(alloc, n as usize)?;
     add_of_round(&mut ids, letters, inbox, round)?;
     add_of_round(&mut ids, letters, taken, round)?;
     heard_from(alloc, letters, &ids, n)
@@ -83,7 +84,7 @@ fn heard_from(
     requires { n ≤ MAX_PROCESSORS }
     ensures { IfOk result (λ heard. heard.items ≡ heard_from letters.now ids.now n) }
 {
-    let mut heard = Vec::new(alloc);
+    let mut heard = Vec::with_capacity(alloc, ids.len())?;
     for sender in 1..n + 1 {
         let Some(body) = body_from(letters, ids, sender) else {
             continue;

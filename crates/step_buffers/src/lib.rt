@@ -5,6 +5,7 @@
 
 mod appends;
 mod copies;
+mod inbox_entries;
 mod kept_messages;
 mod laws;
 mod letters;
@@ -12,6 +13,7 @@ mod moves;
 mod processors;
 mod receives;
 mod replays;
+mod round_inboxes;
 mod sends;
 mod steps;
 mod takes;

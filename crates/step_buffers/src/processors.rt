@@ -6,6 +6,8 @@ ghost use Rattle.lock_phases.specs.NodeFunctions.{out};
 ghost use Rattle.step_buffers.specs.Runs.{destination_after};
 ghost use Rattle.step_buffers.specs.Worlds.{AreProcessors};
 
+use crate::inbox_entries::Inbox;
+use crate::round_inboxes::empty_inbox;
 use lock_phases::Node;
 use std::alloc::{AllocError, Global};
 use step_trace::Config;
@@ -21,8 +23,8 @@ pub(crate) struct Processor {
     pub node: Node,
     /// The ids of the messages that wait for it, rising.
     pub buffer: Vec<u64>,
-    /// The ids of the messages of its round and of later ones that it took.
-    pub inbox: Vec<u64>,
+    /// The messages of its round and of later ones that it took.
+    pub inbox: Inbox,
 }
 
 /// The next destination of a processor. None where all messages of its round are out. Takes no memory.
@@ -62,7 +64,7 @@ pub(crate) fn opening_processors(
             last: 0,
             node: Node::new(alloc, *value)?,
             buffer: Vec::new(alloc),
-            inbox: Vec::new(alloc),
+            inbox: empty_inbox(alloc),
         })?;
     }
     Ok(processors)

@@ -1,6 +1,7 @@
 //! A Receive, which may end its processor's round.
 
-ghost use Rattle.std.specs.Prelude.{◌≡◌, ◌+◌, ◌≤◌, ◌++◌, ◌∷◌, [], None, true, false, length, vec_len, vec_capacity, ◌<◌, ◌&&◌, is_some, IfOk, OnOk, IfErr, OnErr};
+ghost use Rattle.std.specs.Prelude.{◌≡◌, ◌+◌, ◌≤◌, ◌++◌, ◌∷◌, [], None, true, false, length, vec_len, vec_capacity, ◌<◌, ◌&&◌, is_some, All, IfOk, OnOk, IfErr, OnErr};
+ghost use Rattle.std.specs.BinaryHeap.{heap_items, heap_len, heap_capacity};
 ghost use Rattle.step_trace.specs.declared.traces.TheConstants.{MAX_STEPS};
 ghost use Rattle.step_trace.specs.Configurations.{IsProc};
 ghost use Rattle.step_trace.specs.Traces.{IsWellFormed};
@@ -12,10 +13,12 @@ ghost use Rattle.step_buffers.specs.Moves.{next_send, taken_ids, receive_refusal
 ghost use Rattle.step_buffers.specs.Worlds.{AreLetters, IsProcessor, IsWorld};
 
 use crate::appends::append;
+use crate::inbox_entries::Inbox;
 use crate::kept_messages::{drop_past, release, take_in};
 use crate::letters::{Letter, heard_in};
 use crate::moves::{StepError, Take};
 use crate::processors::{Processor, next_destination};
+use crate::round_inboxes::{gather, reserve};
 use crate::takes::{take_refusal, taken_ids};
 use lock_phases::Node;
 use std::alloc::{AllocError, Global};
@@ -144,12 +147,13 @@ fn end_round(
     ensures err { OnErr result (trace.new ≡ trace.old) }
 {
     let receiver = &mut processors[(p - 1) as usize];
+    gather(&mut receiver.inbox, receiver.round)?;
     let node = computed(alloc, trace, letters, receiver, p, taken)?;
     settle_ended(trace, letters, receiver, p, taken, node)?;
     Ok(())
 }
 
-// The node of `p` after it took these messages and ended its round.
+// The node of `p` after it took these messages and ended its round, where those of its round are at hand.
 fn computed(
     alloc: Global,
     trace: &Trace,
@@ -163,6 +167,7 @@ fn computed(
     requires receiver { IsProcessor trace.now.config trace.now.steps p receiver.now }
     requires step { refusal trace.now.config trace.now.steps (record { proc = p; act = Act.Receive true taken.now }) ≡ None }
     requires due { next_send trace.now.config trace.now.steps p ≡ None }
+    requires gathered { All (λ e. receiver.now.round < e.0.0) (heap_items receiver.now.inbox.later) }
     ensures { IfOk result (λ node. node ≡ node_at trace.now.config (trace.now.steps ++ record { proc = p; act = Act.Receive true taken.now } ∷ []) p) }
 {
     let config = trace.config();
@@ -170,7 +175,7 @@ fn computed(
     let heard = heard_in(
         alloc,
         letters,
-        &receiver.inbox,
+        &receiver.inbox.near,
         taken.as_slice(),
         round,
         config.n(),
@@ -224,6 +229,7 @@ fn settle_ended(
     requires receiver { IsProcessor trace.old.config trace.old.steps p receiver.old }
     requires step { refusal trace.old.config trace.old.steps (record { proc = p; act = Act.Receive true taken.now }) ≡ None }
     requires due { next_send trace.old.config trace.old.steps p ≡ None }
+    requires gathered { All (λ e. receiver.old.round < e.0.0) (heap_items receiver.old.inbox.later) }
     requires node { node ≡ node_at trace.old.config (trace.old.steps ++ record { proc = p; act = Act.Receive true taken.now } ∷ []) p }
     ensures run { IsRun trace.new.config trace.new.steps }
     ensures one_per_tick { IsOnePerTick trace.new }
@@ -236,10 +242,10 @@ fn settle_ended(
     push_receive(trace, letters, &mut receiver.inbox, p, true, taken)?;
     letters.push_reserved(None);
     let round = receiver.round + 1;
-    release(letters, &receiver.inbox, round);
+    release(letters, &receiver.inbox.near, round);
     release(letters, taken.as_slice(), round);
     take_in(receiver, letters, taken.as_slice(), round);
-    drop_past(&mut receiver.inbox, letters, round);
+    drop_past(&mut receiver.inbox.near, letters, round);
     receiver.round = round;
     receiver.last = 0;
     receiver.node = node;
@@ -250,7 +256,7 @@ fn settle_ended(
 fn push_receive(
     trace: &mut Trace,
     letters: &mut Vec<Option<Letter>>,
-    inbox: &mut Vec<u64>,
+    inbox: &mut Inbox,
     p: u64,
     ends: bool,
     taken: &MessageIds,
@@ -258,9 +264,11 @@ fn push_receive(
     requires step { refusal trace.old.config trace.old.steps (record { proc = p; act = Act.Receive ends taken.now }) ≡ None }
     requires ticks { IsOnePerTick trace.old }
     ensures letters { letters.new.items ≡ letters.old.items }
-    ensures inbox { inbox.new.items ≡ inbox.old.items }
+    ensures near { inbox.new.near.items ≡ inbox.old.near.items }
+    ensures later { heap_items inbox.new.later ≡ heap_items inbox.old.later }
     ensures place { OnOk result (vec_len letters.new < vec_capacity letters.new) }
-    ensures room { OnOk result (vec_len inbox.new + length taken.now ≤ vec_capacity inbox.new) }
+    ensures room_near { OnOk result (vec_len inbox.new.near + length taken.now ≤ vec_capacity inbox.new.near) }
+    ensures room_later { OnOk result (heap_len inbox.new.later + length taken.now ≤ heap_capacity inbox.new.later) }
     ensures appended { OnOk result (trace.new.steps ≡ trace.old.steps ++ record { proc = p; act = Act.Receive ends taken.now } ∷ []) }
     ensures config { trace.new.config ≡ trace.old.config }
     ensures well_formed { OnOk result (IsWellFormed trace.old.config (trace.old.steps ++ record { proc = p; act = Act.Receive ends taken.now } ∷ [])) }
@@ -269,7 +277,7 @@ fn push_receive(
 {
     let ids = copied(taken)?;
     letters.reserve(1)?;
-    inbox.reserve(taken.as_slice().len())?;
+    reserve(inbox, taken.as_slice().len())?;
     append(
         trace,
         Step {

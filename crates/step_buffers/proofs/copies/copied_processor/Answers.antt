@@ -9,6 +9,7 @@ returns c = λ config steps p is. IsProcessor-alike config steps p c.args.proces
       last = refl;
       node = c.in_ok-copy.ensures;
       buffer = c.in_ok-from_slice.ensures.items ∙ c.deref.ensures.value;
-      inbox = c.in_ok-from_slice-2.ensures.items ∙ c.deref-2.ensures.value;
+      inbox = c.in_ok-copied_inbox.ensures.same;
+      entries = c.in_ok-copied_inbox.ensures.entries;
     })
     is

@@ -1,15 +1,34 @@
 use Rattle.std.proofs.Common.{true}
+use Rattle.step_buffers.proofs.KeptInboxes.{IsProcessor-moved}
 use Rattle.step_buffers.proofs.PostSteps.{IsProcessor-at}
-use Rattle.step_buffers.proofs.ReceivedProcessors.{IsWorld-received, IsWorld-kept}
+use Rattle.step_buffers.proofs.ReceivedProcessors.{IsWorld-received, IsWorld-kept, IsWorld-moved}
 use Rattle.step_buffers.proofs.receives.end_round.Goals as goal
+
+pub returns-in_err-gather-clause-world : goal.returns-in_err-gather-clause-world
+returns-in_err-gather-clause-world c =
+    IsWorld-moved c.args.trace.now c.args.letters.now.items c.args.processors.now.items c.args.p c.index_mut-receiver.result.now c.gather.new.inbox
+    c.requires.world c.requires.processor c.index_mut-receiver.ensures.value c.gather.ensures.same c.gather.ensures.entries
+
+pub returns-in_err-node-clause-world : goal.returns-in_err-node-clause-world
+returns-in_err-node-clause-world c =
+    IsWorld-moved c.args.trace.now c.args.letters.now.items c.args.processors.now.items c.args.p c.index_mut-receiver.result.now c.gather.new.inbox
+    c.requires.world c.requires.processor c.index_mut-receiver.ensures.value c.gather.ensures.same c.gather.ensures.entries
 
 pub computed-requires-clause-receiver : goal.computed-requires-clause-receiver
 computed-requires-clause-receiver c =
-    IsProcessor-at c.args.trace.now.config c.args.trace.now.steps c.args.processors.now.items c.args.p c.index_mut-receiver.result.now c.requires.world.processors c.requires.processor c.index_mut-receiver.ensures.value
+    let config = c.args.trace.now.config in
+    let steps = c.args.trace.now.steps in
+    let receiver = c.index_mut-receiver.result.now in
+    let is = IsProcessor-at config steps c.args.processors.now.items c.args.p receiver c.requires.world.processors c.requires.processor c.index_mut-receiver.ensures.value in
+    IsProcessor-moved config steps c.args.p receiver c.gather.new.inbox c.gather.ensures.same c.gather.ensures.entries is
 
 pub settle_ended-requires-clause-receiver : goal.settle_ended-requires-clause-receiver
 settle_ended-requires-clause-receiver c =
-    IsProcessor-at c.args.trace.now.config c.args.trace.now.steps c.args.processors.now.items c.args.p c.index_mut-receiver.result.now c.requires.world.processors c.requires.processor c.index_mut-receiver.ensures.value
+    let config = c.args.trace.now.config in
+    let steps = c.args.trace.now.steps in
+    let receiver = c.index_mut-receiver.result.now in
+    let is = IsProcessor-at config steps c.args.processors.now.items c.args.p receiver c.requires.world.processors c.requires.processor c.index_mut-receiver.ensures.value in
+    IsProcessor-moved config steps c.args.p receiver c.gather.new.inbox c.gather.ensures.same c.gather.ensures.entries is
 
 pub returns-in_err-settle_ended-clause-world : goal.returns-in_err-settle_ended-clause-world
 returns-in_err-settle_ended-clause-world c =

@@ -1,12 +1,14 @@
-use Rattle.std.proofs.Common.{subst, ◌≡◌, ◌+◌, ◌∙◌, ◌++◌, ◌∷◌, [], filter, true, refl, sym, ap, arith}
-use Rattle.std.specs.Prelude.{Contains, nat_le, not}
+use Rattle.std.proofs.Common.{subst, heap_items, ◌≡◌, ◌<◌, ◌≤◌, ◌+◌, ◌∙◌, ◌++◌, ◌∷◌, [], filter, true, refl, sym, ap, arith}
+use Rattle.std.specs.Prelude.{All, Contains, not}
+use Rattle.std.proofs.lemmas.List.Elements.{All-weaker, Contains-append_left}
 use Rattle.step_trace.specs.declared.steps.Act.TheVariants.{Receive}
 use Rattle.step_trace.specs.declared.steps.Step.{Step}
 use Rattle.step_trace.proofs.Refusals.{Fits-from_none}
 use Rattle.lock_phases.specs.Nodes.{State}
 use Rattle.step_buffers.specs.HeardTables.{passed}
 use Rattle.step_buffers.specs.Runs.{destination_after}
-use Rattle.step_buffers.specs.Letters.{round_of}
+use Rattle.step_buffers.specs.InboxRounds.{Entry, ids_of}
+use Rattle.step_buffers.specs.Inboxes.{kept_ids}
 use Rattle.step_buffers.specs.Worlds.{AreLetters}
 use Rattle.step_buffers.specs.Moves.{is_in}
 use Rattle.step_buffers.proofs.RunPrefixes.{IsRun-push}
@@ -15,14 +17,15 @@ use Rattle.step_buffers.proofs.RoundEnds.{next_send-ended}
 use Rattle.step_buffers.proofs.LetterSteps.{AreLetters-received}
 use Rattle.step_buffers.proofs.ReleasedLetters.{AreLetters-released}
 use Rattle.step_buffers.proofs.BufferSteps.{buffer-received}
-use Rattle.step_buffers.proofs.TakenSteps.{taken-sent_after, inbox-sent_after, inbox-taken, tested-these}
+use Rattle.step_buffers.proofs.TakenSteps.{taken-sent_after, inbox-sent_after}
+use Rattle.step_buffers.proofs.KeptInboxes.{IsInbox-same, IsInbox-ended}
 use Rattle.step_buffers.proofs.receives.settle_ended.Goals as goal
 
 pub returns-in_err-push_receive-clause-receiver : goal.returns-in_err-push_receive-clause-receiver
 returns-in_err-push_receive-clause-receiver c =
     let is = c.requires.receiver in
     rw c.in_err-push_receive.ensures.err
-    (record { round = is.round; node = is.node; last = is.last; next = is.next; buffer = is.buffer; inbox = λ s. rw c.in_err-push_receive.ensures.inbox (is.inbox s) })
+    (record { round = is.round; node = is.node; last = is.last; next = is.next; buffer = is.buffer; inbox = IsInbox-same c.args.trace.now.steps c.args.p c.args.receiver.now.inbox c.push_receive.new.inbox c.in_err-push_receive.ensures.near c.in_err-push_receive.ensures.later is.inbox })
 
 pub take_in-requires-clause-rising : goal.take_in-requires-clause-rising
 take_in-requires-clause-rising c =
@@ -49,7 +52,8 @@ returns-clause-letters c =
     let more = passed-ends steps x refl in
     let now : round ≡ passed (steps ++ x ∷ []) p + 1 = omega arith in
     let second = AreLetters-released config (steps ++ x ∷ []) p round c.deref.result.now c.push_reserved.new.self.items c.release.new.letters.items first now
-    (λ s d. inbox-sent_after steps x p s c.args.receiver.now.inbox.items is.inbox (subst (λ xs. Contains xs s) (c.deref.ensures.value ∙ c.in_ok-push_receive.ensures.inbox) d))
+    (λ s d. inbox-sent_after steps x p s (kept_ids c.args.receiver.now.inbox) is.inbox.ids
+    (Contains-append_left c.args.receiver.now.inbox.near.items (ids_of (heap_items c.args.receiver.now.inbox.later)) s (subst (λ xs. Contains xs s) (c.deref.ensures.value ∙ c.in_ok-push_receive.ensures.near) d)))
     c.release.ensures.places c.release.ensures.left in
     rw (c.in_ok-push_receive.ensures.config, c.in_ok-push_receive.ensures.appended)
     (AreLetters-released config (steps ++ x ∷ []) p round c.as_slice.result.now c.release.new.letters.items c.release-2.new.letters.items second now
@@ -62,7 +66,7 @@ returns-clause-receiver c =
     let steps = c.args.trace.now.steps in
     let p = c.args.p in
     let ids = c.args.taken.now in
-    let old = c.args.receiver.now.inbox.items in
+    let old = c.push_receive.new.inbox in
     let letters = c.release-2.new.letters.items in
     let are = rw (c.in_ok-push_receive.ensures.config, c.in_ok-push_receive.ensures.appended) at (returns-clause-letters c) in
     let x : Step = record { proc = p; act = Receive true ids } in
@@ -72,8 +76,9 @@ returns-clause-receiver c =
     let more = passed-ends steps x refl in
     let now : round ≡ passed (steps ++ x ∷ []) p + 1 = omega arith in
     let waiting : c.take_in.new.receiver.buffer.items ≡ filter (λ s. not (is_in ids s)) c.args.receiver.now.buffer.items = c.take_in.ensures.buffer ∙ rw c.as_slice-2.ensures refl in
-    let inbox : c.drop_past.new.inbox.items ≡ filter (λ i. nat_le round (round_of letters i)) (old ++ filter (λ i. nat_le round (round_of letters i)) ids) =
-    c.drop_past.ensures ∙ rw (c.take_in.ensures.inbox, c.in_ok-push_receive.ensures.inbox, c.as_slice-2.ensures, c.deref-2.ensures.value, c.deref-3.ensures.value) refl in
+    let kept = IsInbox-same steps p c.args.receiver.now.inbox old c.in_ok-push_receive.ensures.near c.in_ok-push_receive.ensures.later is.inbox in
+    let ahead : All (λ (e : Entry). round ≤ e.0.0) (heap_items old.later) =
+    rw c.in_ok-push_receive.ensures.later (All-weaker (λ (e : Entry). c.args.receiver.now.round < e.0.0) (λ (e : Entry). round ≤ e.0.0) (λ e l. omega arith) (heap_items c.args.receiver.now.inbox.later) c.requires.gathered) in
     rw (c.in_ok-push_receive.ensures.config, c.in_ok-push_receive.ensures.appended) (record {
       round = now;
       node = c.requires.node;
@@ -82,6 +87,8 @@ returns-clause-receiver c =
           ∙ ap (λ (s : State). destination_after config s p (passed (steps ++ x ∷ []) p + 1) 0) (sym c.requires.node)
           ∙ ap (λ r. destination_after config c.args.node p r 0) (sym now);
       buffer = waiting ∙ ap (filter (λ s. not (is_in ids s))) is.buffer ∙ sym (buffer-received config steps p p true ids c.requires.run.well_formed);
-      inbox = λ s. rw inbox (inbox-taken config steps p s round true ids old _ letters c.in_ok-push_receive.ensures.well_formed are is.inbox now
-          (tested-these (λ i. nat_le round (round_of letters i)) old ids s));
+      inbox = IsInbox-ended config steps p round ids old c.take_in.new.receiver.inbox _ letters c.in_ok-push_receive.ensures.well_formed are now kept ahead
+          (rw (c.as_slice-2.ensures, c.deref-2.ensures.value) at c.take_in.ensures.inbox)
+          (rw c.deref-2.ensures.value at c.take_in.ensures.entries)
+          (c.drop_past.ensures ∙ rw c.deref-3.ensures.value refl) refl;
     })

@@ -1,10 +1,9 @@
 use Rattle.std.proofs.Common.{subst, ◌≡◌, ◌+◌, ◌∙◌, ◌++◌, ◌∷◌, [], filter, false, ◌==◌, refl, sym, ap}
-use Rattle.std.specs.Prelude.{Contains, nat_le, not}
+use Rattle.std.specs.Prelude.{Contains, not}
 use Rattle.step_trace.specs.declared.steps.Act.TheVariants.{Receive}
 use Rattle.step_trace.specs.declared.steps.Step.{Step}
 use Rattle.step_trace.proofs.Refusals.{Fits-from_none}
 use Rattle.step_buffers.specs.HeardTables.{passed}
-use Rattle.step_buffers.specs.Letters.{round_of}
 use Rattle.step_buffers.specs.Worlds.{AreLetters}
 use Rattle.step_buffers.specs.Moves.{is_in}
 use Rattle.step_buffers.proofs.RunPrefixes.{IsRun-push}
@@ -14,14 +13,15 @@ use Rattle.step_buffers.proofs.LetterSteps.{AreLetters-received}
 use Rattle.step_buffers.proofs.ReleasedLetters.{AreLetters-released}
 use Rattle.step_buffers.proofs.BufferSteps.{buffer-received}
 use Rattle.step_buffers.proofs.ReceivedProcessors.{next_send-took}
-use Rattle.step_buffers.proofs.TakenSteps.{taken-sent_after, inbox-taken, inbox-ahead, added-these}
+use Rattle.step_buffers.proofs.TakenSteps.{taken-sent_after}
+use Rattle.step_buffers.proofs.KeptInboxes.{IsInbox-same, IsInbox-took}
 use Rattle.step_buffers.proofs.receives.settle_taken.Goals as goal
 
 pub returns-in_err-push_receive-clause-receiver : goal.returns-in_err-push_receive-clause-receiver
 returns-in_err-push_receive-clause-receiver c =
     let is = c.requires.receiver in
     rw c.in_err-push_receive.ensures.err
-    (record { round = is.round; node = is.node; last = is.last; next = is.next; buffer = is.buffer; inbox = λ s. rw c.in_err-push_receive.ensures.inbox (is.inbox s) })
+    (record { round = is.round; node = is.node; last = is.last; next = is.next; buffer = is.buffer; inbox = IsInbox-same c.args.trace.now.steps c.args.p c.args.receiver.now.inbox c.push_receive.new.inbox c.in_err-push_receive.ensures.near c.in_err-push_receive.ensures.later is.inbox })
 
 pub take_in-requires-clause-rising : goal.take_in-requires-clause-rising
 take_in-requires-clause-rising c =
@@ -55,7 +55,7 @@ returns-clause-receiver c =
     let steps = c.args.trace.now.steps in
     let p = c.args.p in
     let ids = c.args.taken.now in
-    let old = c.args.receiver.now.inbox.items in
+    let old = c.push_receive.new.inbox in
     let letters = c.release.new.letters.items in
     let are = rw (c.in_ok-push_receive.ensures.config, c.in_ok-push_receive.ensures.appended) at (returns-clause-letters c) in
     let x : Step = record { proc = p; act = Receive false ids } in
@@ -63,14 +63,14 @@ returns-clause-receiver c =
     let round = c.args.receiver.now.round in
     let now : round ≡ passed (steps ++ x ∷ []) p + 1 = is.round ∙ ap (λ n. n + 1) (sym (passed-stays steps x p (and_false (p == p)))) in
     let waiting : c.take_in.new.receiver.buffer.items ≡ filter (λ s. not (is_in ids s)) c.args.receiver.now.buffer.items = c.take_in.ensures.buffer ∙ rw c.as_slice-2.ensures refl in
-    let inbox : c.take_in.new.receiver.inbox.items ≡ old ++ filter (λ i. nat_le round (round_of letters i)) ids =
-    c.take_in.ensures.inbox ∙ rw (c.in_ok-push_receive.ensures.inbox, c.as_slice-2.ensures, c.deref.ensures.value) refl in
+    let kept = IsInbox-same steps p c.args.receiver.now.inbox old c.in_ok-push_receive.ensures.near c.in_ok-push_receive.ensures.later is.inbox in
     rw (c.in_ok-push_receive.ensures.config, c.in_ok-push_receive.ensures.appended) (record {
       round = c.take_in.ensures.round ∙ now;
       node = c.take_in.ensures.node ∙ is.node ∙ sym (node_at-stays config steps x p c.requires.run.well_formed (and_false (p == p)));
       last = rw c.take_in.ensures.last is.last;
       next = next_send-took config steps p ids c.requires.run.well_formed ∙ is.next ∙ rw (c.take_in.ensures.round, c.take_in.ensures.last, c.take_in.ensures.node) refl;
       buffer = waiting ∙ ap (filter (λ s. not (is_in ids s))) is.buffer ∙ sym (buffer-received config steps p p false ids c.requires.run.well_formed);
-      inbox = λ s. rw inbox (inbox-taken config steps p s round false ids old _ letters c.in_ok-push_receive.ensures.well_formed are is.inbox now
-          (added-these (λ i. nat_le round (round_of letters i)) old ids s (inbox-ahead config steps x p s round old letters are is.inbox now is.round)));
+      inbox = IsInbox-took config steps p round ids old c.take_in.new.receiver.inbox letters c.in_ok-push_receive.ensures.well_formed are now is.round kept
+          (rw (c.as_slice-2.ensures, c.deref.ensures.value) at c.take_in.ensures.inbox)
+          (rw c.deref.ensures.value at c.take_in.ensures.entries);
     })

@@ -1,0 +1,78 @@
+use Rattle.std.proofs.Common.{ℕ, Bool, List, ◌≡◌, ◌++◌, ◌∷◌, [], true, false, filter, take, get_or, inl, inr, sym, subst, ap, ◌∙◌, arith, append_assoc, append-nil, cond}
+use Rattle.std.specs.Prelude.{nat_le}
+use Rattle.std.specs.List.Sorted.{IsPermutation}
+use Rattle.std.proofs.lemmas.Bool.{le-leb, lt-leb}
+use Rattle.std.proofs.lemmas.List.{take_more}
+use Rattle.std.proofs.lemmas.List.Elements.{filter-append}
+use Rattle.std.proofs.lemmas.List.Sorted.{IsPermutation-push_more}
+use Rattle.step_buffers.specs.Letters.{round_of}
+use Rattle.step_buffers.specs.Inboxes.{kept_ids}
+use Rattle.step_buffers.proofs.round_inboxes.keep_ahead.Goals.{then-round-sent, else-round-sent}
+use Rattle.step_buffers.proofs.round_inboxes.keep_ahead.Goals as goal
+
+-- one id more, which passes the test
+kept-more : (p : ℕ → Bool) (old now new ids : List ℕ) (id : ℕ) → p id ≡ true → IsPermutation (old ++ filter p ids) now → IsPermutation (id ∷ now) new
+    → IsPermutation (old ++ filter p (ids ++ id ∷ [])) new
+kept-more p old now new ids id t h k =
+    let more : filter p (ids ++ id ∷ []) ≡ filter p ids ++ id ∷ [] = filter-append p ids (id ∷ []) ∙ ap (λ b. filter p ids ++ cond b (id ∷ []) []) t in
+    let all : (old ++ filter p ids) ++ id ∷ [] ≡ old ++ filter p (ids ++ id ∷ []) = append_assoc old (filter p ids) (id ∷ []) ∙ ap (λ xs. old ++ xs) (sym more) in
+    subst (λ xs. IsPermutation xs new) all (IsPermutation-push_more (old ++ filter p ids) now new id h k)
+
+-- one id more, which doesn't
+passed-over : (p : ℕ → Bool) (old now ids : List ℕ) (id : ℕ) → p id ≡ false → IsPermutation (old ++ filter p ids) now → IsPermutation (old ++ filter p (ids ++ id ∷ [])) now
+passed-over p old now ids id t h =
+    let more : filter p (ids ++ id ∷ []) ≡ filter p ids = filter-append p ids (id ∷ []) ∙ ap (λ b. filter p ids ++ cond b (id ∷ []) []) t ∙ append-nil (filter p ids) in
+    subst (λ xs. IsPermutation (old ++ xs) now) (sym more) h
+
+pub loop-id-preserved : goal.loop-id-preserved
+loop-id-preserved c =
+    let ids = c.args.ids.now in
+    let i = c.loop-id.id-index in
+    let id = get_or ids i 0 in
+    let letters = c.args.letters.now in
+    let round = c.args.round in
+    let test : ℕ → Bool = λ s. nat_le round (round_of letters s) in
+    let old = kept_ids c.args.inbox.now in
+    let now = kept_ids c.loop-id.inbox in
+    let is = c.loop-id.invariant in
+    let sent = c.round_of-sent.ensures in
+    let more = take_more ids i 0 c.loop-id-test.true in
+    let long_near = is.2 in
+    let room_near = is.3 in
+    let long_later = is.4 in
+    let room_later = is.5 in
+    elim c.if-round-sent.branch [
+      | then-round-sent w ↦
+          let new = kept_ids w.keep.new.inbox in
+          let known = w.if-round-sent.true in
+          let t : test id ≡ true = le-leb round (round_of letters id) (omega arith) in
+          let near = w.keep.ensures.length_near in
+          let later = w.keep.ensures.length_later in
+          let wide_near = w.keep.ensures.room_near in
+          let wide_later = w.keep.ensures.room_later in
+          rw w.inbox-is (
+            subst (λ xs. IsPermutation (old ++ filter test xs) new) (sym more) (kept-more test old now new (take i ids) id t is.0 w.keep.ensures.kept),
+            λ e d. elim (w.keep.ensures.entries e d) [
+              | inl before ↦ is.1 e before
+              | inr same ↦
+                  let round_is : e.0.0 ≡ round_of letters id = ap (λ (x : ℕ × ℕ). x.0) same ∙ sent in
+                  let id_is : e.0.1 ≡ id = ap (λ (x : ℕ × ℕ). x.1) same in
+                  inr (omega arith, round_is ∙ ap (round_of letters) (sym id_is))
+            ],
+            (omega arith),
+            (omega arith),
+            (omega arith),
+            (omega arith),
+          )
+      | else-round-sent w ↦
+          let known = w.if-round-sent.false in
+          let t : test id ≡ false = lt-leb round (round_of letters id) (omega arith) in
+          rw w.inbox-is (
+            subst (λ xs. IsPermutation (old ++ filter test xs) now) (sym more) (passed-over test old now (take i ids) id t is.0),
+            is.1,
+            (omega arith),
+            is.3,
+            (omega arith),
+            is.5,
+          )
+    ]
