@@ -20,21 +20,21 @@ def head(chance, version, size):
     return [f"dls-trace,{version},{size},{chance.randint(0, (size - 1) // 2)}", ",".join(["init", *values])]
 
 
-def random_trace(chance, limit):
-    """Returns the lines of a trace of version 1 and how many processors it is of."""
+def random_trace(chance, limit, scale=1):
+    """Returns the lines of a trace of version 1 and how many processors it is of. The scale makes it longer."""
     size = random_size(chance, limit)
     lines = head(chance, 1, size)
     waiting = {processor: [] for processor in range(1, size + 1)}
     weights = [chance.choice([1, 1, 2, 6]) for _ in waiting]
     sends, takes = chance.choice([0.3, 0.5, 0.7]), chance.choice([0.2, 0.5, 0.9])
-    length = chance.choice([0, 1, 2, 3, *range(4, 15), *range(4, 15), 30])
+    length = scale * chance.choice([0, 1, 2, 3, *range(4, 15), *range(4, 15), 30])
     for no in range(1, length + 1):
         processor = chance.choices([*waiting], weights)[0]
         lines.append(f"{no},{processor},{random_act(chance, no, processor, waiting, weights, sends, takes)}")
     return [*lines, f"end,{length}"], size
 
 
-def random_ticks(chance, limit):
+def random_ticks(chance, limit, scale=1):
     """Returns the lines of a trace of version 2 and how many processors it is of: ticks of many steps, and idle ones."""
     size = random_size(chance, limit)
     lines = head(chance, 2, size)
@@ -42,8 +42,8 @@ def random_ticks(chance, limit):
     weights = [chance.choice([1, 1, 2, 6]) for _ in waiting]
     sends, takes = chance.choice([0.3, 0.5, 0.7]), chance.choice([0.2, 0.5, 0.9])
     idle, busy = chance.choice([0, 0.1, 0.4, 0.9]), chance.choice([0.1, 0.3, 0.6, 1])
-    steps_limit = chance.choice([0, 1, 2, *range(3, 15), *range(3, 15), 40])
-    no, last = 0, chance.choice([0, 1, 2, 3, *range(4, 15), *range(4, 15), 40, 150])
+    steps_limit = scale * chance.choice([0, 1, 2, *range(3, 15), *range(3, 15), 40])
+    no, last = 0, scale * chance.choice([0, 1, 2, 3, *range(4, 15), *range(4, 15), 40, 150])
     for tick in range(1, last + 1):
         if chance.random() < idle:
             continue
