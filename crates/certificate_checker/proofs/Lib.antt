@@ -6,6 +6,8 @@ pub mod RowPlaces
 pub mod Stretches
 pub mod ShownBounds
 pub mod Soundness
+pub mod FrontRows
 pub mod Completeness
+pub mod Exactness
 pub mod OneVerdict
 pub mod VerdictLaws

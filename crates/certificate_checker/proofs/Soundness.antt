@@ -38,7 +38,7 @@ AreInOrder-unopposed set trace rows nothing = record {
   some (r ∷ rest) n l = (r, refl)
 
 -- the bounds of a row hold from its beginning, and its witnesses show that no smaller positive ones do
-record IsSupported (set : ℕ) (trace : Recorded) (rows : List Row) (k : ℕ) (r : Row) : Type 0 where
+pub record IsSupported (set : ℕ) (trace : Recorded) (rows : List Row) (k : ℕ) (r : Row) : Type 0 where
   pub miss : ShowsDelta set trace (after_stretch rows trace.last k) r.delta r.miss
   pub gap : ShowsPhi set trace (after_stretch rows trace.last k) r.phi r.gap
   pub delta : DeltaHolds set trace r.gst r.delta
@@ -53,7 +53,7 @@ begins_late set trace rows (suc (suc k)) r order here =
     let l = later_above rows (suc k) (suc (suc k)) before.0 r order.rising before.1 here (omega arith) in
     omega (arith, l)
 
-IsSupported-unopposed : (set : ℕ) (trace : Recorded) (rows : List Row) (k : ℕ) (r : Row) → IsUnopposed set trace rows → row_at rows k ≡ Some r → IsSupported set trace rows k r
+pub IsSupported-unopposed : (set : ℕ) (trace : Recorded) (rows : List Row) (k : ℕ) (r : Row) → IsUnopposed set trace rows → row_at rows k ≡ Some r → IsSupported set trace rows k r
 IsSupported-unopposed set trace rows k r nothing here = record {
   miss = miss;
   gap = gap;

@@ -64,3 +64,8 @@ pub record Certifies (set : ℕ) (trace : Recorded) (rows : List Row) : Type 0 w
   pub complete : (t : Triple) → IsOnFront set trace t → Contains (map triple_of rows) t
   pub miss : (k g d : ℕ) (r : Row) → Serves rows trace.last k r g → 1 ≤ d → d < r.delta → (m : Miss) × (r.miss ≡ Some m) × MissRefutes set trace g d m
   pub gap : (k g f : ℕ) (r : Row) → Serves rows trace.last k r g → 1 ≤ f → f < r.phi → (w : Gap) × (r.gap ≡ Some w) × GapRefutes set trace g f w
+
+-- No row names a witness beside the bound 1, below which no positive bound is left to refute.
+pub record NamesNothingBesideOne (rows : List Row) : Type 0 where
+  pub miss : (r : Row) → Contains rows r → r.delta ≡ 1 → r.miss ≡ None
+  pub gap : (r : Row) → Contains rows r → r.phi ≡ 1 → r.gap ≡ None
