@@ -59,18 +59,20 @@ impl Pass {
         ensures levels { OnOk result (AreLevels self.old.set trace.now builder.new) }
     {
         let len = trace.len() as u64;
-        self.ticks_back(trace, len, trace.last_tick(), builder)?;
+        let mut tick = self.ticks_back(trace, len, trace.last_tick(), builder)?;
         for no in (1..len + 1).rev() {
-            self.step_back(trace, no);
-            self.ticks_back(trace, no - 1, trace.tick(no), builder)?;
+            self.step_back(trace, no, tick);
+            tick = self.ticks_back(trace, no - 1, tick, builder)?;
         }
         Ok(())
     }
 
-    // Goes back over a step.
-    fn step_back(&mut self, trace: &Trace, no: u64)
+    // Goes back over a step, which is in this tick.
+    fn step_back(&mut self, trace: &Trace, no: u64, tick: u64)
         requires low { 1 ≤ no }
         requires high { no ≤ length trace.now.steps }
+        requires tick { tick ≡ tick_of trace.now no }
+        requires timed { IsTimed trace.now }
         requires known { KnowsStepsAfter self.old.set trace.now no self.old }
         ensures known { KnowsStepsAfter self.old.set trace.now (no - 1) self.new }
         ensures falling { StandsBefore self.new.level self.old.level }
@@ -78,31 +80,33 @@ impl Pass {
         ensures gap { self.new.level.gap ≡ self.old.level.gap }
     {
         let missed = self.receives.step_back(trace, self.set, no);
-        self.next_steps.step_back(trace, self.set, no);
-        let long = tick_of(trace, missed).saturating_sub(trace.tick(no));
+        self.next_steps.step_back(trace, self.set, no, tick);
+        let long = tick_of(trace, missed).saturating_sub(tick);
         note_miss(&mut self.level, Miss { sent: no, missed }, long);
     }
 
     // Goes back over the ticks from `high` to the one after that of step `done`, between which there is no
-    // step, and puts their levels before those so far.
+    // step, and puts their levels before those so far. Gives the tick of that step.
     fn ticks_back(
         &mut self,
         trace: &Trace,
         done: u64,
         high: u64,
         builder: &mut StairBuilder,
-    ) -> Result<(), AllocError>
+    ) -> Result<u64, AllocError>
         requires done { done ≤ length trace.now.steps }
         requires timed { IsTimed trace.now }
         requires within { IsWithin self.old.set trace.now.config.n }
         requires idle { AreIdleUpTo trace.now done high }
         requires known { KnowsTicksFrom self.old.set trace.now done (high + 1) self.old builder.old }
         ensures known { OnOk result (KnowsTicksFrom self.old.set trace.now done (tick_of trace.now done + 1) self.new builder.new) }
+        ensures tick { IfOk result (λ tick. tick ≡ tick_of trace.now done) }
     {
-        for g in (tick_of(trace, done) + 1..high + 1).rev() {
+        let tick = tick_of(trace, done);
+        for g in (tick + 1..high + 1).rev() {
             builder.lower(self.tick_back(g))?;
         }
-        Ok(())
+        Ok(tick)
     }
 
     // The level of a tick whose steps were gone over.

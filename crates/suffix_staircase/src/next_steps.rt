@@ -3,6 +3,7 @@
 //! Processors are numbered from 1. The entry of number 0 is 0, so that each member comes later.
 
 ghost use Rattle.std.specs.Prelude.{◌≡◌, ◌+◌, ◌-◌, ◌<◌, ◌≤◌, length, IfOk, slice_index};
+ghost use Rattle.step_trace.specs.Ticks.{tick_of, IsTimed};
 ghost use Rattle.suffix_staircase.specs.NextSteps.{AreNextTicks, IsLatest, KnowsNextSteps};
 
 use crate::receives::step_of;
@@ -32,15 +33,17 @@ impl NextSteps {
         })
     }
 
-    /// Goes back over a step.
-    pub(crate) fn step_back(&mut self, trace: &Trace, set: ProcSet, no: u64)
+    /// Goes back over a step, which is in this tick.
+    pub(crate) fn step_back(&mut self, trace: &Trace, set: ProcSet, no: u64, tick: u64)
         requires low { 1 ≤ no }
         requires high { no ≤ length trace.now.steps }
+        requires tick { tick ≡ tick_of trace.now no }
+        requires timed { IsTimed trace.now }
         requires known { KnowsNextSteps set trace.now no self.old }
         ensures { KnowsNextSteps set trace.now (no - 1) self.new }
     {
         let proc = step_of(trace, no).proc;
-        self.by_processor[proc as usize] = trace.tick(no);
+        self.by_processor[proc as usize] = tick;
         // Another processor's next step came no later than the latest, and now comes earlier.
         if proc == self.latest {
             self.latest = latest_member(&self.by_processor, set);

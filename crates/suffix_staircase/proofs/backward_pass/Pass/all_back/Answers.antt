@@ -18,7 +18,8 @@ loop-no-init c =
     record {
       start = omega arith;
       end = omega (arith, len);
-      known = rw last c.in_ok-ticks_back.ensures.known;
+      tick = rw last c.in_ok-tick.ensures.tick;
+      known = rw last c.in_ok-tick.ensures.known;
     }
 
 pub step_back-requires-clause-known : goal.step_back-requires-clause-known
@@ -33,7 +34,7 @@ pub ticks_back-requires-in-loop-no-clause-idle : goal.ticks_back-requires-in-loo
 ticks_back-requires-in-loop-no-clause-idle c =
     let below = c.loop-no-test.true in
     let end = c.loop-no.invariant.end in
-    rw c.tick.ensures.value (AreIdleUpTo-step c.args.trace.now c.tick.ensures.timed (c.loop-no.no - 1) (omega (arith, below)) (omega (arith, end)))
+    rw c.loop-no.invariant.tick (AreIdleUpTo-step c.args.trace.now c.last_tick.ensures.timed (c.loop-no.no - 1) (omega (arith, below)) (omega (arith, end)))
 
 pub ticks_back-requires-in-loop-no-clause-known : goal.ticks_back-requires-in-loop-no-clause-known
 ticks_back-requires-in-loop-no-clause-known c =
@@ -42,7 +43,7 @@ ticks_back-requires-in-loop-no-clause-known c =
     let inv = c.loop-no.invariant.known in
     let back = c.step_back.ensures in
     let known = subst (λ (s : ℕ). KnowsTicksFrom s t k (tick_of t k + 1) c.loop-no.self c.loop-no.builder) (sym inv.steps.members) inv in
-    rw c.tick.ensures.value
+    rw c.loop-no.invariant.tick
     (subst (λ (s : ℕ). KnowsTicksFrom s t (k - 1) (tick_of t k + 1) c.step_back.new.self c.loop-no.builder) (sym back.known.members)
     (KnowsTicksFrom-step c.loop-no.self.set t k (tick_of t k + 1) c.loop-no.self c.step_back.new.self c.loop-no.builder known back.known back.falling back.phi back.gap))
 
@@ -54,8 +55,9 @@ loop-no-preserved c =
     record {
       start = omega (arith, below);
       end = omega (arith, end);
+      tick = c.in_ok-tick-2.ensures.tick;
       known = subst (λ (s : ℕ). KnowsTicksFrom s c.args.trace.now k (tick_of c.args.trace.now k + 1) c.ticks_back-in-loop-no.new.self c.ticks_back-in-loop-no.new.builder)
-          (c.step_back.ensures.known.members ∙ c.loop-no.invariant.known.steps.members) c.in_ok-ticks_back-2.ensures.known;
+          (c.step_back.ensures.known.members ∙ c.loop-no.invariant.known.steps.members) c.in_ok-tick-2.ensures.known;
     }
 
 pub returns : goal.returns

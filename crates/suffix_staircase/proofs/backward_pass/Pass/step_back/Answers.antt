@@ -16,8 +16,8 @@ lowered c =
     let t = c.args.trace.now in
     let level = c.args.self.now.level in
     let missed = c.step_back-missed.result in
-    let last = IsLastMissOf-from_numbers c.args.self.now.set t (record { steps = c.step_back-missed.ensures.sound; time = c.tick.ensures.timed }) c.args.no missed c.step_back-missed.ensures.missed in
-    let long : c.saturating_sub-long.result ≡ tick_of t missed - tick_of t c.args.no = omega (arith, c.saturating_sub-long.ensures, c.tick_of.ensures.value, c.tick.ensures.value) in
+    let last = IsLastMissOf-from_numbers c.args.self.now.set t (record { steps = c.step_back-missed.ensures.sound; time = c.requires.timed }) c.args.no missed c.step_back-missed.ensures.missed in
+    let long : c.saturating_sub-long.result ≡ tick_of t missed - tick_of t c.args.no = omega (arith, c.saturating_sub-long.ensures, c.tick_of.ensures.value, c.requires.tick) in
     let is = c.note_miss.ensures ∙ ap (λ (n : ℕ). with_miss level (record { sent = c.args.no; missed = missed }) n) long in
     subst (λ (l : Level). MissesLowered c.args.self.now.set t (c.args.no - 1) level l) (sym is)
     (MissesLowered-with_miss c.args.self.now.set t c.args.no missed level c.requires.low c.requires.known.misses last)

@@ -18,7 +18,7 @@ lowered : (c : After-tick_back) → TickLowered c.args.self.now.set c.args.trace
 lowered c =
     let g = c.loop-g.g - 1 in
     let below = c.loop-g-test.true in
-    let start = c.tick_of-g-start.ensures.value in
+    let start = c.tick_of-tick.ensures.value in
     let high = c.loop-g.invariant.high in
     let next : c.loop-g.g ≡ g + 1 = omega (arith, below) in
     TickLowered-with_gap c.args.self.now.set c.args.trace.now c.args.done c.args.high g c.loop-g.self c.tick_back.new.self c.loop-g.builder
@@ -39,7 +39,7 @@ lower-requires-clause-falling c = rw c.tick_back.ensures.kept at (lowered c).fal
 pub loop-g-preserved : goal.loop-g-preserved
 loop-g-preserved c =
     let below = c.loop-g-test.true in
-    let start = c.tick_of-g-start.ensures.value in
+    let start = c.tick_of-tick.ensures.value in
     let high = c.loop-g.invariant.high in
     record {
       low = omega (arith, below, start);
@@ -51,7 +51,7 @@ loop-g-preserved c =
 pub returns : goal.returns
 returns c =
     let low = c.loop-g.invariant.low in
-    let start = c.tick_of-g-start.ensures.value in
+    let start = c.tick_of-tick.ensures.value in
     let end = c.loop-g-test.false in
     let first : c.loop-g.g ≡ tick_of c.args.trace.now c.args.done + 1 = omega (arith, low, start, end) in
-    record { known = rw first at c.loop-g.invariant.known }
+    record { known = rw first at c.loop-g.invariant.known; tick = c.tick_of-tick.ensures.value }
