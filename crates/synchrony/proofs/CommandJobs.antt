@@ -1,5 +1,5 @@
 -- What the matches and the faults of a command line say of its job and of its refusals.
-use Rattle.std.proofs.Common.{◌≡◌, ◌≢◌, ◌∙◌, ◌⊎◌, inl, inr, IfSome, ap, sym, subst, refl, false, true, List, [], Option, Some, None, Result, Ok, Err, IfOk, IfErr, MatchResult, option_map, codes, string_bytes}
+use Rattle.std.proofs.Common.{ℕ, ◌≡◌, ◌≢◌, ◌∙◌, ◌⊎◌, inl, inr, IfSome, ap, sym, subst, refl, false, true, List, [], Option, Some, None, Result, Ok, Err, IfOk, IfErr, MatchResult, option_map, codes, string_bytes}
 use Rattle.std.specs.Borrow.{Bor}
 use Rattle.std.specs.Str.{bytes_eq}
 use Rattle.clap.proofs.OnLiterals.{clap_on_literals}
@@ -16,12 +16,12 @@ use Rattle.synchrony.specs.declared.command_line.Job.{Job}
 use Rattle.synchrony.specs.declared.command_line.Job.TheVariants as job
 use Rattle.synchrony.specs.declared.faults.Fault.{Fault}
 use Rattle.synchrony.specs.declared.faults.Fault.TheVariants as fault
-use Rattle.synchrony.specs.Commands.{AsksForReplay, AsksForReport, AsksForUpgrade, NamesFile, NamesReplay, NamesReport, NamesUpgrade, is_flag, program, replay_line, report_line, upgrade_line}
-use Rattle.synchrony.specs.Jobs.{IsHelpFor, IsJobIn, IsJobOf, IsLineFault, IsListFault, IsMemory, IsNoList, IsRefusalFor, IsRefusalIn, IsRefusalOf, IsReplay, IsReport, IsUpgrade}
 use Rattle.trace_text.proofs.Numbers.{bytes_eq-same}
+use Rattle.synchrony.specs.Commands.{AreRunRows, AsksForReplay, AsksForReport, AsksForUpgrade, NamesFile, NamesReplay, NamesReport, NamesRun, NamesUpgrade, is_flag, program, replay_line, report_line, upgrade_line}
+use Rattle.synchrony.specs.Jobs.{IsHelpFor, IsJobIn, IsJobOf, IsLineFault, IsListFault, IsMemory, IsNoList, IsRefusalFor, IsRefusalIn, IsRefusalOf, IsReplay, IsReport, IsUpgrade}
 use Rattle.synchrony.proofs.CommandLines.{asks_for_replay, asks_for_report, asks_for_upgrade, replay_faultless, report_faultless, upgrade_faultless}
 
-same_some : {A : Type 0} (a b : A) → Some a ≡ Some b → a ≡ b
+pub same_some : {A : Type 0} (a b : A) → Some a ≡ Some b → a ≡ b
 same_some a b e = cc
 
 no_some : {A : Type 0} (o : Option A) (a : A) → o ≡ None → o ≡ Some a → ⊥
@@ -92,6 +92,15 @@ no_report_replays sub f l g a b = two_commands sub (codes "report") (codes "repl
 no_report_upgrades : (sub : Option (Text × List Row)) (f l g : Text) → NamesReport sub f l → NamesUpgrade sub g → ⊥
 no_report_upgrades sub f l g a b = two_commands sub (codes "report") (codes "upgrade") a.rows b.rows a.named b.named refl
 
+no_report_runs : (sub : Option (Text × List Row)) (f l : Text) (n t : ℕ) (values : Text) (patience steps : ℕ) → NamesReport sub f l → NamesRun sub n t values patience steps → ⊥
+no_report_runs sub f l n t values patience steps a b = two_commands sub (codes "report") (codes "run") a.rows b.rows a.named b.named refl
+
+no_replay_runs : (sub : Option (Text × List Row)) (f : Text) (n t : ℕ) (values : Text) (patience steps : ℕ) → NamesReplay sub f → NamesRun sub n t values patience steps → ⊥
+no_replay_runs sub f n t values patience steps a b = two_commands sub (codes "replay") (codes "run") a.rows b.rows a.named b.named refl
+
+no_upgrade_runs : (sub : Option (Text × List Row)) (f : Text) (n t : ℕ) (values : Text) (patience steps : ℕ) → NamesUpgrade sub f → NamesRun sub n t values patience steps → ⊥
+no_upgrade_runs sub f n t values patience steps a b = two_commands sub (codes "upgrade") (codes "run") a.rows b.rows a.named b.named refl
+
 no_replay_upgrades : (sub : Option (Text × List Row)) (f g : Text) → NamesReplay sub f → NamesUpgrade sub g → ⊥
 no_replay_upgrades sub f g a b = two_commands sub (codes "replay") (codes "upgrade") a.rows b.rows a.named b.named refl
 
@@ -102,16 +111,24 @@ file_found command m found None named in_rows = tt
 file_found command m found (Some file) named in_rows =
     record { rows = rows_of (found_of found); named = named; file_is = has_value found (codes "file") (Some file) file in_rows refl }
 
+-- where `run` is named, its rows have what it names
+pub run_in : (sub : Option (Text × List Row)) (rows : List Row) → sub ≡ Some (codes "run", rows) → (n t : ℕ) (values : Text) (patience steps : ℕ)
+    → NamesRun sub n t values patience steps → AreRunRows rows n t values patience steps
+run_in sub rows named n t values patience steps h =
+    let same = ap (λ (p : Text × List Row). p.1) (same_some (codes "run", h.rows) (codes "run", rows) (sym h.named ∙ named)) in
+    subst (λ rs. AreRunRows rs n t values patience steps) same h.has
+
 -- a refusal where no job is named
 pub nothing_named : (sub : Option (Text × List Row)) (w : Fault) → IsLineFault w → ((file list : Text) → ¬ NamesReport sub file list)
-    → ((file : Text) → ¬ NamesReplay sub file) → ((file : Text) → ¬ NamesUpgrade sub file) → IsRefusalIn sub w
-nothing_named sub (fault.Command text) h report replay upgrade = inr (record { no_report = report; no_replay = replay; no_upgrade = upgrade })
-nothing_named sub fault.Set h report replay upgrade = absurd h
-nothing_named sub (fault.Trace e) h report replay upgrade = absurd h
-nothing_named sub fault.Memory h report replay upgrade = absurd h
-nothing_named sub fault.Read h report replay upgrade = absurd h
-nothing_named sub (fault.Write n) h report replay upgrade = absurd h
-nothing_named sub (fault.NotARun n) h report replay upgrade = absurd h
+    → ((file : Text) → ¬ NamesReplay sub file) → ((n t : ℕ) (values : Text) (patience steps : ℕ) → ¬ NamesRun sub n t values patience steps)
+    → ((file : Text) → ¬ NamesUpgrade sub file) → IsRefusalIn sub w
+nothing_named sub (fault.Command text) h report replay run upgrade = inr (inr (record { no_report = report; no_replay = replay; no_run = run; no_upgrade = upgrade }))
+nothing_named sub fault.Set h report replay run upgrade = absurd h
+nothing_named sub (fault.Trace e) h report replay run upgrade = absurd h
+nothing_named sub fault.Memory h report replay run upgrade = absurd h
+nothing_named sub fault.Read h report replay run upgrade = absurd h
+nothing_named sub (fault.Write n) h report replay run upgrade = absurd h
+nothing_named sub (fault.NotARun n) h report replay run upgrade = absurd h
 
 -- the parse of the program's command line is known
 is_simple_program : is_simple program ≡ true
@@ -133,6 +150,7 @@ kinds_known a words error e h = subst (λ b. HasKind (fault_of b words) error) e
 pub job_of : (words : List Text) (sub : Option (Text × List Row)) → sub ≡ subcommand_of program words → (j : Job) → IsJobIn sub j → IsJobOf words j
 job_of words sub e (job.Report name set) h = subst (λ s. IsJobIn s (job.Report name set)) e h
 job_of words sub e (job.Replay name) h = subst (λ s. IsJobIn s (job.Replay name)) e h
+job_of words sub e (job.Run config patience steps) h = subst (λ s. IsJobIn s (job.Run config patience steps)) e h
 job_of words sub e (job.Upgrade name) h = subst (λ s. IsJobIn s (job.Upgrade name)) e h
 job_of words sub e (job.Help text) h = absurd h
 
@@ -155,6 +173,7 @@ among words kind other (inr h) = h
 pub help_of : (words : List Text) (kind : ErrorKind) → (kind ≡ OutOfMemory) ⊎ IsAmong kind (fault_of program words) → (j : Job) → IsHelpFor kind j → IsJobOf words j
 help_of words kind has (job.Report file set) h = absurd h
 help_of words kind has (job.Replay file) h = absurd h
+help_of words kind has (job.Run config patience steps) h = absurd h
 help_of words kind has (job.Upgrade file) h = absurd h
 help_of words kind has (job.Help text) h = record { kind = kind; among = among words kind h.0 has; help = h.1 }
 
@@ -178,6 +197,8 @@ line_job words file list none asks (job.Report name set) h =
     let same = one_file (subcommand_of program words) (string_bytes name) h.0 file list h.1 asks in
     (same.0, subst (λ l. IsSetIn l set) same.1 h.2)
 line_job words file list none asks (job.Replay name) h = absurd (no_report_replays (subcommand_of program words) file list (string_bytes name) asks h)
+line_job words file list none asks (job.Run config patience steps) h =
+    absurd (no_report_runs (subcommand_of program words) file list config.n config.t h.text patience steps asks h.named)
 line_job words file list none asks (job.Upgrade name) h = absurd (no_report_upgrades (subcommand_of program words) file list (string_bytes name) asks h)
 line_job words file list none asks (job.Help text) h = absurd (none_among h.kind (fault_of program words) none h.among)
 
@@ -186,7 +207,9 @@ line_refusal : (words : List Text) (file list : Text) → fault_of program words
 line_refusal words file list none asks (fault.Command text) (inl h) = absurd (none_among h.kind (fault_of program words) none h.among)
 line_refusal words file list none asks (fault.Command text) (inr (inl h)) =
     (h.told, subst IsNoList (one_file (subcommand_of program words) h.file h.list file list h.named asks).1 h.no_list)
-line_refusal words file list none asks (fault.Command text) (inr (inr h)) = absurd (h.no_report file list asks)
+line_refusal words file list none asks (fault.Command text) (inr (inr (inl h))) =
+    absurd (no_report_runs (subcommand_of program words) file list h.n h.t h.values h.patience h.steps asks h.named)
+line_refusal words file list none asks (fault.Command text) (inr (inr (inr h))) = absurd (h.no_report file list asks)
 line_refusal words file list none asks fault.Set h = h
 line_refusal words file list none asks (fault.Trace e) h = h
 line_refusal words file list none asks fault.Memory h = h
@@ -208,13 +231,17 @@ line_is words (Err w) _ h name file list line plain_file plain_list =
 replayed_job : (words : List Text) (file : Text) → fault_of program words ≡ [] → AsksForReplay words file → (j : Job) → IsJobOf words j → IsReplay file j
 replayed_job words file none asks (job.Report name set) h = absurd (no_report_replays (subcommand_of program words) (string_bytes name) h.0 file h.1 asks)
 replayed_job words file none asks (job.Replay name) h = one_file_of (codes "replay") (subcommand_of program words) (string_bytes name) file h asks
+replayed_job words file none asks (job.Run config patience steps) h =
+    absurd (no_replay_runs (subcommand_of program words) file config.n config.t h.text patience steps asks h.named)
 replayed_job words file none asks (job.Upgrade name) h = absurd (no_replay_upgrades (subcommand_of program words) file (string_bytes name) asks h)
 replayed_job words file none asks (job.Help text) h = absurd (none_among h.kind (fault_of program words) none h.among)
 
 replayed_refusal : (words : List Text) (file : Text) → fault_of program words ≡ [] → AsksForReplay words file → (w : Fault) → IsRefusalOf words w → IsMemory w
 replayed_refusal words file none asks (fault.Command text) (inl h) = absurd (none_among h.kind (fault_of program words) none h.among)
 replayed_refusal words file none asks (fault.Command text) (inr (inl h)) = absurd (no_report_replays (subcommand_of program words) h.file h.list file h.named asks)
-replayed_refusal words file none asks (fault.Command text) (inr (inr h)) = absurd (h.no_replay file asks)
+replayed_refusal words file none asks (fault.Command text) (inr (inr (inl h))) =
+    absurd (no_replay_runs (subcommand_of program words) file h.n h.t h.values h.patience h.steps asks h.named)
+replayed_refusal words file none asks (fault.Command text) (inr (inr (inr h))) = absurd (h.no_replay file asks)
 replayed_refusal words file none asks fault.Set h = h
 replayed_refusal words file none asks (fault.Trace e) h = h
 replayed_refusal words file none asks fault.Memory h = h
@@ -236,13 +263,17 @@ replay_is words (Err w) _ h name file line plain =
 upgraded_job : (words : List Text) (file : Text) → fault_of program words ≡ [] → AsksForUpgrade words file → (j : Job) → IsJobOf words j → IsUpgrade file j
 upgraded_job words file none asks (job.Report name set) h = absurd (no_report_upgrades (subcommand_of program words) (string_bytes name) h.0 file h.1 asks)
 upgraded_job words file none asks (job.Replay name) h = absurd (no_replay_upgrades (subcommand_of program words) (string_bytes name) file h asks)
+upgraded_job words file none asks (job.Run config patience steps) h =
+    absurd (no_upgrade_runs (subcommand_of program words) file config.n config.t h.text patience steps asks h.named)
 upgraded_job words file none asks (job.Upgrade name) h = one_file_of (codes "upgrade") (subcommand_of program words) (string_bytes name) file h asks
 upgraded_job words file none asks (job.Help text) h = absurd (none_among h.kind (fault_of program words) none h.among)
 
 upgraded_refusal : (words : List Text) (file : Text) → fault_of program words ≡ [] → AsksForUpgrade words file → (w : Fault) → IsRefusalOf words w → IsMemory w
 upgraded_refusal words file none asks (fault.Command text) (inl h) = absurd (none_among h.kind (fault_of program words) none h.among)
 upgraded_refusal words file none asks (fault.Command text) (inr (inl h)) = absurd (no_report_upgrades (subcommand_of program words) h.file h.list file h.named asks)
-upgraded_refusal words file none asks (fault.Command text) (inr (inr h)) = absurd (h.no_upgrade file asks)
+upgraded_refusal words file none asks (fault.Command text) (inr (inr (inl h))) =
+    absurd (no_upgrade_runs (subcommand_of program words) file h.n h.t h.values h.patience h.steps asks h.named)
+upgraded_refusal words file none asks (fault.Command text) (inr (inr (inr h))) = absurd (h.no_upgrade file asks)
 upgraded_refusal words file none asks fault.Set h = h
 upgraded_refusal words file none asks (fault.Trace e) h = h
 upgraded_refusal words file none asks fault.Memory h = h

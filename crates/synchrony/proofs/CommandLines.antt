@@ -76,13 +76,14 @@ second_shape (s ∷ more) = first_shape more
 abbrev replay : Shape
 replay = second_shape (built program).subs
 
-abbrev third_shape : List Shape → Shape
-third_shape [] = upgrade_app.top
-third_shape (s ∷ more) = second_shape more
+abbrev fourth_shape : List Shape → Shape
+fourth_shape [] = upgrade_app.top
+fourth_shape (s ∷ []) = upgrade_app.top
+fourth_shape (s ∷ _ ∷ more) = second_shape more
 
 -- `upgrade` likewise
 abbrev upgrade : Shape
-upgrade = third_shape (built program).subs
+upgrade = fourth_shape (built program).subs
 
 -- where the walk over the words after a command stands
 abbrev start : Walk

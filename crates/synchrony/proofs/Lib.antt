@@ -2,3 +2,5 @@ pub mod CommandJobs
 pub mod ReportFaults
 pub mod CommandLines
 pub mod UpgradeFaults
+pub mod ValueLists
+pub mod RunRows

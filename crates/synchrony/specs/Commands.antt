@@ -1,12 +1,16 @@
 -- What the program takes on its command line, and what words ask for, by the matches and the faults that
 -- the reader of command lines gives them.
-use Rattle.std.specs.Prelude.{◌≡◌, ◌⊎◌, Bool, false, true, ◌==◌, List, [], ◌∷◌, Option, Some, codes}
+use Rattle.std.specs.Prelude.{ℕ, ◌≡◌, ◌≤◌, ◌-◌, ◌^◌, ◌⊎◌, Bool, false, true, ◌==◌, List, [], ◌∷◌, Option, Some, codes}
+use Rattle.std.specs.Str.Parse.{IsNumeral, digits_value, without_leading_plus}
 use Rattle.clap.specs.Kinds.{IsAmong}
 use Rattle.clap.specs.Simple.{on_top}
 use Rattle.clap.specs.Words.{App, Row, Rule, Text, fault_of, first_of, new_app, new_rule, subcommand_of, with_rule, with_subcommand}
 use Rattle.clap.specs.declared.builder.ArgAction.TheVariants.{Set}
+use Rattle.clap.specs.declared.builder.value_parser.ValueParser.TheVariants as vp
 use Rattle.clap.specs.declared.error.kind.ErrorKind.{ErrorKind}
 use Rattle.clap.specs.declared.error.kind.ErrorKind.TheVariants.{DisplayHelp, DisplayVersion}
+use Rattle.step_trace.specs.declared.traces.TheConstants.{MAX_STEPS}
+use Rattle.synchrony.specs.declared.run_lines.TheConstants.{MAX_PATIENCE}
 
 -- FILE
 abbrev pub file_rule : Rule
@@ -28,13 +32,27 @@ bare_program = on_top (λ s. record s { has_version = true; subcommand_required 
 abbrev pub replay_app : App
 replay_app = with_rule (new_app (codes "replay")) file_rule
 
+-- --NAME VALUE
+abbrev pub option_rule : Text → Rule
+option_rule name = record (new_rule name) { long = Some name; action = Some Set; value_names = 1; required = true }
+
+-- the same, for a number within these bounds
+abbrev pub number_rule : Text → ℕ → ℕ → Rule
+number_rule name least most = record (option_rule name) { parser = Some (vp.Unsigned least most) }
+
+-- run --nodes N --faults T --values V1,..,VN --patience P --steps S
+abbrev pub run_app : App
+run_app = with_rule (with_rule (with_rule (with_rule (with_rule (new_app (codes "run"))
+    (number_rule (codes "nodes") 0 (2 ^ 64 - 1))) (number_rule (codes "faults") 0 (2 ^ 64 - 1))) (option_rule (codes "values")))
+    (number_rule (codes "patience") 1 MAX_PATIENCE)) (number_rule (codes "steps") 0 MAX_STEPS)
+
 -- upgrade FILE
 abbrev pub upgrade_app : App
 upgrade_app = with_rule (new_app (codes "upgrade")) file_rule
 
 -- the program, which has a version and these commands
 abbrev pub program : App
-program = with_subcommand (with_subcommand (with_subcommand bare_program report_app.top) replay_app.top) upgrade_app.top
+program = with_subcommand (with_subcommand (with_subcommand (with_subcommand bare_program report_app.top) replay_app.top) run_app.top) upgrade_app.top
 
 -- a subcommand and its matches are `report` with this file and this list
 pub record NamesReport (sub : Option (Text × List Row)) (file list : Text) : Type 0 where
@@ -56,10 +74,34 @@ NamesReplay sub file = NamesFile (codes "replay") sub file
 abbrev pub NamesUpgrade : Option (Text × List Row) → Text → Type 0
 NamesUpgrade sub file = NamesFile (codes "upgrade") sub file
 
+-- The rows have a number of this name, as the reader of 64-bit numbers reads it, within these bounds.
+pub record HasNumber (rows : List Row) (name : Text) (least most value : ℕ) : Type 0 where
+  pub text : Text
+  pub text_is : first_of name rows ≡ Some text
+  pub numeral : IsNumeral 10 (without_leading_plus text)
+  pub value_is : value ≡ digits_value 10 (without_leading_plus text)
+  pub low : least ≤ value
+  pub high : value ≤ most
+
+-- the rows below `run` have these numbers and this list of values
+pub record AreRunRows (rows : List Row) (n t : ℕ) (values : Text) (patience steps : ℕ) : Type 0 where
+  pub nodes_is : HasNumber rows (codes "nodes") 0 (2 ^ 64 - 1) n
+  pub faults_is : HasNumber rows (codes "faults") 0 (2 ^ 64 - 1) t
+  pub values_is : first_of (codes "values") rows ≡ Some values
+  pub patience_is : HasNumber rows (codes "patience") 1 MAX_PATIENCE patience
+  pub steps_is : HasNumber rows (codes "steps") 0 MAX_STEPS steps
+
+-- a subcommand and its matches are `run` with these numbers and this list of values
+pub record NamesRun (sub : Option (Text × List Row)) (n t : ℕ) (values : Text) (patience steps : ℕ) : Type 0 where
+  pub rows : List Row
+  pub named : sub ≡ Some (codes "run", rows)
+  pub has : AreRunRows rows n t values patience steps
+
 -- a subcommand and its matches name none of the jobs above
 pub record NamesNoJob (sub : Option (Text × List Row)) : Type 0 where
   pub no_report : (file list : Text) → ¬ NamesReport sub file list
   pub no_replay : (file : Text) → ¬ NamesReplay sub file
+  pub no_run : (n t : ℕ) (values : Text) (patience steps : ℕ) → ¬ NamesRun sub n t values patience steps
   pub no_upgrade : (file : Text) → ¬ NamesUpgrade sub file
 
 -- the words ask for the report of this file, for this list

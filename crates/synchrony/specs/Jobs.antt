@@ -1,10 +1,14 @@
 -- Jobs that a command line asks for, and why it is refused.
-use Rattle.std.specs.Prelude.{ℕ, ◌≡◌, ◌≢◌, ◌⊎◌, List, Option, codes, string_bytes, ⊤}
+use Rattle.std.specs.Prelude.{ℕ, ◌≡◌, ◌≢◌, ◌≤◌, ◌*◌, ◌⊎◌, List, Option, codes, string_bytes, ⊤}
 use Rattle.clap.specs.Words.{Row, Text, subcommand_of}
 use Rattle.clap.specs.declared.error.kind.ErrorKind.{ErrorKind}
 use Rattle.clap.specs.declared.error.kind.ErrorKind.TheVariants.{OutOfMemory}
+use Rattle.step_trace.specs.declared.traces.TheConstants.{MAX_STEPS}
+use Rattle.step_trace.specs.Configurations.{Setup, IsSetup}
 use Rattle.step_trace.specs.ProcessorLists.{IsSetIn, IsListOf}
-use Rattle.synchrony.specs.Commands.{AsksForHelp, IsHelp, IsMisread, NamesNoJob, NamesReplay, NamesReport, NamesUpgrade, program}
+use Rattle.synchrony.specs.Commands.{AsksForHelp, IsHelp, IsMisread, NamesNoJob, NamesReplay, NamesReport, NamesRun, NamesUpgrade, program}
+use Rattle.synchrony.specs.RunJobs.{IsRunFault}
+use Rattle.synchrony.specs.ValueLists.{IsValueList}
 use Rattle.synchrony.specs.declared.command_line.Job.{Job}
 use Rattle.synchrony.specs.declared.command_line.Job.TheVariants as job
 use Rattle.synchrony.specs.declared.faults.Fault.{Fault}
@@ -25,18 +29,31 @@ abbrev pub IsUpgrade : List ℕ → Job → Type 0
 IsUpgrade name (job.Upgrade file) = string_bytes file ≡ name
 IsUpgrade name _ = ⊥
 
--- the report that a subcommand and its matches name, for the set that their list is; or the replay, or the upgrade
+-- A subcommand and its matches are `run` with the numbers of this job and with a list of its values, and the job
+-- keeps the limits of the command.
+pub record IsRunIn (sub : Option (Text × List Row)) (config : Setup) (patience steps : ℕ) : Type 0 where
+  pub text : Text
+  pub named : NamesRun sub config.n config.t text patience steps
+  pub values : IsValueList text config.init
+  pub setup : IsSetup config
+  pub room : config.n * steps ≤ MAX_STEPS
+
+-- the report that a subcommand and its matches name, for the set that their list is; or the replay;
+-- or the run; or the upgrade
 abbrev pub IsJobIn : Option (Text × List Row) → Job → Type 0
 IsJobIn sub (job.Report file set) = (list : Text) × NamesReport sub (string_bytes file) list × IsSetIn list set
 IsJobIn sub (job.Replay file) = NamesReplay sub (string_bytes file)
+IsJobIn sub (job.Run config patience steps) = IsRunIn sub config patience steps
 IsJobIn sub (job.Upgrade file) = NamesUpgrade sub (string_bytes file)
 IsJobIn sub (job.Help text) = ⊥
 
 -- the job that the words ask for: the report of the file that they name, for the set that their list
--- is; or the replay of the file that they name, or its upgrade; or a help text
+-- is; or the replay of the file that they name; or the run of the numbers and values that they
+-- name; or the upgrade of the file that they name; or a help text
 abbrev pub IsJobOf : List Text → Job → Type 0
 IsJobOf words (job.Report file set) = IsJobIn (subcommand_of program words) (job.Report file set)
 IsJobOf words (job.Replay file) = IsJobIn (subcommand_of program words) (job.Replay file)
+IsJobOf words (job.Run config patience steps) = IsJobIn (subcommand_of program words) (job.Run config patience steps)
 IsJobOf words (job.Upgrade file) = IsJobIn (subcommand_of program words) (job.Upgrade file)
 IsJobOf words (job.Help text) = AsksForHelp words
 
@@ -74,9 +91,20 @@ pub record NamesNoList (sub : Option (Text × List Row)) (text : Text) : Type 0 
   pub told : text ≡ codes "synchrony: bad --correct"
   pub no_list : IsNoList list
 
--- they are refused for their list, or where they name no job; or for want of memory
+-- a subcommand and its matches are `run` with numbers or values that are refused in these words
+pub record NamesNoRun (sub : Option (Text × List Row)) (words : Fault) : Type 0 where
+  pub n : ℕ
+  pub t : ℕ
+  pub values : Text
+  pub patience : ℕ
+  pub steps : ℕ
+  pub named : NamesRun sub n t values patience steps
+  pub refused : IsRunFault n t values steps words
+
+-- they are refused for their list, or for the numbers and values of a run, or where they name no job; or for
+-- want of memory
 abbrev pub IsRefusalIn : Option (Text × List Row) → Fault → Type 0
-IsRefusalIn sub (fault.Command text) = NamesNoList sub (string_bytes text) ⊎ NamesNoJob sub
+IsRefusalIn sub (fault.Command text) = NamesNoList sub (string_bytes text) ⊎ (NamesNoRun sub (fault.Command text) ⊎ NamesNoJob sub)
 IsRefusalIn sub fault.Memory = Unit {0}
 IsRefusalIn sub _ = ⊥
 
@@ -86,8 +114,7 @@ IsRefusalFor kind (fault.Command text) = (kind ≢ OutOfMemory) × (¬ IsHelp ki
 IsRefusalFor kind fault.Memory = Unit {0}
 IsRefusalFor kind _ = ⊥
 
--- the words are refused by their reader, or for their list, or where they name no job; or for want of
--- memory
+-- the words are refused by their reader, or for what their matches say; or for want of memory
 abbrev pub IsRefusalOf : List Text → Fault → Type 0
 IsRefusalOf words (fault.Command text) = IsMisread words ⊎ IsRefusalIn (subcommand_of program words) (fault.Command text)
 IsRefusalOf words fault.Memory = Unit {0}

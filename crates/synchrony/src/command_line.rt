@@ -9,11 +9,12 @@ ghost use Rattle.synchrony.specs.Jobs.{IsJobOf, IsJobIn, IsHelpFor, IsMemory, Is
 
 use crate::faults::Fault;
 use crate::help_texts::{program_help, replay_help, report_help, upgrade_help};
+use crate::run_lines::{run_command, run_job, run_words};
 use clap::error::ErrorKind;
 use clap::{Arg, ArgAction, ArgMatches, Command};
 use std::alloc::{AllocError, Global};
 use std::io;
-use step_trace::ProcSet;
+use step_trace::{Config, ProcSet};
 
 /// What the program is to do.
 #[derive(Debug, Drop)]
@@ -32,6 +33,15 @@ pub enum Job {
         /// The path of the file.
         file: String,
     },
+    /// Run the nodes of a configuration, a thread for each, and print the trace of their steps.
+    Run {
+        /// The processors and their initial values.
+        config: Config,
+        /// Which Receive of a round ends it, from 1 on.
+        patience: u64,
+        /// How many steps each processor makes; all together make at most `MAX_STEPS`.
+        steps: u64,
+    },
     /// Print the version 2 text of the trace in a file. The file `-` is standard input.
     Upgrade {
         /// The path of the file.
@@ -44,9 +54,10 @@ pub enum Job {
 /// The job that a command line asks for; its first word is the program's name.
 ///
 /// Refuses what the reader of the command line refuses, in its words; a list that isn't one, by
-/// `bad --correct`; and Memory. The line `report FILE --correct LIST` asks for the report of FILE for
-/// LIST, where neither begins with a hyphen and goes on; and so `replay FILE` for the replay of FILE, and
-/// `upgrade FILE` for its upgrade.
+/// `bad --correct`; the numbers or values of a run that are outside its limits, by the first of
+/// `bad --nodes`, `bad --faults`, `bad --values` and `too many steps`; and Memory. The line
+/// `report FILE --correct LIST` asks for the report of FILE for LIST, where neither begins with a hyphen
+/// and goes on; and so `replay FILE` for the replay of FILE, and `upgrade FILE` for its upgrade.
 pub fn read_command(alloc: Global, words: Vec<String>) -> Result<Job, Fault>
     ensures job { IfOk result (IsJobOf (map string_bytes words.items)) }
     ensures refused { IfErr result (IsRefusalOf (map string_bytes words.items)) }
@@ -81,6 +92,7 @@ fn command<'a>(alloc: Global) -> Result<Command<'a>, AllocError>
         .subcommand_required(true)
         .subcommand(report_command(alloc)?)?
         .subcommand(replay_command(alloc)?)?
+        .subcommand(run_command(alloc)?)?
         .subcommand(upgrade_command(alloc)?)
 }
 
@@ -106,7 +118,7 @@ fn replay_command<'a>(alloc: Global) -> Result<Command<'a>, AllocError>
     ensures local { IfOk result (λ c. (out-Command c).has_globals ≡ false) }
 {
     Command::new(alloc, "replay")
-        .about("Prints the round and the decision of each processor at the end of a run")
+        .about("Prints each processor's round and decision at the end of a run")
         .after_help(replay_help())
         .arg(file_argument(alloc))
 }
@@ -186,6 +198,9 @@ fn job_found(alloc: Global, matches: &ArgMatches<'_>) -> Result<Job, Fault>
     if let Some(file) = file_of(matches, "replay") {
         let file = String::from_str(alloc, file)?;
         return Ok(Job::Replay { file });
+    }
+    if let Some(words) = run_words(matches) {
+        return run_job(alloc, words);
     }
     if let Some(file) = file_of(matches, "upgrade") {
         let file = String::from_str(alloc, file)?;

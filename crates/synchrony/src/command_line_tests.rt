@@ -71,6 +71,104 @@ fn reads_replays(rt: HostRuntime) -> Result<(), Fail> {
     Ok(())
 }
 
+/// The words of a run of these numbers and values.
+fn run_line<'a>(
+    n: &'a str,
+    t: &'a str,
+    values: &'a str,
+    patience: &'a str,
+    steps: &'a str,
+) -> [&'a str; 11] {
+    [
+        "run",
+        "--nodes",
+        n,
+        "--faults",
+        t,
+        "--values",
+        values,
+        "--patience",
+        patience,
+        "--steps",
+        steps,
+    ]
+}
+
+fn asks_for_run(alloc: Global, words: &[&str], init: &[u64], numbers: (u64, u64, u64)) -> bool {
+    let (t, wanted_patience, wanted_steps) = numbers;
+    match read(alloc, words) {
+        Ok(
+            Job::Run {
+                config,
+                patience,
+                steps,
+            },
+        ) => {
+            config.n() == init.len() as u64
+                && config.t() == t
+                && config.init() == init
+                && patience == wanted_patience
+                && steps == wanted_steps
+        }
+        _ => false,
+    }
+}
+
+#[test]
+fn reads_runs(rt: HostRuntime) -> Result<(), Fail> {
+    let line = run_line("3", "1", "5,7,7", "1", "0");
+    assert!(rt; asks_for_run(rt.alloc(), &line, &[5, 7, 7], (1, 1, 0)));
+    let line = run_line("2", "0", "0,18446744073709551615", "1000000", "500000");
+    assert!(rt; asks_for_run(rt.alloc(), &line, &[0, u64::MAX], (0, 1_000_000, 500_000)));
+    Ok(())
+}
+
+#[test]
+fn refuses_numbers_of_runs(rt: HostRuntime) -> Result<(), Fail> {
+    for (line, begins) in [
+        (run_line("1", "9", "5", "1", "0"), "synchrony: bad --nodes"),
+        (
+            run_line("65", "9", "", "1", "1000000"),
+            "synchrony: bad --nodes",
+        ),
+        (
+            run_line("4", "2", "5", "1", "1000000"),
+            "synchrony: bad --faults",
+        ),
+        (
+            run_line("3", "1", "5,7", "1", "1000000"),
+            "synchrony: bad --values",
+        ),
+        (
+            run_line("3", "1", "5,7,7,", "1", "0"),
+            "synchrony: bad --values",
+        ),
+        (
+            run_line("3", "1", "5,07,7", "1", "0"),
+            "synchrony: bad --values",
+        ),
+        (
+            run_line("3", "1", "5,7,7", "1", "333334"),
+            "synchrony: too many steps",
+        ),
+        (
+            run_line("3", "1", "5,7,7", "0", "1"),
+            "error: invalid value '0' for '--patience <P>'",
+        ),
+        (
+            run_line("3", "1", "5,7,7", "1", "1000001"),
+            "error: invalid value '1000001' for '--steps <S>'",
+        ),
+        (
+            run_line("x", "1", "5,7,7", "1", "1"),
+            "error: invalid value 'x' for '--nodes <N>'",
+        ),
+    ] {
+        assert!(rt; is_refused(rt.alloc(), &line, begins)?, "{line:?}");
+    }
+    Ok(())
+}
+
 fn asks_for_upgrade(alloc: Global, words: &[&str], name: &str) -> bool {
     match read(alloc, words) {
         Ok(Job::Upgrade { file }) => file.as_str() == name,
@@ -100,7 +198,8 @@ fn asks_for_text(alloc: Global, words: &[&str], begins: &str) -> bool {
 fn reads_requests_for_texts(rt: HostRuntime) -> Result<(), Fail> {
     assert!(rt; asks_for_text(rt.alloc(), &["--help"], "Tells how synchronous"));
     assert!(rt; asks_for_text(rt.alloc(), &["report", "--help"], "Prints the report"));
-    assert!(rt; asks_for_text(rt.alloc(), &["replay", "--help"], "Prints the round"));
+    assert!(rt; asks_for_text(rt.alloc(), &["replay", "--help"], "Prints each processor"));
+    assert!(rt; asks_for_text(rt.alloc(), &["run", "--help"], "Runs the agreement"));
     assert!(rt; asks_for_text(rt.alloc(), &["upgrade", "--help"], "Prints a trace"));
     assert!(rt; asks_for_text(rt.alloc(), &["--version"], "synchrony 0.1.0\n"));
     Ok(())
@@ -117,7 +216,7 @@ fn is_refused(alloc: Global, words: &[&str], begins: &str) -> Result<bool, Alloc
 
 #[test]
 fn refuses_other_lines(rt: HostRuntime) -> Result<(), Fail> {
-    let lines: [(&[&str], &str); 7] = [
+    let lines: [(&[&str], &str); 8] = [
         (&["report", "-"], "error: the following required arguments"),
         (&["replay"], "error: the following required arguments"),
         (&["replay", "a", "b"], "error: unexpected argument 'b'"),
@@ -128,7 +227,11 @@ fn refuses_other_lines(rt: HostRuntime) -> Result<(), Fail> {
         ),
         (
             &["run", "--values", "5,7"],
-            "error: unrecognized subcommand 'run'",
+            "error: the following required arguments",
+        ),
+        (
+            &["check", "-", "-"],
+            "error: unrecognized subcommand 'check'",
         ),
         (
             &["report", "-", "--correct", "1,,2"],

@@ -9,6 +9,7 @@ were correct. For each stabilization time, `report` finds the least
 communication bound and the least processor bound that hold from there to the
 end of the trace, and evidence against each smaller bound. `replay` takes the
 steps as those of the agreement algorithm, and says what each processor decided.
+`run` runs the algorithm on threads, and prints the trace of their steps.
 `upgrade` writes a trace of either version as one of version 2.
 
 A row of the report, all of it but proc in real-time steps:
@@ -36,6 +37,7 @@ Exit status:
   5  out of memory
   6  the trace can't be read, or the output can't be written
   7  the trace is no run of the agreement algorithm
+  8  a thread of a run wasn't started or was held back
 A fault is told on standard error. No report is begun before it stands whole."
 }
 
@@ -110,6 +112,37 @@ Exit status:
   5  out of memory
   6  FILE can't be opened or read, or the output can't be written
   7  the trace is no run; the fault names the first step that can't be one's
+A fault is told on standard error. Nothing is printed before it stands whole."
+}
+
+/// How the algorithm is run, and what is printed of it.
+pub fn run_help() -> &'static str {
+    "\
+Each processor is a thread. While it has something to send in its round it
+sends; otherwise it receives all that waits for it, and its P-th Receive of a
+round ends the round. Each makes S steps, in whatever order the threads run.
+The trace of all steps is printed as `report` and `replay` read it.
+
+  --nodes     from 2 to 64
+  --faults    2 * T + 1 is at most N
+  --values    N numbers of 64 bits with one comma between each two
+  --patience  from 1 to 1000000
+  --steps     N * S is at most 1000000
+
+Example, at the top of the repository:
+  ./synchrony run --nodes 3 --faults 1 --values 5,7,7 --patience 1 --steps 0
+prints
+  dls-trace,1,3,1
+  init,5,7,7
+  end,0
+
+Exit status:
+  0  the trace is printed, or this text
+  2  the command line is refused, or a number or a value in it
+  5  out of memory
+  6  the output can't be written
+  7  the threads' steps make no run, which is a fault of this program
+  8  a thread wasn't started or was held
 A fault is told on standard error. Nothing is printed before it stands whole."
 }
 

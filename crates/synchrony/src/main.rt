@@ -17,9 +17,11 @@ mod replays;
 #[cfg(test)]
 mod report_tests;
 mod reports;
+mod run_lines;
 #[cfg(test)]
 mod upgrade_tests;
 mod upgrades;
+mod value_lists;
 
 use crate::command_line::{Job, names_standard_input, read_command, refuse_words};
 use crate::faults::{Fault, status, unopened};
@@ -53,6 +55,7 @@ fn run(rt: &HostRuntime) -> Result<(), Fault> {
     match read_command(rt.alloc(), words)? {
         Job::Report { file, set } => report(rt, file.as_str(), set),
         Job::Replay { file } => replay(rt, file.as_str()),
+        Job::Run { .. } => Err(Fault::Memory),
         Job::Upgrade { file } => upgrade(rt, file.as_str()),
         Job::Help(text) => print(text.as_str(), &mut Counting::new(rt.stdout())),
     }
