@@ -129,6 +129,7 @@ nothing_named sub fault.Memory h report replay run upgrade = absurd h
 nothing_named sub fault.Read h report replay run upgrade = absurd h
 nothing_named sub (fault.Write n) h report replay run upgrade = absurd h
 nothing_named sub (fault.NotARun n) h report replay run upgrade = absurd h
+nothing_named sub fault.Threads h report replay run upgrade = absurd h
 
 -- the parse of the program's command line is known
 is_simple_program : is_simple program ≡ true
@@ -163,6 +164,7 @@ refusal_of words sub e fault.Memory h = h
 refusal_of words sub e fault.Read h = h
 refusal_of words sub e (fault.Write n) h = h
 refusal_of words sub e (fault.NotARun n) h = h
+refusal_of words sub e fault.Threads h = h
 
 -- a kind of error that isn't want of memory is one of the words' faults
 among : (words : List Text) (kind : ErrorKind) → kind ≢ OutOfMemory → (kind ≡ OutOfMemory) ⊎ IsAmong kind (fault_of program words) → IsAmong kind (fault_of program words)
@@ -186,6 +188,7 @@ misread_of words kind has fault.Memory h = h
 misread_of words kind has fault.Read h = h
 misread_of words kind has (fault.Write n) h = h
 misread_of words kind has (fault.NotARun n) h = h
+misread_of words kind has fault.Threads h = h
 
 -- no error is among those of words that have none
 none_among : (kind : ErrorKind) (kinds : Kinds) → kinds ≡ [] → ¬ IsAmong kind kinds
@@ -216,6 +219,7 @@ line_refusal words file list none asks fault.Memory h = h
 line_refusal words file list none asks fault.Read h = h
 line_refusal words file list none asks (fault.Write n) h = h
 line_refusal words file list none asks (fault.NotARun n) h = h
+line_refusal words file list none asks fault.Threads h = h
 
 -- the line `report FILE --correct LIST` gives the report of that file for that list, unless the list is none
 pub line_is : (words : List Text) (r : Result Job Fault) → IfOk r (IsJobOf words) → IfErr r (IsRefusalOf words) → (name file list : Text)
@@ -248,6 +252,7 @@ replayed_refusal words file none asks fault.Memory h = h
 replayed_refusal words file none asks fault.Read h = h
 replayed_refusal words file none asks (fault.Write n) h = h
 replayed_refusal words file none asks (fault.NotARun n) h = h
+replayed_refusal words file none asks fault.Threads h = h
 
 -- the line `replay FILE` gives the replay of that file
 pub replay_is : (words : List Text) (r : Result Job Fault) → IfOk r (IsJobOf words) → IfErr r (IsRefusalOf words) → (name file : Text)
@@ -280,6 +285,7 @@ upgraded_refusal words file none asks fault.Memory h = h
 upgraded_refusal words file none asks fault.Read h = h
 upgraded_refusal words file none asks (fault.Write n) h = h
 upgraded_refusal words file none asks (fault.NotARun n) h = h
+upgraded_refusal words file none asks fault.Threads h = h
 
 -- the line `upgrade FILE` gives the upgrade of that file
 pub upgrade_is : (words : List Text) (r : Result Job Fault) → IfOk r (IsJobOf words) → IfErr r (IsRefusalOf words) → (name file : Text)

@@ -4,3 +4,4 @@ pub mod CommandLines
 pub mod UpgradeFaults
 pub mod ValueLists
 pub mod RunRows
+pub mod EvenRuns

@@ -49,6 +49,7 @@ trace_fault set text fault.Memory h = tt
 trace_fault set text fault.Read h = absurd h
 trace_fault set text (fault.Write n) h = absurd h
 trace_fault set text (fault.NotARun n) h = absurd h
+trace_fault set text fault.Threads h = absurd h
 
 pub own_trace_fault : (text : List ℕ) (w : Fault) → IsTraceFault text w → IsFaultOfReport w
 own_trace_fault text (fault.Command words) h = absurd h
@@ -58,6 +59,7 @@ own_trace_fault text fault.Memory h = tt
 own_trace_fault text fault.Read h = absurd h
 own_trace_fault text (fault.Write n) h = absurd h
 own_trace_fault text (fault.NotARun n) h = absurd h
+own_trace_fault text fault.Threads h = absurd h
 
 -- want of memory and a failed read are no refusals of a trace
 pub own_fault : (e : TextError) → IsFaultOfReport (fault_of_text e)
@@ -80,6 +82,7 @@ text_fault set text before after fault.Memory h = tt
 text_fault set text before after fault.Read h = tt
 text_fault set text before after (fault.Write n) h = absurd h
 text_fault set text before after (fault.NotARun n) h = absurd h
+text_fault set text before after fault.Threads h = absurd h
 
 -- it leaves the reader's faults and the writer as they were
 pub text_fault_reads : (set old new : ℕ) (text : List ℕ) (w : Fault) → IsTextFault set text w → new ≡ old → IsReadFault old new w

@@ -37,6 +37,7 @@ fault_line fault.Memory = codes "synchrony: out of memory"
 fault_line fault.Read = codes "synchrony: cannot read"
 fault_line (fault.Write written) = codes "synchrony: cannot write"
 fault_line (fault.NotARun number) = codes "synchrony: not a run: step " ++ decimal number
+fault_line fault.Threads = codes "synchrony: worker not started or held"
 
 -- the text with a line feed at its end, where it has none there
 abbrev pub ended_line : List ℕ → List ℕ

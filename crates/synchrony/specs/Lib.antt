@@ -10,3 +10,4 @@ pub mod Reports
 pub mod ReplayTexts
 pub mod Replays
 pub mod Upgrades
+pub mod Runs

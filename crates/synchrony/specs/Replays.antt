@@ -32,11 +32,12 @@ pub record IsTextOffRun (text : List ℕ) (number : ℕ) : Type 0 where
   pub read : IsTextOf text trace
   pub off : IsFirstOff trace.config trace.steps number
 
--- the fault is none of the command line or of a set; want of memory and a failed read are faults of their
+-- the fault is none of the command line, of a set or of threads; want of memory and a failed read are faults of their
 -- own, and no refusals of the trace
 abbrev pub IsFaultOfReplay : Fault → Type 0
 IsFaultOfReplay (fault.Command words) = ⊥
 IsFaultOfReplay fault.Set = ⊥
+IsFaultOfReplay fault.Threads = ⊥
 IsFaultOfReplay (fault.Trace reason) = (reason ≢ why.Read) × (reason ≢ why.Memory)
 IsFaultOfReplay _ = ⊤
 

@@ -32,12 +32,13 @@ pub record IsSetOutside (set : ℕ) (text : List ℕ) : Type 0 where
   pub read : IsTextOf text trace
   pub outside : ¬ IsWithin set trace.config.n
 
--- the fault is none of the command line and none of a replay; want of memory and a failed read are faults
--- of their own, and no refusals of the trace
+-- the fault is none of the command line, of a replay or of threads; want of memory and a failed read are
+-- faults of their own, and no refusals of the trace
 abbrev pub IsFaultOfReport : Fault → Type 0
 IsFaultOfReport (fault.Command words) = ⊥
 IsFaultOfReport (fault.Trace reason) = (reason ≢ why.Read) × (reason ≢ why.Memory)
 IsFaultOfReport (fault.NotARun number) = ⊥
+IsFaultOfReport fault.Threads = ⊥
 IsFaultOfReport _ = ⊤
 
 -- The fault has its cause in the text: its first refusal, or a member of the set that its trace hasn't.
@@ -48,6 +49,7 @@ IsTextFault set text (fault.Trace reason) = IsFirstRefusal text reason
 IsTextFault set text fault.Memory = ⊤
 IsTextFault set text fault.Read = ⊥
 IsTextFault set text (fault.NotARun number) = ⊥
+IsTextFault set text fault.Threads = ⊥
 IsTextFault set text (fault.Write n) = ⊥
 
 -- The same, or the text has a report, of which that many first bytes went out.
@@ -58,4 +60,5 @@ IsReportFault set text before after (fault.Trace reason) = IsTextFault set text 
 IsReportFault set text before after fault.Memory = ⊤
 IsReportFault set text before after fault.Read = ⊤
 IsReportFault set text before after (fault.NotARun number) = ⊥
+IsReportFault set text before after fault.Threads = ⊥
 IsReportFault set text before after (fault.Write n) = (report : List ℕ) × IsReportOf set text report × (n ≤ length report) × Appends before after (take n report)

@@ -42,6 +42,7 @@ impl fmt::Display for Fault {
             Fault::Read => f.write_str("synchrony: cannot read"),
             Fault::Write(_) => f.write_str("synchrony: cannot write"),
             Fault::NotARun(no) => write!(f, "synchrony: not a run: step {no}"),
+            Fault::Threads => f.write_str("synchrony: worker not started or held"),
         }
     }
 }

@@ -26,6 +26,8 @@ pub enum Fault {
     Write(u64),
     /// The trace is no run of the algorithm: the step of this number is the first that isn't.
     NotARun(u64),
+    /// A thread wasn't started, or was held back.
+    Threads,
 }
 
 impl std::error::Error for Fault {}
@@ -100,5 +102,6 @@ pub fn status(fault: &Fault) -> u8
         Fault::Memory => 5,
         Fault::Read | Fault::Write(_) => 6,
         Fault::NotARun(_) => 7,
+        Fault::Threads => 8,
     }
 }

@@ -1,5 +1,6 @@
 //! The program: reads a trace of Send and Receive steps, and prints the report of its bounds, for the
-//! processors that are named as correct, replays it as a run of the agreement algorithm, or upgrades its text.
+//! processors that are named as correct, replays it as a run of the agreement algorithm, or upgrades its text; or makes
+//! such a run in threads, and prints its trace.
 #![tactic(auto)]
 
 mod command_line;
@@ -19,6 +20,9 @@ mod report_tests;
 mod reports;
 mod run_lines;
 #[cfg(test)]
+mod run_tests;
+mod runs;
+#[cfg(test)]
 mod upgrade_tests;
 mod upgrades;
 mod value_lists;
@@ -28,15 +32,18 @@ use crate::faults::{Fault, status, unopened};
 use crate::printing::{print, tell};
 use crate::replays::run_replay;
 use crate::reports::run_report;
+use crate::runs::run_nodes;
 use crate::upgrades::run_upgrade;
 use std::env;
 use std::fs::File;
 use std::process::ExitCode;
-use step_trace::ProcSet;
+use std::sync::Wait;
+use std::thread::Threads;
+use step_trace::{OpenGate, ProcSet};
 use trace_text::Counting;
 
 fn main(rt: HostRuntime) -> ExitCode {
-    match run(&rt) {
+    match run(&rt, &rt) {
         Ok(()) => ExitCode::SUCCESS,
         Err(fault) => {
             // Where it can't be told, the status is all that is left to say.
@@ -46,8 +53,8 @@ fn main(rt: HostRuntime) -> ExitCode {
     }
 }
 
-/// Does what the words of the command line ask for.
-fn run(rt: &HostRuntime) -> Result<(), Fault> {
+/// Does what the words of the command line ask for. `threads` starts the threads of a run.
+fn run<R: Threads + Wait + Sync>(rt: &HostRuntime, threads: &R) -> Result<(), Fault> {
     let words = match env::args(rt) {
         Ok(words) => words.collect(rt.alloc())?,
         Err(error) => return Err(refuse_words(rt.alloc(), error.kind())?),
@@ -55,7 +62,22 @@ fn run(rt: &HostRuntime) -> Result<(), Fault> {
     match read_command(rt.alloc(), words)? {
         Job::Report { file, set } => report(rt, file.as_str(), set),
         Job::Replay { file } => replay(rt, file.as_str()),
-        Job::Run { .. } => Err(Fault::Memory),
+        Job::Run {
+            config,
+            patience,
+            steps,
+        } => {
+            let mut output = Counting::new(rt.stdout());
+            run_nodes(
+                threads,
+                rt.alloc(),
+                &config,
+                patience,
+                steps,
+                &OpenGate,
+                &mut output,
+            )
+        }
         Job::Upgrade { file } => upgrade(rt, file.as_str()),
         Job::Help(text) => print(text.as_str(), &mut Counting::new(rt.stdout())),
     }
