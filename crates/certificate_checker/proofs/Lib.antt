@@ -1,3 +1,13 @@
+pub mod RowSearches
+pub mod ReasonOrder
+pub mod StepFacts
+pub mod ReceiveNotes
+pub mod WaitedReceives
+pub mod FilledLists
+pub mod SilenceSteps
+pub mod SilentGaps
+pub mod LongerWitnesses
+pub mod FailingRows
 pub mod BestCandidates
 pub mod WitnessDecisions
 pub mod LongestOrNone

@@ -1,10 +1,20 @@
-//! The forward check of a report: whether its rows are a certificate of themselves. One pass over the trace and
-//! the rows, which shares nothing with the analyser but the definitions and the row types.
+//! The forward check of a report: whether its rows are a certificate of themselves. It shares nothing with the
+//! analyser but the definitions and the row types.
 #![tactic(auto)]
 
+mod bounds;
+mod certificates;
+mod first_reasons;
+mod gaps;
 mod laws;
+mod receives;
+mod row_order;
+mod silences;
+mod step_tests;
 mod verdicts;
+mod witnesses;
 
+pub use certificates::check;
 pub use laws::certificate_laws;
 pub use step_trace::{Gap, Miss, Row};
 pub use verdicts::{Reason, Verdict};

@@ -1,0 +1,155 @@
+-- The longest witness from one place more on.
+use Rattle.std.proofs.Common.{ℕ, length, ◌≡◌, ◌+◌, ◌-◌, ◌<◌, ◌≤◌, inl, inr, Option, Some, None, Bool, true, false, cond, refl, ap, sym, ◌∙◌, arith}
+use Rattle.std.specs.Prelude.{MatchOption, nat_lt, IfSome}
+use Rattle.std.proofs.lemmas.Bool.{cases_eq, ltb-true, ltb-false}
+use Rattle.step_trace.specs.declared.rows.Miss.{Miss}
+use Rattle.step_trace.specs.declared.rows.Gap.{Gap}
+use Rattle.step_trace.specs.Traces.{Recorded}
+use Rattle.step_trace.specs.Ticks.{tick_of}
+use Rattle.step_trace.specs.Witnesses.{IsMiss, IsGap}
+use Rattle.step_trace.proofs.StepPositions.{step_at_within}
+use Rattle.certificate_checker.specs.Certificates.{IsLongestGap}
+use Rattle.certificate_checker.specs.LongestWitnesses.{HasNoMiss, IsLastMiss, HasNoMissAfter, IsLongestMissAfter, KnowsMissesAfter, HasNoGapAt, IsLongestGapAt, HasNoGapFrom, KnowsGapsFrom, HasSpan, span_of, longer_miss, longer_gap}
+
+-- a miss has a length
+pub HasSpan-of_miss : (set : ℕ) (t : Recorded) (m : Miss) → IsMiss set t m → HasSpan t m
+HasSpan-of_miss set t m i =
+    let sent = step_at_within t.steps m.sent _ i.message.sent in
+    let missed = step_at_within t.steps m.missed _ i.receive.step in
+    let late = i.late in
+    record {
+      sent_low = omega (arith, sent);
+      sent_high = sent.1;
+      missed_low = omega (arith, missed);
+      missed_high = missed.1;
+      order = omega (arith, late);
+    }
+
+-- no gap from x + 1 on and none at x
+gaps_none : (set : ℕ) (t : Recorded) (x : ℕ) → HasNoGapAt set t x → HasNoGapFrom set t (x + 1) → HasNoGapFrom set t x
+gaps_none set t x here later o g f = elim (cases_eq o.from x) [ inl e ↦ here o g e | inr e ↦ later o g (omega (arith, e, f)) ]
+
+-- the longest from x + 1 on where there is none at x, or none is longer there
+gaps_kept : (set : ℕ) (t : Recorded) (x : ℕ) (w : Gap) → ((o : Gap) → IsGap set t o → o.from ≡ x → o.to + w.from ≤ w.to + o.from) → IsLongestGap set t (x + 1) w → IsLongestGap set t x w
+gaps_kept set t x w here l = let from = l.from in record {
+  gap = l.gap;
+  from = omega (arith, from);
+  longest = λ o g f. elim (cases_eq o.from x) [ inl e ↦ here o g e | inr e ↦ l.longest o g (omega (arith, e, f)) ];
+  greatest = λ o g f same. elim (cases_eq o.from x) [ inl e ↦ omega (arith, e, from) | inr e ↦ l.greatest o g (omega (arith, e, f)) same ];
+  least = l.least;
+}
+
+-- the longest at x where all from x + 1 on are shorter
+gaps_new : (set : ℕ) (t : Recorded) (x : ℕ) (v : Gap) → ((o : Gap) → IsGap set t o → x < o.from → o.to + v.from < v.to + o.from) → IsLongestGapAt set t x v → IsLongestGap set t x v
+gaps_new set t x v later l = let at = l.from in record {
+  gap = l.gap;
+  from = omega (arith, at);
+  longest = λ o g f. elim (cases_eq o.from x) [
+    | inl e ↦ (let most = l.longest o g e in omega (arith, most, e, at))
+    | inr e ↦ (let short = later o g (omega (arith, e, f)) in omega (arith, short))
+  ];
+  greatest = λ o g f same. elim (cases_eq o.from x) [
+    | inl e ↦ omega (arith, e, at)
+    | inr e ↦ absurd (let short = later o g (omega (arith, e, f)) in omega (arith, short, same))
+  ];
+  least = λ o g from to. l.least o g (from ∙ at) to;
+}
+
+-- the longer of the longest at x and the longest from x + 1 on
+pub KnowsGapsFrom-earlier : (set : ℕ) (t : Recorded) (x : ℕ) (v w : Option Gap) → MatchOption v (HasNoGapAt set t x) (IsLongestGapAt set t x) → KnowsGapsFrom set t (x + 1) w → KnowsGapsFrom set t x (longer_gap v w)
+KnowsGapsFrom-earlier set t x None None here later = gaps_none set t x here later
+KnowsGapsFrom-earlier set t x None (Some w) here later = gaps_kept set t x w (λ o g e. absurd (here o g e)) later
+KnowsGapsFrom-earlier set t x (Some v) None here later = gaps_new set t x v (λ o g l. absurd (later o g (omega (arith, l)))) here
+KnowsGapsFrom-earlier set t x (Some v) (Some w) here later = go (nat_lt (w.to - w.from) (v.to - v.from)) refl where
+  go : (b : Bool) → nat_lt (w.to - w.from) (v.to - v.from) ≡ b → KnowsGapsFrom set t x (cond b (Some v) (Some w))
+  go true e = gaps_new set t x v (λ o g l.
+      let short = ltb-true _ _ e in
+      let most = later.longest o g (omega (arith, l)) in
+      let a = g.order in
+      let b = later.gap.order in
+      let c = here.gap.order in
+      omega (arith, short, most, a, b, c)) here
+  go false e = gaps_kept set t x w (λ o g q.
+      let long = ltb-false _ _ e in
+      let most = here.longest o g q in
+      let at = here.from in
+      let a = g.order in
+      let b = later.gap.order in
+      let c = here.gap.order in
+      omega (arith, long, most, at, q, a, b, c)) later
+
+-- past the last tick there is no gap
+pub KnowsGapsFrom-after_all : (set : ℕ) (t : Recorded) → HasNoGapFrom set t (t.last + 1)
+KnowsGapsFrom-after_all set t o g f = let order = g.order in let inside = g.inside in omega (arith, order, inside, f)
+
+-- the same of misses: none after s and none of s
+misses_none : (set : ℕ) (t : Recorded) (s : ℕ) → HasNoMiss set t s → HasNoMissAfter set t s → HasNoMissAfter set t (s - 1)
+misses_none set t s here later o i f = elim (cases_eq o.sent s) [ inl e ↦ here o i e | inr e ↦ later o i (omega (arith, e, f)) ]
+
+misses_kept : (set : ℕ) (t : Recorded) (s : ℕ) (w : Miss) → ((o : Miss) → IsMiss set t o → o.sent ≡ s → tick_of t o.missed + tick_of t w.sent ≤ tick_of t w.missed + tick_of t o.sent) → IsLongestMissAfter set t s w → IsLongestMissAfter set t (s - 1) w
+misses_kept set t s w here l = let after = l.after in record {
+  miss = l.miss;
+  after = omega (arith, after);
+  longest = λ o i f. elim (cases_eq o.sent s) [ inl e ↦ here o i e | inr e ↦ l.longest o i (omega (arith, e, f)) ];
+  greatest = λ o i f same. elim (cases_eq o.sent s) [ inl e ↦ omega (arith, e, after) | inr e ↦ l.greatest o i (omega (arith, e, f)) same ];
+}
+
+misses_new : (set : ℕ) (t : Recorded) (s : ℕ) (v : Miss) → 1 ≤ s → ((o : Miss) → IsMiss set t o → s < o.sent → tick_of t o.missed + tick_of t v.sent < tick_of t v.missed + tick_of t o.sent) → IsLastMiss set t s v
+    → IsLongestMissAfter set t (s - 1) v
+misses_new set t s v low later l = let at = l.sent in record {
+  miss = l.miss;
+  after = omega (arith, at, low);
+  longest = λ o i f. elim (cases_eq o.sent s) [
+    | inl e ↦ (let most = l.last o i e in let same = ap (tick_of t) (e ∙ sym at) in omega (arith, most, same))
+    | inr e ↦ (let short = later o i (omega (arith, e, f)) in omega (arith, short))
+  ];
+  greatest = λ o i f same. elim (cases_eq o.sent s) [
+    | inl e ↦ omega (arith, e, at)
+    | inr e ↦ absurd (let short = later o i (omega (arith, e, f)) in omega (arith, short, same))
+  ];
+}
+
+-- the longer of the last miss of s and the longest after s
+pub KnowsMissesAfter-earlier : (set : ℕ) (t : Recorded) (s : ℕ) (v w : Option Miss) → 1 ≤ s → MatchOption v (HasNoMiss set t s) (IsLastMiss set t s) → KnowsMissesAfter set t s w → KnowsMissesAfter set t (s - 1) (longer_miss t v w)
+KnowsMissesAfter-earlier set t s None None low here later = misses_none set t s here later
+KnowsMissesAfter-earlier set t s None (Some w) low here later = misses_kept set t s w (λ o i e. absurd (here o i e)) later
+KnowsMissesAfter-earlier set t s (Some v) None low here later = misses_new set t s v low (λ o i l. absurd (later o i l)) here
+KnowsMissesAfter-earlier set t s (Some v) (Some w) low here later = go (nat_lt (span_of t w) (span_of t v)) refl where
+  go : (b : Bool) → nat_lt (span_of t w) (span_of t v) ≡ b → KnowsMissesAfter set t (s - 1) (cond b (Some v) (Some w))
+  go true e = misses_new set t s v low (λ o i l.
+      let short = ltb-true _ _ e in
+      let most = later.longest o i l in
+      let a = i.late in
+      let b = later.miss.late in
+      let c = here.miss.late in
+      omega (arith, short, most, a, b, c)) here
+  go false e = misses_kept set t s w (λ o i q.
+      let long = ltb-false _ _ e in
+      let most = here.last o i q in
+      let at = ap (tick_of t) here.sent in
+      let same = ap (tick_of t) q in
+      let a = i.late in
+      let b = later.miss.late in
+      let c = here.miss.late in
+      omega (arith, long, most, at, same, a, b, c)) later
+
+-- after the last step there is no miss
+pub KnowsMissesAfter-after_all : (set : ℕ) (t : Recorded) → HasNoMissAfter set t (length t.steps)
+KnowsMissesAfter-after_all set t o i f = let sent = step_at_within t.steps o.sent _ i.message.sent in omega (arith, sent, f)
+
+-- the misses and gaps that are found have a length
+pub span_of_last : (set : ℕ) (t : Recorded) (s : ℕ) (o : Option Miss) → MatchOption o (HasNoMiss set t s) (IsLastMiss set t s) → IfSome o (HasSpan t)
+span_of_last set t s None h = tt
+span_of_last set t s (Some m) h = HasSpan-of_miss set t m h.miss
+
+pub span_of_longest : (set : ℕ) (t : Recorded) (s : ℕ) (o : Option Miss) → KnowsMissesAfter set t s o → IfSome o (HasSpan t)
+span_of_longest set t s None h = tt
+span_of_longest set t s (Some m) h = HasSpan-of_miss set t m h.miss
+
+pub order_of_longest : (set : ℕ) (t : Recorded) (x : ℕ) (o : Option Gap) → KnowsGapsFrom set t x o → IfSome o (λ w. w.from ≤ w.to)
+order_of_longest set t x None h = tt
+order_of_longest set t x (Some w) h = h.gap.order
+
+pub order_of_first : (set : ℕ) (t : Recorded) (x : ℕ) (o : Option Gap) → MatchOption o (HasNoGapAt set t x) (IsLongestGapAt set t x) → IfSome o (λ w. w.from ≤ w.to)
+order_of_first set t x None h = tt
+order_of_first set t x (Some w) h = h.gap.order

@@ -1,0 +1,28 @@
+-- The next steps of processors (own).
+use Rattle.std.specs.Prelude.{ℕ, ◌≡◌, ◌+◌, ◌<◌, ◌≤◌, List, length, slice_index, slice_get, Some}
+use Rattle.step_trace.specs.Traces.{Recorded}
+use Rattle.step_trace.specs.Ticks.{StepsIn}
+use Rattle.certificate_checker.specs.declared.silences.Silence.{Silence}
+
+-- the first tick from x on in which p takes a step, or the tick after the last where there is none
+pub record IsNextStep (trace : Recorded) (p x next : ℕ) : Type 0 where
+  pub from : x ≤ next
+  pub until : next ≤ trace.last + 1
+  pub silent : (y : ℕ) → x ≤ y → y < next → ¬ StepsIn trace y p
+  pub step : next ≤ trace.last → StepsIn trace next p
+
+-- the next step of p from each tick on
+pub record IsSilence (trace : Recorded) (p : ℕ) (s : Silence) : Type 0 where
+  pub long : length s.next.items ≡ trace.last + 1
+  pub each : (x : ℕ) → x ≤ trace.last → IsNextStep trace p x (slice_index s.next.items x)
+
+-- the silence of each processor, and of number 0, which takes no step
+pub record AreSilences (trace : Recorded) (silences : List Silence) : Type 0 where
+  pub long : length silences ≡ trace.config.n + 1
+  pub each : (p : ℕ) (s : Silence) → slice_get silences p ≡ Some s → IsSilence trace p s
+
+-- the value stands from one place to before another, and elsewhere what stood there before
+pub record IsFilled (from until value : ℕ) (old new : List ℕ) : Type 0 where
+  pub inside : (x : ℕ) → from ≤ x → x < until → slice_index new x ≡ value
+  pub below : (x : ℕ) → x < from → slice_index new x ≡ slice_index old x
+  pub above : (x : ℕ) → from ≤ x → until ≤ x → slice_index new x ≡ slice_index old x
