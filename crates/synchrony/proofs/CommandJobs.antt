@@ -17,9 +17,9 @@ use Rattle.synchrony.specs.declared.command_line.Job.TheVariants as job
 use Rattle.synchrony.specs.declared.faults.Fault.{Fault}
 use Rattle.synchrony.specs.declared.faults.Fault.TheVariants as fault
 use Rattle.trace_text.proofs.Numbers.{bytes_eq-same}
-use Rattle.synchrony.specs.Commands.{AreRunRows, AsksForReplay, AsksForReport, AsksForUpgrade, NamesFile, NamesReplay, NamesReport, NamesRun, NamesUpgrade, is_flag, program, replay_line, report_line, upgrade_line}
-use Rattle.synchrony.specs.Jobs.{IsHelpFor, IsJobIn, IsJobOf, IsLineFault, IsListFault, IsMemory, IsNoList, IsRefusalFor, IsRefusalIn, IsRefusalOf, IsReplay, IsReport, IsUpgrade}
-use Rattle.synchrony.proofs.CommandLines.{asks_for_replay, asks_for_report, asks_for_upgrade, replay_faultless, report_faultless, upgrade_faultless}
+use Rattle.synchrony.specs.Commands.{AreCheckRows, AreRunRows, AsksForCheck, AsksForReplay, AsksForReport, AsksForUpgrade, NamesCheck, NamesFile, NamesReplay, NamesReport, NamesRun, NamesUpgrade, check_line, is_flag, program, replay_line, report_line, upgrade_line}
+use Rattle.synchrony.specs.Jobs.{AreBothStandardInput, IsCheck, IsFilesFault, IsHelpFor, IsJobIn, IsJobOf, IsLineFault, IsListFault, IsMemory, IsNoList, IsRefusalFor, IsRefusalIn, IsRefusalOf, IsReplay, IsReport, IsUpgrade}
+use Rattle.synchrony.proofs.CommandLines.{asks_for_check, asks_for_replay, asks_for_report, asks_for_upgrade, check_faultless, replay_faultless, report_faultless, upgrade_faultless}
 
 pub same_some : {A : Type 0} (a b : A) → Some a ≡ Some b → a ≡ b
 same_some a b e = cc
@@ -101,6 +101,15 @@ no_replay_runs sub f n t values patience steps a b = two_commands sub (codes "re
 no_upgrade_runs : (sub : Option (Text × List Row)) (f : Text) (n t : ℕ) (values : Text) (patience steps : ℕ) → NamesUpgrade sub f → NamesRun sub n t values patience steps → ⊥
 no_upgrade_runs sub f n t values patience steps a b = two_commands sub (codes "upgrade") (codes "run") a.rows b.rows a.named b.named refl
 
+no_report_checks : (sub : Option (Text × List Row)) (f l g c m : Text) → NamesReport sub f l → NamesCheck sub g c m → ⊥
+no_report_checks sub f l g c m a b = two_commands sub (codes "report") (codes "check") a.rows b.rows a.named b.named refl
+
+no_file_checks : (command : Text) (sub : Option (Text × List Row)) (f g c m : Text) → bytes_eq command (codes "check") ≡ false → NamesFile command sub f → NamesCheck sub g c m → ⊥
+no_file_checks command sub f g c m other a b = two_commands sub command (codes "check") a.rows b.rows a.named b.named other
+
+no_run_checks : (sub : Option (Text × List Row)) (n t : ℕ) (values : Text) (patience steps : ℕ) (g c m : Text) → NamesRun sub n t values patience steps → NamesCheck sub g c m → ⊥
+no_run_checks sub n t values patience steps g c m a b = two_commands sub (codes "run") (codes "check") a.rows b.rows a.named b.named refl
+
 no_replay_upgrades : (sub : Option (Text × List Row)) (f g : Text) → NamesReplay sub f → NamesUpgrade sub g → ⊥
 no_replay_upgrades sub f g a b = two_commands sub (codes "replay") (codes "upgrade") a.rows b.rows a.named b.named refl
 
@@ -118,18 +127,33 @@ run_in sub rows named n t values patience steps h =
     let same = ap (λ (p : Text × List Row). p.1) (same_some (codes "run", h.rows) (codes "run", rows) (sym h.named ∙ named)) in
     subst (λ rs. AreRunRows rs n t values patience steps) same h.has
 
+-- where `check` is named, its rows have what it names
+pub check_in : (sub : Option (Text × List Row)) (rows : List Row) → sub ≡ Some (codes "check", rows) → (file certificate list : Text)
+    → NamesCheck sub file certificate list → AreCheckRows rows file certificate list
+check_in sub rows named file certificate list h =
+    let same = ap (λ (p : Text × List Row). p.1) (same_some (codes "check", h.rows) (codes "check", rows) (sym h.named ∙ named)) in
+    subst (λ rs. AreCheckRows rs file certificate list) same h.has
+
+-- so one pair of files is named, and one list
+one_check : (sub : Option (Text × List Row)) (f c l g d m : Text) → NamesCheck sub f c l → NamesCheck sub g d m → (f ≡ g) × (c ≡ d) × (l ≡ m)
+one_check sub f c l g d m a b =
+    let other = check_in sub a.rows a.named g d m b in
+    (same_some f g (sym a.has.file_is ∙ other.file_is), same_some c d (sym a.has.certificate_is ∙ other.certificate_is), same_some l m (sym a.has.list_is ∙ other.list_is))
+
 -- a refusal where no job is named
 pub nothing_named : (sub : Option (Text × List Row)) (w : Fault) → IsLineFault w → ((file list : Text) → ¬ NamesReport sub file list)
     → ((file : Text) → ¬ NamesReplay sub file) → ((n t : ℕ) (values : Text) (patience steps : ℕ) → ¬ NamesRun sub n t values patience steps)
-    → ((file : Text) → ¬ NamesUpgrade sub file) → IsRefusalIn sub w
-nothing_named sub (fault.Command text) h report replay run upgrade = inr (inr (record { no_report = report; no_replay = replay; no_run = run; no_upgrade = upgrade }))
-nothing_named sub fault.Set h report replay run upgrade = absurd h
-nothing_named sub (fault.Trace e) h report replay run upgrade = absurd h
-nothing_named sub fault.Memory h report replay run upgrade = absurd h
-nothing_named sub fault.Read h report replay run upgrade = absurd h
-nothing_named sub (fault.Write n) h report replay run upgrade = absurd h
-nothing_named sub (fault.NotARun n) h report replay run upgrade = absurd h
-nothing_named sub fault.Threads h report replay run upgrade = absurd h
+    → ((file : Text) → ¬ NamesUpgrade sub file) → ((file certificate list : Text) → ¬ NamesCheck sub file certificate list) → IsRefusalIn sub w
+nothing_named sub (fault.Command text) h report replay run upgrade check =
+    inr (inr (inr (record { no_report = report; no_replay = replay; no_run = run; no_upgrade = upgrade; no_check = check })))
+nothing_named sub fault.Set h report replay run upgrade check = absurd h
+nothing_named sub (fault.Trace e) h report replay run upgrade check = absurd h
+nothing_named sub (fault.Certificate e) h report replay run upgrade check = absurd h
+nothing_named sub fault.Memory h report replay run upgrade check = absurd h
+nothing_named sub fault.Read h report replay run upgrade check = absurd h
+nothing_named sub (fault.Write n) h report replay run upgrade check = absurd h
+nothing_named sub (fault.NotARun n) h report replay run upgrade check = absurd h
+nothing_named sub fault.Threads h report replay run upgrade check = absurd h
 
 -- the parse of the program's command line is known
 is_simple_program : is_simple program ≡ true
@@ -153,6 +177,7 @@ job_of words sub e (job.Report name set) h = subst (λ s. IsJobIn s (job.Report 
 job_of words sub e (job.Replay name) h = subst (λ s. IsJobIn s (job.Replay name)) e h
 job_of words sub e (job.Run config patience steps) h = subst (λ s. IsJobIn s (job.Run config patience steps)) e h
 job_of words sub e (job.Upgrade name) h = subst (λ s. IsJobIn s (job.Upgrade name)) e h
+job_of words sub e (job.Check file certificate set) h = subst (λ s. IsJobIn s (job.Check file certificate set)) e h
 job_of words sub e (job.Help text) h = absurd h
 
 -- and what is refused in them is refused in the words
@@ -160,6 +185,7 @@ pub refusal_of : (words : List Text) (sub : Option (Text × List Row)) → sub �
 refusal_of words sub e (fault.Command text) h = inr (subst (λ s. IsRefusalIn s (fault.Command text)) e h)
 refusal_of words sub e fault.Set h = h
 refusal_of words sub e (fault.Trace why) h = h
+refusal_of words sub e (fault.Certificate why) h = h
 refusal_of words sub e fault.Memory h = h
 refusal_of words sub e fault.Read h = h
 refusal_of words sub e (fault.Write n) h = h
@@ -177,6 +203,7 @@ help_of words kind has (job.Report file set) h = absurd h
 help_of words kind has (job.Replay file) h = absurd h
 help_of words kind has (job.Run config patience steps) h = absurd h
 help_of words kind has (job.Upgrade file) h = absurd h
+help_of words kind has (job.Check file certificate set) h = absurd h
 help_of words kind has (job.Help text) h = record { kind = kind; among = among words kind h.0 has; help = h.1 }
 
 -- a refusal for an error of the words that asks for none
@@ -184,6 +211,7 @@ pub misread_of : (words : List Text) (kind : ErrorKind) → (kind ≡ OutOfMemor
 misread_of words kind has (fault.Command text) h = inl (record { kind = kind; among = among words kind h.0 has; no_help = h.1 })
 misread_of words kind has fault.Set h = h
 misread_of words kind has (fault.Trace e) h = h
+misread_of words kind has (fault.Certificate e) h = h
 misread_of words kind has fault.Memory h = h
 misread_of words kind has fault.Read h = h
 misread_of words kind has (fault.Write n) h = h
@@ -203,6 +231,8 @@ line_job words file list none asks (job.Replay name) h = absurd (no_report_repla
 line_job words file list none asks (job.Run config patience steps) h =
     absurd (no_report_runs (subcommand_of program words) file list config.n config.t h.text patience steps asks h.named)
 line_job words file list none asks (job.Upgrade name) h = absurd (no_report_upgrades (subcommand_of program words) file list (string_bytes name) asks h)
+line_job words file list none asks (job.Check name certificate set) h =
+    absurd (no_report_checks (subcommand_of program words) file list (string_bytes name) (string_bytes certificate) h.list asks h.named)
 line_job words file list none asks (job.Help text) h = absurd (none_among h.kind (fault_of program words) none h.among)
 
 -- and their refusals
@@ -212,9 +242,12 @@ line_refusal words file list none asks (fault.Command text) (inr (inl h)) =
     (h.told, subst IsNoList (one_file (subcommand_of program words) h.file h.list file list h.named asks).1 h.no_list)
 line_refusal words file list none asks (fault.Command text) (inr (inr (inl h))) =
     absurd (no_report_runs (subcommand_of program words) file list h.n h.t h.values h.patience h.steps asks h.named)
-line_refusal words file list none asks (fault.Command text) (inr (inr (inr h))) = absurd (h.no_report file list asks)
+line_refusal words file list none asks (fault.Command text) (inr (inr (inr (inl h)))) =
+    absurd (no_report_checks (subcommand_of program words) file list h.file h.certificate h.list asks h.named)
+line_refusal words file list none asks (fault.Command text) (inr (inr (inr (inr h)))) = absurd (h.no_report file list asks)
 line_refusal words file list none asks fault.Set h = h
 line_refusal words file list none asks (fault.Trace e) h = h
+line_refusal words file list none asks (fault.Certificate e) h = h
 line_refusal words file list none asks fault.Memory h = h
 line_refusal words file list none asks fault.Read h = h
 line_refusal words file list none asks (fault.Write n) h = h
@@ -238,6 +271,8 @@ replayed_job words file none asks (job.Replay name) h = one_file_of (codes "repl
 replayed_job words file none asks (job.Run config patience steps) h =
     absurd (no_replay_runs (subcommand_of program words) file config.n config.t h.text patience steps asks h.named)
 replayed_job words file none asks (job.Upgrade name) h = absurd (no_replay_upgrades (subcommand_of program words) file (string_bytes name) asks h)
+replayed_job words file none asks (job.Check name certificate set) h =
+    absurd (no_file_checks (codes "replay") (subcommand_of program words) file (string_bytes name) (string_bytes certificate) h.list refl asks h.named)
 replayed_job words file none asks (job.Help text) h = absurd (none_among h.kind (fault_of program words) none h.among)
 
 replayed_refusal : (words : List Text) (file : Text) → fault_of program words ≡ [] → AsksForReplay words file → (w : Fault) → IsRefusalOf words w → IsMemory w
@@ -245,9 +280,12 @@ replayed_refusal words file none asks (fault.Command text) (inl h) = absurd (non
 replayed_refusal words file none asks (fault.Command text) (inr (inl h)) = absurd (no_report_replays (subcommand_of program words) h.file h.list file h.named asks)
 replayed_refusal words file none asks (fault.Command text) (inr (inr (inl h))) =
     absurd (no_replay_runs (subcommand_of program words) file h.n h.t h.values h.patience h.steps asks h.named)
-replayed_refusal words file none asks (fault.Command text) (inr (inr (inr h))) = absurd (h.no_replay file asks)
+replayed_refusal words file none asks (fault.Command text) (inr (inr (inr (inl h)))) =
+    absurd (no_file_checks (codes "replay") (subcommand_of program words) file h.file h.certificate h.list refl asks h.named)
+replayed_refusal words file none asks (fault.Command text) (inr (inr (inr (inr h)))) = absurd (h.no_replay file asks)
 replayed_refusal words file none asks fault.Set h = h
 replayed_refusal words file none asks (fault.Trace e) h = h
+replayed_refusal words file none asks (fault.Certificate e) h = h
 replayed_refusal words file none asks fault.Memory h = h
 replayed_refusal words file none asks fault.Read h = h
 replayed_refusal words file none asks (fault.Write n) h = h
@@ -271,6 +309,8 @@ upgraded_job words file none asks (job.Replay name) h = absurd (no_replay_upgrad
 upgraded_job words file none asks (job.Run config patience steps) h =
     absurd (no_upgrade_runs (subcommand_of program words) file config.n config.t h.text patience steps asks h.named)
 upgraded_job words file none asks (job.Upgrade name) h = one_file_of (codes "upgrade") (subcommand_of program words) (string_bytes name) file h asks
+upgraded_job words file none asks (job.Check name certificate set) h =
+    absurd (no_file_checks (codes "upgrade") (subcommand_of program words) file (string_bytes name) (string_bytes certificate) h.list refl asks h.named)
 upgraded_job words file none asks (job.Help text) h = absurd (none_among h.kind (fault_of program words) none h.among)
 
 upgraded_refusal : (words : List Text) (file : Text) → fault_of program words ≡ [] → AsksForUpgrade words file → (w : Fault) → IsRefusalOf words w → IsMemory w
@@ -278,9 +318,12 @@ upgraded_refusal words file none asks (fault.Command text) (inl h) = absurd (non
 upgraded_refusal words file none asks (fault.Command text) (inr (inl h)) = absurd (no_report_upgrades (subcommand_of program words) h.file h.list file h.named asks)
 upgraded_refusal words file none asks (fault.Command text) (inr (inr (inl h))) =
     absurd (no_upgrade_runs (subcommand_of program words) file h.n h.t h.values h.patience h.steps asks h.named)
-upgraded_refusal words file none asks (fault.Command text) (inr (inr (inr h))) = absurd (h.no_upgrade file asks)
+upgraded_refusal words file none asks (fault.Command text) (inr (inr (inr (inl h)))) =
+    absurd (no_file_checks (codes "upgrade") (subcommand_of program words) file h.file h.certificate h.list refl asks h.named)
+upgraded_refusal words file none asks (fault.Command text) (inr (inr (inr (inr h)))) = absurd (h.no_upgrade file asks)
 upgraded_refusal words file none asks fault.Set h = h
 upgraded_refusal words file none asks (fault.Trace e) h = h
+upgraded_refusal words file none asks (fault.Certificate e) h = h
 upgraded_refusal words file none asks fault.Memory h = h
 upgraded_refusal words file none asks fault.Read h = h
 upgraded_refusal words file none asks (fault.Write n) h = h
@@ -296,3 +339,55 @@ upgrade_is words (Ok j) h _ name file line plain =
 upgrade_is words (Err w) _ h name file line plain =
     upgraded_refusal words file (ap (fault_of program) line ∙ upgrade_faultless name file plain)
     (subst (λ ws. AsksForUpgrade ws file) (sym line) (asks_for_upgrade name file plain)) w h
+
+-- the same of a check, but for its list and for its files
+checked_job : (words : List Text) (file certified list : Text) → fault_of program words ≡ [] → AsksForCheck words file certified list → (j : Job) → IsJobOf words j
+    → IsCheck file certified list j
+checked_job words file certified list none asks (job.Report name set) h =
+    absurd (no_report_checks (subcommand_of program words) (string_bytes name) h.0 file certified list h.1 asks)
+checked_job words file certified list none asks (job.Replay name) h =
+    absurd (no_file_checks (codes "replay") (subcommand_of program words) (string_bytes name) file certified list refl h asks)
+checked_job words file certified list none asks (job.Run config patience steps) h =
+    absurd (no_run_checks (subcommand_of program words) config.n config.t h.text patience steps file certified list h.named asks)
+checked_job words file certified list none asks (job.Upgrade name) h =
+    absurd (no_file_checks (codes "upgrade") (subcommand_of program words) (string_bytes name) file certified list refl h asks)
+checked_job words file certified list none asks (job.Check name certificate set) h =
+    let same = one_check (subcommand_of program words) (string_bytes name) (string_bytes certificate) h.list file certified list h.named asks in (
+      same.0,
+      same.1,
+      subst (λ l. IsSetIn l set) same.2 h.listed,
+      subst (λ c. ¬ AreBothStandardInput file c) same.1 (subst (λ f. ¬ AreBothStandardInput f (string_bytes certificate)) same.0 h.apart),
+    )
+checked_job words file certified list none asks (job.Help text) h = absurd (none_among h.kind (fault_of program words) none h.among)
+
+checked_refusal : (words : List Text) (file certified list : Text) → fault_of program words ≡ [] → AsksForCheck words file certified list → (w : Fault) → IsRefusalOf words w
+    → IsFilesFault file certified list w
+checked_refusal words file certified list none asks (fault.Command text) (inl h) = absurd (none_among h.kind (fault_of program words) none h.among)
+checked_refusal words file certified list none asks (fault.Command text) (inr (inl h)) =
+    absurd (no_report_checks (subcommand_of program words) h.file h.list file certified list h.named asks)
+checked_refusal words file certified list none asks (fault.Command text) (inr (inr (inl h))) =
+    absurd (no_run_checks (subcommand_of program words) h.n h.t h.values h.patience h.steps file certified list h.named asks)
+checked_refusal words file certified list none asks (fault.Command text) (inr (inr (inr (inl h)))) =
+    let same = one_check (subcommand_of program words) h.file h.certificate h.list file certified list h.named asks in
+    subst (λ l. IsFilesFault file certified l (fault.Command text)) same.2
+    (subst (λ c. IsFilesFault file c h.list (fault.Command text)) same.1 (subst (λ f. IsFilesFault f h.certificate h.list (fault.Command text)) same.0 h.refused))
+checked_refusal words file certified list none asks (fault.Command text) (inr (inr (inr (inr h)))) = absurd (h.no_check file certified list asks)
+checked_refusal words file certified list none asks fault.Set h = h
+checked_refusal words file certified list none asks (fault.Trace e) h = h
+checked_refusal words file certified list none asks (fault.Certificate e) h = h
+checked_refusal words file certified list none asks fault.Memory h = h
+checked_refusal words file certified list none asks fault.Read h = h
+checked_refusal words file certified list none asks (fault.Write n) h = h
+checked_refusal words file certified list none asks (fault.NotARun n) h = h
+checked_refusal words file certified list none asks fault.Threads h = h
+
+-- the line `check FILE CERT --correct LIST` gives the check of those files for that list
+pub check_is : (words : List Text) (r : Result Job Fault) → IfOk r (IsJobOf words) → IfErr r (IsRefusalOf words) → (name file certified list : Text)
+    → words ≡ check_line name file certified list → is_flag file ≡ false → is_flag certified ≡ false → is_flag list ≡ false
+    → MatchResult r (IsCheck file certified list) (IsFilesFault file certified list)
+check_is words (Ok j) h _ name file certified list line plain_file plain_certified plain_list =
+    checked_job words file certified list (ap (fault_of program) line ∙ check_faultless name file certified list plain_file plain_certified plain_list)
+    (subst (λ ws. AsksForCheck ws file certified list) (sym line) (asks_for_check name file certified list plain_file plain_certified plain_list)) j h
+check_is words (Err w) _ h name file certified list line plain_file plain_certified plain_list =
+    checked_refusal words file certified list (ap (fault_of program) line ∙ check_faultless name file certified list plain_file plain_certified plain_list)
+    (subst (λ ws. AsksForCheck ws file certified list) (sym line) (asks_for_check name file certified list plain_file plain_certified plain_list)) w h

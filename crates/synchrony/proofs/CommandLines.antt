@@ -1,5 +1,5 @@
--- The lines `report FILE --correct LIST`, `replay FILE` and `upgrade FILE` ask for that report, that replay and
--- that upgrade, and nothing in them is refused.
+-- The lines `report FILE --correct LIST`, `replay FILE`, `upgrade FILE` and `check FILE CERT --correct LIST` ask for
+-- that report, that replay, that upgrade and that check, and nothing in them is refused.
 use Rattle.std.proofs.Common.{◌≡◌, ◌∙◌, ap, ap₂, refl, ℕ, Bool, true, false, ◌==◌, List, [], ◌∷◌, Some, None, codes}
 use Rattle.std.specs.Prelude.{◌&&◌, if◌then◌else◌, option_and_then}
 use Rattle.std.specs.Str.{bytes_eq}
@@ -10,7 +10,7 @@ use Rattle.clap.specs.Simple.{Shape, built, names_of}
 use Rattle.clap.specs.Walk.{Held, Text, Waiting, Walk, after_step, finished, nothing_held, plain_word, settled, subcommand_met, walk, walk_from, walked, word_met}
 use Rattle.clap.specs.Words.{Rule, fault_of}
 use Rattle.clap.proofs.OnLiterals.{clap_on_literals}
-use Rattle.synchrony.specs.Commands.{AsksForReplay, AsksForReport, AsksForUpgrade, is_flag, program, replay_app, replay_line, report_app, report_line, upgrade_app, upgrade_line}
+use Rattle.synchrony.specs.Commands.{AsksForCheck, AsksForReplay, AsksForReport, AsksForUpgrade, check_app, check_line, is_flag, program, replay_app, replay_line, report_app, report_line, upgrade_app, upgrade_line}
 
 -- a word that is no flag is neither `--` nor a long nor a short flag
 pub not_dashes : (word : Text) → is_flag word ≡ false → bytes_eq word (45 ∷ 45 ∷ []) ≡ false
@@ -84,6 +84,14 @@ fourth_shape (s ∷ _ ∷ more) = second_shape more
 -- `upgrade` likewise
 abbrev upgrade : Shape
 upgrade = fourth_shape (built program).subs
+
+abbrev fifth_shape : List Shape → Shape
+fifth_shape [] = check_app.top
+fifth_shape (s ∷ more) = fourth_shape more
+
+-- `check` likewise
+abbrev check : Shape
+check = fifth_shape (built program).subs
 
 -- where the walk over the words after a command stands
 abbrev start : Walk
@@ -192,3 +200,62 @@ unfolding clap_on_literals
 upgrade_faultless name file plain =
     ap (λ below. level_fault (built program).top (names_of (built program)) nothing_held (codes "upgrade" ∷ file ∷ []) true below)
     (upgrade_passes file plain)
+
+abbrev after_trace : Text → Walk
+after_trace file = after_plain check.rules start file
+
+abbrev after_certificate : Text → Text → Walk
+after_certificate file certified = after_plain check.rules (after_trace file) certified
+
+abbrev after_correct : Text → Text → Walk
+after_correct file certified = walked check.rules [] (after_certificate file certified) (codes "--correct")
+
+abbrev after_checked : Text → Text → Text → Walk
+after_checked file certified list = after_plain check.rules (after_correct file certified) list
+
+check_walk : (file certified list : Text) → is_flag file ≡ false → is_flag certified ≡ false → is_flag list ≡ false
+    → walk check.rules [] nothing_held (file ∷ certified ∷ codes "--correct" ∷ list ∷ []) ≡ after_checked file certified list
+unfolding clap_on_literals
+check_walk file certified list plain_file plain_certified plain_list =
+    ap (λ w. walked check.rules [] (walked check.rules [] (walked check.rules [] w certified) (codes "--correct")) list) (walked_plain check.rules start file plain_file refl refl refl)
+    ∙ (ap (λ w. walked check.rules [] (walked check.rules [] w (codes "--correct")) list) (walked_plain check.rules (after_trace file) certified plain_certified refl refl refl)
+    ∙ walked_plain check.rules (after_correct file certified) list plain_list refl refl refl)
+
+pub asks_for_check : (name file certified list : Text) → is_flag file ≡ false → is_flag certified ≡ false → is_flag list ≡ false
+    → AsksForCheck (check_line name file certified list) file certified list
+unfolding clap_on_literals
+asks_for_check name file certified list plain_file plain_certified plain_list = record {
+  rows = finished check.rules (after_checked file certified list).held;
+  named = ap (λ (w : Walk). Some (codes "check", finished check.rules w.held)) (check_walk file certified list plain_file plain_certified plain_list);
+  has = record { file_is = refl; certificate_is = refl; list_is = refl };
+}
+
+-- nothing in the words after the first file is refused
+later_pass : (file certified list : Text) → is_flag certified ≡ false → is_flag list ≡ false
+    → walk_fault check [] (after_trace file) (certified ∷ codes "--correct" ∷ list ∷ []) ≡ []
+unfolding clap_on_literals
+later_pass file certified list plain_certified plain_list =
+    ap₂ or_else (turn_plain check (after_trace file) certified plain_certified refl refl refl)
+    (ap (λ w. walk_fault check [] w (codes "--correct" ∷ list ∷ [])) (walked_plain check.rules (after_trace file) certified plain_certified refl refl refl)
+    ∙ ap (λ k. or_else k []) (turn_plain check (after_correct file certified) list plain_list refl refl refl))
+
+files_pass : (file certified list : Text) → is_flag file ≡ false → is_flag certified ≡ false → is_flag list ≡ false
+    → walk_fault check [] start (file ∷ certified ∷ codes "--correct" ∷ list ∷ []) ≡ []
+unfolding clap_on_literals
+files_pass file certified list plain_file plain_certified plain_list =
+    ap₂ or_else (turn_plain check start file plain_file refl refl refl)
+    (ap (λ w. walk_fault check [] w (certified ∷ codes "--correct" ∷ list ∷ [])) (walked_plain check.rules start file plain_file refl refl refl)
+    ∙ later_pass file certified list plain_certified plain_list)
+
+check_passes : (file certified list : Text) → is_flag file ≡ false → is_flag certified ≡ false → is_flag list ≡ false
+    → level_fault check [] nothing_held (file ∷ certified ∷ codes "--correct" ∷ list ∷ []) false [] ≡ []
+unfolding clap_on_literals
+check_passes file certified list plain_file plain_certified plain_list =
+    ap₂ (level_end check) (files_pass file certified list plain_file plain_certified plain_list) (check_walk file certified list plain_file plain_certified plain_list)
+
+pub check_faultless : (name file certified list : Text) → is_flag file ≡ false → is_flag certified ≡ false → is_flag list ≡ false
+    → fault_of program (check_line name file certified list) ≡ []
+unfolding clap_on_literals
+check_faultless name file certified list plain_file plain_certified plain_list =
+    ap (λ below. level_fault (built program).top (names_of (built program)) nothing_held (codes "check" ∷ file ∷ certified ∷ codes "--correct" ∷ list ∷ []) true below)
+    (check_passes file certified list plain_file plain_certified plain_list)

@@ -5,3 +5,4 @@ pub mod UpgradeFaults
 pub mod ValueLists
 pub mod RunRows
 pub mod EvenRuns
+pub mod CheckFaults

@@ -28,7 +28,7 @@ of_known P text None same p = tt
 of_known P text (Some xs) same p = subst P same p
 
 -- a text that is too large has that as its first refusal
-too_large : (text : List ℕ) → MAX_TEXT_BYTES < length text → IsFirstRefusal text why.TooLarge
+pub too_large : (text : List ℕ) → MAX_TEXT_BYTES < length text → IsFirstRefusal text why.TooLarge
 too_large text h = let e : nat_le (length text) MAX_TEXT_BYTES ≡ false = grind (arith, nat_tests) in rw e refl
 
 -- a refusal of the reading has its cause
@@ -45,6 +45,7 @@ pub trace_fault : (set : ℕ) (text : List ℕ) (w : Fault) → IsTraceFault tex
 trace_fault set text (fault.Command words) h = absurd h
 trace_fault set text fault.Set h = absurd h
 trace_fault set text (fault.Trace e) h = h.0
+trace_fault set text (fault.Certificate e) h = absurd h
 trace_fault set text fault.Memory h = tt
 trace_fault set text fault.Read h = absurd h
 trace_fault set text (fault.Write n) h = absurd h
@@ -55,6 +56,7 @@ pub own_trace_fault : (text : List ℕ) (w : Fault) → IsTraceFault text w → 
 own_trace_fault text (fault.Command words) h = absurd h
 own_trace_fault text fault.Set h = absurd h
 own_trace_fault text (fault.Trace e) h = (h.1, h.2)
+own_trace_fault text (fault.Certificate e) h = absurd h
 own_trace_fault text fault.Memory h = tt
 own_trace_fault text fault.Read h = absurd h
 own_trace_fault text (fault.Write n) h = absurd h
@@ -78,6 +80,7 @@ pub text_fault : (set : ℕ) (text : List ℕ) (before after : Option (List ℕ)
 text_fault set text before after (fault.Command words) h = h
 text_fault set text before after fault.Set h = h
 text_fault set text before after (fault.Trace e) h = h
+text_fault set text before after (fault.Certificate e) h = h
 text_fault set text before after fault.Memory h = tt
 text_fault set text before after fault.Read h = tt
 text_fault set text before after (fault.Write n) h = absurd h

@@ -50,9 +50,18 @@ run_app = with_rule (with_rule (with_rule (with_rule (with_rule (new_app (codes 
 abbrev pub upgrade_app : App
 upgrade_app = with_rule (new_app (codes "upgrade")) file_rule
 
+-- CERT
+abbrev pub certificate_rule : Rule
+certificate_rule = record (new_rule (codes "certificate")) { action = Some Set; value_names = 1; required = true }
+
+-- check FILE CERT --correct LIST
+abbrev pub check_app : App
+check_app = with_rule (with_rule (with_rule (new_app (codes "check")) file_rule) certificate_rule) correct_rule
+
 -- the program, which has a version and these commands
 abbrev pub program : App
-program = with_subcommand (with_subcommand (with_subcommand (with_subcommand bare_program report_app.top) replay_app.top) run_app.top) upgrade_app.top
+program = with_subcommand (with_subcommand (with_subcommand (with_subcommand (with_subcommand bare_program report_app.top) replay_app.top) run_app.top)
+    upgrade_app.top) check_app.top
 
 -- a subcommand and its matches are `report` with this file and this list
 pub record NamesReport (sub : Option (Text × List Row)) (file list : Text) : Type 0 where
@@ -97,12 +106,25 @@ pub record NamesRun (sub : Option (Text × List Row)) (n t : ℕ) (values : Text
   pub named : sub ≡ Some (codes "run", rows)
   pub has : AreRunRows rows n t values patience steps
 
+-- the rows below `check` have these two files and this list
+pub record AreCheckRows (rows : List Row) (file certificate list : Text) : Type 0 where
+  pub file_is : first_of (codes "file") rows ≡ Some file
+  pub certificate_is : first_of (codes "certificate") rows ≡ Some certificate
+  pub list_is : first_of (codes "correct") rows ≡ Some list
+
+-- a subcommand and its matches are `check` with these two files and this list
+pub record NamesCheck (sub : Option (Text × List Row)) (file certificate list : Text) : Type 0 where
+  pub rows : List Row
+  pub named : sub ≡ Some (codes "check", rows)
+  pub has : AreCheckRows rows file certificate list
+
 -- a subcommand and its matches name none of the jobs above
 pub record NamesNoJob (sub : Option (Text × List Row)) : Type 0 where
   pub no_report : (file list : Text) → ¬ NamesReport sub file list
   pub no_replay : (file : Text) → ¬ NamesReplay sub file
   pub no_run : (n t : ℕ) (values : Text) (patience steps : ℕ) → ¬ NamesRun sub n t values patience steps
   pub no_upgrade : (file : Text) → ¬ NamesUpgrade sub file
+  pub no_check : (file certificate list : Text) → ¬ NamesCheck sub file certificate list
 
 -- the words ask for the report of this file, for this list
 abbrev pub AsksForReport : List Text → Text → Text → Type 0
@@ -119,6 +141,10 @@ AsksForReplay words file = NamesReplay (subcommand_of program words) file
 -- the words ask for the upgrade of this file
 abbrev pub AsksForUpgrade : List Text → Text → Type 0
 AsksForUpgrade words file = NamesUpgrade (subcommand_of program words) file
+
+-- the words ask for the check of these two files, for this list
+abbrev pub AsksForCheck : List Text → Text → Text → Text → Type 0
+AsksForCheck words file certificate list = NamesCheck (subcommand_of program words) file certificate list
 
 -- the words ask for a help text
 pub record AsksForHelp (words : List Text) : Type 0 where
@@ -149,3 +175,7 @@ replay_line name file = name ∷ codes "replay" ∷ file ∷ []
 -- the line `upgrade FILE`, after the program's name
 abbrev pub upgrade_line : Text → Text → List Text
 upgrade_line name file = name ∷ codes "upgrade" ∷ file ∷ []
+
+-- the line `check FILE CERT --correct LIST`, after the program's name
+abbrev pub check_line : Text → Text → Text → Text → List Text
+check_line name file certificate list = name ∷ codes "check" ∷ file ∷ certificate ∷ codes "--correct" ∷ list ∷ []

@@ -3,6 +3,8 @@ use Rattle.std.specs.Prelude.{ℕ, ◌-◌, List, [], ◌∷◌, ◌++◌, lengt
 use Rattle.step_trace.specs.PushErrorTexts.{push_error_text}
 use Rattle.trace_text.specs.declared.refusals.TextError.{TextError}
 use Rattle.trace_text.specs.declared.refusals.TextError.TheVariants as why
+use Rattle.front.specs.declared.refusals.ReportError.{ReportError}
+use Rattle.front.specs.declared.refusals.ReportError.TheVariants as uncertified
 use Rattle.synchrony.specs.declared.faults.Fault.{Fault}
 use Rattle.synchrony.specs.declared.faults.Fault.TheVariants as fault
 
@@ -28,11 +30,26 @@ trace_words why.WrongEnd = codes "wrong end"
 trace_words why.AfterEnd = codes "text after end"
 trace_words why.Memory = codes "out of memory"
 
+-- a refusal of the row of this number
+abbrev pub in_row : ℕ → List ℕ → List ℕ
+in_row number words = codes "row " ++ (decimal number ++ (codes ": " ++ words))
+
+-- what is told of a refused certificate
+abbrev pub certificate_words : ReportError → List ℕ
+certificate_words uncertified.TooLarge = codes "text too large"
+certificate_words uncertified.Read = codes "cannot read"
+certificate_words uncertified.BadHeader = codes "bad header"
+certificate_words (uncertified.BadFields number) = in_row number (codes "bad fields")
+certificate_words (uncertified.BadNumber number) = in_row number (codes "bad number")
+certificate_words (uncertified.HalfWitness number) = in_row number (codes "half a witness")
+certificate_words uncertified.Memory = codes "out of memory"
+
 -- the line of a fault; that of a refused command line is in its reader's words
 abbrev pub fault_line : Fault → List ℕ
 fault_line (fault.Command words) = string_bytes words
 fault_line fault.Set = codes "synchrony: no such processor in --correct"
 fault_line (fault.Trace reason) = codes "synchrony: trace: " ++ trace_words reason
+fault_line (fault.Certificate reason) = codes "synchrony: certificate: " ++ certificate_words reason
 fault_line fault.Memory = codes "synchrony: out of memory"
 fault_line fault.Read = codes "synchrony: cannot read"
 fault_line (fault.Write written) = codes "synchrony: cannot write"

@@ -8,6 +8,8 @@ use Rattle.trace_text.specs.declared.refusals.WriteError.{WriteError}
 use Rattle.trace_text.specs.declared.refusals.WriteError.TheVariants as unwritten
 use Rattle.step_buffers.specs.declared.replays.ReplayError.{ReplayError}
 use Rattle.step_buffers.specs.declared.replays.ReplayError.TheVariants as unreplayed
+use Rattle.front.specs.declared.refusals.ReportError.{ReportError}
+use Rattle.front.specs.declared.refusals.ReportError.TheVariants as uncertified
 use Rattle.synchrony.specs.declared.faults.Fault.{Fault}
 use Rattle.synchrony.specs.declared.faults.Fault.TheVariants as fault
 
@@ -16,6 +18,7 @@ abbrev pub status_of : Fault → ℕ
 status_of (fault.Command text) = 2
 status_of fault.Set = 2
 status_of (fault.Trace e) = 3
+status_of (fault.Certificate e) = 4
 status_of fault.Memory = 5
 status_of fault.Read = 6
 status_of (fault.Write written) = 6
@@ -27,6 +30,12 @@ abbrev pub fault_of_text : TextError → Fault
 fault_of_text why.Read = fault.Read
 fault_of_text why.Memory = fault.Memory
 fault_of_text e = fault.Trace e
+
+-- the fault that a refusal of a certificate is, likewise
+abbrev pub fault_of_certificate : ReportError → Fault
+fault_of_certificate uncertified.Read = fault.Read
+fault_of_certificate uncertified.Memory = fault.Memory
+fault_of_certificate e = fault.Certificate e
 
 -- the fault that a trace which wasn't replayed is
 abbrev pub fault_of_replay : ReplayError → Fault

@@ -6,7 +6,7 @@ use Rattle.clap.specs.declared.error.kind.ErrorKind.TheVariants.{OutOfMemory}
 use Rattle.step_trace.specs.declared.traces.TheConstants.{MAX_STEPS}
 use Rattle.step_trace.specs.Configurations.{Setup, IsSetup}
 use Rattle.step_trace.specs.ProcessorLists.{IsSetIn, IsListOf}
-use Rattle.synchrony.specs.Commands.{AsksForHelp, IsHelp, IsMisread, NamesNoJob, NamesReplay, NamesReport, NamesRun, NamesUpgrade, program}
+use Rattle.synchrony.specs.Commands.{AsksForHelp, IsHelp, IsMisread, NamesCheck, NamesNoJob, NamesReplay, NamesReport, NamesRun, NamesUpgrade, program}
 use Rattle.synchrony.specs.RunJobs.{IsRunFault}
 use Rattle.synchrony.specs.ValueLists.{IsValueList}
 use Rattle.synchrony.specs.declared.command_line.Job.{Job}
@@ -29,6 +29,23 @@ abbrev pub IsUpgrade : List ℕ → Job → Type 0
 IsUpgrade name (job.Upgrade file) = string_bytes file ≡ name
 IsUpgrade name _ = ⊥
 
+-- both names are that of standard input
+abbrev pub AreBothStandardInput : List ℕ → List ℕ → Type 0
+AreBothStandardInput a b = (a ≡ codes "-") × (b ≡ codes "-")
+
+-- the check of the files of these names, which aren't both standard input, for the set that this list is
+abbrev pub IsCheck : List ℕ → List ℕ → List ℕ → Job → Type 0
+IsCheck name certified list (job.Check file certificate set) =
+    (string_bytes file ≡ name) × (string_bytes certificate ≡ certified) × IsSetIn list set × (¬ AreBothStandardInput name certified)
+IsCheck name certified list _ = ⊥
+
+-- A subcommand and its matches are `check` with the files of this job, and the job keeps the limits of the command.
+pub record IsCheckIn (sub : Option (Text × List Row)) (file certificate : Text) (set : ℕ) : Type 0 where
+  pub list : Text
+  pub named : NamesCheck sub file certificate list
+  pub listed : IsSetIn list set
+  pub apart : ¬ AreBothStandardInput file certificate
+
 -- A subcommand and its matches are `run` with the numbers of this job and with a list of its values, and the job
 -- keeps the limits of the command.
 pub record IsRunIn (sub : Option (Text × List Row)) (config : Setup) (patience steps : ℕ) : Type 0 where
@@ -39,22 +56,25 @@ pub record IsRunIn (sub : Option (Text × List Row)) (config : Setup) (patience 
   pub room : config.n * steps ≤ MAX_STEPS
 
 -- the report that a subcommand and its matches name, for the set that their list is; or the replay;
--- or the run; or the upgrade
+-- or the run; or the upgrade; or the check
 abbrev pub IsJobIn : Option (Text × List Row) → Job → Type 0
 IsJobIn sub (job.Report file set) = (list : Text) × NamesReport sub (string_bytes file) list × IsSetIn list set
 IsJobIn sub (job.Replay file) = NamesReplay sub (string_bytes file)
 IsJobIn sub (job.Run config patience steps) = IsRunIn sub config patience steps
 IsJobIn sub (job.Upgrade file) = NamesUpgrade sub (string_bytes file)
+IsJobIn sub (job.Check file certificate set) = IsCheckIn sub (string_bytes file) (string_bytes certificate) set
 IsJobIn sub (job.Help text) = ⊥
 
 -- the job that the words ask for: the report of the file that they name, for the set that their list
 -- is; or the replay of the file that they name; or the run of the numbers and values that they
--- name; or the upgrade of the file that they name; or a help text
+-- name; or the upgrade of the file that they name; or the check of the two files that they name, for the set that
+-- their list is; or a help text
 abbrev pub IsJobOf : List Text → Job → Type 0
 IsJobOf words (job.Report file set) = IsJobIn (subcommand_of program words) (job.Report file set)
 IsJobOf words (job.Replay file) = IsJobIn (subcommand_of program words) (job.Replay file)
 IsJobOf words (job.Run config patience steps) = IsJobIn (subcommand_of program words) (job.Run config patience steps)
 IsJobOf words (job.Upgrade file) = IsJobIn (subcommand_of program words) (job.Upgrade file)
+IsJobOf words (job.Check file certificate set) = IsJobIn (subcommand_of program words) (job.Check file certificate set)
 IsJobOf words (job.Help text) = AsksForHelp words
 
 -- a help text, which an answer of this kind is
@@ -72,6 +92,19 @@ abbrev pub IsListFault : List ℕ → Fault → Type 0
 IsListFault list (fault.Command text) = (string_bytes text ≡ codes "synchrony: bad --correct") × IsNoList list
 IsListFault list fault.Memory = Unit {0}
 IsListFault list _ = ⊥
+
+-- Both files are standard input, though the list is one.
+pub record IsOneInput (name certified list text : List ℕ) : Type 0 where
+  pub both : AreBothStandardInput name certified
+  pub set : ℕ
+  pub listed : IsSetIn list set
+  pub told : text ≡ codes "synchrony: only one file can be -"
+
+-- the refusal of a text that is no list, or else of two files that are both standard input; or want of memory
+abbrev pub IsFilesFault : List ℕ → List ℕ → List ℕ → Fault → Type 0
+IsFilesFault name certified list (fault.Command text) = IsListFault list (fault.Command text) ⊎ IsOneInput name certified list (string_bytes text)
+IsFilesFault name certified list fault.Memory = Unit {0}
+IsFilesFault name certified list _ = ⊥
 
 -- the fault is want of memory
 abbrev pub IsMemory : Fault → Type 0
@@ -101,10 +134,18 @@ pub record NamesNoRun (sub : Option (Text × List Row)) (words : Fault) : Type 0
   pub named : NamesRun sub n t values patience steps
   pub refused : IsRunFault n t values steps words
 
--- they are refused for their list, or for the numbers and values of a run, or where they name no job; or for
--- want of memory
+-- a subcommand and its matches are `check` with a list or with files that are refused in these words
+pub record NamesNoCheck (sub : Option (Text × List Row)) (words : Fault) : Type 0 where
+  pub file : Text
+  pub certificate : Text
+  pub list : Text
+  pub named : NamesCheck sub file certificate list
+  pub refused : IsFilesFault file certificate list words
+
+-- they are refused for their list, or for the numbers and values of a run, or for the files of a check, or where
+-- they name no job; or for want of memory
 abbrev pub IsRefusalIn : Option (Text × List Row) → Fault → Type 0
-IsRefusalIn sub (fault.Command text) = NamesNoList sub (string_bytes text) ⊎ (NamesNoRun sub (fault.Command text) ⊎ NamesNoJob sub)
+IsRefusalIn sub (fault.Command text) = NamesNoList sub (string_bytes text) ⊎ (NamesNoRun sub (fault.Command text) ⊎ (NamesNoCheck sub (fault.Command text) ⊎ NamesNoJob sub))
 IsRefusalIn sub fault.Memory = Unit {0}
 IsRefusalIn sub _ = ⊥
 

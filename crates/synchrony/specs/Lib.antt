@@ -9,5 +9,7 @@ pub mod Inputs
 pub mod Reports
 pub mod ReplayTexts
 pub mod Replays
-pub mod Upgrades
 pub mod Runs
+pub mod Upgrades
+pub mod VerdictLines
+pub mod Checks

@@ -32,13 +32,14 @@ pub record IsTextOffRun (text : List ℕ) (number : ℕ) : Type 0 where
   pub read : IsTextOf text trace
   pub off : IsFirstOff trace.config trace.steps number
 
--- the fault is none of the command line, of a set or of threads; want of memory and a failed read are faults of their
+-- the fault is none of the command line, of a set, of a certificate or of threads; want of memory and a failed read are faults of their
 -- own, and no refusals of the trace
 abbrev pub IsFaultOfReplay : Fault → Type 0
 IsFaultOfReplay (fault.Command words) = ⊥
 IsFaultOfReplay fault.Set = ⊥
 IsFaultOfReplay fault.Threads = ⊥
 IsFaultOfReplay (fault.Trace reason) = (reason ≢ why.Read) × (reason ≢ why.Memory)
+IsFaultOfReplay (fault.Certificate reason) = ⊥
 IsFaultOfReplay _ = ⊤
 
 -- The fault has its cause in the text: its first refusal, or a first step that is none of a run.

@@ -37,6 +37,7 @@ pub record IsSetOutside (set : ℕ) (text : List ℕ) : Type 0 where
 abbrev pub IsFaultOfReport : Fault → Type 0
 IsFaultOfReport (fault.Command words) = ⊥
 IsFaultOfReport (fault.Trace reason) = (reason ≢ why.Read) × (reason ≢ why.Memory)
+IsFaultOfReport (fault.Certificate reason) = ⊥
 IsFaultOfReport (fault.NotARun number) = ⊥
 IsFaultOfReport fault.Threads = ⊥
 IsFaultOfReport _ = ⊤
@@ -46,6 +47,7 @@ abbrev pub IsTextFault : ℕ → List ℕ → Fault → Type 0
 IsTextFault set text (fault.Command words) = ⊥
 IsTextFault set text fault.Set = IsSetOutside set text
 IsTextFault set text (fault.Trace reason) = IsFirstRefusal text reason
+IsTextFault set text (fault.Certificate reason) = ⊥
 IsTextFault set text fault.Memory = ⊤
 IsTextFault set text fault.Read = ⊥
 IsTextFault set text (fault.NotARun number) = ⊥
@@ -57,6 +59,7 @@ abbrev pub IsReportFault : ℕ → List ℕ → Option (List ℕ) → Option (Li
 IsReportFault set text before after (fault.Command words) = ⊥
 IsReportFault set text before after fault.Set = IsTextFault set text fault.Set
 IsReportFault set text before after (fault.Trace reason) = IsTextFault set text (fault.Trace reason)
+IsReportFault set text before after (fault.Certificate reason) = ⊥
 IsReportFault set text before after fault.Memory = ⊤
 IsReportFault set text before after fault.Read = ⊤
 IsReportFault set text before after (fault.NotARun number) = ⊥

@@ -14,12 +14,13 @@ pub record IsUpgradeOf (text upgrade : List ℕ) : Type 0 where
   pub read : IsTextOf text trace
   pub written : upgrade ≡ trace_text_2 trace
 
--- the fault is none of the command line, of a set, of a replay or of threads; want of memory and a failed read are faults of
--- their own, and no refusals of the trace
+-- the fault is none of the command line, of a set, of a certificate, of a replay or of threads; want of memory and a failed read are
+-- faults of their own, and no refusals of the trace
 abbrev pub IsFaultOfUpgrade : Fault → Type 0
 IsFaultOfUpgrade (fault.Command words) = ⊥
 IsFaultOfUpgrade fault.Set = ⊥
 IsFaultOfUpgrade (fault.Trace reason) = (reason ≢ why.Read) × (reason ≢ why.Memory)
+IsFaultOfUpgrade (fault.Certificate reason) = ⊥
 IsFaultOfUpgrade (fault.NotARun number) = ⊥
 IsFaultOfUpgrade fault.Threads = ⊥
 IsFaultOfUpgrade _ = ⊤

@@ -4,9 +4,11 @@ ghost use Rattle.std.specs.Prelude.{◌≡◌, ◌≢◌, ℕ, List, None, false
 ghost use Rattle.std.specs.declared.io.ErrorKind.TheVariants.{OutOfMemory};
 ghost use Rattle.clap.specs.Words.{app_of, kind_of, rule_of, subcommand_rows_of};
 ghost use Rattle.clap.specs.declared.builder.Command.TheViews.{out-Command};
-ghost use Rattle.synchrony.specs.Commands.{NamesFile, NamesReport, file_rule, is_flag, program, replay_app, replay_line, report_app, report_line, upgrade_app, upgrade_line};
-ghost use Rattle.synchrony.specs.Jobs.{IsJobOf, IsJobIn, IsHelpFor, IsMemory, IsReplay, IsReport, IsUpgrade, IsLineFault, IsListFault, IsRefusalOf, IsRefusalIn, IsRefusalFor};
+ghost use Rattle.synchrony.specs.Commands.{NamesFile, NamesReport, check_line, correct_rule, file_rule, is_flag, program, replay_app, replay_line, report_app, report_line, upgrade_app, upgrade_line};
+ghost use Rattle.step_trace.specs.ProcessorLists.{IsSetIn};
+ghost use Rattle.synchrony.specs.Jobs.{IsCheck, IsFilesFault, IsJobOf, IsJobIn, IsHelpFor, IsMemory, IsReplay, IsReport, IsUpgrade, IsLineFault, IsListFault, IsRefusalOf, IsRefusalIn, IsRefusalFor};
 
+use crate::check_lines::{check_command, check_job, check_words};
 use crate::faults::Fault;
 use crate::help_texts::{program_help, replay_help, report_help, upgrade_help};
 use crate::run_lines::{run_command, run_job, run_words};
@@ -47,6 +49,16 @@ pub enum Job {
         /// The path of the file.
         file: String,
     },
+    /// Check a certificate against a trace, for this set of correct processors, and print the verdict. One
+    /// of the files may be `-`, which is standard input.
+    Check {
+        /// The path of the trace's file.
+        file: String,
+        /// The path of the certificate's file.
+        certificate: String,
+        /// The processors that are named as correct.
+        set: ProcSet,
+    },
     /// Print this text, which was asked for.
     Help(String),
 }
@@ -57,7 +69,9 @@ pub enum Job {
 /// `bad --correct`; the numbers or values of a run that are outside its limits, by the first of
 /// `bad --nodes`, `bad --faults`, `bad --values` and `too many steps`; and Memory. The line
 /// `report FILE --correct LIST` asks for the report of FILE for LIST, where neither begins with a hyphen
-/// and goes on; and so `replay FILE` for the replay of FILE, and `upgrade FILE` for its upgrade.
+/// and goes on; and so `replay FILE` for the replay of FILE, and `upgrade FILE` for its upgrade. The line
+/// `check FILE CERT --correct LIST` asks for the check of CERT against FILE, and is refused by
+/// `only one file can be -` where both are that and the list is one.
 pub fn read_command(alloc: Global, words: Vec<String>) -> Result<Job, Fault>
     ensures job { IfOk result (IsJobOf (map string_bytes words.items)) }
     ensures refused { IfErr result (IsRefusalOf (map string_bytes words.items)) }
@@ -67,6 +81,9 @@ pub fn read_command(alloc: Global, words: Vec<String>) -> Result<Job, Fault>
         → is_flag file ≡ false → MatchResult result (IsReplay file) IsMemory }
     ensures upgrade { (name file : List ℕ) → map string_bytes words.items ≡ upgrade_line name file
         → is_flag file ≡ false → MatchResult result (IsUpgrade file) IsMemory }
+    ensures check { (name file certificate list : List ℕ) → map string_bytes words.items ≡ check_line name file certificate list
+        → is_flag file ≡ false → is_flag certificate ≡ false → is_flag list ≡ false
+        → MatchResult result (IsCheck file certificate list) (IsFilesFault file certificate list) }
 {
     read_words(alloc, words.as_slice())
 }
@@ -93,24 +110,19 @@ fn command<'a>(alloc: Global) -> Result<Command<'a>, AllocError>
         .subcommand(report_command(alloc)?)?
         .subcommand(replay_command(alloc)?)?
         .subcommand(run_command(alloc)?)?
-        .subcommand(upgrade_command(alloc)?)
+        .subcommand(upgrade_command(alloc)?)?
+        .subcommand(check_command(alloc)?)
 }
 
 fn report_command<'a>(alloc: Global) -> Result<Command<'a>, AllocError>
     ensures app { IfOk result (λ c. app_of c ≡ report_app) }
     ensures local { IfOk result (λ c. (out-Command c).has_globals ≡ false) }
 {
-    let correct = Arg::new(alloc, "correct")
-        .long("correct")
-        .value_name("LIST")
-        .help("The correct processors, from 1 to 64: 1,2,5, or none")
-        .required(true)
-        .action(ArgAction::Set);
     Command::new(alloc, "report")
         .about("Prints the report of a trace, for a set of correct processors")
         .after_help(report_help())
         .arg(file_argument(alloc))?
-        .arg(correct)
+        .arg(correct_argument(alloc))
 }
 
 fn replay_command<'a>(alloc: Global) -> Result<Command<'a>, AllocError>
@@ -134,13 +146,26 @@ fn upgrade_command<'a>(alloc: Global) -> Result<Command<'a>, AllocError>
 }
 
 /// The argument FILE.
-fn file_argument<'a>(alloc: Global) -> Arg<'a>
+pub fn file_argument<'a>(alloc: Global) -> Arg<'a>
     ensures rule { rule_of result ≡ file_rule }
     ensures local { result.global ≡ false }
 {
     Arg::new(alloc, "file")
         .value_name("FILE")
         .help("The trace text; - is standard input")
+        .required(true)
+        .action(ArgAction::Set)
+}
+
+/// The option --correct LIST.
+pub fn correct_argument<'a>(alloc: Global) -> Arg<'a>
+    ensures rule { rule_of result ≡ correct_rule }
+    ensures local { result.global ≡ false }
+{
+    Arg::new(alloc, "correct")
+        .long("correct")
+        .value_name("LIST")
+        .help("The correct processors, from 1 to 64: 1,2,5, or none")
         .required(true)
         .action(ArgAction::Set)
 }
@@ -206,6 +231,9 @@ fn job_found(alloc: Global, matches: &ArgMatches<'_>) -> Result<Job, Fault>
         let file = String::from_str(alloc, file)?;
         return Ok(Job::Upgrade { file });
     }
+    if let Some(words) = check_words(matches) {
+        return check_job(alloc, words);
+    }
     Err(unknown(alloc)?)
 }
 
@@ -240,13 +268,21 @@ fn report_job(alloc: Global, file: &str, list: &str) -> Result<Job, Fault>
     ensures job { IfOk result (IsReport file.now list.now) }
     ensures refused { IfErr result (IsListFault list.now) }
 {
+    let set = set_in(alloc, list)?;
+    let file = String::from_str(alloc, file)?;
+    Ok(Job::Report { file, set })
+}
+
+/// The set that a list is.
+pub fn set_in(alloc: Global, list: &str) -> Result<ProcSet, Fault>
+    ensures set { IfOk result (IsSetIn list.now) }
+    ensures refused { IfErr result (IsListFault list.now) }
+{
     let Some(set) = ProcSet::parse_list(list) else {
-        return Err(Fault::Command(String::from_str(alloc, "synchrony: bad --correct")?));
+        let text = String::from_str(alloc, "synchrony: bad --correct")?;
+        return Err(Fault::Command(text));
     };
-    Ok(Job::Report {
-        file: String::from_str(alloc, file)?,
-        set,
-    })
+    Ok(set)
 }
 
 /// The refusal of a command line that has none of the commands above.

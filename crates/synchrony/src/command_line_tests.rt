@@ -187,6 +187,34 @@ fn reads_upgrades(rt: HostRuntime) -> Result<(), Fail> {
     Ok(())
 }
 
+fn asks_for_check(alloc: Global, words: &[&str], names: (&str, &str), members: ProcSet) -> bool {
+    match read(alloc, words) {
+        Ok(
+            Job::Check {
+                file,
+                certificate,
+                set,
+            },
+        ) => {
+            file.as_str() == names.0 && certificate.as_str() == names.1 && is_same_set(set, members)
+        }
+        _ => false,
+    }
+}
+
+#[test]
+fn reads_checks(rt: HostRuntime) -> Result<(), Fail> {
+    let two = ProcSet::empty().with(1).with(2);
+    for (words, names) in [
+        (["check", "t", "c", "--correct", "1,2"], ("t", "c")),
+        (["check", "-", "c", "--correct", "1,2"], ("-", "c")),
+        (["check", "t", "--correct", "1,2", "-"], ("t", "-")),
+    ] {
+        assert!(rt; asks_for_check(rt.alloc(), &words, names, two), "{words:?}");
+    }
+    Ok(())
+}
+
 fn asks_for_text(alloc: Global, words: &[&str], begins: &str) -> bool {
     match read(alloc, words) {
         Ok(Job::Help(text)) => text.as_str().starts_with(begins),
@@ -201,6 +229,7 @@ fn reads_requests_for_texts(rt: HostRuntime) -> Result<(), Fail> {
     assert!(rt; asks_for_text(rt.alloc(), &["replay", "--help"], "Prints each processor"));
     assert!(rt; asks_for_text(rt.alloc(), &["run", "--help"], "Runs the agreement"));
     assert!(rt; asks_for_text(rt.alloc(), &["upgrade", "--help"], "Prints a trace"));
+    assert!(rt; asks_for_text(rt.alloc(), &["check", "--help"], "Checks a report"));
     assert!(rt; asks_for_text(rt.alloc(), &["--version"], "synchrony 0.1.0\n"));
     Ok(())
 }
@@ -216,7 +245,7 @@ fn is_refused(alloc: Global, words: &[&str], begins: &str) -> Result<bool, Alloc
 
 #[test]
 fn refuses_other_lines(rt: HostRuntime) -> Result<(), Fail> {
-    let lines: [(&[&str], &str); 8] = [
+    let lines: [(&[&str], &str); 10] = [
         (&["report", "-"], "error: the following required arguments"),
         (&["replay"], "error: the following required arguments"),
         (&["replay", "a", "b"], "error: unexpected argument 'b'"),
@@ -231,7 +260,15 @@ fn refuses_other_lines(rt: HostRuntime) -> Result<(), Fail> {
         ),
         (
             &["check", "-", "-"],
-            "error: unrecognized subcommand 'check'",
+            "error: the following required arguments",
+        ),
+        (
+            &["check", "-", "-", "--correct", "1,,2"],
+            "synchrony: bad --correct",
+        ),
+        (
+            &["check", "-", "-", "--correct", "1,2"],
+            "synchrony: only one file can be -",
         ),
         (
             &["report", "-", "--correct", "1,,2"],

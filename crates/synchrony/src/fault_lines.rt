@@ -4,6 +4,7 @@ ghost use Rattle.std.specs.Prelude.{◌≡◌, IfOk, string_bytes};
 ghost use Rattle.synchrony.specs.FaultLines.{fault_line, ended_line};
 
 use crate::faults::Fault;
+use front::ReportError;
 use std::alloc::{AllocError, Global};
 use std::fmt;
 use trace_text::TextError;
@@ -38,6 +39,9 @@ impl fmt::Display for Fault {
             Fault::Command(words) => f.write_str(words.as_str()),
             Fault::Set => f.write_str("synchrony: no such processor in --correct"),
             Fault::Trace(why) => write!(f, "synchrony: trace: {}", TraceWords(why)),
+            Fault::Certificate(why) => {
+                write!(f, "synchrony: certificate: {}", CertificateWords(why))
+            }
             Fault::Memory => f.write_str("synchrony: out of memory"),
             Fault::Read => f.write_str("synchrony: cannot read"),
             Fault::Write(_) => f.write_str("synchrony: cannot write"),
@@ -74,6 +78,29 @@ impl fmt::Display for TraceWords<'_> {
             TextError::WrongEnd => f.write_str("wrong end"),
             TextError::AfterEnd => f.write_str("text after end"),
             TextError::Memory => f.write_str("out of memory"),
+        }
+    }
+}
+
+/// What is told of a refused certificate.
+#[derive(Clone, Copy)]
+struct CertificateWords<'a>(&'a ReportError);
+
+impl fmt::Display for CertificateWords<'_> {
+    ghost use Rattle.std.specs.Prelude.{Some};
+    ghost use Rattle.synchrony.specs.FaultLines.{certificate_words};
+
+    ghost output = { λ words. Some (certificate_words words.0.now) };
+
+    fn fmt<W: fmt::Write>(&self, f: &mut fmt::Formatter<W>) -> fmt::Result {
+        match self.0 {
+            ReportError::TooLarge => f.write_str("text too large"),
+            ReportError::Read => f.write_str("cannot read"),
+            ReportError::BadHeader => f.write_str("bad header"),
+            ReportError::BadFields(row) => write!(f, "row {row}: bad fields"),
+            ReportError::BadNumber(row) => write!(f, "row {row}: bad number"),
+            ReportError::HalfWitness(row) => write!(f, "row {row}: half a witness"),
+            ReportError::Memory => f.write_str("out of memory"),
         }
     }
 }

@@ -4,6 +4,7 @@ ghost use Rattle.std.specs.Prelude.{◌≡◌};
 ghost use Rattle.std.specs.IoError.{error_kind};
 ghost use Rattle.synchrony.specs.Faults.{status_of, fault_of_opening};
 
+use front::ReportError;
 use std::alloc::AllocError;
 use std::io;
 use step_buffers::ReplayError;
@@ -18,6 +19,8 @@ pub enum Fault {
     Set,
     /// The trace text is refused. `Read` and `Memory` are faults of their own.
     Trace(TextError),
+    /// The certificate is refused. `Read` and `Memory` are faults of their own.
+    Certificate(ReportError),
     /// There was no memory.
     Memory,
     /// The input can't be opened or read.
@@ -52,6 +55,20 @@ impl From<TextError> for Fault {
             TextError::Read => Fault::Read,
             TextError::Memory => Fault::Memory,
             why => Fault::Trace(why),
+        }
+    }
+}
+
+impl From<ReportError> for Fault {
+    ghost use Rattle.synchrony.specs.Faults.{fault_of_certificate};
+
+    ghost from_gives = { λ why made. made ≡ fault_of_certificate why };
+
+    fn from(why: ReportError) -> Fault {
+        match why {
+            ReportError::Read => Fault::Read,
+            ReportError::Memory => Fault::Memory,
+            why => Fault::Certificate(why),
         }
     }
 }
@@ -99,6 +116,7 @@ pub fn status(fault: &Fault) -> u8
     match fault {
         Fault::Command(_) | Fault::Set => 2,
         Fault::Trace(_) => 3,
+        Fault::Certificate(_) => 4,
         Fault::Memory => 5,
         Fault::Read | Fault::Write(_) => 6,
         Fault::NotARun(_) => 7,

@@ -10,7 +10,8 @@ communication bound and the least processor bound that hold from there to the
 end of the trace, and evidence against each smaller bound. `replay` takes the
 steps as those of the agreement algorithm, and says what each processor decided.
 `run` runs the algorithm on threads, and prints the trace of their steps.
-`upgrade` writes a trace of either version as one of version 2.
+`upgrade` writes a trace of either version as one of version 2. `check` checks a
+report by the trace, whoever made it.
 
 A row of the report, all of it but proc in real-time steps:
   gst           a stabilization time: the row holds from step gst to the end
@@ -27,13 +28,17 @@ Examples, at the top of the repository:
   ./synchrony report - --correct 1,2 <examples/one-miss.trace
   ./synchrony replay examples/decides-seven.trace
   ./synchrony upgrade examples/one-miss.trace
+  ./synchrony report examples/one-miss.trace --correct 1,2 |
+    ./synchrony check examples/one-miss.trace - --correct 1,2
   printf '%s\\n' dls-trace,1,2,0 init,5,7 1,1,S,2 2,2,R, 3,2,R,1 end,3 |
     ./synchrony report - --correct 1,2
 
 Exit status:
   0  it is done, or a help text or the version was asked for
+  1  the verdict of check is no
   2  the command line, the list or the set of correct processors is refused
   3  the trace is refused
+  4  the certificate is refused
   5  out of memory
   6  the trace can't be read, or the output can't be written
   7  the trace is no run of the agreement algorithm
@@ -121,20 +126,19 @@ pub fn run_help() -> &'static str {
 Each processor is a thread. While it has something to send in its round it
 sends; otherwise it receives all that waits for it, and its P-th Receive of a
 round ends the round. Each makes S steps, in whatever order the threads run.
-The trace of all steps is printed as `report` and `replay` read it.
+The trace of all steps is printed as `report` and `replay` read it. The values
+are numbers of 64 bits.
 
-  --nodes     from 2 to 64
-  --faults    2 * T + 1 is at most N
-  --values    N numbers of 64 bits with one comma between each two
-  --patience  from 1 to 1000000
-  --steps     N * S is at most 1000000
-
-Example, at the top of the repository:
+Examples, at the top of the repository:
   ./synchrony run --nodes 3 --faults 1 --values 5,7,7 --patience 1 --steps 0
 prints
   dls-trace,1,3,1
   init,5,7,7
   end,0
+Whether the processors decide depends on the order of their steps; the greater P
+is, the more of each other's messages they hear in time:
+  ./synchrony run --nodes 3 --faults 1 --values 5,7,7 --patience 10000 \\
+    --steps 200000 | ./synchrony replay -
 
 Exit status:
   0  the trace is printed, or this text
@@ -173,4 +177,42 @@ Exit status:
   5  out of memory
   6  FILE can't be opened or read, or the output can't be written
 A fault is told on standard error. Nothing is printed before it stands whole."
+}
+
+/// What a check says of a report.
+pub fn check_help() -> &'static str {
+    "\
+CERT is a report of the trace in FILE for the processors of LIST, in the form
+that `report` prints. Its rows certify themselves: the bounds of each row are
+tested by the trace, and what stands beside them must refute each smaller one.
+What is printed is one line: yes, or no with the first reason against the rows.
+
+  NoRows              there are no rows, though there are steps
+  FirstNotOne         the first row's gst isn't 1
+  NotRising K         the gst of row K isn't above the one before
+  BeyondEnd K         the gst of row K is above the last step
+  NotNonIncreasing K  delta or phi of row K is above the one before
+  SameAsBefore K      delta and phi of row K are those before
+  BadMiss K           sent,missed of row K don't show that delta is least
+  BadGap K            proc,from,to of row K don't show that phi is least
+  DeltaFails K S R    delta of row K fails: what was sent at step S was not yet
+                      delivered when its receiver received at step R
+  PhiFails K P A B    phi of row K fails: processor P takes no step from A to B
+
+Example, at the top of the repository:
+  ./synchrony report examples/one-miss.trace --correct 1,2 |
+    ./synchrony check examples/one-miss.trace - --correct 1,2
+prints
+  yes
+
+Exit status:
+  0  the verdict is yes, or this text was asked for
+  1  the verdict is no
+  2  the command line is refused, LIST is no list, or it has a processor above
+     the trace's number of processors
+  3  the trace is refused
+  4  CERT is refused, which is no text of rows
+  5  out of memory
+  6  a file can't be opened or read, or the output can't be written
+A fault is told on standard error. Nothing is printed before the verdict stands."
 }

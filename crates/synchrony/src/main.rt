@@ -1,8 +1,12 @@
 //! The program: reads a trace of Send and Receive steps, and prints the report of its bounds, for the
-//! processors that are named as correct, replays it as a run of the agreement algorithm, or upgrades its text; or makes
-//! such a run in threads, and prints its trace.
+//! processors that are named as correct, replays it as a run of the agreement algorithm, upgrades its text, or
+//! checks a report by it; or makes such a run in threads, and prints its trace.
 #![tactic(auto)]
 
+mod check_lines;
+#[cfg(test)]
+mod check_tests;
+mod checks;
 mod command_line;
 #[cfg(test)]
 mod command_line_tests;
@@ -26,7 +30,9 @@ mod runs;
 mod upgrade_tests;
 mod upgrades;
 mod value_lists;
+mod verdict_lines;
 
+use crate::checks::run_check;
 use crate::command_line::{Job, names_standard_input, read_command, refuse_words};
 use crate::faults::{Fault, status, unopened};
 use crate::printing::{print, tell};
@@ -34,8 +40,11 @@ use crate::replays::run_replay;
 use crate::reports::run_report;
 use crate::runs::run_nodes;
 use crate::upgrades::run_upgrade;
+use crate::verdict_lines::verdict_status;
+use certificate_checker::Verdict;
 use std::env;
 use std::fs::File;
+use std::io::Read;
 use std::process::ExitCode;
 use std::sync::Wait;
 use std::thread::Threads;
@@ -44,7 +53,7 @@ use trace_text::Counting;
 
 fn main(rt: HostRuntime) -> ExitCode {
     match run(&rt, &rt) {
-        Ok(()) => ExitCode::SUCCESS,
+        Ok(code) => ExitCode::from(code),
         Err(fault) => {
             // Where it can't be told, the status is all that is left to say.
             let _ = tell(rt.alloc(), &fault, &mut Counting::new(rt.stderr()));
@@ -53,15 +62,15 @@ fn main(rt: HostRuntime) -> ExitCode {
     }
 }
 
-/// Does what the words of the command line ask for. `threads` starts the threads of a run.
-fn run<R: Threads + Wait + Sync>(rt: &HostRuntime, threads: &R) -> Result<(), Fault> {
+/// Does what the words of the command line ask for, and gives the exit status. `threads` starts the threads of a run.
+fn run<R: Threads + Wait + Sync>(rt: &HostRuntime, threads: &R) -> Result<u8, Fault> {
     let words = match env::args(rt) {
         Ok(words) => words.collect(rt.alloc())?,
         Err(error) => return Err(refuse_words(rt.alloc(), error.kind())?),
     };
     match read_command(rt.alloc(), words)? {
-        Job::Report { file, set } => report(rt, file.as_str(), set),
-        Job::Replay { file } => replay(rt, file.as_str()),
+        Job::Report { file, set } => report(rt, file.as_str(), set)?,
+        Job::Replay { file } => replay(rt, file.as_str())?,
         Job::Run {
             config,
             patience,
@@ -76,11 +85,20 @@ fn run<R: Threads + Wait + Sync>(rt: &HostRuntime, threads: &R) -> Result<(), Fa
                 steps,
                 &OpenGate,
                 &mut output,
-            )
+            )?;
         }
-        Job::Upgrade { file } => upgrade(rt, file.as_str()),
-        Job::Help(text) => print(text.as_str(), &mut Counting::new(rt.stdout())),
+        Job::Upgrade { file } => upgrade(rt, file.as_str())?,
+        Job::Check {
+            file,
+            certificate,
+            set,
+        } => {
+            let verdict = check(rt, file.as_str(), certificate.as_str(), set)?;
+            return Ok(verdict_status(verdict));
+        }
+        Job::Help(text) => print(text.as_str(), &mut Counting::new(rt.stdout()))?,
     }
+    Ok(0)
 }
 
 /// Prints the report of the trace in a file.
@@ -111,4 +129,35 @@ fn upgrade(rt: &HostRuntime, file: &str) -> Result<(), Fault> {
     }
     let opened = File::open(rt, file).map_err(unopened)?;
     run_upgrade(rt.alloc(), &mut Counting::new(opened), &mut output)
+}
+
+/// Prints the verdict on the certificate in a file, for the trace in another. Both files are opened before one is
+/// read.
+fn check(rt: &HostRuntime, file: &str, certificate: &str, set: ProcSet) -> Result<Verdict, Fault> {
+    if names_standard_input(file) {
+        let opened = File::open(rt, certificate).map_err(unopened)?;
+        return check_read(rt, rt.stdin(), opened, set);
+    }
+    let opened = File::open(rt, file).map_err(unopened)?;
+    if names_standard_input(certificate) {
+        return check_read(rt, opened, rt.stdin(), set);
+    }
+    let other = File::open(rt, certificate).map_err(unopened)?;
+    check_read(rt, opened, other, set)
+}
+
+/// Prints the verdict on what one reader gives, for the trace that another gives.
+fn check_read<R: Read + Drop, S: Read + Drop>(
+    rt: &HostRuntime,
+    trace: R,
+    certificate: S,
+    set: ProcSet,
+) -> Result<Verdict, Fault> {
+    run_check(
+        rt.alloc(),
+        &mut Counting::new(trace),
+        &mut Counting::new(certificate),
+        &mut Counting::new(rt.stdout()),
+        set,
+    )
 }

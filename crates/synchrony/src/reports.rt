@@ -60,7 +60,9 @@ fn report_of(alloc: Global, text: Vec<u8>, set: ProcSet) -> Result<Report, Fault
 }
 
 /// The trace that a text stands for, where no member of the set is above its processors.
-fn trace_within(alloc: Global, text: Vec<u8>, set: ProcSet) -> Result<Trace, Fault>
+///
+/// Refuses, in this order: Trace with the first refusal of the text; Set. Memory may come instead.
+pub fn trace_within(alloc: Global, text: Vec<u8>, set: ProcSet) -> Result<Trace, Fault>
     ensures read { IfOk result (λ t. IsTextOf text.items t) }
     ensures within { IfOk result (λ t. IsWithin set t.config.n) }
     ensures refused { IfErr result (IsTextFault set text.items) }

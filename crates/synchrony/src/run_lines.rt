@@ -18,13 +18,13 @@ use step_trace::{Config, ConfigError, MAX_STEPS};
 
 const NODES_HELP: &str = "The number of processors, from 2 to 64";
 
-const FAULTS_HELP: &str = "How many of them may be faulty; 2 * T + 1 is at most N";
+const FAULTS_HELP: &str = "How many may be faulty; 2 * T + 1 is at most N";
 
 const VALUES_HELP: &str = "Their initial values, with one comma between each two";
 
 const PATIENCE_HELP: &str = "Which Receive of a round ends it, from 1 to 1000000";
 
-const STEPS_HELP: &str = "How many steps each of them makes; N * S is at most 1000000";
+const STEPS_HELP: &str = "The steps that each makes; N * S is at most 1000000";
 
 /// The greatest patience.
 pub const MAX_PATIENCE: u64 = 1_000_000;

@@ -80,8 +80,25 @@ fn world_made<R: Threads + Wait + Sync, G: Gate>(
 {
     let room = config.n() * steps;
     let (recorder, mut seats) = Recorder::new(alloc, config.copy(alloc)?, 0, room)?;
-    judged(drive_all(rt, alloc, &recorder, &mut seats, patience, steps, gate))?;
-    audited(rt, alloc, &recorder, &seats, steps)
+    driven(rt, alloc, &recorder, &mut seats, patience, steps, gate)
+}
+
+/// The World of a recorder, once each of its seats was driven in a thread of its own.
+fn driven<R: Threads + Wait + Sync, G: Gate>(
+    rt: &R,
+    alloc: Global,
+    recorder: &Recorder,
+    seats: &mut [Seat],
+    patience: u64,
+    steps: u64,
+    gate: &G,
+) -> Result<World, Fault>
+    requires { 1 ≤ patience }
+    ensures run { IfOk result (λ world. IsEvenRun recorder.now.config steps world.trace) }
+    ensures own { IfErr result IsFaultOfThreads }
+{
+    judged(drive_all(rt, alloc, recorder, seats, patience, steps, gate))?;
+    audited(rt, alloc, recorder, seats, steps)
 }
 
 /// Drives each seat in a thread of its own, and tells the gravest ending of all.
