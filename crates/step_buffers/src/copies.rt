@@ -5,36 +5,37 @@ ghost use Rattle.step_trace.specs.declared.steps.Step.{Step};
 ghost use Rattle.step_trace.specs.Configurations.{Setup};
 ghost use Rattle.step_buffers.specs.Worlds.{IsProcessor, AreProcessors};
 
-use crate::letters::{Letter, copied};
+use crate::letters::{Letter, Place, copied};
 use crate::processors::Processor;
 use crate::round_inboxes::copied_inbox;
 use std::alloc::{AllocError, Global};
 
 /// The same messages.
-pub(crate) fn copied_letters(
-    alloc: Global,
-    letters: &[Option<Letter>],
-) -> Result<Vec<Option<Letter>>, AllocError>
+pub(crate) fn copied_letters(alloc: Global, letters: &[Place]) -> Result<Vec<Place>, AllocError>
     ensures { IfOk result (λ copy. copy.items ≡ letters.now) }
 {
     let mut copy = Vec::with_capacity(alloc, letters.len())?;
     for letter in letters {
-        copy.push(copied_letter(letter)?)?;
+        copy.push(copied_letter(alloc, letter)?)?;
     }
     Ok(copy)
 }
 
-fn copied_letter(letter: &Option<Letter>) -> Result<Option<Letter>, AllocError>
-    ensures { IfOk result (λ copy. copy ≡ letter.now) }
+fn copied_letter(alloc: Global, place: &Place) -> Result<Place, AllocError>
+    ensures { IfOk result (λ copy. copy ≡ place.now) }
 {
-    match letter {
-        None => Ok(None),
-        Some(letter) => Ok(Some(Letter {
+    let Some(letter) = place.letter() else {
+        return Ok(Place::empty());
+    };
+    let body = copied(&letter.body)?;
+    Place::of(
+        alloc,
+        Letter {
             sender: letter.sender,
             round: letter.round,
-            body: copied(&letter.body)?,
-        })),
-    }
+            body,
+        },
+    )
 }
 
 /// What serves for the same processors of the same traces.

@@ -8,14 +8,14 @@ ghost use Rattle.step_buffers.specs.Moves.{is_in};
 ghost use Rattle.step_buffers.specs.InboxRounds.{Entry};
 ghost use Rattle.step_buffers.specs.Inboxes.{kept_ids};
 
-use crate::letters::{Letter, letter_at, round_of};
+use crate::letters::{Place, letter_at, round_of};
 use crate::processors::Processor;
 use crate::round_inboxes::keep_ahead;
 use crate::takes::take_out;
 
 /// Takes these messages out of the buffer, and puts those of this round and of later ones into the inbox, in
 /// which there is room.
-pub(crate) fn take_in(receiver: &mut Processor, letters: &[Option<Letter>], ids: &[u64], round: u64)
+pub(crate) fn take_in(receiver: &mut Processor, letters: &[Place], ids: &[u64], round: u64)
     requires rising { IsStrictlyIncreasing ids.now }
     requires room_near { vec_len receiver.old.inbox.near + length ids.now ≤ vec_capacity receiver.old.inbox.near }
     requires room_later { heap_len receiver.old.inbox.later + length ids.now ≤ heap_capacity receiver.old.inbox.later }
@@ -32,7 +32,7 @@ pub(crate) fn take_in(receiver: &mut Processor, letters: &[Option<Letter>], ids:
 }
 
 /// Lets go of those of these messages that were sent in an earlier round than this one.
-pub(crate) fn release(letters: &mut Vec<Option<Letter>>, ids: &[u64], round: u64)
+pub(crate) fn release(letters: &mut Vec<Place>, ids: &[u64], round: u64)
     ensures places { length letters.new.items ≡ length letters.old.items }
     ensures left { (s : ℕ) → letter_at letters.new.items s ≡ letter_left letters.old.items ids.now round s }
 {
@@ -41,17 +41,17 @@ pub(crate) fn release(letters: &mut Vec<Option<Letter>>, ids: &[u64], round: u64
     }
 }
 
-fn release_one(letters: &mut Vec<Option<Letter>>, id: u64, round: u64)
+fn release_one(letters: &mut Vec<Place>, id: u64, round: u64)
     ensures places { length letters.new.items ≡ length letters.old.items }
     ensures left { (s : ℕ) → letter_at letters.new.items s ≡ letter_left letters.old.items (id ∷ []) round s }
 {
     if is_past(letters, id, round) {
-        letters[id as usize - 1] = None;
+        letters[id as usize - 1] = Place::empty();
     }
 }
 
 // Whether the message of this id was sent in an earlier round than this one.
-fn is_past(letters: &[Option<Letter>], id: u64, round: u64) -> bool
+fn is_past(letters: &[Place], id: u64, round: u64) -> bool
     ensures past { IsTrue result → round_of letters.now id < round }
     ensures low { IsTrue result → 1 ≤ id }
     ensures high { IsTrue result → id ≤ length letters.now }
@@ -64,7 +64,7 @@ fn is_past(letters: &[Option<Letter>], id: u64, round: u64) -> bool
 }
 
 /// Drops the messages of earlier rounds than this one.
-pub(crate) fn drop_past(inbox: &mut Vec<u64>, letters: &[Option<Letter>], round: u64)
+pub(crate) fn drop_past(inbox: &mut Vec<u64>, letters: &[Place], round: u64)
     ensures { inbox.new.items ≡ filter (λ s. nat_le round (round_of letters.now s)) inbox.old.items }
 {
     inbox.retain(|id| round <= round_of(letters, *id));

@@ -6,6 +6,7 @@ ghost use Rattle.step_buffers.specs.Letters.{letter_at, round_of, body_from, hea
 
 use lock_phases::Body;
 use std::alloc::{AllocError, Global};
+use std::marker::Model;
 
 /// A message that was sent: by whom, in which of the sender's rounds, and what it says.
 #[derive(Debug, Drop)]
@@ -15,21 +16,67 @@ pub(crate) struct Letter {
     pub body: Body,
 }
 
+/// The place of a step, for the message that it sent.
+#[derive(Debug, Drop)]
+pub(crate) struct Place {
+    // (in a box, so that a place takes little where a step sent nothing, or what was heard long ago)
+    letter: Option<Box<Letter>>,
+}
+
+impl Model for Place {
+    ghost use Rattle.std.specs.Prelude.{Option, option_map};
+    ghost use Rattle.step_buffers.specs.declared.letters.Letter.{Letter};
+
+    ghost Value = { Option Letter };
+
+    ghost view = { λ a. option_map (λ b. b.value) a.letter };
+}
+
+impl Place {
+    ghost use Rattle.std.specs.Prelude.{◌≡◌, None, Some, option_copied, IfOk};
+
+    /// The place of no message.
+    pub(crate) fn empty() -> Self
+        ensures { result ≡ None }
+    {
+        Place { letter: None }
+    }
+
+    /// The place of a message.
+    pub(crate) fn of(alloc: Global, letter: Letter) -> Result<Self, AllocError>
+        ensures { IfOk result (λ place. place ≡ Some letter) }
+    {
+        Ok(Place {
+            letter: Some(Box::new(alloc, letter)?),
+        })
+    }
+
+    /// Its message.
+    pub(crate) fn letter(&self) -> Option<&Letter>
+        ensures { option_copied result ≡ self.now }
+    {
+        match &self.letter {
+            Some(letter) => Some(&**letter),
+            None => None,
+        }
+    }
+}
+
 /// The message of this id, of a list with a place for each step.
-pub(crate) fn letter_at(letters: &[Option<Letter>], id: u64) -> Option<&Letter>
+pub(crate) fn letter_at(letters: &[Place], id: u64) -> Option<&Letter>
     ensures { option_copied result ≡ letter_at letters.now id }
 {
     if id == 0 {
         return None;
     }
     match letters.get(id as usize - 1) {
-        Some(Some(letter)) => Some(letter),
-        _ => None,
+        Some(place) => place.letter(),
+        None => None,
     }
 }
 
 /// The round in which the message of this id was sent, or 0 where there is none.
-pub(crate) fn round_of(letters: &[Option<Letter>], id: u64) -> u64
+pub(crate) fn round_of(letters: &[Place], id: u64) -> u64
     ensures { result ≡ round_of letters.now id }
 {
     match letter_at(letters, id) {
@@ -42,7 +89,7 @@ pub(crate) fn round_of(letters: &[Option<Letter>], id: u64) -> u64
 /// the senders.
 pub(crate) fn heard_in(
     alloc: Global,
-    letters: &[Option<Letter>],
+    letters: &[Place],
     inbox: &[u64],
     taken: &[u64],
     round: u64,
@@ -61,7 +108,7 @@ pub(crate) fn heard_in(
 // Adds those of these ids whose messages were sent in a round.
 fn add_of_round(
     of_round: &mut Vec<u64>,
-    letters: &[Option<Letter>],
+    letters: &[Place],
     ids: &[u64],
     round: u64,
 ) -> Result<(), AllocError>
@@ -77,7 +124,7 @@ fn add_of_round(
 
 fn heard_from(
     alloc: Global,
-    letters: &[Option<Letter>],
+    letters: &[Place],
     ids: &[u64],
     n: u64,
 ) -> Result<Vec<(u64, Body)>, AllocError>
@@ -102,7 +149,7 @@ pub(crate) fn copied(body: &Body) -> Result<Body, AllocError>
 }
 
 // What a sender says in the first of these messages that is its own.
-fn body_from<'a>(letters: &'a [Option<Letter>], ids: &[u64], sender: u64) -> Option<&'a Body>
+fn body_from<'a>(letters: &'a [Place], ids: &[u64], sender: u64) -> Option<&'a Body>
     ensures { option_copied result ≡ body_from letters.now ids.now sender }
 {
     for id in ids {

@@ -15,7 +15,7 @@ ghost use Rattle.step_buffers.specs.Worlds.{AreLetters, IsProcessor, IsWorld};
 use crate::appends::append;
 use crate::inbox_entries::Inbox;
 use crate::kept_messages::{drop_past, release, take_in};
-use crate::letters::{Letter, heard_in};
+use crate::letters::{Place, heard_in};
 use crate::moves::{StepError, Take};
 use crate::processors::{Processor, next_destination};
 use crate::round_inboxes::{gather, reserve};
@@ -28,7 +28,7 @@ use step_trace::{Act, MessageIds, Step, Trace};
 pub(crate) fn receive(
     alloc: Global,
     trace: &mut Trace,
-    letters: &mut Vec<Option<Letter>>,
+    letters: &mut Vec<Place>,
     processors: &mut Vec<Processor>,
     p: u64,
     take: Take,
@@ -85,7 +85,7 @@ fn is_early(trace: &Trace, receiver: &Processor, p: u64, ends: bool) -> bool
 fn make(
     alloc: Global,
     trace: &mut Trace,
-    letters: &mut Vec<Option<Letter>>,
+    letters: &mut Vec<Place>,
     processors: &mut Vec<Processor>,
     p: u64,
     ends: bool,
@@ -110,7 +110,7 @@ fn make(
 // Takes these messages for `p`, which stays in its round.
 fn take_messages(
     trace: &mut Trace,
-    letters: &mut Vec<Option<Letter>>,
+    letters: &mut Vec<Place>,
     processors: &mut Vec<Processor>,
     p: u64,
     taken: &MessageIds,
@@ -132,7 +132,7 @@ fn take_messages(
 fn end_round(
     alloc: Global,
     trace: &mut Trace,
-    letters: &mut Vec<Option<Letter>>,
+    letters: &mut Vec<Place>,
     processors: &mut Vec<Processor>,
     p: u64,
     taken: &MessageIds,
@@ -157,7 +157,7 @@ fn end_round(
 fn computed(
     alloc: Global,
     trace: &Trace,
-    letters: &[Option<Letter>],
+    letters: &[Place],
     receiver: &Processor,
     p: u64,
     taken: &MessageIds,
@@ -188,7 +188,7 @@ fn computed(
 // Takes these messages, whose receiver stays in its round.
 fn settle_taken(
     trace: &mut Trace,
-    letters: &mut Vec<Option<Letter>>,
+    letters: &mut Vec<Place>,
     receiver: &mut Processor,
     p: u64,
     taken: &MessageIds,
@@ -207,7 +207,7 @@ fn settle_taken(
     ensures err { OnErr result (trace.new ≡ trace.old) }
 {
     push_receive(trace, letters, &mut receiver.inbox, p, false, taken)?;
-    letters.push_reserved(None);
+    letters.push_reserved(Place::empty());
     let round = receiver.round;
     release(letters, taken.as_slice(), round);
     take_in(receiver, letters, taken.as_slice(), round);
@@ -217,7 +217,7 @@ fn settle_taken(
 // Takes these messages, whose receiver ends its round with this node.
 fn settle_ended(
     trace: &mut Trace,
-    letters: &mut Vec<Option<Letter>>,
+    letters: &mut Vec<Place>,
     receiver: &mut Processor,
     p: u64,
     taken: &MessageIds,
@@ -240,7 +240,7 @@ fn settle_ended(
     ensures err { OnErr result (trace.new ≡ trace.old) }
 {
     push_receive(trace, letters, &mut receiver.inbox, p, true, taken)?;
-    letters.push_reserved(None);
+    letters.push_reserved(Place::empty());
     let round = receiver.round + 1;
     release(letters, &receiver.inbox.near, round);
     release(letters, taken.as_slice(), round);
@@ -255,7 +255,7 @@ fn settle_ended(
 // Appends a Receive to the trace, and makes room for what it changes.
 fn push_receive(
     trace: &mut Trace,
-    letters: &mut Vec<Option<Letter>>,
+    letters: &mut Vec<Place>,
     inbox: &mut Inbox,
     p: u64,
     ends: bool,

@@ -8,7 +8,7 @@ ghost use Rattle.step_buffers.specs.InboxRounds.{Entry, earlier_first, ids_of};
 ghost use Rattle.step_buffers.specs.Inboxes.{kept_ids};
 
 use crate::inbox_entries::Inbox;
-use crate::letters::{Letter, round_of};
+use crate::letters::{Place, round_of};
 use std::alloc::{AllocError, Global};
 use std::cmp::Reverse;
 use std::collections::BinaryHeap;
@@ -82,7 +82,7 @@ fn is_due(later: &BinaryHeap<Reverse<(u64, u64)>>, round: u64) -> bool
 
 /// Keeps those of these messages that are of this round or a later one, where there is room: those of this
 /// round at hand, the others for later.
-pub(crate) fn keep_ahead(inbox: &mut Inbox, letters: &[Option<Letter>], ids: &[u64], round: u64)
+pub(crate) fn keep_ahead(inbox: &mut Inbox, letters: &[Place], ids: &[u64], round: u64)
     requires room_near { vec_len inbox.old.near + length ids.now ≤ vec_capacity inbox.old.near }
     requires room_later { heap_len inbox.old.later + length ids.now ≤ heap_capacity inbox.old.later }
     ensures kept { IsPermutation (kept_ids inbox.old ++ filter (λ s. nat_le round (round_of letters.now s)) ids.now) (kept_ids inbox.new) }

@@ -14,7 +14,7 @@ ghost use Rattle.step_buffers.specs.Moves.{next_send, IsStepRefusal};
 ghost use Rattle.step_buffers.specs.Worlds.{AreProcessors, IsWorld};
 
 use crate::appends::append;
-use crate::letters::Letter;
+use crate::letters::{Letter, Place};
 use crate::moves::StepError;
 use crate::processors::{Processor, next_destination};
 use std::alloc::{AllocError, Global};
@@ -24,7 +24,7 @@ use step_trace::{Act, Config, Step, Trace};
 pub(crate) fn send(
     alloc: Global,
     trace: &mut Trace,
-    letters: &mut Vec<Option<Letter>>,
+    letters: &mut Vec<Place>,
     processors: &mut Vec<Processor>,
     p: u64,
 ) -> Result<u64, StepError>
@@ -46,7 +46,7 @@ pub(crate) fn send(
     let Ok(letter) = letter_to(alloc, trace.config(), sender, p, to) else {
         return Err(StepError::Memory);
     };
-    match post(trace, letters, processors, p, to, letter) {
+    match post(alloc, trace, letters, processors, p, to, letter) {
         Ok(()) => Ok(to),
         Err(_) => Err(StepError::Memory),
     }
@@ -81,8 +81,9 @@ fn letter_to(
 
 // Sends a message of `p` to its next destination.
 fn post(
+    alloc: Global,
     trace: &mut Trace,
-    letters: &mut Vec<Option<Letter>>,
+    letters: &mut Vec<Place>,
     processors: &mut Vec<Processor>,
     p: u64,
     to: u64,
@@ -100,10 +101,11 @@ fn post(
     ensures step { OnOk result (trace.new.steps ≡ trace.old.steps ++ record { proc = p; act = Act.Send to } ∷ []) }
     ensures err { OnErr result (trace.new ≡ trace.old) }
 {
+    let place = Place::of(alloc, letter)?;
     push_send(trace, letters, processors, p, to)?;
     let receiver = &mut processors[(to - 1) as usize];
     receiver.buffer.push_reserved(trace.len() as u64);
-    letters.push_reserved(Some(letter));
+    letters.push_reserved(place);
     let sender = &mut processors[(p - 1) as usize];
     sender.last = to;
     Ok(())
@@ -112,7 +114,7 @@ fn post(
 // Appends a Send to the trace, and makes room for what it changes.
 fn push_send(
     trace: &mut Trace,
-    letters: &mut Vec<Option<Letter>>,
+    letters: &mut Vec<Place>,
     processors: &mut Vec<Processor>,
     p: u64,
     to: u64,
@@ -144,7 +146,7 @@ fn push_send(
 
 // Makes room for one more message, and for its id in the buffer of the processor that it goes to.
 fn make_room(
-    letters: &mut Vec<Option<Letter>>,
+    letters: &mut Vec<Place>,
     processors: &mut Vec<Processor>,
     to: u64,
 ) -> Result<(), AllocError>

@@ -6,7 +6,7 @@ ghost use Rattle.step_trace.specs.Configurations.{IsProc};
 ghost use Rattle.step_buffers.specs.Moves.{step_of, move_refusal, IsStepRefusal};
 ghost use Rattle.step_buffers.specs.Worlds.{IsWorld};
 
-use crate::letters::Letter;
+use crate::letters::Place;
 use crate::moves::{Move, StepError};
 use crate::processors::Processor;
 use crate::receives::receive;
@@ -18,7 +18,7 @@ use step_trace::{Act, Trace};
 pub(crate) fn make_move(
     alloc: Global,
     trace: &mut Trace,
-    letters: &mut Vec<Option<Letter>>,
+    letters: &mut Vec<Place>,
     processors: &mut Vec<Processor>,
     p: u64,
     step: Move,

@@ -11,7 +11,7 @@ ghost use Rattle.step_buffers.specs.Buffers.{buffer};
 ghost use Rattle.step_buffers.specs.Moves.{step_of, step_refusal, IsStepRefusal};
 
 use crate::copies::{copied_letters, copied_processors};
-use crate::letters::Letter;
+use crate::letters::Place;
 use crate::moves::{Done, Move, StepError};
 use crate::processors::{Processor, opening_processors};
 use crate::steps::make_move;
@@ -27,7 +27,7 @@ pub struct World {
     limit: u64,
     trace: Trace,
     // For each step the message that it sent, until its receiver took it and can't hear it any more.
-    letters: Vec<Option<Letter>>,
+    letters: Vec<Place>,
     // For each processor what is kept of it.
     processors: Vec<Processor>,
 }
@@ -130,8 +130,9 @@ impl World {
     /// Refuses in the order of `StepError`: Full, BadProc, NothingToSend, StillSending, IdsNotRising,
     /// NotInBuffer, Memory. Then everything is as it was. Takes memory for the step, for the message that it
     /// sends or the ids that it takes, and for the node where its round ends. Takes time in these, in the
-    /// messages that wait for the processor and, where its round ends, in those that it took and may yet
-    /// hear; not in the length of the trace.
+    /// messages that wait for the processor where it takes any, and in those of its round that it took where
+    /// its round ends; not in the length of the trace, nor in what it took for later rounds, but for the
+    /// logarithm of their number for each message that goes among them or leaves them.
     pub fn step(&mut self, alloc: Global, p: u64, step: Move) -> Result<Done, StepError>
         ensures step { IfOk result (λ done. Some done.step ≡ step_of self.old.trace.config self.old.trace.steps p step.entry) }
         ensures made { IfOk result (λ done. self.new.trace.steps ≡ self.old.trace.steps ++ done.step ∷ []) }

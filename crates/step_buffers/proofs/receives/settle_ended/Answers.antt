@@ -46,7 +46,7 @@ returns-clause-letters c =
     let x : Step = record { proc = p; act = Receive true ids } in
     let is = c.requires.receiver in
     let first : AreLetters config (steps ++ x ∷ []) c.push_reserved.new.self.items =
-    rw (c.push_reserved.ensures.items, c.in_ok-push_receive.ensures.letters) (AreLetters-received config steps p true ids c.args.letters.now.items c.requires.run.well_formed c.requires.letters) in
+    rw (c.push_reserved.ensures.items, c.in_ok-push_receive.ensures.letters, c.empty.ensures) (AreLetters-received config steps p true ids c.args.letters.now.items c.requires.run.well_formed c.requires.letters) in
     let round = c.args.receiver.now.round + 1 in
     let before = is.round in
     let more = passed-ends steps x refl in

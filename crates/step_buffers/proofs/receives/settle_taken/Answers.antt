@@ -42,7 +42,7 @@ returns-clause-letters c =
     let x : Step = record { proc = p; act = Receive false ids } in
     let is = c.requires.receiver in
     let first : AreLetters config (steps ++ x ∷ []) c.push_reserved.new.self.items =
-    rw (c.push_reserved.ensures.items, c.in_ok-push_receive.ensures.letters) (AreLetters-received config steps p false ids c.args.letters.now.items c.requires.run.well_formed c.requires.letters) in
+    rw (c.push_reserved.ensures.items, c.in_ok-push_receive.ensures.letters, c.empty.ensures) (AreLetters-received config steps p false ids c.args.letters.now.items c.requires.run.well_formed c.requires.letters) in
     let now : c.args.receiver.now.round ≡ passed (steps ++ x ∷ []) p + 1 = is.round ∙ ap (λ n. n + 1) (sym (passed-stays steps x p (and_false (p == p)))) in
     rw (c.in_ok-push_receive.ensures.config, c.in_ok-push_receive.ensures.appended)
     (AreLetters-released config (steps ++ x ∷ []) p c.args.receiver.now.round c.as_slice.result.now c.push_reserved.new.self.items c.release.new.letters.items first now

@@ -72,7 +72,7 @@ returns-clause-world c =
       setup = rw c.in_ok-push_send.ensures.config world.setup;
       run = rw (c.in_ok-push_send.ensures.config, c.in_ok-push_send.ensures.appended) (IsRun-push config steps _ world.run w c.requires.destination);
       one_per_tick = c.in_ok-push_send.ensures.one_per_tick;
-      letters = rw (c.in_ok-push_send.ensures.config, c.in_ok-push_send.ensures.appended, c.push_reserved-2.ensures.items, c.in_ok-push_send.ensures.letters) letters;
+      letters = rw (c.in_ok-push_send.ensures.config, c.in_ok-push_send.ensures.appended, c.push_reserved-2.ensures.items, c.in_ok-push_send.ensures.letters, c.in_ok-place.ensures) letters;
       processors = rw (c.in_ok-push_send.ensures.config, c.in_ok-push_send.ensures.appended) kept;
     }
 
