@@ -1,10 +1,11 @@
-//! The report of a trace, the verdict on a certificate, and what a run makes of its processors, straight from the
-//! definitions: every number is tried in turn, so it is cubic in the steps and worse, and shares no line with the
-//! other programs. `bench/compare` and `tests/` take their answers from it.
+//! The report of a trace, the verdict on a certificate, what a run makes of its processors, and the text of a trace in
+//! version 2, straight from the definitions: every number is tried in turn, so it is cubic in the steps and worse, and
+//! shares no line with the other programs. `bench/compare` and `tests/` take their answers from it.
 //!
 //!     oracle [--limit N] report FILE --correct LIST
 //!     oracle [--limit N] check FILE CERT --correct LIST
 //!     oracle [--limit N] replay FILE
+//!     oracle [--limit N] upgrade FILE
 //!
 //! N is the most processors that a trace may be of, 64 where it isn't named. A trace of more ticks than the oracle
 //! has patience for is told by status 90.
@@ -67,6 +68,7 @@ fn main() {
         ["report", file, "--correct", list] => report(limit, file, list),
         ["check", file, certificate, "--correct", list] => check(limit, file, certificate, list),
         ["replay", file] => replay(&trace_of(open(file), limit)),
+        ["upgrade", file] => upgrade(&trace_of(open(file), limit)),
         _ => fault("bad command line", 2),
     }
 }
@@ -125,6 +127,24 @@ fn replay(trace: &Trace) {
         let decision = decision.map_or("".into(), |it| it.to_string());
         println!("{p},{round},{decision}");
     }
+}
+
+fn upgrade(trace: &Trace) {
+    let text = |numbers: &[u64], between: &str| {
+        let texts: Vec<String> = numbers.iter().map(u64::to_string).collect();
+        texts.join(between)
+    };
+    println!("dls-trace,2,{},{}", trace.processors, trace.faults);
+    println!("init,{}", text(&trace.values, ","));
+    for (step, no) in trace.steps.iter().zip(1..) {
+        let (operation, argument) = match &step.act {
+            Act::Send(to) => ('S', to.to_string()),
+            Act::Receive(ids) => (if step.ends { 'E' } else { 'R' }, text(ids, " ")),
+        };
+        let (tick, processor) = (step.tick, step.processor);
+        println!("{no},{tick},{processor},{operation},{argument}");
+    }
+    println!("end,{}", trace.last_tick);
 }
 
 /// The definitions for a trace and a set within it.

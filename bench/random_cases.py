@@ -148,7 +148,8 @@ def aimed(chance, lines, size):
         if chance.random() < 0.2:
             rows.append(chance.choice([row, ["end"], ["x"]]))
     else:
-        aimed_step(chance, rows, place, size)
+        for _ in range(chance.choice([1, 1, 2])):
+            aimed_step(chance, rows, place, size)
     return [",".join(it) for it in rows]
 
 
@@ -157,7 +158,7 @@ def aimed_step(chance, rows, place, size):
     row, before = rows[place], rows[place - 1] if place > 2 else None
     field = chance.choice([0, *range(1, len(row)), len(row) - 1])
     if field == 0:
-        row[0] = chance.choice(["0", "x", "", f"0{row[0]}", str(int(row[0]) + 1), str(int(row[0]) - 1), "end"])
+        row[0] = chance.choice(["0", "x", "", f"0{row[0]}", str(place), str(place - 2), "end"])
     elif field == len(row) - 2:
         row[-2] = chance.choice(["S", "R", "E", "X", "", "s", "SR"])
     elif field == len(row) - 3:
@@ -177,7 +178,7 @@ def aimed_ids(chance, rows, place):
     sends = [it for it in rows[2:place] if it[-2] == "S"]
     to_it = [it[0] for it in sends if it[-1] == row[-3]]
     same_tick = [it[0] for it in sends if it[1] == row[1]] if len(row) == 5 else []
-    ids = [it for it in row[-1].split(" ") if it]
+    ids = [it for it in row[-1].split(" ") if it.isdigit()]
     for _ in range(chance.choice([1, 1, 2])):
         ids.append(chance.choice([*to_it * 3, *same_tick * 3, *[it[0] for it in sends], str(chance.randint(0, len(rows))), str(GREATEST)]))
     if chance.random() < 0.9:
@@ -280,20 +281,27 @@ def weakened(chance, lines, rows):
 
 
 def aimed_row(chance, lines, rows):
-    """A row with any message and Receive as its miss, also one that finds it delivered; or with any interval."""
-    row = rows[chance.choice([0, chance.randrange(len(rows))])]
-    steps = [it.split(",") for it in lines[2:-1]]
-    tick = {it[0]: int(it[1] if len(it) == 5 else it[0]) for it in steps}
+    """A row with any message and Receive as its miss, also one that finds it delivered or is of another processor; or
+    with any interval. Most are such that only this is wrong with the row."""
+    at = chance.choice([0, chance.randrange(len(rows))])
+    row, last = rows[at], int(lines[-1].split(",")[1])
+    end = int(rows[at + 1][0]) - 1 if at + 1 < len(rows) else last
+    fits = lambda field, bound: (at == 0 or bound <= int(rows[at - 1][field])) and (at + 1 == len(rows) or bound >= int(rows[at + 1][field]))
     if chance.random() < 0.6:
-        pairs = [(send, it) for send in steps if send[-2] == "S" for it in steps if it[-2] != "S" and it[-3] == send[-1] and tick[it[0]] > tick[send[0]]]
+        steps = [it.split(",") for it in lines[2:-1]]
+        tick = {it[0]: int(it[1] if len(it) == 5 else it[0]) for it in steps}
+        is_strange = chance.random() < 0.3
+        pairs = [(send, it) for send in steps if send[-2] == "S" for it in steps if it[-2] != "S" and (is_strange or it[-3] == send[-1]) and tick[it[0]] > tick[send[0]]]
+        bound = lambda send, receive: tick[receive[0]] - tick[send[0]] + 1
+        good = [(send, it) for send, it in pairs if tick[send[0]] >= end and fits(1, bound(send, it))]
         if pairs:
-            send, receive = chance.choice(pairs)
-            row[1], row[3:5] = str(tick[receive[0]] - tick[send[0]] + 1), [send[0], receive[0]]
+            send, receive = chance.choice(good or pairs)
+            row[1], row[3:5] = str(bound(send, receive)), [send[0], receive[0]]
     else:
-        last = int(lines[-1].split(",")[1])
-        start = chance.randint(0, last + 1)
-        end = chance.choice([last, chance.randint(start, max(start, last)), last + 1])
-        row[2], row[5:] = str(max(0, end - start) + 2), [str(chance.randint(0, 5)), str(start), str(end)]
+        pairs = [(start, to) for start in range(max(1, last - 30), last + 1) for to in range(start, min(start + 30, last + 2))]
+        good = [(start, to) for start, to in pairs if start >= end and fits(2, to - start + 2)]
+        start, to = chance.choice(good or pairs or [(0, 1)])
+        row[2], row[5:] = str(to - start + chance.choice([2, 2, 2, 1])), [str(chance.randint(0, 5)), str(start), str(to)]
 
 
 def hostile_row(chance, lines, rows):

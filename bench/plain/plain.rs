@@ -4,11 +4,13 @@
 //!     plain report FILE --correct LIST
 //!     plain check FILE CERT --correct LIST
 //!     plain replay FILE
+//!     plain upgrade FILE
 //!     plain run --nodes N --faults T --values V1,..,VN --patience P --steps S
 //!
 //! `report` finds the least communication bound and the least processor bound of every candidate stabilization time
-//! of a trace by one backward pass, `check` says whether the rows of a report are one of a trace, `replay` makes the steps of a trace that is a run of Algorithm 1, and `run` makes
-//! such a run in threads under one lock. Faults, statuses and bytes are those of `synchrony`.
+//! of a trace by one backward pass, `check` says whether the rows of a report are one of a trace, `replay` makes the
+//! steps of a trace that is a run of Algorithm 1, `upgrade` writes a trace in version 2, and `run` makes such a run in
+//! threads under one lock. Faults, statuses and bytes are those of `synchrony`.
 
 mod bounds;
 mod certificates;
@@ -16,6 +18,7 @@ mod replay;
 mod rounds;
 mod texts;
 mod threads;
+mod upgrades;
 mod world;
 
 use bounds::ProcessorSet;
@@ -37,11 +40,12 @@ const USAGE: &str = "\
 Usage: plain report FILE --correct LIST
        plain check FILE CERT --correct LIST
        plain replay FILE
+       plain upgrade FILE
        plain run --nodes N --faults T --values V1,..,VN --patience P --steps S
 
 Prints the least communication and processor bounds of a trace, with their witnesses; or whether
-CERT, a report, is one of a trace; or the round and the decision of each processor of a run; or a
-run in threads.
+CERT, a report, is one of a trace; or the round and the decision of each processor of a run; or
+a trace in version 2; or a run in threads.
 FILE is a trace text, or - for standard input. LIST is 'none' or processors, as 1,2,3.
 ";
 
@@ -87,6 +91,7 @@ fn run(words: impl Iterator<Item = OsString>) -> Result<u8, Fault> {
             let world = replay::replay(&trace).map_err(Fault::NotARun)?;
             replay::write_standing(&world, &mut out)
         }
+        Job::Upgrade { file } => upgrades::write_trace(&read_trace(Input::open(&file)?)?, &mut out),
         Job::Run(setup, patience, steps) => {
             let run = threads::run(setup, patience, steps).ok_or(Fault::Threads)?;
             threads::write_trace(&run, &mut out)
@@ -103,6 +108,7 @@ enum Job {
     Report { file: String, correct: String },
     Check { files: [String; 2], correct: String },
     Replay { file: String },
+    Upgrade { file: String },
     Run(Setup, u64, u64),
 }
 
@@ -164,7 +170,7 @@ impl Job {
         }
         let words = Words::read(words)?;
         match command.as_str() {
-            "report" | "check" | "replay" | "run" if words.wants_help => Ok(Job::Help),
+            "report" | "check" | "replay" | "upgrade" | "run" if words.wants_help => Ok(Job::Help),
             "report" => {
                 let [correct] = words.values(["--correct"])?;
                 let correct = correct.to_owned();
@@ -178,6 +184,10 @@ impl Job {
             "replay" => {
                 let [] = words.values([])?;
                 words.files().map(|[file]| Job::Replay { file })
+            }
+            "upgrade" => {
+                let [] = words.values([])?;
+                words.files().map(|[file]| Job::Upgrade { file })
             }
             "run" if words.files.is_empty() => run_job(&words),
             _ => Err(Fault::Usage),

@@ -5,7 +5,7 @@ use crate::world::World;
 use std::io::{self, Write};
 
 /// The messages that each Receive takes, from 1 on, as lists of which 0 is the end.
-struct Taken {
+pub struct Taken {
     /// The first message of a Receive, by its number.
     first: Vec<u32>,
     /// The message after another, by its number.
@@ -13,7 +13,7 @@ struct Taken {
 }
 
 impl Taken {
-    fn new(trace: &Trace) -> Taken {
+    pub fn new(trace: &Trace) -> Taken {
         let mut first = vec![0; trace.steps.len() + 1];
         let mut next = first.clone();
         for no in (1..=trace.len()).rev() {
@@ -25,7 +25,8 @@ impl Taken {
         Taken { first, next }
     }
 
-    fn by(&self, receive: u32) -> impl Iterator<Item = u32> + '_ {
+    /// The messages that a Receive takes, rising.
+    pub fn by(&self, receive: u32) -> impl Iterator<Item = u32> + '_ {
         let mut at = self.first[receive as usize];
         std::iter::from_fn(move || {
             let id = (at != 0).then_some(at)?;
