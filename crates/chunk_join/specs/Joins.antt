@@ -20,6 +20,10 @@ abbrev pub after : Place → Option Place → Option Place
 after s None = None
 after s (Some r) = if nat_lt s.tick r.tick then Some r else None
 
+-- whether one step comes before another: in an earlier tick, or in the same tick with a smaller number
+abbrev pub comes_before : Place → Place → Bool
+comes_before a b = if a.tick == b.tick then nat_lt a.no b.no else nat_lt a.tick b.tick
+
 -- the fate of a message of the left part, where the right part takes it like this or not at all
 abbrev pub settled_by : List (Option Place) → Message → Option Take → Message
 settled_by last m None = m
@@ -31,6 +35,10 @@ takes_of m t = t.sent.no == m.sent.no && t.sent.tick == m.sent.tick
 -- a message of the left part, whose last Receives are these, after what the right part takes
 abbrev pub settle : List Take → List (Option Place) → Message → Message
 settle taken last m = settled_by last m (find (takes_of m) taken)
+
+-- a message after one take
+abbrev pub settle_with : List (Option Place) → Take → Message → Message
+settle_with last t m = if takes_of m t then settled_by last m (Some t) else m
 
 -- whether the right part takes a message that was sent before the left part, too
 abbrev pub is_older : ℕ → Take → Bool
@@ -49,9 +57,12 @@ later_each (x ∷ left) (y ∷ right) = later_of x y ∷ later_each left right
 abbrev pub meets : ℕ → Gap → Gap → Bool
 meets seam w v = w.proc == v.proc && w.to == seam && v.from == seam + 1
 
--- a silence of the left part that doesn't go on in the right part
+-- whether a silence of the left part goes on in the right part
+abbrev pub goes_on : ℕ → List Gap → Gap → Bool
+goes_on seam right w = list_any (λ v. meets seam w v) right
+
 abbrev pub stops : ℕ → List Gap → Gap → Bool
-stops seam right w = not (list_any (λ v. meets seam w v) right)
+stops seam right w = not (goes_on seam right w)
 
 abbrev pub from_seam : Gap → Option Gap → Gap
 from_seam v None = v
@@ -80,10 +91,13 @@ joined (Some l) None = Some l
 joined (Some l) (Some r) = Some (joined_parts l r)
 
 -- the first reason against joining them
-abbrev pub refusal : Option Summary → Option Summary → Option Why
-refusal None right = None
-refusal (Some l) None = None
-refusal (Some l) (Some r) =
+abbrev pub parts_refusal : Summary → Summary → Option Why
+parts_refusal l r =
     if not (l.to + 1 == r.from) then Some NotAdjacent
     else if l.set == r.set then None
     else Some OtherSet
+
+abbrev pub refusal : Option Summary → Option Summary → Option Why
+refusal None right = None
+refusal (Some l) None = None
+refusal (Some l) (Some r) = parts_refusal l r

@@ -2,6 +2,11 @@
 #![tactic(auto)]
 
 mod joins;
+mod message_joins;
+mod parts;
+mod pieces;
+mod silence_joins;
 mod summaries;
 
 pub use joins::{JoinRefused, Joined, Why, join_all};
+pub use pieces::Piece;

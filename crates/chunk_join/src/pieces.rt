@@ -1,0 +1,74 @@
+//! Pieces: what is known of a part of a trace, joined with what is known of the part that follows.
+
+use crate::joins::{JoinRefused, Joined};
+use crate::parts::{Part, join_parts};
+use std::marker::Model;
+
+/// The summary of the ticks of a part of a trace, for a set of processors that count as correct; the empty part has
+/// one for all sets.
+#[derive(Debug, Drop)]
+pub struct Piece {
+    part: Option<Part>,
+}
+
+impl Model for Piece {
+    ghost use Rattle.std.specs.Prelude.{Option};
+    ghost use Rattle.chunk_join.specs.Summaries.{Summary};
+
+    ghost Value = { Option Summary };
+
+    ghost view = { λ a. a.part };
+}
+
+impl Joined for Piece {
+    ghost use Rattle.std.specs.Prelude.{None};
+    ghost use Rattle.chunk_join.specs.Summaries.{Whole, IsPiece};
+    ghost use Rattle.chunk_join.specs.Joins.{refusal, joined};
+    ghost use Rattle.chunk_join.specs.Laws.PiecesJoined.{pieces_join};
+
+    ghost Whole = { Whole };
+
+    ghost IsPart = { IsPiece };
+
+    ghost empty = { None };
+
+    ghost refusal = { refusal };
+
+    ghost joined = { joined };
+
+    fn unit() -> Piece {
+        Piece { part: None }
+    }
+
+    fn fits(&self, right: &Piece) -> bool {
+        match (&self.part, &right.part) {
+            (Some(left), Some(right)) => left.refusal(right).is_none(),
+            _ => true,
+        }
+    }
+
+    fn join(self, right: Piece) -> Result<Piece, JoinRefused<Piece>> {
+        let left = match self.part {
+            None => return Ok(right),
+            Some(left) => left,
+        };
+        let right = match right.part {
+            None => return Ok(Piece { part: Some(left) }),
+            Some(right) => right,
+        };
+        match join_parts(left, right) {
+            Ok(both) => Ok(Piece { part: Some(both) }),
+            Err(refused) => Err(JoinRefused {
+                why: refused.why,
+                left: Piece {
+                    part: Some(refused.left),
+                },
+                right: Piece {
+                    part: Some(refused.right),
+                },
+            }),
+        }
+    }
+
+    ghost laws = { pieces_join };
+}
