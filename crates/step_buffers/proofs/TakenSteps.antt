@@ -74,26 +74,6 @@ added-these test inbox ids s all = (forth, back)
       | inr e ↦ Contains-append_right inbox (filter test ids) s (Contains-filter test ids s e is.1)
     ]
 
--- or all are tested in the end
-pub tested-these : (test : ℕ → Bool) (inbox ids : List ℕ) (s : ℕ) → Contains (filter test (inbox ++ filter test ids)) s ↔ IsOfThese test inbox ids s
-tested-these test inbox ids s = (forth, back)
-  where
-    forth : Contains (filter test (inbox ++ filter test ids)) s → IsOfThese test inbox ids s
-    forth d =
-        let r = Contains-from_filter test (inbox ++ filter test ids) s d in
-        elim (Contains-append_cases inbox (filter test ids) s r.0) [
-          | inl e ↦ (inl e, r.1)
-          | inr e ↦ (inr (Contains-from_filter test ids s e).0, r.1)
-        ]
-
-    back : IsOfThese test inbox ids s → Contains (filter test (inbox ++ filter test ids)) s
-    back is = Contains-filter test (inbox ++ filter test ids) s
-        (elim is.0 [
-          | inl e ↦ Contains-append_left inbox (filter test ids) s e
-          | inr e ↦ Contains-append_right inbox (filter test ids) s (Contains-filter test ids s e is.1)
-        ])
-        is.1
-
 -- a message of the shorter trace has its round in the longer one
 pub sent-longer : (steps : List Step) (x : Step) (q p s : ℕ) → IsSend steps q p s → IsSend (steps ++ x ∷ []) q p s × (round_at (steps ++ x ∷ []) q s ≡ round_at steps q s)
 sent-longer steps x q p s h =
