@@ -76,18 +76,16 @@ same_level level first b h =
       eqb-same m n h = eqb-true m n h
 
 -- a level that begins no stretch continues the one at the top
-pub raised_same : (stretches : List Stretch) (level : Level) (last reach : ℕ) → AreStretches stretches → last ≡ length stretches → CanStandBefore level (levels_of stretches)
-    → false ≡ begins level (levels_of stretches) → reach ≡ length (levels_of stretches) + 1
-    → IsRaised [] stretches level (set stretches (last - 1) (record { level = level; reach = reach }))
-raised_same [] level last reach a n f b r = cc
-raised_same (s ∷ rest) level last reach a n f b r =
+pub raised_same : (stretches : List Stretch) (level : Level) (last reach : ℕ) (top none : Stretch) → AreStretches stretches → last ≡ length stretches → CanStandBefore level (levels_of stretches)
+    → false ≡ begins level (levels_of stretches) → reach ≡ length (levels_of stretches) + 1 → top ≡ get_or stretches (last - 1) none
+    → IsRaised [] stretches level (set stretches (last - 1) (record { level = top.level; reach = reach }))
+raised_same [] level last reach top none a n f b r h = cc
+raised_same (s ∷ rest) level last reach top none a n f b r here =
     let all = s ∷ rest in
-    let top = get_or all (length rest) s in
-    let at : suc (length rest) - 1 ≡ length rest = omega arith in
-    let h : slice_get all (length rest) ≡ Some top = slice_get-get_or all (length rest) s (omega arith) in
+    let place : last - 1 ≡ length rest = omega (arith, n) in
+    let h : slice_get all (length rest) ≡ Some top = slice_get-get_or all (length rest) none (omega arith) ∙ ap Some (sym (rw place at here)) in
     let t = HasTop-from_last [] all (length rest) top refl h a in
     let same = same_level level top.level (StandsBefore-top (levels_of all) level top t f) (not-false _ (begins-top (levels_of all) level top t ∙ sym b)) in
-    let place : last - 1 ≡ length rest = omega (arith, n) in
     rw (place, same) (IsRaised-from_same [] all (length rest) top reach refl h a r)
 
 -- a level that begins a stretch stands in one of its own

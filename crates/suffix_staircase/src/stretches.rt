@@ -70,12 +70,12 @@ pub(crate) fn put_before(stretches: &mut Vec<Stretch>, level: Level) -> Result<(
     ensures stretches { AreStretches stretches.new.items }
 {
     let reach = height(stretches) + 1;
-    let stretch = Stretch { level, reach };
     if begins(stretches, &level) {
-        stretches.push(stretch)?;
+        stretches.push(Stretch { level, reach })?;
     } else {
+        // An equal bound has the same witness, so the levels are equal too.
         let last = stretches.len() - 1;
-        stretches[last] = stretch;
+        stretches[last].reach = reach;
     }
     Ok(())
 }
