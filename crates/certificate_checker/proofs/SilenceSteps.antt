@@ -1,38 +1,31 @@
 -- What is known of the next steps of a processor from the ticks on that were gone over.
-use Rattle.std.proofs.Common.{ℕ, ◌≡◌, ◌+◌, ◌<◌, ◌≤◌, inl, inr, List, length, get_or, refl, ap, sym, subst, ◌∙◌, arith, replicate}
+use Rattle.std.proofs.Common.{ℕ, ◌≡◌, ◌≢◌, ◌+◌, ◌<◌, inl, inr, List, length, get_or, set, refl, ap, sym, subst, ◌∙◌, arith, replicate, get_or-set_same, get_or-set_other}
 use Rattle.std.proofs.lemmas.Bool.{cases_eq, cases_lt}
-use Rattle.std.proofs.lemmas.List.{get_or-replicate, length-replicate}
+use Rattle.std.proofs.lemmas.List.{get_or-replicate, length-replicate, length-set}
+use Rattle.std.proofs.lemmas.Option.{slice_get_within, slice_get_read, get_or_from_slice_get}
+use Rattle.step_trace.specs.declared.steps.Step.{Step}
 use Rattle.step_trace.specs.Traces.{Recorded, IsStepOf}
 use Rattle.step_trace.specs.Ticks.{tick_of, IsTimed}
 use Rattle.step_trace.proofs.StepPositions.{step_at_within}
 use Rattle.step_trace.proofs.TickOrder.{ticks_rise, own_ticks_rise}
 use Rattle.certificate_checker.specs.declared.silences.Silence.{Silence}
-use Rattle.certificate_checker.specs.Silences.{IsNextStep, IsSilence, IsFilled}
-
--- The steps before number `number` were gone over; the ticks before `open` have their next steps, and no step of p in a
--- later tick was gone over.
-pub record KnowsSilence (trace : Recorded) (p number open_from : ℕ) (next : List ℕ) : Type 0 where
-  pub long : length next ≡ trace.last + 1
-  pub end : open_from ≤ trace.last + 1
-  pub each : (x : ℕ) → x < open_from → IsNextStep trace p x (get_or next x 0)
-  pub rest : (x : ℕ) → open_from ≤ x → x ≤ trace.last → get_or next x 0 ≡ trace.last + 1
-  pub passed : (k : ℕ) → k < number → IsStepOf trace.steps k p → tick_of trace k < open_from
-  pub start : (k : ℕ) → number ≤ k → IsStepOf trace.steps k p → open_from ≤ tick_of trace k
+use Rattle.certificate_checker.specs.Silences.{IsNextStep, IsSilence, AreSilences, KnowsSilence, KnowsSilences, IsFilled}
+use Rattle.certificate_checker.proofs.StepFacts.{same_step}
 
 -- before the first step
-pub KnowsSilence-before_all : (t : Recorded) (p : ℕ) (next : List ℕ) → next ≡ replicate (t.last + 1) (t.last + 1) → KnowsSilence t p 1 0 next
-KnowsSilence-before_all t p next e = record {
+pub KnowsSilence-before_all : (t : Recorded) (p : ℕ) (s : Silence) → s.next.items ≡ replicate (t.last + 1) (t.last + 1) → s.filled ≡ 0 → KnowsSilence t p 1 s
+KnowsSilence-before_all t p s e none = record {
   long = ap length e ∙ length-replicate (t.last + 1) (t.last + 1);
-  end = omega arith;
-  each = λ x l. absurd (omega (arith, l));
+  end = omega (arith, none);
+  each = λ x l. absurd (omega (arith, l, none));
   rest = λ x a b. ap (λ (list : List ℕ). get_or list x 0) e ∙ get_or-replicate (t.last + 1) x (t.last + 1) 0 (omega (arith, b));
   passed = λ k l i. absurd (let inside = step_at_within t.steps k _ i.1 in omega (arith, l, inside));
-  start = λ k l i. omega arith;
+  start = λ k l i. omega (arith, none);
 }
 
 -- over a step of another processor nothing changes
-pub KnowsSilence-other : (t : Recorded) (p number open_from : ℕ) (next : List ℕ) → (¬ IsStepOf t.steps number p) → KnowsSilence t p number open_from next → KnowsSilence t p (number + 1) open_from next
-KnowsSilence-other t p number open_from next other k = record {
+KnowsSilence-other : (t : Recorded) (p number : ℕ) (s : Silence) → (¬ IsStepOf t.steps number p) → KnowsSilence t p number s → KnowsSilence t p (number + 1) s
+KnowsSilence-other t p number s other k = record {
   long = k.long;
   end = k.end;
   each = k.each;
@@ -45,18 +38,18 @@ KnowsSilence-other t p number open_from next other k = record {
 }
 
 -- over a step of the processor the ticks up to its own have it as their next step
-pub KnowsSilence-own : (t : Recorded) (p number open_from tick : ℕ) (old new : List ℕ) → IsTimed t → IsStepOf t.steps number p → tick ≡ tick_of t number → length new ≡ length old → IsFilled open_from (tick + 1) tick old new
-    → KnowsSilence t p number open_from old → KnowsSilence t p (number + 1) (tick + 1) new
-KnowsSilence-own t p number open_from tick old new time own at long filled k =
+pub KnowsSilence-own : (t : Recorded) (p number tick : ℕ) (old new : Silence) → IsTimed t → IsStepOf t.steps number p → tick ≡ tick_of t number → length new.next.items ≡ length old.next.items
+    → IsFilled old.filled (tick + 1) tick old.next.items new.next.items → new.filled ≡ tick + 1 → KnowsSilence t p number old → KnowsSilence t p (number + 1) new
+KnowsSilence-own t p number tick old new time own at long filled upto k =
     let inside = time.inside number _ own.1 in
     let below = k.start number (omega arith) own in
     record {
       long = long ∙ k.long;
-      end = omega (arith, inside, at);
-      each = λ x l. elim (cases_lt x open_from) [
+      end = omega (arith, inside, at, upto);
+      each = λ x l. elim (cases_lt x old.filled) [
         | inl early ↦ subst (λ (n : ℕ). IsNextStep t p x n) (sym (filled.below x early)) (k.each x early)
-        | inr late ↦ subst (λ (n : ℕ). IsNextStep t p x n) (sym (filled.inside x late l)) (record {
-          from = omega (arith, l);
+        | inr late ↦ subst (λ (n : ℕ). IsNextStep t p x n) (sym (filled.inside x late (omega (arith, l, upto)))) (record {
+          from = omega (arith, l, upto);
           until = omega (arith, inside, at);
           silent = λ y a b s. elim (cases_lt s.place number) [
             | inl before ↦ (let q = k.passed s.place before s.step in let e = s.tick in omega (arith, q, e, a, late))
@@ -65,19 +58,41 @@ KnowsSilence-own t p number open_from tick old new time own at long filled k =
           step = λ _. record { place = number; step = own; tick = sym at };
         })
       ];
-      rest = λ x a b. filled.above x (omega (arith, a, below, at)) a ∙ k.rest x (omega (arith, a, below, at)) b;
+      rest = λ x a b. filled.above x (omega (arith, a, below, at, upto)) (omega (arith, a, upto)) ∙ k.rest x (omega (arith, a, below, at, upto)) b;
       passed = λ j l i. elim (cases_eq j number) [
-        | inl e ↦ (let same = ap (tick_of t) e in omega (arith, same, at))
-        | inr e ↦ (let q = k.passed j (omega (arith, e, l)) i in omega (arith, q, below, at))
+        | inl e ↦ (let same = ap (tick_of t) e in omega (arith, same, at, upto))
+        | inr e ↦ (let q = k.passed j (omega (arith, e, l)) i in omega (arith, q, below, at, upto))
       ];
-      start = λ j l i. (let q = own_ticks_rise t time number j _ _ own.1 i.1 refl (omega (arith, l)) in omega (arith, q, at));
+      start = λ j l i. (let q = own_ticks_rise t time number j _ _ own.1 i.1 refl (omega (arith, l)) in omega (arith, q, at, upto));
     }
 
+-- a step is of one processor
+step_unique : (steps : List Step) (x p q : ℕ) → IsStepOf steps x p → IsStepOf steps x q → p ≡ q
+step_unique steps x p q g h = ap (λ (z : Step). z.proc) (same_step steps x _ _ g.1 h.1)
+
+-- over a step of q another silence stands in its place, and the others are as before
+pub KnowsSilences-note : (t : Recorded) (number q : ℕ) (old : List Silence) (now : Silence) → IsStepOf t.steps number q → KnowsSilence t q (number + 1) now → KnowsSilences t number old
+    → KnowsSilences t (number + 1) (set old q now)
+KnowsSilences-note t number q old now own known k = record {
+  long = length-set old q now ∙ k.long;
+  each = λ p s h. (let inside = slice_get_within (set old q now) p s h in
+      let e = get_or_from_slice_get (set old q now) p s s h in
+      let long = length-set old q now in
+      elim (cases_eq p q) [
+        | inl same ↦ (let here = get_or-set_same old q now s (omega (arith, inside, long, same)) in
+            let is : now ≡ s = sym here ∙ ap (λ (m : ℕ). get_or (set old q now) m s) (sym same) ∙ e in
+            subst (λ (m : ℕ). KnowsSilence t m (number + 1) s) (sym same) (subst (λ (y : Silence). KnowsSilence t q (number + 1) y) is known))
+        | inr apart ↦ (let a : p ≢ q = apart in
+            let stays = get_or-set_other old q p now s a in
+            KnowsSilence-other t p number s (λ i. a (step_unique t.steps number p q i own)) (k.each p s (slice_get_read old (length old) p s refl (omega (arith, inside, long)) (sym e ∙ stays))))
+      ]);
+}
+
 -- after the last step the other ticks have no next step
-pub IsSilence-after_all : (t : Recorded) (p number open_from : ℕ) (s : Silence) → length t.steps < number → KnowsSilence t p number open_from s.next.items → IsSilence t p s
-IsSilence-after_all t p number open_from s all k = record {
+IsSilence-after_all : (t : Recorded) (p number : ℕ) (s : Silence) → length t.steps < number → KnowsSilence t p number s → IsSilence t p s
+IsSilence-after_all t p number s all k = record {
   long = k.long;
-  each = λ x l. elim (cases_lt x open_from) [
+  each = λ x l. elim (cases_lt x s.filled) [
     | inl early ↦ k.each x early
     | inr late ↦ subst (λ (n : ℕ). IsNextStep t p x n) (sym (k.rest x late l)) (record {
       from = omega (arith, l);
@@ -86,4 +101,10 @@ IsSilence-after_all t p number open_from s all k = record {
       step = λ h. absurd (omega (arith, h));
     })
   ];
+}
+
+pub AreSilences-after_all : (t : Recorded) (number : ℕ) (silences : List Silence) → length t.steps < number → KnowsSilences t number silences → AreSilences t silences
+AreSilences-after_all t number silences all k = record {
+  long = k.long;
+  each = λ p s h. IsSilence-after_all t p number s all (k.each p s h);
 }

@@ -29,11 +29,11 @@ pushed_cases (y ∷ list) s x (suc k) e = elim (pushed_cases list s x k e) [
   | inr h ↦ inr (ap (λ (n : ℕ). suc n) h.0, h.1)
 ]
 
-pub pushed_each : (t : Recorded) (list new : List Silence) (s : Silence) (p : ℕ) → new ≡ list ++ s ∷ [] → length list ≡ p → ((q : ℕ) (x : Silence) → slice_get list q ≡ Some x → IsSilence t q x) → IsSilence t p s
-    → (q : ℕ) (x : Silence) → slice_get new q ≡ Some x → IsSilence t q x
-pushed_each t list new s p e long each here q x h = elim (pushed_cases list s x q (subst (λ (xs : List Silence). slice_get xs q ≡ Some x) e h)) [
+pub pushed_each : (Holds : ℕ → Silence → Type 0) (list new : List Silence) (s : Silence) (p : ℕ) → new ≡ list ++ s ∷ [] → length list ≡ p → ((q : ℕ) (x : Silence) → slice_get list q ≡ Some x → Holds q x) → Holds p s
+    → (q : ℕ) (x : Silence) → slice_get new q ≡ Some x → Holds q x
+pushed_each Holds list new s p e long each here q x h = elim (pushed_cases list s x q (subst (λ (xs : List Silence). slice_get xs q ≡ Some x) e h)) [
   | inl old ↦ each q x old
-  | inr last ↦ subst (λ (m : ℕ). IsSilence t m x) (sym (last.0 ∙ long)) (subst (λ (y : Silence). IsSilence t p y) last.1 here)
+  | inr last ↦ subst (λ (m : ℕ). Holds m x) (sym (last.0 ∙ long)) (subst (λ (y : Silence). Holds p y) last.1 here)
 ]
 
 -- a member is no number 0

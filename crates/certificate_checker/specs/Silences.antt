@@ -1,7 +1,7 @@
 -- The next steps of processors (own).
 use Rattle.std.specs.Prelude.{ℕ, ◌≡◌, ◌+◌, ◌<◌, ◌≤◌, List, length, slice_index, slice_get, Some}
-use Rattle.step_trace.specs.Traces.{Recorded}
-use Rattle.step_trace.specs.Ticks.{StepsIn}
+use Rattle.step_trace.specs.Traces.{Recorded, IsStepOf}
+use Rattle.step_trace.specs.Ticks.{StepsIn, tick_of}
 use Rattle.certificate_checker.specs.declared.silences.Silence.{Silence}
 
 -- the first tick from x on in which p takes a step, or the tick after the last where there is none
@@ -20,6 +20,21 @@ pub record IsSilence (trace : Recorded) (p : ℕ) (s : Silence) : Type 0 where
 pub record AreSilences (trace : Recorded) (silences : List Silence) : Type 0 where
   pub long : length silences ≡ trace.config.n + 1
   pub each : (p : ℕ) (s : Silence) → slice_get silences p ≡ Some s → IsSilence trace p s
+
+-- The steps before number `number` were gone over; the ticks before `filled` have their next steps, and no step of p in a
+-- later tick was gone over.
+pub record KnowsSilence (trace : Recorded) (p number : ℕ) (s : Silence) : Type 0 where
+  pub long : length s.next.items ≡ trace.last + 1
+  pub end : s.filled ≤ trace.last + 1
+  pub each : (x : ℕ) → x < s.filled → IsNextStep trace p x (slice_index s.next.items x)
+  pub rest : (x : ℕ) → s.filled ≤ x → x ≤ trace.last → slice_index s.next.items x ≡ trace.last + 1
+  pub passed : (k : ℕ) → k < number → IsStepOf trace.steps k p → tick_of trace k < s.filled
+  pub start : (k : ℕ) → number ≤ k → IsStepOf trace.steps k p → s.filled ≤ tick_of trace k
+
+-- the same of each processor
+pub record KnowsSilences (trace : Recorded) (number : ℕ) (silences : List Silence) : Type 0 where
+  pub long : length silences ≡ trace.config.n + 1
+  pub each : (p : ℕ) (s : Silence) → slice_get silences p ≡ Some s → KnowsSilence trace p number s
 
 -- the value stands from one place to before another, and elsewhere what stood there before
 pub record IsFilled (from until value : ℕ) (old new : List ℕ) : Type 0 where

@@ -1,9 +1,10 @@
 //! The next step of each processor from each tick on.
 
-ghost use Rattle.std.specs.Prelude.{◌≡◌, ◌<◌, ◌≤◌, length, slice_index, IfOk};
-ghost use Rattle.certificate_checker.specs.Silences.{IsSilence, AreSilences, IsFilled};
+ghost use Rattle.std.specs.Prelude.{ℕ, ◌≡◌, ◌+◌, ◌<◌, ◌≤◌, length, slice_index, IfOk};
+ghost use Rattle.step_trace.specs.declared.traces.TheConstants.{MAX_TICKS};
+ghost use Rattle.certificate_checker.specs.Silences.{KnowsSilence, KnowsSilences, AreSilences, IsFilled};
 
-use crate::step_tests::is_step_of;
+use crate::step_tests::step_of;
 use std::alloc::{AllocError, Global};
 use step_trace::Trace;
 
@@ -12,24 +13,31 @@ use step_trace::Trace;
 #[derive(Debug, Drop)]
 pub(crate) struct Silence {
     next: Vec<u32>,
+    // The ticks before this one have their next step, of the steps that were gone over.
+    filled: u64,
 }
 
 impl Silence {
-    /// The silence of processor `p`.
-    fn of(alloc: Global, trace: &Trace, p: u64) -> Result<Self, AllocError>
-        ensures { IfOk result (λ s. IsSilence trace.now p s) }
+    // What is known before the first step.
+    fn before_all(alloc: Global, trace: &Trace) -> Result<Self, AllocError>
+        ensures { IfOk result (λ s. (p : ℕ) → KnowsSilence trace.now p 1 s) }
     {
         let end = trace.last_tick() + 1;
-        let mut next = vec![in alloc; end as u32; end as usize]?;
-        let mut open = 0;
-        for no in 1..trace.len() as u64 + 1 {
-            if is_step_of(trace, no, p) {
-                let tick = trace.tick(no);
-                fill(&mut next, open, tick + 1, tick as u32);
-                open = tick + 1;
-            }
-        }
-        Ok(Silence { next })
+        let next = vec![in alloc; end as u32; end as usize]?;
+        Ok(Silence { next, filled: 0 })
+    }
+
+    // Goes on over a step in this tick.
+    fn note(&mut self, tick: u64)
+        requires low { self.old.filled ≤ tick }
+        requires high { tick < length self.old.next.items }
+        requires limit { tick ≤ MAX_TICKS }
+        ensures len { length self.new.next.items ≡ length self.old.next.items }
+        ensures next { IsFilled self.old.filled (tick + 1) tick self.old.next.items self.new.next.items }
+        ensures filled { self.new.filled ≡ tick + 1 }
+    {
+        fill(&mut self.next, self.filled, tick + 1, tick as u32);
+        self.filled = tick + 1;
     }
 
     /// The first tick from `x` on in which the processor takes a step, or the tick after the last.
@@ -53,13 +61,36 @@ fn fill(list: &mut Vec<u32>, from: u64, until: u64, value: u32)
     }
 }
 
+// The silences of all processors before the first step.
+fn before_all(alloc: Global, trace: &Trace) -> Result<Vec<Silence>, AllocError>
+    ensures { IfOk result (λ v. KnowsSilences trace.now 1 v.items) }
+{
+    let mut found = Vec::new(alloc);
+    for p in 0..trace.config().n() + 1 {
+        found.push(Silence::before_all(alloc, trace)?)?;
+    }
+    Ok(found)
+}
+
+// Goes on over a step.
+fn note(silences: &mut Vec<Silence>, trace: &Trace, no: u64)
+    requires low { 1 ≤ no }
+    requires high { no ≤ length trace.now.steps }
+    requires known { KnowsSilences trace.now no silences.old.items }
+    ensures { KnowsSilences trace.now (no + 1) silences.new.items }
+{
+    let step = step_of(trace, no);
+    let tick = trace.tick(no);
+    silences[step.proc as usize].note(tick);
+}
+
 /// The silences of all processors, from number 0 on, which takes no step.
 pub(crate) fn silences(alloc: Global, trace: &Trace) -> Result<Vec<Silence>, AllocError>
     ensures { IfOk result (λ v. AreSilences trace.now v.items) }
 {
-    let mut found = Vec::new(alloc);
-    for p in 0..trace.config().n() + 1 {
-        found.push(Silence::of(alloc, trace, p)?)?;
+    let mut found = before_all(alloc, trace)?;
+    for no in 1..trace.len() as u64 + 1 {
+        note(&mut found, trace, no);
     }
     Ok(found)
 }

@@ -1,16 +1,9 @@
-use Rattle.std.proofs.Common.{◌∙◌, ap, arith}
-use Rattle.step_trace.specs.Configurations.{Setup}
-use Rattle.certificate_checker.proofs.SilentGaps.{pushed_long, pushed_each}
+use Rattle.std.proofs.Common.{arith}
+use Rattle.certificate_checker.proofs.SilenceSteps.{AreSilences-after_all}
 use Rattle.certificate_checker.proofs.silences.silences.Goals as goal
 
-pub loop-p-preserved : goal.loop-p-preserved
-loop-p-preserved c =
-    let n = c.n-p-end.ensures.value ∙ ap (λ (s : Setup). s.n) c.config.ensures in
-    let below = c.loop-p-test.true in
-    let known = c.loop-p.invariant in
-    let pushed = c.in_ok-push.ensures.items in
-    record {
-      end = omega (arith, below, n);
-      long = pushed_long c.loop-p.found.items c.push.new.self.items c.in_ok-of.field-0 c.loop-p.p pushed known.long;
-      each = pushed_each c.args.trace.now c.loop-p.found.items c.push.new.self.items c.in_ok-of.field-0 c.loop-p.p pushed known.long known.each c.in_ok-of.ensures;
-    }
+pub returns : goal.returns
+returns c =
+    let len = c.len.ensures.value in
+    let all = c.loop-no-test.false in
+    AreSilences-after_all c.args.trace.now c.loop-no.no c.loop-no.found.items (omega (arith, len, all)) c.loop-no.invariant

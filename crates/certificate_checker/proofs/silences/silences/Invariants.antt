@@ -1,13 +1,6 @@
-use Rattle.std.proofs.Common.{ℕ, ◌≡◌, ◌+◌, ◌≤◌, length, Some}
-use Rattle.std.specs.Prelude.{slice_get}
-use Rattle.certificate_checker.specs.declared.silences.Silence.{Silence}
-use Rattle.certificate_checker.specs.Silences.{IsSilence}
+use Rattle.certificate_checker.specs.Silences.{KnowsSilences}
 use Rattle.certificate_checker.proofs.silences.silences.Given as goal
 
--- the silences of the numbers below p were put down
-abbrev pub invariant-loop-p : goal.invariant-loop-p
-invariant-loop-p l = record {
-  end : l.p ≤ l.trace.config.n + 1;
-  long : length l.found.items ≡ l.p;
-  each : (p : ℕ) (s : Silence) → slice_get l.found.items p ≡ Some s → IsSilence l.trace p s;
-}
+-- the steps before number `no` were gone over
+abbrev pub invariant-loop-no : goal.invariant-loop-no
+invariant-loop-no l = KnowsSilences l.trace l.no l.found.items
