@@ -123,48 +123,40 @@ fn reads_runs(rt: HostRuntime) -> Result<(), Fail> {
     Ok(())
 }
 
+// Whether the line of a run with these words for N, T, the values, P and S is refused with words that begin so.
+fn refuses_run(alloc: Global, words: [&str; 5], begins: &str) -> Result<bool, AllocError> {
+    let [n, t, values, patience, steps] = words;
+    let line = run_line(n, t, values, patience, steps);
+    is_refused(alloc, &line, begins)
+}
+
 #[test]
 fn refuses_numbers_of_runs(rt: HostRuntime) -> Result<(), Fail> {
-    for (line, begins) in [
-        (run_line("1", "9", "5", "1", "0"), "synchrony: bad --nodes"),
+    for (words, begins) in [
+        (["1", "9", "5", "1", "0"], "synchrony: bad --nodes"),
+        (["65", "9", "", "1", "1000000"], "synchrony: bad --nodes"),
+        (["4", "2", "5", "1", "1000000"], "synchrony: bad --faults"),
+        (["3", "1", "5,7", "1", "1000000"], "synchrony: bad --values"),
+        (["3", "1", "5,7,7,", "1", "0"], "synchrony: bad --values"),
+        (["3", "1", "5,07,7", "1", "0"], "synchrony: bad --values"),
         (
-            run_line("65", "9", "", "1", "1000000"),
-            "synchrony: bad --nodes",
-        ),
-        (
-            run_line("4", "2", "5", "1", "1000000"),
-            "synchrony: bad --faults",
-        ),
-        (
-            run_line("3", "1", "5,7", "1", "1000000"),
-            "synchrony: bad --values",
-        ),
-        (
-            run_line("3", "1", "5,7,7,", "1", "0"),
-            "synchrony: bad --values",
-        ),
-        (
-            run_line("3", "1", "5,07,7", "1", "0"),
-            "synchrony: bad --values",
-        ),
-        (
-            run_line("3", "1", "5,7,7", "1", "333334"),
+            ["3", "1", "5,7,7", "1", "333334"],
             "synchrony: too many steps",
         ),
         (
-            run_line("3", "1", "5,7,7", "0", "1"),
+            ["3", "1", "5,7,7", "0", "1"],
             "error: invalid value '0' for '--patience <P>'",
         ),
         (
-            run_line("3", "1", "5,7,7", "1", "1000001"),
+            ["3", "1", "5,7,7", "1", "1000001"],
             "error: invalid value '1000001' for '--steps <S>'",
         ),
         (
-            run_line("x", "1", "5,7,7", "1", "1"),
+            ["x", "1", "5,7,7", "1", "1"],
             "error: invalid value 'x' for '--nodes <N>'",
         ),
     ] {
-        assert!(rt; is_refused(rt.alloc(), &line, begins)?, "{line:?}");
+        assert!(rt; refuses_run(rt.alloc(), words, begins)?, "{words:?}");
     }
     Ok(())
 }
