@@ -1,9 +1,10 @@
 -- What is known of the next steps of a processor from the ticks on that were gone over.
-use Rattle.std.proofs.Common.{ℕ, ◌≡◌, ◌≢◌, ◌+◌, ◌<◌, inl, inr, List, length, get_or, set, refl, ap, sym, subst, ◌∙◌, arith, replicate, get_or-set_same, get_or-set_other}
+use Rattle.std.proofs.Common.{ℕ, ◌≡◌, ◌≢◌, ◌+◌, ◌<◌, inl, inr, List, IsTrue, length, get_or, set, refl, ap, sym, subst, ◌∙◌, arith, replicate, get_or-set_same, get_or-set_other}
 use Rattle.std.proofs.lemmas.Bool.{cases_eq, cases_lt}
 use Rattle.std.proofs.lemmas.List.{get_or-replicate, length-replicate, length-set}
 use Rattle.std.proofs.lemmas.Option.{slice_get_within, slice_get_read, get_or_from_slice_get}
 use Rattle.step_trace.specs.declared.steps.Step.{Step}
+use Rattle.step_trace.specs.Processors.{has_proc}
 use Rattle.step_trace.specs.Traces.{Recorded, IsStepOf}
 use Rattle.step_trace.specs.Ticks.{tick_of, IsTimed}
 use Rattle.step_trace.proofs.StepPositions.{step_at_within}
@@ -71,11 +72,11 @@ step_unique : (steps : List Step) (x p q : ℕ) → IsStepOf steps x p → IsSte
 step_unique steps x p q g h = ap (λ (z : Step). z.proc) (same_step steps x _ _ g.1 h.1)
 
 -- over a step of q another silence stands in its place, and the others are as before
-pub KnowsSilences-note : (t : Recorded) (number q : ℕ) (old : List Silence) (now : Silence) → IsStepOf t.steps number q → KnowsSilence t q (number + 1) now → KnowsSilences t number old
-    → KnowsSilences t (number + 1) (set old q now)
-KnowsSilences-note t number q old now own known k = record {
+pub KnowsSilences-note : (members : ℕ) (t : Recorded) (number q : ℕ) (old : List Silence) (now : Silence) → IsStepOf t.steps number q → KnowsSilence t q (number + 1) now → KnowsSilences members t number old
+    → KnowsSilences members t (number + 1) (set old q now)
+KnowsSilences-note members t number q old now own known k = record {
   long = length-set old q now ∙ k.long;
-  each = λ p s h. (let inside = slice_get_within (set old q now) p s h in
+  each = λ p s member h. (let inside = slice_get_within (set old q now) p s h in
       let e = get_or_from_slice_get (set old q now) p s s h in
       let long = length-set old q now in
       elim (cases_eq p q) [
@@ -84,8 +85,16 @@ KnowsSilences-note t number q old now own known k = record {
             subst (λ (m : ℕ). KnowsSilence t m (number + 1) s) (sym same) (subst (λ (y : Silence). KnowsSilence t q (number + 1) y) is known))
         | inr apart ↦ (let a : p ≢ q = apart in
             let stays = get_or-set_other old q p now s a in
-            KnowsSilence-other t p number s (λ i. a (step_unique t.steps number p q i own)) (k.each p s (slice_get_read old (length old) p s refl (omega (arith, inside, long)) (sym e ∙ stays))))
+            KnowsSilence-other t p number s (λ i. a (step_unique t.steps number p q i own)) (k.each p s member (slice_get_read old (length old) p s refl (omega (arith, inside, long)) (sym e ∙ stays))))
       ]);
+}
+
+-- over a step of a processor outside the set nothing changes
+pub KnowsSilences-other : (members : ℕ) (t : Recorded) (number q : ℕ) (silences : List Silence) → IsStepOf t.steps number q → (¬ IsTrue (has_proc members q)) → KnowsSilences members t number silences
+    → KnowsSilences members t (number + 1) silences
+KnowsSilences-other members t number q silences own outside k = record {
+  long = k.long;
+  each = λ p s member h. KnowsSilence-other t p number s (λ i. outside (subst (λ (m : ℕ). IsTrue (has_proc members m)) (step_unique t.steps number p q i own) member)) (k.each p s member h);
 }
 
 -- after the last step the other ticks have no next step
@@ -103,8 +112,8 @@ IsSilence-after_all t p number s all k = record {
   ];
 }
 
-pub AreSilences-after_all : (t : Recorded) (number : ℕ) (silences : List Silence) → length t.steps < number → KnowsSilences t number silences → AreSilences t silences
-AreSilences-after_all t number silences all k = record {
+pub AreSilences-after_all : (members : ℕ) (t : Recorded) (number : ℕ) (silences : List Silence) → length t.steps < number → KnowsSilences members t number silences → AreSilences members t silences
+AreSilences-after_all members t number silences all k = record {
   long = k.long;
-  each = λ p s h. IsSilence-after_all t p number s all (k.each p s h);
+  each = λ p s member h. IsSilence-after_all t p number s all (k.each p s member h);
 }

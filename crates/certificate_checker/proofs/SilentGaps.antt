@@ -12,9 +12,9 @@ use Rattle.certificate_checker.specs.declared.silences.Silence.{Silence}
 use Rattle.certificate_checker.specs.Silences.{IsNextStep, IsSilence, AreSilences}
 use Rattle.certificate_checker.specs.LongestWitnesses.{HasNoGapAt, IsLongestGapAt}
 
--- the silence of a processor, where it is read
-pub silence_of : (t : Recorded) (silences : List Silence) (p : ℕ) (s : Silence) → AreSilences t silences → p ≤ t.config.n → s ≡ get_or silences p s → IsSilence t p s
-silence_of t silences p s k within e = let long = k.long in k.each p s (slice_get_read silences (length silences) p s refl (omega (arith, long, within)) e)
+-- the silence of a member, where it is read
+pub silence_of : (set : ℕ) (t : Recorded) (silences : List Silence) (p : ℕ) (s : Silence) → AreSilences set t silences → IsTrue (has_proc set p) → p ≤ t.config.n → s ≡ get_or silences p s → IsSilence t p s
+silence_of set t silences p s k member within e = let long = k.long in k.each p s member (slice_get_read silences (length silences) p s refl (omega (arith, long, within)) e)
 
 -- one silence more at the end of a list
 pub pushed_long : (list new : List Silence) (s : Silence) (p : ℕ) → new ≡ list ++ s ∷ [] → length list ≡ p → length new ≡ p + 1
@@ -83,15 +83,29 @@ KnowsLongest-none set t x high = record {
 own_end : (set : ℕ) (t : Recorded) (x p next : ℕ) (o : Gap) → IsNextStep t p x next → IsGap set t o → o.from ≡ x → o.proc ≡ p → o.to < next
 own_end set t x p next o n g from proc = gap_ends set t o next (subst (λ (q : ℕ). IsNextStep t q o.from next) (sym proc) (subst (λ (y : ℕ). IsNextStep t p y next) (sym from) n)) g
 
--- over a processor that is no member, or whose next step comes no later
-pub KnowsLongest-passed : (set : ℕ) (t : Recorded) (x p proc end next : ℕ) → IsNextStep t p x next → (IsTrue (has_proc set p) → next ≤ end) → KnowsLongest set t x p proc end → KnowsLongest set t x (p + 1) proc end
+-- over a processor that is no member
+pub KnowsLongest-other : (set : ℕ) (t : Recorded) (x p proc end : ℕ) → (¬ IsTrue (has_proc set p)) → KnowsLongest set t x p proc end → KnowsLongest set t x (p + 1) proc end
+KnowsLongest-other set t x p proc end outside k = record {
+  within = k.within;
+  inside = k.inside;
+  alone = k.alone;
+  found = k.found;
+  shorter = λ o g e l. elim (cases_eq o.proc p) [
+    | inl same ↦ absurd (outside (subst (λ (q : ℕ). IsTrue (has_proc set q)) same g.member))
+    | inr other ↦ k.shorter o g e (omega (arith, other, l))
+  ];
+  least = k.least;
+}
+
+-- over a member whose next step comes no later
+pub KnowsLongest-passed : (set : ℕ) (t : Recorded) (x p proc end next : ℕ) → IsNextStep t p x next → next ≤ end → KnowsLongest set t x p proc end → KnowsLongest set t x (p + 1) proc end
 KnowsLongest-passed set t x p proc end next n early k = record {
   within = k.within;
   inside = k.inside;
   alone = k.alone;
   found = k.found;
   shorter = λ o g e l. elim (cases_eq o.proc p) [
-    | inl same ↦ (let own = own_end set t x p next o n g e same in let high = early (subst (λ (q : ℕ). IsTrue (has_proc set q)) same g.member) in omega (arith, own, high))
+    | inl same ↦ (let own = own_end set t x p next o n g e same in omega (arith, own, early))
     | inr other ↦ k.shorter o g e (omega (arith, other, l))
   ];
   least = k.least;

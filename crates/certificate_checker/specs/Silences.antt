@@ -1,5 +1,6 @@
 -- The next steps of processors (own).
-use Rattle.std.specs.Prelude.{ℕ, ◌≡◌, ◌+◌, ◌<◌, ◌≤◌, List, length, slice_index, slice_get, Some}
+use Rattle.std.specs.Prelude.{ℕ, ◌≡◌, ◌+◌, ◌<◌, ◌≤◌, List, length, slice_index, slice_get, Some, IsTrue}
+use Rattle.step_trace.specs.Processors.{has_proc}
 use Rattle.step_trace.specs.Traces.{Recorded, IsStepOf}
 use Rattle.step_trace.specs.Ticks.{StepsIn, tick_of}
 use Rattle.certificate_checker.specs.declared.silences.Silence.{Silence}
@@ -16,10 +17,10 @@ pub record IsSilence (trace : Recorded) (p : ℕ) (s : Silence) : Type 0 where
   pub long : length s.next.items ≡ trace.last + 1
   pub each : (x : ℕ) → x ≤ trace.last → IsNextStep trace p x (slice_index s.next.items x)
 
--- the silence of each processor, and of number 0, which takes no step
-pub record AreSilences (trace : Recorded) (silences : List Silence) : Type 0 where
+-- the silence of each member of the set, in the place of its number
+pub record AreSilences (set : ℕ) (trace : Recorded) (silences : List Silence) : Type 0 where
   pub long : length silences ≡ trace.config.n + 1
-  pub each : (p : ℕ) (s : Silence) → slice_get silences p ≡ Some s → IsSilence trace p s
+  pub each : (p : ℕ) (s : Silence) → IsTrue (has_proc set p) → slice_get silences p ≡ Some s → IsSilence trace p s
 
 -- The steps before number `number` were gone over; the ticks before `filled` have their next steps, and no step of p in a
 -- later tick was gone over.
@@ -31,10 +32,10 @@ pub record KnowsSilence (trace : Recorded) (p number : ℕ) (s : Silence) : Type
   pub passed : (k : ℕ) → k < number → IsStepOf trace.steps k p → tick_of trace k < s.filled
   pub start : (k : ℕ) → number ≤ k → IsStepOf trace.steps k p → s.filled ≤ tick_of trace k
 
--- the same of each processor
-pub record KnowsSilences (trace : Recorded) (number : ℕ) (silences : List Silence) : Type 0 where
+-- the same of each member of the set
+pub record KnowsSilences (set : ℕ) (trace : Recorded) (number : ℕ) (silences : List Silence) : Type 0 where
   pub long : length silences ≡ trace.config.n + 1
-  pub each : (p : ℕ) (s : Silence) → slice_get silences p ≡ Some s → KnowsSilence trace p number s
+  pub each : (p : ℕ) (s : Silence) → IsTrue (has_proc set p) → slice_get silences p ≡ Some s → KnowsSilence trace p number s
 
 -- the value stands from one place to before another, and elsewhere what stood there before
 pub record IsFilled (from until value : ℕ) (old new : List ℕ) : Type 0 where

@@ -134,7 +134,7 @@ fn gap_from(
     longest: Option<Gap>,
 ) -> Option<Gap>
     requires set { IsWithin set trace.now.config.n }
-    requires silences { AreSilences trace.now silences.now }
+    requires silences { AreSilences set trace.now silences.now }
     requires low { 1 ≤ from }
     requires order { from ≤ until }
     requires high { until ≤ trace.now.last + 1 }
@@ -156,7 +156,7 @@ pub(crate) fn first_failing_phi(
     rows: &[Row],
 ) -> Option<(u64, Gap)>
     requires set { IsWithin set trace.now.config.n }
-    requires silences { AreSilences trace.now silences.now }
+    requires silences { AreSilences set trace.now silences.now }
     requires order { AreInOrder rows.now trace.now.last }
     ensures { IsFirstWith (λ k w. Stands set trace.now rows.now (PhiFails k w)) result }
 {

@@ -21,7 +21,7 @@ use step_trace::{ProcSet, Row, Trace};
 /// Yes is said only of rows that certify themselves: they are the front, and their witnesses refute every smaller
 /// positive bound from every tick that they serve. It is said of the report.
 ///
-/// It takes time that grows with the steps and the ids, with the ticks for each processor, and with the rows. It fails
+/// It takes time that grows with the steps and the ids, with the ticks for each member, and with the rows. It fails
 /// only for want of memory, and only where there are rows against which none of the first six reasons stands.
 pub fn check(
     alloc: Global,
@@ -56,7 +56,7 @@ fn verdict_on(
         return Ok(Verdict::Yes);
     }
     let receives = Receives::of_trace(alloc, trace)?;
-    let silences = silences(alloc, trace)?;
+    let silences = silences(alloc, trace, set)?;
     match step_reason(trace, set, &receives, &silences, rows) {
         Some(why) => Ok(Verdict::No(why)),
         None => Ok(Verdict::Yes),

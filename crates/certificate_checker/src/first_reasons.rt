@@ -50,7 +50,7 @@ pub(crate) fn step_reason(
 ) -> Option<Reason>
     requires set { IsWithin set trace.now.config.n }
     requires receives { KnowsReceives trace.now (length trace.now.steps) receives.now }
-    requires silences { AreSilences trace.now silences.now }
+    requires silences { AreSilences set trace.now silences.now }
     requires order { AreInOrder rows.now trace.now.last }
     ensures { IsFirstReason set trace.now rows.now 7 10 result }
 {

@@ -13,7 +13,7 @@ use step_trace::{Gap, ProcSet, Trace};
 /// Whether this is a gap of the trace and the set.
 pub(crate) fn is_gap(trace: &Trace, set: ProcSet, silences: &[Silence], gap: Gap) -> bool
     requires set { IsWithin set trace.now.config.n }
-    requires known { AreSilences trace.now silences.now }
+    requires known { AreSilences set trace.now silences.now }
     ensures exact { IsTrue result ↔ IsGap set trace.now gap }
     ensures limit { IsTrue result → gap.to ≤ MAX_TICKS }
 {
@@ -34,7 +34,7 @@ pub(crate) fn longest_gap_at(
     from: u64,
 ) -> Option<Gap>
     requires set { IsWithin set trace.now.config.n }
-    requires known { AreSilences trace.now silences.now }
+    requires known { AreSilences set trace.now silences.now }
     requires low { 1 ≤ from }
     requires high { from ≤ trace.now.last }
     ensures { MatchOption result (HasNoGapAt set trace.now from) (IsLongestGapAt set trace.now from) }
@@ -42,10 +42,12 @@ pub(crate) fn longest_gap_at(
     let mut proc = 0;
     let mut end = from;
     for p in 1..trace.config().n() + 1 {
-        let next = silences[p as usize].end(from);
-        if set.contains(p) && end < next {
-            proc = p;
-            end = next;
+        if set.contains(p) {
+            let next = silences[p as usize].end(from);
+            if end < next {
+                proc = p;
+                end = next;
+            }
         }
     }
     if proc == 0 {

@@ -1,12 +1,13 @@
-//! The next step of each processor from each tick on.
+//! The next step of each member of a set from each tick on.
 
-ghost use Rattle.std.specs.Prelude.{ℕ, ◌≡◌, ◌+◌, ◌<◌, ◌≤◌, length, slice_index, IfOk};
+ghost use Rattle.std.specs.Prelude.{◌≡◌, ◌+◌, ◌<◌, ◌≤◌, length, slice_index, IfOk, IsTrue};
 ghost use Rattle.step_trace.specs.declared.traces.TheConstants.{MAX_TICKS};
+ghost use Rattle.step_trace.specs.Processors.{has_proc};
 ghost use Rattle.certificate_checker.specs.Silences.{KnowsSilence, KnowsSilences, AreSilences, IsFilled};
 
 use crate::step_tests::step_of;
 use std::alloc::{AllocError, Global};
-use step_trace::Trace;
+use step_trace::{ProcSet, Trace};
 
 /// The silence of one processor: for each tick, the first tick from it on in which the processor takes a step, or
 /// the tick after the last where there is none.
@@ -18,12 +19,13 @@ pub(crate) struct Silence {
 }
 
 impl Silence {
-    // What is known before the first step.
-    fn before_all(alloc: Global, trace: &Trace) -> Result<Self, AllocError>
-        ensures { IfOk result (λ s. (p : ℕ) → KnowsSilence trace.now p 1 s) }
+    // What is known of processor `p` before the first step: of one outside the set nothing is kept.
+    fn before_all(alloc: Global, trace: &Trace, set: ProcSet, p: u64) -> Result<Self, AllocError>
+        ensures { IfOk result (λ s. IsTrue (has_proc set p) → KnowsSilence trace.now p 1 s) }
     {
         let end = trace.last_tick() + 1;
-        let next = vec![in alloc; end as u32; end as usize]?;
+        let ticks = if set.contains(p) { end } else { 0 };
+        let next = vec![in alloc; end as u32; ticks as usize]?;
         Ok(Silence { next, filled: 0 })
     }
 
@@ -61,36 +63,41 @@ fn fill(list: &mut Vec<u32>, from: u64, until: u64, value: u32)
     }
 }
 
-// The silences of all processors before the first step.
-fn before_all(alloc: Global, trace: &Trace) -> Result<Vec<Silence>, AllocError>
-    ensures { IfOk result (λ v. KnowsSilences trace.now 1 v.items) }
+// What is known of the members before the first step.
+fn before_all(alloc: Global, trace: &Trace, set: ProcSet) -> Result<Vec<Silence>, AllocError>
+    ensures { IfOk result (λ v. KnowsSilences set trace.now 1 v.items) }
 {
     let mut found = Vec::new(alloc);
     for p in 0..trace.config().n() + 1 {
-        found.push(Silence::before_all(alloc, trace)?)?;
+        found.push(Silence::before_all(alloc, trace, set, p)?)?;
     }
     Ok(found)
 }
 
 // Goes on over a step.
-fn note(silences: &mut Vec<Silence>, trace: &Trace, no: u64)
+fn note(silences: &mut Vec<Silence>, trace: &Trace, set: ProcSet, no: u64)
     requires low { 1 ≤ no }
     requires high { no ≤ length trace.now.steps }
-    requires known { KnowsSilences trace.now no silences.old.items }
-    ensures { KnowsSilences trace.now (no + 1) silences.new.items }
+    requires known { KnowsSilences set trace.now no silences.old.items }
+    ensures { KnowsSilences set trace.now (no + 1) silences.new.items }
 {
     let step = step_of(trace, no);
-    let tick = trace.tick(no);
-    silences[step.proc as usize].note(tick);
+    if set.contains(step.proc) {
+        silences[step.proc as usize].note(trace.tick(no));
+    }
 }
 
-/// The silences of all processors, from number 0 on, which takes no step.
-pub(crate) fn silences(alloc: Global, trace: &Trace) -> Result<Vec<Silence>, AllocError>
-    ensures { IfOk result (λ v. AreSilences trace.now v.items) }
+/// The silences of the members of a set, each in the place of its number.
+pub(crate) fn silences(
+    alloc: Global,
+    trace: &Trace,
+    set: ProcSet,
+) -> Result<Vec<Silence>, AllocError>
+    ensures { IfOk result (λ v. AreSilences set trace.now v.items) }
 {
-    let mut found = before_all(alloc, trace)?;
+    let mut found = before_all(alloc, trace, set)?;
     for no in 1..trace.len() as u64 + 1 {
-        note(&mut found, trace, no);
+        note(&mut found, trace, set, no);
     }
     Ok(found)
 }

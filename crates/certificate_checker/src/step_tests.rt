@@ -1,7 +1,7 @@
 //! Tests of single steps of a trace.
 
 ghost use Rattle.std.specs.Prelude.{◌≡◌, ℕ, ◌≤◌, ◌↔◌, length, Some, IsTrue, MatchOption};
-ghost use Rattle.step_trace.specs.Traces.{step_at, IsReceiveOf, IsStepOf, IsWellFormed};
+ghost use Rattle.step_trace.specs.Traces.{step_at, IsReceiveOf, IsWellFormed};
 ghost use Rattle.step_trace.specs.Bounds.{IsMessage};
 
 use step_trace::{Act, ProcSet, Step, Trace};
@@ -16,16 +16,6 @@ pub(crate) fn step_of(trace: &Trace, no: u64) -> &Step
     match trace.step(no) {
         Some(step) => step,
         None => unreachable!(),
-    }
-}
-
-/// Whether the step of number `no` is one of processor `p`.
-pub(crate) fn is_step_of(trace: &Trace, no: u64, p: u64) -> bool
-    ensures { IsTrue result ↔ IsStepOf trace.now.steps no p }
-{
-    match trace.step(no) {
-        None => false,
-        Some(step) => step.proc == p,
     }
 }
 

@@ -45,7 +45,7 @@ fn shows_delta(trace: &Trace, set: ProcSet, receives: &Receives, after: u64, row
 // Whether a row's gap shows that no smaller processor bound holds from each tick before `after`.
 fn shows_phi(trace: &Trace, set: ProcSet, silences: &[Silence], after: u64, row: &Row) -> bool
     requires set { IsWithin set trace.now.config.n }
-    requires known { AreSilences trace.now silences.now }
+    requires known { AreSilences set trace.now silences.now }
     ensures { IsTrue result ↔ ShowsPhi set trace.now after row.now.phi row.now.gap }
 {
     let Some(gap) = row.gap else {
@@ -85,7 +85,7 @@ pub(crate) fn first_bad_gap(
     rows: &[Row],
 ) -> Option<u64>
     requires set { IsWithin set trace.now.config.n }
-    requires known { AreSilences trace.now silences.now }
+    requires known { AreSilences set trace.now silences.now }
     ensures { IsFirst (λ k. (a : HasRow rows.now k) × ¬ ShowsPhi set trace.now (after_stretch rows.now trace.now.last k) a.row.phi a.row.gap) result }
 {
     for k in 0..rows.len() {

@@ -1,27 +1,26 @@
-use Rattle.std.proofs.Common.{ℕ, ◌∙◌, sym, ap, subst, arith}
+use Rattle.std.proofs.Common.{ℕ, ◌≤◌, IsTrue, ◌∙◌, sym, ap, subst, arith}
 use Rattle.step_trace.specs.Configurations.{Setup}
+use Rattle.step_trace.specs.Processors.{has_proc}
 use Rattle.certificate_checker.specs.Silences.{IsNextStep}
-use Rattle.certificate_checker.proofs.SilentGaps.{silence_of, KnowsLongest-passed, KnowsLongest-taken}
+use Rattle.certificate_checker.proofs.SilentGaps.{silence_of, KnowsLongest-other, KnowsLongest-passed, KnowsLongest-taken}
 use Rattle.certificate_checker.proofs.gaps.longest_gap_at.Goals as goal
-use Rattle.certificate_checker.proofs.gaps.longest_gap_at.Goals.{After-end-next, then-contains+then-end-next, else-contains, else-contains-via-then-contains+else-end-next, else-contains-via-else-contains}
-
--- the next step of the processor that is gone over
-next_step : (c : After-end-next) → IsNextStep c.args.trace.now c.loop-p.p c.args.from c.end-next.result
-next_step c =
-    let n = c.n-p-end.ensures.value ∙ ap (λ (s : Setup). s.n) c.config.ensures in
-    let below = c.loop-p-test.true in
-    subst (λ (m : ℕ). IsNextStep c.args.trace.now c.loop-p.p c.args.from m) (sym c.end-next.ensures)
-    ((silence_of c.args.trace.now c.args.silences.now c.loop-p.p c.index-silences-p.result c.requires.known (omega (arith, below, n)) c.index-silences-p.is).each c.args.from c.requires.high)
+use Rattle.certificate_checker.proofs.gaps.longest_gap_at.Goals.{then-contains+then-end-next, then-contains+else-end-next, else-contains}
 
 pub loop-p-preserved : goal.loop-p-preserved
 loop-p-preserved c =
-    let next = next_step (goal.at.loop-p-preserved c).After-end-next in
+    let t = c.args.trace.now in
+    let n = c.n-p-end.ensures.value ∙ ap (λ (s : Setup). s.n) c.config.ensures in
+    let below = c.loop-p-test.true in
+    let within : c.loop-p.p ≤ t.config.n = omega (arith, below, n) in
     elim c.if-contains.branch [
-      | then-contains+then-end-next w ↦ rw (w.proc-is, w.end-is)
-          (KnowsLongest-taken c.args.set c.args.trace.now c.args.from c.loop-p.p c.loop-p.proc c.loop-p.end c.end-next.result next (sym c.contains.ensures ∙ w.if-contains.true) c.requires.low w.if-end-next.true c.loop-p.invariant)
+      | then-contains+then-end-next w ↦ (let member : IsTrue (has_proc c.args.set c.loop-p.p) = sym c.contains.ensures ∙ w.if-contains.true in
+          let silence = silence_of c.args.set t c.args.silences.now c.loop-p.p w.index-silences-p.result c.requires.known member within w.index-silences-p.is in
+          let next = subst (λ (m : ℕ). IsNextStep t c.loop-p.p c.args.from m) (sym w.end-next.ensures) (silence.each c.args.from c.requires.high) in
+          rw (w.proc-is, w.end-is) (KnowsLongest-taken c.args.set t c.args.from c.loop-p.p c.loop-p.proc c.loop-p.end w.end-next.result next member c.requires.low w.if-end-next.true c.loop-p.invariant))
+      | then-contains+else-end-next w ↦ (let member : IsTrue (has_proc c.args.set c.loop-p.p) = sym c.contains.ensures ∙ w.if-contains.true in
+          let silence = silence_of c.args.set t c.args.silences.now c.loop-p.p w.index-silences-p.result c.requires.known member within w.index-silences-p.is in
+          let next = subst (λ (m : ℕ). IsNextStep t c.loop-p.p c.args.from m) (sym w.end-next.ensures) (silence.each c.args.from c.requires.high) in
+          rw (w.proc-is, w.end-is) (KnowsLongest-passed c.args.set t c.args.from c.loop-p.p c.loop-p.proc c.loop-p.end w.end-next.result next w.if-end-next.false c.loop-p.invariant))
       | else-contains w ↦ rw (w.proc-is, w.end-is)
-          (KnowsLongest-passed c.args.set c.args.trace.now c.args.from c.loop-p.p c.loop-p.proc c.loop-p.end c.end-next.result next (elim w.else-contains.branch [
-            | else-contains-via-then-contains+else-end-next w' ↦ (λ _. w'.if-end-next.false)
-            | else-contains-via-else-contains w' ↦ (λ member. cc (member, c.contains.ensures, w'.if-contains.false))
-          ]) c.loop-p.invariant)
+          (KnowsLongest-other c.args.set t c.args.from c.loop-p.p c.loop-p.proc c.loop-p.end (λ member. cc (member, c.contains.ensures, w.if-contains.false)) c.loop-p.invariant)
     ]

@@ -1,5 +1,6 @@
-use Rattle.std.proofs.Common.{ℕ, ◌∙◌, ap, arith}
+use Rattle.std.proofs.Common.{ℕ, IsTrue, ◌∙◌, ap, arith}
 use Rattle.step_trace.specs.Configurations.{Setup}
+use Rattle.step_trace.specs.Processors.{has_proc}
 use Rattle.certificate_checker.specs.declared.silences.Silence.{Silence}
 use Rattle.certificate_checker.specs.Silences.{KnowsSilence}
 use Rattle.certificate_checker.proofs.SilentGaps.{pushed_long, pushed_each}
@@ -14,6 +15,6 @@ loop-p-preserved c =
     record {
       end = omega (arith, below, n);
       long = pushed_long c.loop-p.found.items c.push.new.self.items c.in_ok-before_all.field-0 c.loop-p.p pushed known.long;
-      each = pushed_each (λ (p : ℕ) (s : Silence). KnowsSilence c.args.trace.now p 1 s) c.loop-p.found.items c.push.new.self.items c.in_ok-before_all.field-0 c.loop-p.p pushed known.long known.each
-          (c.in_ok-before_all.ensures c.loop-p.p);
+      each = λ p s member h. pushed_each (λ (q : ℕ) (x : Silence). IsTrue (has_proc c.args.set q) → KnowsSilence c.args.trace.now q 1 x) c.loop-p.found.items c.push.new.self.items c.in_ok-before_all.field-0 c.loop-p.p pushed known.long (λ q x i m. known.each q x m i)
+          c.in_ok-before_all.ensures p s h member;
     }

@@ -6,4 +6,4 @@ pub returns : goal.returns
 returns c =
     let len = c.len.ensures.value in
     let all = c.loop-no-test.false in
-    AreSilences-after_all c.args.trace.now c.loop-no.no c.loop-no.found.items (omega (arith, len, all)) c.loop-no.invariant
+    AreSilences-after_all c.args.set c.args.trace.now c.loop-no.no c.loop-no.found.items (omega (arith, len, all)) c.loop-no.invariant

@@ -3,4 +3,4 @@ use Rattle.certificate_checker.proofs.silences.silences.Given as goal
 
 -- the steps before number `no` were gone over
 abbrev pub invariant-loop-no : goal.invariant-loop-no
-invariant-loop-no l = KnowsSilences l.trace l.no l.found.items
+invariant-loop-no l = KnowsSilences l.set l.trace l.no l.found.items
