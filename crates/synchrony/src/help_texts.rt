@@ -3,9 +3,11 @@
 /// What the program does, and how it is used.
 pub fn program_help() -> &'static str {
     "\
-A trace has the Send and Receive steps of a run in the order of real time, and
-a step's number, from 1 on, is its real-time step. You say which processors
-were correct. For each stabilization time, `report` finds the least
+A trace has the Send and Receive steps of a run in the order of real time, which
+is counted in real-time steps, or ticks. In version 1 of the trace text each
+tick holds one step, whose number it is; in version 2 each step tells its tick,
+and a tick may hold steps of several processors, or none. You say which
+processors were correct. For each stabilization time, `report` finds the least
 communication bound and the least processor bound that hold from there to the
 end of the trace, and evidence against each smaller bound. `replay` takes the
 steps as those of the agreement algorithm, and says what each processor decided.
@@ -13,14 +15,14 @@ steps as those of the agreement algorithm, and says what each processor decided.
 `upgrade` writes a trace of either version as one of version 2. `check` checks a
 report by the trace, whoever made it.
 
-A row of the report, all of it but proc in real-time steps:
-  gst           a stabilization time: the row holds from step gst to the end
-  delta         the least communication bound from there
-  phi           the least processor bound from there
-  sent,missed   against a smaller delta: what was sent at step sent was not yet
-                delivered when its receiver received at step missed
-  proc,from,to  against a smaller phi: processor proc takes no step from step
-                from to step to
+A row of the report:
+  gst           a stabilization time, in ticks: the row holds from there on
+  delta         the least communication bound from there, in ticks
+  phi           the least processor bound from there, in ticks
+  sent,missed   against a smaller delta: the message of the step of number sent
+                was not yet delivered at the Receive of number missed
+  proc,from,to  against a smaller phi: processor proc takes no step from tick
+                from to tick to
 `synchrony report --help` says more of how it is read.
 
 Examples, at the top of the repository:
@@ -51,21 +53,22 @@ pub fn report_help() -> &'static str {
     "\
 The report has a header and a row for each triple (gst, delta, phi) of the
 front: no other triple that holds is as small in all three. gst rises from row
-to row, and a row serves up to the step before the next row's gst, the last one
-to the end of the trace. All numbers but proc are counted in real-time steps.
+to row, and a row serves up to the tick before the next row's gst, the last one
+to the end of the trace. Ticks are real-time steps; where each holds one step,
+as in version 1 of the trace text, they are the numbers of the steps.
 
-  gst           the stabilization time: what the row says holds from real-time
-                step gst to the end of the trace
+  gst           the stabilization time: what the row says holds from tick gst
+                to the end of the trace
   delta         the least communication bound: what a correct processor sends
-                to a correct one at a step s is delivered by each Receive of
-                its receiver at step s + delta or later
-  phi           the least processor bound: of any phi steps in a row, each
-                correct processor takes one
-  sent,missed   why no smaller delta holds: the message sent at step sent was
-                not yet delivered when its receiver received at step missed;
+                to a correct one in a tick x is delivered by each Receive of
+                its receiver in tick x + delta or later
+  phi           the least processor bound: in any phi ticks in a row, each
+                correct processor takes a step
+  sent,missed   why no smaller delta holds: the numbers of a Send, and of a
+                Receive of its receiver by which it was not yet delivered;
                 empty where delta is 1
   proc,from,to  why no smaller phi holds: processor proc takes no step from
-                step from to step to; empty where phi is 1
+                tick from to tick to; empty where phi is 1
 
 Example, at the top of the repository:
   ./synchrony report examples/one-miss.trace --correct 1,2
@@ -74,10 +77,10 @@ prints
   1,2,3,1,2,1,2,3
   2,1,3,,,1,2,3
   3,1,2,,,1,3,3
-From step 1 on, delta 2 and phi 3 are the least bounds: the message sent at
+From tick 1 on, delta 2 and phi 3 are the least bounds: the message sent at
 step 1 was not yet delivered when its receiver received at step 2, and
-processor 1 takes no step from 2 to 3. From step 2 on delta 1 holds, and from
-step 3 on phi 2.
+processor 1 takes no step from 2 to 3. From tick 2 on delta 1 holds, and from
+tick 3 on phi 2.
 
 Exit status:
   0  the report is printed, or this text
@@ -187,17 +190,18 @@ that `report` prints. Its rows certify themselves: the bounds of each row are
 tested by the trace, and what stands beside them must refute each smaller one.
 What is printed is one line: yes, or no with the first reason against the rows.
 
-  NoRows              there are no rows, though there are steps
+  NoRows              there are no rows, though there are ticks
   FirstNotOne         the first row's gst isn't 1
   NotRising K         the gst of row K isn't above the one before
-  BeyondEnd K         the gst of row K is above the last step
+  BeyondEnd K         the gst of row K is above the last tick
   NotNonIncreasing K  delta or phi of row K is above the one before
   SameAsBefore K      delta and phi of row K are those before
   BadMiss K           sent,missed of row K don't show that delta is least
   BadGap K            proc,from,to of row K don't show that phi is least
   DeltaFails K S R    delta of row K fails: what was sent at step S was not yet
                       delivered when its receiver received at step R
-  PhiFails K P A B    phi of row K fails: processor P takes no step from A to B
+  PhiFails K P A B    phi of row K fails: processor P takes no step from tick
+                      A to tick B
 
 Example, at the top of the repository:
   ./synchrony report examples/one-miss.trace --correct 1,2 |
