@@ -1,12 +1,17 @@
 //! Parts of a trace that are looked at by themselves, and what is known of them joined.
 #![tactic(auto)]
 
+mod finishes;
 mod joins;
 mod message_joins;
 mod parts;
 mod pieces;
 mod silence_joins;
 mod summaries;
+mod tick_parts;
+mod tick_steps;
+mod trace_parts;
 
+pub use finishes::FinishError;
 pub use joins::{JoinRefused, Joined, Why, join_all};
 pub use pieces::Piece;
