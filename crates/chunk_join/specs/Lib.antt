@@ -1,0 +1,3 @@
+pub mod Parts
+pub mod Summaries
+pub mod Joins

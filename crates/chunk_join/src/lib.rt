@@ -1,0 +1,7 @@
+//! Parts of a trace that are looked at by themselves, and what is known of them joined.
+#![tactic(auto)]
+
+mod joins;
+mod summaries;
+
+pub use joins::{JoinRefused, Joined, Why, join_all};
