@@ -1,1 +1,3 @@
 pub mod JoinedParts
+pub mod Listings
+pub mod LastReceives

@@ -15,7 +15,7 @@ use Rattle.suffix_staircase.specs.Receives.{last_missed, IsLastReceive, KnowsRec
 use Rattle.suffix_staircase.proofs.ReceivesLowered.{same_step}
 
 -- who takes a message is its receiver
-taker_receives : (c : Setup) (steps : List Step) (x b place : ℕ) (a : ℕ) → IsWellFormed c steps → step_at steps x ≡ Some (record { proc = a; act = Send b }) → TakesAt steps place x → IsReceiveOf steps place b
+pub taker_receives : (c : Setup) (steps : List Step) (x b place : ℕ) (a : ℕ) → IsWellFormed c steps → step_at steps x ≡ Some (record { proc = a; act = Send b }) → TakesAt steps place x → IsReceiveOf steps place b
 taker_receives c steps x b place a w h t = go t.0.act refl t.2 where
   proc : t.0.proc ≡ b
   proc = let sent = (w.earlier place x t.0 t.1 t.2).1 in
