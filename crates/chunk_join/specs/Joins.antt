@@ -20,6 +20,10 @@ abbrev pub after : Place → Option Place → Option Place
 after s None = None
 after s (Some r) = if nat_lt s.tick r.tick then Some r else None
 
+-- whether one step comes before another: in an earlier tick, or in the same tick with a smaller number
+abbrev pub comes_before : Place → Place → Bool
+comes_before a b = if a.tick == b.tick then nat_lt a.no b.no else nat_lt a.tick b.tick
+
 -- the fate of a message of the left part, where the right part takes it like this or not at all
 abbrev pub settled_by : List (Option Place) → Message → Option Take → Message
 settled_by last m None = m
@@ -31,6 +35,10 @@ takes_of m t = t.sent.no == m.sent.no && t.sent.tick == m.sent.tick
 -- a message of the left part, whose last Receives are these, after what the right part takes
 abbrev pub settle : List Take → List (Option Place) → Message → Message
 settle taken last m = settled_by last m (find (takes_of m) taken)
+
+-- a message after one take
+abbrev pub settle_with : List (Option Place) → Take → Message → Message
+settle_with last t m = if takes_of m t then settled_by last m (Some t) else m
 
 -- whether the right part takes a message that was sent before the left part, too
 abbrev pub is_older : ℕ → Take → Bool

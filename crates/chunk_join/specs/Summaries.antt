@@ -3,6 +3,7 @@
 -- the summary of the part that they make up together.
 use Rattle.std.specs.Prelude.{ℕ, ◌≡◌, ◌+◌, ◌-◌, ◌<◌, ◌≤◌, ◌⊎◌, List, [], ◌∷◌, Option, Some, None, Contains, length, slice_index_or, IsTrue, false}
 use Rattle.step_trace.specs.declared.processors.TheConstants.{MAX_MEMBER}
+use Rattle.step_trace.specs.declared.traces.TheConstants.{MAX_TICKS}
 use Rattle.step_trace.specs.declared.rows.Gap.{Gap}
 use Rattle.step_trace.specs.Processors.{has_proc}
 use Rattle.step_trace.specs.Traces.{Recorded, TakesAt, IsReceiveOf}
@@ -119,6 +120,17 @@ pub record IsSummary (set : ℕ) (trace : Recorded) (i j : ℕ) (s : Summary) : 
   pub taken : IsListing TakenBefore (IsTake set trace i j) s.taken
   pub last : AreLastReceives set trace i j s.last
   pub silent : IsListing EndsBefore (IsLongest set trace i j) s.silent
+
+-- what holds of the lists of every summary, whatever it is of
+pub record IsConsistent (s : Summary) : Type 0 where
+  pub start : 1 ≤ s.from
+  pub order : s.from ≤ s.to
+  pub end : s.to ≤ MAX_TICKS
+  pub long : length s.last ≡ MAX_MEMBER + 1
+  pub sent_rising : Rises SentBefore s.sent
+  pub sent_inside : (m : Message) → Contains s.sent m → (s.from ≤ m.sent.tick) × (m.sent.tick ≤ s.to)
+  pub silent_rising : Rises EndsBefore s.silent
+  pub silent_inside : (w : Gap) → Contains s.silent w → (s.from ≤ w.to) × (w.to ≤ s.to)
 
 -- a trace, and the processors that count as correct
 pub record Whole : Type 0 where

@@ -2,6 +2,12 @@
 #![tactic(auto)]
 
 mod joins;
+mod message_joins;
+mod parts;
+mod pieces;
+mod silence_joins;
 mod summaries;
+mod tick_parts;
 
 pub use joins::{JoinRefused, Joined, Why, join_all};
+pub use pieces::{FinishError, Piece};

@@ -2,7 +2,9 @@
 //!
 //! Ticks are real-time steps. A number of a step goes with its tick, since the parts of a trace are compared by ticks.
 
-use step_trace::{Gap, ProcSet};
+ghost use Rattle.std.specs.Prelude.{◌≡◌};
+ghost use Rattle.chunk_join.specs.Summaries.{last_of};
+ghost use Rattle.chunk_join.specs.Joins.{later_of, after, comes_before};
 
 /// A step of a trace.
 #[derive(Clone, Copy, Debug, PartialEq, Eq)]
@@ -41,4 +43,51 @@ pub(crate) struct Take {
     pub(crate) sent: Place,
     /// The last Receive of the processor before, if it is in the part.
     pub(crate) before: Option<Place>,
+}
+
+/// The last Receive that a list has for this processor.
+pub(crate) fn last_of(last: &[Option<Place>], proc: u64) -> Option<Place>
+    ensures { result ≡ last_of last.now proc }
+{
+    match last.get(proc as usize) {
+        Some(place) => *place,
+        None => None,
+    }
+}
+
+/// The right part's last Receive, or the left part's where the right has none.
+pub(crate) fn later_of(left: Option<Place>, right: Option<Place>) -> Option<Place>
+    ensures { result ≡ later_of left right }
+{
+    match right {
+        Some(place) => Some(place),
+        None => left,
+    }
+}
+
+/// This Receive, where it comes in a later tick than the Send.
+pub(crate) fn after(sent: Place, received: Option<Place>) -> Option<Place>
+    ensures { result ≡ after sent received }
+{
+    match received {
+        Some(place) => {
+            if sent.tick < place.tick {
+                Some(place)
+            } else {
+                None
+            }
+        }
+        None => None,
+    }
+}
+
+/// Whether one step comes before another: in an earlier tick, or in the same tick with a smaller number.
+pub(crate) fn comes_before(first: Place, second: Place) -> bool
+    ensures { result ≡ comes_before first second }
+{
+    if first.tick == second.tick {
+        first.no < second.no
+    } else {
+        first.tick < second.tick
+    }
 }

@@ -8,7 +8,7 @@ use std::marker::Model;
 pub const MAX_MEMBER: u64 = 64;
 
 /// A set of processors from 1 to `MAX_MEMBER`, kept as a bit mask.
-#[derive(Clone, Copy, Debug)]
+#[derive(Clone, Copy, Debug, PartialEq, Eq)]
 pub struct ProcSet {
     mask: u64,
 }
