@@ -1,7 +1,6 @@
 pub mod JoinedParts
-pub mod Listings
-pub mod LastReceives
-pub mod TakenIds
-pub mod SentMessages
-pub mod SilencesJoined
-pub mod PiecesJoined
+pub mod Places
+pub mod SettledMessages
+pub mod SeamSilences
+pub mod LastEntries
+pub mod Consistency

@@ -57,9 +57,12 @@ later_each (x ∷ left) (y ∷ right) = later_of x y ∷ later_each left right
 abbrev pub meets : ℕ → Gap → Gap → Bool
 meets seam w v = w.proc == v.proc && w.to == seam && v.from == seam + 1
 
--- a silence of the left part that doesn't go on in the right part
+-- whether a silence of the left part goes on in the right part
+abbrev pub goes_on : ℕ → List Gap → Gap → Bool
+goes_on seam right w = list_any (λ v. meets seam w v) right
+
 abbrev pub stops : ℕ → List Gap → Gap → Bool
-stops seam right w = not (list_any (λ v. meets seam w v) right)
+stops seam right w = not (goes_on seam right w)
 
 abbrev pub from_seam : Gap → Option Gap → Gap
 from_seam v None = v
@@ -88,10 +91,13 @@ joined (Some l) None = Some l
 joined (Some l) (Some r) = Some (joined_parts l r)
 
 -- the first reason against joining them
-abbrev pub refusal : Option Summary → Option Summary → Option Why
-refusal None right = None
-refusal (Some l) None = None
-refusal (Some l) (Some r) =
+abbrev pub parts_refusal : Summary → Summary → Option Why
+parts_refusal l r =
     if not (l.to + 1 == r.from) then Some NotAdjacent
     else if l.set == r.set then None
     else Some OtherSet
+
+abbrev pub refusal : Option Summary → Option Summary → Option Why
+refusal None right = None
+refusal (Some l) None = None
+refusal (Some l) (Some r) = parts_refusal l r

@@ -1,3 +1,4 @@
 pub mod Parts
 pub mod Summaries
 pub mod Joins
+pub mod Laws

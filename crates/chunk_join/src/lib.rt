@@ -7,7 +7,6 @@ mod parts;
 mod pieces;
 mod silence_joins;
 mod summaries;
-mod tick_parts;
 
 pub use joins::{JoinRefused, Joined, Why, join_all};
-pub use pieces::{FinishError, Piece};
+pub use pieces::Piece;

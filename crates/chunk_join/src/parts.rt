@@ -1,11 +1,12 @@
 //! The summary of a part of a trace that has at least one tick, and two that are joined.
 
-ghost use Rattle.std.specs.Prelude.{◌≡◌, ◌+◌, ◌++◌, ◌≤◌, ◌<◌, length, map, filter, vec_len, vec_capacity, OnOk, OnErr, IfOk, IfErr};
-ghost use Rattle.chunk_join.specs.Joins.{joined_parts, is_older, reach_take, later_each};
+ghost use Rattle.std.specs.Prelude.{◌≡◌, ◌+◌, ◌++◌, ◌≤◌, ◌<◌, length, map, filter, drop, vec_len, vec_capacity, None, OnOk, IfOk, IfErr};
+ghost use Rattle.chunk_join.specs.Parts.{IsRefusal};
+ghost use Rattle.chunk_join.specs.Joins.{parts_refusal, joined_parts, is_older, reach_take, later_each};
 
-use crate::joins::Why;
-use crate::message_joins::settle_all;
-use crate::silence_joins::join_silences;
+use crate::joins::{JoinRefused, Why};
+use crate::message_joins::join_messages;
+use crate::silence_joins::{ended_before, join_silences};
 use crate::summaries::{Message, Place, Take, last_of, later_of};
 use std::alloc::AllocError;
 use std::marker::Model;
@@ -38,32 +39,76 @@ impl Model for Part {
 }
 
 impl Part {
-    /// Makes room for a part that follows.
-    pub(crate) fn make_room(&mut self, right: &Part) -> Result<(), AllocError> {
-        self.sent.reserve(right.sent.len())?;
-        self.taken.reserve(right.taken.len())?;
-        self.silent.reserve(right.silent.len())
-    }
+    ghost use Rattle.chunk_join.specs.Joins.{parts_refusal};
 
-    /// Takes in the part that follows, for which there is room.
-    pub(crate) fn extend(&mut self, right: &Part) {
-        settle_all(&mut self.sent, &right.taken, &self.last);
-        append_reserved(&mut self.sent, &right.sent);
-        append_older(&mut self.taken, self.from, &right.taken, &self.last);
-        join_silences(&mut self.silent, self.to, &right.silent);
-        replace_last(&mut self.last, &right.last);
-        self.to = right.to;
+    /// The first reason against joining the part that follows, other than want of memory.
+    pub(crate) fn refusal(&self, right: &Part) -> Option<Why>
+        ensures { result ≡ parts_refusal self.now right.now }
+    {
+        if self.to + 1 != right.from {
+            return Some(Why::NotAdjacent);
+        }
+        if self.set != right.set {
+            return Some(Why::OtherSet);
+        }
+        None
     }
 }
 
-// Appends these messages, for which there is room.
-fn append_reserved(sent: &mut Vec<Message>, more: &[Message])
-    requires { vec_len sent.old + length more.now ≤ vec_capacity sent.old }
-    ensures { sent.new.items ≡ sent.old.items ++ more.now }
+/// Joins two parts, or hands them back as they were.
+pub(crate) fn join_parts(mut left: Part, right: Part) -> Result<Part, JoinRefused<Part>>
+    ensures ok { OnOk result (parts_refusal left right ≡ None) }
+    ensures value { IfOk result (λ whole. whole ≡ joined_parts left right) }
+    ensures refused { IfErr result (λ e. IsRefusal e.why (parts_refusal left right)) }
+    ensures left { IfErr result (λ e. e.left ≡ left) }
+    ensures right { IfErr result (λ e. e.right ≡ right) }
 {
-    for message in more {
-        sent.push_reserved(*message);
+    if let Some(why) = left.refusal(&right) {
+        return Err(JoinRefused { why, left, right });
     }
+    let start = ended_before(&left.silent, left.to);
+    let tail = match make_room(
+        &mut left.sent,
+        &mut left.taken,
+        &mut left.silent,
+        start,
+        &right,
+    ) {
+        Ok(tail) => tail,
+        Err(AllocError) => {
+            let why = Why::Memory;
+            return Err(JoinRefused { why, left, right });
+        }
+    };
+    join_messages(&mut left.sent, &right.sent, &right.taken, &left.last);
+    append_older(&mut left.taken, left.from, &right.taken, &left.last);
+    join_silences(&mut left.silent, start, &tail, left.to, &right.silent);
+    replace_last(&mut left.last, &right.last);
+    left.to = right.to;
+    Ok(left)
+}
+
+// Makes room for the lists of the part that follows, and gives a copy of the silences from place `start` on.
+fn make_room(
+    sent: &mut Vec<Message>,
+    taken: &mut Vec<Take>,
+    silent: &mut Vec<Gap>,
+    start: usize,
+    right: &Part,
+) -> Result<Vec<Gap>, AllocError>
+    requires { start ≤ length silent.old.items }
+    ensures sent { sent.new.items ≡ sent.old.items }
+    ensures taken { taken.new.items ≡ taken.old.items }
+    ensures silent { silent.new.items ≡ silent.old.items }
+    ensures tail { IfOk result (λ tail. tail.items ≡ drop start silent.old.items) }
+    ensures sent_room { OnOk result (vec_len sent.new + length right.now.sent ≤ vec_capacity sent.new) }
+    ensures taken_room { OnOk result (vec_len taken.new + length right.now.taken ≤ vec_capacity taken.new) }
+    ensures silent_room { OnOk result (vec_len silent.new + length right.now.silent ≤ vec_capacity silent.new) }
+{
+    sent.reserve(right.sent.len())?;
+    taken.reserve(right.taken.len())?;
+    silent.reserve(right.silent.len())?;
+    Vec::from_slice(*silent.allocator(), &silent[start..])
 }
 
 // Appends what was sent before tick `from`, each with the last Receive before it in either part.
@@ -80,35 +125,11 @@ fn append_older(taken: &mut Vec<Take>, from: u64, more: &[Take], last: &[Option<
 }
 
 // The last Receives of the right part stand in for those of the left one.
-fn replace_last(left: &mut [Option<Place>], right: &[Option<Place>])
-    requires { length left.old ≡ length right.now }
-    ensures { left.new ≡ later_each left.old right.now }
+fn replace_last(left: &mut Vec<Option<Place>>, right: &[Option<Place>])
+    requires { length left.old.items ≡ length right.now }
+    ensures { left.new.items ≡ later_each left.old.items right.now }
 {
-    for p in 0..left.len() {
+    for p in 0..right.len() {
         left[p] = later_of(left[p], right[p]);
-    }
-}
-
-impl Part {
-    /// The first reason against joining the part that follows; where there is none, it has made room for it.
-    pub(crate) fn join_refusal(&mut self, right: &Part) -> Option<Why> {
-        if let Some(why) = self.refusal(right) {
-            return Some(why);
-        }
-        match self.make_room(right) {
-            Ok(()) => None,
-            Err(AllocError) => Some(Why::Memory),
-        }
-    }
-
-    /// The first reason against joining the part that follows, other than want of memory.
-    pub(crate) fn refusal(&self, right: &Part) -> Option<Why> {
-        if self.to + 1 != right.from {
-            return Some(Why::NotAdjacent);
-        }
-        if self.set != right.set {
-            return Some(Why::OtherSet);
-        }
-        None
     }
 }

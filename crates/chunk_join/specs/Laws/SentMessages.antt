@@ -14,9 +14,9 @@ use Rattle.chunk_join.specs.declared.summaries.Message.{Message}
 use Rattle.chunk_join.specs.declared.summaries.Take.{Take}
 use Rattle.chunk_join.specs.Summaries.{Summary, IsSummary, IsListing, IsSent, IsFate, IsTake, SentBefore, IsLastReceive, last_of}
 use Rattle.chunk_join.specs.Joins.{later_of, after, settle, settled_by, takes_of}
-use Rattle.chunk_join.proofs.Listings.{Contains-map, Contains-from_map, Contains-found, none_found, Rises-append, Rises-map}
-use Rattle.chunk_join.proofs.LastReceives.{IsLastReceive-after, IsLastReceive-one, IsLastReceive-some}
-use Rattle.chunk_join.proofs.TakenIds.{before_take}
+use Rattle.chunk_join.specs.Laws.Listings.{Contains-map, Contains-from_map, Contains-found, none_found, Rises-append, Rises-map}
+use Rattle.chunk_join.specs.Laws.LastReceives.{IsLastReceive-after, IsLastReceive-one, IsLastReceive-some}
+use Rattle.chunk_join.specs.Laws.TakenIds.{before_take}
 
 -- one step is of one processor
 same_receiver : (t : Recorded) (x p q : ℕ) → IsReceiveOf t.steps x p → IsReceiveOf t.steps x q → p ≡ q
@@ -178,11 +178,11 @@ listed_before set t sound i s j l r m (Taken missed) low high a b k early fate =
 ]
 
 -- a message keeps its Send
-settled_sent : (last : List (Option Place)) (m : Message) (o : Option Take) → (settled_by last m o).sent ≡ m.sent
+pub settled_sent : (last : List (Option Place)) (m : Message) (o : Option Take) → (settled_by last m o).sent ≡ m.sent
 settled_sent last m None = refl
 settled_sent last m (Some x) = refl
 
-settle_keeps_order : (taken : List Take) (last : List (Option Place)) (x y : Message) → SentBefore x y → SentBefore (settle taken last x) (settle taken last y)
+pub settle_keeps_order : (taken : List Take) (last : List (Option Place)) (x y : Message) → SentBefore x y → SentBefore (settle taken last x) (settle taken last y)
 settle_keeps_order taken last x y h =
     subst₂ (λ (p q : Place). (p.tick < q.tick) ⊎ ((p.tick ≡ q.tick) × (p.no < q.no))) (sym (settled_sent last x (find (takes_of x) taken))) (sym (settled_sent last y (find (takes_of y) taken))) h
 

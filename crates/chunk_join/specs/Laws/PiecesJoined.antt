@@ -10,15 +10,15 @@ use Rattle.chunk_join.specs.declared.summaries.Take.{Take}
 use Rattle.chunk_join.specs.Parts.{JoinedLaws}
 use Rattle.chunk_join.specs.Summaries.{Summary, IsSummary, IsListing, AreLastReceives, IsLastReceive, last_of, IsPiece, Whole, SentBefore, TakenBefore, EndsBefore, IsSent, IsTake, IsLongest}
 use Rattle.chunk_join.specs.Joins.{later_of, later_each, stops, reach_back, joined_parts, joined, refusal}
-use Rattle.chunk_join.proofs.Listings.{IsListing-one}
-use Rattle.chunk_join.proofs.LastReceives.{IsLastReceive-join, IsLastReceive-one}
-use Rattle.chunk_join.proofs.TakenIds.{joined_taken}
-use Rattle.chunk_join.proofs.SentMessages.{joined_sent}
-use Rattle.chunk_join.proofs.SilencesJoined.{silences_joined}
+use Rattle.chunk_join.specs.Laws.Listings.{IsListing-one}
+use Rattle.chunk_join.specs.Laws.LastReceives.{IsLastReceive-join, IsLastReceive-one}
+use Rattle.chunk_join.specs.Laws.TakenIds.{joined_taken}
+use Rattle.chunk_join.specs.Laws.SentMessages.{joined_sent}
+use Rattle.chunk_join.specs.Laws.SilencesJoined.{silences_joined}
 
 -- The last Receives, place by place.
 
-length-later_each : (l r : List (Option Place)) → length (later_each l r) ≡ length l
+pub length-later_each : (l r : List (Option Place)) → length (later_each l r) ≡ length l
 length-later_each [] r = refl
 length-later_each (x ∷ l) [] = refl
 length-later_each (x ∷ l) (y ∷ r) = ap suc (length-later_each l r)
@@ -84,7 +84,7 @@ AreLastReceives-one set t sound i j x y a b = same_entries x y (a.long ∙ sym b
   each p true e = IsLastReceive-one t sound.time p i (j + 1) (last_of x p) (last_of y p) (a.members p e) (b.members p e)
   each p false e = a.others p e ∙ sym (b.others p e)
 
-same_summary : (a b : Summary) → a.set ≡ b.set → a.from ≡ b.from → a.to ≡ b.to → a.sent ≡ b.sent → a.taken ≡ b.taken → a.last ≡ b.last → a.silent ≡ b.silent → a ≡ b
+pub same_summary : (a b : Summary) → a.set ≡ b.set → a.from ≡ b.from → a.to ≡ b.to → a.sent ≡ b.sent → a.taken ≡ b.taken → a.last ≡ b.last → a.silent ≡ b.silent → a ≡ b
 same_summary a b e f g h i j k = alike (λ set from to sent taken last silent. record { set = set; from = from; to = to; sent = sent; taken = taken; last = last; silent = silent }) e f g h i j k where
   alike : (make : ℕ → ℕ → ℕ → List Message → List Take → List (Option Place) → List Gap → Summary) → a.set ≡ b.set → a.from ≡ b.from → a.to ≡ b.to → a.sent ≡ b.sent → a.taken ≡ b.taken → a.last ≡ b.last → a.silent ≡ b.silent
       → make a.set a.from a.to a.sent a.taken a.last a.silent ≡ make b.set b.from b.to b.sent b.taken b.last b.silent

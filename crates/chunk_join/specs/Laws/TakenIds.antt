@@ -9,8 +9,8 @@ use Rattle.chunk_join.specs.declared.summaries.Place.{Place}
 use Rattle.chunk_join.specs.declared.summaries.Take.{Take}
 use Rattle.chunk_join.specs.Summaries.{Summary, IsSummary, IsListing, IsTake, TakenBefore, IsLastReceive, last_of}
 use Rattle.chunk_join.specs.Joins.{later_of, is_older, reach_take}
-use Rattle.chunk_join.proofs.Listings.{Contains-map, Contains-from_map, Contains-filter, Contains-from_filter, Rises-append, Rises-map, Rises-filter}
-use Rattle.chunk_join.proofs.LastReceives.{IsLastReceive-join, IsLastReceive-one, IsLastReceive-some}
+use Rattle.chunk_join.specs.Laws.Listings.{Contains-map, Contains-from_map, Contains-filter, Contains-from_filter, Rises-append, Rises-map, Rises-filter}
+use Rattle.chunk_join.specs.Laws.LastReceives.{IsLastReceive-join, IsLastReceive-one, IsLastReceive-some}
 
 -- before a take of the right part its member last receives in that part, or in the left one
 pub before_take : (set : ℕ) (t : Recorded) (i m j : ℕ) (l : Summary) (x : Take) → i ≤ m → IsSummary set t i m l → IsTake set t m j x

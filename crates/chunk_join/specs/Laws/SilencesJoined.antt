@@ -11,7 +11,7 @@ use Rattle.step_trace.specs.Ticks.{StepsIn}
 use Rattle.step_trace.proofs.BoundDecisions.{steps_in_or_not}
 use Rattle.chunk_join.specs.Summaries.{IsLongest, IsListing, EndsBefore}
 use Rattle.chunk_join.specs.Joins.{meets, stops, reach_back, from_seam}
-use Rattle.chunk_join.proofs.Listings.{Contains-map, Contains-from_map, Contains-filter, Contains-from_filter, Contains-found, none_found, some_passes, none_passes, Rises-append, Rises-filter, Rises-map}
+use Rattle.chunk_join.specs.Laws.Listings.{Contains-map, Contains-from_map, Contains-filter, Contains-from_filter, Contains-found, none_found, some_passes, none_passes, Rises-append, Rises-filter, Rises-map}
 
 -- Silences
 

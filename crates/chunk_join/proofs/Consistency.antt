@@ -1,0 +1,89 @@
+-- What holds of the lists of every summary is kept as two are joined.
+use Rattle.std.proofs.Common.{ℕ, ◌≡◌, ◌+◌, ◌≤◌, inl, inr, List, map, filter, find, not, cond, ◌==◌, Bool, true, false, Option, Some, None, Contains, refl, sym, ap, subst, ◌∙◌, arith}
+use Rattle.std.proofs.lemmas.Bool.{eqb-true}
+use Rattle.std.proofs.lemmas.List.Elements.{Contains-append_cases}
+use Rattle.step_trace.specs.declared.rows.Gap.{Gap}
+use Rattle.chunk_join.specs.declared.joins.Why.TheVariants.{NotAdjacent, OtherSet}
+use Rattle.chunk_join.specs.declared.summaries.Place.{Place}
+use Rattle.chunk_join.specs.declared.summaries.Message.{Message}
+use Rattle.chunk_join.specs.Summaries.{Summary, IsConsistent, SentBefore, EndsBefore}
+use Rattle.chunk_join.specs.Joins.{settle, stops, reach_back, from_seam, takes_of, meets, parts_refusal, joined_parts}
+use Rattle.chunk_join.specs.Laws.Listings.{Contains-from_map, Contains-from_filter, Rises-append, Rises-map, Rises-filter}
+use Rattle.chunk_join.specs.Laws.SentMessages.{settled_sent}
+use Rattle.chunk_join.specs.Laws.PiecesJoined.{length-later_each}
+use Rattle.chunk_join.proofs.SettledMessages.{settled_rise}
+
+from_seam-proc : (v : Gap) (o : Option Gap) → (from_seam v o).proc ≡ v.proc
+from_seam-proc v None = refl
+from_seam-proc v (Some w) = refl
+
+from_seam-to : (v : Gap) (o : Option Gap) → (from_seam v o).to ≡ v.to
+from_seam-to v None = refl
+from_seam-to v (Some w) = refl
+
+reach_back-order : (seam : ℕ) (left : List Gap) (x y : Gap) → EndsBefore x y → EndsBefore (reach_back seam left x) (reach_back seam left y)
+reach_back-order seam left x y b =
+    let ex = from_seam-to x (find (λ w. meets seam w x) left) in
+    let ey = from_seam-to y (find (λ w. meets seam w y) left) in
+    let px = from_seam-proc x (find (λ w. meets seam w x) left) in
+    let py = from_seam-proc y (find (λ w. meets seam w y) left) in
+    elim b [
+      | inl l ↦ inl (omega (arith, l, ex, ey))
+      | inr e ↦ inr (ex ∙ e.0 ∙ sym ey, (let l = e.1 in omega (arith, l, px, py)))
+    ]
+
+pub IsConsistent-joined : (l r : Summary) → l.to + 1 ≡ r.from → IsConsistent l → IsConsistent r → IsConsistent (joined_parts l r)
+IsConsistent-joined l r seam a b = record {
+  start = a.start;
+  order = omega (arith, low, high, seam);
+  end = b.end;
+  long = length-later_each l.last r.last ∙ a.long;
+  sent_rising = Rises-append SentBefore settled r.sent (settled_rise r.taken l.last l.sent a.sent_rising) b.sent_rising (λ x y p q. (let u = (left_sent x p).1 in let v = (b.sent_inside y q).0 in inl (omega (arith, u, v, seam))));
+  sent_inside = λ x k. elim (Contains-append_cases settled r.sent x k) [
+    | inl p ↦ (let u = left_sent x p in let v = u.1 in (u.0, omega (arith, v, seam, high)))
+    | inr p ↦ (let u = b.sent_inside x p in let v = u.0 in (omega (arith, v, seam, low), u.1))
+  ];
+  silent_rising = Rises-append EndsBefore stopped reached (Rises-filter EndsBefore (stops l.to r.silent) l.silent a.silent_rising)
+      (Rises-map EndsBefore (reach_back l.to l.silent) r.silent (λ x y p q h. reach_back-order l.to l.silent x y h) b.silent_rising)
+      (λ x y p q. (let u = (left_silent x p).1 in let v = (right_silent y q).0 in inl (omega (arith, u, v, seam))));
+  silent_inside = λ x k. elim (Contains-append_cases stopped reached x k) [
+    | inl p ↦ (let u = left_silent x p in let v = u.1 in (u.0, omega (arith, v, seam, high)))
+    | inr p ↦ (let u = right_silent x p in let v = u.0 in (omega (arith, v, seam, low), u.1))
+  ];
+} where
+  low : l.from ≤ l.to
+  low = a.order
+
+  high : r.from ≤ r.to
+  high = b.order
+
+  settled : List Message
+  settled = map (settle r.taken l.last) l.sent
+
+  stopped : List Gap
+  stopped = filter (stops l.to r.silent) l.silent
+
+  reached : List Gap
+  reached = map (reach_back l.to l.silent) r.silent
+
+  left_sent : (x : Message) → Contains settled x → (l.from ≤ x.sent.tick) × (x.sent.tick ≤ l.to)
+  left_sent x k =
+      let y = Contains-from_map (settle r.taken l.last) l.sent x k in
+      let e = sym (settled_sent l.last y.0 (find (takes_of y.0) r.taken)) ∙ ap (λ (m : Message). m.sent) y.2 in
+      subst (λ (p : Place). (l.from ≤ p.tick) × (p.tick ≤ l.to)) e (a.sent_inside y.0 y.1)
+
+  left_silent : (x : Gap) → Contains stopped x → (l.from ≤ x.to) × (x.to ≤ l.to)
+  left_silent x k = a.silent_inside x (Contains-from_filter (stops l.to r.silent) l.silent x k).0
+
+  right_silent : (x : Gap) → Contains reached x → (r.from ≤ x.to) × (x.to ≤ r.to)
+  right_silent x k =
+      let y = Contains-from_map (reach_back l.to l.silent) r.silent x k in
+      let e = sym (from_seam-to y.0 (find (λ w. meets l.to w y.0) l.silent)) ∙ ap (λ (w : Gap). w.to) y.2 in
+      subst (λ (n : ℕ). (r.from ≤ n) × (n ≤ r.to)) e (b.silent_inside y.0 y.1)
+
+-- parts that may be joined follow one another
+pub seam_of : (l r : Summary) → parts_refusal l r ≡ None → l.to + 1 ≡ r.from
+seam_of l r h = go (l.to + 1 == r.from) refl h where
+  go : (b : Bool) → (l.to + 1 == r.from) ≡ b → cond (not b) (Some NotAdjacent) (cond (l.set == r.set) None (Some OtherSet)) ≡ None → l.to + 1 ≡ r.from
+  go true e n = eqb-true _ _ e
+  go false e n = cc
