@@ -4,3 +4,5 @@ pub mod SettledMessages
 pub mod SeamSilences
 pub mod LastEntries
 pub mod Consistency
+pub mod ListingGrowth
+pub mod TickSummaries
