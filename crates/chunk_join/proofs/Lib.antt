@@ -6,3 +6,4 @@ pub mod LastEntries
 pub mod Consistency
 pub mod ListingGrowth
 pub mod TickSummaries
+pub mod TickTakes
