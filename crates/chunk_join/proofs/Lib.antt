@@ -7,3 +7,4 @@ pub mod Consistency
 pub mod ListingGrowth
 pub mod TickSummaries
 pub mod TickTakes
+pub mod TickParts

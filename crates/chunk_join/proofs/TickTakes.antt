@@ -1,6 +1,6 @@
 -- What a tick's Receives take, id by id: each was sent in an earlier tick.
 use Rattle.std.proofs.Common.{ℕ, ◌≡◌, ◌+◌, ◌-◌, ◌<◌, ◌≤◌, ◌⊎◌, ◌++◌, inl, inr, List, [], ◌∷◌, Bool, length, get_or, take, Option, Some, None, Contains, IsTrue, zero, suc, refl, sym, ap, subst, ◌∙◌, arith}
-use Rattle.std.proofs.lemmas.Bool.{cases_lt, cases_eq}
+use Rattle.std.proofs.lemmas.Bool.{cases_eq}
 use Rattle.std.proofs.lemmas.List.{take_more, get_or-take, get_or_default, length-take-le}
 use Rattle.std.proofs.lemmas.List.Elements.{Contains-get_or, Contains-append_left, Contains-push, Contains-push_cases}
 use Rattle.std.specs.List.Sorted.{IsStrictlyIncreasing}
@@ -122,3 +122,19 @@ takes_done set t x k p ends all taken step l = IsListing-same TakenBefore (IsTak
         let at = own.takes in
         let same = same_step t.steps (k + 1) _ _ (subst (λ v. step_at t.steps v ≡ Some at.0) e at.1) step in
         subst (λ (z : Step). Contains (act_ids z.act) y.sent.no) same at.2
+
+-- a step that isn't a Receive of a member takes none
+pub takes_same : (set : ℕ) (t : Recorded) (x k : ℕ) (taken : List Take) → ((p : ℕ) → IsTrue (has_proc set p) → IsReceiveOf t.steps (k + 1) p → ⊥) → IsListing TakenBefore (IsTakeBy set t x k []) taken
+    → IsListing TakenBefore (IsTakeBy set t x (k + 1) []) taken
+takes_same set t x k taken none l = IsListing-same TakenBefore (IsTakeBy set t x k []) (IsTakeBy set t x (k + 1) []) taken
+    (λ y i. record { own = i.own; until = elim i.until [ inl before ↦ inl (omega (arith, before)) | inr here ↦ absurd (Contains-none y.sent.no here.1) ] })
+    (λ y i. record {
+      own = i.own;
+      until = elim i.until [
+        | inl before ↦ elim (cases_eq y.at.no (k + 1)) [
+          | inl e ↦ absurd (none y.by i.own.member (subst (λ v. IsReceiveOf t.steps v y.by) e i.own.receive))
+          | inr n ↦ inl (omega (arith, before, n))
+        ]
+        | inr here ↦ absurd (Contains-none y.sent.no here.1)
+      ];
+    }) l
