@@ -1,12 +1,14 @@
 //! Parts of a trace that are looked at by themselves, and what is known of them joined.
 #![tactic(auto)]
 
+mod finishes;
 mod joins;
 mod message_joins;
 mod parts;
 mod pieces;
 mod silence_joins;
 mod summaries;
+mod tick_parts;
 
 pub use joins::{JoinRefused, Joined, Why, join_all};
-pub use pieces::Piece;
+pub use pieces::{FinishError, Piece};

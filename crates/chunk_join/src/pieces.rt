@@ -1,8 +1,22 @@
 //! Pieces: what is known of a part of a trace, joined with what is known of the part that follows.
 
+use crate::finishes::stairs_of;
 use crate::joins::{JoinRefused, Joined};
 use crate::parts::{Part, join_parts};
+use crate::tick_parts::part_of_tick;
+use std::alloc::{AllocError, Global};
 use std::marker::Model;
+use step_trace::{ProcSet, Trace};
+use suffix_staircase::{StairBuilder, Stairs};
+
+/// Why a piece has no stairs, in the order in which the reasons are tested.
+#[derive(Clone, Copy, Debug, PartialEq, Eq)]
+pub enum FinishError {
+    /// It doesn't begin in tick 1.
+    NotWhole,
+    /// There was no memory for the stairs.
+    Memory,
+}
 
 /// The summary of the ticks of a part of a trace, for a set of processors that count as correct; the empty part has
 /// one for all sets.
@@ -71,4 +85,41 @@ impl Joined for Piece {
     }
 
     ghost laws = { pieces_join };
+}
+
+impl Piece {
+    /// The summary of the ticks `from` to `to`, from 1 to the last; where `from` is one after `to`, the unit.
+    pub fn of(
+        alloc: Global,
+        trace: &Trace,
+        set: ProcSet,
+        from: u64,
+        to: u64,
+    ) -> Result<Piece, AllocError> {
+        let mut piece = Piece { part: None };
+        for tick in from..to + 1 {
+            let part = Piece { part: Some(part_of_tick(alloc, trace, set, tick)?) };
+            piece = match piece.join(part) {
+                Ok(more) => more,
+                Err(_) => return Err(AllocError),
+            };
+        }
+        Ok(piece)
+    }
+
+    /// The stairs of a part that begins with tick 1.
+    pub fn finish(&self, alloc: Global) -> Result<Stairs, FinishError> {
+        match &self.part {
+            None => Ok(StairBuilder::new(alloc).build()),
+            Some(part) => {
+                if part.from != 1 {
+                    return Err(FinishError::NotWhole);
+                }
+                match stairs_of(alloc, part) {
+                    Ok(stairs) => Ok(stairs),
+                    Err(AllocError) => Err(FinishError::Memory),
+                }
+            }
+        }
+    }
 }
