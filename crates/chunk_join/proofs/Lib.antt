@@ -8,3 +8,5 @@ pub mod ListingGrowth
 pub mod TickSummaries
 pub mod TickTakes
 pub mod TickParts
+pub mod WholePrefix
+pub mod JoinedShares

@@ -2,3 +2,4 @@ pub mod Parts
 pub mod Summaries
 pub mod Joins
 pub mod Laws
+pub mod Analyses

@@ -1,6 +1,7 @@
 //! Parts of a trace that are looked at by themselves, and what is known of them joined.
 #![tactic(auto)]
 
+mod analyses;
 mod finishes;
 mod joins;
 mod message_joins;
@@ -10,5 +11,6 @@ mod silence_joins;
 mod summaries;
 mod tick_parts;
 
+pub use analyses::{AnalyseError, MAX_WORKERS, analyse};
 pub use joins::{JoinRefused, Joined, Why, join_all};
 pub use pieces::{FinishError, Piece};

@@ -7,3 +7,5 @@ mod random_pieces;
 mod refused_pieces;
 #[cfg(test)]
 mod traces;
+#[cfg(test)]
+mod workers;

@@ -8,8 +8,8 @@ use step_trace::{Config, ProcSet, Trace};
 use suffix_staircase::Stairs;
 
 #[derive(Drop)]
-struct Draws {
-    state: u64,
+pub(crate) struct Draws {
+    pub(crate) state: u64,
 }
 
 impl Draws {
@@ -22,7 +22,7 @@ impl Draws {
     }
 }
 
-fn some_trace(alloc: Global, draws: &mut Draws) -> Result<Trace, Fail> {
+pub(crate) fn some_trace(alloc: Global, draws: &mut Draws) -> Result<Trace, Fail> {
     let config = Config::new(3, 1, Vec::from_slice(alloc, &[5, 7, 9])?)?;
     let mut trace = Trace::new(alloc, config);
     for _ in 0..2 + draws.below(12) {
@@ -54,7 +54,7 @@ fn some_ids(alloc: Global, draws: &mut Draws, trace: &Trace) -> Result<Vec<u64>,
     Ok(ids)
 }
 
-fn same_stairs(a: &Stairs, b: &Stairs) -> bool {
+pub(crate) fn same_stairs(a: &Stairs, b: &Stairs) -> bool {
     if a.len() != b.len() {
         return false;
     }
@@ -89,7 +89,7 @@ fn in_pieces(alloc: Global, draws: &mut Draws, trace: &Trace, set: ProcSet) -> R
     }
 }
 
-fn some_set(draws: &mut Draws) -> ProcSet {
+pub(crate) fn some_set(draws: &mut Draws) -> ProcSet {
     let mut set = ProcSet::empty();
     for p in 1..4 {
         if draws.below(3) > 0 {
