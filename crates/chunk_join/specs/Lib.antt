@@ -2,3 +2,5 @@ pub mod Parts
 pub mod Summaries
 pub mod Joins
 pub mod Laws
+pub mod Prefixes
+pub mod Finishes

@@ -10,5 +10,6 @@ mod silence_joins;
 mod summaries;
 mod tick_parts;
 
+pub use finishes::FinishError;
 pub use joins::{JoinRefused, Joined, Why, join_all};
-pub use pieces::{FinishError, Piece};
+pub use pieces::Piece;
