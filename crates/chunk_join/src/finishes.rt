@@ -30,12 +30,14 @@ pub enum FinishError {
 }
 
 impl Piece {
-    /// The stairs of the steps up to the piece's end, for a piece that begins with tick 1: those of
-    /// `Stairs::of_trace` for a trace that ends there. The unit has none.
+    /// The stairs of a piece that begins with tick 1: those of `Stairs::of_trace` for the trace up to the piece's
+    /// end. The unit has no levels.
     ///
-    /// In time that grows with its ticks, its messages and its silences.
+    /// It takes time that grows with the piece's ticks, messages and silences. Of pieces that were joined though they
+    /// are not of one trace it gives some stairs.
     pub fn finish(&self, alloc: Global) -> Result<Stairs, FinishError>
         ensures stairs { IfOk result (λ stairs. (whole : Whole) (k : ℕ) → IsPiece whole 0 k self.now → AreLevels whole.set (prefix whole.trace k) stairs) }
+        ensures whole { IfOk result (λ stairs. (whole : Whole) → IsPiece whole 0 whole.trace.last self.now → AreLevels whole.set whole.trace stairs) }
         ensures begins { OnOk result (BeginsWithFirst self.now) }
         ensures not_whole { IfErr result (λ why. (why ≡ NotWhole) ↔ ¬ BeginsWithFirst self.now) }
         ensures some { OnErr result (¬ (self.now ≡ None)) }
