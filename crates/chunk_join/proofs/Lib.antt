@@ -1,5 +1,9 @@
 pub mod JoinedParts
 pub mod Places
+pub mod Prefixes
+pub mod MessagesBack
+pub mod SilencesBack
+pub mod TicksBack
 pub mod SettledMessages
 pub mod SeamSilences
 pub mod LastEntries

@@ -3,3 +3,5 @@ pub mod Summaries
 pub mod Joins
 pub mod Laws
 pub mod Analyses
+pub mod Prefixes
+pub mod Finishes

@@ -12,5 +12,6 @@ mod summaries;
 mod tick_parts;
 
 pub use analyses::{AnalyseError, MAX_WORKERS, analyse};
+pub use finishes::FinishError;
 pub use joins::{JoinRefused, Joined, Why, join_all};
-pub use pieces::{FinishError, Piece};
+pub use pieces::Piece;

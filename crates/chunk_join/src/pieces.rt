@@ -1,28 +1,17 @@
 //! Pieces: what is known of a part of a trace, joined with what is known of the part that follows.
 
-use crate::finishes::stairs_of;
 use crate::joins::{JoinRefused, Joined};
 use crate::parts::{Part, join_parts};
 use crate::tick_parts::part_of_tick;
 use std::alloc::{AllocError, Global};
 use std::marker::Model;
 use step_trace::{ProcSet, Trace};
-use suffix_staircase::{StairBuilder, Stairs};
-
-/// Why a piece has no stairs, in the order in which the reasons are tested.
-#[derive(Clone, Copy, Debug, PartialEq, Eq)]
-pub enum FinishError {
-    /// It doesn't begin in tick 1.
-    NotWhole,
-    /// There was no memory for the stairs.
-    Memory,
-}
 
 /// The summary of the ticks of a part of a trace, for a set of processors that count as correct; the empty part has
 /// one for all sets.
 #[derive(Debug, Drop)]
 pub struct Piece {
-    part: Option<Part>,
+    pub(crate) part: Option<Part>,
 }
 
 impl Model for Piece {
@@ -105,21 +94,5 @@ impl Piece {
             };
         }
         Ok(piece)
-    }
-
-    /// The stairs of a part that begins with tick 1.
-    pub fn finish(&self, alloc: Global) -> Result<Stairs, FinishError> {
-        match &self.part {
-            None => Ok(StairBuilder::new(alloc).build()),
-            Some(part) => {
-                if part.from != 1 {
-                    return Err(FinishError::NotWhole);
-                }
-                match stairs_of(alloc, part) {
-                    Ok(stairs) => Ok(stairs),
-                    Err(AllocError) => Err(FinishError::Memory),
-                }
-            }
-        }
     }
 }
