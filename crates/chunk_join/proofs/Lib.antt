@@ -5,6 +5,7 @@ pub mod SeamSilences
 pub mod LastEntries
 pub mod Consistency
 pub mod ListingGrowth
+pub mod TickSearches
 pub mod TickSummaries
 pub mod TickTakes
 pub mod TickParts

@@ -14,13 +14,9 @@ use Rattle.suffix_staircase.proofs.ReceivesLowered.{same_step}
 use Rattle.chunk_join.specs.declared.summaries.Place.{Place}
 use Rattle.chunk_join.specs.declared.summaries.Take.{Take}
 use Rattle.chunk_join.specs.Summaries.{IsTake, IsListing, IsLastReceive, TakenBefore}
+use Rattle.chunk_join.specs.TickSteps.{IsTakeBy}
 use Rattle.chunk_join.specs.Laws.Listings.{Contains-none}
 use Rattle.chunk_join.proofs.ListingGrowth.{IsListing-same, IsListing-push}
-
--- a take of tick x by a step up to k, or by the next step among its first n ids
-pub record IsTakeBy (set : ℕ) (trace : Recorded) (x k : ℕ) (ids : List ℕ) (y : Take) : Type 0 where
-  pub own : IsTake set trace (x - 1) x y
-  pub until : (y.at.no ≤ k) ⊎ ((y.at.no ≡ k + 1) × Contains ids y.sent.no)
 
 -- in a tick no Receive of the same processor comes before
 none_before : (t : Recorded) (x p : ℕ) (b : Option Place) → 1 ≤ x → IsLastReceive t p (x - 1) x b → b ≡ None

@@ -1,4 +1,5 @@
 pub mod Parts
 pub mod Summaries
+pub mod TickSteps
 pub mod Joins
 pub mod Laws

@@ -9,6 +9,8 @@ mod pieces;
 mod silence_joins;
 mod summaries;
 mod tick_parts;
+mod tick_steps;
+mod trace_parts;
 
 pub use joins::{JoinRefused, Joined, Why, join_all};
 pub use pieces::{FinishError, Piece};
