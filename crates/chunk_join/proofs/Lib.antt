@@ -9,3 +9,4 @@ pub mod TickSearches
 pub mod TickSummaries
 pub mod TickTakes
 pub mod TickParts
+pub mod TickPieces

@@ -7,7 +7,7 @@ use Rattle.step_trace.specs.Processors.{has_proc}
 use Rattle.step_trace.specs.Traces.{Recorded, step_at, IsStepOf}
 use Rattle.step_trace.specs.Ticks.{tick_of, IsTimed}
 use Rattle.step_trace.proofs.TickOrder.{ticks_rise}
-use Rattle.step_trace.proofs.TickPositions.{step_exists}
+use Rattle.step_trace.proofs.TickPositions.{step_exists, tick_of-limit}
 use Rattle.suffix_staircase.proofs.ReceivesLowered.{same_step}
 use Rattle.chunk_join.specs.TickSteps.{AreStepsBefore, StepsAmong, AreStepping}
 
@@ -136,3 +136,11 @@ step_missing t n l e =
     let next : n + 1 ≡ suc n = omega arith in
     let f = sym x.1 ∙ ap (step_at t.steps) (sym next) ∙ e in
     cc
+
+-- up to the last tick come all steps
+pub all_steps : (t : Recorded) → IsTimed t → (x : ℕ) → t.last ≤ x → AreStepsBefore t (x + 1) (length t.steps)
+all_steps t time x l = record {
+  within = omega arith;
+  before = λ k a b. (let h = tick_of-limit t time k in omega (arith, h, l));
+  rest = λ k a b. absurd (omega (arith, a, b));
+}

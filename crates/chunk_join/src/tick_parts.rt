@@ -1,9 +1,9 @@
 //! The summary of one tick of a trace. In it no message is both sent and taken.
 
 ghost use Rattle.std.specs.Prelude.{◌≡◌, ◌+◌, ◌-◌, ◌≤◌, ◌++◌, length, map, All, IfOk, OnOk, []};
-ghost use Rattle.step_trace.specs.Ticks.{tick_of};
+ghost use Rattle.step_trace.specs.Ticks.{IsTrace};
 ghost use Rattle.chunk_join.specs.Summaries.{IsListing, IsSent, SentBefore, IsTake, TakenBefore, IsLongest, EndsBefore, AreLastReceives, IsSummary};
-ghost use Rattle.chunk_join.specs.TickSteps.{AreStepsOf, IsTakeBy, first_take};
+ghost use Rattle.chunk_join.specs.TickSteps.{AreStepsOf, first_take};
 
 use crate::parts::Part;
 use crate::summaries::{Fate, Message, Place, Take};
@@ -20,6 +20,7 @@ pub(crate) fn part_of_tick(
     before: u64,
     end: u64,
 ) -> Result<Part, AllocError>
+    requires sound { IsTrace trace.now }
     requires low { 1 ≤ tick }
     requires high { tick ≤ trace.now.last }
     requires steps { AreStepsOf trace.now tick before end }
@@ -45,6 +46,7 @@ fn sent_in(
     before: u64,
     end: u64,
 ) -> Result<Vec<Message>, AllocError>
+    requires sound { IsTrace trace.now }
     requires low { 1 ≤ tick }
     requires steps { AreStepsOf trace.now tick before end }
     ensures { IfOk result (λ sent. IsListing SentBefore (IsSent set trace.now (tick - 1) tick) sent.items) }
@@ -71,39 +73,21 @@ fn taken_in(
     before: u64,
     end: u64,
 ) -> Result<Vec<Take>, AllocError>
+    requires sound { IsTrace trace.now }
     requires low { 1 ≤ tick }
     requires steps { AreStepsOf trace.now tick before end }
     ensures { IfOk result (λ taken. IsListing TakenBefore (IsTake set trace.now (tick - 1) tick) taken.items) }
 {
     let mut taken = Vec::new(alloc);
     for no in before..end {
-        note_takes(&mut taken, trace, set, no, tick)?;
+        if let Some(step) = trace.step(no + 1) {
+            if set.contains(step.proc) {
+                let at = Place { no: no + 1, tick };
+                append_takes(&mut taken, trace, at, step.proc, step.act.ids())?;
+            }
+        }
     }
     Ok(taken)
-}
-
-// Appends what the step after number `no` takes, if it is a Receive of a member.
-fn note_takes(
-    taken: &mut Vec<Take>,
-    trace: &Trace,
-    set: ProcSet,
-    no: u64,
-    tick: u64,
-) -> Result<(), AllocError>
-    requires low { 1 ≤ tick }
-    requires within { no + 1 ≤ length trace.now.steps }
-    requires tick { tick_of trace.now (no + 1) ≡ tick }
-    requires so_far { IsListing TakenBefore (IsTakeBy set trace.now tick no []) taken.old.items }
-    ensures { OnOk result (IsListing TakenBefore (IsTakeBy set trace.now tick (no + 1) []) taken.new.items) }
-{
-    let Some(step) = trace.step(no + 1) else {
-        return Ok(());
-    };
-    if !set.contains(step.proc) {
-        return Ok(());
-    }
-    let at = Place { no: no + 1, tick };
-    append_takes(taken, trace, at, step.proc, step.act.ids())
 }
 
 // Appends the takes of these messages by a Receive.
@@ -141,6 +125,7 @@ fn received_in(
     before: u64,
     end: u64,
 ) -> Result<Vec<Option<Place>>, AllocError>
+    requires sound { IsTrace trace.now }
     requires low { 1 ≤ tick }
     requires steps { AreStepsOf trace.now tick before end }
     ensures { IfOk result (λ last. AreLastReceives set trace.now (tick - 1) tick last.items) }
@@ -163,6 +148,7 @@ fn silent_in(
     before: u64,
     end: u64,
 ) -> Result<Vec<Gap>, AllocError>
+    requires sound { IsTrace trace.now }
     requires low { 1 ≤ tick }
     requires high { tick ≤ trace.now.last }
     requires steps { AreStepsOf trace.now tick before end }

@@ -1,6 +1,7 @@
 //! The steps of a tick of a trace, which follow one another by number.
 
 ghost use Rattle.std.specs.Prelude.{◌+◌, ◌≤◌, length};
+ghost use Rattle.step_trace.specs.Ticks.{IsTrace};
 ghost use Rattle.chunk_join.specs.TickSteps.{AreStepsBefore, IsMessageAt, IsReceiverAt, AreStepping};
 
 use step_trace::{Act, ProcSet, Trace};
@@ -25,8 +26,12 @@ pub(crate) fn steps_before(trace: &Trace, tick: u64) -> u64
 /// How many steps come up to a tick, of which this many come before it.
 pub(crate) fn steps_through(trace: &Trace, tick: u64, before: u64) -> u64
     requires { AreStepsBefore trace.now tick before }
-    ensures { AreStepsBefore trace.now (tick + 1) result }
+    ensures next { AreStepsBefore trace.now (tick + 1) result }
+    ensures sound { IsTrace trace.now }
 {
+    if trace.last_tick() <= tick {
+        return trace.len() as u64;
+    }
     for no in before..trace.len() as u64 {
         if tick < trace.tick(no + 1) {
             return no;
