@@ -106,7 +106,6 @@ impl Piece {
         requires low { 1 ≤ from }
         requires order { from ≤ to + 1 }
         requires high { to ≤ trace.now.last }
-        ensures sound { IsTrace trace.now }
         ensures piece { IfOk result (λ piece. (sound : IsTrace trace.now) → IsPiece (record { set = set; trace = trace.now; sound = sound }) (from - 1) to piece) }
     {
         if to < from {
