@@ -1,6 +1,5 @@
 -- The summary of one tick, and of ticks that follow one another.
 use Rattle.std.proofs.Common.{ℕ, ◌≡◌, ◌+◌, ◌-◌, ◌<◌, ◌≤◌, ◌∙◌, arith}
-use Rattle.step_trace.specs.declared.traces.TheConstants.{MAX_TICKS}
 use Rattle.step_trace.specs.Traces.{Recorded}
 use Rattle.step_trace.specs.Ticks.{IsTimed, IsTrace}
 use Rattle.chunk_join.specs.Summaries.{Summary, IsSummary, IsConsistent, IsListing, IsSent, IsTake, IsLongest, AreLastReceives, SentBefore, TakenBefore, EndsBefore}

@@ -88,14 +88,14 @@ impl Joined for Piece {
 }
 
 impl Piece {
-    ghost use Rattle.std.specs.Prelude.{◌≡◌, ◌+◌, ◌-◌, ◌≤◌, IfOk};
+    ghost use Rattle.std.specs.Prelude.{◌≡◌, ◌+◌, ◌-◌, ◌≤◌, IfOk, OnErr};
     ghost use Rattle.step_trace.specs.Ticks.{IsTrace};
     ghost use Rattle.chunk_join.specs.Summaries.{IsPiece};
 
     /// The piece of the ticks `from` to `to`, from 1 to the last tick; where `from` is one after `to`, the unit. It
     /// takes time that grows with these ticks and their steps, and with the logarithm of the number of all steps.
     ///
-    /// Fails only for want of memory.
+    /// Fails only for want of memory; the unit takes none.
     pub fn of(
         alloc: Global,
         trace: &Trace,
@@ -106,6 +106,7 @@ impl Piece {
         requires low { 1 ≤ from }
         requires order { from ≤ to + 1 }
         requires high { to ≤ trace.now.last }
+        ensures some { OnErr result (from ≤ to) }
         ensures piece { IfOk result (λ piece. (sound : IsTrace trace.now) → IsPiece (record { set = set; trace = trace.now; sound = sound }) (from - 1) to piece) }
     {
         if to < from {

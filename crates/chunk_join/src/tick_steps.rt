@@ -51,13 +51,7 @@ pub(crate) fn destination(trace: &Trace, set: ProcSet, no: u64) -> Option<u64>
         return None;
     }
     match &step.act {
-        Act::Send { to } => {
-            if set.contains(*to) {
-                Some(*to)
-            } else {
-                None
-            }
-        }
+        Act::Send { to } => { if set.contains(*to) { Some(*to) } else { None } }
         Act::Receive { .. } => None,
     }
 }

@@ -1,8 +1,10 @@
 //! The summary of a part of a trace that has at least one tick: its ticks are joined in their order.
 
-ghost use Rattle.std.specs.Prelude.{◌-◌, ◌≤◌, IfOk};
+ghost use Rattle.std.specs.Prelude.{◌≡◌, ◌-◌, ◌≤◌, IfOk, None};
 ghost use Rattle.chunk_join.specs.Summaries.{IsSummary};
+ghost use Rattle.chunk_join.specs.Joins.{parts_refusal, joined_parts};
 
+use crate::joins::Why;
 use crate::parts::{Part, join_parts};
 use crate::tick_parts::part_of_tick;
 use crate::tick_steps::{steps_before, steps_through};
@@ -30,10 +32,21 @@ pub(crate) fn part_of_trace(
         let before = end;
         end = steps_through(trace, tick, before);
         let next = part_of_tick(alloc, trace, set, tick, before, end)?;
-        part = match join_parts(part, next) {
-            Ok(both) => both,
-            Err(_) => return Err(AllocError),
-        };
+        part = joined(part, next)?;
     }
     Ok(part)
+}
+
+// Joins two parts that follow one another: nothing but want of memory stands against it.
+fn joined(left: Part, right: Part) -> Result<Part, AllocError>
+    requires { parts_refusal left right ≡ None }
+    ensures { IfOk result (λ whole. whole ≡ joined_parts left right) }
+{
+    match join_parts(left, right) {
+        Ok(whole) => Ok(whole),
+        Err(refused) => match refused.why {
+            Why::Memory => Err(AllocError),
+            Why::NotAdjacent | Why::OtherSet => unreachable!(),
+        },
+    }
 }

@@ -1,4 +1,4 @@
-use Rattle.std.proofs.Common.{◌≤◌, ◌⊎◌, inl, inr, ◌+◌, ◌-◌, ◌≡◌, ◌∙◌, replicate, Option, Some, None, refl, sym, ap, subst, arith, rules}
+use Rattle.std.proofs.Common.{◌≤◌, ◌⊎◌, inl, inr, ◌+◌, ◌≡◌, replicate, Option, Some, None, refl, subst, arith}
 use Rattle.step_trace.specs.declared.processors.TheConstants.{MAX_MEMBER}
 use Rattle.chunk_join.specs.declared.summaries.Place.{Place}
 use Rattle.chunk_join.specs.TickSteps.{IsReceiverAt}

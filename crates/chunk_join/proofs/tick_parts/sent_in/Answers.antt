@@ -1,4 +1,4 @@
-use Rattle.std.proofs.Common.{◌≤◌, ◌+◌, ◌-◌, ◌≡◌, sym, subst, arith}
+use Rattle.std.proofs.Common.{◌≤◌, ◌+◌, ◌≡◌, sym, subst, arith}
 use Rattle.chunk_join.specs.Summaries.{IsListing, SentBefore}
 use Rattle.chunk_join.specs.TickSteps.{IsMessageAt}
 use Rattle.chunk_join.proofs.TickParts.{steps_inside, steps_order, sent_all}

@@ -1,4 +1,4 @@
-use Rattle.std.proofs.Common.{◌≤◌, ◌+◌, ◌-◌, ◌≡◌, ◌∙◌, Bool, true, false, IsTrue, sym, ap, subst, arith, rules}
+use Rattle.std.proofs.Common.{◌+◌, ◌-◌, ◌≡◌, false, IsTrue, sym, subst, arith, rules}
 use Rattle.step_trace.specs.Processors.{has_proc}
 use Rattle.step_trace.specs.Ticks.{StepsIn}
 use Rattle.chunk_join.specs.Summaries.{IsListing, EndsBefore}

@@ -1,4 +1,4 @@
-use Rattle.std.proofs.Common.{◌≤◌, ◌+◌, ◌-◌, ◌≡◌, ◌∙◌, ◌++◌, ℕ, List, length, All, map, [], Some, None, sym, ap, subst, arith, rules}
+use Rattle.std.proofs.Common.{◌≤◌, ◌+◌, ◌≡◌, ◌∙◌, ◌++◌, ℕ, List, length, All, map, [], Some, None, sym, subst, arith, rules}
 use Rattle.step_trace.specs.Traces.{step_at}
 use Rattle.step_trace.specs.Steps.{act_ids}
 use Rattle.chunk_join.specs.Summaries.{IsListing, TakenBefore}

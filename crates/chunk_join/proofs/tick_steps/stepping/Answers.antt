@@ -1,4 +1,4 @@
-use Rattle.std.proofs.Common.{◌≡◌, ◌≤◌, ◌+◌, Some, None, sym, subst, ◌∙◌, arith, rules}
+use Rattle.std.proofs.Common.{◌≡◌, ◌≤◌, ◌+◌, Some, None, sym, ◌∙◌, arith, rules}
 use Rattle.step_trace.specs.Traces.{step_at}
 use Rattle.chunk_join.proofs.TickSearches.{stepping_more, stepping_same, step_missing}
 use Rattle.chunk_join.proofs.tick_steps.stepping.Goals as goal

@@ -1,4 +1,4 @@
-use Rattle.std.proofs.Common.{◌+◌, ◌-◌, ◌/◌, ◌<◌, ◌≤◌, arith}
+use Rattle.std.proofs.Common.{◌+◌, ◌-◌, ◌/◌, ◌<◌, arith}
 use Rattle.chunk_join.proofs.TickSearches.{searched_up, searched_down}
 use Rattle.chunk_join.proofs.tick_steps.steps_before.Goals as goal
 

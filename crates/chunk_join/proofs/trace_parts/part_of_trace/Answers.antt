@@ -21,8 +21,8 @@ loop-tick-preserved c =
     let same : tick ≡ tick + 1 - 1 = omega arith in
     let low : c.args.from - 1 < tick - 1 = omega (arith, order, positive) in
     let inside : tick ≤ t.last = omega (arith, test, high) in
-    let both = subst (IsSummary c.args.set t (c.args.from - 1) tick) (sym c.in-Ok.ensures.value) (summary_more c.args.set t c.steps_through-end.ensures.sound (c.args.from - 1) tick c.loop-tick.part c.in_ok-next.next low inside known.2 c.in_ok-next.ensures) in
-    (omega (arith, order), c.steps_through-end-in-loop-tick.ensures.next, subst (λ j. IsSummary c.args.set t (c.args.from - 1) j c.in-Ok.both) same both)
+    let both = subst (IsSummary c.args.set t (c.args.from - 1) tick) (sym c.in_ok-part-2.ensures) (summary_more c.args.set t c.steps_through-end.ensures.sound (c.args.from - 1) tick c.loop-tick.part c.in_ok-next.next low inside known.2 c.in_ok-next.ensures) in
+    (omega (arith, order), c.steps_through-end-in-loop-tick.ensures.next, subst (λ j. IsSummary c.args.set t (c.args.from - 1) j c.in_ok-part-2.part) same both)
 
 pub returns : goal.returns
 returns c =
