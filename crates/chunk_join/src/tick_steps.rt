@@ -51,7 +51,7 @@ pub(crate) fn destination(trace: &Trace, set: ProcSet, no: u64) -> Option<u64>
         return None;
     }
     match &step.act {
-        Act::Send { to } => { if set.contains(*to) { Some(*to) } else { None } }
+        Act::Send { to } => set.contains(*to).then_some(*to),
         Act::Receive { .. } => None,
     }
 }
