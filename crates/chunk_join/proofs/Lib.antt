@@ -9,8 +9,9 @@ pub mod SeamSilences
 pub mod LastEntries
 pub mod Consistency
 pub mod ListingGrowth
+pub mod TickSearches
 pub mod TickSummaries
 pub mod TickTakes
 pub mod TickParts
-pub mod WholePrefix
 pub mod JoinedShares
+pub mod TickPieces

@@ -1,26 +1,24 @@
 -- What a tick's Receives take, id by id: each was sent in an earlier tick.
-use Rattle.std.proofs.Common.{ℕ, ◌≡◌, ◌+◌, ◌-◌, ◌<◌, ◌≤◌, ◌⊎◌, ◌++◌, inl, inr, List, [], ◌∷◌, Bool, length, get_or, take, Option, Some, None, Contains, IsTrue, zero, suc, refl, sym, ap, subst, ◌∙◌, arith}
+use Rattle.std.proofs.Common.{ℕ, ◌≡◌, ◌+◌, ◌-◌, ◌<◌, ◌≤◌, ◌++◌, inl, inr, List, [], ◌∷◌, Bool, false, length, get_or, take, map, All, Option, Some, None, Contains, IsTrue, zero, suc, refl, sym, ap, subst, ◌∙◌, arith}
 use Rattle.std.proofs.lemmas.Bool.{cases_eq}
-use Rattle.std.proofs.lemmas.List.{take_more, get_or-take, get_or_default, length-take-le}
+use Rattle.std.proofs.lemmas.List.{append-nil, append_assoc, map-append, take_all, take_more, get_or-take, get_or_default, length-take-le}
 use Rattle.std.proofs.lemmas.List.Elements.{Contains-get_or, Contains-append_left, Contains-push, Contains-push_cases}
 use Rattle.std.specs.List.Sorted.{IsStrictlyIncreasing}
-use Rattle.step_trace.specs.declared.steps.Act.TheVariants.{Receive}
+use Rattle.step_trace.specs.declared.steps.Act.{Act}
+use Rattle.step_trace.specs.declared.steps.Act.TheVariants.{Send, Receive}
 use Rattle.step_trace.specs.declared.steps.Step.{Step}
 use Rattle.step_trace.specs.Processors.{has_proc}
 use Rattle.step_trace.specs.Steps.{act_ids}
-use Rattle.step_trace.specs.Traces.{Recorded, step_at, IsReceiveOf}
+use Rattle.step_trace.specs.Traces.{Recorded, step_at, IsReceiveOf, IsWellFormed}
 use Rattle.step_trace.specs.Ticks.{tick_of, IsTimed}
+use Rattle.step_trace.proofs.StepPositions.{step_at_within}
 use Rattle.suffix_staircase.proofs.ReceivesLowered.{same_step}
 use Rattle.chunk_join.specs.declared.summaries.Place.{Place}
 use Rattle.chunk_join.specs.declared.summaries.Take.{Take}
 use Rattle.chunk_join.specs.Summaries.{IsTake, IsListing, IsLastReceive, TakenBefore}
+use Rattle.chunk_join.specs.TickSteps.{IsTakeBy, first_take}
 use Rattle.chunk_join.specs.Laws.Listings.{Contains-none}
 use Rattle.chunk_join.proofs.ListingGrowth.{IsListing-same, IsListing-push}
-
--- a take of tick x by a step up to k, or by the next step among its first n ids
-pub record IsTakeBy (set : ℕ) (trace : Recorded) (x k : ℕ) (ids : List ℕ) (y : Take) : Type 0 where
-  pub own : IsTake set trace (x - 1) x y
-  pub until : (y.at.no ≤ k) ⊎ ((y.at.no ≡ k + 1) × Contains ids y.sent.no)
 
 -- in a tick no Receive of the same processor comes before
 none_before : (t : Recorded) (x p : ℕ) (b : Option Place) → 1 ≤ x → IsLastReceive t p (x - 1) x b → b ≡ None
@@ -138,3 +136,44 @@ takes_same set t x k taken none l = IsListing-same TakenBefore (IsTakeBy set t x
         | inr here ↦ absurd (Contains-none y.sent.no here.1)
       ];
     }) l
+
+-- what one Receive takes, first n ids
+takes_upto : (set : ℕ) (t : Recorded) → IsTimed t → (x k p : ℕ) → 1 ≤ x → (ends : Bool) (all : List ℕ) → IsStrictlyIncreasing all → step_at t.steps (k + 1) ≡ Some (record { proc = p; act = Receive ends all }) → tick_of t (k + 1) ≡ x
+    → IsTrue (has_proc set p) → (taken : List Take) → IsListing TakenBefore (IsTakeBy set t x k []) taken → (n : ℕ) → n ≤ length all
+    → IsListing TakenBefore (IsTakeBy set t x k (take n all)) (taken ++ map (first_take t (record { no = k + 1; tick = x }) p) (take n all))
+takes_upto set t time x k p low ends all rising step tick member taken l zero h = subst (λ ys. IsListing TakenBefore (IsTakeBy set t x k []) ys) (sym (append-nil taken)) l
+takes_upto set t time x k p low ends all rising step tick member taken l (suc n) h =
+    let before = takes_upto set t time x k p low ends all rising step tick member taken l n (omega (arith, h)) in
+    let inside : n < length all = omega (arith, h) in
+    let more = take_one_more set t time x k p low ends all n inside rising step tick member (taken ++ map f (take n all)) before in
+    let same : take (n + 1) all ≡ take n all ++ get_or all n 0 ∷ [] = take_more all n 0 inside in
+    let next : n + 1 ≡ suc n = omega arith in
+    let list = append_assoc taken (map f (take n all)) (f (get_or all n 0) ∷ []) ∙ ap (λ ys. taken ++ ys) (sym (map-append f (take n all) (get_or all n 0 ∷ [])) ∙ ap (map f) (sym same)) in
+    subst (λ m. IsListing TakenBefore (IsTakeBy set t x k (take m all)) (taken ++ map f (take m all))) next (subst (λ ys. IsListing TakenBefore (IsTakeBy set t x k (take (n + 1) all)) ys) list more)
+  where
+    f : ℕ → Take
+    f = first_take t (record { no = k + 1; tick = x }) p
+
+-- the next step, if it is of a member, takes what it takes
+pub takes_step : (set : ℕ) (t : Recorded) → IsWellFormed t.config t.steps → IsTimed t → (x k p : ℕ) (act : Act) → 1 ≤ x → step_at t.steps (k + 1) ≡ Some (record { proc = p; act = act }) → tick_of t (k + 1) ≡ x
+    → IsTrue (has_proc set p) → (taken : List Take) → IsListing TakenBefore (IsTakeBy set t x k []) taken
+    → IsListing TakenBefore (IsTakeBy set t x (k + 1) []) (taken ++ map (first_take t (record { no = k + 1; tick = x }) p) (act_ids act))
+takes_step set t sound time x k p (Send to) low step tick member taken l = subst (λ ys. IsListing TakenBefore (IsTakeBy set t x (k + 1) []) ys) (sym (append-nil taken))
+    (takes_same set t x k taken (λ q m r. (let e = sym (ap (λ (z : Step). z.act) (same_step t.steps (k + 1) _ _ r.step step)) in cc)) l)
+takes_step set t sound time x k p (Receive ends ids) low step tick member taken l =
+    let all : length ids ≤ length ids = omega arith in
+    let upto = takes_upto set t time x k p low ends ids (sound.rising (k + 1) _ step) step tick member taken l (length ids) all in
+    let whole = subst (λ ys. IsListing TakenBefore (IsTakeBy set t x k ys) (taken ++ map (first_take t (record { no = k + 1; tick = x }) p) ys)) (take_all (length ids) ids all) upto in
+    takes_done set t x k p ends ids _ step whole
+
+-- the next step, if it is of another processor, takes none that counts
+pub takes_stranger : (set : ℕ) (t : Recorded) (x k : ℕ) (s : Step) → step_at t.steps (k + 1) ≡ Some s → has_proc set s.proc ≡ false → (taken : List Take) → IsListing TakenBefore (IsTakeBy set t x k []) taken
+    → IsListing TakenBefore (IsTakeBy set t x (k + 1) []) taken
+takes_stranger set t x k s step stranger taken l = takes_same set t x k taken (λ q m r. (let e = ap (λ (z : Step). has_proc set z.proc) (same_step t.steps (k + 1) _ _ r.step step) in cc)) l
+
+-- what a step takes was sent by steps of the trace
+pub ids_low : (t : Recorded) (k : ℕ) (s : Step) → IsWellFormed t.config t.steps → step_at t.steps k ≡ Some s → All (λ n. 1 ≤ n) (act_ids s.act)
+ids_low t k s sound step = λ i d l. (let e = (sound.earlier k _ s step (Contains-get_or (act_ids s.act) i d l)).1 in let w = (step_at_within t.steps _ _ e.1).0 in omega (arith, w))
+
+pub ids_high : (t : Recorded) (k : ℕ) (s : Step) → IsWellFormed t.config t.steps → step_at t.steps k ≡ Some s → All (λ n. n ≤ length t.steps) (act_ids s.act)
+ids_high t k s sound step = λ i d l. (let e = (sound.earlier k _ s step (Contains-get_or (act_ids s.act) i d l)).1 in (step_at_within t.steps _ _ e.1).1)

@@ -1,5 +1,6 @@
 pub mod Parts
 pub mod Summaries
+pub mod TickSteps
 pub mod Joins
 pub mod Laws
 pub mod Analyses

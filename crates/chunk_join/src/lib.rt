@@ -10,6 +10,8 @@ mod pieces;
 mod silence_joins;
 mod summaries;
 mod tick_parts;
+mod tick_steps;
+mod trace_parts;
 
 pub use analyses::{AnalyseError, MAX_WORKERS, analyse};
 pub use finishes::FinishError;
