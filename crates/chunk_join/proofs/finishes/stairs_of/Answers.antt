@@ -62,6 +62,17 @@ back c =
       begun = λ w h. begun.begun w (ap (λ (xs : List Gap). last_at xs c.begun_by-silences.result) items ∙ h);
     }))
 
+pub lower-requires-clause-room : goal.lower-requires-clause-room
+lower-requires-clause-room c =
+    let count = c.loop-g.invariant.known.count in
+    let test = c.loop-g-test.true in
+    let end = c.part.invariant.end in
+    let same = ap (λ (s : Summary). s.to) c.part.view_is in
+    omega (arith, count, test, end, same)
+
+pub lower-requires-clause-falling : goal.lower-requires-clause-falling
+lower-requires-clause-falling c = (back (goal.at.lower-requires-clause-falling c).After-note_silence).falling
+
 pub loop-g-preserved : goal.loop-g-preserved
 loop-g-preserved c =
     let test = c.loop-g-test.true in
