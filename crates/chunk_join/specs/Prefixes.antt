@@ -1,7 +1,6 @@
 -- The beginning of a trace (own).
-use Rattle.std.specs.Prelude.{ℕ, nat_le}
+use Rattle.std.specs.Prelude.{ℕ, take, nat_le}
 use Rattle.std.specs.List.{prefix_len, take_while}
-use Rattle.std.proofs.Math.ListN.{take}
 use Rattle.step_trace.specs.Traces.{Recorded}
 
 -- how many steps there are up to tick k: those before the first step in a later tick
