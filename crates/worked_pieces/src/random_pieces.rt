@@ -1,6 +1,6 @@
 //! Small traces of a fixed seed, cut into pieces in all places and joined, beside the stairs of the whole.
 
-use crate::traces::step_of;
+use crate::traces::{piece_of, step_of};
 use chunk_join::{Joined, Piece, join_all};
 use std::alloc::Global;
 use std::test::Fail;
@@ -13,7 +13,12 @@ struct Draws {
 }
 
 impl Draws {
-    fn below(&mut self, n: u64) -> u64 {
+    ghost use Rattle.std.specs.Prelude.{◌≤◌, ◌<◌};
+
+    fn below(&mut self, n: u64) -> u64
+        requires { 1 ≤ n }
+        ensures { result < n }
+    {
         self.state = self
             .state
             .wrapping_mul(6_364_136_223_846_793_005)
@@ -69,12 +74,27 @@ fn same_stairs(a: &Stairs, b: &Stairs) -> bool {
 fn in_pieces(alloc: Global, draws: &mut Draws, trace: &Trace, set: ProcSet) -> Result<Piece, Fail> {
     let mut pieces = Vec::new(alloc);
     let mut from = 1;
-    while from <= trace.last_tick() {
+    for _ in 0..trace.last_tick() {
+        if from > trace.last_tick() {
+            break;
+        }
         let to = (from + draws.below(4)).min(trace.last_tick());
-        pieces.push(Piece::of(alloc, trace, set, from, to)?)?;
+        pieces.push(piece_of(alloc, trace, set, from, to)?)?;
         from = to + 1;
     }
-    while pieces.len() > 2 {
+    join_neighbours(draws, &mut pieces)?;
+    match join_all(pieces) {
+        Ok(whole) => Ok(whole),
+        Err(_) => Err(Fail::new("the pieces do not join")),
+    }
+}
+
+// Joins two neighbours in some place, until two pieces are left.
+fn join_neighbours(draws: &mut Draws, pieces: &mut Vec<Piece>) -> Result<(), Fail> {
+    for _ in 0..pieces.len() {
+        if pieces.len() <= 2 {
+            break;
+        }
         let at = draws.below(pieces.len() as u64 - 1) as usize;
         let right = pieces.remove(at + 1);
         let left = pieces.remove(at);
@@ -83,10 +103,7 @@ fn in_pieces(alloc: Global, draws: &mut Draws, trace: &Trace, set: ProcSet) -> R
             Err(_) => return Err(Fail::new("two pieces do not join")),
         }
     }
-    match join_all(pieces) {
-        Ok(whole) => Ok(whole),
-        Err(_) => Err(Fail::new("the pieces do not join")),
-    }
+    Ok(())
 }
 
 fn some_set(draws: &mut Draws) -> ProcSet {

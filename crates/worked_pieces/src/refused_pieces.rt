@@ -1,6 +1,6 @@
 //! Pieces that don't join, or have no stairs.
 
-use crate::traces::trace_of;
+use crate::traces::{piece_of, trace_of};
 use chunk_join::{FinishError, Joined, Piece, Why, join_all};
 use std::alloc::Global;
 use std::test::Fail;
@@ -25,8 +25,8 @@ fn why(left: Piece, right: Piece) -> Option<Why> {
 fn pieces_with_a_tick_between(rt: HostRuntime) -> Result<(), Fail> {
     let trace = one_miss(rt.alloc())?;
     let both = ProcSet::empty().with(1).with(2);
-    let first = Piece::of(rt.alloc(), &trace, both, 1, 1)?;
-    let third = Piece::of(rt.alloc(), &trace, both, 3, 3)?;
+    let first = piece_of(rt.alloc(), &trace, both, 1, 1)?;
+    let third = piece_of(rt.alloc(), &trace, both, 3, 3)?;
     assert!(rt; why(first, third) == Some(Why::NotAdjacent));
     Ok(())
 }
@@ -35,8 +35,8 @@ fn pieces_with_a_tick_between(rt: HostRuntime) -> Result<(), Fail> {
 fn pieces_of_other_sets(rt: HostRuntime) -> Result<(), Fail> {
     let trace = one_miss(rt.alloc())?;
     let both = ProcSet::empty().with(1).with(2);
-    let first = Piece::of(rt.alloc(), &trace, both, 1, 1)?;
-    let rest = Piece::of(rt.alloc(), &trace, ProcSet::empty().with(2), 2, 3)?;
+    let first = piece_of(rt.alloc(), &trace, both, 1, 1)?;
+    let rest = piece_of(rt.alloc(), &trace, ProcSet::empty().with(2), 2, 3)?;
     assert!(rt; why(first, rest) == Some(Why::OtherSet));
     Ok(())
 }
@@ -44,7 +44,7 @@ fn pieces_of_other_sets(rt: HostRuntime) -> Result<(), Fail> {
 #[test]
 fn a_piece_that_is_not_whole(rt: HostRuntime) -> Result<(), Fail> {
     let trace = one_miss(rt.alloc())?;
-    let rest = Piece::of(rt.alloc(), &trace, ProcSet::empty().with(2), 2, 3)?;
+    let rest = piece_of(rt.alloc(), &trace, ProcSet::empty().with(2), 2, 3)?;
     match rest.finish(rt.alloc()) {
         Ok(_) => assert!(rt; false, "it has stairs"),
         Err(why) => assert!(rt; why == FinishError::NotWhole),

@@ -1,9 +1,10 @@
 //! Traces from plain values. A step is written as its processor, its destination, which is 0 in a
 //! Receive, and the ids that a Receive takes.
 
+use chunk_join::Piece;
 use std::alloc::{AllocError, Global};
 use std::test::Fail;
-use step_trace::{Act, Config, MessageIds, Step, Trace};
+use step_trace::{Act, Config, MessageIds, ProcSet, Step, Trace};
 
 /// The step that is so written.
 pub(crate) fn step_of(alloc: Global, proc: u64, to: u64, ids: &[u64]) -> Result<Step, AllocError> {
@@ -31,4 +32,18 @@ pub(crate) fn trace_of(alloc: Global, n: u64, steps: &[(u64, u64, &[u64])]) -> R
         trace.push(step_of(alloc, *proc, *to, ids)?)?;
     }
     Ok(trace)
+}
+
+/// The piece of the ticks `from` to `to`, which must be ticks of the trace.
+pub(crate) fn piece_of(
+    alloc: Global,
+    trace: &Trace,
+    set: ProcSet,
+    from: u64,
+    to: u64,
+) -> Result<Piece, Fail> {
+    if from == 0 || to > trace.last_tick() || from > to + 1 {
+        return Err(Fail::new("no part of the trace"));
+    }
+    Ok(Piece::of(alloc, trace, set, from, to)?)
 }
