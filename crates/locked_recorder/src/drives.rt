@@ -1,7 +1,7 @@
 //! Drives: the loop of a thread that makes the steps of one processor.
 
-ghost use Rattle.std.specs.Prelude.{◌≡◌, ◌↔◌, ◌+◌, ◌<◌, ◌≤◌, IsTrue, IfOk, IfErr, OnOk, OnErr};
-ghost use Rattle.locked_recorder.specs.Drives.{IsMoved, IsAnyRefusal, IsDriven, IsStop};
+ghost use Rattle.std.specs.Prelude.{◌≡◌, ◌≢◌, ◌↔◌, ◌+◌, ◌<◌, ◌≤◌, IsTrue, IfOk, IfErr, OnOk, OnErr};
+ghost use Rattle.locked_recorder.specs.Drives.{IsMoved, IsMoveRefusal, IsDriven, IsStop};
 
 use crate::errors::{DriveError, DriveStop, RecordError};
 use crate::recorders::Recorder;
@@ -43,6 +43,7 @@ impl Recorder {
         ensures driven { OnOk result (IsDriven self.now steps seat.old seat.new) }
         ensures made { IfErr result (λ e. IsDriven self.now e.made seat.old seat.new) }
         ensures stopped { IfErr result (λ e. IsStop self.now seat.new e.made e.why) }
+        ensures short { IfErr result (λ e. e.why ≢ DriveStop.Held → e.made < steps) }
     {
         if !gate.enter(seat.proc) {
             return Err(DriveError {
@@ -72,7 +73,7 @@ impl Recorder {
     ) -> Result<(), RecordError>
         ensures tag { OnOk result (seat.old.tag ≡ self.now.tag) }
         ensures moved { OnOk result (IsMoved self.now.config seat.old seat.new) }
-        ensures refused { IfErr result (λ e. IsAnyRefusal self.now seat.old e) }
+        ensures refused { IfErr result (λ e. IsMoveRefusal self.now seat.old e) }
         ensures err { OnErr result (seat.new ≡ seat.old) }
     {
         if pace.sends {
