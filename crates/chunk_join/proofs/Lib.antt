@@ -1,6 +1,17 @@
 pub mod JoinedParts
 pub mod Places
+pub mod Prefixes
+pub mod MessagesBack
+pub mod SilencesBack
+pub mod TicksBack
 pub mod SettledMessages
 pub mod SeamSilences
 pub mod LastEntries
 pub mod Consistency
+pub mod ListingGrowth
+pub mod TickSearches
+pub mod TickSummaries
+pub mod TickTakes
+pub mod TickParts
+pub mod JoinedShares
+pub mod TickPieces

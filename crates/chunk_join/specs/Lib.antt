@@ -1,4 +1,8 @@
 pub mod Parts
 pub mod Summaries
+pub mod TickSteps
 pub mod Joins
 pub mod Laws
+pub mod Analyses
+pub mod Prefixes
+pub mod Finishes

@@ -2,13 +2,16 @@
 
 use crate::joins::{JoinRefused, Joined};
 use crate::parts::{Part, join_parts};
+use crate::trace_parts::part_of_trace;
+use std::alloc::{AllocError, Global};
 use std::marker::Model;
+use step_trace::{ProcSet, Trace};
 
 /// The summary of the ticks of a part of a trace, for a set of processors that count as correct; the empty part has
 /// one for all sets.
 #[derive(Debug, Drop)]
 pub struct Piece {
-    part: Option<Part>,
+    pub(crate) part: Option<Part>,
 }
 
 impl Model for Piece {
@@ -71,4 +74,35 @@ impl Joined for Piece {
     }
 
     ghost laws = { pieces_join };
+}
+
+impl Piece {
+    ghost use Rattle.std.specs.Prelude.{◌≡◌, ◌+◌, ◌-◌, ◌≤◌, IfOk, OnErr};
+    ghost use Rattle.step_trace.specs.Ticks.{IsTrace};
+    ghost use Rattle.chunk_join.specs.Summaries.{IsPiece};
+
+    /// The piece of the ticks `from` to `to`, from 1 to the last tick; where `from` is one after `to`, the unit. It
+    /// takes time that grows with these ticks and their steps, and with the logarithm of the number of all steps.
+    ///
+    /// Fails only for want of memory; the unit takes none.
+    pub fn of(
+        alloc: Global,
+        trace: &Trace,
+        set: ProcSet,
+        from: u64,
+        to: u64,
+    ) -> Result<Piece, AllocError>
+        requires low { 1 ≤ from }
+        requires order { from ≤ to + 1 }
+        requires high { to ≤ trace.now.last }
+        ensures some { OnErr result (from ≤ to) }
+        ensures piece { IfOk result (λ piece. (sound : IsTrace trace.now) → IsPiece (record { set = set; trace = trace.now; sound = sound }) (from - 1) to piece) }
+    {
+        if to < from {
+            return Ok(Piece::unit());
+        }
+        Ok(Piece {
+            part: Some(part_of_trace(alloc, trace, set, from, to)?),
+        })
+    }
 }

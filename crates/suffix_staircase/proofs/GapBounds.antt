@@ -97,22 +97,26 @@ pub record GapsLowered (set : ℕ) (trace : Recorded) (x : ℕ) (old new : Level
   pub miss : new.miss ≡ old.miss
 
 -- one tick back, the level takes the longest gap that begins there where its bound allows it no more
-pub GapsLowered-with_gap : (set : ℕ) (t : Recorded) (x q : ℕ) (next : List ℕ) (level : Level) → 1 ≤ x → IsWithin set t.config.n → AreNextSteps t x next → IsLatest set next (length next) q
-    → KnowsGaps set t (x + 1) level.phi level.gap → GapsLowered set t x level (with_gap level q x (get_or next q 0))
-GapsLowered-with_gap set t x q next level start within known latest k = go (nat_le level.phi (get_or next q 0 - x)) refl where
-  go : (b : Bool) → nat_le level.phi (get_or next q 0 - x) ≡ b
-      → GapsLowered set t x level (cond b (record { delta = level.delta; miss = level.miss; phi = get_or next q 0 - x + 1; gap = Some (record { proc = q; from = x; to = get_or next q 0 - 1 }) }) level)
-  go true e = let h = leb-true level.phi (get_or next q 0 - x) e in record {
-    gaps = gaps_longer set t x level.phi q (get_or next q 0) level.gap k (IsLongest-from_latest set t x q next start within known latest) h;
+pub GapsLowered-with_longest : (set : ℕ) (t : Recorded) (x q until : ℕ) (level : Level) → IsLongest set t x q until → KnowsGaps set t (x + 1) level.phi level.gap → GapsLowered set t x level (with_gap level q x until)
+GapsLowered-with_longest set t x q until level longest k = go (nat_le level.phi (until - x)) refl where
+  go : (b : Bool) → nat_le level.phi (until - x) ≡ b
+      → GapsLowered set t x level (cond b (record { delta = level.delta; miss = level.miss; phi = until - x + 1; gap = Some (record { proc = q; from = x; to = until - 1 }) }) level)
+  go true e = let h = leb-true level.phi (until - x) e in record {
+    gaps = gaps_longer set t x level.phi q until level.gap k longest h;
     phi = omega arith;
     gap = λ same. absurd (omega (arith, same, h));
     delta = refl;
     miss = refl;
   }
-  go false e = let h = leb-false level.phi (get_or next q 0 - x) e in record {
-    gaps = gaps_kept set t x level.phi q (get_or next q 0) level.gap k (IsLongest-from_latest set t x q next start within known latest) h;
+  go false e = let h = leb-false level.phi (until - x) e in record {
+    gaps = gaps_kept set t x level.phi q until level.gap k longest h;
     phi = omega arith;
     gap = λ same. refl;
     delta = refl;
     miss = refl;
   }
+
+-- so it does with that of the member whose next step comes last
+pub GapsLowered-with_gap : (set : ℕ) (t : Recorded) (x q : ℕ) (next : List ℕ) (level : Level) → 1 ≤ x → IsWithin set t.config.n → AreNextSteps t x next → IsLatest set next (length next) q
+    → KnowsGaps set t (x + 1) level.phi level.gap → GapsLowered set t x level (with_gap level q x (get_or next q 0))
+GapsLowered-with_gap set t x q next level start within known latest k = GapsLowered-with_longest set t x q (get_or next q 0) level (IsLongest-from_latest set t x q next start within known latest) k

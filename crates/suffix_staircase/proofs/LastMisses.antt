@@ -31,7 +31,7 @@ taker_receives c steps x b place a w h t = go t.0.act refl t.2 where
   }
 
 -- a message has one receiver
-message_unique : (set : ℕ) (steps : List Step) (x a b q : ℕ) → step_at steps x ≡ Some (record { proc = a; act = Send b }) → IsMessage set steps x q → q ≡ b
+pub message_unique : (set : ℕ) (steps : List Step) (x a b q : ℕ) → step_at steps x ≡ Some (record { proc = a; act = Send b }) → IsMessage set steps x q → q ≡ b
 message_unique set steps x a b q h m =
     let same = ap (λ (z : Step). z.act) (same_step steps x _ _ m.sent h) in
     cc

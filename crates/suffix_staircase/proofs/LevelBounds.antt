@@ -29,7 +29,7 @@ KnowsGaps-after_all set t = record {
 }
 
 -- what is known of misses and gaps makes a level the least bounds with their named witnesses
-IsLevelAt-from_known : (set : ℕ) (t : Recorded) (g : ℕ) (level : Level) → 1 ≤ g → KnowsMisses set t g level.delta level.miss → KnowsGaps set t g level.phi level.gap → IsLevelAt set t g level
+pub IsLevelAt-from_known : (set : ℕ) (t : Recorded) (g : ℕ) (level : Level) → 1 ≤ g → KnowsMisses set t g level.delta level.miss → KnowsGaps set t g level.phi level.gap → IsLevelAt set t g level
 IsLevelAt-from_known set t g level start misses gaps = record {
   delta = IsDelta-from_misses set t g level.delta level.miss misses;
   miss = misses.named;
@@ -45,7 +45,7 @@ AreLevelsFrom-after_all set t = record {
 }
 
 -- one level more, of the tick before
-AreLevelsFrom-before : (set : ℕ) (t : Recorded) (x : ℕ) (level : Level) (levels : List Level) → IsLevelAt set t x level → AreLevelsFrom set t (x + 1) levels → AreLevelsFrom set t x (level ∷ levels)
+pub AreLevelsFrom-before : (set : ℕ) (t : Recorded) (x : ℕ) (level : Level) (levels : List Level) → IsLevelAt set t x level → AreLevelsFrom set t (x + 1) levels → AreLevelsFrom set t x (level ∷ levels)
 AreLevelsFrom-before set t x level levels here a = record {
   count = let count = a.count in omega arith;
   each = each;
@@ -62,11 +62,11 @@ AreLevels-from_first set t levels a = record {
 }
 
 -- a level may stand before itself
-StandsBefore-itself : (level : Level) → StandsBefore level level
+pub StandsBefore-itself : (level : Level) → StandsBefore level level
 StandsBefore-itself level = record { delta = omega arith; phi = omega arith; miss = λ e. refl; gap = λ e. refl }
 
 -- a level that may stand before one that may stand before others may stand before them
-CanStandBefore-through : (a b : Level) (levels : List Level) → StandsBefore a b → CanStandBefore b levels → CanStandBefore a levels
+pub CanStandBefore-through : (a b : Level) (levels : List Level) → StandsBefore a b → CanStandBefore b levels → CanStandBefore a levels
 CanStandBefore-through a b [] h k = tt
 CanStandBefore-through a b (c ∷ rest) h k =
     let dh = h.delta in

@@ -41,7 +41,7 @@ IsDelta-from_misses set t g d o k =
     }
 
 -- so is one beside the witness among the messages after a step
-after_positive : (set : ℕ) (t : Recorded) (done d : ℕ) (o : Option Miss) → NamesAfter set t done d o → 1 ≤ d
+pub after_positive : (set : ℕ) (t : Recorded) (done d : ℕ) (o : Option Miss) → NamesAfter set t done d o → 1 ≤ d
 after_positive set t done d None h = omega arith
 after_positive set t done d (Some m) h = let l = h.0 in omega arith
 

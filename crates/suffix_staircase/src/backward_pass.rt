@@ -135,8 +135,8 @@ fn tick_of(trace: &Trace, no: u64) -> u64
     if no == 0 { 0 } else { trace.tick(no) }
 }
 
-// Takes a miss of this length into the level, where its bound allows no such miss.
-fn note_miss(level: &mut Level, miss: Miss, long: u64)
+/// Takes a miss of this length, in ticks, into the level, where its bound allows no such miss.
+pub fn note_miss(level: &mut Level, miss: Miss, long: u64)
     requires { long ≤ MAX_TICKS }
     ensures { level.new ≡ with_miss level.old miss long }
 {
@@ -146,8 +146,9 @@ fn note_miss(level: &mut Level, miss: Miss, long: u64)
     }
 }
 
-// Takes the gap of `proc` from `from` to before `until` into the level, where its bound allows no such gap.
-fn note_gap(level: &mut Level, proc: u64, from: u64, until: u64)
+/// Takes the gap of `proc` from tick `from` to before tick `until` into the level, where its bound allows no such
+/// gap. None is taken where `until` isn't after `from`.
+pub fn note_gap(level: &mut Level, proc: u64, from: u64, until: u64)
     requires positive { 1 ≤ level.old.phi }
     requires from { 1 ≤ from }
     ensures { level.new ≡ with_gap level.old proc from until }

@@ -8,5 +8,6 @@ mod receives;
 mod staircases;
 mod stretches;
 
+pub use backward_pass::{note_gap, note_miss};
 pub use levels::Level;
 pub use staircases::{StairBuilder, Stairs};

@@ -16,11 +16,11 @@ use Rattle.chunk_join.specs.Laws.Listings.{Contains-map, Contains-from_map, Cont
 -- Silences
 
 -- p takes no step from tick x to tick y
-abbrev Silent : Recorded → ℕ → ℕ → ℕ → Type 0
+abbrev pub Silent : Recorded → ℕ → ℕ → ℕ → Type 0
 Silent trace p x y = (z : ℕ) → x ≤ z → z ≤ y → ¬ StepsIn trace z p
 
 -- where p takes no step at x, there is a last tick up to k to which it takes none
-last_silent : (trace : Recorded) (p x n : ℕ) → ¬ StepsIn trace x p → (y : ℕ) × (x ≤ y) × (y ≤ x + n) × Silent trace p x y × ((y ≡ x + n) ⊎ StepsIn trace (y + 1) p)
+pub last_silent : (trace : Recorded) (p x n : ℕ) → ¬ StepsIn trace x p → (y : ℕ) × (x ≤ y) × (y ≤ x + n) × Silent trace p x y × ((y ≡ x + n) ⊎ StepsIn trace (y + 1) p)
 last_silent trace p x zero q = (x, omega arith, omega arith, (λ z a b s. q (subst (λ t. StepsIn trace t p) (omega (arith, a, b)) s)), inl (omega arith))
 last_silent trace p x (suc n) q = go (last_silent trace p x n q)
   where
@@ -42,7 +42,7 @@ last_silent trace p x (suc n) q = go (last_silent trace p x n q)
     ]
 
 -- and a first tick after i from which it takes none
-first_silent : (trace : Recorded) (p i n : ℕ) → ¬ StepsIn trace (i + 1 + n) p → (y : ℕ) × (i < y) × (y ≤ i + 1 + n) × Silent trace p y (i + 1 + n) × ((y ≡ i + 1) ⊎ StepsIn trace (y - 1) p)
+pub first_silent : (trace : Recorded) (p i n : ℕ) → ¬ StepsIn trace (i + 1 + n) p → (y : ℕ) × (i < y) × (y ≤ i + 1 + n) × Silent trace p y (i + 1 + n) × ((y ≡ i + 1) ⊎ StepsIn trace (y - 1) p)
 first_silent trace p i zero q = (i + 1, omega arith, omega arith, (λ z a b s. q (subst (λ t. StepsIn trace t p) (omega (arith, a, b)) s)), inl refl)
 first_silent trace p i (suc n) q = elim (steps_in_or_not trace (i + 1 + n) p) [
   | inl s ↦ (let e : i + 1 + n ≡ i + 1 + suc n - 1 = omega arith in

@@ -1,0 +1,169 @@
+-- The silences of a part that is a whole trace, gone over from the last one back: the longest gap from a tick on.
+use Rattle.std.proofs.Common.{ℕ, ◌≡◌, ◌+◌, ◌-◌, ◌≤◌, inl, inr, length, Bool, true, false, Option, Some, None, cond, zero, suc, refl, sym, ap, subst, ◌∙◌, arith}
+use Rattle.std.specs.Prelude.{slice_get, nat_le}
+use Rattle.std.proofs.lemmas.Bool.{cases_lt, leb-true}
+use Rattle.std.proofs.lemmas.Option.{same_Some, none-some, slice_get-get_or}
+use Rattle.step_trace.specs.declared.rows.Gap.{Gap}
+use Rattle.step_trace.specs.Traces.{Recorded}
+use Rattle.step_trace.specs.Ticks.{StepsIn}
+use Rattle.step_trace.specs.Witnesses.{IsGap}
+use Rattle.suffix_staircase.specs.declared.levels.Level.{Level}
+use Rattle.suffix_staircase.specs.Levels.{StandsBefore}
+use Rattle.suffix_staircase.specs.Analysis.{KnowsGaps, with_gap}
+use Rattle.suffix_staircase.proofs.GapBounds.{GapsLowered, GapsLowered-with_longest}
+use Rattle.suffix_staircase.proofs.LevelBounds.{StandsBefore-itself}
+use Rattle.suffix_staircase.proofs.LongestGaps.{IsLongest as IsLongestFrom}
+use Rattle.chunk_join.specs.Summaries.{EndsBefore, IsLongest, Summary, IsSummary}
+use Rattle.chunk_join.specs.Laws.SilencesJoined.{first_silent, last_silent}
+use Rattle.chunk_join.specs.Finishes.{last_at, with_silence, BeginAfter}
+use Rattle.chunk_join.proofs.MessagesBack.{Contains-slice, slice-Contains, Rises-slices}
+
+-- Whatever the silence, the level with it may stand before the one without.
+
+StandsBefore-with_gap : (level : Level) (p g until : ℕ) → StandsBefore (with_gap level p g until) level
+StandsBefore-with_gap level p g until = go (nat_le level.phi (until - g)) refl where
+  go : (b : Bool) → nat_le level.phi (until - g) ≡ b → StandsBefore (cond b (record { delta = level.delta; miss = level.miss; phi = until - g + 1; gap = Some (record { proc = p; from = g; to = until - 1 }) }) level) level
+  go true e = let h = leb-true level.phi (until - g) e in record { delta = omega arith; phi = omega (arith, h); miss = λ same. refl; gap = λ same. absurd (omega (arith, same, h)) }
+  go false e = StandsBefore-itself level
+
+pub StandsBefore-with_silence : (level : Level) (g : ℕ) (o : Option Gap) → StandsBefore (with_silence level g o) level
+StandsBefore-with_silence level g None = StandsBefore-itself level
+StandsBefore-with_silence level g (Some w) = StandsBefore-with_gap level w.proc g (w.to + 1)
+
+-- An empty gap changes nothing.
+with_gap-none : (level : Level) (p g : ℕ) → 1 ≤ level.phi → with_gap level p g g ≡ level
+with_gap-none level p g l = go (nat_le level.phi (g - g)) refl where
+  go : (b : Bool) → nat_le level.phi (g - g) ≡ b → cond b (record { delta = level.delta; miss = level.miss; phi = g - g + 1; gap = Some (record { proc = p; from = g; to = g - 1 }) }) level ≡ level
+  go true e = absurd (let h = leb-true level.phi (g - g) e in omega (arith, h, l))
+  go false e = refl
+
+-- a longest silence with this gap in it
+record IsAround (set : ℕ) (t : Recorded) (w v : Gap) : Type 0 where
+  longest : IsLongest set t 0 t.last v
+  proc : v.proc ≡ w.proc
+  from : v.from ≤ w.from
+  to : w.to ≤ v.to
+
+-- each gap is in one
+around : (set : ℕ) (t : Recorded) (w : Gap) → IsGap set t w → (v : Gap) × IsAround set t w v
+around set t w gap =
+    let start = gap.start in
+    let order = gap.order in
+    let inside = gap.inside in
+    let first : 0 + 1 + (w.from - 1) ≡ w.from = omega (arith, start) in
+    let end : w.to + (t.last - w.to) ≡ t.last = omega (arith, inside) in
+    let b = first_silent t w.proc 0 (w.from - 1) (λ s. gap.silent w.from (omega arith) order (subst (λ x. StepsIn t x w.proc) first s)) in
+    let e = last_silent t w.proc w.to (t.last - w.to) (λ s. gap.silent w.to order (omega arith) s) in
+    let low = b.1 in
+    let from = b.2 in
+    let to = e.1 in
+    let high = e.2 in
+    let v : Gap = record { proc = w.proc; from = b.0; to = e.0 } in (
+      v,
+      record {
+        longest = record {
+          gap = record {
+            member = gap.member;
+            start = omega (arith, low);
+            order = omega (arith, from, first, order, to);
+            inside = omega (arith, high, end);
+            silent = λ x l h s. elim (cases_lt x w.from) [
+              | inl before ↦ b.3 x l (omega (arith, before, first)) s
+              | inr c ↦ elim (cases_lt w.to x) [
+                | inl later ↦ e.3 x (omega (arith, later)) h s
+                | inr d ↦ gap.silent x (omega (arith, c)) (omega (arith, d)) s
+              ]
+            ];
+          };
+          after = low;
+          until = omega (arith, high, end);
+          left = elim b.4 [ inl f ↦ inl (omega (arith, f)) | inr s ↦ inr s ];
+          right = elim e.4 [ inl f ↦ inl (omega (arith, f, end)) | inr s ↦ inr s ];
+        };
+        proc = refl;
+        from = omega (arith, from, first);
+        to = to;
+      },
+    )
+
+-- Of a gap from tick g on and the last silence that begins by then: the gap doesn't end later, and where it ends as
+-- late its processor isn't less.
+record IsTopped (w u : Gap) : Type 0 where
+  until : u.to ≤ w.to
+  proc : u.to ≡ w.to → w.proc ≤ u.proc
+
+topped : (set : ℕ) (t : Recorded) (s : Summary) → IsSummary set t 0 t.last s → (n g : ℕ) → n ≤ length s.silent → BeginAfter s.silent g n → (u : Gap) → IsGap set t u → u.from ≡ g
+    → (w : Gap) × (last_at s.silent n ≡ Some w) × IsTopped w u
+topped set t s a n g long later u gap from = go n long later where
+  v : Gap
+  v = (around set t u gap).0
+
+  is : IsAround set t u v
+  is = (around set t u gap).1
+
+  at : (k : ℕ) × (slice_get s.silent k ≡ Some v)
+  at = slice-Contains s.silent v (a.silent.complete v is.longest)
+
+  go : (n : ℕ) → n ≤ length s.silent → BeginAfter s.silent g n → (w : Gap) × (last_at s.silent n ≡ Some w) × IsTopped w u
+  go zero long later = absurd (let l = later at.0 v (omega arith) at.1 in let b = is.from in omega (arith, l, b, from))
+  go (suc n) long later =
+      let own = slice_get-get_or s.silent n v (omega (arith, long)) in
+      let proc = is.proc in
+      let to = is.to in (
+        _,
+        own,
+        elim (cases_lt n at.0) [
+          | inl beyond ↦ absurd (let l = later at.0 v (omega (arith, beyond)) at.1 in let b = is.from in omega (arith, l, b, from))
+          | inr inside ↦ elim (cases_lt at.0 n) [
+            | inl below ↦ elim (Rises-slices EndsBefore s.silent at.0 n v _ a.silent.rising at.1 own below) [
+              | inl e ↦ record { until = omega (arith, e, to); proc = λ same. absurd (omega (arith, e, to, same)) }
+              | inr e ↦ (let same = e.0 in let less = e.1 in record { until = omega (arith, same, to); proc = λ f. omega (arith, less, proc) })
+            ]
+            | inr above ↦ (let e : at.0 ≡ n = omega (arith, above, inside) in
+                let same = same_Some _ _ (sym at.1 ∙ ap (slice_get s.silent) e ∙ own) in
+                let p = ap (λ (x : Gap). x.proc) same in
+                let q = ap (λ (x : Gap). x.to) same in
+                record { until = omega (arith, q, to); proc = λ f. omega (arith, p, proc) })
+          ]
+        ],
+      )
+
+-- The last silence that begins by tick g has the longest gap from g on.
+IsLongestFrom-top : (set : ℕ) (t : Recorded) (s : Summary) → IsSummary set t 0 t.last s → (n g : ℕ) (w : Gap) → 1 ≤ g → n ≤ length s.silent → BeginAfter s.silent g n → last_at s.silent n ≡ Some w → w.from ≤ g
+    → IsLongestFrom set t g w.proc (w.to + 1)
+IsLongestFrom-top set t s a n g w start long later top from = record {
+  gap = λ l. record {
+    member = own.gap.member;
+    start = start;
+    order = omega (arith, l);
+    inside = let i = own.gap.inside in omega (arith, i);
+    silent = λ x b e s. own.gap.silent x (omega (arith, b, from)) (omega (arith, e)) s;
+  };
+  longest = λ u i e. (let h = topped set t s a n g long later u i e in let b = (is u h).until in omega (arith, b));
+  least = λ u i e f. (let h = topped set t s a n g long later u i e in (is u h).proc (omega (arith, f)));
+} where
+  placed : (n : ℕ) → last_at s.silent n ≡ Some w → IsLongest set t 0 t.last w
+  placed zero h = absurd (none-some w h)
+  placed (suc n) h = a.silent.sound w (Contains-slice s.silent n w h)
+
+  own : IsLongest set t 0 t.last w
+  own = placed n top
+
+  is : (u : Gap) → (v : Gap) × (last_at s.silent n ≡ Some v) × IsTopped v u → IsTopped w u
+  is u h = subst (λ v. IsTopped v u) (same_Some h.0 w (sym h.1 ∙ top)) h.2
+
+-- Where no silence begins by then there is no gap from g on.
+IsLongestFrom-none : (set : ℕ) (t : Recorded) (s : Summary) → IsSummary set t 0 t.last s → (n g : ℕ) → n ≤ length s.silent → BeginAfter s.silent g n → last_at s.silent n ≡ None → IsLongestFrom set t g 0 g
+IsLongestFrom-none set t s a n g long later top = record {
+  gap = λ l. absurd (omega (arith, l));
+  longest = λ u i e. absurd (let h = topped set t s a n g long later u i e in none-some h.0 (sym top ∙ h.1));
+  least = λ u i e f. absurd (let h = topped set t s a n g long later u i e in none-some h.0 (sym top ∙ h.1));
+}
+
+-- One tick back the level takes that gap.
+pub GapsLowered-with_silence : (set : ℕ) (t : Recorded) (s : Summary) → IsSummary set t 0 t.last s → (n g : ℕ) (level : Level) → 1 ≤ g → 1 ≤ level.phi → n ≤ length s.silent → BeginAfter s.silent g n
+    → ((w : Gap) → last_at s.silent n ≡ Some w → w.from ≤ g) → KnowsGaps set t (g + 1) level.phi level.gap → GapsLowered set t g level (with_silence level g (last_at s.silent n))
+GapsLowered-with_silence set t s a n g level start positive long later begun known = go (last_at s.silent n) refl where
+  go : (o : Option Gap) → last_at s.silent n ≡ o → GapsLowered set t g level (with_silence level g o)
+  go None e = subst (λ (l : Level). GapsLowered set t g level l) (with_gap-none level 0 g positive) (GapsLowered-with_longest set t g 0 g level (IsLongestFrom-none set t s a n g long later e) known)
+  go (Some w) e = GapsLowered-with_longest set t g w.proc (w.to + 1) level (IsLongestFrom-top set t s a n g w start long later e (begun w e)) known

@@ -1,0 +1,95 @@
+-- One tick back: the level of the tick from that of the next one, and the levels of all.
+use Rattle.std.proofs.Common.{ℕ, ◌≡◌, ◌+◌, ◌<◌, ◌≤◌, List, [], ◌∷◌, length, Some, None, arith}
+use Rattle.std.proofs.lemmas.Option.{slice_get_within}
+use Rattle.step_trace.specs.declared.rows.Gap.{Gap}
+use Rattle.step_trace.specs.Traces.{Recorded}
+use Rattle.step_trace.specs.Ticks.{IsTrace}
+use Rattle.suffix_staircase.specs.declared.levels.Level.{Level}
+use Rattle.suffix_staircase.specs.Levels.{StandsBefore, CanStandBefore}
+use Rattle.suffix_staircase.specs.Analysis.{KnowsGaps, AreLevels}
+use Rattle.suffix_staircase.proofs.GapBounds.{GapsLowered}
+use Rattle.suffix_staircase.proofs.LevelBounds.{StandsBefore-itself, CanStandBefore-through, IsLevelAt-from_known, AreLevelsFrom-before, AreLevelsFrom-after_all, AreLevels-from_first, KnowsGaps-after_all}
+use Rattle.chunk_join.specs.declared.summaries.Message.{Message}
+use Rattle.chunk_join.specs.Summaries.{Summary, IsSummary}
+use Rattle.chunk_join.specs.Finishes.{last_at, with_silence, SentFrom, BeginAfter, HasMissesFrom, IsGoneOver}
+use Rattle.chunk_join.proofs.MessagesBack.{StandsBefore-through, HasMissesFrom-all, KnowsMisses-from_left}
+use Rattle.chunk_join.proofs.SilencesBack.{StandsBefore-with_silence, GapsLowered-with_silence}
+
+-- Before any tick is gone over there is no level.
+pub IsGoneOver-none : (part : Summary) (level : Level) → level.delta ≡ 1 → level.miss ≡ None → level.phi ≡ 1 → level.gap ≡ None → IsGoneOver part (part.to + 1) (length part.sent) (length part.silent) level []
+IsGoneOver-none part level d m f w = record {
+  count = let e : 0 + (part.to + 1) ≡ part.to + 1 = omega arith in e;
+  messages_within = omega arith;
+  silences_within = omega arith;
+  positive = omega (arith, f);
+  falling = tt;
+  sent = λ k x l h. absurd (let i = slice_get_within part.sent k x h in omega (arith, i, l));
+  silent = λ k x l h. absurd (let i = slice_get_within part.silent k x h in omega (arith, i, l));
+  misses = HasMissesFrom-all part level d m;
+  ticks = record {
+    gaps = λ set t sound a. (let e = a.to in rw (f, w, e) (KnowsGaps-after_all set t));
+    each = λ set t sound a. (let e = a.to in rw e (AreLevelsFrom-after_all set t));
+  };
+}
+
+-- What is known once the messages and silences of tick g were gone over, but for the longest gap from g on: `old` is
+-- the level of the next tick, and `mid` has the misses of the messages of g.
+pub record IsTickRead (part : Summary) (g messages silences : ℕ) (old mid : Level) : Type 0 where
+  pub start : 1 ≤ g
+  pub messages_within : messages ≤ length part.sent
+  pub silences_within : silences ≤ length part.silent
+  pub falling : StandsBefore mid old
+  pub phi : mid.phi ≡ old.phi
+  pub gap : mid.gap ≡ old.gap
+  pub sent : SentFrom part.sent g messages
+  pub earlier : (m : Message) → last_at part.sent messages ≡ Some m → m.sent.tick < g
+  pub misses : HasMissesFrom part messages mid
+  pub silent : BeginAfter part.silent g silences
+  pub begun : (w : Gap) → last_at part.silent silences ≡ Some w → w.from ≤ g
+
+-- the level with the longest gap from the tick on may stand before those so far, and is the tick's
+pub record IsTickBack (part : Summary) (g messages silences : ℕ) (new : Level) (levels : List Level) : Type 0 where
+  pub falling : CanStandBefore new levels
+  pub known : IsGoneOver part g messages silences new (new ∷ levels)
+
+pub IsTickBack-read : (part : Summary) (g m s n o : ℕ) (old mid : Level) (levels : List Level) → IsGoneOver part (g + 1) m s old levels → IsTickRead part g n o old mid
+    → IsTickBack part g n o (with_silence mid g (last_at part.silent o)) levels
+IsTickBack-read part g m s n o old mid levels known read = record {
+  falling = CanStandBefore-through new old levels falling known.falling;
+  known = record {
+    count = let c = known.count in omega (arith, c);
+    messages_within = read.messages_within;
+    silences_within = read.silences_within;
+    positive = let a = falling.phi in let b = known.positive in omega (arith, a, b);
+    falling = StandsBefore-itself new;
+    sent = read.sent;
+    silent = read.silent;
+    misses = λ set t sound a. (let l = lowered set t sound a in let d = l.delta in let w = l.miss in rw (d, w) (read.misses set t sound a));
+    ticks = record {
+      gaps = λ set t sound a. (lowered set t sound a).gaps;
+      each = λ set t sound a. (let l = lowered set t sound a in
+          let d = l.delta in
+          let w = l.miss in
+          AreLevelsFrom-before set t g new levels
+          (IsLevelAt-from_known set t g new read.start (rw (d, w) (KnowsMisses-from_left part g n mid read.messages_within read.sent read.earlier read.misses set t sound a)) l.gaps)
+          (known.ticks.each set t sound a));
+    };
+  };
+} where
+  new : Level
+  new = with_silence mid g (last_at part.silent o)
+
+  falling : StandsBefore new old
+  falling = StandsBefore-through new mid old (StandsBefore-with_silence mid g (last_at part.silent o)) read.falling
+
+  positive : 1 ≤ mid.phi
+  positive = let a = read.phi in let b = known.positive in omega (arith, a, b)
+
+  lowered : (set : ℕ) (t : Recorded) → IsTrace t → IsSummary set t 0 t.last part → GapsLowered set t g mid new
+  lowered set t sound a =
+      let gaps : KnowsGaps set t (g + 1) mid.phi mid.gap = (let p = read.phi in let q = read.gap in rw (p, q) (known.ticks.gaps set t sound a)) in
+      GapsLowered-with_silence set t part a o g mid read.start positive read.silences_within read.silent read.begun gaps
+
+-- From the first tick on they are the levels of the trace.
+pub AreLevels-gone_over : (part : Summary) (messages silences : ℕ) (level : Level) (levels : List Level) → IsGoneOver part 1 messages silences level levels → (set : ℕ) (t : Recorded) → IsTrace t → IsSummary set t 0 t.last part → AreLevels set t levels
+AreLevels-gone_over part messages silences level levels known set t sound a = AreLevels-from_first set t levels (known.ticks.each set t sound a)

@@ -1,0 +1,273 @@
+//! The bounds of a trace, found by several threads.
+
+ghost use Rattle.std.specs.Prelude.{◌≡◌, ◌≢◌, ◌↔◌, ◌+◌, ◌-◌, ◌<◌, ◌≤◌, ℕ, length, slice_get, Some, IfOk, OnOk, IfErr};
+ghost use Rattle.step_trace.specs.declared.traces.TheConstants.{MAX_TICKS};
+ghost use Rattle.step_trace.specs.Ticks.{IsTrace};
+ghost use Rattle.step_trace.specs.Processors.{IsWithin};
+ghost use Rattle.step_trace.specs.Traces.{Recorded};
+ghost use Rattle.suffix_staircase.specs.Analysis.{AreLevels};
+ghost use Rattle.chunk_join.specs.declared.analyses.Share.{Share};
+ghost use Rattle.chunk_join.specs.declared.analyses.AnalyseError.{AnalyseError};
+ghost use Rattle.chunk_join.specs.Analyses.{AreBadWorkers, ArePromised, IsPieceOf, IsShare, cut};
+
+use crate::joins::Joined;
+use crate::pieces::Piece;
+use std::alloc::{AllocError, Global};
+use std::snapshot::Snapshot;
+use std::sync::Wait;
+use std::thread;
+use std::thread::{Promise, PromisedHandle, Threads};
+use step_trace::{Gate, ProcSet, Trace};
+use suffix_staircase::Stairs;
+
+/// The greatest number of workers.
+pub const MAX_WORKERS: u64 = 64;
+
+/// Why a trace was not analysed. Of several causes the one that stands first here is told.
+#[derive(Clone, Copy, Debug, PartialEq, Eq)]
+pub enum AnalyseError {
+    /// The number of workers isn't from 1 to `MAX_WORKERS`.
+    BadWorkers,
+    /// The gate held a worker back.
+    Held,
+    /// A thread couldn't be started.
+    Start,
+    /// There was no memory.
+    Memory,
+}
+
+/// Why a worker gave no piece, or all of them together gave none.
+#[derive(Clone, Copy, Debug)]
+enum Stop {
+    Held,
+    Start,
+    Memory,
+}
+
+/// A worker's share: the ticks `from` to `to`.
+#[derive(Clone, Copy, Debug)]
+struct Share {
+    from: u64,
+    to: u64,
+}
+
+/// What a worker promises: the piece of its share of a trace, if any.
+#[derive(Drop)]
+struct PieceOf {
+    set: ProcSet,
+    trace: Snapshot<Trace>,
+    share: Share,
+}
+
+impl Promise<Result<Piece, Stop>> for PieceOf {
+    ghost use Rattle.std.specs.Prelude.{◌-◌, IfOk};
+    ghost use Rattle.chunk_join.specs.Analyses.{IsPieceOf};
+
+    ghost kept_by = { λ promise result. IfOk result (λ piece. IsPieceOf promise.set promise.trace.value (promise.share.from - 1) promise.share.to piece) };
+}
+
+/// The level of each tick of a trace, where the members of a set count as correct, found by so many workers. Each
+/// has a thread of its own, enters the gate before its work, and summarises its share of the ticks; all shares
+/// are as long, or one tick longer than others.
+///
+/// Waits for all workers that were started. Refuses in the order of `AnalyseError`.
+pub fn analyse<R: Threads + Wait + Sync, G: Gate>(
+    rt: &R,
+    alloc: Global,
+    trace: &Trace,
+    set: ProcSet,
+    workers: u64,
+    gate: &G,
+) -> Result<Stairs, AnalyseError>
+    requires { IsWithin set trace.now.config.n }
+    ensures stairs { IfOk result (λ stairs. AreLevels set trace.now stairs) }
+    ensures ok { OnOk result (¬ AreBadWorkers workers) }
+    ensures workers { IfErr result (λ why. (why ≡ AnalyseError.BadWorkers) ↔ AreBadWorkers workers) }
+{
+    if workers == 0 || workers > MAX_WORKERS {
+        return Err(AnalyseError::BadWorkers);
+    }
+    let ticks = ticks_of(trace);
+    match piece_of_all(rt, alloc, trace, ticks, &set, workers, gate) {
+        Ok(whole) => stairs_of_whole(alloc, trace, set, &whole),
+        Err(stop) => Err(refused(stop)),
+    }
+}
+
+/// The number of a trace's ticks.
+fn ticks_of(trace: &Trace) -> u64
+    ensures value { result ≡ trace.now.last }
+    ensures limit { result ≤ MAX_TICKS }
+    ensures sound { IsTrace trace.now }
+{
+    // Both calls together say that the trace is one.
+    let _steps = trace.len();
+    trace.last_tick()
+}
+
+/// The stairs of the piece of all ticks.
+fn stairs_of_whole(
+    alloc: Global,
+    trace: &Trace,
+    set: ProcSet,
+    whole: &Piece,
+) -> Result<Stairs, AnalyseError>
+    requires piece { IsPieceOf set trace.now 0 trace.now.last whole.now }
+    requires sound { IsTrace trace.now }
+    ensures stairs { IfOk result (λ stairs. AreLevels set trace.now stairs) }
+    ensures memory { IfErr result (λ why. why ≡ AnalyseError.Memory) }
+{
+    // It begins with tick 1, so that only memory can be wanting.
+    match whole.finish(alloc) {
+        Ok(stairs) => Ok(stairs),
+        Err(_) => Err(AnalyseError::Memory),
+    }
+}
+
+/// The piece of all ticks, from the workers.
+fn piece_of_all<R: Threads + Wait + Sync, G: Gate>(
+    rt: &R,
+    alloc: Global,
+    trace: &Trace,
+    ticks: u64,
+    set: &ProcSet,
+    workers: u64,
+    gate: &G,
+) -> Result<Piece, Stop>
+    requires some { 1 ≤ workers }
+    requires few { workers ≤ MAX_WORKERS }
+    requires ticks { ticks ≡ trace.now.last }
+    requires limit { ticks ≤ MAX_TICKS }
+    ensures { IfOk result (λ piece. IsPieceOf set.now trace.now 0 trace.now.last piece) }
+{
+    thread::scope(
+        thread::scope_env(),
+        rt,
+        |scope| -> Result<Piece, Stop>
+            requires some { 1 ≤ workers }
+            requires few { workers ≤ MAX_WORKERS }
+            requires ticks { ticks ≡ trace.now.last }
+            requires limit { ticks ≤ MAX_TICKS }
+            ensures { IfOk result (λ piece. IsPieceOf set.entry.now trace.entry.now 0 trace.entry.now.last piece) }
+        {
+            let Ok(mut threads) = Vec::with_capacity(alloc, workers as usize) else {
+                return Err(Stop::Memory);
+            };
+            for worker in 1..workers + 1 {
+                let share = Share::of(ticks, worker, workers);
+                let promise = PieceOf {
+                    set: *set,
+                    trace: Snapshot::of(trace),
+                    share,
+                };
+                let work = move || -> Result<Piece, Stop>
+                    requires low { 1 ≤ share.from }
+                    requires order { share.from ≤ share.to + 1 }
+                    requires high { share.to ≤ trace.now.last }
+                    ensures { IfOk result (λ piece. IsPieceOf set.entry.now trace.entry.now (share.from - 1) share.to piece) }
+                { piece_of(alloc, trace, *set, share, gate, worker) };
+                let Ok(thread) = scope.spawn_with(promise, work) else {
+                    return Err(unstarted(joined(rt, threads)));
+                };
+                threads.push_reserved(thread);
+            }
+            joined(rt, threads)
+        },
+    )
+}
+
+impl Share {
+    /// The share of a worker, of so many workers and ticks.
+    fn of(ticks: u64, worker: u64, workers: u64) -> Share
+        requires low { 1 ≤ worker }
+        requires high { worker ≤ workers }
+        requires few { workers ≤ MAX_WORKERS }
+        requires ticks { ticks ≤ MAX_TICKS }
+        ensures share { IsShare ticks workers worker result }
+        ensures order { result.from ≤ result.to + 1 }
+        ensures within { result.to ≤ ticks }
+    {
+        Share {
+            from: (worker - 1) * ticks / workers + 1,
+            to: worker * ticks / workers,
+        }
+    }
+}
+
+/// The piece of a worker's share, once the gate lets it in.
+fn piece_of<G: Gate>(
+    alloc: Global,
+    trace: &Trace,
+    set: ProcSet,
+    share: Share,
+    gate: &G,
+    worker: u64,
+) -> Result<Piece, Stop>
+    requires low { 1 ≤ share.from }
+    requires order { share.from ≤ share.to + 1 }
+    requires high { share.to ≤ trace.now.last }
+    ensures { IfOk result (λ piece. IsPieceOf set trace.now (share.from - 1) share.to piece) }
+{
+    if !gate.enter(worker) {
+        return Err(Stop::Held);
+    }
+    match Piece::of(alloc, trace, set, share.from, share.to) {
+        Ok(piece) => Ok(piece),
+        Err(AllocError) => Err(Stop::Memory),
+    }
+}
+
+/// The pieces of these threads joined in their order, once all have ended.
+fn joined<R: Threads>(
+    rt: &R,
+    threads: Vec<PromisedHandle<Result<Piece, Stop>, PieceOf>>,
+) -> Result<Piece, Stop>
+    ensures { IfOk result (λ piece. (set : ℕ) (trace : Recorded) (workers : ℕ) → 0 < workers → ArePromised set trace workers threads.items → IsPieceOf set trace 0 (cut trace.last workers (length threads.items)) piece) }
+{
+    let mut all = Ok(Piece::unit());
+    for thread in threads {
+        all = both(all, thread.join(rt));
+    }
+    all
+}
+
+/// Two pieces joined, or the gravest reason against it.
+fn both(left: Result<Piece, Stop>, right: Result<Piece, Stop>) -> Result<Piece, Stop>
+    ensures { IfOk result (λ piece. (set : ℕ) (trace : Recorded) (i j k : ℕ) → IfOk left (IsPieceOf set trace i j) → IfOk right (IsPieceOf set trace j k) → IsPieceOf set trace i k piece) }
+{
+    match (left, right) {
+        (Ok(left), Ok(right)) => match left.join(right) {
+            Ok(piece) => Ok(piece),
+            Err(_) => Err(Stop::Memory),
+        },
+        (Err(one), Err(other)) => Err(graver(one, other)),
+        (Err(stop), Ok(_)) | (Ok(_), Err(stop)) => Err(stop),
+    }
+}
+
+/// What is told where a thread couldn't be started, beside what the others ended with.
+fn unstarted(others: Result<Piece, Stop>) -> Stop {
+    match others {
+        Ok(_) => Stop::Start,
+        Err(stop) => graver(stop, Stop::Start),
+    }
+}
+
+/// The one that is told of two.
+fn graver(one: Stop, other: Stop) -> Stop {
+    match (one, other) {
+        (Stop::Held, _) | (_, Stop::Held) => Stop::Held,
+        (Stop::Start, _) | (_, Stop::Start) => Stop::Start,
+        (Stop::Memory, Stop::Memory) => Stop::Memory,
+    }
+}
+
+fn refused(stop: Stop) -> AnalyseError
+    ensures { result ≢ AnalyseError.BadWorkers }
+{
+    match stop {
+        Stop::Held => AnalyseError::Held,
+        Stop::Start => AnalyseError::Start,
+        Stop::Memory => AnalyseError::Memory,
+    }
+}

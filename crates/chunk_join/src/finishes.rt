@@ -1,0 +1,166 @@
+//! The stairs of a piece that begins with tick 1.
+
+ghost use Rattle.std.specs.Prelude.{◌≡◌, ◌+◌, ◌<◌, ◌≤◌, ◌↔◌, ℕ, length, Some, None, slice_get, IfOk, OnOk, OnErr, IfErr};
+ghost use Rattle.step_trace.specs.declared.rows.Gap.{Gap};
+ghost use Rattle.step_trace.specs.declared.traces.TheConstants.{MAX_TICKS};
+ghost use Rattle.step_trace.specs.Ticks.{IsTrace};
+ghost use Rattle.step_trace.specs.Traces.{Recorded};
+ghost use Rattle.suffix_staircase.specs.Analysis.{AreLevels};
+ghost use Rattle.suffix_staircase.specs.Levels.{StandsBefore};
+ghost use Rattle.chunk_join.specs.declared.summaries.Message.{Message};
+ghost use Rattle.chunk_join.specs.declared.finishes.FinishError.TheVariants.{NotWhole};
+ghost use Rattle.chunk_join.specs.Summaries.{Whole, IsPiece, IsSummary};
+ghost use Rattle.chunk_join.specs.Prefixes.{prefix};
+ghost use Rattle.chunk_join.specs.Finishes.{BeginsWithFirst, last_at, missed, with_missed, with_silence, KeepsMisses};
+
+use crate::parts::Part;
+use crate::pieces::Piece;
+use crate::summaries::{Fate, Message, Place, after, last_of};
+use std::alloc::{AllocError, Global};
+use step_trace::{Gap, Miss};
+use suffix_staircase::{Level, StairBuilder, Stairs, note_gap, note_miss};
+
+/// Why a piece has no stairs, in the order in which the reasons are tested.
+#[derive(Clone, Copy, Debug, PartialEq, Eq)]
+pub enum FinishError {
+    /// It doesn't begin in tick 1.
+    NotWhole,
+    /// There was no memory for the stairs.
+    Memory,
+}
+
+impl Piece {
+    /// The stairs of a piece that begins with tick 1: those of `Stairs::of_trace` for the trace up to the piece's
+    /// end. The unit has no levels.
+    ///
+    /// It takes time that grows with the piece's ticks, messages and silences. Of pieces that were joined though they
+    /// are not of one trace it gives some stairs.
+    pub fn finish(&self, alloc: Global) -> Result<Stairs, FinishError>
+        ensures stairs { IfOk result (λ stairs. (whole : Whole) (k : ℕ) → IsPiece whole 0 k self.now → AreLevels whole.set (prefix whole.trace k) stairs) }
+        ensures whole { IfOk result (λ stairs. (whole : Whole) → IsPiece whole 0 whole.trace.last self.now → AreLevels whole.set whole.trace stairs) }
+        ensures begins { OnOk result (BeginsWithFirst self.now) }
+        ensures not_whole { IfErr result (λ why. (why ≡ NotWhole) ↔ ¬ BeginsWithFirst self.now) }
+        ensures some { OnErr result (¬ (self.now ≡ None)) }
+    {
+        match &self.part {
+            None => Ok(StairBuilder::new(alloc).build()),
+            Some(part) => {
+                if part.from != 1 {
+                    return Err(FinishError::NotWhole);
+                }
+                match stairs_of(alloc, part) {
+                    Ok(stairs) => Ok(stairs),
+                    Err(_) => Err(FinishError::Memory),
+                }
+            }
+        }
+    }
+}
+
+// The stairs of a part that is a whole trace: its messages and its silences are gone over from the last ones back.
+fn stairs_of(alloc: Global, part: &Part) -> Result<Stairs, AllocError>
+    ensures { IfOk result (λ stairs. (set : ℕ) (trace : Recorded) → IsTrace trace → IsSummary set trace 0 trace.last part.now → AreLevels set trace stairs) }
+{
+    let mut builder = StairBuilder::new(alloc);
+    let mut level = Level {
+        delta: 1,
+        miss: None,
+        phi: 1,
+        gap: None,
+    };
+    let mut messages = part.sent.len();
+    let mut silences = part.silent.len();
+    for g in (1..part.to + 1).rev() {
+        messages = note_messages(&mut level, part, messages, g);
+        silences = begun_by(&part.silent, silences, g);
+        note_silence(&mut level, last_at(&part.silent, silences), g);
+        builder.lower(level)?;
+    }
+    Ok(builder.build())
+}
+
+// Takes the misses of the messages of tick `g`, which are the last of the first `count`, into the level, and gives how
+// many messages come before them.
+fn note_messages(level: &mut Level, part: &Part, count: usize, g: u64) -> usize
+    requires { count ≤ length part.now.sent }
+    ensures within { result ≤ count }
+    ensures falling { StandsBefore level.new level.old }
+    ensures phi { level.new.phi ≡ level.old.phi }
+    ensures gap { level.new.gap ≡ level.old.gap }
+    ensures later { (k : ℕ) (m : Message) → result ≤ k → k < count → slice_get part.now.sent k ≡ Some m → g ≤ m.sent.tick }
+    ensures earlier { (m : Message) → last_at part.now.sent result ≡ Some m → m.sent.tick < g }
+    ensures misses { KeepsMisses part.now count level.old result level.new }
+{
+    for k in (0..count).rev() {
+        let message = &part.sent[k];
+        if message.sent.tick < g {
+            return k + 1;
+        }
+        note_message(level, message, missed(&part.last, message), part.to);
+    }
+    0
+}
+
+// The last Receive that misses the message.
+fn missed(last: &[Option<Place>], message: &Message) -> Option<Place>
+    ensures { result ≡ missed last.now message.now }
+{
+    match message.fate {
+        Fate::Open => after(message.sent, last_of(last, message.to)),
+        Fate::Taken { missed } => missed,
+    }
+}
+
+// Takes this miss of the message into the level. No miss ends after tick `end`, which is the part's last.
+fn note_message(level: &mut Level, message: &Message, missed: Option<Place>, end: u64)
+    requires { end ≤ MAX_TICKS }
+    ensures { level.new ≡ with_missed end level.old message.now missed }
+{
+    if let Some(place) = missed {
+        let long = place.tick.min(end).saturating_sub(message.sent.tick);
+        let miss = Miss {
+            sent: message.sent.no,
+            missed: place.no,
+        };
+        note_miss(level, miss, long);
+    }
+}
+
+// How many of the first `count` silences there are up to the last one that begins at tick `g` or before.
+fn begun_by(silent: &[Gap], count: usize, g: u64) -> usize
+    requires { count ≤ length silent.now }
+    ensures within { result ≤ count }
+    ensures later { (k : ℕ) (w : Gap) → result ≤ k → k < count → slice_get silent.now k ≡ Some w → g < w.from }
+    ensures begun { (w : Gap) → last_at silent.now result ≡ Some w → w.from ≤ g }
+{
+    for k in (0..count).rev() {
+        if silent[k].from <= g {
+            return k + 1;
+        }
+    }
+    0
+}
+
+// The last of the first `count` silences.
+fn last_at(silent: &[Gap], count: usize) -> Option<Gap>
+    requires { count ≤ length silent.now }
+    ensures { result ≡ last_at silent.now count }
+{
+    if count == 0 {
+        None
+    } else {
+        Some(silent[count - 1])
+    }
+}
+
+// Takes the gap that a silence has from tick `g` on into the level.
+fn note_silence(level: &mut Level, silence: Option<Gap>, g: u64)
+    requires positive { 1 ≤ level.old.phi }
+    requires from { 1 ≤ g }
+    requires end { (w : Gap) → silence ≡ Some w → w.to ≤ MAX_TICKS }
+    ensures { level.new ≡ with_silence level.old g silence }
+{
+    if let Some(silence) = silence {
+        note_gap(level, silence.proc, g, silence.to + 1);
+    }
+}

@@ -1,0 +1,90 @@
+//! The steps of a tick of a trace, which follow one another by number.
+
+ghost use Rattle.std.specs.Prelude.{◌+◌, ◌≤◌, length};
+ghost use Rattle.step_trace.specs.Ticks.{IsTrace};
+ghost use Rattle.chunk_join.specs.TickSteps.{AreStepsBefore, IsMessageAt, IsReceiverAt, AreStepping};
+
+use step_trace::{Act, ProcSet, Trace};
+
+/// How many steps come before a tick, by bisection.
+pub(crate) fn steps_before(trace: &Trace, tick: u64) -> u64
+    ensures { AreStepsBefore trace.now tick result }
+{
+    let mut low = 0;
+    let mut high = trace.len() as u64;
+    while low < high {
+        let middle = low + (high - low) / 2;
+        if trace.tick(middle + 1) < tick {
+            low = middle + 1;
+        } else {
+            high = middle;
+        }
+    }
+    low
+}
+
+/// How many steps come up to a tick, of which this many come before it.
+pub(crate) fn steps_through(trace: &Trace, tick: u64, before: u64) -> u64
+    requires { AreStepsBefore trace.now tick before }
+    ensures next { AreStepsBefore trace.now (tick + 1) result }
+    ensures sound { IsTrace trace.now }
+{
+    if trace.last_tick() <= tick {
+        return trace.len() as u64;
+    }
+    for no in before..trace.len() as u64 {
+        if tick < trace.tick(no + 1) {
+            return no;
+        }
+    }
+    trace.len() as u64
+}
+
+/// Where the step of this number is a message between members, its destination.
+pub(crate) fn destination(trace: &Trace, set: ProcSet, no: u64) -> Option<u64>
+    ensures { IsMessageAt set trace.now.steps no result }
+{
+    let Some(step) = trace.step(no) else {
+        return None;
+    };
+    if !set.contains(step.proc) {
+        return None;
+    }
+    match &step.act {
+        Act::Send { to } => set.contains(*to).then_some(*to),
+        Act::Receive { .. } => None,
+    }
+}
+
+/// Where the step of this number is a Receive of a member, the member.
+pub(crate) fn receiver(trace: &Trace, set: ProcSet, no: u64) -> Option<u64>
+    ensures { IsReceiverAt set trace.now.steps no result }
+{
+    let Some(step) = trace.step(no) else {
+        return None;
+    };
+    if !set.contains(step.proc) {
+        return None;
+    }
+    match &step.act {
+        Act::Send { .. } => None,
+        Act::Receive { .. } => Some(step.proc),
+    }
+}
+
+/// The members that have one of the steps after number `before` up to number `end`.
+pub(crate) fn stepping(trace: &Trace, set: ProcSet, before: u64, end: u64) -> ProcSet
+    requires order { before ≤ end }
+    requires within { end ≤ length trace.now.steps }
+    ensures { AreStepping set trace.now.steps before end result }
+{
+    let mut stepping = ProcSet::empty();
+    for no in before..end {
+        if let Some(step) = trace.step(no + 1) {
+            if set.contains(step.proc) {
+                stepping = stepping.with(step.proc);
+            }
+        }
+    }
+    stepping
+}
