@@ -3,7 +3,7 @@ pub mod ReasonOrder
 pub mod StepFacts
 pub mod ReceiveNotes
 pub mod WaitedReceives
-pub mod FilledLists
+pub mod NextSteps
 pub mod SilenceSteps
 pub mod SilentGaps
 pub mod LongerWitnesses

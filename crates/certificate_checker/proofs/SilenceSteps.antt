@@ -1,71 +1,58 @@
--- What is known of the next steps of a processor from the ticks on that were gone over.
-use Rattle.std.proofs.Common.{ℕ, ◌≡◌, ◌≢◌, ◌+◌, ◌<◌, inl, inr, List, IsTrue, length, get_or, set, refl, ap, sym, subst, ◌∙◌, arith, replicate, get_or-set_same, get_or-set_other}
-use Rattle.std.proofs.lemmas.Bool.{cases_eq, cases_lt}
-use Rattle.std.proofs.lemmas.List.{get_or-replicate, length-replicate, length-set}
+-- The ticks of the steps of a processor, as the steps are gone over.
+use Rattle.std.proofs.Common.{ℕ, ◌≡◌, ◌≢◌, ◌+◌, ◌-◌, ◌<◌, ◌≤◌, inl, inr, List, [], ◌∷◌, ◌++◌, IsTrue, length, get_or, set, refl, ap, sym, subst, ◌∙◌, arith, get_or-set_same, get_or-set_other}
+use Rattle.std.specs.Prelude.{All, Contains}
+use Rattle.std.specs.List.Sorted.{IsNonDecreasing}
+use Rattle.std.proofs.lemmas.Bool.{cases_eq}
+use Rattle.std.proofs.lemmas.List.{length-set}
+use Rattle.std.proofs.lemmas.List.Elements.{All-nil, All-push, Contains-push, Contains-append_left}
+use Rattle.std.proofs.lemmas.List.Sorted.{IsNonDecreasingBy-short, IsNonDecreasingBy-push}
 use Rattle.std.proofs.lemmas.Option.{slice_get_within, slice_get_read, get_or_from_slice_get}
 use Rattle.step_trace.specs.declared.steps.Step.{Step}
 use Rattle.step_trace.specs.Processors.{has_proc}
 use Rattle.step_trace.specs.Traces.{Recorded, IsStepOf}
-use Rattle.step_trace.specs.Ticks.{tick_of, IsTimed}
+use Rattle.step_trace.specs.Ticks.{tick_of, IsTimed, StepsIn}
 use Rattle.step_trace.proofs.StepPositions.{step_at_within}
-use Rattle.step_trace.proofs.TickOrder.{ticks_rise, own_ticks_rise}
+use Rattle.step_trace.proofs.TickOrder.{ticks_rise}
 use Rattle.certificate_checker.specs.declared.silences.Silence.{Silence}
-use Rattle.certificate_checker.specs.Silences.{IsNextStep, IsSilence, AreSilences, KnowsSilence, KnowsSilences, IsFilled}
+use Rattle.certificate_checker.specs.Silences.{IsSilence, AreSilences, KnowsSilence, KnowsSilences}
 use Rattle.certificate_checker.proofs.StepFacts.{same_step}
 
 -- before the first step
-pub KnowsSilence-before_all : (t : Recorded) (p : ℕ) (s : Silence) → s.next.items ≡ replicate (t.last + 1) (t.last + 1) → s.filled ≡ 0 → KnowsSilence t p 1 s
-KnowsSilence-before_all t p s e none = record {
-  long = ap length e ∙ length-replicate (t.last + 1) (t.last + 1);
-  end = omega (arith, none);
-  each = λ x l. absurd (omega (arith, l, none));
-  rest = λ x a b. ap (λ (list : List ℕ). get_or list x 0) e ∙ get_or-replicate (t.last + 1) x (t.last + 1) 0 (omega (arith, b));
-  passed = λ k l i. absurd (let inside = step_at_within t.steps k _ i.1 in omega (arith, l, inside));
-  start = λ k l i. omega (arith, none);
+pub KnowsSilence-before_all : (t : Recorded) (p : ℕ) (s : Silence) → s.ticks.items ≡ [] → KnowsSilence t p 1 s
+KnowsSilence-before_all t p s none = record {
+  rising = IsNonDecreasingBy-short (λ x. x) s.ticks.items (let l = ap length none in omega (arith, l));
+  own = subst (λ (xs : List ℕ). All (λ x. StepsIn t x p) xs) (sym none) (All-nil (λ x. StepsIn t x p));
+  each = λ k l i. absurd (let inside = step_at_within t.steps k _ i.1 in omega (arith, l, inside));
+  rest = λ k l i. subst (λ (xs : List ℕ). All (λ x. x ≤ tick_of t k) xs) (sym none) (All-nil (λ x. x ≤ tick_of t k));
 }
 
 -- over a step of another processor nothing changes
 KnowsSilence-other : (t : Recorded) (p number : ℕ) (s : Silence) → (¬ IsStepOf t.steps number p) → KnowsSilence t p number s → KnowsSilence t p (number + 1) s
 KnowsSilence-other t p number s other k = record {
-  long = k.long;
-  end = k.end;
-  each = k.each;
-  rest = k.rest;
-  passed = λ j l i. elim (cases_eq j number) [
+  rising = k.rising;
+  own = k.own;
+  each = λ j l i. elim (cases_eq j number) [
     | inl e ↦ absurd (other (subst (λ (m : ℕ). IsStepOf t.steps m p) e i))
-    | inr e ↦ k.passed j (omega (arith, e, l)) i
+    | inr e ↦ k.each j (omega (arith, e, l)) i
   ];
-  start = λ j l i. k.start j (omega (arith, l)) i;
+  rest = λ j l i. k.rest j (omega (arith, l)) i;
 }
 
--- over a step of the processor the ticks up to its own have it as their next step
-pub KnowsSilence-own : (t : Recorded) (p number tick : ℕ) (old new : Silence) → IsTimed t → IsStepOf t.steps number p → tick ≡ tick_of t number → length new.next.items ≡ length old.next.items
-    → IsFilled old.filled (tick + 1) tick old.next.items new.next.items → new.filled ≡ tick + 1 → KnowsSilence t p number old → KnowsSilence t p (number + 1) new
-KnowsSilence-own t p number tick old new time own at long filled upto k =
-    let inside = time.inside number _ own.1 in
-    let below = k.start number (omega arith) own in
-    record {
-      long = long ∙ k.long;
-      end = omega (arith, inside, at, upto);
-      each = λ x l. elim (cases_lt x old.filled) [
-        | inl early ↦ subst (λ (n : ℕ). IsNextStep t p x n) (sym (filled.below x early)) (k.each x early)
-        | inr late ↦ subst (λ (n : ℕ). IsNextStep t p x n) (sym (filled.inside x late (omega (arith, l, upto)))) (record {
-          from = omega (arith, l, upto);
-          until = omega (arith, inside, at);
-          silent = λ y a b s. elim (cases_lt s.place number) [
-            | inl before ↦ (let q = k.passed s.place before s.step in let e = s.tick in omega (arith, q, e, a, late))
-            | inr after ↦ (let q = ticks_rise t time number s.place _ _ own.1 s.step.1 after in let e = s.tick in omega (arith, q, e, b, at))
-          ];
-          step = λ _. record { place = number; step = own; tick = sym at };
-        })
-      ];
-      rest = λ x a b. filled.above x (omega (arith, a, below, at, upto)) (omega (arith, a, upto)) ∙ k.rest x (omega (arith, a, below, at, upto)) b;
-      passed = λ j l i. elim (cases_eq j number) [
-        | inl e ↦ (let same = ap (tick_of t) e in omega (arith, same, at, upto))
-        | inr e ↦ (let q = k.passed j (omega (arith, e, l)) i in omega (arith, q, below, at, upto))
-      ];
-      start = λ j l i. (let q = own_ticks_rise t time number j _ _ own.1 i.1 refl (omega (arith, l)) in omega (arith, q, at, upto));
-    }
+-- over a step of the processor its tick comes last
+pub KnowsSilence-own : (t : Recorded) (p number tick : ℕ) (old new : Silence) → IsTimed t → IsStepOf t.steps number p → tick ≡ tick_of t number → new.ticks.items ≡ old.ticks.items ++ tick ∷ []
+    → KnowsSilence t p number old → KnowsSilence t p (number + 1) new
+KnowsSilence-own t p number tick old new time own at more k = record {
+  rising = subst IsNonDecreasing (sym more)
+      (IsNonDecreasingBy-push (λ x. x) old.ticks.items tick k.rising
+      (λ d some. let high = k.rest number (omega arith) own (length old.ticks.items - 1) d (omega (arith, some)) in omega (arith, high, at)));
+  own = subst (λ (xs : List ℕ). All (λ x. StepsIn t x p) xs) (sym more) (All-push (λ x. StepsIn t x p) old.ticks.items tick k.own (record { place = number; step = own; tick = sym at }));
+  each = λ j l i. subst (λ (xs : List ℕ). Contains xs (tick_of t j)) (sym more) (elim (cases_eq j number) [
+    | inl same ↦ subst (λ (x : ℕ). Contains (old.ticks.items ++ tick ∷ []) x) (at ∙ ap (tick_of t) (sym same)) (Contains-push old.ticks.items tick)
+    | inr other ↦ Contains-append_left old.ticks.items (tick ∷ []) (tick_of t j) (k.each j (omega (arith, other, l)) i)
+  ]);
+  rest = λ j l i. subst (λ (xs : List ℕ). All (λ x. x ≤ tick_of t j) xs) (sym more)
+      (All-push (λ x. x ≤ tick_of t j) old.ticks.items tick (k.rest j (omega (arith, l)) i) (let q = ticks_rise t time number j _ _ own.1 i.1 (omega (arith, l)) in omega (arith, q, at)));
+}
 
 -- a step is of one processor
 step_unique : (steps : List Step) (x p q : ℕ) → IsStepOf steps x p → IsStepOf steps x q → p ≡ q
@@ -97,19 +84,12 @@ KnowsSilences-other members t number q silences own outside k = record {
   each = λ p s member h. KnowsSilence-other t p number s (λ i. outside (subst (λ (m : ℕ). IsTrue (has_proc members m)) (step_unique t.steps number p q i own) member)) (k.each p s member h);
 }
 
--- after the last step the other ticks have no next step
+-- after the last step each tick of a step is known
 IsSilence-after_all : (t : Recorded) (p number : ℕ) (s : Silence) → length t.steps < number → KnowsSilence t p number s → IsSilence t p s
 IsSilence-after_all t p number s all k = record {
-  long = k.long;
-  each = λ x l. elim (cases_lt x s.filled) [
-    | inl early ↦ k.each x early
-    | inr late ↦ subst (λ (n : ℕ). IsNextStep t p x n) (sym (k.rest x late l)) (record {
-      from = omega (arith, l);
-      until = omega arith;
-      silent = λ y a b w. (let inside = step_at_within t.steps w.place _ w.step.1 in let q = k.passed w.place (omega (arith, inside, all)) w.step in let e = w.tick in omega (arith, q, e, a, late));
-      step = λ h. absurd (omega (arith, h));
-    })
-  ];
+  rising = k.rising;
+  own = k.own;
+  each = λ x w. subst (λ (y : ℕ). Contains s.ticks.items y) w.tick (let inside = step_at_within t.steps w.place _ w.step.1 in k.each w.place (omega (arith, inside, all)) w.step);
 }
 
 pub AreSilences-after_all : (members : ℕ) (t : Recorded) (number : ℕ) (silences : List Silence) → length t.steps < number → KnowsSilences members t number silences → AreSilences members t silences

@@ -23,7 +23,7 @@ pub(crate) fn is_gap(trace: &Trace, set: ProcSet, silences: &[Silence], gap: Gap
     if gap.to < gap.from || trace.last_tick() < gap.to {
         return false;
     }
-    gap.to < silences[gap.proc as usize].end(gap.from)
+    gap.to < silences[gap.proc as usize].end(trace, gap.from)
 }
 
 /// Of the gaps that begin in tick `from` the longest, and of these that of the least processor.
@@ -43,7 +43,7 @@ pub(crate) fn longest_gap_at(
     let mut end = from;
     for p in 1..trace.config().n() + 1 {
         if set.contains(p) {
-            let next = silences[p as usize].end(from);
+            let next = silences[p as usize].end(trace, from);
             if end < next {
                 proc = p;
                 end = next;

@@ -1,93 +1,77 @@
-//! The next step of each member of a set from each tick on.
+//! The silences of the members of a set, by the ticks in which each of them takes steps.
 
-ghost use Rattle.std.specs.Prelude.{◌≡◌, ◌+◌, ◌<◌, ◌≤◌, length, slice_index, IfOk, IsTrue};
+ghost use Rattle.std.specs.Prelude.{ℕ, ◌≡◌, ◌+◌, ◌≤◌, ◌++◌, ◌∷◌, [], length, IfOk, OnOk};
 ghost use Rattle.step_trace.specs.declared.traces.TheConstants.{MAX_TICKS};
-ghost use Rattle.step_trace.specs.Processors.{has_proc};
-ghost use Rattle.certificate_checker.specs.Silences.{KnowsSilence, KnowsSilences, AreSilences, IsFilled};
+ghost use Rattle.certificate_checker.specs.Silences.{IsNextStep, IsSilence, KnowsSilences, AreSilences};
 
 use crate::step_tests::step_of;
 use std::alloc::{AllocError, Global};
 use step_trace::{ProcSet, Trace};
 
-/// The silence of one processor: for each tick, the first tick from it on in which the processor takes a step, or
-/// the tick after the last where there is none.
+/// Where one processor is silent, by the ticks in which it takes steps.
 #[derive(Debug, Drop)]
 pub(crate) struct Silence {
-    next: Vec<u32>,
-    // The ticks before this one have their next step, of the steps that were gone over.
-    filled: u64,
+    // These ticks, in their order.
+    ticks: Vec<u32>,
 }
 
 impl Silence {
-    // What is known of processor `p` before the first step: of one outside the set nothing is kept.
-    fn before_all(alloc: Global, trace: &Trace, set: ProcSet, p: u64) -> Result<Self, AllocError>
-        ensures { IfOk result (λ s. IsTrue (has_proc set p) → KnowsSilence trace.now p 1 s) }
-    {
-        let end = trace.last_tick() + 1;
-        let ticks = if set.contains(p) { end } else { 0 };
-        let next = vec![in alloc; end as u32; ticks as usize]?;
-        Ok(Silence { next, filled: 0 })
-    }
-
     // Goes on over a step in this tick.
-    fn note(&mut self, tick: u64)
-        requires low { self.old.filled ≤ tick }
-        requires high { tick < length self.old.next.items }
-        requires limit { tick ≤ MAX_TICKS }
-        ensures len { length self.new.next.items ≡ length self.old.next.items }
-        ensures next { IsFilled self.old.filled (tick + 1) tick self.old.next.items self.new.next.items }
-        ensures filled { self.new.filled ≡ tick + 1 }
+    fn note(&mut self, tick: u64) -> Result<(), AllocError>
+        requires { tick ≤ MAX_TICKS }
+        ensures { OnOk result (self.new.ticks.items ≡ self.old.ticks.items ++ tick ∷ []) }
     {
-        fill(&mut self.next, self.filled, tick + 1, tick as u32);
-        self.filled = tick + 1;
+        self.ticks.push(tick as u32)?;
+        Ok(())
     }
 
-    /// The first tick from `x` on in which the processor takes a step, or the tick after the last.
-    pub(crate) fn end(&self, x: u64) -> u64
-        requires { x < length self.now.next.items }
-        ensures { result ≡ slice_index self.now.next.items x }
+    /// The first tick from `x` on in which the processor takes a step, or the tick after the last of the trace.
+    pub(crate) fn end(&self, trace: &Trace, x: u64) -> u64
+        ensures { (p : ℕ) → IsSilence trace.now p self.now → x ≤ trace.now.last → IsNextStep trace.now p x result }
     {
-        u64::from(self.next[x as usize])
-    }
-}
-
-// Writes a value from one place to before another.
-fn fill(list: &mut Vec<u32>, from: u64, until: u64, value: u32)
-    requires order { from ≤ until }
-    requires inside { until ≤ length list.old.items }
-    ensures len { length list.new.items ≡ length list.old.items }
-    ensures filled { IsFilled from until value list.old.items list.new.items }
-{
-    for x in from..until {
-        list[x as usize] = value;
+        let after = trace.last_tick() + 1;
+        let passed = self
+            .ticks
+            .as_slice()
+            .partition_point(|tick| u64::from(*tick) < x);
+        if passed < self.ticks.len() {
+            u64::from(self.ticks[passed])
+        } else {
+            after
+        }
     }
 }
 
 // What is known of the members before the first step.
-fn before_all(alloc: Global, trace: &Trace, set: ProcSet) -> Result<Vec<Silence>, AllocError>
-    ensures { IfOk result (λ v. KnowsSilences set trace.now 1 v.items) }
+fn before_all(alloc: Global, trace: &Trace) -> Result<Vec<Silence>, AllocError>
+    ensures { IfOk result (λ v. (set : ℕ) → KnowsSilences set trace.now 1 v.items) }
 {
     let mut found = Vec::new(alloc);
-    for p in 0..trace.config().n() + 1 {
-        found.push(Silence::before_all(alloc, trace, set, p)?)?;
+    for _ in 0..trace.config().n() + 1 {
+        found.push(Silence {
+            ticks: Vec::new(alloc),
+        })?;
     }
     Ok(found)
 }
 
 // Goes on over a step.
-fn note(silences: &mut Vec<Silence>, trace: &Trace, set: ProcSet, no: u64)
+fn note(silences: &mut Vec<Silence>, trace: &Trace, set: ProcSet, no: u64) -> Result<(), AllocError>
     requires low { 1 ≤ no }
     requires high { no ≤ length trace.now.steps }
     requires known { KnowsSilences set trace.now no silences.old.items }
-    ensures { KnowsSilences set trace.now (no + 1) silences.new.items }
+    ensures { OnOk result (KnowsSilences set trace.now (no + 1) silences.new.items) }
 {
     let step = step_of(trace, no);
     if set.contains(step.proc) {
-        silences[step.proc as usize].note(trace.tick(no));
+        silences[step.proc as usize].note(trace.tick(no))?;
     }
+    Ok(())
 }
 
 /// The silences of the members of a set, each in the place of its number.
+///
+/// It takes memory that grows with the processors and the steps of the members, and not with the ticks.
 pub(crate) fn silences(
     alloc: Global,
     trace: &Trace,
@@ -95,9 +79,9 @@ pub(crate) fn silences(
 ) -> Result<Vec<Silence>, AllocError>
     ensures { IfOk result (λ v. AreSilences set trace.now v.items) }
 {
-    let mut found = before_all(alloc, trace, set)?;
+    let mut found = before_all(alloc, trace)?;
     for no in 1..trace.len() as u64 + 1 {
-        note(&mut found, trace, set, no);
+        note(&mut found, trace, set, no)?;
     }
     Ok(found)
 }

@@ -1,7 +1,6 @@
-use Rattle.std.proofs.Common.{ℕ, ◌≤◌, IsTrue, ◌∙◌, sym, ap, subst, arith}
+use Rattle.std.proofs.Common.{◌≤◌, IsTrue, ◌∙◌, sym, ap, arith}
 use Rattle.step_trace.specs.Configurations.{Setup}
 use Rattle.step_trace.specs.Processors.{has_proc}
-use Rattle.certificate_checker.specs.Silences.{IsNextStep}
 use Rattle.certificate_checker.proofs.SilentGaps.{silence_of, KnowsLongest-other, KnowsLongest-passed, KnowsLongest-taken}
 use Rattle.certificate_checker.proofs.gaps.longest_gap_at.Goals as goal
 use Rattle.certificate_checker.proofs.gaps.longest_gap_at.Goals.{then-contains+then-end-next, then-contains+else-end-next, else-contains}
@@ -15,11 +14,11 @@ loop-p-preserved c =
     elim c.if-contains.branch [
       | then-contains+then-end-next w ↦ (let member : IsTrue (has_proc c.args.set c.loop-p.p) = sym c.contains.ensures ∙ w.if-contains.true in
           let silence = silence_of c.args.set t c.args.silences.now c.loop-p.p w.index-silences-p.result c.requires.known member within w.index-silences-p.is in
-          let next = subst (λ (m : ℕ). IsNextStep t c.loop-p.p c.args.from m) (sym w.end-next.ensures) (silence.each c.args.from c.requires.high) in
+          let next = w.end-next.ensures c.loop-p.p silence c.requires.high in
           rw (w.proc-is, w.end-is) (KnowsLongest-taken c.args.set t c.args.from c.loop-p.p c.loop-p.proc c.loop-p.end w.end-next.result next member c.requires.low w.if-end-next.true c.loop-p.invariant))
       | then-contains+else-end-next w ↦ (let member : IsTrue (has_proc c.args.set c.loop-p.p) = sym c.contains.ensures ∙ w.if-contains.true in
           let silence = silence_of c.args.set t c.args.silences.now c.loop-p.p w.index-silences-p.result c.requires.known member within w.index-silences-p.is in
-          let next = subst (λ (m : ℕ). IsNextStep t c.loop-p.p c.args.from m) (sym w.end-next.ensures) (silence.each c.args.from c.requires.high) in
+          let next = w.end-next.ensures c.loop-p.p silence c.requires.high in
           rw (w.proc-is, w.end-is) (KnowsLongest-passed c.args.set t c.args.from c.loop-p.p c.loop-p.proc c.loop-p.end w.end-next.result next w.if-end-next.false c.loop-p.invariant))
       | else-contains w ↦ rw (w.proc-is, w.end-is)
           (KnowsLongest-other c.args.set t c.args.from c.loop-p.p c.loop-p.proc c.loop-p.end (λ member. cc (member, c.contains.ensures, w.if-contains.false)) c.loop-p.invariant)

@@ -1,20 +1,30 @@
-use Rattle.std.proofs.Common.{ℕ, IsTrue, ◌∙◌, ap, arith}
+use Rattle.std.proofs.Common.{ℕ, ◌∙◌, ap, arith}
 use Rattle.step_trace.specs.Configurations.{Setup}
-use Rattle.step_trace.specs.Processors.{has_proc}
 use Rattle.certificate_checker.specs.declared.silences.Silence.{Silence}
 use Rattle.certificate_checker.specs.Silences.{KnowsSilence}
 use Rattle.certificate_checker.proofs.SilentGaps.{pushed_long, pushed_each}
+use Rattle.certificate_checker.proofs.SilenceSteps.{KnowsSilence-before_all}
 use Rattle.certificate_checker.proofs.silences.before_all.Goals as goal
 
-pub loop-p-preserved : goal.loop-p-preserved
-loop-p-preserved c =
-    let n = c.n-p-end.ensures.value ∙ ap (λ (s : Setup). s.n) c.config.ensures in
-    let below = c.loop-p-test.true in
-    let known = c.loop-p.invariant in
+pub loop-preserved : goal.loop-preserved
+loop-preserved c =
+    let n = c.n-end.ensures.value ∙ ap (λ (s : Setup). s.n) c.config.ensures in
+    let below = c.loop-test.true in
+    let known = c.loop.invariant in
     let pushed = c.in_ok-push.ensures.items in
     record {
       end = omega (arith, below, n);
-      long = pushed_long c.loop-p.found.items c.push.new.self.items c.in_ok-before_all.field-0 c.loop-p.p pushed known.long;
-      each = λ p s member h. pushed_each (λ (q : ℕ) (x : Silence). IsTrue (has_proc c.args.set q) → KnowsSilence c.args.trace.now q 1 x) c.loop-p.found.items c.push.new.self.items c.in_ok-before_all.field-0 c.loop-p.p pushed known.long (λ q x i m. known.each q x m i)
-          c.in_ok-before_all.ensures p s h member;
+      long = pushed_long c.loop.found.items c.push.new.self.items _ c.loop.counter pushed known.long;
+      each = pushed_each (λ (q : ℕ) (x : Silence). KnowsSilence c.args.trace.now q 1 x) c.loop.found.items c.push.new.self.items _ c.loop.counter pushed known.long known.each
+          (KnowsSilence-before_all c.args.trace.now c.loop.counter _ c.new.ensures.items);
+    }
+
+pub returns : goal.returns
+returns c =
+    let n = c.n-end.ensures.value ∙ ap (λ (s : Setup). s.n) c.config.ensures in
+    let last = c.loop-test.false in
+    let known = c.loop.invariant in
+    λ set. record {
+      long = (let long = known.long in let end = known.end in omega (arith, n, last, long, end));
+      each = λ p s member h. known.each p s h;
     }

@@ -1,4 +1,4 @@
-use Rattle.std.proofs.Common.{ℕ, IsTrue, ◌∙◌, refl, sym, length, arith}
+use Rattle.std.proofs.Common.{IsTrue, ◌∙◌, refl, sym, length, arith}
 use Rattle.std.proofs.lemmas.Option.{slice_get_read}
 use Rattle.step_trace.specs.Processors.{has_proc}
 use Rattle.step_trace.specs.Traces.{IsStepOf}
@@ -6,8 +6,8 @@ use Rattle.certificate_checker.proofs.StepFacts.{with_act}
 use Rattle.certificate_checker.proofs.SilenceSteps.{KnowsSilence-own, KnowsSilences-note, KnowsSilences-other}
 use Rattle.certificate_checker.proofs.silences.note.Goals as goal
 
-pub returns-then-contains : goal.returns-then-contains
-returns-then-contains c =
+pub returns-in_ok-note : goal.returns-in_ok-note
+returns-in_ok-note c =
     let t = c.args.trace.now in
     let step = c.step_of-step.result.now in
     let silences = c.args.silences.now.items in
@@ -17,5 +17,12 @@ returns-then-contains c =
     let member : IsTrue (has_proc c.args.set step.proc) = sym c.contains.ensures ∙ c.if-contains.true in
     let before = c.requires.known.each step.proc c.index_mut.result.now member (slice_get_read silences (length silences) step.proc c.index_mut.result.now refl (omega (arith, long, within)) c.index_mut.ensures.value) in
     KnowsSilences-note c.args.set t c.args.no step.proc silences c.note.new.self own
-    (KnowsSilence-own t step.proc c.args.no c.tick.result c.index_mut.result.now c.note.new.self c.tick.ensures.timed own c.tick.ensures.value c.note.ensures.len c.note.ensures.next c.note.ensures.filled before)
+    (KnowsSilence-own t step.proc c.args.no c.tick.result c.index_mut.result.now c.note.new.self c.tick.ensures.timed own c.tick.ensures.value c.in_ok-note.ensures before)
     c.requires.known
+
+pub returns-else-contains : goal.returns-else-contains
+returns-else-contains c =
+    let t = c.args.trace.now in
+    let step = c.step_of-step.result.now in
+    let own : IsStepOf t.steps c.args.no step.proc = (step.act, with_act t.steps c.args.no step step.act c.step_of-step.ensures.step refl) in
+    KnowsSilences-other c.args.set t c.args.no step.proc c.args.silences.now.items own (λ member. cc (member, c.contains.ensures, c.if-contains.false)) c.requires.known
