@@ -1,19 +1,18 @@
 -- Rows of which a bound doesn't hold, gone over from the last one back.
-use Rattle.std.proofs.Common.{ℕ, ◌≡◌, ◌+◌, ◌-◌, ◌<◌, ◌≤◌, inl, inr, List, length, get_or, Option, Some, None, ap, subst, arith}
+use Rattle.std.proofs.Common.{ℕ, ◌≡◌, ◌+◌, ◌<◌, ◌≤◌, inl, inr, List, length, get_or, Option, Some, None, ap, subst, arith}
 use Rattle.std.proofs.lemmas.Bool.{cases_eq, cases_lt}
 use Rattle.step_trace.specs.declared.rows.Miss.{Miss}
-use Rattle.step_trace.specs.declared.rows.Gap.{Gap}
 use Rattle.step_trace.specs.declared.rows.Row.{Row}
 use Rattle.step_trace.specs.Traces.{Recorded}
 use Rattle.step_trace.specs.Ticks.{tick_of}
-use Rattle.step_trace.specs.Bounds.{DeltaHolds, PhiHolds}
-use Rattle.step_trace.proofs.BoundLaws.{MissRefutes-sound, GapRefutes-sound}
-use Rattle.step_trace.proofs.BoundDecisions.{DeltaHolds-unrefuted, PhiHolds-unrefuted}
-use Rattle.certificate_checker.specs.declared.verdicts.Reason.TheVariants.{DeltaFails, PhiFails}
-use Rattle.certificate_checker.specs.Certificates.{row_at, IsLongestGap}
+use Rattle.step_trace.specs.Bounds.{DeltaHolds}
+use Rattle.step_trace.proofs.BoundLaws.{MissRefutes-sound}
+use Rattle.step_trace.proofs.BoundDecisions.{DeltaHolds-unrefuted}
+use Rattle.certificate_checker.specs.declared.verdicts.Reason.TheVariants.{DeltaFails}
+use Rattle.certificate_checker.specs.Certificates.{row_at}
 use Rattle.certificate_checker.specs.Verdicts.{Stands}
 use Rattle.certificate_checker.specs.Searches.{IsFirstWith, AreInOrder}
-use Rattle.certificate_checker.specs.LongestWitnesses.{HasNoMissAfter, IsLongestMissAfter, HasNoGapFrom, span_of, AreFrom, AreBefore}
+use Rattle.certificate_checker.specs.LongestWitnesses.{HasNoMissAfter, IsLongestMissAfter, span_of, AreFrom, AreBefore}
 use Rattle.certificate_checker.proofs.RowSearches.{no_row, row_at_within, row_at_next, row_at_same}
 
 -- the first number after k of which this is so, with what it is so of
@@ -62,9 +61,6 @@ from_below t rows i after order inside from j r l e = AreFrom-earlier t after r.
 pub delta_row_low : (set : ℕ) (t : Recorded) (rows : List Row) (j : ℕ) (m : Miss) → Stands set t rows (DeltaFails j m) → 0 < j
 delta_row_low set t rows j m s = let w = row_at_within rows j s.0.row s.0.here in omega (arith, w)
 
-pub phi_row_low : (set : ℕ) (t : Recorded) (rows : List Row) (j : ℕ) (w : Gap) → Stands set t rows (PhiFails j w) → 0 < j
-phi_row_low set t rows j w s = let h = row_at_within rows j s.0.row s.0.here in omega (arith, h)
-
 -- the bound doesn't hold where the longest miss is as long
 pub delta_fails : (set : ℕ) (t : Recorded) (rows : List Row) (i done : ℕ) (w : Miss) → i < length rows → IsLongestMissAfter set t done w → AreFrom t done (get_or rows i no_row).gst → AreBefore t done (get_or rows i no_row).gst
     → (get_or rows i no_row).delta ≤ span_of t w → Stands set t rows (DeltaFails (i + 1) w)
@@ -109,28 +105,3 @@ delta_stands_short set t rows i done w l below short m s =
       | inr h ↦ absurd (let b = below o.sent _ r.miss.message.sent h in omega (arith, b, from))
     ]) in
     omega (arith, long, late, most, short)))
-
--- the same of gaps
-pub phi_fails : (set : ℕ) (t : Recorded) (rows : List Row) (i : ℕ) (w : Gap) → i < length rows → IsLongestGap set t (get_or rows i no_row).gst w → (get_or rows i no_row).phi ≤ w.to - w.from + 1 → Stands set t rows (PhiFails (i + 1) w)
-phi_fails set t rows i w inside l long =
-    let order = l.gap.order in (
-      record { row = get_or rows i no_row; here = row_at_next rows i no_row inside },
-      GapRefutes-sound set t _ _ w (record { gap = l.gap; from = l.from; long = omega (arith, long, order) }),
-      l,
-    )
-
-pub phi_stands_none : (set : ℕ) (t : Recorded) (rows : List Row) (i : ℕ) → HasNoGapFrom set t (get_or rows i no_row).gst → (w : Gap) → ¬ Stands set t rows (PhiFails (i + 1) w)
-phi_stands_none set t rows i none w s =
-    let same = ap (λ (r : Row). r.gst) (row_at_same rows i s.0.row no_row s.0.here) in
-    let from = s.2.from in
-    none w s.2.gap (omega (arith, from, same))
-
-pub phi_stands_short : (set : ℕ) (t : Recorded) (rows : List Row) (i : ℕ) (w : Gap) → 1 ≤ (get_or rows i no_row).gst → IsLongestGap set t (get_or rows i no_row).gst w → w.to - w.from + 1 < (get_or rows i no_row).phi
-    → (v : Gap) → ¬ Stands set t rows (PhiFails (i + 1) v)
-phi_stands_short set t rows i w low l short v s =
-    let fails = subst (λ (r : Row). ¬ PhiHolds set t r.gst r.phi) (row_at_same rows i s.0.row no_row s.0.here) s.1 in
-    fails (PhiHolds-unrefuted set t _ _ low (omega (arith, short)) (λ o r.
-    let long = r.long in
-    let order = l.gap.order in
-    let most = l.longest o r.gap r.from in
-    omega (arith, long, order, most, short)))

@@ -3,13 +3,11 @@ use Rattle.std.proofs.Common.{ℕ, length, ◌≡◌, ◌+◌, ◌-◌, ◌<◌,
 use Rattle.std.specs.Prelude.{MatchOption, nat_lt, IfSome}
 use Rattle.std.proofs.lemmas.Bool.{cases_eq, ltb-true, ltb-false}
 use Rattle.step_trace.specs.declared.rows.Miss.{Miss}
-use Rattle.step_trace.specs.declared.rows.Gap.{Gap}
 use Rattle.step_trace.specs.Traces.{Recorded}
 use Rattle.step_trace.specs.Ticks.{tick_of}
-use Rattle.step_trace.specs.Witnesses.{IsMiss, IsGap}
+use Rattle.step_trace.specs.Witnesses.{IsMiss}
 use Rattle.step_trace.proofs.StepPositions.{step_at_within}
-use Rattle.certificate_checker.specs.Certificates.{IsLongestGap}
-use Rattle.certificate_checker.specs.LongestWitnesses.{HasNoMiss, IsLastMiss, HasNoMissAfter, IsLongestMissAfter, KnowsMissesAfter, HasNoGapAt, IsLongestGapAt, HasNoGapFrom, KnowsGapsFrom, HasSpan, span_of, longer_miss, longer_gap}
+use Rattle.certificate_checker.specs.LongestWitnesses.{HasNoMiss, IsLastMiss, HasNoMissAfter, IsLongestMissAfter, KnowsMissesAfter, HasSpan, span_of, longer_miss}
 
 -- a miss has a length
 pub HasSpan-of_miss : (set : ℕ) (t : Recorded) (m : Miss) → IsMiss set t m → HasSpan t m
@@ -25,64 +23,7 @@ HasSpan-of_miss set t m i =
       order = omega (arith, late);
     }
 
--- no gap from x + 1 on and none at x
-gaps_none : (set : ℕ) (t : Recorded) (x : ℕ) → HasNoGapAt set t x → HasNoGapFrom set t (x + 1) → HasNoGapFrom set t x
-gaps_none set t x here later o g f = elim (cases_eq o.from x) [ inl e ↦ here o g e | inr e ↦ later o g (omega (arith, e, f)) ]
-
--- the longest from x + 1 on where there is none at x, or none is longer there
-gaps_kept : (set : ℕ) (t : Recorded) (x : ℕ) (w : Gap) → ((o : Gap) → IsGap set t o → o.from ≡ x → o.to + w.from ≤ w.to + o.from) → IsLongestGap set t (x + 1) w → IsLongestGap set t x w
-gaps_kept set t x w here l = let from = l.from in record {
-  gap = l.gap;
-  from = omega (arith, from);
-  longest = λ o g f. elim (cases_eq o.from x) [ inl e ↦ here o g e | inr e ↦ l.longest o g (omega (arith, e, f)) ];
-  greatest = λ o g f same. elim (cases_eq o.from x) [ inl e ↦ omega (arith, e, from) | inr e ↦ l.greatest o g (omega (arith, e, f)) same ];
-  least = l.least;
-}
-
--- the longest at x where all from x + 1 on are shorter
-gaps_new : (set : ℕ) (t : Recorded) (x : ℕ) (v : Gap) → ((o : Gap) → IsGap set t o → x < o.from → o.to + v.from < v.to + o.from) → IsLongestGapAt set t x v → IsLongestGap set t x v
-gaps_new set t x v later l = let at = l.from in record {
-  gap = l.gap;
-  from = omega (arith, at);
-  longest = λ o g f. elim (cases_eq o.from x) [
-    | inl e ↦ (let most = l.longest o g e in omega (arith, most, e, at))
-    | inr e ↦ (let short = later o g (omega (arith, e, f)) in omega (arith, short))
-  ];
-  greatest = λ o g f same. elim (cases_eq o.from x) [
-    | inl e ↦ omega (arith, e, at)
-    | inr e ↦ absurd (let short = later o g (omega (arith, e, f)) in omega (arith, short, same))
-  ];
-  least = λ o g from to. l.least o g (from ∙ at) to;
-}
-
--- the longer of the longest at x and the longest from x + 1 on
-pub KnowsGapsFrom-earlier : (set : ℕ) (t : Recorded) (x : ℕ) (v w : Option Gap) → MatchOption v (HasNoGapAt set t x) (IsLongestGapAt set t x) → KnowsGapsFrom set t (x + 1) w → KnowsGapsFrom set t x (longer_gap v w)
-KnowsGapsFrom-earlier set t x None None here later = gaps_none set t x here later
-KnowsGapsFrom-earlier set t x None (Some w) here later = gaps_kept set t x w (λ o g e. absurd (here o g e)) later
-KnowsGapsFrom-earlier set t x (Some v) None here later = gaps_new set t x v (λ o g l. absurd (later o g (omega (arith, l)))) here
-KnowsGapsFrom-earlier set t x (Some v) (Some w) here later = go (nat_lt (w.to - w.from) (v.to - v.from)) refl where
-  go : (b : Bool) → nat_lt (w.to - w.from) (v.to - v.from) ≡ b → KnowsGapsFrom set t x (cond b (Some v) (Some w))
-  go true e = gaps_new set t x v (λ o g l.
-      let short = ltb-true _ _ e in
-      let most = later.longest o g (omega (arith, l)) in
-      let a = g.order in
-      let b = later.gap.order in
-      let c = here.gap.order in
-      omega (arith, short, most, a, b, c)) here
-  go false e = gaps_kept set t x w (λ o g q.
-      let long = ltb-false _ _ e in
-      let most = here.longest o g q in
-      let at = here.from in
-      let a = g.order in
-      let b = later.gap.order in
-      let c = here.gap.order in
-      omega (arith, long, most, at, q, a, b, c)) later
-
--- past the last tick there is no gap
-pub KnowsGapsFrom-after_all : (set : ℕ) (t : Recorded) → HasNoGapFrom set t (t.last + 1)
-KnowsGapsFrom-after_all set t o g f = let order = g.order in let inside = g.inside in omega (arith, order, inside, f)
-
--- the same of misses: none after s and none of s
+-- none after s and none of s
 misses_none : (set : ℕ) (t : Recorded) (s : ℕ) → HasNoMiss set t s → HasNoMissAfter set t s → HasNoMissAfter set t (s - 1)
 misses_none set t s here later o i f = elim (cases_eq o.sent s) [ inl e ↦ here o i e | inr e ↦ later o i (omega (arith, e, f)) ]
 
@@ -137,7 +78,7 @@ KnowsMissesAfter-earlier set t s (Some v) (Some w) low here later = go (nat_lt (
 pub KnowsMissesAfter-after_all : (set : ℕ) (t : Recorded) → HasNoMissAfter set t (length t.steps)
 KnowsMissesAfter-after_all set t o i f = let sent = step_at_within t.steps o.sent _ i.message.sent in omega (arith, sent, f)
 
--- the misses and gaps that are found have a length
+-- the misses that are found have a length
 pub span_of_last : (set : ℕ) (t : Recorded) (s : ℕ) (o : Option Miss) → MatchOption o (HasNoMiss set t s) (IsLastMiss set t s) → IfSome o (HasSpan t)
 span_of_last set t s None h = tt
 span_of_last set t s (Some m) h = HasSpan-of_miss set t m h.miss
@@ -145,11 +86,3 @@ span_of_last set t s (Some m) h = HasSpan-of_miss set t m h.miss
 pub span_of_longest : (set : ℕ) (t : Recorded) (s : ℕ) (o : Option Miss) → KnowsMissesAfter set t s o → IfSome o (HasSpan t)
 span_of_longest set t s None h = tt
 span_of_longest set t s (Some m) h = HasSpan-of_miss set t m h.miss
-
-pub order_of_longest : (set : ℕ) (t : Recorded) (x : ℕ) (o : Option Gap) → KnowsGapsFrom set t x o → IfSome o (λ w. w.from ≤ w.to)
-order_of_longest set t x None h = tt
-order_of_longest set t x (Some w) h = h.gap.order
-
-pub order_of_first : (set : ℕ) (t : Recorded) (x : ℕ) (o : Option Gap) → MatchOption o (HasNoGapAt set t x) (IsLongestGapAt set t x) → IfSome o (λ w. w.from ≤ w.to)
-order_of_first set t x None h = tt
-order_of_first set t x (Some w) h = h.gap.order

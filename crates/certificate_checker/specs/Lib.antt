@@ -4,3 +4,6 @@ pub mod Searches
 pub mod Receives
 pub mod Silences
 pub mod LongestWitnesses
+pub mod LastSteps
+pub mod Closings
+pub mod LongestSilences

@@ -6,7 +6,6 @@ use Rattle.step_trace.specs.declared.steps.Step.{Step}
 use Rattle.step_trace.specs.Traces.{Recorded, step_at}
 use Rattle.step_trace.specs.Ticks.{tick_of}
 use Rattle.step_trace.specs.Witnesses.{IsMiss, IsGap}
-use Rattle.certificate_checker.specs.Certificates.{IsLongestGap}
 
 -- message s has no miss
 abbrev pub HasNoMiss : ℕ → Recorded → ℕ → Type 0
@@ -53,14 +52,6 @@ pub record IsLongestGapAt (set : ℕ) (trace : Recorded) (x : ℕ) (w : Gap) : T
   pub longest : (o : Gap) → IsGap set trace o → o.from ≡ x → o.to ≤ w.to
   pub least : (o : Gap) → IsGap set trace o → o.from ≡ x → o.to ≡ w.to → w.proc ≤ o.proc
 
--- no gap begins in tick g or later
-abbrev pub HasNoGapFrom : ℕ → Recorded → ℕ → Type 0
-HasNoGapFrom set trace g = (o : Gap) → IsGap set trace o → g ≤ o.from → ⊥
-
--- the longest gap from tick g on, or None where there is none
-abbrev pub KnowsGapsFrom : ℕ → Recorded → ℕ → Option Gap → Type 0
-KnowsGapsFrom set trace g found = MatchOption found (HasNoGapFrom set trace g) (IsLongestGap set trace g)
-
 -- two steps of the trace, of which the second isn't in an earlier tick
 pub record HasSpan (trace : Recorded) (m : Miss) : Type 0 where
   pub sent_low : 1 ≤ m.sent
@@ -78,9 +69,3 @@ abbrev pub longer_miss : Recorded → Option Miss → Option Miss → Option Mis
 longer_miss trace None w = w
 longer_miss trace (Some v) None = Some v
 longer_miss trace (Some v) (Some w) = if nat_lt (span_of trace w) (span_of trace v) then Some v else Some w
-
--- the longer of two gaps: the second where they are equally long
-abbrev pub longer_gap : Option Gap → Option Gap → Option Gap
-longer_gap None w = w
-longer_gap (Some v) None = Some v
-longer_gap (Some v) (Some w) = if nat_lt (w.to - w.from) (v.to - v.from) then Some v else Some w

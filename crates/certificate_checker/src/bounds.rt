@@ -1,14 +1,16 @@
 //! Whether the bounds of rows hold: the longest miss and the longest gap from each stabilization time on, from the
 //! last row back to the first.
 
-ghost use Rattle.std.specs.Prelude.{◌≡◌, ◌+◌, ◌<◌, ◌≤◌, length, IfSome};
+ghost use Rattle.std.specs.Prelude.{◌≡◌, ◌+◌, ◌-◌, ◌<◌, ◌≤◌, length, IfSome};
 ghost use Rattle.step_trace.specs.Processors.{IsWithin};
 ghost use Rattle.certificate_checker.specs.declared.verdicts.Reason.TheVariants.{DeltaFails, PhiFails};
-ghost use Rattle.certificate_checker.specs.LongestWitnesses.{HasSpan, span_of, longer_miss, longer_gap, KnowsMissesAfter, KnowsGapsFrom, AreFrom, AreBefore};
+ghost use Rattle.certificate_checker.specs.LongestWitnesses.{HasSpan, span_of, longer_miss, KnowsMissesAfter, AreFrom, AreBefore};
 ghost use Rattle.certificate_checker.specs.Verdicts.{Stands};
 ghost use Rattle.certificate_checker.specs.Searches.{IsFirstWith, AreInOrder};
 ghost use Rattle.certificate_checker.specs.Receives.{KnowsReceives};
 ghost use Rattle.certificate_checker.specs.Silences.{AreSilences};
+ghost use Rattle.certificate_checker.specs.Closings.{AreClosings};
+ghost use Rattle.certificate_checker.specs.LongestSilences.{IsAhead, IsLongestSilence, IsTooShort};
 
 use crate::gaps::longest_gap_at;
 use crate::receives::Receives;
@@ -105,47 +107,53 @@ pub(crate) fn first_failing_delta(
     found
 }
 
-// The longer of a gap that begins earlier and this one: this one where they are equally long.
-fn longer_gap(earlier: Option<Gap>, gap: Option<Gap>) -> Option<Gap>
-    requires earlier { IfSome earlier (λ w. w.from ≤ w.to) }
-    requires gap { IfSome gap (λ w. w.from ≤ w.to) }
-    ensures { result ≡ longer_gap earlier gap }
-{
-    let Some(new) = earlier else {
-        return gap;
-    };
-    let Some(old) = gap else {
-        return earlier;
-    };
-    if old.to - old.from < new.to - new.from {
-        earlier
-    } else {
-        gap
-    }
+/// The ticks of the longest silence from a tick on: a member takes no step from `start` to before `end`. Where they
+/// are one there is none.
+#[derive(Clone, Copy, Debug)]
+struct LongestSilence {
+    start: u64,
+    end: u64,
 }
 
-// The longest gap from tick `from` on, by that from tick `until` on.
-fn gap_from(
-    trace: &Trace,
-    set: ProcSet,
-    silences: &[Silence],
-    from: u64,
-    until: u64,
-    longest: Option<Gap>,
-) -> Option<Gap>
-    requires set { IsWithin set trace.now.config.n }
-    requires silences { AreSilences set trace.now silences.now }
-    requires low { 1 ≤ from }
+// Goes back over the ticks from `from` to before `until`.
+fn silence_from(closings: &[u32], from: u64, until: u64, longest: LongestSilence) -> LongestSilence
+    requires closings { IsAhead closings.now }
     requires order { from ≤ until }
-    requires high { until ≤ trace.now.last + 1 }
-    requires known { KnowsGapsFrom set trace.now until longest }
-    ensures { KnowsGapsFrom set trace.now from result }
+    requires high { until ≤ length closings.now }
+    requires known { IsLongestSilence closings.now until longest }
+    ensures { IsLongestSilence closings.now from result }
 {
-    let mut gap = longest;
+    let mut longest = longest;
     for x in (from..until).rev() {
-        gap = longer_gap(longest_gap_at(trace, set, silences, x), gap);
+        let end = u64::from(closings[x as usize]);
+        if longest.end - longest.start < end - x {
+            longest = LongestSilence { start: x, end };
+        }
     }
-    gap
+    longest
+}
+
+// The first row whose processor bound is no longer than the longest silence from its stabilization time on.
+fn first_too_short(closings: &[u32], rows: &[Row]) -> Option<(u64, LongestSilence)>
+    requires closings { IsAhead closings.now }
+    requires order { AreInOrder rows.now (length closings.now - 1) }
+    ensures { IsFirstWith (IsTooShort closings.now rows.now) result }
+{
+    let mut until = closings.len() as u64;
+    let mut longest = LongestSilence {
+        start: until,
+        end: until,
+    };
+    let mut found = None;
+    for k in (0..rows.len()).rev() {
+        longest = silence_from(closings, rows[k].gst, until, longest);
+        until = rows[k].gst;
+        let length = longest.end - longest.start;
+        if 0 < length && rows[k].phi <= length {
+            found = Some((k as u64 + 1, longest));
+        }
+    }
+    found
 }
 
 /// The first row whose processor bound doesn't hold, with the longest gap from there on.
@@ -153,24 +161,18 @@ pub(crate) fn first_failing_phi(
     trace: &Trace,
     set: ProcSet,
     silences: &[Silence],
+    closings: &[u32],
     rows: &[Row],
 ) -> Option<(u64, Gap)>
     requires set { IsWithin set trace.now.config.n }
     requires silences { AreSilences set trace.now silences.now }
+    requires closings { AreClosings set trace.now closings.now }
     requires order { AreInOrder rows.now trace.now.last }
     ensures { IsFirstWith (λ k w. Stands set trace.now rows.now (PhiFails k w)) result }
 {
-    let mut longest = None;
-    let mut until = trace.last_tick() + 1;
-    let mut found = None;
-    for k in (0..rows.len()).rev() {
-        longest = gap_from(trace, set, silences, rows[k].gst, until, longest);
-        until = rows[k].gst;
-        if let Some(gap) = longest {
-            if rows[k].phi <= gap.to - gap.from + 1 {
-                found = Some((k as u64 + 1, gap));
-            }
-        }
+    let (row, longest) = first_too_short(closings, rows)?;
+    match longest_gap_at(trace, set, silences, longest.start) {
+        Some(gap) => Some((row, gap)),
+        None => unreachable!(),
     }
-    found
 }

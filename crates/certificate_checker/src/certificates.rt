@@ -8,6 +8,7 @@ ghost use Rattle.certificate_checker.specs.Certificates.{Certifies};
 ghost use Rattle.certificate_checker.specs.Verdicts.{IsVerdict, Stands, place_of};
 ghost use Rattle.certificate_checker.specs.declared.verdicts.Reason.{Reason};
 
+use crate::closings::closings;
 use crate::first_reasons::{order_reason, step_reason};
 use crate::receives::Receives;
 use crate::silences::silences;
@@ -57,7 +58,8 @@ fn verdict_on(
     }
     let receives = Receives::of_trace(alloc, trace)?;
     let silences = silences(alloc, trace, set)?;
-    match step_reason(trace, set, &receives, &silences, rows) {
+    let closings = closings(alloc, trace, set)?;
+    match step_reason(trace, set, &receives, &silences, &closings, rows) {
         Some(why) => Ok(Verdict::No(why)),
         None => Ok(Verdict::Yes),
     }

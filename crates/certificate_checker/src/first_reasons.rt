@@ -6,6 +6,7 @@ ghost use Rattle.step_trace.specs.Processors.{IsWithin};
 ghost use Rattle.certificate_checker.specs.Searches.{IsFirstReason, AreInOrder};
 ghost use Rattle.certificate_checker.specs.Receives.{KnowsReceives};
 ghost use Rattle.certificate_checker.specs.Silences.{AreSilences};
+ghost use Rattle.certificate_checker.specs.Closings.{AreClosings};
 
 use crate::bounds::{first_failing_delta, first_failing_phi};
 use crate::receives::Receives;
@@ -46,11 +47,13 @@ pub(crate) fn step_reason(
     set: ProcSet,
     receives: &Receives,
     silences: &[Silence],
+    closings: &[u32],
     rows: &[Row],
 ) -> Option<Reason>
     requires set { IsWithin set trace.now.config.n }
     requires receives { KnowsReceives trace.now (length trace.now.steps) receives.now }
     requires silences { AreSilences set trace.now silences.now }
+    requires closings { AreClosings set trace.now closings.now }
     requires order { AreInOrder rows.now trace.now.last }
     ensures { IsFirstReason set trace.now rows.now 7 10 result }
 {
@@ -63,7 +66,7 @@ pub(crate) fn step_reason(
     if let Some((row, miss)) = first_failing_delta(trace, set, receives, rows) {
         return Some(Reason::DeltaFails(row, miss));
     }
-    if let Some((row, gap)) = first_failing_phi(trace, set, silences, rows) {
+    if let Some((row, gap)) = first_failing_phi(trace, set, silences, closings, rows) {
         return Some(Reason::PhiFails(row, gap));
     }
     None

@@ -4,8 +4,10 @@
 
 mod bounds;
 mod certificates;
+mod closings;
 mod first_reasons;
 mod gaps;
+mod last_steps;
 mod laws;
 mod receives;
 mod row_order;

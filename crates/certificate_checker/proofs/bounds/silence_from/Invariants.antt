@@ -1,11 +1,11 @@
 use Rattle.std.proofs.Common.{◌≤◌}
-use Rattle.certificate_checker.specs.LongestWitnesses.{KnowsGapsFrom}
-use Rattle.certificate_checker.proofs.bounds.gap_from.Given as goal
+use Rattle.certificate_checker.specs.LongestSilences.{IsLongestSilence}
+use Rattle.certificate_checker.proofs.bounds.silence_from.Given as goal
 
 -- the ticks from x on were gone over
 abbrev pub invariant-loop-x : goal.invariant-loop-x
 invariant-loop-x l = record {
   low : l.from ≤ l.x;
   high : l.x ≤ l.until;
-  known : KnowsGapsFrom l.set l.trace l.x l.gap;
+  known : IsLongestSilence l.closings l.x l.longest;
 }
