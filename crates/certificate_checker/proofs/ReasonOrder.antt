@@ -1,5 +1,5 @@
 -- The first reason that stands, put together from the searches for each kind of reason.
-use Rattle.std.proofs.Common.{ℕ, ◌≡◌, ◌+◌, ◌<◌, ◌≤◌, inl, inr, List, length, get_or, ◌-◌, Option, Some, None, refl, ap, subst, ◌∙◌, suc, zero, arith}
+use Rattle.std.proofs.Common.{ℕ, Bool, true, false, ◌==◌, ◌≡◌, ◌+◌, ◌<◌, ◌≤◌, inl, inr, List, length, get_or, ◌-◌, Option, Some, None, refl, ap, subst, ◌∙◌, suc, zero, arith}
 use Rattle.std.proofs.lemmas.Bool.{cases_lt, cases_eq}
 use Rattle.step_trace.specs.declared.rows.Miss.{Miss}
 use Rattle.step_trace.specs.declared.rows.Gap.{Gap}
@@ -9,7 +9,7 @@ use Rattle.certificate_checker.specs.declared.verdicts.Reason.{Reason}
 use Rattle.certificate_checker.specs.declared.verdicts.Reason.TheVariants.{NoRows, FirstNotOne, NotRising, BeyondEnd, NotNonIncreasing, SameAsBefore, BadMiss, BadGap, DeltaFails, PhiFails}
 use Rattle.certificate_checker.specs.declared.verdicts.Verdict.TheVariants.{Yes, No}
 use Rattle.certificate_checker.specs.Certificates.{row_at}
-use Rattle.certificate_checker.specs.Verdicts.{Stands, place_of, IsNotAfter, IsVerdict}
+use Rattle.certificate_checker.specs.Verdicts.{Stands, place_of, row_of, IsVerdict}
 use Rattle.certificate_checker.specs.Searches.{IsFirstReason, AreInOrder}
 use Rattle.certificate_checker.proofs.RowSearches.{no_row, row_at_within, row_at_next, row_at_same}
 
@@ -60,251 +60,53 @@ verdict_none set t rows h w s = h w (place_low w) (place_high w) s
 pub verdict_some : (set : ℕ) (t : Recorded) (rows : List Row) (high : ℕ) (w : Reason) → IsFirstReason set t rows 1 high (Some w) → IsVerdict set t rows (No w)
 verdict_some set t rows high w h = (h.0, λ o s. h.1 o (place_low o) s)
 
-pub no_NoRows : (set : ℕ) (t : Recorded) (rows : List Row) → (¬ Stands set t rows NoRows) → IsFirstReason set t rows 1 1 None
-no_NoRows set t rows none NoRows l h s = none s
-no_NoRows set t rows none FirstNotOne l h s = absurd (omega (arith, l, h))
-no_NoRows set t rows none (NotRising k) l h s = absurd (omega (arith, l, h))
-no_NoRows set t rows none (BeyondEnd k) l h s = absurd (omega (arith, l, h))
-no_NoRows set t rows none (NotNonIncreasing k) l h s = absurd (omega (arith, l, h))
-no_NoRows set t rows none (SameAsBefore k) l h s = absurd (omega (arith, l, h))
-no_NoRows set t rows none (BadMiss k) l h s = absurd (omega (arith, l, h))
-no_NoRows set t rows none (BadGap k) l h s = absurd (omega (arith, l, h))
-no_NoRows set t rows none (DeltaFails k x) l h s = absurd (omega (arith, l, h))
-no_NoRows set t rows none (PhiFails k x) l h s = absurd (omega (arith, l, h))
+-- the first where the condition holds, else the second
+abbrev pub Either : Bool → Type 0 → Type 0 → Type 0
+Either true P Q = P
+Either false P Q = Q
 
-pub no_FirstNotOne : (set : ℕ) (t : Recorded) (rows : List Row) → (¬ Stands set t rows FirstNotOne) → IsFirstReason set t rows 2 2 None
-no_FirstNotOne set t rows none NoRows l h s = absurd (omega (arith, l, h))
-no_FirstNotOne set t rows none FirstNotOne l h s = none s
-no_FirstNotOne set t rows none (NotRising k) l h s = absurd (omega (arith, l, h))
-no_FirstNotOne set t rows none (BeyondEnd k) l h s = absurd (omega (arith, l, h))
-no_FirstNotOne set t rows none (NotNonIncreasing k) l h s = absurd (omega (arith, l, h))
-no_FirstNotOne set t rows none (SameAsBefore k) l h s = absurd (omega (arith, l, h))
-no_FirstNotOne set t rows none (BadMiss k) l h s = absurd (omega (arith, l, h))
-no_FirstNotOne set t rows none (BadGap k) l h s = absurd (omega (arith, l, h))
-no_FirstNotOne set t rows none (DeltaFails k x) l h s = absurd (omega (arith, l, h))
-no_FirstNotOne set t rows none (PhiFails k x) l h s = absurd (omega (arith, l, h))
+-- what it takes to show P of all reasons with this place
+abbrev pub AtPlace : (Reason → Type 0) → ℕ → Type 0
+AtPlace P i =
+    Either (i == 1) (P NoRows)
+    (Either (i == 2) (P FirstNotOne)
+    (Either (i == 3) ((k : ℕ) → P (NotRising k))
+    (Either (i == 4) ((k : ℕ) → P (BeyondEnd k))
+    (Either (i == 5) ((k : ℕ) → P (NotNonIncreasing k))
+    (Either (i == 6) ((k : ℕ) → P (SameAsBefore k))
+    (Either (i == 7) ((k : ℕ) → P (BadMiss k))
+    (Either (i == 8) ((k : ℕ) → P (BadGap k))
+    (Either (i == 9) ((k : ℕ) (x : Miss) → P (DeltaFails k x))
+    ((k : ℕ) (x : Gap) → P (PhiFails k x))))))))))
 
-pub first_FirstNotOne : (set : ℕ) (t : Recorded) (rows : List Row) → Stands set t rows FirstNotOne → IsFirstReason set t rows 2 2 (Some FirstNotOne)
-first_FirstNotOne set t rows s = (s, go) where
-  go : (o : Reason) → 2 ≤ place_of o → Stands set t rows o → IsNotAfter FirstNotOne o
-  go NoRows l q = absurd (omega (arith, l))
-  go FirstNotOne l q = inr (refl, omega arith)
-  go (NotRising j) l q = inl (omega arith)
-  go (BeyondEnd j) l q = inl (omega arith)
-  go (NotNonIncreasing j) l q = inl (omega arith)
-  go (SameAsBefore j) l q = inl (omega arith)
-  go (BadMiss j) l q = inl (omega arith)
-  go (BadGap j) l q = inl (omega arith)
-  go (DeltaFails j y) l q = inl (omega arith)
-  go (PhiFails j y) l q = inl (omega arith)
+at_place : (P : Reason → Type 0) (o : Reason) → AtPlace P (place_of o) → P o
+at_place P NoRows h = h
+at_place P FirstNotOne h = h
+at_place P (NotRising k) h = h k
+at_place P (BeyondEnd k) h = h k
+at_place P (NotNonIncreasing k) h = h k
+at_place P (SameAsBefore k) h = h k
+at_place P (BadMiss k) h = h k
+at_place P (BadGap k) h = h k
+at_place P (DeltaFails k x) h = h k x
+at_place P (PhiFails k x) h = h k x
 
-pub no_NotRising : (set : ℕ) (t : Recorded) (rows : List Row) → ((k : ℕ) → ¬ Stands set t rows (NotRising k)) → IsFirstReason set t rows 3 3 None
-no_NotRising set t rows none NoRows l h s = absurd (omega (arith, l, h))
-no_NotRising set t rows none FirstNotOne l h s = absurd (omega (arith, l, h))
-no_NotRising set t rows none (NotRising k) l h s = none k s
-no_NotRising set t rows none (BeyondEnd k) l h s = absurd (omega (arith, l, h))
-no_NotRising set t rows none (NotNonIncreasing k) l h s = absurd (omega (arith, l, h))
-no_NotRising set t rows none (SameAsBefore k) l h s = absurd (omega (arith, l, h))
-no_NotRising set t rows none (BadMiss k) l h s = absurd (omega (arith, l, h))
-no_NotRising set t rows none (BadGap k) l h s = absurd (omega (arith, l, h))
-no_NotRising set t rows none (DeltaFails k x) l h s = absurd (omega (arith, l, h))
-no_NotRising set t rows none (PhiFails k x) l h s = absurd (omega (arith, l, h))
+-- no reason with this place stands
+pub none_in : (set : ℕ) (t : Recorded) (rows : List Row) (i : ℕ) → AtPlace (λ o. ¬ Stands set t rows o) i → IsFirstReason set t rows i i None
+none_in set t rows i none o low high s =
+    let e : i ≡ place_of o = omega (arith, low, high) in
+    at_place (λ w. ¬ Stands set t rows w) o (subst (λ (j : ℕ). AtPlace (λ w. ¬ Stands set t rows w) j) e none) s
 
-pub first_NotRising : (set : ℕ) (t : Recorded) (rows : List Row) (k : ℕ) → Stands set t rows (NotRising k) → ((j : ℕ) → Stands set t rows (NotRising j) → k ≤ j) → IsFirstReason set t rows 3 3 (Some (NotRising k))
-first_NotRising set t rows k s least = (s, go) where
-  go : (o : Reason) → 3 ≤ place_of o → Stands set t rows o → IsNotAfter (NotRising k) o
-  go NoRows l q = absurd (omega (arith, l))
-  go FirstNotOne l q = absurd (omega (arith, l))
-  go (NotRising j) l q = inr (refl, least j q)
-  go (BeyondEnd j) l q = inl (omega arith)
-  go (NotNonIncreasing j) l q = inl (omega arith)
-  go (SameAsBefore j) l q = inl (omega arith)
-  go (BadMiss j) l q = inl (omega arith)
-  go (BadGap j) l q = inl (omega arith)
-  go (DeltaFails j y) l q = inl (omega arith)
-  go (PhiFails j y) l q = inl (omega arith)
-
-pub no_BeyondEnd : (set : ℕ) (t : Recorded) (rows : List Row) → ((k : ℕ) → ¬ Stands set t rows (BeyondEnd k)) → IsFirstReason set t rows 4 4 None
-no_BeyondEnd set t rows none NoRows l h s = absurd (omega (arith, l, h))
-no_BeyondEnd set t rows none FirstNotOne l h s = absurd (omega (arith, l, h))
-no_BeyondEnd set t rows none (NotRising k) l h s = absurd (omega (arith, l, h))
-no_BeyondEnd set t rows none (BeyondEnd k) l h s = none k s
-no_BeyondEnd set t rows none (NotNonIncreasing k) l h s = absurd (omega (arith, l, h))
-no_BeyondEnd set t rows none (SameAsBefore k) l h s = absurd (omega (arith, l, h))
-no_BeyondEnd set t rows none (BadMiss k) l h s = absurd (omega (arith, l, h))
-no_BeyondEnd set t rows none (BadGap k) l h s = absurd (omega (arith, l, h))
-no_BeyondEnd set t rows none (DeltaFails k x) l h s = absurd (omega (arith, l, h))
-no_BeyondEnd set t rows none (PhiFails k x) l h s = absurd (omega (arith, l, h))
-
-pub first_BeyondEnd : (set : ℕ) (t : Recorded) (rows : List Row) (k : ℕ) → Stands set t rows (BeyondEnd k) → ((j : ℕ) → Stands set t rows (BeyondEnd j) → k ≤ j) → IsFirstReason set t rows 4 4 (Some (BeyondEnd k))
-first_BeyondEnd set t rows k s least = (s, go) where
-  go : (o : Reason) → 4 ≤ place_of o → Stands set t rows o → IsNotAfter (BeyondEnd k) o
-  go NoRows l q = absurd (omega (arith, l))
-  go FirstNotOne l q = absurd (omega (arith, l))
-  go (NotRising j) l q = absurd (omega (arith, l))
-  go (BeyondEnd j) l q = inr (refl, least j q)
-  go (NotNonIncreasing j) l q = inl (omega arith)
-  go (SameAsBefore j) l q = inl (omega arith)
-  go (BadMiss j) l q = inl (omega arith)
-  go (BadGap j) l q = inl (omega arith)
-  go (DeltaFails j y) l q = inl (omega arith)
-  go (PhiFails j y) l q = inl (omega arith)
-
-pub no_NotNonIncreasing : (set : ℕ) (t : Recorded) (rows : List Row) → ((k : ℕ) → ¬ Stands set t rows (NotNonIncreasing k)) → IsFirstReason set t rows 5 5 None
-no_NotNonIncreasing set t rows none NoRows l h s = absurd (omega (arith, l, h))
-no_NotNonIncreasing set t rows none FirstNotOne l h s = absurd (omega (arith, l, h))
-no_NotNonIncreasing set t rows none (NotRising k) l h s = absurd (omega (arith, l, h))
-no_NotNonIncreasing set t rows none (BeyondEnd k) l h s = absurd (omega (arith, l, h))
-no_NotNonIncreasing set t rows none (NotNonIncreasing k) l h s = none k s
-no_NotNonIncreasing set t rows none (SameAsBefore k) l h s = absurd (omega (arith, l, h))
-no_NotNonIncreasing set t rows none (BadMiss k) l h s = absurd (omega (arith, l, h))
-no_NotNonIncreasing set t rows none (BadGap k) l h s = absurd (omega (arith, l, h))
-no_NotNonIncreasing set t rows none (DeltaFails k x) l h s = absurd (omega (arith, l, h))
-no_NotNonIncreasing set t rows none (PhiFails k x) l h s = absurd (omega (arith, l, h))
-
-pub first_NotNonIncreasing : (set : ℕ) (t : Recorded) (rows : List Row) (k : ℕ) → Stands set t rows (NotNonIncreasing k) → ((j : ℕ) → Stands set t rows (NotNonIncreasing j) → k ≤ j) → IsFirstReason set t rows 5 5 (Some (NotNonIncreasing k))
-first_NotNonIncreasing set t rows k s least = (s, go) where
-  go : (o : Reason) → 5 ≤ place_of o → Stands set t rows o → IsNotAfter (NotNonIncreasing k) o
-  go NoRows l q = absurd (omega (arith, l))
-  go FirstNotOne l q = absurd (omega (arith, l))
-  go (NotRising j) l q = absurd (omega (arith, l))
-  go (BeyondEnd j) l q = absurd (omega (arith, l))
-  go (NotNonIncreasing j) l q = inr (refl, least j q)
-  go (SameAsBefore j) l q = inl (omega arith)
-  go (BadMiss j) l q = inl (omega arith)
-  go (BadGap j) l q = inl (omega arith)
-  go (DeltaFails j y) l q = inl (omega arith)
-  go (PhiFails j y) l q = inl (omega arith)
-
-pub no_SameAsBefore : (set : ℕ) (t : Recorded) (rows : List Row) → ((k : ℕ) → ¬ Stands set t rows (SameAsBefore k)) → IsFirstReason set t rows 6 6 None
-no_SameAsBefore set t rows none NoRows l h s = absurd (omega (arith, l, h))
-no_SameAsBefore set t rows none FirstNotOne l h s = absurd (omega (arith, l, h))
-no_SameAsBefore set t rows none (NotRising k) l h s = absurd (omega (arith, l, h))
-no_SameAsBefore set t rows none (BeyondEnd k) l h s = absurd (omega (arith, l, h))
-no_SameAsBefore set t rows none (NotNonIncreasing k) l h s = absurd (omega (arith, l, h))
-no_SameAsBefore set t rows none (SameAsBefore k) l h s = none k s
-no_SameAsBefore set t rows none (BadMiss k) l h s = absurd (omega (arith, l, h))
-no_SameAsBefore set t rows none (BadGap k) l h s = absurd (omega (arith, l, h))
-no_SameAsBefore set t rows none (DeltaFails k x) l h s = absurd (omega (arith, l, h))
-no_SameAsBefore set t rows none (PhiFails k x) l h s = absurd (omega (arith, l, h))
-
-pub first_SameAsBefore : (set : ℕ) (t : Recorded) (rows : List Row) (k : ℕ) → Stands set t rows (SameAsBefore k) → ((j : ℕ) → Stands set t rows (SameAsBefore j) → k ≤ j) → IsFirstReason set t rows 6 6 (Some (SameAsBefore k))
-first_SameAsBefore set t rows k s least = (s, go) where
-  go : (o : Reason) → 6 ≤ place_of o → Stands set t rows o → IsNotAfter (SameAsBefore k) o
-  go NoRows l q = absurd (omega (arith, l))
-  go FirstNotOne l q = absurd (omega (arith, l))
-  go (NotRising j) l q = absurd (omega (arith, l))
-  go (BeyondEnd j) l q = absurd (omega (arith, l))
-  go (NotNonIncreasing j) l q = absurd (omega (arith, l))
-  go (SameAsBefore j) l q = inr (refl, least j q)
-  go (BadMiss j) l q = inl (omega arith)
-  go (BadGap j) l q = inl (omega arith)
-  go (DeltaFails j y) l q = inl (omega arith)
-  go (PhiFails j y) l q = inl (omega arith)
-
-pub no_BadMiss : (set : ℕ) (t : Recorded) (rows : List Row) → ((k : ℕ) → ¬ Stands set t rows (BadMiss k)) → IsFirstReason set t rows 7 7 None
-no_BadMiss set t rows none NoRows l h s = absurd (omega (arith, l, h))
-no_BadMiss set t rows none FirstNotOne l h s = absurd (omega (arith, l, h))
-no_BadMiss set t rows none (NotRising k) l h s = absurd (omega (arith, l, h))
-no_BadMiss set t rows none (BeyondEnd k) l h s = absurd (omega (arith, l, h))
-no_BadMiss set t rows none (NotNonIncreasing k) l h s = absurd (omega (arith, l, h))
-no_BadMiss set t rows none (SameAsBefore k) l h s = absurd (omega (arith, l, h))
-no_BadMiss set t rows none (BadMiss k) l h s = none k s
-no_BadMiss set t rows none (BadGap k) l h s = absurd (omega (arith, l, h))
-no_BadMiss set t rows none (DeltaFails k x) l h s = absurd (omega (arith, l, h))
-no_BadMiss set t rows none (PhiFails k x) l h s = absurd (omega (arith, l, h))
-
-pub first_BadMiss : (set : ℕ) (t : Recorded) (rows : List Row) (k : ℕ) → Stands set t rows (BadMiss k) → ((j : ℕ) → Stands set t rows (BadMiss j) → k ≤ j) → IsFirstReason set t rows 7 7 (Some (BadMiss k))
-first_BadMiss set t rows k s least = (s, go) where
-  go : (o : Reason) → 7 ≤ place_of o → Stands set t rows o → IsNotAfter (BadMiss k) o
-  go NoRows l q = absurd (omega (arith, l))
-  go FirstNotOne l q = absurd (omega (arith, l))
-  go (NotRising j) l q = absurd (omega (arith, l))
-  go (BeyondEnd j) l q = absurd (omega (arith, l))
-  go (NotNonIncreasing j) l q = absurd (omega (arith, l))
-  go (SameAsBefore j) l q = absurd (omega (arith, l))
-  go (BadMiss j) l q = inr (refl, least j q)
-  go (BadGap j) l q = inl (omega arith)
-  go (DeltaFails j y) l q = inl (omega arith)
-  go (PhiFails j y) l q = inl (omega arith)
-
-pub no_BadGap : (set : ℕ) (t : Recorded) (rows : List Row) → ((k : ℕ) → ¬ Stands set t rows (BadGap k)) → IsFirstReason set t rows 8 8 None
-no_BadGap set t rows none NoRows l h s = absurd (omega (arith, l, h))
-no_BadGap set t rows none FirstNotOne l h s = absurd (omega (arith, l, h))
-no_BadGap set t rows none (NotRising k) l h s = absurd (omega (arith, l, h))
-no_BadGap set t rows none (BeyondEnd k) l h s = absurd (omega (arith, l, h))
-no_BadGap set t rows none (NotNonIncreasing k) l h s = absurd (omega (arith, l, h))
-no_BadGap set t rows none (SameAsBefore k) l h s = absurd (omega (arith, l, h))
-no_BadGap set t rows none (BadMiss k) l h s = absurd (omega (arith, l, h))
-no_BadGap set t rows none (BadGap k) l h s = none k s
-no_BadGap set t rows none (DeltaFails k x) l h s = absurd (omega (arith, l, h))
-no_BadGap set t rows none (PhiFails k x) l h s = absurd (omega (arith, l, h))
-
-pub first_BadGap : (set : ℕ) (t : Recorded) (rows : List Row) (k : ℕ) → Stands set t rows (BadGap k) → ((j : ℕ) → Stands set t rows (BadGap j) → k ≤ j) → IsFirstReason set t rows 8 8 (Some (BadGap k))
-first_BadGap set t rows k s least = (s, go) where
-  go : (o : Reason) → 8 ≤ place_of o → Stands set t rows o → IsNotAfter (BadGap k) o
-  go NoRows l q = absurd (omega (arith, l))
-  go FirstNotOne l q = absurd (omega (arith, l))
-  go (NotRising j) l q = absurd (omega (arith, l))
-  go (BeyondEnd j) l q = absurd (omega (arith, l))
-  go (NotNonIncreasing j) l q = absurd (omega (arith, l))
-  go (SameAsBefore j) l q = absurd (omega (arith, l))
-  go (BadMiss j) l q = absurd (omega (arith, l))
-  go (BadGap j) l q = inr (refl, least j q)
-  go (DeltaFails j y) l q = inl (omega arith)
-  go (PhiFails j y) l q = inl (omega arith)
-
-pub no_DeltaFails : (set : ℕ) (t : Recorded) (rows : List Row) → ((k : ℕ) (x : Miss) → ¬ Stands set t rows (DeltaFails k x)) → IsFirstReason set t rows 9 9 None
-no_DeltaFails set t rows none NoRows l h s = absurd (omega (arith, l, h))
-no_DeltaFails set t rows none FirstNotOne l h s = absurd (omega (arith, l, h))
-no_DeltaFails set t rows none (NotRising k) l h s = absurd (omega (arith, l, h))
-no_DeltaFails set t rows none (BeyondEnd k) l h s = absurd (omega (arith, l, h))
-no_DeltaFails set t rows none (NotNonIncreasing k) l h s = absurd (omega (arith, l, h))
-no_DeltaFails set t rows none (SameAsBefore k) l h s = absurd (omega (arith, l, h))
-no_DeltaFails set t rows none (BadMiss k) l h s = absurd (omega (arith, l, h))
-no_DeltaFails set t rows none (BadGap k) l h s = absurd (omega (arith, l, h))
-no_DeltaFails set t rows none (DeltaFails k x) l h s = none k x s
-no_DeltaFails set t rows none (PhiFails k x) l h s = absurd (omega (arith, l, h))
-
-pub first_DeltaFails : (set : ℕ) (t : Recorded) (rows : List Row) (k : ℕ) (x : Miss) → Stands set t rows (DeltaFails k x) → ((j : ℕ) (y : Miss) → Stands set t rows (DeltaFails j y) → k ≤ j) → IsFirstReason set t rows 9 9 (Some (DeltaFails k x))
-first_DeltaFails set t rows k x s least = (s, go) where
-  go : (o : Reason) → 9 ≤ place_of o → Stands set t rows o → IsNotAfter (DeltaFails k x) o
-  go NoRows l q = absurd (omega (arith, l))
-  go FirstNotOne l q = absurd (omega (arith, l))
-  go (NotRising j) l q = absurd (omega (arith, l))
-  go (BeyondEnd j) l q = absurd (omega (arith, l))
-  go (NotNonIncreasing j) l q = absurd (omega (arith, l))
-  go (SameAsBefore j) l q = absurd (omega (arith, l))
-  go (BadMiss j) l q = absurd (omega (arith, l))
-  go (BadGap j) l q = absurd (omega (arith, l))
-  go (DeltaFails j y) l q = inr (refl, least j y q)
-  go (PhiFails j y) l q = inl (omega arith)
-
-pub no_PhiFails : (set : ℕ) (t : Recorded) (rows : List Row) → ((k : ℕ) (x : Gap) → ¬ Stands set t rows (PhiFails k x)) → IsFirstReason set t rows 10 10 None
-no_PhiFails set t rows none NoRows l h s = absurd (omega (arith, l, h))
-no_PhiFails set t rows none FirstNotOne l h s = absurd (omega (arith, l, h))
-no_PhiFails set t rows none (NotRising k) l h s = absurd (omega (arith, l, h))
-no_PhiFails set t rows none (BeyondEnd k) l h s = absurd (omega (arith, l, h))
-no_PhiFails set t rows none (NotNonIncreasing k) l h s = absurd (omega (arith, l, h))
-no_PhiFails set t rows none (SameAsBefore k) l h s = absurd (omega (arith, l, h))
-no_PhiFails set t rows none (BadMiss k) l h s = absurd (omega (arith, l, h))
-no_PhiFails set t rows none (BadGap k) l h s = absurd (omega (arith, l, h))
-no_PhiFails set t rows none (DeltaFails k x) l h s = absurd (omega (arith, l, h))
-no_PhiFails set t rows none (PhiFails k x) l h s = none k x s
-
-pub first_PhiFails : (set : ℕ) (t : Recorded) (rows : List Row) (k : ℕ) (x : Gap) → Stands set t rows (PhiFails k x) → ((j : ℕ) (y : Gap) → Stands set t rows (PhiFails j y) → k ≤ j) → IsFirstReason set t rows 10 10 (Some (PhiFails k x))
-first_PhiFails set t rows k x s least = (s, go) where
-  go : (o : Reason) → 10 ≤ place_of o → Stands set t rows o → IsNotAfter (PhiFails k x) o
-  go NoRows l q = absurd (omega (arith, l))
-  go FirstNotOne l q = absurd (omega (arith, l))
-  go (NotRising j) l q = absurd (omega (arith, l))
-  go (BeyondEnd j) l q = absurd (omega (arith, l))
-  go (NotNonIncreasing j) l q = absurd (omega (arith, l))
-  go (SameAsBefore j) l q = absurd (omega (arith, l))
-  go (BadMiss j) l q = absurd (omega (arith, l))
-  go (BadGap j) l q = absurd (omega (arith, l))
-  go (DeltaFails j y) l q = absurd (omega (arith, l))
-  go (PhiFails j y) l q = inr (refl, least j y q)
+-- of those with its place this reason is the first
+pub first_in : (set : ℕ) (t : Recorded) (rows : List Row) (w : Reason) → Stands set t rows w → AtPlace (λ o. Stands set t rows o → row_of w ≤ row_of o) (place_of w)
+    → IsFirstReason set t rows (place_of w) (place_of w) (Some w)
+first_in set t rows w s least = (
+  s,
+  λ o low q. elim (cases_eq (place_of w) (place_of o)) [
+    | inl e ↦ inr (e, at_place (λ v. Stands set t rows v → row_of w ≤ row_of v) o (subst (λ (j : ℕ). AtPlace (λ v. Stands set t rows v → row_of w ≤ row_of v) j) e least) q)
+    | inr e ↦ inl (omega (arith, low, e))
+  ],
+)
 
 -- where none of the first six kinds stands the rows are in order
 rising_next : (set : ℕ) (t : Recorded) (rows : List Row) → IsFirstReason set t rows 1 6 None → (k : ℕ) (a b : Row) → row_at rows k ≡ Some a → row_at rows (k + 1) ≡ Some b → a.gst < b.gst
@@ -354,12 +156,12 @@ AreInOrder-from_none set t rows none = record {
 
 -- there are rows
 pub some_rows : (set : ℕ) (t : Recorded) (rows : List Row) → (length rows ≡ 0 → ⊥) → IsFirstReason set t rows 1 1 None
-some_rows set t rows some = no_NoRows set t rows (λ s. some (ap (λ (list : List Row). length list) s.0))
+some_rows set t rows some = none_in set t rows 1 (λ s. some (ap (λ (list : List Row). length list) s.0))
 
 -- the first stabilization time is 1
 pub first_is_one : (set : ℕ) (t : Recorded) (rows : List Row) → (length rows ≡ 0 → ⊥) → (get_or rows 0 no_row).gst ≡ 1 → IsFirstReason set t rows 1 2 None
 first_is_one set t rows some one = first_after set t rows 1 1 2 2 None refl (some_rows set t rows some)
-    (no_FirstNotOne set t rows (λ s. s.1 (ap (λ (r : Row). r.gst) (row_at_same rows 0 s.0.row no_row s.0.here) ∙ one)))
+    (none_in set t rows 2 (λ s. s.1 (ap (λ (r : Row). r.gst) (row_at_same rows 0 s.0.row no_row s.0.here) ∙ one)))
 
 -- where there are no rows, no other reason than that stands
 pub no_rows_left : (set : ℕ) (t : Recorded) (rows : List Row) → length rows ≡ 0 → IsFirstReason set t rows 1 6 None → IsVerdict set t rows Yes
