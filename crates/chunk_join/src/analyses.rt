@@ -11,6 +11,7 @@ ghost use Rattle.chunk_join.specs.declared.analyses.AnalyseError.{AnalyseError};
 ghost use Rattle.chunk_join.specs.Analyses.{AreBadWorkers, ArePromised, IsPieceOf, IsShare, cut};
 
 use crate::joins::Joined;
+use crate::lone_worker::stairs_by_one;
 use crate::pieces::Piece;
 use std::alloc::{AllocError, Global};
 use std::snapshot::Snapshot;
@@ -36,9 +37,9 @@ pub enum AnalyseError {
     Memory,
 }
 
-/// Why a worker gave no piece, or all of them together gave none.
+/// Why a worker gave nothing, or all of them together.
 #[derive(Clone, Copy, Debug)]
-enum Stop {
+pub(crate) enum Stop {
     Held,
     Start,
     Memory,
@@ -68,7 +69,7 @@ impl Promise<Result<Piece, Stop>> for PieceOf {
 
 /// The level of each tick of a trace, where the members of a set count as correct, found by so many workers. Each
 /// has a thread of its own, enters the gate before its work, and summarises its share of the ticks; all shares
-/// are as long, or one tick longer than others.
+/// are as long, or one tick longer than others. One worker alone makes no summary: it goes over the trace backward.
 ///
 /// Waits for all workers that were started. Refuses in the order of `AnalyseError`.
 pub fn analyse<R: Threads + Wait + Sync, G: Gate>(
@@ -86,6 +87,12 @@ pub fn analyse<R: Threads + Wait + Sync, G: Gate>(
 {
     if workers == 0 || workers > MAX_WORKERS {
         return Err(AnalyseError::BadWorkers);
+    }
+    if workers == 1 {
+        return match stairs_by_one(rt, alloc, trace, &set, gate) {
+            Ok(stairs) => Ok(stairs),
+            Err(stop) => Err(refused(stop)),
+        };
     }
     let ticks = ticks_of(trace);
     match piece_of_all(rt, alloc, trace, ticks, &set, workers, gate) {

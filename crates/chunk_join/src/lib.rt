@@ -4,6 +4,7 @@
 mod analyses;
 mod finishes;
 mod joins;
+mod lone_worker;
 mod message_joins;
 mod parts;
 mod pieces;
