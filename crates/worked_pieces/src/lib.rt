@@ -2,9 +2,17 @@
 #![tactic(auto)]
 
 #[cfg(test)]
+mod cut_pieces;
+#[cfg(test)]
+mod held_workers;
+#[cfg(test)]
 mod random_pieces;
 #[cfg(test)]
+mod random_traces;
+#[cfg(test)]
 mod refused_pieces;
+#[cfg(test)]
+mod stair_levels;
 #[cfg(test)]
 mod traces;
 #[cfg(test)]

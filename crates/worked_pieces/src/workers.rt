@@ -1,120 +1,125 @@
 //! Traces analysed by several workers, beside the stairs of the whole.
 
-use crate::random_pieces::{Draws, same_stairs, some_set, some_trace};
-use crate::traces::trace_of;
-use chunk_join::{AnalyseError, analyse};
+ghost use Rattle.step_trace.specs.Processors.{IsWithin};
+
+use crate::random_traces::{Draws, some_set, some_trace};
+use crate::stair_levels::{has_levels, same_stairs};
+use crate::traces::{both, never_delivered, ticked};
+use chunk_join::analyse;
 use std::alloc::Global;
 use std::sync::Wait;
 use std::test::Fail;
 use std::thread::Threads;
-use step_trace::meeting::MeetingGate;
-use step_trace::{Gate, OpenGate, ProcSet, Trace};
+use step_trace::{OpenGate, ProcSet, Trace};
 use suffix_staircase::Stairs;
 
-// A gate that holds one worker back.
-#[derive(Drop)]
-struct GateShutTo(u64);
+const WORKERS: [u64; 5] = [1, 2, 3, 5, 64];
 
-impl Gate for GateShutTo {
-    fn enter(&self, who: u64) -> bool {
-        who != self.0
-    }
-}
-
-// Never-delivered: message 1 goes from 1 to 2, which receives it in none of its four Receives.
-fn never_delivered(alloc: Global) -> Result<Trace, Fail> {
-    let nothing: (u64, u64, &[u64]) = (2, 0, &[]);
-    trace_of(alloc, 2, &[(1, 2, &[]), nothing, nothing, nothing, nothing])
-}
-
-// Why a trace is not analysed.
-fn why<R: Threads + Wait + Sync, G: Gate>(
-    rt: &R,
-    alloc: Global,
-    trace: &Trace,
-    workers: u64,
-    gate: &G,
-) -> Option<AnalyseError> {
-    match analyse(
-        rt,
-        alloc,
-        trace,
-        ProcSet::empty().with(1).with(2),
-        workers,
-        gate,
-    ) {
-        Ok(_) => None,
-        Err(why) => Some(why),
-    }
-}
-
-// Whether so many workers find the stairs.
-fn find_stairs<R: Threads + Wait + Sync>(
+// Whether so many workers find these stairs.
+fn find<R: Threads + Wait + Sync>(
     rt: &R,
     alloc: Global,
     trace: &Trace,
     set: ProcSet,
     workers: u64,
-) -> Result<bool, Fail> {
-    let stairs = Stairs::of_trace(alloc, trace, set)?;
+    stairs: &Stairs,
+) -> bool
+    requires { IsWithin set trace.now.config.n }
+{
     match analyse(rt, alloc, trace, set, workers, &OpenGate) {
-        Ok(found) => Ok(same_stairs(&found, &stairs)),
-        Err(_) => Ok(false),
+        Ok(found) => same_stairs(&found, stairs),
+        Err(_) => false,
     }
+}
+
+// Whether any number of workers finds the stairs of a trace.
+fn all_find<R: Threads + Wait + Sync>(
+    rt: &R,
+    alloc: Global,
+    trace: &Trace,
+    set: ProcSet,
+) -> Result<bool, Fail> {
+    if !set.within(trace.config().n()) {
+        return Ok(false);
+    }
+    let stairs = Stairs::of_trace(alloc, trace, set)?;
+    for workers in WORKERS {
+        if !find(rt, alloc, trace, set, workers, &stairs) {
+            return Ok(false);
+        }
+    }
+    Ok(true)
 }
 
 #[test]
 fn any_workers(rt: HostRuntime) -> Result<(), Fail> {
+    let trace = never_delivered(rt.alloc())?;
+    assert!(rt; all_find(&rt, rt.alloc(), &trace, both())?);
+    Ok(())
+}
+
+// Whether any number of workers finds the stairs of one more trace.
+fn all_find_some<R: Threads + Wait + Sync>(
+    rt: &R,
+    alloc: Global,
+    draws: &mut Draws,
+) -> Result<bool, Fail> {
+    let trace = some_trace(alloc, draws)?;
+    let set = some_set(draws);
+    all_find(rt, alloc, &trace, set)
+}
+
+#[test]
+fn random_traces(rt: HostRuntime) -> Result<(), Fail> {
     let mut draws = Draws { state: 17 };
     for round in 0..20 {
-        let trace = some_trace(rt.alloc(), &mut draws)?;
-        let set = some_set(&mut draws);
-        for workers in [1, 2, 3, 5, 64] {
-            let found = find_stairs(&rt, rt.alloc(), &trace, set, workers)?;
-            assert!(rt; found, "round {round}, {workers} workers");
-        }
+        let found = all_find_some(&rt, rt.alloc(), &mut draws)?;
+        assert!(rt; found, "trace {round}");
     }
     Ok(())
 }
 
+// Whether so many workers find stairs of these levels.
+fn climb<R: Threads + Wait + Sync>(
+    rt: &R,
+    alloc: Global,
+    trace: &Trace,
+    workers: u64,
+    levels: &[[u64; 7]],
+) -> bool {
+    let set = both();
+    if !set.within(trace.config().n()) {
+        return false;
+    }
+    match analyse(rt, alloc, trace, set, workers, &OpenGate) {
+        Ok(found) => has_levels(&found, levels),
+        Err(_) => false,
+    }
+}
+
+// Two ticks of two steps each, and two idle ticks. Message 1 is missed in tick 3.
 #[test]
-fn never_delivered_by_workers(rt: HostRuntime) -> Result<(), Fail> {
-    let trace = never_delivered(rt.alloc())?;
-    let both = ProcSet::empty().with(1).with(2);
-    for workers in [1, 2, 3, 5, 64] {
+fn ticks(rt: HostRuntime) -> Result<(), Fail> {
+    let steps: [(u64, u64, u64, &[u64]); 5] = [
+        (1, 1, 2, &[]),
+        (1, 2, 1, &[]),
+        (3, 1, 0, &[2]),
+        (3, 2, 0, &[]),
+        (4, 2, 0, &[1]),
+    ];
+    let trace = ticked(rt.alloc(), 2, &steps, 5)?;
+    let levels = [
+        [3, 1, 4, 3, 1, 4, 5],
+        [1, 0, 0, 3, 1, 4, 5],
+        [1, 0, 0, 3, 1, 4, 5],
+        [1, 0, 0, 3, 1, 4, 5],
+        [1, 0, 0, 2, 1, 5, 5],
+    ];
+    for workers in [1, 3] {
         assert!(rt;
-            find_stairs(&rt, rt.alloc(), &trace, both, workers)?,
+            climb(&rt, rt.alloc(), &trace, workers, &levels),
             "{workers} workers"
         );
-    }
-    Ok(())
-}
-
-#[test]
-fn two_meet(rt: HostRuntime) -> Result<(), Fail> {
-    let trace = never_delivered(rt.alloc())?;
-    let gate = MeetingGate::new();
-    assert!(rt; why(&rt, rt.alloc(), &trace, 2, &gate) == None);
-    Ok(())
-}
-
-#[test]
-fn workers_held_back(rt: HostRuntime) -> Result<(), Fail> {
-    let trace = never_delivered(rt.alloc())?;
-    for worker in 1..4 {
-        let held = why(&rt, rt.alloc(), &trace, 3, &GateShutTo(worker));
-        assert!(rt; held == Some(AnalyseError::Held), "worker {worker}");
-    }
-    assert!(rt; why(&rt, rt.alloc(), &trace, 3, &GateShutTo(4)) == None);
-    Ok(())
-}
-
-#[test]
-fn bad_numbers_of_workers(rt: HostRuntime) -> Result<(), Fail> {
-    let trace = never_delivered(rt.alloc())?;
-    for workers in [0, 65] {
-        let bad = why(&rt, rt.alloc(), &trace, workers, &GateShutTo(1));
-        assert!(rt; bad == Some(AnalyseError::BadWorkers), "{workers} workers");
     }
     Ok(())
 }
