@@ -8,7 +8,7 @@ use Rattle.step_trace.specs.Ticks.{IsTimed, StepsIn}
 use Rattle.certificate_checker.specs.declared.silences.Silence.{Silence}
 use Rattle.certificate_checker.specs.Silences.{IsNextStep, IsSilence}
 
--- of the ticks of the steps of p, those below x are the first i
+-- the first i of these ticks are those below x
 abbrev pub ArePassed : ℕ → ℕ → Silence → Type 0
 ArePassed x i s = IsPartitionPoint (λ y. ltb y x ≡ true) (λ y. ltb y x ≡ false) s.ticks.items i
 
