@@ -22,8 +22,9 @@ use step_trace::{ProcSet, Row, Trace};
 /// Yes is said only of rows that certify themselves: they are the front, and their witnesses refute every smaller
 /// positive bound from every tick that they serve. It is said of the report.
 ///
-/// It takes time that grows with the steps and the ids, with the ticks for each member, and with the rows. It fails
-/// only for want of memory, and only where there are rows against which none of the first six reasons stands.
+/// It takes time that grows with the steps, the ids, the ticks and the rows, and for each row with the logarithm of
+/// the number of steps; and memory that grows with the steps and the ticks. It fails only for want of memory, and
+/// only where there are rows against which none of the first six reasons stands.
 pub fn check(
     alloc: Global,
     trace: &Trace,
