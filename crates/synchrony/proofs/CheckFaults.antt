@@ -19,7 +19,7 @@ use Rattle.synchrony.specs.Faults.{fault_of_certificate, fault_of_text}
 use Rattle.synchrony.specs.Inputs.{IsReadFault, IsTextOf}
 use Rattle.synchrony.specs.Printing.{IsUntold, IsWriteFault}
 use Rattle.trace_text.specs.declared.counting.Counting.{Counting}
-use Rattle.synchrony.specs.Reports.{IsFaultOfReport, IsTextFault}
+use Rattle.synchrony.specs.Reports.{IsFaultOfReading, IsTextFault}
 use Rattle.synchrony.proofs.ReportFaults.{too_large}
 
 -- a refusal of the reading of the trace text has its cause
@@ -96,7 +96,7 @@ text_unchecked set text None w h = tt
 text_unchecked set text (Some ys) w h = unchecked_text set text ys w h
 
 -- it is one before anything is written
-pub text_before : (set : ℕ) (text : List ℕ) (w : Fault) → IsTextFault set text w → IsFaultOfReport w → IsFaultBefore w
+pub text_before : (set : ℕ) (text : List ℕ) (w : Fault) → IsTextFault set text w → IsFaultOfReading w → IsFaultBefore w
 text_before set text (fault.Command words) h own = absurd h
 text_before set text fault.Set h own = tt
 text_before set text (fault.Trace e) h own = own

@@ -2,6 +2,7 @@
 use Rattle.std.proofs.Common.{ℕ, ◌≡◌, ◌≢◌, ◌∙◌, ◌⊎◌, inl, inr, IfSome, ap, sym, subst, refl, false, true, List, [], Option, Some, None, Result, Ok, Err, IfOk, IfErr, MatchResult, option_map, codes, string_bytes}
 use Rattle.std.specs.Borrow.{Bor}
 use Rattle.std.specs.Str.{bytes_eq}
+use Rattle.std.specs.Str.Parse.{digits_value, without_leading_plus}
 use Rattle.clap.proofs.OnLiterals.{clap_on_literals}
 use Rattle.clap.proofs.WalkLemmas.{first_value-rows}
 use Rattle.clap.specs.Faults.{is_simple_and_free}
@@ -12,12 +13,13 @@ use Rattle.clap.specs.declared.error.ErrorKind.{ErrorKind}
 use Rattle.clap.specs.declared.error.ErrorKind.TheVariants.{OutOfMemory}
 use Rattle.clap.specs.declared.parser.ArgMatches.{ArgMatches}
 use Rattle.step_trace.specs.ProcessorLists.{IsSetIn}
+use Rattle.chunk_join.specs.declared.analyses.TheConstants.{MAX_WORKERS}
 use Rattle.synchrony.specs.declared.command_line.Job.{Job}
 use Rattle.synchrony.specs.declared.command_line.Job.TheVariants as job
 use Rattle.synchrony.specs.declared.faults.Fault.{Fault}
 use Rattle.synchrony.specs.declared.faults.Fault.TheVariants as fault
 use Rattle.trace_text.proofs.Numbers.{bytes_eq-same}
-use Rattle.synchrony.specs.Commands.{AreCheckRows, AreRunRows, AsksForCheck, AsksForReplay, AsksForReport, AsksForUpgrade, NamesCheck, NamesFile, NamesReplay, NamesReport, NamesRun, NamesUpgrade, check_line, is_flag, program, replay_line, report_line, upgrade_line}
+use Rattle.synchrony.specs.Commands.{AreCheckRows, AreReportRows, AreRunRows, AsksForCheck, AsksForReplay, AsksForReport, AsksForUpgrade, HasNumber, NamesCheck, NamesFile, NamesReplay, NamesReport, NamesRun, NamesUpgrade, check_line, is_flag, program, replay_line, report_line, upgrade_line}
 use Rattle.synchrony.specs.Jobs.{AreBothStandardInput, IsCheck, IsFilesFault, IsHelpFor, IsJobIn, IsJobOf, IsLineFault, IsListFault, IsMemory, IsNoList, IsRefusalFor, IsRefusalIn, IsRefusalOf, IsReplay, IsReport, IsUpgrade}
 use Rattle.synchrony.proofs.CommandLines.{asks_for_check, asks_for_replay, asks_for_report, asks_for_upgrade, check_faultless, replay_faultless, report_faultless, upgrade_faultless}
 
@@ -58,17 +60,27 @@ pub lacks_value : (m : ArgMatches) (id : Text) (a : Option (Bor Text)) (v : Text
 lacks_value m id a v in_rows is_none has =
     no_some (first_of id (rows_of (found_of m))) v (sym (first_value-rows (found_of m) id) ∙ sym in_rows ∙ ap (option_map (λ s. s.now)) is_none) has
 
--- where `report` is named, its rows have the file and the list
-pub values_in : (sub : Option (Text × List Row)) (rows : List Row) → sub ≡ Some (codes "report", rows) → (file list : Text) → NamesReport sub file list
-    → (first_of (codes "file") rows ≡ Some file) × (first_of (codes "correct") rows ≡ Some list)
-values_in sub rows named file list h =
+-- where `report` is named, its rows have what it names
+pub report_in : (sub : Option (Text × List Row)) (rows : List Row) → sub ≡ Some (codes "report", rows) → (file list : Text) (workers : ℕ)
+    → NamesReport sub file list workers → AreReportRows rows file list workers
+report_in sub rows named file list workers h =
     let same = ap (λ (p : Text × List Row). p.1) (same_some (codes "report", h.rows) (codes "report", rows) (sym h.named ∙ named)) in
-    (ap (first_of (codes "file")) (sym same) ∙ h.file_is, ap (first_of (codes "correct")) (sym same) ∙ h.list_is)
+    subst (λ rs. AreReportRows rs file list workers) same h.has
 
--- so one file is named, and one list
-one_file : (sub : Option (Text × List Row)) (f l g m : Text) → NamesReport sub f l → NamesReport sub g m → (f ≡ g) × (l ≡ m)
-one_file sub f l g m a b =
-    let other = values_in sub a.rows a.named g m b in (same_some f g (sym a.file_is ∙ other.0), same_some l m (sym a.list_is ∙ other.1))
+-- a number of one name is one number
+one_number : (rows : List Row) (name : Text) (least most v w : ℕ) → HasNumber rows name least most v → HasNumber rows name least most w → v ≡ w
+one_number rows name least most v w a b =
+    let same = same_some a.text b.text (sym a.text_is ∙ b.text_is) in
+    a.value_is ∙ ap (λ t. digits_value 10 (without_leading_plus t)) same ∙ sym b.value_is
+
+-- so one file is named, one list, and one number of workers
+one_report : (sub : Option (Text × List Row)) (f l g m : Text) (v w : ℕ) → NamesReport sub f l v → NamesReport sub g m w → (f ≡ g) × (l ≡ m) × (v ≡ w)
+one_report sub f l g m v w a b =
+    let other = report_in sub a.rows a.named g m w b in (
+      same_some f g (sym a.has.file_is ∙ other.file_is),
+      same_some l m (sym a.has.list_is ∙ other.list_is),
+      one_number a.rows (codes "workers") 1 MAX_WORKERS v w a.has.workers_is other.workers_is,
+    )
 
 -- where a command is named that has a file, its rows have it
 pub file_in : (command : Text) (sub : Option (Text × List Row)) (rows : List Row) → sub ≡ Some (command, rows) → (file : Text) → NamesFile command sub file
@@ -86,14 +98,14 @@ two_commands sub a b xs ys left right other =
     let same : a ≡ b = ap (λ (p : Text × List Row). p.0) (same_some (a, xs) (b, ys) (sym left ∙ right)) in
     let twice = bytes_eq-same a b same in cc
 
-no_report_replays : (sub : Option (Text × List Row)) (f l g : Text) → NamesReport sub f l → NamesReplay sub g → ⊥
-no_report_replays sub f l g a b = two_commands sub (codes "report") (codes "replay") a.rows b.rows a.named b.named refl
+no_report_replays : (sub : Option (Text × List Row)) (f l g : Text) (w : ℕ) → NamesReport sub f l w → NamesReplay sub g → ⊥
+no_report_replays sub f l g w a b = two_commands sub (codes "report") (codes "replay") a.rows b.rows a.named b.named refl
 
-no_report_upgrades : (sub : Option (Text × List Row)) (f l g : Text) → NamesReport sub f l → NamesUpgrade sub g → ⊥
-no_report_upgrades sub f l g a b = two_commands sub (codes "report") (codes "upgrade") a.rows b.rows a.named b.named refl
+no_report_upgrades : (sub : Option (Text × List Row)) (f l g : Text) (w : ℕ) → NamesReport sub f l w → NamesUpgrade sub g → ⊥
+no_report_upgrades sub f l g w a b = two_commands sub (codes "report") (codes "upgrade") a.rows b.rows a.named b.named refl
 
-no_report_runs : (sub : Option (Text × List Row)) (f l : Text) (n t : ℕ) (values : Text) (patience steps : ℕ) → NamesReport sub f l → NamesRun sub n t values patience steps → ⊥
-no_report_runs sub f l n t values patience steps a b = two_commands sub (codes "report") (codes "run") a.rows b.rows a.named b.named refl
+no_report_runs : (sub : Option (Text × List Row)) (f l : Text) (n t : ℕ) (values : Text) (patience steps : ℕ) (w : ℕ) → NamesReport sub f l w → NamesRun sub n t values patience steps → ⊥
+no_report_runs sub f l n t values patience steps w a b = two_commands sub (codes "report") (codes "run") a.rows b.rows a.named b.named refl
 
 no_replay_runs : (sub : Option (Text × List Row)) (f : Text) (n t : ℕ) (values : Text) (patience steps : ℕ) → NamesReplay sub f → NamesRun sub n t values patience steps → ⊥
 no_replay_runs sub f n t values patience steps a b = two_commands sub (codes "replay") (codes "run") a.rows b.rows a.named b.named refl
@@ -101,8 +113,8 @@ no_replay_runs sub f n t values patience steps a b = two_commands sub (codes "re
 no_upgrade_runs : (sub : Option (Text × List Row)) (f : Text) (n t : ℕ) (values : Text) (patience steps : ℕ) → NamesUpgrade sub f → NamesRun sub n t values patience steps → ⊥
 no_upgrade_runs sub f n t values patience steps a b = two_commands sub (codes "upgrade") (codes "run") a.rows b.rows a.named b.named refl
 
-no_report_checks : (sub : Option (Text × List Row)) (f l g c m : Text) → NamesReport sub f l → NamesCheck sub g c m → ⊥
-no_report_checks sub f l g c m a b = two_commands sub (codes "report") (codes "check") a.rows b.rows a.named b.named refl
+no_report_checks : (sub : Option (Text × List Row)) (f l g c m : Text) (w : ℕ) → NamesReport sub f l w → NamesCheck sub g c m → ⊥
+no_report_checks sub f l g c m w a b = two_commands sub (codes "report") (codes "check") a.rows b.rows a.named b.named refl
 
 no_file_checks : (command : Text) (sub : Option (Text × List Row)) (f g c m : Text) → bytes_eq command (codes "check") ≡ false → NamesFile command sub f → NamesCheck sub g c m → ⊥
 no_file_checks command sub f g c m other a b = two_commands sub command (codes "check") a.rows b.rows a.named b.named other
@@ -141,7 +153,7 @@ one_check sub f c l g d m a b =
     (same_some f g (sym a.has.file_is ∙ other.file_is), same_some c d (sym a.has.certificate_is ∙ other.certificate_is), same_some l m (sym a.has.list_is ∙ other.list_is))
 
 -- a refusal where no job is named
-pub nothing_named : (sub : Option (Text × List Row)) (w : Fault) → IsLineFault w → ((file list : Text) → ¬ NamesReport sub file list)
+pub nothing_named : (sub : Option (Text × List Row)) (w : Fault) → IsLineFault w → ((file list : Text) (workers : ℕ) → ¬ NamesReport sub file list workers)
     → ((file : Text) → ¬ NamesReplay sub file) → ((n t : ℕ) (values : Text) (patience steps : ℕ) → ¬ NamesRun sub n t values patience steps)
     → ((file : Text) → ¬ NamesUpgrade sub file) → ((file certificate list : Text) → ¬ NamesCheck sub file certificate list) → IsRefusalIn sub w
 nothing_named sub (fault.Command text) h report replay run upgrade check =
@@ -173,7 +185,7 @@ kinds_known a words error e h = subst (λ b. HasKind (fault_of b words) error) e
 
 -- what the matches name, the words ask for
 pub job_of : (words : List Text) (sub : Option (Text × List Row)) → sub ≡ subcommand_of program words → (j : Job) → IsJobIn sub j → IsJobOf words j
-job_of words sub e (job.Report name set) h = subst (λ s. IsJobIn s (job.Report name set)) e h
+job_of words sub e (job.Report name set workers) h = subst (λ s. IsJobIn s (job.Report name set workers)) e h
 job_of words sub e (job.Replay name) h = subst (λ s. IsJobIn s (job.Replay name)) e h
 job_of words sub e (job.Run config patience steps) h = subst (λ s. IsJobIn s (job.Run config patience steps)) e h
 job_of words sub e (job.Upgrade name) h = subst (λ s. IsJobIn s (job.Upgrade name)) e h
@@ -199,7 +211,7 @@ among words kind other (inr h) = h
 
 -- a text for an error of the words that asks for help
 pub help_of : (words : List Text) (kind : ErrorKind) → (kind ≡ OutOfMemory) ⊎ IsAmong kind (fault_of program words) → (j : Job) → IsHelpFor kind j → IsJobOf words j
-help_of words kind has (job.Report file set) h = absurd h
+help_of words kind has (job.Report file set workers) h = absurd h
 help_of words kind has (job.Replay file) h = absurd h
 help_of words kind has (job.Run config patience steps) h = absurd h
 help_of words kind has (job.Upgrade file) h = absurd h
@@ -223,50 +235,53 @@ none_among : (kind : ErrorKind) (kinds : Kinds) → kinds ≡ [] → ¬ IsAmong 
 none_among kind kinds none h = subst (λ ks. IsAmong kind ks) none h
 
 -- the job of words that ask for a report and have no fault
-line_job : (words : List Text) (file list : Text) → fault_of program words ≡ [] → AsksForReport words file list → (j : Job) → IsJobOf words j → IsReport file list j
-line_job words file list none asks (job.Report name set) h =
-    let same = one_file (subcommand_of program words) (string_bytes name) h.0 file list h.1 asks in
-    (same.0, subst (λ l. IsSetIn l set) same.1 h.2)
-line_job words file list none asks (job.Replay name) h = absurd (no_report_replays (subcommand_of program words) file list (string_bytes name) asks h)
-line_job words file list none asks (job.Run config patience steps) h =
-    absurd (no_report_runs (subcommand_of program words) file list config.n config.t h.text patience steps asks h.named)
-line_job words file list none asks (job.Upgrade name) h = absurd (no_report_upgrades (subcommand_of program words) file list (string_bytes name) asks h)
-line_job words file list none asks (job.Check name certificate set) h =
-    absurd (no_report_checks (subcommand_of program words) file list (string_bytes name) (string_bytes certificate) h.list asks h.named)
-line_job words file list none asks (job.Help text) h = absurd (none_among h.kind (fault_of program words) none h.among)
+line_job : (words : List Text) (file list : Text) (workers : ℕ) → fault_of program words ≡ [] → AsksForReport words file list workers → (j : Job) → IsJobOf words j
+    → IsReport file list workers j
+line_job words file list workers none asks (job.Report name set w) h =
+    let same = one_report (subcommand_of program words) (string_bytes name) h.list file list w workers h.named asks in
+    (same.0, subst (λ l. IsSetIn l set) same.1 h.listed, same.2)
+line_job words file list workers none asks (job.Replay name) h = absurd (no_report_replays (subcommand_of program words) file list (string_bytes name) workers asks h)
+line_job words file list workers none asks (job.Run config patience steps) h =
+    absurd (no_report_runs (subcommand_of program words) file list config.n config.t h.text patience steps workers asks h.named)
+line_job words file list workers none asks (job.Upgrade name) h = absurd (no_report_upgrades (subcommand_of program words) file list (string_bytes name) workers asks h)
+line_job words file list workers none asks (job.Check name certificate set) h =
+    absurd (no_report_checks (subcommand_of program words) file list (string_bytes name) (string_bytes certificate) h.list workers asks h.named)
+line_job words file list workers none asks (job.Help text) h = absurd (none_among h.kind (fault_of program words) none h.among)
 
 -- and their refusals
-line_refusal : (words : List Text) (file list : Text) → fault_of program words ≡ [] → AsksForReport words file list → (w : Fault) → IsRefusalOf words w → IsListFault list w
-line_refusal words file list none asks (fault.Command text) (inl h) = absurd (none_among h.kind (fault_of program words) none h.among)
-line_refusal words file list none asks (fault.Command text) (inr (inl h)) =
-    (h.told, subst IsNoList (one_file (subcommand_of program words) h.file h.list file list h.named asks).1 h.no_list)
-line_refusal words file list none asks (fault.Command text) (inr (inr (inl h))) =
-    absurd (no_report_runs (subcommand_of program words) file list h.n h.t h.values h.patience h.steps asks h.named)
-line_refusal words file list none asks (fault.Command text) (inr (inr (inr (inl h)))) =
-    absurd (no_report_checks (subcommand_of program words) file list h.file h.certificate h.list asks h.named)
-line_refusal words file list none asks (fault.Command text) (inr (inr (inr (inr h)))) = absurd (h.no_report file list asks)
-line_refusal words file list none asks fault.Set h = h
-line_refusal words file list none asks (fault.Trace e) h = h
-line_refusal words file list none asks (fault.Certificate e) h = h
-line_refusal words file list none asks fault.Memory h = h
-line_refusal words file list none asks fault.Read h = h
-line_refusal words file list none asks (fault.Write n) h = h
-line_refusal words file list none asks (fault.NotARun n) h = h
-line_refusal words file list none asks fault.Threads h = h
+line_refusal : (words : List Text) (file list : Text) (workers : ℕ) → fault_of program words ≡ [] → AsksForReport words file list workers → (w : Fault) → IsRefusalOf words w
+    → IsListFault list w
+line_refusal words file list workers none asks (fault.Command text) (inl h) = absurd (none_among h.kind (fault_of program words) none h.among)
+line_refusal words file list workers none asks (fault.Command text) (inr (inl h)) =
+    (h.told, subst IsNoList (one_report (subcommand_of program words) h.file h.list file list h.workers workers h.named asks).1 h.no_list)
+line_refusal words file list workers none asks (fault.Command text) (inr (inr (inl h))) =
+    absurd (no_report_runs (subcommand_of program words) file list h.n h.t h.values h.patience h.steps workers asks h.named)
+line_refusal words file list workers none asks (fault.Command text) (inr (inr (inr (inl h)))) =
+    absurd (no_report_checks (subcommand_of program words) file list h.file h.certificate h.list workers asks h.named)
+line_refusal words file list workers none asks (fault.Command text) (inr (inr (inr (inr h)))) = absurd (h.no_report file list workers asks)
+line_refusal words file list workers none asks fault.Set h = h
+line_refusal words file list workers none asks (fault.Trace e) h = h
+line_refusal words file list workers none asks (fault.Certificate e) h = h
+line_refusal words file list workers none asks fault.Memory h = h
+line_refusal words file list workers none asks fault.Read h = h
+line_refusal words file list workers none asks (fault.Write n) h = h
+line_refusal words file list workers none asks (fault.NotARun n) h = h
+line_refusal words file list workers none asks fault.Threads h = h
 
--- the line `report FILE --correct LIST` gives the report of that file for that list, unless the list is none
+-- the line `report FILE --correct LIST` gives the report of that file for that list by one worker, unless the list is none
 pub line_is : (words : List Text) (r : Result Job Fault) → IfOk r (IsJobOf words) → IfErr r (IsRefusalOf words) → (name file list : Text)
-    → words ≡ report_line name file list → is_flag file ≡ false → is_flag list ≡ false → MatchResult r (IsReport file list) (IsListFault list)
+    → words ≡ report_line name file list → is_flag file ≡ false → is_flag list ≡ false → MatchResult r (IsReport file list 1) (IsListFault list)
 line_is words (Ok j) h _ name file list line plain_file plain_list =
-    line_job words file list (ap (fault_of program) line ∙ report_faultless name file list plain_file plain_list)
-    (subst (λ ws. AsksForReport ws file list) (sym line) (asks_for_report name file list plain_file plain_list)) j h
+    line_job words file list 1 (ap (fault_of program) line ∙ report_faultless name file list plain_file plain_list)
+    (subst (λ ws. AsksForReport ws file list 1) (sym line) (asks_for_report name file list plain_file plain_list)) j h
 line_is words (Err w) _ h name file list line plain_file plain_list =
-    line_refusal words file list (ap (fault_of program) line ∙ report_faultless name file list plain_file plain_list)
-    (subst (λ ws. AsksForReport ws file list) (sym line) (asks_for_report name file list plain_file plain_list)) w h
+    line_refusal words file list 1 (ap (fault_of program) line ∙ report_faultless name file list plain_file plain_list)
+    (subst (λ ws. AsksForReport ws file list 1) (sym line) (asks_for_report name file list plain_file plain_list)) w h
 
 -- the same of a replay, which no list can keep from it
 replayed_job : (words : List Text) (file : Text) → fault_of program words ≡ [] → AsksForReplay words file → (j : Job) → IsJobOf words j → IsReplay file j
-replayed_job words file none asks (job.Report name set) h = absurd (no_report_replays (subcommand_of program words) (string_bytes name) h.0 file h.1 asks)
+replayed_job words file none asks (job.Report name set workers) h =
+    absurd (no_report_replays (subcommand_of program words) (string_bytes name) h.list file workers h.named asks)
 replayed_job words file none asks (job.Replay name) h = one_file_of (codes "replay") (subcommand_of program words) (string_bytes name) file h asks
 replayed_job words file none asks (job.Run config patience steps) h =
     absurd (no_replay_runs (subcommand_of program words) file config.n config.t h.text patience steps asks h.named)
@@ -277,7 +292,7 @@ replayed_job words file none asks (job.Help text) h = absurd (none_among h.kind 
 
 replayed_refusal : (words : List Text) (file : Text) → fault_of program words ≡ [] → AsksForReplay words file → (w : Fault) → IsRefusalOf words w → IsMemory w
 replayed_refusal words file none asks (fault.Command text) (inl h) = absurd (none_among h.kind (fault_of program words) none h.among)
-replayed_refusal words file none asks (fault.Command text) (inr (inl h)) = absurd (no_report_replays (subcommand_of program words) h.file h.list file h.named asks)
+replayed_refusal words file none asks (fault.Command text) (inr (inl h)) = absurd (no_report_replays (subcommand_of program words) h.file h.list file h.workers h.named asks)
 replayed_refusal words file none asks (fault.Command text) (inr (inr (inl h))) =
     absurd (no_replay_runs (subcommand_of program words) file h.n h.t h.values h.patience h.steps asks h.named)
 replayed_refusal words file none asks (fault.Command text) (inr (inr (inr (inl h)))) =
@@ -304,7 +319,8 @@ replay_is words (Err w) _ h name file line plain =
 
 -- and the same of an upgrade
 upgraded_job : (words : List Text) (file : Text) → fault_of program words ≡ [] → AsksForUpgrade words file → (j : Job) → IsJobOf words j → IsUpgrade file j
-upgraded_job words file none asks (job.Report name set) h = absurd (no_report_upgrades (subcommand_of program words) (string_bytes name) h.0 file h.1 asks)
+upgraded_job words file none asks (job.Report name set workers) h =
+    absurd (no_report_upgrades (subcommand_of program words) (string_bytes name) h.list file workers h.named asks)
 upgraded_job words file none asks (job.Replay name) h = absurd (no_replay_upgrades (subcommand_of program words) (string_bytes name) file h asks)
 upgraded_job words file none asks (job.Run config patience steps) h =
     absurd (no_upgrade_runs (subcommand_of program words) file config.n config.t h.text patience steps asks h.named)
@@ -315,7 +331,7 @@ upgraded_job words file none asks (job.Help text) h = absurd (none_among h.kind 
 
 upgraded_refusal : (words : List Text) (file : Text) → fault_of program words ≡ [] → AsksForUpgrade words file → (w : Fault) → IsRefusalOf words w → IsMemory w
 upgraded_refusal words file none asks (fault.Command text) (inl h) = absurd (none_among h.kind (fault_of program words) none h.among)
-upgraded_refusal words file none asks (fault.Command text) (inr (inl h)) = absurd (no_report_upgrades (subcommand_of program words) h.file h.list file h.named asks)
+upgraded_refusal words file none asks (fault.Command text) (inr (inl h)) = absurd (no_report_upgrades (subcommand_of program words) h.file h.list file h.workers h.named asks)
 upgraded_refusal words file none asks (fault.Command text) (inr (inr (inl h))) =
     absurd (no_upgrade_runs (subcommand_of program words) file h.n h.t h.values h.patience h.steps asks h.named)
 upgraded_refusal words file none asks (fault.Command text) (inr (inr (inr (inl h)))) =
@@ -343,8 +359,8 @@ upgrade_is words (Err w) _ h name file line plain =
 -- the same of a check, but for its list and for its files
 checked_job : (words : List Text) (file certified list : Text) → fault_of program words ≡ [] → AsksForCheck words file certified list → (j : Job) → IsJobOf words j
     → IsCheck file certified list j
-checked_job words file certified list none asks (job.Report name set) h =
-    absurd (no_report_checks (subcommand_of program words) (string_bytes name) h.0 file certified list h.1 asks)
+checked_job words file certified list none asks (job.Report name set workers) h =
+    absurd (no_report_checks (subcommand_of program words) (string_bytes name) h.list file certified list workers h.named asks)
 checked_job words file certified list none asks (job.Replay name) h =
     absurd (no_file_checks (codes "replay") (subcommand_of program words) (string_bytes name) file certified list refl h asks)
 checked_job words file certified list none asks (job.Run config patience steps) h =
@@ -364,7 +380,7 @@ checked_refusal : (words : List Text) (file certified list : Text) → fault_of 
     → IsFilesFault file certified list w
 checked_refusal words file certified list none asks (fault.Command text) (inl h) = absurd (none_among h.kind (fault_of program words) none h.among)
 checked_refusal words file certified list none asks (fault.Command text) (inr (inl h)) =
-    absurd (no_report_checks (subcommand_of program words) h.file h.list file certified list h.named asks)
+    absurd (no_report_checks (subcommand_of program words) h.file h.list file certified list h.workers h.named asks)
 checked_refusal words file certified list none asks (fault.Command text) (inr (inr (inl h))) =
     absurd (no_run_checks (subcommand_of program words) h.n h.t h.values h.patience h.steps file certified list h.named asks)
 checked_refusal words file certified list none asks (fault.Command text) (inr (inr (inr (inl h)))) =

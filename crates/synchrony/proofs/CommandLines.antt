@@ -1,6 +1,6 @@
 -- The lines `report FILE --correct LIST`, `replay FILE`, `upgrade FILE` and `check FILE CERT --correct LIST` ask for
 -- that report, that replay, that upgrade and that check, and nothing in them is refused.
-use Rattle.std.proofs.Common.{◌≡◌, ◌∙◌, ap, ap₂, refl, ℕ, Bool, true, false, ◌==◌, List, [], ◌∷◌, Some, None, codes}
+use Rattle.std.proofs.Common.{◌≡◌, ◌∙◌, ap, ap₂, refl, ℕ, Bool, true, false, ◌==◌, List, [], ◌∷◌, Some, None, codes, arith}
 use Rattle.std.specs.Prelude.{◌&&◌, if◌then◌else◌, option_and_then}
 use Rattle.std.specs.Str.{bytes_eq}
 use Rattle.clap.specs.Faults.{level_fault, settle_fault, defaults_fault, check_fault, step_fault, turn_fault, walk_fault}
@@ -8,9 +8,10 @@ use Rattle.clap.specs.Lexer.{long_of, long_of_rest, short_of, short_of_rest, str
 use Rattle.clap.specs.Kinds.{Kinds, or_else}
 use Rattle.clap.specs.Simple.{Shape, built, names_of}
 use Rattle.clap.specs.Walk.{Held, Text, Waiting, Walk, after_step, finished, nothing_held, plain_word, settled, subcommand_met, walk, walk_from, walked, word_met}
-use Rattle.clap.specs.Words.{Rule, fault_of}
+use Rattle.clap.specs.Words.{Row, Rule, fault_of, first_of}
 use Rattle.clap.proofs.OnLiterals.{clap_on_literals}
-use Rattle.synchrony.specs.Commands.{AsksForCheck, AsksForReplay, AsksForReport, AsksForUpgrade, check_app, check_line, is_flag, program, replay_app, replay_line, report_app, report_line, upgrade_app, upgrade_line}
+use Rattle.chunk_join.specs.declared.analyses.TheConstants.{MAX_WORKERS}
+use Rattle.synchrony.specs.Commands.{AsksForCheck, AsksForReplay, AsksForReport, AsksForUpgrade, HasNumber, check_app, check_line, is_flag, program, replay_app, replay_line, report_app, report_line, upgrade_app, upgrade_line}
 
 -- a word that is no flag is neither `--` nor a long nor a short flag
 pub not_dashes : (word : Text) → is_flag word ≡ false → bytes_eq word (45 ∷ 45 ∷ []) ≡ false
@@ -113,13 +114,17 @@ walk_is file list plain_file plain_list =
     ap (λ w. walked report.rules [] (walked report.rules [] w (codes "--correct")) list) (walked_plain report.rules start file plain_file refl refl refl)
     ∙ walked_plain report.rules (after_option file) list plain_list refl refl refl
 
-pub asks_for_report : (name file list : Text) → is_flag file ≡ false → is_flag list ≡ false → AsksForReport (report_line name file list) file list
+-- one worker, where the rows have the text that stands for no other number
+one_worker : (rows : List Row) → first_of (codes "workers") rows ≡ Some (codes "1") → HasNumber rows (codes "workers") 1 MAX_WORKERS 1
+one_worker rows has =
+    record { text = codes "1"; text_is = has; numeral = (omega arith, (omega arith, tt)); value_is = refl; low = omega arith; high = omega arith }
+
+pub asks_for_report : (name file list : Text) → is_flag file ≡ false → is_flag list ≡ false → AsksForReport (report_line name file list) file list 1
 unfolding clap_on_literals
 asks_for_report name file list plain_file plain_list = record {
   rows = finished report.rules (after_list file list).held;
   named = ap (λ (w : Walk). Some (codes "report", finished report.rules w.held)) (walk_is file list plain_file plain_list);
-  file_is = refl;
-  list_is = refl;
+  has = record { file_is = refl; list_is = refl; workers_is = one_worker (finished report.rules (after_list file list).held) refl };
 }
 
 -- nothing in the words after `report` is refused

@@ -3,6 +3,6 @@ pub mod ReportFaults
 pub mod CommandLines
 pub mod UpgradeFaults
 pub mod ValueLists
-pub mod RunRows
+pub mod NumberRows
 pub mod EvenRuns
 pub mod CheckFaults

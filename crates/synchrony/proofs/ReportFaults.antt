@@ -8,7 +8,6 @@ use Rattle.step_trace.specs.declared.rows.Row.{Row}
 use Rattle.step_trace.specs.Processors.{IsWithin}
 use Rattle.step_trace.specs.Traces.{Recorded}
 use Rattle.trace_text.specs.declared.byte_loops.TheConstants.{MAX_TEXT_BYTES}
-use Rattle.trace_text.specs.declared.counting.Counting.{Counting}
 use Rattle.trace_text.specs.declared.refusals.TextError.{TextError}
 use Rattle.trace_text.specs.declared.refusals.TextError.TheVariants as why
 use Rattle.trace_text.specs.declared.refusals.WriteError.{WriteError}
@@ -18,9 +17,8 @@ use Rattle.trace_text.specs.TextRefusals.{IsFirstRefusal}
 use Rattle.synchrony.specs.declared.faults.Fault.{Fault}
 use Rattle.synchrony.specs.declared.faults.Fault.TheVariants as fault
 use Rattle.synchrony.specs.Faults.{fault_of_text, fault_of_write}
-use Rattle.synchrony.specs.Printing.{IsWriteFault}
-use Rattle.synchrony.specs.Inputs.{IsReadFault, IsTextOf, IsTraceFault}
-use Rattle.synchrony.specs.Reports.{AreRowsOf, IsFaultOfReport, IsReportFault, IsTextFault}
+use Rattle.synchrony.specs.Inputs.{IsTextOf, IsTraceFault}
+use Rattle.synchrony.specs.Reports.{AreRowsOf, IsFaultOfReading, IsFaultOfReport, IsFaultOfWorkers, IsReportFault, IsTextFault, IsUnreported}
 
 -- what holds of the text that was read holds of the bytes that are known
 pub of_known : (P : List ℕ → Type 0) (text : List ℕ) (known : Option (List ℕ)) → IfSome known (λ xs. text ≡ xs) → P text → IfSome known P
@@ -52,7 +50,7 @@ trace_fault set text (fault.Write n) h = absurd h
 trace_fault set text (fault.NotARun n) h = absurd h
 trace_fault set text fault.Threads h = absurd h
 
-pub own_trace_fault : (text : List ℕ) (w : Fault) → IsTraceFault text w → IsFaultOfReport w
+pub own_trace_fault : (text : List ℕ) (w : Fault) → IsTraceFault text w → IsFaultOfReading w
 own_trace_fault text (fault.Command words) h = absurd h
 own_trace_fault text fault.Set h = absurd h
 own_trace_fault text (fault.Trace e) h = (h.1, h.2)
@@ -75,26 +73,42 @@ pub set_fault : (set : ℕ) (text : List ℕ) (t : Recorded) (n : ℕ) (w : Faul
 set_fault set text t n w read same told =
     rw told.0 (record { trace = t; read = read; outside = λ h. told.1 (subst (λ m. IsWithin set m) (sym same) h) })
 
--- a fault of the text is one of the report, and none of the reader or the writer
-pub text_fault : (set : ℕ) (text : List ℕ) (before after : Option (List ℕ)) (w : Fault) → IsTextFault set text w → IsReportFault set text before after w
-text_fault set text before after (fault.Command words) h = h
-text_fault set text before after fault.Set h = h
-text_fault set text before after (fault.Trace e) h = h
-text_fault set text before after (fault.Certificate e) h = h
-text_fault set text before after fault.Memory h = tt
-text_fault set text before after fault.Read h = tt
-text_fault set text before after (fault.Write n) h = absurd h
-text_fault set text before after (fault.NotARun n) h = absurd h
-text_fault set text before after fault.Threads h = absurd h
+-- a fault of the text is one where there is no report
+pub unreported_text : (set : ℕ) (text : List ℕ) (w : Fault) → IsTextFault set text w → IsUnreported set text w
+unreported_text set text fault.Threads h = absurd h
+unreported_text set text w h = h
 
--- it leaves the reader's faults and the writer as they were
-pub text_fault_reads : (set old new : ℕ) (text : List ℕ) (w : Fault) → IsTextFault set text w → new ≡ old → IsReadFault old new w
-text_fault_reads set old new text fault.Read h same = absurd h
-text_fault_reads set old new text w h same = same
+pub own_reading : (w : Fault) → IsFaultOfReading w → IsFaultOfReport w
+own_reading fault.Threads h = absurd h
+own_reading w h = h
 
-pub text_fault_writes : {T : Type 0} (old new : Counting T) (set : ℕ) (text : List ℕ) (w : Fault) → IsTextFault set text w → new ≡ old → IsWriteFault old new w
-text_fault_writes old new set text (fault.Write n) h same = absurd h
-text_fault_writes old new set text w h same = same
+-- so is one of the workers, where the trace was read and has the set's members
+pub unreported_work : (set : ℕ) (text : List ℕ) (t : Recorded) (w : Fault) → IsTextOf text t → IsWithin set t.config.n → IsFaultOfWorkers w → IsUnreported set text w
+unreported_work set text t fault.Memory read within h = tt
+unreported_work set text t fault.Threads read within h = record { trace = t; read = read; within = within }
+unreported_work set text t w read within h = absurd h
+
+pub own_work : (w : Fault) → IsFaultOfWorkers w → IsFaultOfReport w
+own_work fault.Memory h = tt
+own_work fault.Threads h = tt
+own_work w h = absurd h
+
+-- a fault where there is no report is one of the report
+unreported_fault : (set : ℕ) (text : List ℕ) (before after : Option (List ℕ)) (w : Fault) → IsUnreported set text w → IsReportFault set text before after w
+unreported_fault set text before after (fault.Command words) h = h
+unreported_fault set text before after fault.Set h = h
+unreported_fault set text before after (fault.Trace e) h = h
+unreported_fault set text before after (fault.Certificate e) h = h
+unreported_fault set text before after fault.Memory h = tt
+unreported_fault set text before after fault.Read h = tt
+unreported_fault set text before after (fault.Write n) h = absurd h
+unreported_fault set text before after (fault.NotARun n) h = h
+unreported_fault set text before after fault.Threads h = h
+
+pub unreported : (set : ℕ) (text : List ℕ) (before after known : Option (List ℕ)) (w : Fault) → IfSome known (λ xs. text ≡ xs) → IsUnreported set text w
+    → IfSome known (λ xs. IsReportFault set xs before after w)
+unreported set text before after known w whole h =
+    of_known (λ xs. IsReportFault set xs before after w) text known whole (unreported_fault set text before after w h)
 
 -- a report that wasn't written whole: so many bytes of its text went out, or there was no memory
 pub write_fault : (set : ℕ) (text : List ℕ) (rows shown : List Row) (before after known : Option (List ℕ)) (e : WriteError) → IfSome known (λ xs. text ≡ xs)

@@ -10,6 +10,7 @@ use Rattle.clap.specs.declared.builder.value_parser.ValueParser.TheVariants as v
 use Rattle.clap.specs.declared.error.kind.ErrorKind.{ErrorKind}
 use Rattle.clap.specs.declared.error.kind.ErrorKind.TheVariants.{DisplayHelp, DisplayVersion}
 use Rattle.step_trace.specs.declared.traces.TheConstants.{MAX_STEPS}
+use Rattle.chunk_join.specs.declared.analyses.TheConstants.{MAX_WORKERS}
 use Rattle.synchrony.specs.declared.run_lines.TheConstants.{MAX_PATIENCE}
 
 -- FILE
@@ -20,9 +21,19 @@ file_rule = record (new_rule (codes "file")) { action = Some Set; value_names = 
 abbrev pub correct_rule : Rule
 correct_rule = record (new_rule (codes "correct")) { long = Some (codes "correct"); action = Some Set; value_names = 1; required = true }
 
--- report FILE --correct LIST
+-- --workers W, a number within its bounds; 1 where it is left out
+abbrev pub workers_rule : Rule
+workers_rule = record (new_rule (codes "workers")) {
+  long = Some (codes "workers");
+  action = Some Set;
+  value_names = 1;
+  defaults = codes "1" ∷ [];
+  parser = Some (vp.Unsigned 1 MAX_WORKERS);
+}
+
+-- report FILE --correct LIST --workers W
 abbrev pub report_app : App
-report_app = with_rule (with_rule (new_app (codes "report")) file_rule) correct_rule
+report_app = with_rule (with_rule (with_rule (new_app (codes "report")) file_rule) correct_rule) workers_rule
 
 -- the program before it has commands, of which it requires one
 abbrev pub bare_program : App
@@ -63,12 +74,26 @@ abbrev pub program : App
 program = with_subcommand (with_subcommand (with_subcommand (with_subcommand (with_subcommand bare_program report_app.top) replay_app.top) run_app.top)
     upgrade_app.top) check_app.top
 
--- a subcommand and its matches are `report` with this file and this list
-pub record NamesReport (sub : Option (Text × List Row)) (file list : Text) : Type 0 where
-  pub rows : List Row
-  pub named : sub ≡ Some (codes "report", rows)
+-- The rows have a number of this name, as the reader of 64-bit numbers reads it, within these bounds.
+pub record HasNumber (rows : List Row) (name : Text) (least most value : ℕ) : Type 0 where
+  pub text : Text
+  pub text_is : first_of name rows ≡ Some text
+  pub numeral : IsNumeral 10 (without_leading_plus text)
+  pub value_is : value ≡ digits_value 10 (without_leading_plus text)
+  pub low : least ≤ value
+  pub high : value ≤ most
+
+-- the rows below `report` have this file, this list and this number of workers
+pub record AreReportRows (rows : List Row) (file list : Text) (workers : ℕ) : Type 0 where
   pub file_is : first_of (codes "file") rows ≡ Some file
   pub list_is : first_of (codes "correct") rows ≡ Some list
+  pub workers_is : HasNumber rows (codes "workers") 1 MAX_WORKERS workers
+
+-- a subcommand and its matches are `report` with this file, this list and this number of workers
+pub record NamesReport (sub : Option (Text × List Row)) (file list : Text) (workers : ℕ) : Type 0 where
+  pub rows : List Row
+  pub named : sub ≡ Some (codes "report", rows)
+  pub has : AreReportRows rows file list workers
 
 -- a subcommand and its matches are this command with this file
 pub record NamesFile (command : Text) (sub : Option (Text × List Row)) (file : Text) : Type 0 where
@@ -82,15 +107,6 @@ NamesReplay sub file = NamesFile (codes "replay") sub file
 
 abbrev pub NamesUpgrade : Option (Text × List Row) → Text → Type 0
 NamesUpgrade sub file = NamesFile (codes "upgrade") sub file
-
--- The rows have a number of this name, as the reader of 64-bit numbers reads it, within these bounds.
-pub record HasNumber (rows : List Row) (name : Text) (least most value : ℕ) : Type 0 where
-  pub text : Text
-  pub text_is : first_of name rows ≡ Some text
-  pub numeral : IsNumeral 10 (without_leading_plus text)
-  pub value_is : value ≡ digits_value 10 (without_leading_plus text)
-  pub low : least ≤ value
-  pub high : value ≤ most
 
 -- the rows below `run` have these numbers and this list of values
 pub record AreRunRows (rows : List Row) (n t : ℕ) (values : Text) (patience steps : ℕ) : Type 0 where
@@ -120,15 +136,15 @@ pub record NamesCheck (sub : Option (Text × List Row)) (file certificate list :
 
 -- a subcommand and its matches name none of the jobs above
 pub record NamesNoJob (sub : Option (Text × List Row)) : Type 0 where
-  pub no_report : (file list : Text) → ¬ NamesReport sub file list
+  pub no_report : (file list : Text) (workers : ℕ) → ¬ NamesReport sub file list workers
   pub no_replay : (file : Text) → ¬ NamesReplay sub file
   pub no_run : (n t : ℕ) (values : Text) (patience steps : ℕ) → ¬ NamesRun sub n t values patience steps
   pub no_upgrade : (file : Text) → ¬ NamesUpgrade sub file
   pub no_check : (file certificate list : Text) → ¬ NamesCheck sub file certificate list
 
--- the words ask for the report of this file, for this list
-abbrev pub AsksForReport : List Text → Text → Text → Type 0
-AsksForReport words file list = NamesReport (subcommand_of program words) file list
+-- the words ask for the report of this file, for this list, by so many workers
+abbrev pub AsksForReport : List Text → Text → Text → ℕ → Type 0
+AsksForReport words file list workers = NamesReport (subcommand_of program words) file list workers
 
 -- an answer of this kind is a text that was asked for
 abbrev pub IsHelp : ErrorKind → Type 0

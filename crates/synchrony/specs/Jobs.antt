@@ -14,10 +14,10 @@ use Rattle.synchrony.specs.declared.command_line.Job.TheVariants as job
 use Rattle.synchrony.specs.declared.faults.Fault.{Fault}
 use Rattle.synchrony.specs.declared.faults.Fault.TheVariants as fault
 
--- the report of the file of this name, for the set that this list is
-abbrev pub IsReport : List ℕ → List ℕ → Job → Type 0
-IsReport name list (job.Report file set) = (string_bytes file ≡ name) × IsSetIn list set
-IsReport name list _ = ⊥
+-- the report of the file of this name, for the set that this list is, by so many workers
+abbrev pub IsReport : List ℕ → List ℕ → ℕ → Job → Type 0
+IsReport name list workers (job.Report file set w) = (string_bytes file ≡ name) × IsSetIn list set × (w ≡ workers)
+IsReport name list workers _ = ⊥
 
 -- the replay of the file of this name
 abbrev pub IsReplay : List ℕ → Job → Type 0
@@ -39,6 +39,13 @@ IsCheck name certified list (job.Check file certificate set) =
     (string_bytes file ≡ name) × (string_bytes certificate ≡ certified) × IsSetIn list set × (¬ AreBothStandardInput name certified)
 IsCheck name certified list _ = ⊥
 
+-- A subcommand and its matches are `report` with the file and the number of workers of this job, and with a list of
+-- its set.
+pub record IsReportIn (sub : Option (Text × List Row)) (file : Text) (set workers : ℕ) : Type 0 where
+  pub list : Text
+  pub named : NamesReport sub file list workers
+  pub listed : IsSetIn list set
+
 -- A subcommand and its matches are `check` with the files of this job, and the job keeps the limits of the command.
 pub record IsCheckIn (sub : Option (Text × List Row)) (file certificate : Text) (set : ℕ) : Type 0 where
   pub list : Text
@@ -55,10 +62,10 @@ pub record IsRunIn (sub : Option (Text × List Row)) (config : Setup) (patience 
   pub setup : IsSetup config
   pub room : config.n * steps ≤ MAX_STEPS
 
--- the report that a subcommand and its matches name, for the set that their list is; or the replay;
--- or the run; or the upgrade; or the check
+-- the report that a subcommand and its matches name, for the set that their list is, by as many workers; or the
+-- replay; or the run; or the upgrade; or the check
 abbrev pub IsJobIn : Option (Text × List Row) → Job → Type 0
-IsJobIn sub (job.Report file set) = (list : Text) × NamesReport sub (string_bytes file) list × IsSetIn list set
+IsJobIn sub (job.Report file set workers) = IsReportIn sub (string_bytes file) set workers
 IsJobIn sub (job.Replay file) = NamesReplay sub (string_bytes file)
 IsJobIn sub (job.Run config patience steps) = IsRunIn sub config patience steps
 IsJobIn sub (job.Upgrade file) = NamesUpgrade sub (string_bytes file)
@@ -66,11 +73,11 @@ IsJobIn sub (job.Check file certificate set) = IsCheckIn sub (string_bytes file)
 IsJobIn sub (job.Help text) = ⊥
 
 -- the job that the words ask for: the report of the file that they name, for the set that their list
--- is; or the replay of the file that they name; or the run of the numbers and values that they
--- name; or the upgrade of the file that they name; or the check of the two files that they name, for the set that
--- their list is; or a help text
+-- is, by as many workers as they say; or the replay of the file that they name; or the run of the numbers and values
+-- that they name; or the upgrade of the file that they name; or the check of the two files that they name, for the
+-- set that their list is; or a help text
 abbrev pub IsJobOf : List Text → Job → Type 0
-IsJobOf words (job.Report file set) = IsJobIn (subcommand_of program words) (job.Report file set)
+IsJobOf words (job.Report file set workers) = IsJobIn (subcommand_of program words) (job.Report file set workers)
 IsJobOf words (job.Replay file) = IsJobIn (subcommand_of program words) (job.Replay file)
 IsJobOf words (job.Run config patience steps) = IsJobIn (subcommand_of program words) (job.Run config patience steps)
 IsJobOf words (job.Upgrade file) = IsJobIn (subcommand_of program words) (job.Upgrade file)
@@ -120,7 +127,8 @@ IsLineFault _ = ⊥
 pub record NamesNoList (sub : Option (Text × List Row)) (text : Text) : Type 0 where
   pub file : Text
   pub list : Text
-  pub named : NamesReport sub file list
+  pub workers : ℕ
+  pub named : NamesReport sub file list workers
   pub told : text ≡ codes "synchrony: bad --correct"
   pub no_list : IsNoList list
 

@@ -7,6 +7,8 @@ use Rattle.step_trace.specs.Traces.{Recorded}
 use Rattle.step_trace.specs.Fronts.{IsReport}
 use Rattle.trace_text.specs.declared.refusals.TextError.TheVariants as why
 use Rattle.trace_text.specs.TextRefusals.{IsFirstRefusal}
+use Rattle.chunk_join.specs.declared.analyses.AnalyseError.{AnalyseError}
+use Rattle.chunk_join.specs.declared.analyses.AnalyseError.TheVariants as unanalysed
 use Rattle.front.specs.ReportTexts.{report_text}
 use Rattle.synchrony.specs.declared.faults.Fault.{Fault}
 use Rattle.synchrony.specs.declared.faults.Fault.TheVariants as fault
@@ -32,15 +34,39 @@ pub record IsSetOutside (set : ℕ) (text : List ℕ) : Type 0 where
   pub read : IsTextOf text trace
   pub outside : ¬ IsWithin set trace.config.n
 
--- the fault is none of the command line, of a replay or of threads; want of memory and a failed read are
--- faults of their own, and no refusals of the trace
+-- The text stands for a trace, which has all members of the set.
+pub record IsSetInside (set : ℕ) (text : List ℕ) : Type 0 where
+  pub trace : Recorded
+  pub read : IsTextOf text trace
+  pub within : IsWithin set trace.config.n
+
+-- the fault that a trace which wasn't analysed is: of threads, where a worker was held back or couldn't be started;
+-- the number of workers is never refused
+abbrev pub TellsAnalysis : AnalyseError → Fault → Type 0
+TellsAnalysis unanalysed.BadWorkers w = ⊥
+TellsAnalysis unanalysed.Held w = w ≡ fault.Threads
+TellsAnalysis unanalysed.Start w = w ≡ fault.Threads
+TellsAnalysis unanalysed.Memory w = w ≡ fault.Memory
+
+-- the fault is one of these
+abbrev pub IsFaultOfWorkers : Fault → Type 0
+IsFaultOfWorkers fault.Memory = ⊤
+IsFaultOfWorkers fault.Threads = ⊤
+IsFaultOfWorkers _ = ⊥
+
+-- the fault is none of the command line or of a replay; want of memory and a failed read are faults of their own,
+-- and no refusals of the trace
 abbrev pub IsFaultOfReport : Fault → Type 0
 IsFaultOfReport (fault.Command words) = ⊥
 IsFaultOfReport (fault.Trace reason) = (reason ≢ why.Read) × (reason ≢ why.Memory)
 IsFaultOfReport (fault.Certificate reason) = ⊥
 IsFaultOfReport (fault.NotARun number) = ⊥
-IsFaultOfReport fault.Threads = ⊥
 IsFaultOfReport _ = ⊤
+
+-- nor is it one of threads, before there are any
+abbrev pub IsFaultOfReading : Fault → Type 0
+IsFaultOfReading fault.Threads = ⊥
+IsFaultOfReading w = IsFaultOfReport w
 
 -- The fault has its cause in the text: its first refusal, or a member of the set that its trace hasn't.
 abbrev pub IsTextFault : ℕ → List ℕ → Fault → Type 0
@@ -54,7 +80,12 @@ IsTextFault set text (fault.NotARun number) = ⊥
 IsTextFault set text fault.Threads = ⊥
 IsTextFault set text (fault.Write n) = ⊥
 
--- The same, or the text has a report, of which that many first bytes went out.
+-- The same; or the text stands for a trace with the set's members, and it was for a thread.
+abbrev pub IsUnreported : ℕ → List ℕ → Fault → Type 0
+IsUnreported set text fault.Threads = IsSetInside set text
+IsUnreported set text w = IsTextFault set text w
+
+-- The same; or the text has a report, of which that many first bytes went out.
 abbrev pub IsReportFault : ℕ → List ℕ → Option (List ℕ) → Option (List ℕ) → Fault → Type 0
 IsReportFault set text before after (fault.Command words) = ⊥
 IsReportFault set text before after fault.Set = IsTextFault set text fault.Set
@@ -63,5 +94,5 @@ IsReportFault set text before after (fault.Certificate reason) = ⊥
 IsReportFault set text before after fault.Memory = ⊤
 IsReportFault set text before after fault.Read = ⊤
 IsReportFault set text before after (fault.NotARun number) = ⊥
-IsReportFault set text before after fault.Threads = ⊥
+IsReportFault set text before after fault.Threads = IsSetInside set text
 IsReportFault set text before after (fault.Write n) = (report : List ℕ) × IsReportOf set text report × (n ≤ length report) × Appends before after (take n report)

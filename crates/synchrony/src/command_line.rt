@@ -4,13 +4,14 @@ ghost use Rattle.std.specs.Prelude.{◌≡◌, ◌≢◌, ℕ, List, None, false
 ghost use Rattle.std.specs.declared.io.ErrorKind.TheVariants.{OutOfMemory};
 ghost use Rattle.clap.specs.Words.{app_of, kind_of, rule_of, subcommand_rows_of};
 ghost use Rattle.clap.specs.declared.builder.Command.TheViews.{out-Command};
-ghost use Rattle.synchrony.specs.Commands.{NamesFile, NamesReport, check_line, correct_rule, file_rule, is_flag, program, replay_app, replay_line, report_app, report_line, upgrade_app, upgrade_line};
+ghost use Rattle.synchrony.specs.Commands.{NamesFile, check_line, correct_rule, file_rule, is_flag, program, replay_app, replay_line, report_line, upgrade_app, upgrade_line};
 ghost use Rattle.step_trace.specs.ProcessorLists.{IsSetIn};
 ghost use Rattle.synchrony.specs.Jobs.{IsCheck, IsFilesFault, IsJobOf, IsJobIn, IsHelpFor, IsMemory, IsReplay, IsReport, IsUpgrade, IsLineFault, IsListFault, IsRefusalOf, IsRefusalIn, IsRefusalFor};
 
 use crate::check_lines::{check_command, check_job, check_words};
 use crate::faults::Fault;
-use crate::help_texts::{program_help, replay_help, report_help, upgrade_help};
+use crate::help_texts::{program_help, replay_help, upgrade_help};
+use crate::report_lines::{report_command, report_job, report_words};
 use crate::run_lines::{run_command, run_job, run_words};
 use clap::error::ErrorKind;
 use clap::{Arg, ArgAction, ArgMatches, Command};
@@ -21,13 +22,15 @@ use step_trace::{Config, ProcSet};
 /// What the program is to do.
 #[derive(Debug, Drop)]
 pub enum Job {
-    /// Print the report of the trace in a file, for this set of correct processors. The file `-` is
-    /// standard input.
+    /// Print the report of the trace in a file, for this set of correct processors, by so many workers.
+    /// The file `-` is standard input.
     Report {
         /// The path of the file.
         file: String,
         /// The processors that are named as correct.
         set: ProcSet,
+        /// How many workers find the bounds, from 1 to `MAX_WORKERS`.
+        workers: u64,
     },
     /// Print the replay of the trace in a file: the round and the decision of each processor at its end.
     /// The file `-` is standard input.
@@ -68,15 +71,15 @@ pub enum Job {
 /// Refuses what the reader of the command line refuses, in its words; a list that isn't one, by
 /// `bad --correct`; the numbers or values of a run that are outside its limits, by the first of
 /// `bad --nodes`, `bad --faults`, `bad --values` and `too many steps`; and Memory. The line
-/// `report FILE --correct LIST` asks for the report of FILE for LIST, where neither begins with a hyphen
-/// and goes on; and so `replay FILE` for the replay of FILE, and `upgrade FILE` for its upgrade. The line
-/// `check FILE CERT --correct LIST` asks for the check of CERT against FILE, and is refused by
-/// `only one file can be -` where both are that and the list is one.
+/// `report FILE --correct LIST` asks for the report of FILE for LIST by one worker, where neither begins
+/// with a hyphen and goes on; and so `replay FILE` for the replay of FILE, and `upgrade FILE` for its
+/// upgrade. The line `check FILE CERT --correct LIST` asks for the check of CERT against FILE, and is
+/// refused by `only one file can be -` where both are that and the list is one.
 pub fn read_command(alloc: Global, words: Vec<String>) -> Result<Job, Fault>
     ensures job { IfOk result (IsJobOf (map string_bytes words.items)) }
     ensures refused { IfErr result (IsRefusalOf (map string_bytes words.items)) }
     ensures line { (name file list : List ℕ) → map string_bytes words.items ≡ report_line name file list
-        → is_flag file ≡ false → is_flag list ≡ false → MatchResult result (IsReport file list) (IsListFault list) }
+        → is_flag file ≡ false → is_flag list ≡ false → MatchResult result (IsReport file list 1) (IsListFault list) }
     ensures replay { (name file : List ℕ) → map string_bytes words.items ≡ replay_line name file
         → is_flag file ≡ false → MatchResult result (IsReplay file) IsMemory }
     ensures upgrade { (name file : List ℕ) → map string_bytes words.items ≡ upgrade_line name file
@@ -112,17 +115,6 @@ fn command<'a>(alloc: Global) -> Result<Command<'a>, AllocError>
         .subcommand(run_command(alloc)?)?
         .subcommand(upgrade_command(alloc)?)?
         .subcommand(check_command(alloc)?)
-}
-
-fn report_command<'a>(alloc: Global) -> Result<Command<'a>, AllocError>
-    ensures app { IfOk result (λ c. app_of c ≡ report_app) }
-    ensures local { IfOk result (λ c. (out-Command c).has_globals ≡ false) }
-{
-    Command::new(alloc, "report")
-        .about("Prints the report of a trace, for a set of correct processors")
-        .after_help(report_help())
-        .arg(file_argument(alloc))?
-        .arg(correct_argument(alloc))
 }
 
 fn replay_command<'a>(alloc: Global) -> Result<Command<'a>, AllocError>
@@ -217,8 +209,8 @@ fn job_found(alloc: Global, matches: &ArgMatches<'_>) -> Result<Job, Fault>
     ensures job { IfOk result (IsJobIn (subcommand_rows_of matches.now)) }
     ensures refused { IfErr result (IsRefusalIn (subcommand_rows_of matches.now)) }
 {
-    if let Some((file, list)) = report_values(matches) {
-        return report_job(alloc, file, list);
+    if let Some(words) = report_words(matches) {
+        return report_job(alloc, words);
     }
     if let Some(file) = file_of(matches, "replay") {
         let file = String::from_str(alloc, file)?;
@@ -237,20 +229,6 @@ fn job_found(alloc: Global, matches: &ArgMatches<'_>) -> Result<Job, Fault>
     Err(unknown(alloc)?)
 }
 
-/// The file and the list of the command `report`, where the matches name it and have both.
-fn report_values<'a>(matches: &ArgMatches<'a>) -> Option<(&'a str, &'a str)>
-    ensures some { IfSome result (λ p. NamesReport (subcommand_rows_of matches.now) p.0.now p.1.now) }
-    ensures none { result ≡ None → (file list : List ℕ) → ¬ NamesReport (subcommand_rows_of matches.now) file list }
-{
-    let Some(("report", found)) = matches.subcommand() else {
-        return None;
-    };
-    let (Some(file), Some(list)) = (found.get_str("file"), found.get_str("correct")) else {
-        return None;
-    };
-    Some((file, list))
-}
-
 /// The file of a command, where the matches name this command and have it.
 fn file_of<'a>(matches: &ArgMatches<'a>, command: &str) -> Option<&'a str>
     ensures some { IfSome result (λ file. NamesFile command.now (subcommand_rows_of matches.now) file.now) }
@@ -261,16 +239,6 @@ fn file_of<'a>(matches: &ArgMatches<'a>, command: &str) -> Option<&'a str>
         return None;
     }
     found.get_str("file")
-}
-
-/// The job of a report of this file, for the set that this list is.
-fn report_job(alloc: Global, file: &str, list: &str) -> Result<Job, Fault>
-    ensures job { IfOk result (IsReport file.now list.now) }
-    ensures refused { IfErr result (IsListFault list.now) }
-{
-    let set = set_in(alloc, list)?;
-    let file = String::from_str(alloc, file)?;
-    Ok(Job::Report { file, set })
 }
 
 /// The set that a list is.

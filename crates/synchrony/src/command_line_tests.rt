@@ -26,9 +26,17 @@ fn is_same_set(set: ProcSet, wanted: ProcSet) -> bool {
     (1..65u64).all(|p| set.contains(p) == wanted.contains(p))
 }
 
-fn asks_for_report(alloc: Global, words: &[&str], name: &str, members: ProcSet) -> bool {
+fn asks_for_report(
+    alloc: Global,
+    words: &[&str],
+    name: &str,
+    members: ProcSet,
+    threads: u64,
+) -> bool {
     match read(alloc, words) {
-        Ok(Job::Report { file, set }) => file.as_str() == name && is_same_set(set, members),
+        Ok(Job::Report { file, set, workers }) => {
+            file.as_str() == name && is_same_set(set, members) && workers == threads
+        }
         _ => false,
     }
 }
@@ -46,9 +54,50 @@ fn reads_reports(rt: HostRuntime) -> Result<(), Fail> {
         (["report", "a b", "--correct", "64"], "a b", empty.with(64)),
     ] {
         assert!(rt;
-            asks_for_report(rt.alloc(), &words, name, members),
+            asks_for_report(rt.alloc(), &words, name, members, 1),
             "{words:?}"
         );
+    }
+    Ok(())
+}
+
+#[test]
+fn reads_workers(rt: HostRuntime) -> Result<(), Fail> {
+    for (words, workers) in [
+        (
+            ["report", "t.csv", "--correct", "none", "--workers", "64"],
+            64,
+        ),
+        (
+            ["report", "--workers", "1", "--correct", "none", "t.csv"],
+            1,
+        ),
+        (
+            ["report", "--workers", "7", "t.csv", "--correct", "none"],
+            7,
+        ),
+        (
+            ["report", "--workers", "+2", "t.csv", "--correct", "none"],
+            2,
+        ),
+    ] {
+        assert!(rt;
+            asks_for_report(rt.alloc(), &words, "t.csv", ProcSet::empty(), workers),
+            "{words:?}"
+        );
+    }
+    Ok(())
+}
+
+#[test]
+fn refuses_workers(rt: HostRuntime) -> Result<(), Fail> {
+    for (word, begins) in [
+        ("0", "error: invalid value '0' for '--workers <W>'"),
+        ("65", "error: invalid value '65' for '--workers <W>'"),
+        ("x", "error: invalid value 'x' for '--workers <W>'"),
+    ] {
+        let words = ["report", "-", "--correct", "1,,2", "--workers", word];
+        assert!(rt; is_refused(rt.alloc(), &words, begins)?, "{word}");
     }
     Ok(())
 }
@@ -243,8 +292,8 @@ fn refuses_other_lines(rt: HostRuntime) -> Result<(), Fail> {
         (&["replay", "a", "b"], "error: unexpected argument 'b'"),
         (&["upgrade"], "error: the following required arguments"),
         (
-            &["report", "-", "--correct", "1", "--workers", "65"],
-            "error: unexpected argument '--workers'",
+            &["report", "-", "--correct", "1", "--workers"],
+            "error: a value is required for '--workers <W>'",
         ),
         (
             &["run", "--values", "5,7"],

@@ -3,6 +3,9 @@
 //! checks a report by it; or makes such a run in threads, and prints its trace.
 #![tactic(auto)]
 
+ghost use Rattle.std.specs.Prelude.{◌≤◌};
+ghost use Rattle.chunk_join.specs.declared.analyses.TheConstants.{MAX_WORKERS};
+
 mod check_lines;
 #[cfg(test)]
 mod check_tests;
@@ -14,11 +17,13 @@ mod fault_lines;
 mod faults;
 mod help_texts;
 mod inputs;
+mod numbers;
 mod printing;
 #[cfg(test)]
 mod replay_tests;
 mod replay_texts;
 mod replays;
+mod report_lines;
 #[cfg(test)]
 mod report_tests;
 mod reports;
@@ -62,14 +67,15 @@ fn main(rt: HostRuntime) -> ExitCode {
     }
 }
 
-/// Does what the words of the command line ask for, and gives the exit status. `threads` starts the threads of a run.
+/// Does what the words of the command line ask for, and gives the exit status. `threads` starts the threads of a
+/// run and of the workers of a report.
 fn run<R: Threads + Wait + Sync>(rt: &HostRuntime, threads: &R) -> Result<u8, Fault> {
     let words = match env::args(rt) {
         Ok(words) => words.collect(rt.alloc())?,
         Err(error) => return Err(refuse_words(rt.alloc(), error.kind())?),
     };
     match read_command(rt.alloc(), words)? {
-        Job::Report { file, set } => report(rt, file.as_str(), set)?,
+        Job::Report { file, set, workers } => report(rt, threads, file.as_str(), set, workers)?,
         Job::Replay { file } => replay(rt, file.as_str())?,
         Job::Run {
             config,
@@ -101,14 +107,44 @@ fn run<R: Threads + Wait + Sync>(rt: &HostRuntime, threads: &R) -> Result<u8, Fa
     Ok(0)
 }
 
-/// Prints the report of the trace in a file.
-fn report(rt: &HostRuntime, file: &str, set: ProcSet) -> Result<(), Fault> {
-    let mut output = Counting::new(rt.stdout());
+/// Prints the report of the trace in a file. `threads` starts the threads of the workers.
+fn report<T: Threads + Wait + Sync>(
+    rt: &HostRuntime,
+    threads: &T,
+    file: &str,
+    set: ProcSet,
+    workers: u64,
+) -> Result<(), Fault>
+    requires some { 1 ≤ workers }
+    requires few { workers ≤ MAX_WORKERS }
+{
     if names_standard_input(file) {
-        return run_report(rt.alloc(), &mut Counting::new(rt.stdin()), &mut output, set);
+        return report_read(rt, threads, rt.stdin(), set, workers);
     }
     let opened = File::open(rt, file).map_err(unopened)?;
-    run_report(rt.alloc(), &mut Counting::new(opened), &mut output, set)
+    report_read(rt, threads, opened, set, workers)
+}
+
+/// Prints the report of the trace that a reader gives.
+fn report_read<T: Threads + Wait + Sync, R: Read + Drop>(
+    rt: &HostRuntime,
+    threads: &T,
+    trace: R,
+    set: ProcSet,
+    workers: u64,
+) -> Result<(), Fault>
+    requires some { 1 ≤ workers }
+    requires few { workers ≤ MAX_WORKERS }
+{
+    run_report(
+        threads,
+        rt.alloc(),
+        &mut Counting::new(trace),
+        &mut Counting::new(rt.stdout()),
+        set,
+        workers,
+        &OpenGate,
+    )
 }
 
 /// Prints the replay of the trace in a file.

@@ -3,10 +3,14 @@
 use crate::fault_lines::fault_text;
 use crate::faults::{Fault, status};
 use crate::reports::run_report;
+use chunk_join::MAX_WORKERS;
 use std::alloc::{AllocError, Global};
 use std::io::ErrorKind;
+use std::sync::Wait;
 use std::test::Fail;
-use step_trace::ProcSet;
+use std::thread::Threads;
+use step_trace::meeting::MeetingGate;
+use step_trace::{Gate, OpenGate, ProcSet};
 use trace_text::Counting;
 use trace_text::failing_devices::{AfterBytes, FailingReader, FailingWriter, WriteFailure};
 
@@ -22,12 +26,38 @@ const REDELIVERED: &str = "dls-trace,1,2,0\ninit,5,7\n1,1,S,2\n2,2,R,1\n3,2,R,1\
 const NEVER_DELIVERED: &str =
     "dls-trace,1,2,0\ninit,5,7\n1,1,S,2\n2,2,R,\n3,1,S,2\n4,2,R,3\n5,2,R,\nend,5\n";
 
+const NEVER_DELIVERED_REPORT: &str =
+    "gst,delta,phi,sent,missed,proc,from,to\n1,5,3,1,5,1,4,5\n2,1,3,,,1,4,5\n5,1,2,,,1,5,5\n";
+
+const UNRECEIVED_UNTIL_END: &str =
+    "dls-trace,1,2,0\ninit,5,7\n1,1,S,2\n2,1,R,\n3,1,R,\n4,2,R,1\nend,4\n";
+
+const UNRECEIVED_UNTIL_END_REPORT: &str =
+    "gst,delta,phi,sent,missed,proc,from,to\n1,1,4,,,2,1,3\n2,1,3,,,2,2,3\n3,1,2,,,1,4,4\n";
+
+/// Both processors send in tick 1, and tick 4 has two steps again; the ticks 2, 3, 5 and 7 are idle.
+const SHARED_TICKS: &str = "dls-trace,2,2,0\ninit,5,7\n1,1,1,S,2\n2,1,2,S,1\n3,4,1,R,2\n\
+    4,4,2,R,\n5,6,2,R,1\nend,7\n";
+
+const SHARED_TICKS_REPORT: &str = "gst,delta,phi,sent,missed,proc,from,to\n1,4,4,1,4,1,5,7\n\
+    2,1,4,,,1,5,7\n6,1,3,,,1,6,7\n7,1,2,,,1,7,7\n";
+
+/// A gate that lets in everybody but 2.
+struct HoldsTwo;
+
+impl Gate for HoldsTwo {
+    fn enter(&self, who: u64) -> bool {
+        who != 2
+    }
+}
+
 fn first_two() -> ProcSet {
     ProcSet::empty().with(1).with(2)
 }
 
-/// Reports a text to a writer, in reads of 7 bytes.
-fn report(
+/// Reports a text to a writer, in reads of 7 bytes, by one worker.
+fn report<T: Threads + Wait + Sync>(
+    rt: &T,
     alloc: Global,
     text: &str,
     after: AfterBytes,
@@ -36,17 +66,121 @@ fn report(
 ) -> Result<(), Fault> {
     let reader = FailingReader::new(text.as_bytes(), 7, after);
     run_report(
+        rt,
         alloc,
         &mut Counting::new(reader),
         &mut Counting::new(writer),
         set,
+        1,
+        &OpenGate,
     )
 }
 
-fn is_reported(alloc: Global, text: &str, set: ProcSet, wanted: &str) -> bool {
+fn is_reported<T: Threads + Wait + Sync>(
+    rt: &T,
+    alloc: Global,
+    text: &str,
+    set: ProcSet,
+    wanted: &str,
+) -> bool {
     let mut writer = FailingWriter::new(alloc, 40, WriteFailure::Never);
-    let ended = report(alloc, text, AfterBytes::End, set, &mut writer);
+    let ended = report(rt, alloc, text, AfterBytes::End, set, &mut writer);
     ended.is_ok() && writer.taken() == wanted.as_bytes()
+}
+
+/// Reports a text to a writer, for the first two processors, by these workers.
+fn report_by<T: Threads + Wait + Sync, G: Gate>(
+    rt: &T,
+    alloc: Global,
+    text: &str,
+    workers: u64,
+    gate: &G,
+    writer: &mut FailingWriter,
+) -> Result<(), Fault> {
+    if workers < 1 || workers > MAX_WORKERS {
+        return Err(Fault::Set);
+    }
+    let reader = FailingReader::new(text.as_bytes(), 7, AfterBytes::End);
+    run_report(
+        rt,
+        alloc,
+        &mut Counting::new(reader),
+        &mut Counting::new(writer),
+        first_two(),
+        workers,
+        gate,
+    )
+}
+
+fn is_reported_by<T: Threads + Wait + Sync>(
+    rt: &T,
+    alloc: Global,
+    text: &str,
+    workers: u64,
+    wanted: &str,
+) -> bool {
+    let mut writer = FailingWriter::new(alloc, 40, WriteFailure::Never);
+    let ended = report_by(rt, alloc, text, workers, &OpenGate, &mut writer);
+    ended.is_ok() && writer.taken() == wanted.as_bytes()
+}
+
+#[test]
+fn workers_change_nothing(rt: HostRuntime) -> Result<(), Fail> {
+    for (text, wanted) in [
+        (ONE_MISS, ONE_MISS_REPORT),
+        (UNRECEIVED_UNTIL_END, UNRECEIVED_UNTIL_END_REPORT),
+        (NEVER_DELIVERED, NEVER_DELIVERED_REPORT),
+        (SHARED_TICKS, SHARED_TICKS_REPORT),
+    ] {
+        for workers in [1, 3, 7] {
+            assert!(rt;
+                is_reported_by(&rt, rt.alloc(), text, workers, wanted),
+                "{workers} {wanted}"
+            );
+        }
+    }
+    Ok(())
+}
+
+#[test]
+fn any_number_of_workers_gives_the_same(rt: HostRuntime) -> Result<(), Fail> {
+    for workers in [1, 2, 3, 5, 64] {
+        assert!(rt;
+            is_reported_by(
+                &rt,
+                rt.alloc(),
+                NEVER_DELIVERED,
+                workers,
+                NEVER_DELIVERED_REPORT
+            ),
+            "{workers}"
+        );
+    }
+    Ok(())
+}
+
+#[test]
+fn two_workers_meet(rt: HostRuntime) -> Result<(), Fail> {
+    let alloc = rt.alloc();
+    let mut writer = FailingWriter::new(alloc, 40, WriteFailure::Never);
+    let ended = report_by(
+        &rt,
+        alloc,
+        NEVER_DELIVERED,
+        2,
+        &MeetingGate::new(),
+        &mut writer,
+    );
+    assert!(rt; ended.is_ok() && writer.taken() == NEVER_DELIVERED_REPORT.as_bytes());
+    Ok(())
+}
+
+#[test]
+fn a_worker_is_held(rt: HostRuntime) -> Result<(), Fail> {
+    let mut writer = FailingWriter::new(rt.alloc(), 40, WriteFailure::Never);
+    let ended = report_by(&rt, rt.alloc(), NEVER_DELIVERED, 3, &HoldsTwo, &mut writer);
+    assert!(rt; ended.is_err_and(|fault| status(&fault) == 8) && writer.taken().is_empty());
+    Ok(())
 }
 
 #[test]
@@ -59,11 +193,7 @@ fn prints_reports(rt: HostRuntime) -> Result<(), Fail> {
             first_two(),
             "gst,delta,phi,sent,missed,proc,from,to\n",
         ),
-        (
-            NEVER_DELIVERED,
-            first_two(),
-            "gst,delta,phi,sent,missed,proc,from,to\n1,5,3,1,5,1,4,5\n2,1,3,,,1,4,5\n5,1,2,,,1,5,5\n",
-        ),
+        (NEVER_DELIVERED, first_two(), NEVER_DELIVERED_REPORT),
         (
             ONE_MISS,
             second,
@@ -75,7 +205,7 @@ fn prints_reports(rt: HostRuntime) -> Result<(), Fail> {
             "gst,delta,phi,sent,missed,proc,from,to\n1,1,1,,,,,\n",
         ),
     ] {
-        assert!(rt; is_reported(rt.alloc(), text, set, wanted), "{wanted}");
+        assert!(rt; is_reported(&rt, rt.alloc(), text, set, wanted), "{wanted}");
     }
     Ok(())
 }
@@ -102,11 +232,12 @@ const LONG_REPORT: &str = "gst,delta,phi,sent,missed,proc,from,to\n\
 #[test]
 fn prints_the_report_of_100_000_steps(rt: HostRuntime) -> Result<(), Fail> {
     let text = long_trace(rt.alloc())?;
-    assert!(rt; is_reported(rt.alloc(), text.as_str(), first_two(), LONG_REPORT));
+    assert!(rt; is_reported(&rt, rt.alloc(), text.as_str(), first_two(), LONG_REPORT));
     Ok(())
 }
 
-fn is_refused(
+fn is_refused<T: Threads + Wait + Sync>(
+    rt: &T,
     alloc: Global,
     text: &str,
     after: AfterBytes,
@@ -114,7 +245,7 @@ fn is_refused(
     told: (u8, &str),
 ) -> Result<bool, AllocError> {
     let mut writer = FailingWriter::new(alloc, 40, WriteFailure::Never);
-    let Err(fault) = report(alloc, text, after, set, &mut writer) else {
+    let Err(fault) = report(rt, alloc, text, after, set, &mut writer) else {
         return Ok(false);
     };
     let line = fault_text(alloc, &fault)?;
@@ -151,16 +282,31 @@ fn writes_nothing_on_a_fault(rt: HostRuntime) -> Result<(), Fail> {
             (6, "synchrony: cannot read"),
         ),
     ] {
-        assert!(rt; is_refused(rt.alloc(), text, after, set, told)?, "{told:?}");
+        assert!(rt;
+            is_refused(&rt, rt.alloc(), text, after, set, told)?,
+            "{told:?}"
+        );
     }
     Ok(())
 }
 
 /// Whether the report of one-miss, in writes of 16 bytes, ends with Write(count), and its first `count`
 /// bytes went out.
-fn is_cut(alloc: Global, failure: WriteFailure, count: usize) -> bool {
+fn is_cut<T: Threads + Wait + Sync>(
+    rt: &T,
+    alloc: Global,
+    failure: WriteFailure,
+    count: usize,
+) -> bool {
     let mut writer = FailingWriter::new(alloc, 16, failure);
-    let ended = report(alloc, ONE_MISS, AfterBytes::End, first_two(), &mut writer);
+    let ended = report(
+        rt,
+        alloc,
+        ONE_MISS,
+        AfterBytes::End,
+        first_two(),
+        &mut writer,
+    );
     matches!(&ended, Err(Fault::Write(written)) if *written == count as u64)
         && writer.taken().len() == count
         && ONE_MISS_REPORT.as_bytes().starts_with(writer.taken())
@@ -174,7 +320,7 @@ fn says_how_far_it_wrote(rt: HostRuntime) -> Result<(), Fail> {
         (WriteFailure::TakeNothingAfter(82), 82),
         (WriteFailure::FailFlush(ErrorKind::Other), 83),
     ] {
-        assert!(rt; is_cut(rt.alloc(), failure, count), "{failure:?}");
+        assert!(rt; is_cut(&rt, rt.alloc(), failure, count), "{failure:?}");
     }
     assert_eq!(rt; status(&Fault::Write(40)), 6);
     Ok(())

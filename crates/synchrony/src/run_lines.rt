@@ -4,12 +4,13 @@ ghost use Rattle.std.specs.Prelude.{◌≡◌, ◌↔◌, ◌*◌, ◌<◌, ℕ,
 ghost use Rattle.clap.specs.Words.{app_of, found_of, rows_of, rule_of, subcommand_rows_of};
 ghost use Rattle.clap.specs.declared.builder.Command.TheViews.{out-Command};
 ghost use Rattle.step_trace.specs.declared.traces.TheConstants.{MAX_STEPS};
-ghost use Rattle.synchrony.specs.Commands.{AreRunRows, HasNumber, NamesRun, number_rule, option_rule, run_app};
+ghost use Rattle.synchrony.specs.Commands.{AreRunRows, NamesRun, number_rule, option_rule, run_app};
 ghost use Rattle.synchrony.specs.RunJobs.{AreListed, IsConfigFault, IsConfigOf, IsRunFault, IsRunJob, TellsConfig};
 
 use crate::command_line::Job;
 use crate::faults::Fault;
 use crate::help_texts::run_help;
+use crate::numbers::number;
 use crate::value_lists::read_values;
 use clap::builder::ValueParser;
 use clap::{Arg, ArgAction, ArgMatches, Command};
@@ -110,21 +111,6 @@ fn words_found<'a>(found: &ArgMatches<'a>) -> Option<RunWords<'a>>
         patience: number(found, "patience", 1, MAX_PATIENCE)?,
         steps: number(found, "steps", 0, MAX_STEPS as u64)?,
     })
-}
-
-/// The number of this name, where the matches have one within these bounds.
-fn number(found: &ArgMatches<'_>, name: &str, least: u64, most: u64) -> Option<u64>
-    ensures some { IfSome result (λ value. HasNumber (rows_of (found_of found.now)) name.now least most value) }
-    ensures none { result ≡ None → (value : ℕ) → ¬ HasNumber (rows_of (found_of found.now)) name.now least most value }
-{
-    let text = found.get_str(name)?;
-    let Ok(value) = text.parse::<u64>() else {
-        return None;
-    };
-    if value < least || value > most {
-        return None;
-    }
-    Some(value)
 }
 
 /// The job of a run with these words.

@@ -1,5 +1,4 @@
-use Rattle.std.proofs.lemmas.Result.{IfOk-weaker}
 use Rattle.synchrony.proofs.reports.rows_of.Goals as goal
 
-pub returns : goal.returns
-returns c = IfOk-weaker c.front.result _ _ (λ r h. h c.args.set c.args.trace.now c.in_ok-stairs.ensures) c.front.ensures.report
+pub returns-in_ok-front-in-Ok-clause-report : goal.returns-in_ok-front-in-Ok-clause-report
+returns-in_ok-front-in-Ok-clause-report g c = c.in_ok-front-in-Ok.ensures.report c.args.set c.args.trace.now c.in-Ok.ensures.stairs

@@ -1,8 +1,8 @@
 use Rattle.std.proofs.Common.{◌≡◌, ◌∙◌, ◌<◌, ◌^◌, sym, inl, inr, arith}
 use Rattle.std.specs.Str.Parse.{digits_value, without_leading_plus}
 use Rattle.synchrony.proofs.CommandJobs.{lacks_value}
-use Rattle.synchrony.proofs.RunRows.{number_is, number_read}
-use Rattle.synchrony.proofs.run_lines.number.Goals as goal
+use Rattle.synchrony.proofs.NumberRows.{number_is, number_read}
+use Rattle.synchrony.proofs.numbers.number.Goals as goal
 
 pub returns-in_err-text-clause-none : goal.returns-in_err-text-clause-none
 returns-in_err-text-clause-none c = λ _ value h. lacks_value c.args.found.now c.args.name.now c.get_str.result h.text c.get_str.ensures c.in_err-text.was h.text_is
