@@ -1,4 +1,4 @@
-use Rattle.std.proofs.Common.{rules, subst, sym, ◌≡◌, ◌∷◌, []}
+use Rattle.std.proofs.Common.{rules, subst, sym, ◌≡◌, ◌∷◌}
 use Rattle.chunk_join.proofs.JoinedShares.{AreJoined, AreJoined-none, AreJoined-more, AreJoined-all}
 use Rattle.chunk_join.proofs.analyses.joined.Goals as goal
 
