@@ -12,7 +12,7 @@ pub mod OriginLaws
 pub mod SentBodies
 pub mod HeardProcessors
 pub mod SendingLaws
-mod Sendings
+pub mod Sendings
 mod ValuePlaces
 mod LockPlaces
 pub mod Rising

@@ -20,6 +20,7 @@ pub record IsAlike (x y : Processor) : Type 0 where
   pub buffer : y.buffer.items ≡ x.buffer.items
   pub inbox : IsPermutation (kept_ids x.inbox) (kept_ids y.inbox)
   pub entries : (e : Entry) → Contains (heap_items y.inbox.later) e → Contains (heap_items x.inbox.later) e
+  pub said : y.said ≡ x.said
 
 pub IsProcessor-alike : (c : Setup) (steps : List Step) (p : ℕ) (x y : Processor) → IsAlike x y → IsProcessor c steps p x → IsProcessor c steps p y
 IsProcessor-alike c steps p x y like is = record {
@@ -29,6 +30,7 @@ IsProcessor-alike c steps p x y like is = record {
   next = rw (like.round, like.last, like.node) is.next;
   buffer = like.buffer ∙ is.buffer;
   inbox = IsInbox-moved steps p x.inbox y.inbox like.inbox like.entries is.inbox;
+  said = rw (like.round, like.node, like.said) is.said;
 }
 
 -- the second serves for the traces and processors that the first serves for

@@ -52,6 +52,7 @@ IsProcessor-moved c steps p x inbox same less is = record {
   next = is.next;
   buffer = is.buffer;
   inbox = IsInbox-moved steps p x.inbox inbox same less is.inbox;
+  said = is.said;
 }
 
 -- no messages

@@ -21,6 +21,7 @@ pub mod TakenSteps
 pub mod KeptInboxes
 pub mod PostSteps
 pub mod RoundEnds
+pub mod SaidAgain
 pub mod Openings
 mod CopiedProcessors
 mod ReleasedLetters

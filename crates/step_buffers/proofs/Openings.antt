@@ -1,5 +1,5 @@
 -- What is kept before the first step.
-use Rattle.std.proofs.Common.{ℕ, zero, suc, ◌≡◌, ◌⊎◌, inl, inr, List, [], ◌∷◌, ◌++◌, length, Some, refl, sym, ap, ◌∙◌, subst, arith}
+use Rattle.std.proofs.Common.{None, ℕ, zero, suc, ◌≡◌, ◌⊎◌, inl, inr, List, [], ◌∷◌, ◌++◌, length, Some, refl, sym, ap, ◌∙◌, subst, arith}
 use Rattle.std.specs.Prelude.{slice_get}
 use Rattle.std.specs.BinaryHeap.{heap_items}
 use Rattle.std.proofs.lemmas.Option.{same_Some, none-some}
@@ -26,6 +26,7 @@ pub record IsOpening (c : Setup) (p : ℕ) (x : Processor) : Type 0 where
   pub buffer : x.buffer.items ≡ []
   pub near : x.inbox.near.items ≡ []
   pub later : heap_items x.inbox.later ≡ []
+  pub said : x.said ≡ None
 
 IsProcessor-opening : (c : Setup) (p : ℕ) (x : Processor) → IsOpening c p x → IsProcessor c [] p x
 IsProcessor-opening c p x is = record {
@@ -35,6 +36,7 @@ IsProcessor-opening c p x is = record {
   next = next_send-opening c p ∙ rw (node, is.round, is.last) refl;
   buffer = is.buffer;
   inbox = IsInbox-opening p x.inbox nothing is.near is.later;
+  said = rw is.said tt;
 }
   where
     nothing : (s : ℕ) → IsKept [] p s → ⊥

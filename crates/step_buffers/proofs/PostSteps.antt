@@ -1,5 +1,5 @@
 -- What is kept of the processors, when one of them sends.
-use Rattle.std.proofs.Common.{ℕ, zero, suc, ◌≡◌, ◌≢◌, ◌+◌, ◌-◌, ◌<◌, ◌≤◌, ◌⊎◌, inl, inr, List, [], ◌∷◌, ◌++◌, length, get_or, Some, Bool, true, false, ◌==◌, ◌&&◌, Vec, Global, refl, sym, ap, ◌∙◌, subst, arith}
+use Rattle.std.proofs.Common.{ℕ, zero, suc, ◌≡◌, ◌≢◌, ◌+◌, ◌-◌, ◌<◌, ◌≤◌, ◌⊎◌, inl, inr, List, [], ◌∷◌, ◌++◌, length, get_or, Option, Some, Bool, true, false, ◌==◌, ◌&&◌, Vec, Global, refl, sym, ap, ◌∙◌, subst, arith}
 use Rattle.std.specs.Prelude.{slice_get, slice_set}
 use Rattle.std.proofs.lemmas.Option.{same_Some, none-some, slice_get_within, slice_get_read, get_or_from_slice_get}
 use Rattle.step_trace.specs.declared.traces.TheConstants.{MAX_STEPS}
@@ -15,13 +15,14 @@ use Rattle.std.specs.Prelude.{is_some}
 use Rattle.lock_phases.proofs.Membership.{Contains-from_filter, Contains-nil}
 use Rattle.round_model.specs.RoundStates.{processors}
 use Rattle.round_model.proofs.HeardMessages.{IsProc-from_processors}
+use Rattle.step_buffers.specs.declared.letters.Letter.{Letter}
 use Rattle.step_buffers.specs.declared.inbox_entries.Inbox.{Inbox}
 use Rattle.step_buffers.specs.declared.processors.Processor.{Processor}
 use Rattle.step_buffers.specs.HeardTables.{act_ends, passed, is_sent_in}
 use Rattle.step_buffers.specs.Runs.{node_at, destinations, destination_after}
 use Rattle.step_buffers.specs.Buffers.{buffer}
 use Rattle.step_buffers.specs.Moves.{next_send}
-use Rattle.step_buffers.specs.Worlds.{IsInbox, IsProcessor, AreProcessors}
+use Rattle.step_buffers.specs.Worlds.{IsInbox, IsSaid, IsPlaceOf, IsProcessor, AreProcessors}
 use Rattle.step_buffers.proofs.StepPrefixes.{IsWellFormed-prefix}
 use Rattle.step_buffers.proofs.HeardSenders.{IsSentIn-from_test}
 use Rattle.step_buffers.proofs.GrownNodes.{passed-stays, node_at-stays, next_destination-now}
@@ -89,17 +90,19 @@ record IsPosted (c : Setup) (steps : List Step) (p q : ℕ) (x : Processor) : Ty
   pub next : q ≢ p → next_send c steps q ≡ destination_after c x.node q x.round x.last
   pub buffer : x.buffer.items ≡ buffer steps q
   pub inbox : IsInbox steps q x.inbox
+  pub said : IsSaid c q x.node x.round x.said
 
 IsPosted-from : (c : Setup) (steps : List Step) (p to q : ℕ) (z y : Processor) → IsWellFormed c (steps ++ record { proc = p; act = Send to } ∷ []) → IsProcessor c steps q z
-    → y.round ≡ z.round → y.node ≡ z.node → y.last ≡ z.last → y.inbox ≡ z.inbox → y.buffer.items ≡ buffer (steps ++ record { proc = p; act = Send to } ∷ []) q
+    → y.round ≡ z.round → y.node ≡ z.node → y.last ≡ z.last → y.inbox ≡ z.inbox → y.said ≡ z.said → y.buffer.items ≡ buffer (steps ++ record { proc = p; act = Send to } ∷ []) q
     → IsPosted c (steps ++ record { proc = p; act = Send to } ∷ []) p q y
-IsPosted-from c steps p to q z y w is round node last inbox waiting = record {
+IsPosted-from c steps p to q z y w is round node last inbox said waiting = record {
   round = round ∙ is.round ∙ ap (λ n. n + 1) (sym (passed-stays steps x q quiet));
   node = node ∙ is.node ∙ sym (node_at-stays c steps x q old quiet);
   last = (let l = is.last in omega arith);
   next = λ other. next_destination-stays c steps x q old quiet (not_sent-other steps x q (passed steps q + 1) (λ e. other (sym e))) ∙ is.next ∙ rw (node, round, last) refl;
   buffer = waiting;
   inbox = subst (λ (b : Inbox). IsInbox (steps ++ x ∷ []) q b) (sym inbox) (IsInbox-stays c steps x q z.inbox w quiet (λ e. refl) is.inbox);
+  said = rw (node, round, said) is.said;
 }
   where
     x : Step
@@ -140,14 +143,15 @@ AreProcessors-set c steps kept i y are is = record {
 }
 
 -- the processors after a Send: the message is in the receiver's buffer, and its sender knows where it sent last
-pub AreProcessors-sent : (c : Setup) (steps : List Step) (p to : ℕ) (kept : List Processor) (receiver sender : Processor) (waiting : Vec ℕ Global)
+pub AreProcessors-sent : (c : Setup) (steps : List Step) (p to : ℕ) (kept : List Processor) (receiver sender : Processor) (waiting : Vec ℕ Global) (said : Option Letter)
     → IsWellFormed c (steps ++ record { proc = p; act = Send to } ∷ []) → IsProc c p → IsProc c to → next_send c steps p ≡ Some to → AreProcessors c steps kept
     → slice_get kept (to - 1) ≡ Some receiver → waiting.items ≡ receiver.buffer.items ++ suc (length steps) ∷ []
     → slice_get (slice_set kept (to - 1) (record receiver { buffer = waiting })) (p - 1) ≡ Some sender
-    → AreProcessors c (steps ++ record { proc = p; act = Send to } ∷ []) (slice_set (slice_set kept (to - 1) (record receiver { buffer = waiting })) (p - 1) (record sender { last = to }))
-AreProcessors-sent c steps p to kept receiver sender waiting w is dest due are at_to items at_p = record {
-  count = length-slice_set posted (p - 1) (record sender { last = to }) ∙ length-slice_set kept (to - 1) (record receiver { buffer = waiting }) ∙ are.count;
-  each = λ k y h. last k y (slice_get-set_cases posted (p - 1) (record sender { last = to }) y k h);
+    → IsPlaceOf c p (node_at c steps p) (passed steps p + 1) to said
+    → AreProcessors c (steps ++ record { proc = p; act = Send to } ∷ []) (slice_set (slice_set kept (to - 1) (record receiver { buffer = waiting })) (p - 1) (record sender { last = to; said = said }))
+AreProcessors-sent c steps p to kept receiver sender waiting said w is dest due are at_to items at_p place_of = record {
+  count = length-slice_set posted (p - 1) (record sender { last = to; said = said }) ∙ length-slice_set kept (to - 1) (record receiver { buffer = waiting }) ∙ are.count;
+  each = λ k y h. last k y (slice_get-set_cases posted (p - 1) (record sender { last = to; said = said }) y k h);
 }
   where
     posted : List Processor
@@ -168,7 +172,7 @@ AreProcessors-sent c steps p to kept receiver sender waiting w is dest due are a
     to_receiver : IsPosted c after p to (record receiver { buffer = waiting })
     to_receiver =
         let before : IsProcessor c steps to receiver = subst (λ n. IsProcessor c steps n receiver) at_receiver (are.each (to - 1) receiver at_to) in
-        IsPosted-from c steps p to to receiver (record receiver { buffer = waiting }) w before refl refl refl refl
+        IsPosted-from c steps p to to receiver (record receiver { buffer = waiting }) w before refl refl refl refl refl
         (items ∙ ap (λ ids. ids ++ suc (length steps) ∷ []) before.buffer ∙ sym (buffer-sent_to c steps p to old))
 
     posts : (k : ℕ) (z : Processor) → ((k ≡ to - 1) × (record receiver { buffer = waiting } ≡ z)) ⊎ ((k ≢ to - 1) × (slice_get kept k ≡ Some z)) → IsPosted c after p (suc k) z
@@ -177,10 +181,10 @@ AreProcessors-sent c steps p to kept receiver sender waiting w is dest due are a
         subst (λ n. IsPosted c after p n z) place (subst (IsPosted c after p to) e.1 to_receiver)
     posts k z (inr e) =
         let before = are.each k z e.1 in
-        IsPosted-from c steps p to (suc k) z z w before refl refl refl refl
+        IsPosted-from c steps p to (suc k) z z w before refl refl refl refl refl
         (before.buffer ∙ sym (buffer-sent_elsewhere c steps p to (suc k) old (λ f. e.0 (let g : to ≡ suc k = f in omega arith))))
 
-    to_sender : IsProcessor c after p (record sender { last = to })
+    to_sender : IsProcessor c after p (record sender { last = to; said = said })
     to_sender =
         let z : IsPosted c after p p sender = subst (λ n. IsPosted c after p n sender) at_sender
         (posts (p - 1) sender (slice_get-set_cases kept (to - 1) (record receiver { buffer = waiting }) sender (p - 1) at_p)) in
@@ -194,9 +198,10 @@ AreProcessors-sent c steps p to kept receiver sender waiting w is dest due are a
           next = next_destination-sent c steps p to old due ∙ ap (λ (s : State). destination_after c s p (passed steps p + 1) to) node ∙ ap (λ r. destination_after c sender.node p r to) round;
           buffer = z.buffer;
           inbox = z.inbox;
+          said = rw place_of.1 (to, rw (node, round) at place_of.2);
         }
 
-    last : (k : ℕ) (y : Processor) → ((k ≡ p - 1) × (record sender { last = to } ≡ y)) ⊎ ((k ≢ p - 1) × (slice_get posted k ≡ Some y)) → IsProcessor c after (suc k) y
+    last : (k : ℕ) (y : Processor) → ((k ≡ p - 1) × (record sender { last = to; said = said } ≡ y)) ⊎ ((k ≢ p - 1) × (slice_get posted k ≡ Some y)) → IsProcessor c after (suc k) y
     last k y (inl e) =
         let place : p ≡ suc k = let f = e.0 in let g = at_sender in omega arith in
         subst (λ n. IsProcessor c after n y) place (subst (IsProcessor c after p) e.1 to_sender)
@@ -209,6 +214,7 @@ AreProcessors-sent c steps p to kept receiver sender waiting w is dest due are a
           next = z.next (λ f. e.0 (let g : suc k ≡ p = f in omega arith));
           buffer = z.buffer;
           inbox = z.inbox;
+          said = z.said;
         }
 
 -- more room in a buffer
@@ -217,7 +223,7 @@ pub AreProcessors-room : (c : Setup) (steps : List Step) (kept : List Processor)
 AreProcessors-room c steps kept i z room are at same =
     let is = are.each i z at in
     AreProcessors-set c steps kept i (record z { buffer = room }) are
-    (record { round = is.round; node = is.node; last = is.last; next = is.next; buffer = same ∙ is.buffer; inbox = is.inbox })
+    (record { round = is.round; node = is.node; last = is.last; next = is.next; buffer = same ∙ is.buffer; inbox = is.inbox; said = is.said })
 
 -- what is kept of a processor stands in its place
 pub IsProcessor-at : (c : Setup) (steps : List Step) (kept : List Processor) (p : ℕ) (z : Processor) → AreProcessors c steps kept → IsProc c p → z ≡ get_or kept (p - 1) z

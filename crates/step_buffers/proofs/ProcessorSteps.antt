@@ -110,12 +110,13 @@ next_destination-stays c steps x p w quiet silent =
 pub IsProcessor-stays : (c : Setup) (steps : List Step) (x : Step) (p : ℕ) (z y : Processor) → IsWellFormed c steps → (x.proc == p && act_ends x.act) ≡ false
     → IsProcessor c steps p z → y.round ≡ z.round → y.node ≡ z.node → y.last ≤ c.n
     → next_destination c (steps ++ x ∷ []) p (length (steps ++ x ∷ []) + 1) ≡ destination_after c z.node p z.round y.last
-    → y.buffer.items ≡ buffer (steps ++ x ∷ []) p → IsInbox (steps ++ x ∷ []) p y.inbox → IsProcessor c (steps ++ x ∷ []) p y
-IsProcessor-stays c steps x p z y w quiet is round node last next waiting inbox = record {
+    → y.buffer.items ≡ buffer (steps ++ x ∷ []) p → IsInbox (steps ++ x ∷ []) p y.inbox → y.said ≡ z.said → IsProcessor c (steps ++ x ∷ []) p y
+IsProcessor-stays c steps x p z y w quiet is round node last next waiting inbox said = record {
   round = round ∙ is.round ∙ ap (λ n. n + 1) (sym (passed-stays steps x p quiet));
   node = node ∙ is.node ∙ sym (node_at-stays c steps x p w quiet);
   last = last;
   next = next ∙ rw (node, round) refl;
   buffer = waiting;
   inbox = inbox;
+  said = rw (node, round, said) is.said;
 }

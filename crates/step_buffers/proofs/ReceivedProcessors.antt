@@ -82,7 +82,7 @@ AreProcessors-received c steps p ends ids kept y w proc are is = record {
         IsProcessor-stays c steps x q z z old quiet before refl refl before.last
         (next_destination-stays c steps x q old quiet (not_sent-other steps x q (passed steps q + 1) other) ∙ before.next)
         (before.buffer ∙ sym (buffer-received_elsewhere c steps p q ends ids w other))
-        (IsInbox-stays c steps x q z.inbox w quiet (λ e. absurd (other e)) before.inbox)
+        (IsInbox-stays c steps x q z.inbox w quiet (λ e. absurd (other e)) before.inbox) refl
 
     go : (k : ℕ) (z : Processor) → ((k ≡ p - 1) × (y ≡ z)) ⊎ ((k ≢ p - 1) × (slice_get kept k ≡ Some z)) → IsProcessor c (steps ++ x ∷ []) (suc k) z
     go k z (inl e) = subst (λ n. IsProcessor c (steps ++ x ∷ []) n z) (sym place ∙ ap suc (sym e.0)) (subst (IsProcessor c (steps ++ x ∷ []) p) e.1 is)

@@ -1,11 +1,13 @@
 -- What a World keeps beside its trace, and what it must be for the trace.
-use Rattle.std.specs.Prelude.{ℕ, suc, ◌≡◌, ◌+◌, ◌<◌, ◌≤◌, ◌↔◌, ◌⊎◌, List, length, Option, Some, None, Contains, true, slice_get}
+use Rattle.std.specs.Prelude.{ℕ, suc, ◌≡◌, ◌+◌, ◌<◌, ◌≤◌, ◌↔◌, ◌⊎◌, List, length, Option, Some, None, Contains, true, slice_get, IfSome}
 use Rattle.std.specs.BinaryHeap.{heap_items}
 use Rattle.step_trace.specs.declared.steps.Step.{Step}
 use Rattle.step_trace.specs.Configurations.{Setup, IsSetup}
 use Rattle.step_trace.specs.Traces.{Recorded}
 use Rattle.step_trace.specs.Ticks.{IsOnePerTick}
 use Rattle.step_trace.specs.PushRefusals.{is_taken}
+use Rattle.lock_phases.specs.Nodes.{State}
+use Rattle.lock_phases.specs.NodeFunctions.{out}
 use Rattle.step_buffers.specs.declared.letters.Letter.{Letter}
 use Rattle.step_buffers.specs.declared.inbox_entries.Inbox.{Inbox}
 use Rattle.step_buffers.specs.declared.processors.Processor.{Processor}
@@ -34,8 +36,22 @@ pub record IsInbox (steps : List Step) (p : ℕ) (x : Inbox) : Type 0 where
   pub ids : (s : ℕ) → Contains (kept_ids x) s ↔ IsKept steps p s
   pub entries : (e : Entry) → Contains (heap_items x.later) e → IsEntry steps p e
 
--- What is kept of a processor: its round, its node, where it sends next, the messages that wait for it, and
--- those that it took and may hear in its round or a later one.
+-- what p, with this node, says to a processor in round r
+pub record IsSaidTo (c : Setup) (p : ℕ) (node : State) (r to : ℕ) (x : Letter) : Type 0 where
+  pub sender : x.sender ≡ p
+  pub round : x.round ≡ r
+  pub body : out c node p r to ≡ Some x.body
+
+-- a place has what p says to a processor in round r
+abbrev pub IsPlaceOf : Setup → ℕ → State → ℕ → ℕ → Option Letter → Type 0
+IsPlaceOf c p node r to place = (x : Letter) × (place ≡ Some x) × IsSaidTo c p node r to x
+
+-- what p said in round r to some processor, if it said anything in it
+abbrev pub IsSaid : Setup → ℕ → State → ℕ → Option Letter → Type 0
+IsSaid c p node r said = IfSome said (λ x. (to : ℕ) × IsSaidTo c p node r to x)
+
+-- What is kept of a processor: its round, its node, where it sends next, the messages that wait for it,
+-- those that it took and may hear in its round or a later one, and what it said in its round.
 pub record IsProcessor (c : Setup) (steps : List Step) (p : ℕ) (x : Processor) : Type 0 where
   pub round : x.round ≡ passed steps p + 1
   pub node : x.node ≡ node_at c steps p
@@ -43,6 +59,7 @@ pub record IsProcessor (c : Setup) (steps : List Step) (p : ℕ) (x : Processor)
   pub next : next_destination c steps p (length steps + 1) ≡ destination_after c x.node p x.round x.last
   pub buffer : x.buffer.items ≡ buffer steps p
   pub inbox : IsInbox steps p x.inbox
+  pub said : IsSaid c p x.node x.round x.said
 
 -- the message of a Send is kept: who sent it in which round, and what it says
 pub record IsLetter (c : Setup) (steps : List Step) (q to s : ℕ) (x : Letter) : Type 0 where

@@ -5,7 +5,7 @@ ghost use Rattle.step_trace.specs.declared.steps.Step.{Step};
 ghost use Rattle.step_trace.specs.Configurations.{Setup};
 ghost use Rattle.step_buffers.specs.Worlds.{IsProcessor, AreProcessors};
 
-use crate::letters::{Letter, Place, copied};
+use crate::letters::Place;
 use crate::processors::Processor;
 use crate::round_inboxes::copied_inbox;
 use std::alloc::{AllocError, Global};
@@ -16,26 +16,9 @@ pub(crate) fn copied_letters(alloc: Global, letters: &[Place]) -> Result<Vec<Pla
 {
     let mut copy = Vec::with_capacity(alloc, letters.len())?;
     for letter in letters {
-        copy.push(copied_letter(alloc, letter)?)?;
+        copy.push(letter.share()?)?;
     }
     Ok(copy)
-}
-
-fn copied_letter(alloc: Global, place: &Place) -> Result<Place, AllocError>
-    ensures { IfOk result (λ copy. copy ≡ place.now) }
-{
-    let Some(letter) = place.letter() else {
-        return Ok(Place::empty());
-    };
-    let body = copied(&letter.body)?;
-    Place::of(
-        alloc,
-        Letter {
-            sender: letter.sender,
-            round: letter.round,
-            body,
-        },
-    )
 }
 
 /// What serves for the same processors of the same traces.
@@ -61,5 +44,6 @@ fn copied_processor(alloc: Global, processor: &Processor) -> Result<Processor, A
         node: processor.node.copy(alloc)?,
         buffer: Vec::from_slice(alloc, &processor.buffer)?,
         inbox: copied_inbox(alloc, &processor.inbox)?,
+        said: processor.said.share()?,
     })
 }

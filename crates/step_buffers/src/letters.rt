@@ -7,6 +7,7 @@ ghost use Rattle.step_buffers.specs.Letters.{letter_at, round_of, body_from, hea
 use lock_phases::Body;
 use std::alloc::{AllocError, Global};
 use std::marker::Model;
+use std::sync::Arc;
 
 /// A message that was sent: by whom, in which of the sender's rounds, and what it says.
 #[derive(Debug, Drop)]
@@ -19,21 +20,22 @@ pub(crate) struct Letter {
 /// The place of a step, for the message that it sent.
 #[derive(Debug, Drop)]
 pub(crate) struct Place {
-    // (in a box, so that a place takes little where a step sent nothing, or what was heard long ago)
-    letter: Option<Box<Letter>>,
+    // (the places of all that a processor says in a round share one letter)
+    letter: Option<Arc<Letter>>,
 }
 
 impl Model for Place {
     ghost use Rattle.std.specs.Prelude.{Option, option_map};
+    ghost use Rattle.std.specs.Arc.{arc_value};
     ghost use Rattle.step_buffers.specs.declared.letters.Letter.{Letter};
 
     ghost Value = { Option Letter };
 
-    ghost view = { λ a. option_map (λ b. b.value) a.letter };
+    ghost view = { λ a. option_map arc_value a.letter };
 }
 
 impl Place {
-    ghost use Rattle.std.specs.Prelude.{◌≡◌, None, Some, option_copied, IfOk};
+    ghost use Rattle.std.specs.Prelude.{◌≡◌, None, Some, is_some, option_copied, IfOk};
 
     /// The place of no message.
     pub(crate) fn empty() -> Self
@@ -47,7 +49,23 @@ impl Place {
         ensures { IfOk result (λ place. place ≡ Some letter) }
     {
         Ok(Place {
-            letter: Some(Box::new(alloc, letter)?),
+            letter: Some(Arc::new(alloc, letter)?),
+        })
+    }
+
+    /// Whether it has a message.
+    pub(crate) fn has_letter(&self) -> bool
+        ensures { result ≡ is_some self.now }
+    {
+        self.letter.is_some()
+    }
+
+    /// Another place of the same message.
+    pub(crate) fn share(&self) -> Result<Self, AllocError>
+        ensures { IfOk result (λ place. place ≡ self.now) }
+    {
+        Ok(Place {
+            letter: self.letter.clone()?,
         })
     }
 

@@ -7,6 +7,7 @@ ghost use Rattle.step_buffers.specs.Runs.{destination_after};
 ghost use Rattle.step_buffers.specs.Worlds.{AreProcessors};
 
 use crate::inbox_entries::Inbox;
+use crate::letters::Place;
 use crate::round_inboxes::empty_inbox;
 use lock_phases::Node;
 use std::alloc::{AllocError, Global};
@@ -25,6 +26,9 @@ pub(crate) struct Processor {
     pub buffer: Vec<u64>,
     /// The messages of its round and of later ones that it took.
     pub inbox: Inbox,
+    /// What it said in its round, which it says to everybody to whom it sends in it; the place of no message where
+    /// it sent nothing in it.
+    pub said: Place,
 }
 
 /// The next destination of a processor. None where all messages of its round are out. Takes no memory.
@@ -65,6 +69,7 @@ pub(crate) fn opening_processors(
             node: Node::new(alloc, *value)?,
             buffer: Vec::new(alloc),
             inbox: empty_inbox(alloc),
+            said: Place::empty(),
         })?;
     }
     Ok(processors)

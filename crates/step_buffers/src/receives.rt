@@ -248,6 +248,7 @@ fn settle_ended(
     drop_past(&mut receiver.inbox.near, letters, round);
     receiver.round = round;
     receiver.last = 0;
+    receiver.said = Place::empty();
     receiver.node = node;
     Ok(())
 }

@@ -11,7 +11,7 @@ ghost use Rattle.lock_phases.specs.NodeFunctions.{out};
 ghost use Rattle.step_buffers.specs.HeardTables.{passed};
 ghost use Rattle.step_buffers.specs.Runs.{node_at};
 ghost use Rattle.step_buffers.specs.Moves.{next_send, IsStepRefusal};
-ghost use Rattle.step_buffers.specs.Worlds.{AreProcessors, IsWorld};
+ghost use Rattle.step_buffers.specs.Worlds.{IsSaidTo, IsSaid, IsPlaceOf, AreProcessors, IsWorld};
 
 use crate::appends::append;
 use crate::letters::{Letter, Place};
@@ -43,13 +43,34 @@ pub(crate) fn send(
     let Some(to) = next else {
         return Err(StepError::NothingToSend);
     };
-    let Ok(letter) = letter_to(alloc, trace.config(), sender, p, to) else {
+    let Ok(said) = said_to(alloc, trace.config(), sender, p, to) else {
         return Err(StepError::Memory);
     };
-    match post(alloc, trace, letters, processors, p, to, letter) {
+    match post(trace, letters, processors, p, to, said) {
         Ok(()) => Ok(to),
         Err(_) => Err(StepError::Memory),
     }
+}
+
+// What `p` says to a processor to which it sends anything: what it said before in its round, if it did.
+fn said_to(
+    alloc: Global,
+    config: &Config,
+    sender: &Processor,
+    p: u64,
+    to: u64,
+) -> Result<Place, AllocError>
+    requires processor { IsProc config.now p }
+    requires receiver { IsProc config.now to }
+    requires positive { 1 ≤ sender.now.round }
+    requires sends { IsSome (out config.now sender.now.node p sender.now.round to) }
+    requires said { IsSaid config.now p sender.now.node sender.now.round sender.now.said }
+    ensures { IfOk result (IsPlaceOf config.now p sender.now.node sender.now.round to) }
+{
+    if sender.said.has_letter() {
+        return sender.said.share();
+    }
+    Place::of(alloc, letter_to(alloc, config, sender, p, to)?)
 }
 
 // What `p` sends to a processor to which it sends anything.
@@ -64,9 +85,7 @@ fn letter_to(
     requires receiver { IsProc config.now to }
     requires positive { 1 ≤ sender.now.round }
     requires sends { IsSome (out config.now sender.now.node p sender.now.round to) }
-    ensures sender { IfOk result (λ letter. letter.sender ≡ p) }
-    ensures round { IfOk result (λ letter. letter.round ≡ sender.now.round) }
-    ensures body { IfOk result (λ letter. out config.now sender.now.node p sender.now.round to ≡ Some letter.body) }
+    ensures { IfOk result (IsSaidTo config.now p sender.now.node sender.now.round to) }
 {
     let round = sender.round;
     let Some(body) = sender.node.out(alloc, config, p, round, to)? else {
@@ -79,35 +98,33 @@ fn letter_to(
     })
 }
 
-// Sends a message of `p` to its next destination.
+// Sends a message of `p`, which has this place, to its next destination.
 fn post(
-    alloc: Global,
     trace: &mut Trace,
     letters: &mut Vec<Place>,
     processors: &mut Vec<Processor>,
     p: u64,
     to: u64,
-    letter: Letter,
+    place: Place,
 ) -> Result<(), AllocError>
     requires world { IsWorld trace.old letters.old.items processors.old.items }
     requires room { length trace.old.steps < MAX_STEPS }
     requires processor { IsProc trace.old.config p }
     requires destination { next_send trace.old.config trace.old.steps p ≡ Some to }
-    requires sender { letter.sender ≡ p }
-    requires round { letter.round ≡ passed trace.old.steps p + 1 }
-    requires body { out trace.old.config (node_at trace.old.config trace.old.steps p) p letter.round to ≡ Some letter.body }
+    requires place { IsPlaceOf trace.old.config p (node_at trace.old.config trace.old.steps p) (passed trace.old.steps p + 1) to place }
     ensures world { IsWorld trace.new letters.new.items processors.new.items }
     ensures config { trace.new.config ≡ trace.old.config }
     ensures step { OnOk result (trace.new.steps ≡ trace.old.steps ++ record { proc = p; act = Act.Send to } ∷ []) }
     ensures err { OnErr result (trace.new ≡ trace.old) }
 {
-    let place = Place::of(alloc, letter)?;
+    let said = place.share()?;
     push_send(trace, letters, processors, p, to)?;
     let receiver = &mut processors[(to - 1) as usize];
     receiver.buffer.push_reserved(trace.len() as u64);
     letters.push_reserved(place);
     let sender = &mut processors[(p - 1) as usize];
     sender.last = to;
+    sender.said = said;
     Ok(())
 }
 

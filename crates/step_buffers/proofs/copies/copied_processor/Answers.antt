@@ -11,5 +11,6 @@ returns c = λ config steps p is. IsProcessor-alike config steps p c.args.proces
       buffer = c.in_ok-from_slice.ensures.items ∙ c.deref.ensures.value;
       inbox = c.in_ok-copied_inbox.ensures.same;
       entries = c.in_ok-copied_inbox.ensures.entries;
+      said = c.in_ok-share.ensures;
     })
     is

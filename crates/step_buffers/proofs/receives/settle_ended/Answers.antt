@@ -25,7 +25,7 @@ pub returns-in_err-push_receive-clause-receiver : goal.returns-in_err-push_recei
 returns-in_err-push_receive-clause-receiver c =
     let is = c.requires.receiver in
     rw c.in_err-push_receive.ensures.err
-    (record { round = is.round; node = is.node; last = is.last; next = is.next; buffer = is.buffer; inbox = IsInbox-same c.args.trace.now.steps c.args.p c.args.receiver.now.inbox c.push_receive.new.inbox c.in_err-push_receive.ensures.near c.in_err-push_receive.ensures.later is.inbox })
+    (record { round = is.round; node = is.node; last = is.last; next = is.next; buffer = is.buffer; inbox = IsInbox-same c.args.trace.now.steps c.args.p c.args.receiver.now.inbox c.push_receive.new.inbox c.in_err-push_receive.ensures.near c.in_err-push_receive.ensures.later is.inbox; said = is.said })
 
 pub take_in-requires-clause-rising : goal.take_in-requires-clause-rising
 take_in-requires-clause-rising c =
@@ -91,4 +91,5 @@ returns-clause-receiver c =
           (rw (c.as_slice-2.ensures, c.deref-2.ensures.value) at c.take_in.ensures.inbox)
           (rw c.deref-2.ensures.value at c.take_in.ensures.entries)
           (c.drop_past.ensures ∙ rw c.deref-3.ensures.value refl) refl;
+      said = rw c.empty-2.ensures tt;
     })

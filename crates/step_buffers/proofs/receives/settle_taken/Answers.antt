@@ -21,7 +21,7 @@ pub returns-in_err-push_receive-clause-receiver : goal.returns-in_err-push_recei
 returns-in_err-push_receive-clause-receiver c =
     let is = c.requires.receiver in
     rw c.in_err-push_receive.ensures.err
-    (record { round = is.round; node = is.node; last = is.last; next = is.next; buffer = is.buffer; inbox = IsInbox-same c.args.trace.now.steps c.args.p c.args.receiver.now.inbox c.push_receive.new.inbox c.in_err-push_receive.ensures.near c.in_err-push_receive.ensures.later is.inbox })
+    (record { round = is.round; node = is.node; last = is.last; next = is.next; buffer = is.buffer; inbox = IsInbox-same c.args.trace.now.steps c.args.p c.args.receiver.now.inbox c.push_receive.new.inbox c.in_err-push_receive.ensures.near c.in_err-push_receive.ensures.later is.inbox; said = is.said })
 
 pub take_in-requires-clause-rising : goal.take_in-requires-clause-rising
 take_in-requires-clause-rising c =
@@ -73,4 +73,5 @@ returns-clause-receiver c =
       inbox = IsInbox-took config steps p round ids old c.take_in.new.receiver.inbox letters c.in_ok-push_receive.ensures.well_formed are now is.round kept
           (rw (c.as_slice-2.ensures, c.deref.ensures.value) at c.take_in.ensures.inbox)
           (rw c.deref.ensures.value at c.take_in.ensures.entries);
+      said = rw (c.take_in.ensures.round, c.take_in.ensures.node, c.take_in.ensures.said) is.said;
     })

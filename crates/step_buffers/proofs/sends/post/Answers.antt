@@ -66,13 +66,15 @@ returns-clause-world c =
     let items : c.push_reserved.new.self.items ≡ ra.buffer.items ++ suc (length steps) ∷ [] = c.push_reserved.ensures.items ∙ rw (c.len.ensures.value, size) refl in
     let posted = slice_set roomy (to - 1) (record ra { buffer = c.push_reserved.new.self }) in
     let at_p = slice_get_read posted (length posted) (p - 1) c.index_mut-sender.result.now refl (let e = length-slice_set roomy (to - 1) (record ra { buffer = c.push_reserved.new.self }) in omega arith) c.index_mut-sender.ensures.value in
-    let letters = AreLetters-sent config steps p to c.args.letters.now.items c.args.letter world.run.well_formed world.letters c.requires.sender c.requires.round c.requires.body in
-    let kept = AreProcessors-sent config steps p to roomy ra c.index_mut-sender.result.now c.push_reserved.new.self w mine is c.requires.destination are at items at_p in
+    let place = c.requires.place in
+    let said = place.2 in
+    let letters = AreLetters-sent config steps p to c.args.letters.now.items place.0 world.run.well_formed world.letters said.sender said.round (rw said.round said.body) in
+    let kept = AreProcessors-sent config steps p to roomy ra c.index_mut-sender.result.now c.push_reserved.new.self c.in_ok-said.said w mine is c.requires.destination are at items at_p (rw c.in_ok-said.ensures place) in
     record {
       setup = rw c.in_ok-push_send.ensures.config world.setup;
       run = rw (c.in_ok-push_send.ensures.config, c.in_ok-push_send.ensures.appended) (IsRun-push config steps _ world.run w c.requires.destination);
       one_per_tick = c.in_ok-push_send.ensures.one_per_tick;
-      letters = rw (c.in_ok-push_send.ensures.config, c.in_ok-push_send.ensures.appended, c.push_reserved-2.ensures.items, c.in_ok-push_send.ensures.letters, c.in_ok-place.ensures) letters;
+      letters = rw (c.in_ok-push_send.ensures.config, c.in_ok-push_send.ensures.appended, c.push_reserved-2.ensures.items, c.in_ok-push_send.ensures.letters, place.1) letters;
       processors = rw (c.in_ok-push_send.ensures.config, c.in_ok-push_send.ensures.appended) kept;
     }
 

@@ -20,20 +20,20 @@ returns-in_default-clause-refused c =
     let none : next_send c.args.trace.now.config c.args.trace.now.steps c.args.p ≡ None = is.next ∙ sym (rw c.config.ensures at c.next_destination-next.ensures.destination) ∙ c.in_default.is in
     rw none refl
 
-pub letter_to-requires-clause-receiver : goal.letter_to-requires-clause-receiver
-letter_to-requires-clause-receiver c =
+pub said_to-requires-clause-receiver : goal.said_to-requires-clause-receiver
+said_to-requires-clause-receiver c =
     let is = IsProcessor-at c.args.trace.now.config c.args.trace.now.steps c.args.processors.now.items c.args.p c.index-sender.result.now c.requires.world.processors c.requires.processor c.index-sender.ensures in
     let due : next_send c.args.trace.now.config c.args.trace.now.steps c.args.p ≡ Some c.in-Some.to = is.next ∙ sym (rw c.config.ensures at c.next_destination-next.ensures.destination) ∙ c.in-Some.is in
     rw c.config-2.ensures (IsProc-next_send c.args.trace.now.config c.args.trace.now.steps c.args.p c.in-Some.to due)
 
-pub letter_to-requires-clause-positive : goal.letter_to-requires-clause-positive
-letter_to-requires-clause-positive c =
+pub said_to-requires-clause-positive : goal.said_to-requires-clause-positive
+said_to-requires-clause-positive c =
     let is = IsProcessor-at c.args.trace.now.config c.args.trace.now.steps c.args.processors.now.items c.args.p c.index-sender.result.now c.requires.world.processors c.requires.processor c.index-sender.ensures in
     let round = is.round in
     omega arith
 
-pub returns-in_default-letter_to-clause-refused : goal.returns-in_default-letter_to-clause-refused
-returns-in_default-letter_to-clause-refused c =
+pub returns-in_default-said_to-clause-refused : goal.returns-in_default-said_to-clause-refused
+returns-in_default-said_to-clause-refused c =
     let is = IsProcessor-at c.args.trace.now.config c.args.trace.now.steps c.args.processors.now.items c.args.p c.index-sender.result.now c.requires.world.processors c.requires.processor c.index-sender.ensures in
     let due : next_send c.args.trace.now.config c.args.trace.now.steps c.args.p ≡ Some c.in-Some.to = is.next ∙ sym (rw c.config.ensures at c.next_destination-next.ensures.destination) ∙ c.in-Some.is in
     rw due refl
@@ -44,15 +44,15 @@ post-requires-clause-destination c =
     let due : next_send c.args.trace.now.config c.args.trace.now.steps c.args.p ≡ Some c.in-Some.to = is.next ∙ sym (rw c.config.ensures at c.next_destination-next.ensures.destination) ∙ c.in-Some.is in
     due
 
-pub post-requires-clause-round : goal.post-requires-clause-round
-post-requires-clause-round c =
+pub post-requires-clause-place : goal.post-requires-clause-place
+post-requires-clause-place c =
     let is = IsProcessor-at c.args.trace.now.config c.args.trace.now.steps c.args.processors.now.items c.args.p c.index-sender.result.now c.requires.world.processors c.requires.processor c.index-sender.ensures in
-    c.in-Ok.ensures.round ∙ is.round
+    rw (← is.round, ← is.node) (rw c.config-2.ensures at c.in-Ok.ensures)
 
-pub post-requires-clause-body : goal.post-requires-clause-body
-post-requires-clause-body c =
+pub said_to-requires-clause-said : goal.said_to-requires-clause-said
+said_to-requires-clause-said c =
     let is = IsProcessor-at c.args.trace.now.config c.args.trace.now.steps c.args.processors.now.items c.args.p c.index-sender.result.now c.requires.world.processors c.requires.processor c.index-sender.ensures in
-    rw (c.in-Ok.ensures.round, ← is.node) (rw c.config-2.ensures at c.in-Ok.ensures.body)
+    rw c.config-2.ensures is.said
 
 pub returns-in-Ok-post-clause-destination : goal.returns-in-Ok-post-clause-destination
 returns-in-Ok-post-clause-destination c =
