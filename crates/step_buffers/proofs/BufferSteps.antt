@@ -45,7 +45,7 @@ filter-twice f g (x ∷ xs) = go (f x) (g x) refl (filter-twice f g xs)
     go true false e rest = rw e rest
     go false b e rest = rest
 
-filter-append : (f : ℕ → Bool) (xs ys : List ℕ) → filter f (xs ++ ys) ≡ filter f xs ++ filter f ys
+pub filter-append : (f : ℕ → Bool) (xs ys : List ℕ) → filter f (xs ++ ys) ≡ filter f xs ++ filter f ys
 filter-append f [] ys = refl
 filter-append f (x ∷ xs) ys = go (f x) (filter-append f xs ys)
   where

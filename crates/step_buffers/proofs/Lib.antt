@@ -13,6 +13,7 @@ pub mod WorkedTraces
 pub mod InboxSteps
 pub mod InboxSenders
 pub mod RisingIds
+pub mod TakenIds
 pub mod DestinationSearch
 pub mod BufferSteps
 pub mod ProcessorSteps

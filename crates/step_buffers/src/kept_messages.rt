@@ -17,6 +17,7 @@ use crate::takes::take_out;
 /// which there is room.
 pub(crate) fn take_in(receiver: &mut Processor, letters: &[Place], ids: &[u64], round: u64)
     requires rising { IsStrictlyIncreasing ids.now }
+    requires buffer { IsStrictlyIncreasing receiver.old.buffer.items }
     requires room_near { vec_len receiver.old.inbox.near + length ids.now ≤ vec_capacity receiver.old.inbox.near }
     requires room_later { heap_len receiver.old.inbox.later + length ids.now ≤ heap_capacity receiver.old.inbox.later }
     ensures buffer { receiver.new.buffer.items ≡ filter (λ s. not (is_in ids.now s)) receiver.old.buffer.items }

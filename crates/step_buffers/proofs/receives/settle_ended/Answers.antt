@@ -16,7 +16,7 @@ use Rattle.step_buffers.proofs.GrownNodes.{passed-ends}
 use Rattle.step_buffers.proofs.RoundEnds.{next_send-ended}
 use Rattle.step_buffers.proofs.LetterSteps.{AreLetters-received}
 use Rattle.step_buffers.proofs.ReleasedLetters.{AreLetters-released}
-use Rattle.step_buffers.proofs.BufferSteps.{buffer-received}
+use Rattle.step_buffers.proofs.BufferSteps.{buffer-received, buffer-rises}
 use Rattle.step_buffers.proofs.TakenSteps.{taken-sent_after, inbox-sent_after}
 use Rattle.step_buffers.proofs.KeptInboxes.{IsInbox-same, IsInbox-ended}
 use Rattle.step_buffers.proofs.receives.settle_ended.Goals as goal
@@ -26,6 +26,9 @@ returns-in_err-push_receive-clause-receiver c =
     let is = c.requires.receiver in
     rw c.in_err-push_receive.ensures.err
     (record { round = is.round; node = is.node; last = is.last; next = is.next; buffer = is.buffer; inbox = IsInbox-same c.args.trace.now.steps c.args.p c.args.receiver.now.inbox c.push_receive.new.inbox c.in_err-push_receive.ensures.near c.in_err-push_receive.ensures.later is.inbox; said = is.said })
+
+pub take_in-requires-clause-buffer : goal.take_in-requires-clause-buffer
+take_in-requires-clause-buffer c = rw c.requires.receiver.buffer (buffer-rises c.args.trace.now.steps c.args.p)
 
 pub take_in-requires-clause-rising : goal.take_in-requires-clause-rising
 take_in-requires-clause-rising c =
