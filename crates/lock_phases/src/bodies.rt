@@ -1,12 +1,13 @@
 //! What a message says: its kind, and the PROPER set that is attached to it.
 
-use std::alloc::AllocError;
+use crate::shared_lists::SharedList;
+use std::alloc::{AllocError, Global};
 use std::marker::Model;
 
-/// A list of values.
+/// A list of values. Its clones share it, and an empty one takes no memory.
 #[derive(Debug, Drop)]
 pub struct Values {
-    items: Vec<u64>,
+    items: SharedList<u64>,
 }
 
 impl Model for Values {
@@ -14,24 +15,27 @@ impl Model for Values {
 
     ghost Value = { List ℕ };
 
-    ghost view = { λ a. a.items.items };
+    ghost view = { λ a. a.items };
 }
 
 impl Values {
-    ghost use Rattle.std.specs.Prelude.{◌≡◌};
+    ghost use Rattle.std.specs.Prelude.{◌≡◌, ◌<◌, length, IfOk, OnErr};
 
-    /// The list of these values, in this order.
-    pub fn new(items: Vec<u64>) -> Self
-        ensures { result ≡ items.items }
+    /// The list of these values, in this order. Takes no memory for an empty one.
+    pub fn new(alloc: Global, items: Vec<u64>) -> Result<Self, AllocError>
+        ensures ok { IfOk result (λ values. values ≡ items.items) }
+        ensures more { OnErr result (0 < length items.items) }
     {
-        Values { items }
+        Ok(Values {
+            items: SharedList::new(alloc, items)?,
+        })
     }
 
     /// The values, in their order.
     pub fn as_slice(&self) -> &[u64]
         ensures { result.now ≡ self.now }
     {
-        &self.items
+        self.items.as_slice()
     }
 }
 
@@ -47,10 +51,11 @@ impl Clone for Values {
     }
 }
 
-/// A list of locks, each a value with the phase in which it was locked.
+/// A list of locks, each a value with the phase in which it was locked. Its clones share it, and an empty
+/// one takes no memory.
 #[derive(Debug, Drop)]
 pub struct LockPairs {
-    pairs: Vec<(u64, u64)>,
+    pairs: SharedList<(u64, u64)>,
 }
 
 impl Model for LockPairs {
@@ -58,24 +63,27 @@ impl Model for LockPairs {
 
     ghost Value = { List (ℕ × ℕ) };
 
-    ghost view = { λ a. a.pairs.items };
+    ghost view = { λ a. a.pairs };
 }
 
 impl LockPairs {
-    ghost use Rattle.std.specs.Prelude.{◌≡◌};
+    ghost use Rattle.std.specs.Prelude.{◌≡◌, ◌<◌, length, IfOk, OnErr};
 
-    /// The list of these locks, in this order.
-    pub fn new(pairs: Vec<(u64, u64)>) -> Self
-        ensures { result ≡ pairs.items }
+    /// The list of these locks, in this order. Takes no memory for an empty one.
+    pub fn new(alloc: Global, pairs: Vec<(u64, u64)>) -> Result<Self, AllocError>
+        ensures ok { IfOk result (λ locks. locks ≡ pairs.items) }
+        ensures more { OnErr result (0 < length pairs.items) }
     {
-        LockPairs { pairs }
+        Ok(LockPairs {
+            pairs: SharedList::new(alloc, pairs)?,
+        })
     }
 
     /// The locks, in their order.
     pub fn as_slice(&self) -> &[(u64, u64)]
         ensures { result.now ≡ self.now }
     {
-        &self.pairs
+        self.pairs.as_slice()
     }
 }
 

@@ -9,6 +9,7 @@ mod locks;
 mod nodes;
 mod quorums;
 mod rounds;
+mod shared_lists;
 mod values;
 
 pub use bodies::{Body, Kind, LockPairs, Values};

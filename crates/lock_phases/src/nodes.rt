@@ -157,7 +157,7 @@ impl Node {
         let Some(kind) = self.kind_in(alloc, round)? else {
             return Ok(None);
         };
-        let proper = Values::new(Vec::from_slice(alloc, &self.proper)?);
+        let proper = Values::new(alloc, Vec::from_slice(alloc, &self.proper)?)?;
         Ok(Some(Body { kind, proper }))
     }
 
@@ -184,14 +184,14 @@ impl Node {
             .copied()
             .filter(|v| is_acceptable(locks, *v))
             .collect(alloc)?;
-        Ok(Values::new(values))
+        Ok(Values::new(alloc, values)?)
     }
 
     fn locks_to_tell(&self, alloc: Global) -> Result<LockPairs, AllocError>
         ensures { IfOk result (λ pairs. pairs ≡ self.now.locks) }
     {
         let pairs = Vec::from_slice(alloc, &self.locks)?;
-        Ok(LockPairs::new(pairs))
+        Ok(LockPairs::new(alloc, pairs)?)
     }
 
     /// Takes processor `me` with this node through a round in which it heard these messages, each with

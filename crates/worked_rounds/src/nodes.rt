@@ -32,16 +32,16 @@ pub fn config(alloc: Global, n: u64, t: u64) -> Result<Config, Fail>
 /// A body with this PROPER.
 pub fn body(alloc: Global, says: Says, proper: &[u64]) -> Result<Body, AllocError> {
     let kind = kind(alloc, says)?;
-    let proper = Values::new(Vec::from_slice(alloc, proper)?);
+    let proper = Values::new(alloc, Vec::from_slice(alloc, proper)?)?;
     Ok(Body { kind, proper })
 }
 
 fn kind(alloc: Global, says: Says) -> Result<Kind, AllocError> {
     Ok(match says {
-        Says::List(values) => Kind::List(Values::new(Vec::from_slice(alloc, values)?)),
+        Says::List(values) => Kind::List(Values::new(alloc, Vec::from_slice(alloc, values)?)?),
         Says::Lock(value) => Kind::Lock(value),
         Says::Ack => Kind::Ack,
-        Says::Locks(pairs) => Kind::Locks(LockPairs::new(Vec::from_slice(alloc, pairs)?)),
+        Says::Locks(pairs) => Kind::Locks(LockPairs::new(alloc, Vec::from_slice(alloc, pairs)?)?),
     })
 }
 
