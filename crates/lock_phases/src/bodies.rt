@@ -31,6 +31,13 @@ impl Values {
         })
     }
 
+    /// Puts these values in place of its own.
+    pub(crate) fn set(&mut self, values: Values)
+        ensures { self.new ≡ values }
+    {
+        *self = values;
+    }
+
     /// The values, in their order.
     pub fn as_slice(&self) -> &[u64]
         ensures { result.now ≡ self.now }

@@ -16,7 +16,8 @@ use step_trace::Config;
 /// whether it owes an acknowledgement, and its decision.
 #[derive(Debug, Drop)]
 pub struct Node {
-    proper: Vec<u64>,
+    // (every body that the node sends shares it)
+    proper: Values,
     locks: Vec<(u64, u64)>,
     proposal: Option<u64>,
     owes_ack: bool,
@@ -29,7 +30,7 @@ impl Model for Node {
     ghost Value = { State };
 
     ghost view = { λ a. record {
-      proper = a.proper.items;
+      proper = a.proper;
       locks = a.locks.items;
       proposal = a.proposal;
       owes_ack = a.owes_ack;
@@ -37,7 +38,7 @@ impl Model for Node {
     } };
 
     ghost invariant = { λ a. IsRising (record {
-      proper = a.proper.items;
+      proper = a.proper;
       locks = a.locks.items;
       proposal = a.proposal;
       owes_ack = a.owes_ack;
@@ -60,7 +61,7 @@ impl Node {
         let mut proper = Vec::new(alloc);
         proper.push(value)?;
         Ok(Node {
-            proper,
+            proper: Values::new(alloc, proper)?,
             locks: Vec::new(alloc),
             proposal: None,
             owes_ack: false,
@@ -73,7 +74,7 @@ impl Node {
         ensures { IfOk result (λ node. node ≡ self.now) }
     {
         Ok(Node {
-            proper: Vec::from_slice(alloc, &self.proper)?,
+            proper: self.proper.clone()?,
             locks: Vec::from_slice(alloc, &self.locks)?,
             proposal: self.proposal,
             owes_ack: self.owes_ack,
@@ -86,7 +87,7 @@ impl Node {
         ensures value { result.now ≡ self.now.proper }
         ensures rising { IsStrictlyIncreasing result.now }
     {
-        &self.proper
+        self.proper.as_slice()
     }
 
     /// The locks, each a value with the phase in which it was locked, rising by value.
@@ -157,7 +158,7 @@ impl Node {
         let Some(kind) = self.kind_in(alloc, round)? else {
             return Ok(None);
         };
-        let proper = Values::new(alloc, Vec::from_slice(alloc, &self.proper)?)?;
+        let proper = self.proper.clone()?;
         Ok(Some(Body { kind, proper }))
     }
 
@@ -180,6 +181,7 @@ impl Node {
         let locks = &self.locks;
         let values = self
             .proper
+            .as_slice()
             .iter()
             .copied()
             .filter(|v| is_acceptable(locks, *v))
@@ -217,10 +219,10 @@ impl Node {
         ensures err { OnErr result (self.new ≡ self.old) }
         ensures more { OnErr result (Grows self.old (next config.now self.old me round heard.now)) }
     {
-        let grown = grown(alloc, &self.proper, heard)?;
+        let grown = grown(alloc, self.proper.as_slice(), heard)?;
         self.compute_part(config, me, round, heard)?;
         if let Some(proper) = grown {
-            self.proper = proper;
+            self.proper.set(proper);
         }
         Ok(())
     }
