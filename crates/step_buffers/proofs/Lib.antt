@@ -1,3 +1,4 @@
+pub mod LastSteps
 pub mod StepPrefixes
 pub mod HeardSenders
 pub mod SettledPrefixes

@@ -1,6 +1,8 @@
 //! One step more, where nothing but memory can lack.
 
-ghost use Rattle.std.specs.Prelude.{◌≡◌, ◌++◌, ◌∷◌, [], None, OnOk, OnErr};
+ghost use Rattle.std.specs.Prelude.{◌≡◌, ◌++◌, ◌∷◌, [], List, None, OnOk, OnErr};
+ghost use Rattle.step_trace.specs.declared.steps.Step.{Step as TraceStep};
+ghost use Rattle.step_trace.specs.Steps.{act_ids};
 ghost use Rattle.step_trace.specs.Traces.{IsWellFormed};
 ghost use Rattle.step_trace.specs.Ticks.{IsOnePerTick};
 ghost use Rattle.step_trace.specs.PushRefusals.{refusal};
@@ -22,5 +24,15 @@ pub(crate) fn append(trace: &mut Trace, step: Step) -> Result<(), AllocError>
         Ok(()) => Ok(()),
         Err(PushError::Memory) => Err(AllocError),
         Err(_) => unreachable!(),
+    }
+}
+
+/// The ids that the last step of a trace takes.
+pub(crate) fn last_ids(trace: &Trace) -> &[u64]
+    ensures { (steps : List TraceStep) (last : TraceStep) → trace.now.steps ≡ steps ++ last ∷ [] → result.now ≡ act_ids last.act }
+{
+    match trace.step(trace.len() as u64) {
+        Some(step) => step.act.ids(),
+        None => &[],
     }
 }

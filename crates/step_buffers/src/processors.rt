@@ -4,14 +4,15 @@ ghost use Rattle.std.specs.Prelude.{◌≡◌, ◌≤◌, IfOk, IfSome, IsSome, 
 ghost use Rattle.step_trace.specs.Configurations.{IsSetup};
 ghost use Rattle.lock_phases.specs.NodeFunctions.{out};
 ghost use Rattle.step_buffers.specs.Runs.{destination_after};
-ghost use Rattle.step_buffers.specs.Worlds.{AreProcessors};
+ghost use Rattle.step_buffers.specs.Moves.{next_send};
+ghost use Rattle.step_buffers.specs.Worlds.{IsProcessor, AreProcessors};
 
 use crate::inbox_entries::Inbox;
 use crate::letters::Place;
 use crate::round_inboxes::empty_inbox;
 use lock_phases::Node;
 use std::alloc::{AllocError, Global};
-use step_trace::Config;
+use step_trace::{Config, Trace};
 
 /// What is kept of a processor.
 #[derive(Debug, Drop)]
@@ -31,14 +32,8 @@ pub(crate) struct Processor {
     pub said: Place,
 }
 
-/// The next destination of a processor. None where all messages of its round are out. Takes no memory.
-pub(crate) fn next_destination(
-    config: &Config,
-    p: u64,
-    round: u64,
-    last: u64,
-    node: &Node,
-) -> Option<u64>
+// The next destination of a processor. None where all messages of its round are out. Takes no memory.
+fn next_destination(config: &Config, p: u64, round: u64, last: u64, node: &Node) -> Option<u64>
     requires positive { 1 ≤ round }
     requires within { last ≤ config.now.n }
     ensures destination { result ≡ destination_after config.now node.now p round last }
@@ -51,6 +46,14 @@ pub(crate) fn next_destination(
         }
     }
     None
+}
+
+/// Where a processor sends next. None where all messages of its round are out.
+pub(crate) fn next_send(trace: &Trace, sender: &Processor, p: u64) -> Option<u64>
+    requires { IsProcessor trace.now.config trace.now.steps p sender.now }
+    ensures { result ≡ next_send trace.now.config trace.now.steps p }
+{
+    next_destination(trace.config(), p, sender.round, sender.last, &sender.node)
 }
 
 /// What is kept of each processor before the first step.

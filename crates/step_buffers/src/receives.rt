@@ -12,40 +12,32 @@ ghost use Rattle.step_buffers.specs.Buffers.{buffer};
 ghost use Rattle.step_buffers.specs.Moves.{next_send, taken_ids, receive_refusal, IsStepRefusal};
 ghost use Rattle.step_buffers.specs.Worlds.{AreLetters, IsProcessor, IsWorld};
 
-use crate::appends::append;
+use crate::appends::{append, last_ids};
 use crate::inbox_entries::Inbox;
 use crate::kept_messages::{drop_past, release, take_in};
 use crate::letters::{Place, heard_in};
 use crate::moves::{StepError, Take};
-use crate::processors::{Processor, next_destination};
+use crate::processors::{Processor, next_send};
 use crate::round_inboxes::{gather, reserve};
 use crate::takes::{take_refusal, taken_ids};
 use lock_phases::Node;
 use std::alloc::{AllocError, Global};
 use step_trace::{Act, MessageIds, Step, Trace};
 
-/// Takes messages for processor `p` and, if `ends`, ends its round; answers the ids that it took.
-pub(crate) fn receive(
+/// The ids of the messages that processor `p` takes in a Receive, which ends its round if `ends`.
+pub(crate) fn chosen(
     alloc: Global,
-    trace: &mut Trace,
-    letters: &mut Vec<Place>,
-    processors: &mut Vec<Processor>,
+    trace: &Trace,
+    receiver: &Processor,
     p: u64,
     take: Take,
     ends: bool,
 ) -> Result<MessageIds, StepError>
-    requires world { IsWorld trace.old letters.old.items processors.old.items }
-    requires room { length trace.old.steps < MAX_STEPS }
-    requires processor { IsProc trace.old.config p }
-    ensures world { IsWorld trace.new letters.new.items processors.new.items }
-    ensures config { trace.new.config ≡ trace.old.config }
-    ensures taken { IfOk result (λ ids. ids ≡ taken_ids take.entry (buffer trace.old.steps p)) }
-    ensures step { IfOk result (λ ids. trace.new.steps ≡ trace.old.steps ++ record { proc = p; act = Act.Receive ends ids } ∷ []) }
-    ensures ok { OnOk result (receive_refusal trace.old.config trace.old.steps p take.entry ends ≡ None) }
-    ensures refused { IfErr result (λ e. IsStepRefusal e (receive_refusal trace.old.config trace.old.steps p take.entry ends)) }
-    ensures err { OnErr result (trace.new ≡ trace.old) }
+    requires receiver { IsProcessor trace.now.config trace.now.steps p receiver.now }
+    ensures taken { IfOk result (λ ids. ids ≡ taken_ids take.entry (buffer trace.now.steps p)) }
+    ensures ok { OnOk result (receive_refusal trace.now.config trace.now.steps p take.entry ends ≡ None) }
+    ensures refused { IfErr result (λ e. IsStepRefusal e (receive_refusal trace.now.config trace.now.steps p take.entry ends)) }
 {
-    let receiver = &processors[(p - 1) as usize];
     if is_early(trace, receiver, p, ends) {
         return Err(StepError::StillSending);
     }
@@ -55,49 +47,37 @@ pub(crate) fn receive(
     let Ok(ids) = taken_ids(alloc, &receiver.buffer, take) else {
         return Err(StepError::Memory);
     };
-    let taken = MessageIds::new(ids);
-    match make(alloc, trace, letters, processors, p, ends, &taken) {
-        Ok(()) => Ok(taken),
-        Err(_) => Err(StepError::Memory),
-    }
+    Ok(MessageIds::new(ids))
 }
 
 // Whether this would end the round of `p` before all its messages are out.
 fn is_early(trace: &Trace, receiver: &Processor, p: u64, ends: bool) -> bool
-    requires processor { IsProc trace.now.config p }
-    requires receiver { IsProcessor trace.now.config trace.now.steps p receiver.now }
+    requires { IsProcessor trace.now.config trace.now.steps p receiver.now }
     ensures { result ≡ (ends && is_some (next_send trace.now.config trace.now.steps p)) }
 {
     if !ends {
         return false;
     }
-    let next = next_destination(
-        trace.config(),
-        p,
-        receiver.round,
-        receiver.last,
-        &receiver.node,
-    );
-    next.is_some()
+    next_send(trace, receiver, p).is_some()
 }
 
-// Makes a Receive of `p` that is due.
-fn make(
+/// Takes these messages for processor `p` and, if `ends`, ends its round.
+pub(crate) fn receive(
     alloc: Global,
     trace: &mut Trace,
     letters: &mut Vec<Place>,
     processors: &mut Vec<Processor>,
     p: u64,
     ends: bool,
-    taken: &MessageIds,
+    taken: MessageIds,
 ) -> Result<(), AllocError>
     requires world { IsWorld trace.old letters.old.items processors.old.items }
     requires processor { IsProc trace.old.config p }
-    requires step { refusal trace.old.config trace.old.steps (record { proc = p; act = Act.Receive ends taken.now }) ≡ None }
+    requires step { refusal trace.old.config trace.old.steps (record { proc = p; act = Act.Receive ends taken }) ≡ None }
     requires due { (ends && is_some (next_send trace.old.config trace.old.steps p)) ≡ false }
     ensures world { IsWorld trace.new letters.new.items processors.new.items }
     ensures config { trace.new.config ≡ trace.old.config }
-    ensures step { OnOk result (trace.new.steps ≡ trace.old.steps ++ record { proc = p; act = Act.Receive ends taken.now } ∷ []) }
+    ensures step { OnOk result (trace.new.steps ≡ trace.old.steps ++ record { proc = p; act = Act.Receive ends taken } ∷ []) }
     ensures err { OnErr result (trace.new ≡ trace.old) }
 {
     if ends {
@@ -113,14 +93,14 @@ fn take_messages(
     letters: &mut Vec<Place>,
     processors: &mut Vec<Processor>,
     p: u64,
-    taken: &MessageIds,
+    taken: MessageIds,
 ) -> Result<(), AllocError>
     requires world { IsWorld trace.old letters.old.items processors.old.items }
     requires processor { IsProc trace.old.config p }
-    requires step { refusal trace.old.config trace.old.steps (record { proc = p; act = Act.Receive false taken.now }) ≡ None }
+    requires step { refusal trace.old.config trace.old.steps (record { proc = p; act = Act.Receive false taken }) ≡ None }
     ensures world { IsWorld trace.new letters.new.items processors.new.items }
     ensures config { trace.new.config ≡ trace.old.config }
-    ensures step { OnOk result (trace.new.steps ≡ trace.old.steps ++ record { proc = p; act = Act.Receive false taken.now } ∷ []) }
+    ensures step { OnOk result (trace.new.steps ≡ trace.old.steps ++ record { proc = p; act = Act.Receive false taken } ∷ []) }
     ensures err { OnErr result (trace.new ≡ trace.old) }
 {
     let receiver = &mut processors[(p - 1) as usize];
@@ -135,20 +115,20 @@ fn end_round(
     letters: &mut Vec<Place>,
     processors: &mut Vec<Processor>,
     p: u64,
-    taken: &MessageIds,
+    taken: MessageIds,
 ) -> Result<(), AllocError>
     requires world { IsWorld trace.old letters.old.items processors.old.items }
     requires processor { IsProc trace.old.config p }
-    requires step { refusal trace.old.config trace.old.steps (record { proc = p; act = Act.Receive true taken.now }) ≡ None }
+    requires step { refusal trace.old.config trace.old.steps (record { proc = p; act = Act.Receive true taken }) ≡ None }
     requires due { next_send trace.old.config trace.old.steps p ≡ None }
     ensures world { IsWorld trace.new letters.new.items processors.new.items }
     ensures config { trace.new.config ≡ trace.old.config }
-    ensures step { OnOk result (trace.new.steps ≡ trace.old.steps ++ record { proc = p; act = Act.Receive true taken.now } ∷ []) }
+    ensures step { OnOk result (trace.new.steps ≡ trace.old.steps ++ record { proc = p; act = Act.Receive true taken } ∷ []) }
     ensures err { OnErr result (trace.new ≡ trace.old) }
 {
     let receiver = &mut processors[(p - 1) as usize];
     gather(&mut receiver.inbox, receiver.round)?;
-    let node = computed(alloc, trace, letters, receiver, p, taken)?;
+    let node = computed(alloc, trace, letters, receiver, p, &taken)?;
     settle_ended(trace, letters, receiver, p, taken, node)?;
     Ok(())
 }
@@ -191,26 +171,27 @@ fn settle_taken(
     letters: &mut Vec<Place>,
     receiver: &mut Processor,
     p: u64,
-    taken: &MessageIds,
+    taken: MessageIds,
 ) -> Result<(), AllocError>
     requires run { IsRun trace.old.config trace.old.steps }
     requires ticks { IsOnePerTick trace.old }
     requires letters { AreLetters trace.old.config trace.old.steps letters.old.items }
     requires receiver { IsProcessor trace.old.config trace.old.steps p receiver.old }
-    requires step { refusal trace.old.config trace.old.steps (record { proc = p; act = Act.Receive false taken.now }) ≡ None }
+    requires step { refusal trace.old.config trace.old.steps (record { proc = p; act = Act.Receive false taken }) ≡ None }
     ensures run { IsRun trace.new.config trace.new.steps }
     ensures one_per_tick { IsOnePerTick trace.new }
     ensures letters { AreLetters trace.new.config trace.new.steps letters.new.items }
     ensures receiver { IsProcessor trace.new.config trace.new.steps p receiver.new }
     ensures config { trace.new.config ≡ trace.old.config }
-    ensures step { OnOk result (trace.new.steps ≡ trace.old.steps ++ record { proc = p; act = Act.Receive false taken.now } ∷ []) }
+    ensures step { OnOk result (trace.new.steps ≡ trace.old.steps ++ record { proc = p; act = Act.Receive false taken } ∷ []) }
     ensures err { OnErr result (trace.new ≡ trace.old) }
 {
     push_receive(trace, letters, &mut receiver.inbox, p, false, taken)?;
+    let ids = last_ids(trace);
     letters.push_reserved(Place::empty());
     let round = receiver.round;
-    release(letters, taken.as_slice(), round);
-    take_in(receiver, letters, taken.as_slice(), round);
+    release(letters, ids, round);
+    take_in(receiver, letters, ids, round);
     Ok(())
 }
 
@@ -220,31 +201,32 @@ fn settle_ended(
     letters: &mut Vec<Place>,
     receiver: &mut Processor,
     p: u64,
-    taken: &MessageIds,
+    taken: MessageIds,
     node: Node,
 ) -> Result<(), AllocError>
     requires run { IsRun trace.old.config trace.old.steps }
     requires ticks { IsOnePerTick trace.old }
     requires letters { AreLetters trace.old.config trace.old.steps letters.old.items }
     requires receiver { IsProcessor trace.old.config trace.old.steps p receiver.old }
-    requires step { refusal trace.old.config trace.old.steps (record { proc = p; act = Act.Receive true taken.now }) ≡ None }
+    requires step { refusal trace.old.config trace.old.steps (record { proc = p; act = Act.Receive true taken }) ≡ None }
     requires due { next_send trace.old.config trace.old.steps p ≡ None }
     requires gathered { All (λ e. receiver.old.round < e.0.0) (heap_items receiver.old.inbox.later) }
-    requires node { node ≡ node_at trace.old.config (trace.old.steps ++ record { proc = p; act = Act.Receive true taken.now } ∷ []) p }
+    requires node { node ≡ node_at trace.old.config (trace.old.steps ++ record { proc = p; act = Act.Receive true taken } ∷ []) p }
     ensures run { IsRun trace.new.config trace.new.steps }
     ensures one_per_tick { IsOnePerTick trace.new }
     ensures letters { AreLetters trace.new.config trace.new.steps letters.new.items }
     ensures receiver { IsProcessor trace.new.config trace.new.steps p receiver.new }
     ensures config { trace.new.config ≡ trace.old.config }
-    ensures step { OnOk result (trace.new.steps ≡ trace.old.steps ++ record { proc = p; act = Act.Receive true taken.now } ∷ []) }
+    ensures step { OnOk result (trace.new.steps ≡ trace.old.steps ++ record { proc = p; act = Act.Receive true taken } ∷ []) }
     ensures err { OnErr result (trace.new ≡ trace.old) }
 {
     push_receive(trace, letters, &mut receiver.inbox, p, true, taken)?;
+    let ids = last_ids(trace);
     letters.push_reserved(Place::empty());
     let round = receiver.round + 1;
     release(letters, &receiver.inbox.near, round);
-    release(letters, taken.as_slice(), round);
-    take_in(receiver, letters, taken.as_slice(), round);
+    release(letters, ids, round);
+    take_in(receiver, letters, ids, round);
     drop_past(&mut receiver.inbox.near, letters, round);
     receiver.round = round;
     receiver.last = 0;
@@ -260,36 +242,29 @@ fn push_receive(
     inbox: &mut Inbox,
     p: u64,
     ends: bool,
-    taken: &MessageIds,
+    taken: MessageIds,
 ) -> Result<(), AllocError>
-    requires step { refusal trace.old.config trace.old.steps (record { proc = p; act = Act.Receive ends taken.now }) ≡ None }
+    requires step { refusal trace.old.config trace.old.steps (record { proc = p; act = Act.Receive ends taken }) ≡ None }
     requires ticks { IsOnePerTick trace.old }
     ensures letters { letters.new.items ≡ letters.old.items }
     ensures near { inbox.new.near.items ≡ inbox.old.near.items }
     ensures later { heap_items inbox.new.later ≡ heap_items inbox.old.later }
     ensures place { OnOk result (vec_len letters.new < vec_capacity letters.new) }
-    ensures room_near { OnOk result (vec_len inbox.new.near + length taken.now ≤ vec_capacity inbox.new.near) }
-    ensures room_later { OnOk result (heap_len inbox.new.later + length taken.now ≤ heap_capacity inbox.new.later) }
-    ensures appended { OnOk result (trace.new.steps ≡ trace.old.steps ++ record { proc = p; act = Act.Receive ends taken.now } ∷ []) }
+    ensures room_near { OnOk result (vec_len inbox.new.near + length taken ≤ vec_capacity inbox.new.near) }
+    ensures room_later { OnOk result (heap_len inbox.new.later + length taken ≤ heap_capacity inbox.new.later) }
+    ensures appended { OnOk result (trace.new.steps ≡ trace.old.steps ++ record { proc = p; act = Act.Receive ends taken } ∷ []) }
     ensures config { trace.new.config ≡ trace.old.config }
-    ensures well_formed { OnOk result (IsWellFormed trace.old.config (trace.old.steps ++ record { proc = p; act = Act.Receive ends taken.now } ∷ [])) }
+    ensures well_formed { OnOk result (IsWellFormed trace.old.config (trace.old.steps ++ record { proc = p; act = Act.Receive ends taken } ∷ [])) }
     ensures one_per_tick { IsOnePerTick trace.new }
     ensures err { OnErr result (trace.new ≡ trace.old) }
 {
-    let ids = copied(taken)?;
     letters.reserve(1)?;
     reserve(inbox, taken.as_slice().len())?;
     append(
         trace,
         Step {
             proc: p,
-            act: Act::Receive { ends, ids },
+            act: Act::Receive { ends, ids: taken },
         },
     )
-}
-
-fn copied(ids: &MessageIds) -> Result<MessageIds, AllocError>
-    ensures { IfOk result (λ copy. copy ≡ ids.now) }
-{
-    ids.clone()
 }

@@ -1,7 +1,8 @@
 //! A World that makes the steps of a given trace.
 
-ghost use Rattle.std.specs.Prelude.{◌≡◌, ◌+◌, ◌<◌, ◌≤◌, ◌++◌, ◌∷◌, [], None, true, false, length, option_copied, IfOk, OnOk, IfErr};
+ghost use Rattle.std.specs.Prelude.{◌≡◌, ◌+◌, ◌<◌, ◌≤◌, ◌++◌, ◌∷◌, [], List, None, true, false, length, option_copied, IfOk, OnOk, IfErr};
 ghost use Rattle.step_trace.specs.declared.traces.TheConstants.{MAX_STEPS};
+ghost use Rattle.step_trace.specs.declared.steps.Step.{Step as TraceStep};
 ghost use Rattle.step_trace.specs.Steps.{act_sends_to};
 ghost use Rattle.step_trace.specs.Traces.{step_at};
 ghost use Rattle.step_trace.specs.Ticks.{IsOnePerTick};
@@ -29,7 +30,7 @@ pub enum ReplayError {
 ///
 /// Refuses: `NotARun`, with the number of the first step that isn't a run's; `Memory`, where it lacks for the
 /// World, or for a step before that one or in place of it. Makes each step once, in the time and memory of
-/// `World::step`.
+/// `World::advance`.
 pub fn replay(alloc: Global, trace: &Trace) -> Result<World, ReplayError>
     ensures config { IfOk result (λ world. world.trace.config ≡ trace.now.config) }
     ensures steps { IfOk result (λ world. world.trace.steps ≡ trace.now.steps) }
@@ -96,8 +97,8 @@ fn follow_send(alloc: Global, world: &mut World, p: u64, to: u64) -> Result<bool
     ensures config { world.new.trace.config ≡ world.old.trace.config }
     ensures limit { world.new.limit ≡ world.old.limit }
 {
-    match world.step(alloc, p, Move::Send) {
-        Ok(done) => Ok(sends_to(&done.step.act, to)),
+    match world.advance(alloc, p, Move::Send) {
+        Ok(()) => Ok(last_sends_to(world.trace(), to)),
         Err(why) => not_made(why),
     }
 }
@@ -117,7 +118,7 @@ fn follow_receive(
     ensures limit { world.new.limit ≡ world.old.limit }
 {
     let take = Take::These(ids.as_slice());
-    let Err(why) = world.step(alloc, p, Move::Receive { take, ends }) else {
+    let Err(why) = world.advance(alloc, p, Move::Receive { take, ends }) else {
         return Ok(true);
     };
     not_made(why)
@@ -131,6 +132,16 @@ fn not_made(why: StepError) -> Result<bool, AllocError>
     match why {
         StepError::Memory => Err(AllocError),
         _ => Ok(false),
+    }
+}
+
+// Whether the last step of a trace is a Send to a processor.
+fn last_sends_to(trace: &Trace, p: u64) -> bool
+    ensures { (steps : List TraceStep) (last : TraceStep) → trace.now.steps ≡ steps ++ last ∷ [] → result ≡ act_sends_to last.act p }
+{
+    match trace.step(trace.len() as u64) {
+        Some(step) => sends_to(&step.act, p),
+        None => false,
     }
 }
 

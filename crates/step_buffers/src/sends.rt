@@ -1,6 +1,6 @@
 //! A Send.
 
-ghost use Rattle.std.specs.Prelude.{List, ◌-◌, slice_get, vec_len, vec_capacity, ◌≡◌, ◌<◌, ◌++◌, ◌∷◌, [], length, Some, None, IfOk, OnOk, OnErr, IfErr, ◌+◌, ◌≤◌, is_none, IsSome, if◌then◌else◌};
+ghost use Rattle.std.specs.Prelude.{List, ◌-◌, slice_get, vec_len, vec_capacity, ◌≡◌, ◌<◌, ◌++◌, ◌∷◌, [], length, Some, None, IfOk, OnOk, OnErr, ◌+◌, ◌≤◌, IsSome};
 ghost use Rattle.step_trace.specs.declared.traces.TheConstants.{MAX_STEPS};
 ghost use Rattle.step_trace.specs.declared.steps.Step.{Step as TraceStep};
 ghost use Rattle.step_trace.specs.Configurations.{Setup, IsProc};
@@ -10,46 +10,36 @@ ghost use Rattle.step_trace.specs.PushRefusals.{refusal};
 ghost use Rattle.lock_phases.specs.NodeFunctions.{out};
 ghost use Rattle.step_buffers.specs.HeardTables.{passed};
 ghost use Rattle.step_buffers.specs.Runs.{node_at};
-ghost use Rattle.step_buffers.specs.Moves.{next_send, IsStepRefusal};
+ghost use Rattle.step_buffers.specs.Moves.{next_send};
 ghost use Rattle.step_buffers.specs.Worlds.{IsSaidTo, IsSaid, IsPlaceOf, AreProcessors, IsWorld};
 
 use crate::appends::append;
 use crate::letters::{Letter, Place};
-use crate::moves::StepError;
-use crate::processors::{Processor, next_destination};
+use crate::processors::Processor;
 use std::alloc::{AllocError, Global};
 use step_trace::{Act, Config, Step, Trace};
 
-/// Sends what processor `p` has to send next, and answers where it went.
+/// Sends what processor `p` has to send to its next destination.
 pub(crate) fn send(
     alloc: Global,
     trace: &mut Trace,
     letters: &mut Vec<Place>,
     processors: &mut Vec<Processor>,
     p: u64,
-) -> Result<u64, StepError>
+    to: u64,
+) -> Result<(), AllocError>
     requires world { IsWorld trace.old letters.old.items processors.old.items }
     requires room { length trace.old.steps < MAX_STEPS }
     requires processor { IsProc trace.old.config p }
+    requires destination { next_send trace.old.config trace.old.steps p ≡ Some to }
     ensures world { IsWorld trace.new letters.new.items processors.new.items }
     ensures config { trace.new.config ≡ trace.old.config }
-    ensures destination { IfOk result (λ to. next_send trace.old.config trace.old.steps p ≡ Some to) }
-    ensures step { IfOk result (λ to. trace.new.steps ≡ trace.old.steps ++ record { proc = p; act = Act.Send to } ∷ []) }
-    ensures refused { IfErr result (λ e. IsStepRefusal e (if is_none (next_send trace.old.config trace.old.steps p) then Some StepError.NothingToSend else None)) }
+    ensures step { OnOk result (trace.new.steps ≡ trace.old.steps ++ record { proc = p; act = Act.Send to } ∷ []) }
     ensures err { OnErr result (trace.new ≡ trace.old) }
 {
     let sender = &processors[(p - 1) as usize];
-    let next = next_destination(trace.config(), p, sender.round, sender.last, &sender.node);
-    let Some(to) = next else {
-        return Err(StepError::NothingToSend);
-    };
-    let Ok(said) = said_to(alloc, trace.config(), sender, p, to) else {
-        return Err(StepError::Memory);
-    };
-    match post(trace, letters, processors, p, to, said) {
-        Ok(()) => Ok(to),
-        Err(_) => Err(StepError::Memory),
-    }
+    let place = said_to(alloc, trace.config(), sender, p, to)?;
+    post(trace, letters, processors, p, to, place)
 }
 
 // What `p` says to a processor to which it sends anything: what it said before in its round, if it did.

@@ -1,24 +1,25 @@
 //! The World: all processors of a configuration, moved one step at a time.
 
-ghost use Rattle.std.specs.Prelude.{◌≡◌, ◌+◌, ◌≤◌, ◌++◌, ◌∷◌, [], Some, None, length, IfOk, OnOk, IfErr, OnErr};
+ghost use Rattle.std.specs.Prelude.{◌≡◌, ◌+◌, ◌<◌, ◌≤◌, ◌++◌, ◌∷◌, [], Some, None, length, option_map, IfOk, OnOk, IfErr, OnErr};
 ghost use Rattle.std.specs.List.Sorted.{IsStrictlyIncreasing};
 ghost use Rattle.step_trace.specs.declared.traces.TheConstants.{MAX_STEPS};
 ghost use Rattle.step_trace.specs.Configurations.{IsProc};
 ghost use Rattle.step_trace.specs.Ticks.{IsOnePerTick};
 ghost use Rattle.step_buffers.specs.HeardTables.{passed};
-ghost use Rattle.step_buffers.specs.Runs.{node_at, IsRun};
+ghost use Rattle.step_trace.specs.PushRefusals.{refusal};
+ghost use Rattle.step_buffers.specs.Runs.{node_at, IsDue, IsRun};
 ghost use Rattle.step_buffers.specs.Buffers.{buffer};
-ghost use Rattle.step_buffers.specs.Moves.{step_of, step_refusal, IsStepRefusal};
+ghost use Rattle.step_buffers.specs.Moves.{next_send, step_of, step_refusal, IsStepRefusal};
 
 use crate::copies::{copied_letters, copied_processors};
 use crate::letters::Place;
 use crate::moves::{Done, Move, StepError};
 use crate::processors::{Processor, opening_processors};
-use crate::steps::make_move;
+use crate::steps::{act_of, make};
 use lock_phases::Node;
 use std::alloc::{AllocError, Global};
 use std::marker::Model;
-use step_trace::{Config, Step, Trace};
+use step_trace::{Act, Config, Step, Trace};
 
 /// All processors of a configuration with their nodes and buffers, and the trace of the steps that they
 /// made, which is a run (section 2 and 3 of the 1988 paper).
@@ -145,25 +146,77 @@ impl World {
         ensures refused { IfErr result (λ e. IsStepRefusal e (step_refusal self.old.trace.config self.old.limit self.old.trace.steps p step.entry)) }
         ensures err { OnErr result (self.new ≡ self.old) }
     {
-        if self.trace.len() as u64 >= self.limit {
-            return Err(StepError::Full);
-        }
-        if !self.trace.config().is_processor(p) {
-            return Err(StepError::BadProc);
-        }
-        let act = make_move(
-            alloc,
-            &mut self.trace,
-            &mut self.letters,
-            &mut self.processors,
-            p,
-            step,
-        )?;
+        let act = self.act_of(alloc, p, step)?;
+        let Ok(copy) = act.clone() else {
+            return Err(StepError::Memory);
+        };
+        self.make(alloc, p, copy)?;
         Ok(Done {
             no: self.trace.len() as u64,
             step: Step { proc: p, act },
             round: self.round(p),
             decision: self.decision(p),
         })
+    }
+
+    /// Makes one step of processor `p` as `step` does, and doesn't tell what it was: it stands at the end of the
+    /// trace.
+    ///
+    /// Refuses what `step` refuses, in the same order. Then everything is as it was. Takes the time and memory
+    /// of `step`, but for one copy of the ids that it takes in place of two.
+    pub fn advance(&mut self, alloc: Global, p: u64, step: Move) -> Result<(), StepError>
+        ensures made { OnOk result (option_map (λ made. self.old.trace.steps ++ made ∷ []) (step_of self.old.trace.config self.old.trace.steps p step.entry) ≡ Some self.new.trace.steps) }
+        ensures config { self.new.trace.config ≡ self.old.trace.config }
+        ensures limit { self.new.limit ≡ self.old.limit }
+        ensures ok { OnOk result (step_refusal self.old.trace.config self.old.limit self.old.trace.steps p step.entry ≡ None) }
+        ensures refused { IfErr result (λ e. IsStepRefusal e (step_refusal self.old.trace.config self.old.limit self.old.trace.steps p step.entry)) }
+        ensures err { OnErr result (self.new ≡ self.old) }
+    {
+        let act = self.act_of(alloc, p, step)?;
+        self.make(alloc, p, act)
+    }
+
+    // What processor `p` does in a move.
+    fn act_of(&self, alloc: Global, p: u64, step: Move) -> Result<Act, StepError>
+        ensures step { IfOk result (λ act. Some (record { proc = p; act = act }) ≡ step_of self.now.trace.config self.now.trace.steps p step.entry) }
+        ensures room { OnOk result (length self.now.trace.steps < self.now.limit) }
+        ensures processor { OnOk result (IsProc self.now.trace.config p) }
+        ensures fits { IfOk result (λ act. refusal self.now.trace.config self.now.trace.steps (record { proc = p; act = act }) ≡ None) }
+        ensures due { IfOk result (λ act. IsDue (next_send self.now.trace.config self.now.trace.steps p) act) }
+        ensures ok { OnOk result (step_refusal self.now.trace.config self.now.limit self.now.trace.steps p step.entry ≡ None) }
+        ensures refused { IfErr result (λ e. IsStepRefusal e (step_refusal self.now.trace.config self.now.limit self.now.trace.steps p step.entry)) }
+    {
+        if self.trace.len() as u64 >= self.limit {
+            return Err(StepError::Full);
+        }
+        if !self.trace.config().is_processor(p) {
+            return Err(StepError::BadProc);
+        }
+        act_of(alloc, &self.trace, &self.processors, p, step)
+    }
+
+    // Makes a step of processor `p` that is due.
+    fn make(&mut self, alloc: Global, p: u64, act: Act) -> Result<(), StepError>
+        requires room { length self.old.trace.steps < self.old.limit }
+        requires processor { IsProc self.old.trace.config p }
+        requires fits { refusal self.old.trace.config self.old.trace.steps (record { proc = p; act = act }) ≡ None }
+        requires due { IsDue (next_send self.old.trace.config self.old.trace.steps p) act }
+        ensures made { OnOk result (self.new.trace.steps ≡ self.old.trace.steps ++ record { proc = p; act = act } ∷ []) }
+        ensures config { self.new.trace.config ≡ self.old.trace.config }
+        ensures limit { self.new.limit ≡ self.old.limit }
+        ensures refused { IfErr result (λ e. e ≡ StepError.Memory) }
+        ensures err { OnErr result (self.new ≡ self.old) }
+    {
+        match make(
+            alloc,
+            &mut self.trace,
+            &mut self.letters,
+            &mut self.processors,
+            p,
+            act,
+        ) {
+            Ok(()) => Ok(()),
+            Err(_) => Err(StepError::Memory),
+        }
     }
 }

@@ -37,5 +37,5 @@ returns-in_err-settle_ended-clause-world c =
 
 pub returns-clause-world : goal.returns-clause-world
 returns-clause-world c =
-    IsWorld-received c.args.trace.now c.settle_ended.new.trace c.args.letters.now.items c.settle_ended.new.letters.items c.args.processors.now.items c.args.p true c.args.taken.now c.settle_ended.new.receiver
+    IsWorld-received c.args.trace.now c.settle_ended.new.trace c.args.letters.now.items c.settle_ended.new.letters.items c.args.processors.now.items c.args.p true c.args.taken c.settle_ended.new.receiver
     c.requires.world c.requires.processor c.in_ok-settle_ended.ensures.config c.in_ok-settle_ended.ensures.step c.in_ok-settle_ended.ensures.run c.in_ok-settle_ended.ensures.one_per_tick c.in_ok-settle_ended.ensures.letters c.in_ok-settle_ended.ensures.receiver

@@ -32,20 +32,20 @@ take_in-requires-clause-buffer c = rw c.requires.receiver.buffer (buffer-rises c
 
 pub take_in-requires-clause-rising : goal.take_in-requires-clause-rising
 take_in-requires-clause-rising c =
-    let x : Step = record { proc = c.args.p; act = Receive true c.args.taken.now } in
-    rw c.as_slice-2.ensures (Fits-from_none c.args.trace.now.config c.args.trace.now.steps x c.requires.step).rising
+    let x : Step = record { proc = c.args.p; act = Receive true c.args.taken } in
+    rw (c.last_ids-ids.ensures c.args.trace.now.steps (record { proc = c.args.p; act = Receive true c.args.taken }) c.in_ok-push_receive.ensures.appended) (Fits-from_none c.args.trace.now.config c.args.trace.now.steps x c.requires.step).rising
 
 pub returns-clause-run : goal.returns-clause-run
 returns-clause-run c =
     rw (c.in_ok-push_receive.ensures.config, c.in_ok-push_receive.ensures.appended)
-    (IsRun-push c.args.trace.now.config c.args.trace.now.steps (record { proc = c.args.p; act = Receive true c.args.taken.now }) c.requires.run c.in_ok-push_receive.ensures.well_formed c.requires.due)
+    (IsRun-push c.args.trace.now.config c.args.trace.now.steps (record { proc = c.args.p; act = Receive true c.args.taken }) c.requires.run c.in_ok-push_receive.ensures.well_formed c.requires.due)
 
 pub returns-clause-letters : goal.returns-clause-letters
 returns-clause-letters c =
     let config = c.args.trace.now.config in
     let steps = c.args.trace.now.steps in
     let p = c.args.p in
-    let ids = c.args.taken.now in
+    let ids = c.args.taken in
     let x : Step = record { proc = p; act = Receive true ids } in
     let is = c.requires.receiver in
     let first : AreLetters config (steps ++ x ∷ []) c.push_reserved.new.self.items =
@@ -59,8 +59,8 @@ returns-clause-letters c =
     (Contains-append_left c.args.receiver.now.inbox.near.items (ids_of (heap_items c.args.receiver.now.inbox.later)) s (subst (λ xs. Contains xs s) (c.deref.ensures.value ∙ c.in_ok-push_receive.ensures.near) d)))
     c.release.ensures.places c.release.ensures.left in
     rw (c.in_ok-push_receive.ensures.config, c.in_ok-push_receive.ensures.appended)
-    (AreLetters-released config (steps ++ x ∷ []) p round c.as_slice.result.now c.release.new.letters.items c.release-2.new.letters.items second now
-    (λ s d. taken-sent_after config steps p s true ids c.in_ok-push_receive.ensures.well_formed (subst (λ xs. Contains xs s) c.as_slice.ensures d))
+    (AreLetters-released config (steps ++ x ∷ []) p round c.last_ids-ids.result.now c.release.new.letters.items c.release-2.new.letters.items second now
+    (λ s d. taken-sent_after config steps p s true ids c.in_ok-push_receive.ensures.well_formed (subst (λ xs. Contains xs s) (c.last_ids-ids.ensures c.args.trace.now.steps (record { proc = c.args.p; act = Receive true c.args.taken }) c.in_ok-push_receive.ensures.appended) d))
     c.release-2.ensures.places c.release-2.ensures.left)
 
 pub returns-clause-receiver : goal.returns-clause-receiver
@@ -68,7 +68,7 @@ returns-clause-receiver c =
     let config = c.args.trace.now.config in
     let steps = c.args.trace.now.steps in
     let p = c.args.p in
-    let ids = c.args.taken.now in
+    let ids = c.args.taken in
     let old = c.push_receive.new.inbox in
     let letters = c.release-2.new.letters.items in
     let are = rw (c.in_ok-push_receive.ensures.config, c.in_ok-push_receive.ensures.appended) at (returns-clause-letters c) in
@@ -78,7 +78,7 @@ returns-clause-receiver c =
     let before = is.round in
     let more = passed-ends steps x refl in
     let now : round ≡ passed (steps ++ x ∷ []) p + 1 = omega arith in
-    let waiting : c.take_in.new.receiver.buffer.items ≡ filter (λ s. not (is_in ids s)) c.args.receiver.now.buffer.items = c.take_in.ensures.buffer ∙ rw c.as_slice-2.ensures refl in
+    let waiting : c.take_in.new.receiver.buffer.items ≡ filter (λ s. not (is_in ids s)) c.args.receiver.now.buffer.items = c.take_in.ensures.buffer ∙ rw (c.last_ids-ids.ensures c.args.trace.now.steps (record { proc = c.args.p; act = Receive true c.args.taken }) c.in_ok-push_receive.ensures.appended) refl in
     let kept = IsInbox-same steps p c.args.receiver.now.inbox old c.in_ok-push_receive.ensures.near c.in_ok-push_receive.ensures.later is.inbox in
     let ahead : All (λ (e : Entry). round ≤ e.0.0) (heap_items old.later) =
     rw c.in_ok-push_receive.ensures.later (All-weaker (λ (e : Entry). c.args.receiver.now.round < e.0.0) (λ (e : Entry). round ≤ e.0.0) (λ e l. omega arith) (heap_items c.args.receiver.now.inbox.later) c.requires.gathered) in
@@ -91,7 +91,7 @@ returns-clause-receiver c =
           ∙ ap (λ r. destination_after config c.args.node p r 0) (sym now);
       buffer = waiting ∙ ap (filter (λ s. not (is_in ids s))) is.buffer ∙ sym (buffer-received config steps p p true ids c.requires.run.well_formed);
       inbox = IsInbox-ended config steps p round ids old c.take_in.new.receiver.inbox _ letters c.in_ok-push_receive.ensures.well_formed are now kept ahead
-          (rw (c.as_slice-2.ensures, c.deref-2.ensures.value) at c.take_in.ensures.inbox)
+          (rw (c.last_ids-ids.ensures c.args.trace.now.steps (record { proc = c.args.p; act = Receive true c.args.taken }) c.in_ok-push_receive.ensures.appended, c.deref-2.ensures.value) at c.take_in.ensures.inbox)
           (rw c.deref-2.ensures.value at c.take_in.ensures.entries)
           (c.drop_past.ensures ∙ rw c.deref-3.ensures.value refl) refl;
       said = rw c.empty-2.ensures tt;

@@ -28,28 +28,28 @@ take_in-requires-clause-buffer c = rw c.requires.receiver.buffer (buffer-rises c
 
 pub take_in-requires-clause-rising : goal.take_in-requires-clause-rising
 take_in-requires-clause-rising c =
-    let x : Step = record { proc = c.args.p; act = Receive false c.args.taken.now } in
-    rw c.as_slice-2.ensures (Fits-from_none c.args.trace.now.config c.args.trace.now.steps x c.requires.step).rising
+    let x : Step = record { proc = c.args.p; act = Receive false c.args.taken } in
+    rw (c.last_ids-ids.ensures c.args.trace.now.steps (record { proc = c.args.p; act = Receive false c.args.taken }) c.in_ok-push_receive.ensures.appended) (Fits-from_none c.args.trace.now.config c.args.trace.now.steps x c.requires.step).rising
 
 pub returns-clause-run : goal.returns-clause-run
 returns-clause-run c =
     rw (c.in_ok-push_receive.ensures.config, c.in_ok-push_receive.ensures.appended)
-    (IsRun-push c.args.trace.now.config c.args.trace.now.steps (record { proc = c.args.p; act = Receive false c.args.taken.now }) c.requires.run c.in_ok-push_receive.ensures.well_formed tt)
+    (IsRun-push c.args.trace.now.config c.args.trace.now.steps (record { proc = c.args.p; act = Receive false c.args.taken }) c.requires.run c.in_ok-push_receive.ensures.well_formed tt)
 
 pub returns-clause-letters : goal.returns-clause-letters
 returns-clause-letters c =
     let config = c.args.trace.now.config in
     let steps = c.args.trace.now.steps in
     let p = c.args.p in
-    let ids = c.args.taken.now in
+    let ids = c.args.taken in
     let x : Step = record { proc = p; act = Receive false ids } in
     let is = c.requires.receiver in
     let first : AreLetters config (steps ++ x ∷ []) c.push_reserved.new.self.items =
     rw (c.push_reserved.ensures.items, c.in_ok-push_receive.ensures.letters, c.empty.ensures) (AreLetters-received config steps p false ids c.args.letters.now.items c.requires.run.well_formed c.requires.letters) in
     let now : c.args.receiver.now.round ≡ passed (steps ++ x ∷ []) p + 1 = is.round ∙ ap (λ n. n + 1) (sym (passed-stays steps x p (and_false (p == p)))) in
     rw (c.in_ok-push_receive.ensures.config, c.in_ok-push_receive.ensures.appended)
-    (AreLetters-released config (steps ++ x ∷ []) p c.args.receiver.now.round c.as_slice.result.now c.push_reserved.new.self.items c.release.new.letters.items first now
-    (λ s d. taken-sent_after config steps p s false ids c.in_ok-push_receive.ensures.well_formed (subst (λ xs. Contains xs s) c.as_slice.ensures d))
+    (AreLetters-released config (steps ++ x ∷ []) p c.args.receiver.now.round c.last_ids-ids.result.now c.push_reserved.new.self.items c.release.new.letters.items first now
+    (λ s d. taken-sent_after config steps p s false ids c.in_ok-push_receive.ensures.well_formed (subst (λ xs. Contains xs s) (c.last_ids-ids.ensures c.args.trace.now.steps (record { proc = c.args.p; act = Receive false c.args.taken }) c.in_ok-push_receive.ensures.appended) d))
     c.release.ensures.places c.release.ensures.left)
 
 pub returns-clause-receiver : goal.returns-clause-receiver
@@ -57,7 +57,7 @@ returns-clause-receiver c =
     let config = c.args.trace.now.config in
     let steps = c.args.trace.now.steps in
     let p = c.args.p in
-    let ids = c.args.taken.now in
+    let ids = c.args.taken in
     let old = c.push_receive.new.inbox in
     let letters = c.release.new.letters.items in
     let are = rw (c.in_ok-push_receive.ensures.config, c.in_ok-push_receive.ensures.appended) at (returns-clause-letters c) in
@@ -65,7 +65,7 @@ returns-clause-receiver c =
     let is = c.requires.receiver in
     let round = c.args.receiver.now.round in
     let now : round ≡ passed (steps ++ x ∷ []) p + 1 = is.round ∙ ap (λ n. n + 1) (sym (passed-stays steps x p (and_false (p == p)))) in
-    let waiting : c.take_in.new.receiver.buffer.items ≡ filter (λ s. not (is_in ids s)) c.args.receiver.now.buffer.items = c.take_in.ensures.buffer ∙ rw c.as_slice-2.ensures refl in
+    let waiting : c.take_in.new.receiver.buffer.items ≡ filter (λ s. not (is_in ids s)) c.args.receiver.now.buffer.items = c.take_in.ensures.buffer ∙ rw (c.last_ids-ids.ensures c.args.trace.now.steps (record { proc = c.args.p; act = Receive false c.args.taken }) c.in_ok-push_receive.ensures.appended) refl in
     let kept = IsInbox-same steps p c.args.receiver.now.inbox old c.in_ok-push_receive.ensures.near c.in_ok-push_receive.ensures.later is.inbox in
     rw (c.in_ok-push_receive.ensures.config, c.in_ok-push_receive.ensures.appended) (record {
       round = c.take_in.ensures.round ∙ now;
@@ -74,7 +74,7 @@ returns-clause-receiver c =
       next = next_send-took config steps p ids c.requires.run.well_formed ∙ is.next ∙ rw (c.take_in.ensures.round, c.take_in.ensures.last, c.take_in.ensures.node) refl;
       buffer = waiting ∙ ap (filter (λ s. not (is_in ids s))) is.buffer ∙ sym (buffer-received config steps p p false ids c.requires.run.well_formed);
       inbox = IsInbox-took config steps p round ids old c.take_in.new.receiver.inbox letters c.in_ok-push_receive.ensures.well_formed are now is.round kept
-          (rw (c.as_slice-2.ensures, c.deref.ensures.value) at c.take_in.ensures.inbox)
+          (rw (c.last_ids-ids.ensures c.args.trace.now.steps (record { proc = c.args.p; act = Receive false c.args.taken }) c.in_ok-push_receive.ensures.appended, c.deref.ensures.value) at c.take_in.ensures.inbox)
           (rw c.deref.ensures.value at c.take_in.ensures.entries);
       said = rw (c.take_in.ensures.round, c.take_in.ensures.node, c.take_in.ensures.said) is.said;
     })

@@ -14,5 +14,5 @@ returns-in_err-settle_taken-clause-world c =
 
 pub returns-clause-world : goal.returns-clause-world
 returns-clause-world c =
-    IsWorld-received c.args.trace.now c.settle_taken.new.trace c.args.letters.now.items c.settle_taken.new.letters.items c.args.processors.now.items c.args.p false c.args.taken.now c.settle_taken.new.receiver
+    IsWorld-received c.args.trace.now c.settle_taken.new.trace c.args.letters.now.items c.settle_taken.new.letters.items c.args.processors.now.items c.args.p false c.args.taken c.settle_taken.new.receiver
     c.requires.world c.requires.processor c.in_ok-settle_taken.ensures.config c.in_ok-settle_taken.ensures.step c.in_ok-settle_taken.ensures.run c.in_ok-settle_taken.ensures.one_per_tick c.in_ok-settle_taken.ensures.letters c.in_ok-settle_taken.ensures.receiver

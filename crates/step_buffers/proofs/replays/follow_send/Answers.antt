@@ -1,10 +1,9 @@
-use Rattle.std.proofs.Common.{ℕ, ◌≡◌, ◌∙◌, true, refl, sym, ap, eq-eqb}
+use Rattle.std.proofs.Common.{ℕ, ◌≡◌, ◌∙◌, ◌++◌, ◌∷◌, [], Option, Some, true, refl, sym, ap, eq-eqb}
 use Rattle.std.specs.Prelude.{option_map}
 use Rattle.std.proofs.lemmas.Bool.{false≢true}
 use Rattle.std.proofs.lemmas.Option.{same_Some}
 use Rattle.step_trace.specs.declared.steps.Act.TheVariants.{Send}
 use Rattle.step_trace.specs.declared.steps.Step.{Step}
-use Rattle.step_trace.specs.Steps.{act_sends_to}
 use Rattle.step_buffers.proofs.RunSteps.{IsDue-from_run, step_refusal-send, off-from_refusal}
 use Rattle.step_buffers.proofs.replays.follow_send.Goals as goal
 
@@ -16,8 +15,11 @@ returns-in-Ok-clause-off c = λ off run.
     let to = c.args.to in
     let x : Step = record { proc = p; act = Send to } in
     let due = IsDue-from_run config steps x run in
-    let made : c.in-Ok.done.step ≡ x = same_Some c.in-Ok.done.step x (c.in-Ok.ensures.step ∙ ap (option_map (λ (t : ℕ). record { proc = p; act = Send t })) due) in
-    let yes : c.sends_to.result ≡ true = c.sends_to.ensures ∙ ap (λ (z : Step). act_sends_to z.act to) made ∙ eq-eqb to to refl in
+    let before = c.args.world.now.trace.steps in
+    let one : Some (before ++ x ∷ []) ≡ Some c.advance.new.self.trace.steps =
+    sym (ap (λ (o : Option ℕ). option_map (λ (y : Step). before ++ y ∷ []) (option_map (λ (t : ℕ). let y : Step = record { proc = p; act = Send t } in y) o)) due) ∙ c.in-Ok.ensures.made in
+    let made : c.advance.new.self.trace.steps ≡ before ++ x ∷ [] = sym (same_Some (before ++ x ∷ []) c.advance.new.self.trace.steps one) in
+    let yes : c.last_sends_to.result ≡ true = c.last_sends_to.ensures before x (rw c.trace.ensures.value made) ∙ eq-eqb to to refl in
     false≢true (sym off ∙ yes)
 
 pub returns-in-Err-clause-off : goal.returns-in-Err-clause-off
