@@ -1,7 +1,7 @@
 -- What of all that is done is of one processor.
 use Rattle.std.proofs.Common.{ℕ, Some, ◌≡◌, ◌==◌, ◌+◌, ◌<◌, ◌≤◌, drop, List, [], ◌∷◌, ◌++◌, length, take, get_or, map, filter, Bool, true, false, refl, sym, ap, ◌∙◌, arith}
 use Rattle.std.proofs.lemmas.Bool.Decides.{nat_tests}
-use Rattle.std.specs.Prelude.{slice_get, All}
+use Rattle.std.specs.Prelude.{slice_get}
 use Rattle.std.proofs.Math.Seq.{get_or-append_seam}
 use Rattle.std.proofs.lemmas.Option.{slice_get-get_or, slice_get_within, get_or_from_slice_get}
 use Rattle.std.proofs.lemmas.List.{take_more, append-nil, append_assoc, take-append-drop, length-take, length-append}
@@ -10,8 +10,7 @@ use Rattle.step_buffers.specs.declared.moves.Done.{Done}
 use Rattle.std.specs.List.{enumerate_from}
 use Rattle.step_trace.specs.declared.steps.Step.{Step}
 use Rattle.step_trace.specs.Configurations.{Setup}
-use Rattle.locked_recorder.specs.Audits.{done_at, all_done, done_by, done_of, AgreeWith, IsFirstWithout}
-use Rattle.locked_recorder.specs.Seats.{Turns}
+use Rattle.locked_recorder.specs.Audits.{done_at, all_done, done_by, done_of}
 
 filter-map : {X Y : Type 0} (f : X → Y) (q : Y → Bool) (xs : List X) → filter q (map f xs) ≡ map f (filter (λ x. q (f x)) xs)
 filter-map f q [] = refl
@@ -24,13 +23,6 @@ filter-map f q (x ∷ xs) = go (q (f x)) refl (filter-map f q xs)
 -- of all that is done in a trace, what is of p is what p does
 pub done_of-all_done : (c : Setup) (steps : List Step) (p : ℕ) → done_of (all_done c steps) p ≡ done_by c steps p
 done_of-all_done c steps p = filter-map (λ x. done_at c steps x) (λ d. d.step.proc == p) (enumerate_from 1 steps)
-
--- so seats that did what their processors do of it agree with the trace
-pub AgreeWith-all_done : (c : Setup) (steps : List Step) (all : List Done) (seats : List Turns) → all ≡ all_done c steps → All (λ s. s.done ≡ done_of all s.proc) seats
-    → AgreeWith c steps seats
-AgreeWith-all_done c steps all seats is same = λ k d l.
-    let p = (get_or seats k d).proc in
-    same k d l ∙ ap (λ ds. done_of ds p) is ∙ done_of-all_done c steps p
 
 one_more : (all : List Done) (p i : ℕ) (x : Done) → i < length all → x ≡ get_or all i x → done_of (take (i + 1) all) p ≡ done_of (take i all) p ++ done_of (x ∷ []) p
 one_more all p i x inside is =
@@ -70,12 +62,3 @@ next-of_done_of all own p i next x inside is mine same short whole =
     let there : get_or own next x ≡ x =
     ap (λ ds. get_or ds next x) cut ∙ ap (λ k. get_or (take next own ++ x ∷ rest) k x) (sym count) ∙ get_or-append_seam (take next own) x rest x in
     slice_get-get_or own next x (omega arith) ∙ ap Some there
-
--- the first without a fact is the first without the same fact
-pub IsFirstWithout-same : {X : Type 0} (P Q : X → Type 0) (xs : List X) (k : ℕ) → ((x : X) → P x → Q x) → ((x : X) → Q x → P x) → IsFirstWithout P xs k
-    → IsFirstWithout Q xs k
-IsFirstWithout-same P Q xs k to from first = record {
-  within = first.within;
-  before = λ i d l. to (get_or (take k xs) i d) (first.before i d l);
-  without = λ d q. first.without d (from (get_or xs k d) q);
-}

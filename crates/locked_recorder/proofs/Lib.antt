@@ -4,3 +4,4 @@ pub mod RepeatedSteps
 pub mod DoneOf
 pub mod DrivenSeats
 pub mod SeatOrder
+pub mod ComparedSeats

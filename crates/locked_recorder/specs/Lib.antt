@@ -4,4 +4,5 @@ pub mod Recordings
 pub mod Lent
 pub mod Prefixes
 pub mod Audits
+pub mod Comparisons
 pub mod Drives

@@ -1,12 +1,15 @@
-//! Seats and views, compared with a trace and with what was done in it.
+//! Seats and views, compared with a trace and with what is done in it.
 
-ghost use Rattle.std.specs.Prelude.{◌≡◌, ◌↔◌, Some, slice_get, IsTrue, IfSome, IfNone, All};
-ghost use Rattle.locked_recorder.specs.Audits.{done_of, AreInOrder, AreTagged, IsExtended, AreExtended, IsFirstWithout};
+ghost use Rattle.std.specs.Prelude.{ℕ, ◌≡◌, ◌<◌, ◌↔◌, Option, Some, length, slice_get, slice_index_or, IsTrue, IfSome, IfNone};
+ghost use Rattle.step_trace.specs.Configurations.{IsProc};
+ghost use Rattle.locked_recorder.specs.Seats.{Turns};
+ghost use Rattle.locked_recorder.specs.Audits.{done_last, AreInOrder, AreTagged, IsExtended, AreExtended, IsFirstWithout};
+ghost use Rattle.locked_recorder.specs.Comparisons.{IsNextAgreed, IsWhole, AreWhole};
 
 use crate::seats::Seat;
 use crate::views::View;
-use step_buffers::Done;
-use step_trace::{Config, Trace};
+use step_buffers::{Done, World};
+use step_trace::{Config, Step, Trace};
 
 /// Whether there is one seat for each processor, in order.
 pub(crate) fn are_in_order(config: &Config, seats: &[Seat]) -> bool
@@ -30,53 +33,59 @@ pub(crate) fn are_tagged(tag: u64, seats: &[Seat]) -> bool
     seats.iter().all(|seat| seat.tag == tag)
 }
 
-/// The index of the first seat that didn't do what its processor does of all that was done.
-pub(crate) fn first_differing(all: &[Done], seats: &[Seat]) -> Option<usize>
-    ensures none { IfNone result (All (λ s. s.done ≡ done_of all.now s.proc) seats.now) }
-    ensures some { IfSome result (λ k. IsFirstWithout (λ s. s.done ≡ done_of all.now s.proc) seats.now k) }
+/// How many of the first things that a seat did are what its processor did, with the step that a World made last,
+/// where so many were it before; none from the first difference on.
+pub(crate) fn next_agreed(
+    world: &World,
+    step: &Step,
+    own: &[Done],
+    agreed: Option<usize>,
+) -> Option<usize>
+    requires { IsProc world.now.trace.config step.now.proc }
+    ensures { IsNextAgreed own.now (done_last world.now.trace.config world.now.trace.steps step.now) agreed result }
 {
-    for (i, seat) in seats.iter().enumerate() {
-        if !agrees(all, seat.done(), seat.proc()) {
-            return Some(i);
-        }
+    match agreed {
+        Some(count) if has_at(world, step, own, count) => Some(count + 1),
+        _ => None,
     }
-    None
 }
 
-// Whether these are what processor `p` does of all that was done.
-fn agrees(all: &[Done], own: &[Done], p: u64) -> bool
-    ensures { IsTrue result ↔ (own.now ≡ done_of all.now p) }
-{
-    let mut next = 0;
-    for done in all {
-        if done.step.proc == p {
-            if !has_at(own, next, done) {
-                return false;
-            }
-            next += 1;
-        }
-    }
-    next == own.len()
-}
-
-// Whether this stands at an index of a list.
-fn has_at(list: &[Done], index: usize, done: &Done) -> bool
-    ensures { IsTrue result ↔ (slice_get list.now index ≡ Some done.now) }
+// Whether what was done in the step that a World made last stands at an index of a list.
+fn has_at(world: &World, step: &Step, list: &[Done], index: usize) -> bool
+    requires { IsProc world.now.trace.config step.now.proc }
+    ensures { IsTrue result ↔ (slice_get list.now index ≡ Some (done_last world.now.trace.config world.now.trace.steps step.now)) }
 {
     match list.get(index) {
-        Some(one) => are_same(one, done),
+        Some(done) => is_last(world, step, done),
         None => false,
     }
 }
 
-// Whether the same was done.
-fn are_same(one: &Done, other: &Done) -> bool
-    ensures { IsTrue result ↔ (one.now ≡ other.now) }
+// Whether this was done in the step that a World made last.
+fn is_last(world: &World, step: &Step, done: &Done) -> bool
+    requires { IsProc world.now.trace.config step.now.proc }
+    ensures { IsTrue result ↔ (done.now ≡ done_last world.now.trace.config world.now.trace.steps step.now) }
 {
-    one.no == other.no
-        && one.step.is_same(&other.step)
-        && one.round == other.round
-        && one.decision == other.decision
+    done.no == world.trace().len() as u64
+        && done.step.is_same(step)
+        && done.round == world.round(step.proc)
+        && done.decision == world.decision(step.proc)
+}
+
+/// The index of the first seat of which not all agreed.
+pub(crate) fn first_differing(seats: &[Seat], agreed: &[Option<usize>]) -> Option<usize>
+    requires { length agreed.now ≡ length seats.now }
+    ensures none { IfNone result (AreWhole seats.now agreed.now (length seats.now)) }
+    ensures within { IfSome result (λ i. i < length seats.now) }
+    ensures before { IfSome result (λ i. AreWhole seats.now agreed.now i) }
+    ensures differs { IfSome result (λ i. (s : Turns) (m : Option ℕ) → ¬ IsWhole (slice_index_or seats.now i s) (slice_index_or agreed.now i m)) }
+{
+    for (i, seat) in seats.iter().enumerate() {
+        if agreed[i] != Some(seat.done().len()) {
+            return Some(i);
+        }
+    }
+    None
 }
 
 /// The index of the first view that has seen what the trace doesn't extend.

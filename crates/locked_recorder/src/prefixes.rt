@@ -74,7 +74,7 @@ impl Recorder {
     }
 
     // A copy of the trace, made under the lock; none where the World is of another configuration.
-    fn shown<R: Wait>(&self, rt: &R, alloc: Global) -> Result<Option<Trace>, AllocError>
+    pub(crate) fn shown<R: Wait>(&self, rt: &R, alloc: Global) -> Result<Option<Trace>, AllocError>
         ensures { IfOk result (λ shown. IfSome shown (λ trace. IsRunOf self.now.config trace)) }
     {
         let world = self.world.lock(rt);

@@ -5,7 +5,7 @@ use Rattle.step_buffers.specs.Runs.{IsDue, IsRun}
 use Rattle.step_buffers.specs.Buffers.{buffer}
 use Rattle.step_buffers.specs.Moves.{next_send, take_refusal}
 use Rattle.step_buffers.proofs.RunSteps.{IsDue-from_run, takes-from_run, step_refusal-send, step_refusal-receive}
-use Rattle.locked_recorder.proofs.RepeatedSteps.{sent, made, done}
+use Rattle.locked_recorder.proofs.RepeatedSteps.{sent}
 use Rattle.locked_recorder.proofs.repeats.repeat.Goals as goal
 
 pub make-requires : goal.make-requires
@@ -33,13 +33,4 @@ returns-in-Send-clause-made c =
     let steps = c.args.world.now.trace.steps in
     let x = c.args.step.now in
     let due = subst (λ (a : Act). IsDue (next_send config steps x.proc) a) c.in-Send.is (IsDue-from_run config steps x c.requires.run) in
-    made c.make.result steps c.make.new.world.trace.steps x (sent c.make.result config steps x c.in-Send.to c.in-Send.is due c.make.ensures.step) c.make.ensures.made
-
-pub returns-in-Send-clause-done : goal.returns-in-Send-clause-done
-returns-in-Send-clause-done c =
-    let config = c.args.world.now.trace.config in
-    let steps = c.args.world.now.trace.steps in
-    let x = c.args.step.now in
-    let due = subst (λ (a : Act). IsDue (next_send config steps x.proc) a) c.in-Send.is (IsDue-from_run config steps x c.requires.run) in
-    done c.make.result c.make.new.world.trace.config c.make.new.world.trace.steps x (sent c.make.result config steps x c.in-Send.to c.in-Send.is due c.make.ensures.step)
-    c.make.ensures.number c.make.ensures.round c.make.ensures.decision
+    sent c.make.result config steps c.make.new.world.trace.steps x c.in-Send.to c.in-Send.is due c.make.ensures.made
