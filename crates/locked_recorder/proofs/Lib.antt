@@ -5,3 +5,4 @@ pub mod DoneOf
 pub mod DrivenSeats
 pub mod SeatOrder
 pub mod ComparedSeats
+pub mod Answered

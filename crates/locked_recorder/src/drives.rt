@@ -1,6 +1,8 @@
 //! Drives: the loop of a thread that makes the steps of one processor.
 
 ghost use Rattle.std.specs.Prelude.{◌≡◌, ◌↔◌, ◌+◌, ◌<◌, ◌≤◌, IsTrue, IfOk, IfErr, OnOk, OnErr};
+ghost use Rattle.step_buffers.specs.declared.moves.Move.{Move as TraceMove};
+ghost use Rattle.locked_recorder.specs.Recordings.{IsAnswer, IsRefused};
 ghost use Rattle.locked_recorder.specs.Drives.{IsMoved, IsAnyRefusal, IsDriven, IsStop};
 
 use crate::errors::{DriveError, DriveStop, RecordError};
@@ -8,7 +10,7 @@ use crate::recorders::Recorder;
 use crate::seats::Seat;
 use std::alloc::Global;
 use std::sync::Wait;
-use step_buffers::{Move, StepError, Take};
+use step_buffers::{Done, Move, StepError, Take};
 use step_trace::Gate;
 
 /// How a drive stands in the round of its processor.
@@ -75,17 +77,76 @@ impl Recorder {
         ensures refused { IfErr result (λ e. IsAnyRefusal self.now seat.old e) }
         ensures err { OnErr result (seat.new ≡ seat.old) }
     {
-        if pace.sends {
-            match seat.record(rt, alloc, self, Move::Send) {
-                Err(RecordError::Step(StepError::NothingToSend)) => pace.sends = false,
-                answer => return answer,
-            }
-        }
         let ends = pace.is_over();
         let take = Take::All;
-        seat.record(rt, alloc, self, Move::Receive { take, ends })?;
+        let receive = Move::Receive { take, ends };
+        if pace.sends {
+            if seat.record_either(rt, alloc, self, Move::Send, receive)? {
+                return Ok(());
+            }
+            pace.sends = false;
+        } else {
+            seat.record(rt, alloc, self, receive)?;
+        }
         pace.receive();
         Ok(())
+    }
+
+    // Makes one step of processor `p` under the lock, by the first of these moves, or by the second where the first
+    // finds nothing to send; and says whether it was by the first.
+    fn make_either<R: Wait>(
+        &self,
+        rt: &R,
+        alloc: Global,
+        p: u64,
+        first: Move,
+        second: Move,
+    ) -> Result<(Done, bool), RecordError>
+        ensures answered { IfOk result (λ made. (step : TraceMove) × IsAnswer self.now.config p step made.0) }
+        ensures refused { IfErr result (λ e. (step : TraceMove) × IsRefused self.now.config p step e) }
+    {
+        let mut world = self.world.lock(rt);
+        if !world.trace().config().is_same(&self.config) {
+            return Err(RecordError::ForeignSeat);
+        }
+        match world.step(alloc, p, first) {
+            Ok(done) => return Ok((done, true)),
+            Err(StepError::NothingToSend) => {}
+            Err(why) => return Err(RecordError::Step(why)),
+        }
+        match world.step(alloc, p, second) {
+            Ok(done) => Ok((done, false)),
+            Err(why) => Err(RecordError::Step(why)),
+        }
+    }
+}
+
+impl Seat {
+    // Makes one step by the first of these moves, or by the second where the first finds nothing to send, taking
+    // the lock once; keeps what was done, and says whether it was by the first. The list grows before the lock is
+    // taken.
+    fn record_either<R: Wait>(
+        &mut self,
+        rt: &R,
+        alloc: Global,
+        recorder: &Recorder,
+        first: Move,
+        second: Move,
+    ) -> Result<bool, RecordError>
+        ensures tag { OnOk result (self.old.tag ≡ recorder.now.tag) }
+        ensures moved { OnOk result (IsMoved recorder.now.config self.old self.new) }
+        ensures refused { IfErr result (λ e. IsAnyRefusal recorder.now self.old e) }
+        ensures err { OnErr result (self.new ≡ self.old) }
+    {
+        if self.tag != recorder.tag {
+            return Err(RecordError::ForeignSeat);
+        }
+        if self.done.reserve(1).is_err() {
+            return Err(RecordError::Step(StepError::Memory));
+        }
+        let (done, is_first) = recorder.make_either(rt, alloc, self.proc, first, second)?;
+        self.done.push(done).unwrap();
+        Ok(is_first)
     }
 }
 
