@@ -4,7 +4,7 @@ use Rattle.std.specs.Prelude.{Result, Ok, Err, OnOk, IfSome, option_map}
 use Rattle.std.specs.List.{enumerate_from}
 use Rattle.std.proofs.lemmas.List.{take_more, take-append-drop, length-take, length-map, get_or-map}
 use Rattle.std.proofs.lemmas.List.FromFn.{length-enumerate_from, get_or-enumerate_from}
-use Rattle.std.proofs.lemmas.Option.{slice_get_within, get_or_from_slice_get}
+use Rattle.std.proofs.lemmas.Option.{slice_get_within, get_or_from_slice_get, same_Some, none-some}
 use Rattle.step_trace.specs.declared.steps.Act.{Act}
 use Rattle.step_trace.specs.declared.steps.Act.TheVariants.{Send}
 use Rattle.step_trace.specs.declared.steps.Step.{Step}
@@ -75,6 +75,11 @@ done_last-at c steps n x d at =
     get_or-map f (enumerate_from 1 steps) n (0, x) d inside ∙ ap f (get_or-enumerate_from 1 steps n (0, x) within)
     ∙ ap (λ y. f (1 + n, y)) (get_or_from_slice_get steps n x x at) ∙ ap (λ k. f (k, x)) (omega arith)
     ∙ sym (ap (λ k. record (done_last c (take (n + 1) steps) x) { no = k }) count)
+
+-- what a move comes to, where there is such a step, is what was made
+pub made : (o : Option Step) (steps new : List Step) → option_map (λ y. steps ++ y ∷ []) o ≡ Some new → IfSome o (λ y. new ≡ steps ++ y ∷ [])
+made (Some y) steps new h = sym (same_Some (steps ++ y ∷ []) new h)
+made None steps new h = absurd (none-some new h)
 
 -- a Send goes where its processor sends next
 pub sent : {A E : Type 0} (r : Result A E) (c : Setup) (steps new : List Step) (x : Step) (to : ℕ) → x.act ≡ Send to → next_send c steps x.proc ≡ Some to

@@ -74,8 +74,8 @@ fn make(alloc: Global, world: &mut World, p: u64, step: Move) -> Result<(), Allo
     ensures config { world.new.trace.config ≡ world.old.trace.config }
     ensures limit { world.new.limit ≡ world.old.limit }
 {
-    match world.step(alloc, p, step) {
-        Ok(_) => Ok(()),
+    match world.advance(alloc, p, step) {
+        Ok(()) => Ok(()),
         Err(StepError::Memory) => Err(AllocError),
         Err(_) => unreachable!(),
     }
