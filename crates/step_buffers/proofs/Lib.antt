@@ -16,6 +16,7 @@ pub mod InboxSenders
 pub mod RisingIds
 pub mod TakenIds
 pub mod DestinationSearch
+mod CandidateDestinations
 pub mod BufferSteps
 pub mod ProcessorSteps
 pub mod LetterSteps

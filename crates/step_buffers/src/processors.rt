@@ -1,7 +1,9 @@
 //! What is kept of a processor: its node, what it sent in its round, and the messages that it may yet hear.
 
-ghost use Rattle.std.specs.Prelude.{◌≡◌, ◌≤◌, IfOk, IfSome, IsSome, []};
+ghost use Rattle.std.specs.Prelude.{ℕ, ◌≡◌, ◌≢◌, ◌≤◌, ◌<◌, ◌⊎◌, IfOk, IfSome, IsSome, true, false, is_some, []};
 ghost use Rattle.step_trace.specs.Configurations.{IsSetup};
+ghost use Rattle.lock_phases.specs.Rounds.{part_of};
+ghost use Rattle.lock_phases.specs.Nodes.{State};
 ghost use Rattle.lock_phases.specs.NodeFunctions.{out};
 ghost use Rattle.step_buffers.specs.Runs.{destination_after};
 ghost use Rattle.step_buffers.specs.Moves.{next_send};
@@ -10,7 +12,7 @@ ghost use Rattle.step_buffers.specs.Worlds.{IsProcessor, AreProcessors};
 use crate::inbox_entries::Inbox;
 use crate::letters::Place;
 use crate::round_inboxes::empty_inbox;
-use lock_phases::Node;
+use lock_phases::{Node, owner, part_of, phase_of};
 use std::alloc::{AllocError, Global};
 use step_trace::{Config, Trace};
 
@@ -39,13 +41,39 @@ fn next_destination(config: &Config, p: u64, round: u64, last: u64, node: &Node)
     ensures destination { result ≡ destination_after config.now node.now p round last }
     ensures sends { IfSome result (λ to. IsSome (out config.now node.now p round to)) }
 {
-    let n = config.n();
-    for to in last + 1..n + 1 {
-        if node.sends_to(config, p, round, to) {
-            return Some(to);
-        }
+    let to = candidate(config, round, last);
+    if to <= config.n() && node.sends_to(config, p, round, to) {
+        return Some(to);
     }
     None
+}
+
+// The processor after the last one to which anything goes next in a round, if anything does: lists and
+// acknowledgements go to the owner alone.
+fn candidate(config: &Config, round: u64, last: u64) -> u64
+    requires positive { 1 ≤ round }
+    requires within { last ≤ config.now.n }
+    ensures later { last < result }
+    ensures first { (s : State) (me to : ℕ) → last < to → to < result → is_some (out config.now s me round to) ≡ false }
+    ensures only { (s : State) (me to : ℕ) → last < to → is_some (out config.now s me round result) ≡ false → is_some (out config.now s me round to) ≡ false }
+{
+    let n = config.n();
+    let next = last + 1;
+    if !is_to_owner(round) {
+        return next;
+    }
+    let owner = owner(n, phase_of(round));
+    if next < owner { owner } else { next }
+}
+
+// Whether it is a round in which nobody but the owner is sent anything.
+fn is_to_owner(round: u64) -> bool
+    requires { 1 ≤ round }
+    ensures owner { result ≡ true → (part_of round ≡ 1) ⊎ (part_of round ≡ 3) }
+    ensures all { result ≡ false → (part_of round ≢ 1) × (part_of round ≢ 3) }
+{
+    let part = part_of(round);
+    part == 1 || part == 3
 }
 
 /// Where a processor sends next. None where all messages of its round are out.
