@@ -7,12 +7,12 @@ use std::test::Fail;
 use step_buffers::{Move, StepError, Take, World};
 use step_trace::Config;
 
-// Whether a move is refused for this reason, and the trace stays as it was.
+// Whether a move is refused for this reason, told or not, and the trace stays as it was.
 fn refuses(alloc: Global, world: &mut World, p: u64, step: Move, why: StepError) -> bool {
     let steps = world.trace().len();
-    match world.step(alloc, p, step) {
-        Ok(_) => false,
-        Err(e) => e == why && world.trace().len() == steps,
+    match (world.step(alloc, p, step), world.advance(alloc, p, step)) {
+        (Err(a), Err(b)) => a == why && b == why && world.trace().len() == steps,
+        _ => false,
     }
 }
 

@@ -1,7 +1,9 @@
 //! Worked runs, and what becomes of their nodes.
 
 use crate::long_scripts::{DECIDES_SEVEN, LOST_LOCK, NO_PROPOSAL};
-use crate::scripts::{E, R, Row, S, all_hold, all_stand, copy_holds, holds, makes, ran};
+use crate::scripts::{
+    E, R, Row, S, advances, all_hold, all_stand, copy_holds, holds, makes, ran, world,
+};
 use std::test::Fail;
 
 // Message 1 is of 2, and comes after the end of round 1; message 2 is of 1 itself.
@@ -73,6 +75,16 @@ fn the_owner_decides_seven(rt: HostRuntime) -> Result<(), Fail> {
     assert!(rt; all_stand(&rt, &world, &[(1, 4, Some(7)), (2, 4, None), (3, 4, None)]));
     let seven = [(7, 1)].as_slice();
     assert!(rt; all_hold(&rt, &world, &[5, 7], &[(1, seven), (2, seven), (3, seven)]));
+    Ok(())
+}
+
+#[test]
+fn steps_that_are_not_told_are_the_same(rt: HostRuntime) -> Result<(), Fail> {
+    let alloc = rt.alloc();
+    let told = ran(&rt, alloc, 1, &[5, 7, 7], &DECIDES_SEVEN)?;
+    let mut world = world(alloc, 1, &[5, 7, 7])?;
+    assert!(rt; advances(&rt, alloc, &mut world, &DECIDES_SEVEN));
+    assert!(rt; world.trace().begins(told.trace()) && told.trace().begins(world.trace()));
     Ok(())
 }
 

@@ -24,20 +24,33 @@ pub fn world(alloc: Global, t: u64, init: &[u64]) -> Result<World, Fail> {
     Ok(World::new(alloc, config, 100)?)
 }
 
+// What a row tells its processor to do.
+fn move_of<'a>(rt: &impl Abort, row: &'a Row) -> Move<'a> {
+    let (_, does, count, ids) = row;
+    assert!(rt; *count <= 3);
+    if *does == S {
+        return Move::Send;
+    }
+    Move::Receive {
+        take: Take::These(&ids[..*count]),
+        ends: *does == E,
+    }
+}
+
 /// Makes these steps, and says whether all were made.
 pub fn makes(rt: &impl Abort, alloc: Global, world: &mut World, rows: &[Row]) -> bool {
-    for (p, does, count, ids) in rows {
-        assert!(rt; *count <= 3);
-        let take = Take::These(&ids[..*count]);
-        let step = if *does == S {
-            Move::Send
-        } else {
-            Move::Receive {
-                take,
-                ends: *does == E,
-            }
-        };
-        if world.step(alloc, *p, step).is_err() {
+    for row in rows {
+        if world.step(alloc, row.0, move_of(rt, row)).is_err() {
+            return false;
+        }
+    }
+    true
+}
+
+/// Makes these steps without asking what was done, and says whether all were made.
+pub fn advances(rt: &impl Abort, alloc: Global, world: &mut World, rows: &[Row]) -> bool {
+    for row in rows {
+        if world.advance(alloc, row.0, move_of(rt, row)).is_err() {
             return false;
         }
     }
