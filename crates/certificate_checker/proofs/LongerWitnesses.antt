@@ -1,4 +1,4 @@
--- The longest witness from one place more on.
+-- The longest miss from one message more on.
 use Rattle.std.proofs.Common.{ℕ, length, ◌≡◌, ◌+◌, ◌-◌, ◌<◌, ◌≤◌, inl, inr, Option, Some, None, Bool, true, false, cond, refl, ap, sym, ◌∙◌, arith}
 use Rattle.std.specs.Prelude.{MatchOption, nat_lt, IfSome}
 use Rattle.std.proofs.lemmas.Bool.{cases_eq, ltb-true, ltb-false}
