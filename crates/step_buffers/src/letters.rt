@@ -1,8 +1,9 @@
 //! Messages on their way, by their ids.
 
-ghost use Rattle.std.specs.Prelude.{◌≡◌, ◌≤◌, ◌++◌, ◌==◌, filter, option_copied, IfOk, OnOk};
+ghost use Rattle.std.specs.Prelude.{◌≡◌, ◌≤◌, ◌<◌, ◌+◌, ◌++◌, ◌==◌, ℕ, filter, length, option_copied, slice_index, IfOk, OnOk};
+ghost use Rattle.std.specs.Option.{option_or};
 ghost use Rattle.step_trace.specs.declared.configurations.TheConstants.{MAX_PROCESSORS};
-ghost use Rattle.step_buffers.specs.Letters.{letter_at, round_of, body_from, heard_from, heard_in};
+ghost use Rattle.step_buffers.specs.Letters.{letter_at, round_of, said_by, body_from, heard_from, heard_in};
 
 use lock_phases::Body;
 use std::alloc::{AllocError, Global};
@@ -149,14 +150,48 @@ fn heard_from(
     requires { n ≤ MAX_PROCESSORS }
     ensures { IfOk result (λ heard. heard.items ≡ heard_from letters.now ids.now n) }
 {
+    let first = first_by_sender(alloc, letters, ids, n)?;
     let mut heard = Vec::with_capacity(alloc, ids.len())?;
     for sender in 1..n + 1 {
-        let Some(body) = body_from(letters, ids, sender) else {
+        let Some(body) = said_by(letters, first[sender as usize], sender) else {
             continue;
         };
         heard.push((sender, copied(body)?))?;
     }
     Ok(heard)
+}
+
+// For each of `n` processors the first of these messages that is its own, in the place of its number; 0 where there is
+// none.
+fn first_by_sender(
+    alloc: Global,
+    letters: &[Place],
+    ids: &[u64],
+    n: u64,
+) -> Result<Vec<u64>, AllocError>
+    requires { n ≤ MAX_PROCESSORS }
+    ensures long { IfOk result (λ first. length first.items ≡ n + 1) }
+    ensures each { IfOk result (λ first. (q : ℕ) → q ≤ n → said_by q (letter_at letters.now (slice_index first.items q)) ≡ body_from letters.now ids.now q) }
+{
+    let mut first = vec![in alloc; 0u64; n as usize + 1]?;
+    for k in (0..ids.len()).rev() {
+        note_sender(&mut first, letters, ids[k]);
+    }
+    Ok(first)
+}
+
+// Notes a message in the place of its sender.
+fn note_sender(first: &mut Vec<u64>, letters: &[Place], id: u64)
+    ensures long { length first.new.items ≡ length first.old.items }
+    ensures each { (q : ℕ) → q < length first.old.items → said_by q (letter_at letters.now (slice_index first.new.items q))
+        ≡ option_or (said_by q (letter_at letters.now id)) (said_by q (letter_at letters.now (slice_index first.old.items q))) }
+{
+    if let Some(letter) = letter_at(letters, id) {
+        let sender = letter.sender as usize;
+        if sender < first.len() {
+            first[sender] = id;
+        }
+    }
 }
 
 /// The same body.
@@ -166,16 +201,14 @@ pub(crate) fn copied(body: &Body) -> Result<Body, AllocError>
     body.clone()
 }
 
-// What a sender says in the first of these messages that is its own.
-fn body_from<'a>(letters: &'a [Place], ids: &[u64], sender: u64) -> Option<&'a Body>
-    ensures { option_copied result ≡ body_from letters.now ids.now sender }
+// What the message of this id says, if it is of this sender.
+fn said_by(letters: &[Place], id: u64, sender: u64) -> Option<&Body>
+    ensures { option_copied result ≡ said_by sender (letter_at letters.now id) }
 {
-    for id in ids {
-        if let Some(letter) = letter_at(letters, *id) {
-            if letter.sender == sender {
-                return Some(&letter.body);
-            }
-        }
+    let letter = letter_at(letters, id)?;
+    if letter.sender == sender {
+        Some(&letter.body)
+    } else {
+        None
     }
-    None
 }
