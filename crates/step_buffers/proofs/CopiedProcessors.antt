@@ -17,6 +17,7 @@ pub record IsAlike (x y : Processor) : Type 0 where
   pub round : y.round ≡ x.round
   pub last : y.last ≡ x.last
   pub node : y.node ≡ x.node
+  pub since : y.since ≡ x.since
   pub buffer : y.buffer.items ≡ x.buffer.items
   pub inbox : IsPermutation (kept_ids x.inbox) (kept_ids y.inbox)
   pub entries : (e : Entry) → Contains (heap_items y.inbox.later) e → Contains (heap_items x.inbox.later) e
@@ -26,6 +27,7 @@ pub IsProcessor-alike : (c : Setup) (steps : List Step) (p : ℕ) (x y : Process
 IsProcessor-alike c steps p x y like is = record {
   round = like.round ∙ is.round;
   node = like.node ∙ is.node;
+  decided = rw (like.node, like.since) is.decided;
   last = rw like.last is.last;
   next = rw (like.round, like.last, like.node) is.next;
   buffer = like.buffer ∙ is.buffer;

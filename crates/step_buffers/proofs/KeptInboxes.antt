@@ -48,6 +48,7 @@ pub IsProcessor-moved : (c : Setup) (steps : List Step) (p : ℕ) (x : Processor
 IsProcessor-moved c steps p x inbox same less is = record {
   round = is.round;
   node = is.node;
+  decided = is.decided;
   last = is.last;
   next = is.next;
   buffer = is.buffer;

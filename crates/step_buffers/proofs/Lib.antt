@@ -10,6 +10,7 @@ pub mod Inboxes
 pub mod NextDestinations
 pub mod PresentSends
 pub mod Decisions
+pub mod DecidedRounds
 pub mod WorkedTraces
 pub mod InboxSteps
 pub mod InboxSenders

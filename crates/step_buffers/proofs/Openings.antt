@@ -15,6 +15,7 @@ use Rattle.step_buffers.specs.declared.processors.Processor.{Processor}
 use Rattle.step_buffers.specs.HeardTables.{heard_table}
 use Rattle.step_buffers.specs.Runs.{node_at, IsRun}
 use Rattle.step_buffers.specs.Worlds.{IsKept, IsProcessor, AreProcessors, AreLetters}
+use Rattle.step_buffers.proofs.DecidedRounds.{IsDecidedSince-opening}
 use Rattle.step_buffers.proofs.KeptInboxes.{IsInbox-opening}
 use Rattle.step_buffers.proofs.RoundEnds.{next_send-opening}
 
@@ -23,6 +24,7 @@ pub record IsOpening (c : Setup) (p : ℕ) (x : Processor) : Type 0 where
   pub round : x.round ≡ 1
   pub last : x.last ≡ 0
   pub node : x.node ≡ opening (initial_value c p)
+  pub since : x.since ≡ 1
   pub buffer : x.buffer.items ≡ []
   pub near : x.inbox.near.items ≡ []
   pub later : heap_items x.inbox.later ≡ []
@@ -32,6 +34,7 @@ IsProcessor-opening : (c : Setup) (p : ℕ) (x : Processor) → IsOpening c p x 
 IsProcessor-opening c p x is = record {
   round = is.round;
   node = node;
+  decided = rw is.since (IsDecidedSince-opening c p x.node node);
   last = (let l = is.last in omega arith);
   next = next_send-opening c p ∙ rw (node, is.round, is.last) refl;
   buffer = is.buffer;

@@ -22,7 +22,8 @@ use Rattle.step_buffers.specs.HeardTables.{act_ends, passed, is_sent_in}
 use Rattle.step_buffers.specs.Runs.{node_at, destinations, destination_after}
 use Rattle.step_buffers.specs.Buffers.{buffer}
 use Rattle.step_buffers.specs.Moves.{next_send}
-use Rattle.step_buffers.specs.Worlds.{IsInbox, IsSaid, IsPlaceOf, IsProcessor, AreProcessors}
+use Rattle.step_buffers.specs.Worlds.{IsDecidedSince, IsInbox, IsSaid, IsPlaceOf, IsProcessor, AreProcessors}
+use Rattle.step_buffers.proofs.DecidedRounds.{IsDecidedSince-stays}
 use Rattle.step_buffers.proofs.StepPrefixes.{IsWellFormed-prefix}
 use Rattle.step_buffers.proofs.HeardSenders.{IsSentIn-from_test}
 use Rattle.step_buffers.proofs.GrownNodes.{passed-stays, node_at-stays, next_destination-now}
@@ -86,6 +87,7 @@ next_destination-sent c steps p to w due =
 record IsPosted (c : Setup) (steps : List Step) (p q : ℕ) (x : Processor) : Type 0 where
   pub round : x.round ≡ passed steps q + 1
   pub node : x.node ≡ node_at c steps q
+  pub decided : IsDecidedSince c steps q x.node.decision x.since
   pub last : x.last ≤ c.n
   pub next : q ≢ p → next_send c steps q ≡ destination_after c x.node q x.round x.last
   pub buffer : x.buffer.items ≡ buffer steps q
@@ -93,11 +95,12 @@ record IsPosted (c : Setup) (steps : List Step) (p q : ℕ) (x : Processor) : Ty
   pub said : IsSaid c q x.node x.round x.said
 
 IsPosted-from : (c : Setup) (steps : List Step) (p to q : ℕ) (z y : Processor) → IsWellFormed c (steps ++ record { proc = p; act = Send to } ∷ []) → IsProcessor c steps q z
-    → y.round ≡ z.round → y.node ≡ z.node → y.last ≡ z.last → y.inbox ≡ z.inbox → y.said ≡ z.said → y.buffer.items ≡ buffer (steps ++ record { proc = p; act = Send to } ∷ []) q
+    → y.round ≡ z.round → y.node ≡ z.node → y.since ≡ z.since → y.last ≡ z.last → y.inbox ≡ z.inbox → y.said ≡ z.said → y.buffer.items ≡ buffer (steps ++ record { proc = p; act = Send to } ∷ []) q
     → IsPosted c (steps ++ record { proc = p; act = Send to } ∷ []) p q y
-IsPosted-from c steps p to q z y w is round node last inbox said waiting = record {
+IsPosted-from c steps p to q z y w is round node since last inbox said waiting = record {
   round = round ∙ is.round ∙ ap (λ n. n + 1) (sym (passed-stays steps x q quiet));
   node = node ∙ is.node ∙ sym (node_at-stays c steps x q old quiet);
+  decided = rw (node, since) (IsDecidedSince-stays c steps x q z.node.decision z.since old quiet is.decided);
   last = (let l = is.last in omega arith);
   next = λ other. next_destination-stays c steps x q old quiet (not_sent-other steps x q (passed steps q + 1) (λ e. other (sym e))) ∙ is.next ∙ rw (node, round, last) refl;
   buffer = waiting;
@@ -172,7 +175,7 @@ AreProcessors-sent c steps p to kept receiver sender waiting said w is dest due 
     to_receiver : IsPosted c after p to (record receiver { buffer = waiting })
     to_receiver =
         let before : IsProcessor c steps to receiver = subst (λ n. IsProcessor c steps n receiver) at_receiver (are.each (to - 1) receiver at_to) in
-        IsPosted-from c steps p to to receiver (record receiver { buffer = waiting }) w before refl refl refl refl refl
+        IsPosted-from c steps p to to receiver (record receiver { buffer = waiting }) w before refl refl refl refl refl refl
         (items ∙ ap (λ ids. ids ++ suc (length steps) ∷ []) before.buffer ∙ sym (buffer-sent_to c steps p to old))
 
     posts : (k : ℕ) (z : Processor) → ((k ≡ to - 1) × (record receiver { buffer = waiting } ≡ z)) ⊎ ((k ≢ to - 1) × (slice_get kept k ≡ Some z)) → IsPosted c after p (suc k) z
@@ -181,7 +184,7 @@ AreProcessors-sent c steps p to kept receiver sender waiting said w is dest due 
         subst (λ n. IsPosted c after p n z) place (subst (IsPosted c after p to) e.1 to_receiver)
     posts k z (inr e) =
         let before = are.each k z e.1 in
-        IsPosted-from c steps p to (suc k) z z w before refl refl refl refl refl
+        IsPosted-from c steps p to (suc k) z z w before refl refl refl refl refl refl
         (before.buffer ∙ sym (buffer-sent_elsewhere c steps p to (suc k) old (λ f. e.0 (let g : to ≡ suc k = f in omega arith))))
 
     to_sender : IsProcessor c after p (record sender { last = to; said = said })
@@ -194,6 +197,7 @@ AreProcessors-sent c steps p to kept receiver sender waiting said w is dest due 
         record {
           round = z.round;
           node = z.node;
+          decided = z.decided;
           last = dest.1;
           next = next_destination-sent c steps p to old due ∙ ap (λ (s : State). destination_after c s p (passed steps p + 1) to) node ∙ ap (λ r. destination_after c sender.node p r to) round;
           buffer = z.buffer;
@@ -210,6 +214,7 @@ AreProcessors-sent c steps p to kept receiver sender waiting said w is dest due 
         record {
           round = z.round;
           node = z.node;
+          decided = z.decided;
           last = z.last;
           next = z.next (λ f. e.0 (let g : suc k ≡ p = f in omega arith));
           buffer = z.buffer;
@@ -223,7 +228,7 @@ pub AreProcessors-room : (c : Setup) (steps : List Step) (kept : List Processor)
 AreProcessors-room c steps kept i z room are at same =
     let is = are.each i z at in
     AreProcessors-set c steps kept i (record z { buffer = room }) are
-    (record { round = is.round; node = is.node; last = is.last; next = is.next; buffer = same ∙ is.buffer; inbox = is.inbox; said = is.said })
+    (record { round = is.round; node = is.node; decided = is.decided; last = is.last; next = is.next; buffer = same ∙ is.buffer; inbox = is.inbox; said = is.said })
 
 -- what is kept of a processor stands in its place
 pub IsProcessor-at : (c : Setup) (steps : List Step) (kept : List Processor) (p : ℕ) (z : Processor) → AreProcessors c steps kept → IsProc c p → z ≡ get_or kept (p - 1) z

@@ -19,6 +19,7 @@ use Rattle.step_buffers.specs.Buffers.{buffer}
 use Rattle.step_buffers.specs.Worlds.{IsKept, IsInbox, IsProcessor}
 use Rattle.step_buffers.proofs.StepPrefixes.{step_at-prefix, step_at-prefix_old, round_at-prefix}
 use Rattle.step_buffers.proofs.GrownNodes.{passed-stays, node_at-stays, next_destination-now}
+use Rattle.step_buffers.proofs.DecidedRounds.{IsDecidedSince-stays}
 use Rattle.step_buffers.proofs.PresentSends.{sent_now, sent_now-stays}
 use Rattle.step_buffers.proofs.BufferSteps.{is_taken-push, act_takes-from_ids}
 
@@ -108,12 +109,13 @@ next_destination-stays c steps x p w quiet silent =
 
 -- what is kept of a processor that stays in its round
 pub IsProcessor-stays : (c : Setup) (steps : List Step) (x : Step) (p : ℕ) (z y : Processor) → IsWellFormed c steps → (x.proc == p && act_ends x.act) ≡ false
-    → IsProcessor c steps p z → y.round ≡ z.round → y.node ≡ z.node → y.last ≤ c.n
+    → IsProcessor c steps p z → y.round ≡ z.round → y.node ≡ z.node → y.since ≡ z.since → y.last ≤ c.n
     → next_destination c (steps ++ x ∷ []) p (length (steps ++ x ∷ []) + 1) ≡ destination_after c z.node p z.round y.last
     → y.buffer.items ≡ buffer (steps ++ x ∷ []) p → IsInbox (steps ++ x ∷ []) p y.inbox → y.said ≡ z.said → IsProcessor c (steps ++ x ∷ []) p y
-IsProcessor-stays c steps x p z y w quiet is round node last next waiting inbox said = record {
+IsProcessor-stays c steps x p z y w quiet is round node since last next waiting inbox said = record {
   round = round ∙ is.round ∙ ap (λ n. n + 1) (sym (passed-stays steps x p quiet));
   node = node ∙ is.node ∙ sym (node_at-stays c steps x p w quiet);
+  decided = rw (node, since) (IsDecidedSince-stays c steps x p z.node.decision z.since w quiet is.decided);
   last = last;
   next = next ∙ rw (node, round) refl;
   buffer = waiting;

@@ -79,7 +79,7 @@ AreProcessors-received c steps p ends ids kept y w proc are is = record {
     stays : (q : ℕ) (z : Processor) → p ≢ q → IsProcessor c steps q z → IsProcessor c (steps ++ x ∷ []) q z
     stays q z other before =
         let quiet : (x.proc == q && act_ends x.act) ≡ false = rw (ne_eqb p q other) refl in
-        IsProcessor-stays c steps x q z z old quiet before refl refl before.last
+        IsProcessor-stays c steps x q z z old quiet before refl refl refl before.last
         (next_destination-stays c steps x q old quiet (not_sent-other steps x q (passed steps q + 1) other) ∙ before.next)
         (before.buffer ∙ sym (buffer-received_elsewhere c steps p q ends ids w other))
         (IsInbox-stays c steps x q z.inbox w quiet (λ e. absurd (other e)) before.inbox) refl

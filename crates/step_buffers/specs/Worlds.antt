@@ -11,7 +11,8 @@ use Rattle.lock_phases.specs.NodeFunctions.{out}
 use Rattle.step_buffers.specs.declared.letters.Letter.{Letter}
 use Rattle.step_buffers.specs.declared.inbox_entries.Inbox.{Inbox}
 use Rattle.step_buffers.specs.declared.processors.Processor.{Processor}
-use Rattle.step_buffers.specs.HeardTables.{passed, round_at}
+use Rattle.round_model.specs.RoundStates.{state_after}
+use Rattle.step_buffers.specs.HeardTables.{passed, round_at, heard_table}
 use Rattle.step_buffers.specs.Runs.{node_at, body_of, IsSend, destination_after, next_destination, IsRun}
 use Rattle.step_buffers.specs.Buffers.{buffer}
 use Rattle.step_buffers.specs.Letters.{letter_at}
@@ -50,11 +51,19 @@ IsPlaceOf c p node r to place = (x : Letter) × (place ≡ Some x) × IsSaidTo c
 abbrev pub IsSaid : Setup → ℕ → State → ℕ → Option Letter → Type 0
 IsSaid c p node r said = IfSome said (λ x. (to : ℕ) × IsSaidTo c p node r to x)
 
--- What is kept of a processor: its round, its node, where it sends next, the messages that wait for it,
--- those that it took and may hear in its round or a later one, and what it said in its round.
+-- p has this decision since a round that it has reached, and in no round before it had one
+pub record IsDecidedSince (c : Setup) (steps : List Step) (p : ℕ) (decision : Option ℕ) (since : ℕ) : Type 0 where
+  pub reached : since ≤ passed steps p + 1
+  pub before : (r : ℕ) → r ≤ passed steps p → r + 1 < since → (state_after c (heard_table steps) r p).decision ≡ None
+  pub after : (r : ℕ) → r ≤ passed steps p → since ≤ r + 1 → (state_after c (heard_table steps) r p).decision ≡ decision
+
+-- What is kept of a processor: its round, its node, since which round it has its decision, where it sends next,
+-- the messages that wait for it, those that it took and may hear in its round or a later one, and what it said in
+-- its round.
 pub record IsProcessor (c : Setup) (steps : List Step) (p : ℕ) (x : Processor) : Type 0 where
   pub round : x.round ≡ passed steps p + 1
   pub node : x.node ≡ node_at c steps p
+  pub decided : IsDecidedSince c steps p x.node.decision x.since
   pub last : x.last ≤ c.n
   pub next : next_destination c steps p (length steps + 1) ≡ destination_after c x.node p x.round x.last
   pub buffer : x.buffer.items ≡ buffer steps p

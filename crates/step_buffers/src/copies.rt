@@ -42,6 +42,7 @@ fn copied_processor(alloc: Global, processor: &Processor) -> Result<Processor, A
         round: processor.round,
         last: processor.last,
         node: processor.node.copy(alloc)?,
+        since: processor.since,
         buffer: Vec::from_slice(alloc, &processor.buffer)?,
         inbox: copied_inbox(alloc, &processor.inbox)?,
         said: processor.said.share()?,

@@ -27,6 +27,7 @@ pub(crate) fn take_in(receiver: &mut Processor, letters: &[Place], ids: &[u64], 
     ensures round { receiver.new.round ≡ receiver.old.round }
     ensures last { receiver.new.last ≡ receiver.old.last }
     ensures node { receiver.new.node ≡ receiver.old.node }
+    ensures since { receiver.new.since ≡ receiver.old.since }
     ensures said { receiver.new.said ≡ receiver.old.said }
 {
     take_out(&mut receiver.buffer, ids);

@@ -25,6 +25,8 @@ pub(crate) struct Processor {
     pub last: u64,
     /// Its node at the round's start.
     pub node: Node,
+    /// Since which round it has the decision that its node has; while it has none, since the first.
+    pub since: u64,
     /// The ids of the messages that wait for it, rising.
     pub buffer: Vec<u64>,
     /// The messages of its round and of later ones that it took.
@@ -84,6 +86,17 @@ pub(crate) fn next_send(trace: &Trace, sender: &Processor, p: u64) -> Option<u64
     next_destination(trace.config(), p, sender.round, sender.last, &sender.node)
 }
 
+/// Since which round a processor has its decision, once it ended a round with this node and is in the next.
+pub(crate) fn decided_since(processor: &Processor, node: &Node, round: u64) -> u64
+    ensures kept { node.now.decision ≡ processor.now.node.decision → result ≡ processor.now.since }
+    ensures changed { node.now.decision ≢ processor.now.node.decision → result ≡ round }
+{
+    if node.decision() == processor.node.decision() {
+        return processor.since;
+    }
+    round
+}
+
 /// What is kept of each processor before the first step.
 pub(crate) fn opening_processors(
     alloc: Global,
@@ -98,6 +111,7 @@ pub(crate) fn opening_processors(
             round: 1,
             last: 0,
             node: Node::new(alloc, *value)?,
+            since: 1,
             buffer: Vec::new(alloc),
             inbox: empty_inbox(alloc),
             said: Place::empty(),

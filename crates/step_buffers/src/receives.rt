@@ -17,7 +17,7 @@ use crate::inbox_entries::Inbox;
 use crate::kept_messages::{drop_past, release, take_in};
 use crate::letters::{Place, heard_in};
 use crate::moves::{StepError, Take};
-use crate::processors::{Processor, next_send};
+use crate::processors::{Processor, decided_since, next_send};
 use crate::round_inboxes::{gather, reserve};
 use crate::takes::{take_refusal, taken_ids};
 use lock_phases::Node;
@@ -231,6 +231,7 @@ fn settle_ended(
     receiver.round = round;
     receiver.last = 0;
     receiver.said = Place::empty();
+    receiver.since = decided_since(receiver, &node, round);
     receiver.node = node;
     Ok(())
 }

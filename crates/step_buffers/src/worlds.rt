@@ -1,11 +1,12 @@
 //! The World: all processors of a configuration, moved one step at a time.
 
-ghost use Rattle.std.specs.Prelude.{◌≡◌, ◌+◌, ◌<◌, ◌≤◌, ◌++◌, ◌∷◌, [], Some, None, length, option_map, IfOk, OnOk, IfErr, OnErr};
+ghost use Rattle.std.specs.Prelude.{◌≡◌, ◌+◌, ◌-◌, ◌<◌, ◌≤◌, ◌++◌, ◌∷◌, [], Some, None, length, option_map, IfOk, OnOk, IfErr, OnErr};
 ghost use Rattle.std.specs.List.Sorted.{IsStrictlyIncreasing};
 ghost use Rattle.step_trace.specs.declared.traces.TheConstants.{MAX_STEPS};
 ghost use Rattle.step_trace.specs.Configurations.{IsProc};
 ghost use Rattle.step_trace.specs.Ticks.{IsOnePerTick};
-ghost use Rattle.step_buffers.specs.HeardTables.{passed};
+ghost use Rattle.round_model.specs.RoundStates.{state_after};
+ghost use Rattle.step_buffers.specs.HeardTables.{passed, heard_table};
 ghost use Rattle.step_trace.specs.PushRefusals.{refusal};
 ghost use Rattle.step_buffers.specs.Runs.{node_at, IsDue, IsRun};
 ghost use Rattle.step_buffers.specs.Buffers.{buffer};
@@ -114,6 +115,21 @@ impl World {
         ensures { result ≡ (node_at self.now.trace.config self.now.trace.steps p).decision }
     {
         self.node(p).decision()
+    }
+
+    /// The decision that processor `p` has in a round, if it has one in it. Asks for a processor, and for a round
+    /// that it has reached.
+    pub fn decision_in(&self, p: u64, round: u64) -> Option<u64>
+        requires processor { IsProc self.now.trace.config p }
+        requires first { 1 ≤ round }
+        requires reached { round ≤ passed self.now.trace.steps p + 1 }
+        ensures { result ≡ (state_after self.now.trace.config (heard_table self.now.trace.steps) (round - 1) p).decision }
+    {
+        let processor = &self.processors[(p - 1) as usize];
+        if round < processor.since {
+            return None;
+        }
+        processor.node.decision()
     }
 
     /// The rising ids of the messages that wait for processor `p`. Asks for a processor.

@@ -8,6 +8,7 @@ returns c = λ config steps p is. IsProcessor-alike config steps p c.args.proces
       round = refl;
       last = refl;
       node = c.in_ok-copy.ensures;
+      since = refl;
       buffer = c.in_ok-from_slice.ensures.items ∙ c.deref.ensures.value;
       inbox = c.in_ok-copied_inbox.ensures.same;
       entries = c.in_ok-copied_inbox.ensures.entries;

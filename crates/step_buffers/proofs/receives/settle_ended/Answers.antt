@@ -14,6 +14,7 @@ use Rattle.step_buffers.specs.Moves.{is_in}
 use Rattle.step_buffers.proofs.RunPrefixes.{IsRun-push}
 use Rattle.step_buffers.proofs.GrownNodes.{passed-ends}
 use Rattle.step_buffers.proofs.RoundEnds.{next_send-ended}
+use Rattle.step_buffers.proofs.DecidedRounds.{IsDecidedSince-ended}
 use Rattle.step_buffers.proofs.LetterSteps.{AreLetters-received}
 use Rattle.step_buffers.proofs.ReleasedLetters.{AreLetters-released}
 use Rattle.step_buffers.proofs.BufferSteps.{buffer-received, buffer-rises}
@@ -25,7 +26,7 @@ pub returns-in_err-push_receive-clause-receiver : goal.returns-in_err-push_recei
 returns-in_err-push_receive-clause-receiver c =
     let is = c.requires.receiver in
     rw c.in_err-push_receive.ensures.err
-    (record { round = is.round; node = is.node; last = is.last; next = is.next; buffer = is.buffer; inbox = IsInbox-same c.args.trace.now.steps c.args.p c.args.receiver.now.inbox c.push_receive.new.inbox c.in_err-push_receive.ensures.near c.in_err-push_receive.ensures.later is.inbox; said = is.said })
+    (record { round = is.round; node = is.node; decided = is.decided; last = is.last; next = is.next; buffer = is.buffer; inbox = IsInbox-same c.args.trace.now.steps c.args.p c.args.receiver.now.inbox c.push_receive.new.inbox c.in_err-push_receive.ensures.near c.in_err-push_receive.ensures.later is.inbox; said = is.said })
 
 pub take_in-requires-clause-buffer : goal.take_in-requires-clause-buffer
 take_in-requires-clause-buffer c = rw c.requires.receiver.buffer (buffer-rises c.args.trace.now.steps c.args.p)
@@ -85,6 +86,10 @@ returns-clause-receiver c =
     rw (c.in_ok-push_receive.ensures.config, c.in_ok-push_receive.ensures.appended) (record {
       round = now;
       node = c.requires.node;
+      decided = IsDecidedSince-ended config steps x c.args.receiver.now.node.decision c.args.node.decision c.args.receiver.now.since c.decided_since-receiver.result c.requires.run.well_formed refl
+          is.decided (ap (λ (s : State). s.decision) is.node) (ap (λ (s : State). s.decision) c.requires.node)
+          (λ e. c.decided_since-receiver.ensures.kept (e ∙ ap (λ (s : State). s.decision) (sym c.take_in.ensures.node)) ∙ c.take_in.ensures.since)
+          (λ off. c.decided_since-receiver.ensures.changed (λ e. off (e ∙ ap (λ (s : State). s.decision) c.take_in.ensures.node)) ∙ (let e : round ≡ passed steps p + 2 = omega arith in e));
       last = omega arith;
       next = next_send-ended config steps x refl
           ∙ ap (λ (s : State). destination_after config s p (passed (steps ++ x ∷ []) p + 1) 0) (sym c.requires.node)

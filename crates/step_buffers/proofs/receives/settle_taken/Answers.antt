@@ -9,6 +9,7 @@ use Rattle.step_buffers.specs.Moves.{is_in}
 use Rattle.step_buffers.proofs.RunPrefixes.{IsRun-push}
 use Rattle.step_buffers.proofs.GrownNodes.{passed-stays, node_at-stays}
 use Rattle.step_buffers.proofs.PostSteps.{and_false}
+use Rattle.step_buffers.proofs.DecidedRounds.{IsDecidedSince-stays}
 use Rattle.step_buffers.proofs.LetterSteps.{AreLetters-received}
 use Rattle.step_buffers.proofs.ReleasedLetters.{AreLetters-released}
 use Rattle.step_buffers.proofs.BufferSteps.{buffer-received, buffer-rises}
@@ -21,7 +22,7 @@ pub returns-in_err-push_receive-clause-receiver : goal.returns-in_err-push_recei
 returns-in_err-push_receive-clause-receiver c =
     let is = c.requires.receiver in
     rw c.in_err-push_receive.ensures.err
-    (record { round = is.round; node = is.node; last = is.last; next = is.next; buffer = is.buffer; inbox = IsInbox-same c.args.trace.now.steps c.args.p c.args.receiver.now.inbox c.push_receive.new.inbox c.in_err-push_receive.ensures.near c.in_err-push_receive.ensures.later is.inbox; said = is.said })
+    (record { round = is.round; node = is.node; decided = is.decided; last = is.last; next = is.next; buffer = is.buffer; inbox = IsInbox-same c.args.trace.now.steps c.args.p c.args.receiver.now.inbox c.push_receive.new.inbox c.in_err-push_receive.ensures.near c.in_err-push_receive.ensures.later is.inbox; said = is.said })
 
 pub take_in-requires-clause-buffer : goal.take_in-requires-clause-buffer
 take_in-requires-clause-buffer c = rw c.requires.receiver.buffer (buffer-rises c.args.trace.now.steps c.args.p)
@@ -70,6 +71,7 @@ returns-clause-receiver c =
     rw (c.in_ok-push_receive.ensures.config, c.in_ok-push_receive.ensures.appended) (record {
       round = c.take_in.ensures.round ∙ now;
       node = c.take_in.ensures.node ∙ is.node ∙ sym (node_at-stays config steps x p c.requires.run.well_formed (and_false (p == p)));
+      decided = rw (c.take_in.ensures.node, c.take_in.ensures.since) (IsDecidedSince-stays config steps x p c.args.receiver.now.node.decision c.args.receiver.now.since c.requires.run.well_formed (and_false (p == p)) is.decided);
       last = rw c.take_in.ensures.last is.last;
       next = next_send-took config steps p ids c.requires.run.well_formed ∙ is.next ∙ rw (c.take_in.ensures.round, c.take_in.ensures.last, c.take_in.ensures.node) refl;
       buffer = waiting ∙ ap (filter (λ s. not (is_in ids s))) is.buffer ∙ sym (buffer-received config steps p p false ids c.requires.run.well_formed);
