@@ -5,12 +5,12 @@ use Rattle.std.proofs.lemmas.Option.{slice_get_within}
 use Rattle.std.proofs.lemmas.List.{take_all, length-take, get_or-take, length-set, get_or-set_same, get_or-set_other, get_or_default}
 use Rattle.step_trace.specs.declared.steps.Step.{Step}
 use Rattle.step_trace.specs.Configurations.{Setup}
-use Rattle.step_trace.specs.Traces.{Recorded, step_at}
+use Rattle.step_trace.specs.Traces.{step_at}
 use Rattle.locked_recorder.specs.Audits.{done_last, all_done, done_of, Agrees, AgreeWith, AreInOrder, IsFirstWithout}
 use Rattle.locked_recorder.specs.Seats.{Turns}
 use Rattle.locked_recorder.specs.Comparisons.{IsCompared, AreCompared, IsNextAgreed, IsWhole, AreWhole}
 use Rattle.locked_recorder.proofs.DoneOf.{done_of-all_done, done_of-next, done_of-other, next-of_done_of}
-use Rattle.locked_recorder.proofs.RepeatedSteps.{length-all_done, done_last-at}
+use Rattle.locked_recorder.proofs.DoneSteps.{length-all_done, done_last-at}
 use Rattle.locked_recorder.proofs.SeatOrder.{place-in_order}
 
 -- the seat of another processor is as it was
@@ -97,11 +97,6 @@ pub AgreeWith-whole : (c : Setup) (steps : List Step) (seats : List Turns) (agre
     → AreWhole seats agreed (length seats) → AgreeWith c steps seats
 AgreeWith-whole c steps seats agreed so whole = λ i s l.
     agrees c steps (get_or seats i s) (get_or agreed i None) (so.each i s None l) (whole i s None l)
-
-pub AgreeWith-repeated : (c : Setup) (steps : List Step) (made : Recorded) (seats : List Turns) (agreed : List (Option ℕ)) → made.config ≡ c → made.steps ≡ steps
-    → AreCompared c steps (length steps) seats agreed → AreWhole seats agreed (length seats) → AgreeWith made.config made.steps seats
-AgreeWith-repeated c steps made seats agreed config same so whole =
-    subst (λ (xs : List Step). AgreeWith made.config xs seats) (sym same) (subst (λ (k : Setup). AgreeWith k steps seats) (sym config) (AgreeWith-whole c steps seats agreed so whole))
 
 pub IsFirstWithout-whole : (c : Setup) (steps : List Step) (seats : List Turns) (agreed : List (Option ℕ)) (k : ℕ) → AreCompared c steps (length steps) seats agreed
     → k < length seats → AreWhole seats agreed k → ((s : Turns) (m : Option ℕ) → ¬ IsWhole (get_or seats k s) (get_or agreed k m)) → IsFirstWithout (λ s. Agrees c steps s) seats k

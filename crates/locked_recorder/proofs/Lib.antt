@@ -1,8 +1,9 @@
 pub mod FirstDifferences
 pub mod LeastMissing
-pub mod RepeatedSteps
+pub mod DoneSteps
 pub mod DoneOf
 pub mod DrivenSeats
 pub mod SeatOrder
+pub mod SeatRounds
 pub mod ComparedSeats
 pub mod Answered

@@ -1,29 +1,28 @@
 //! Audits: whether the trace, the seats and the views of a recorder fit together.
 
-ghost use Rattle.std.specs.Prelude.{IfOk, IfErr, OnOk};
+ghost use Rattle.std.specs.Prelude.{List, Option, IfOk, IfErr, IfSome, OnOk};
+ghost use Rattle.step_trace.specs.Traces.{Recorded};
 ghost use Rattle.locked_recorder.specs.Prefixes.{IsRunOf};
-ghost use Rattle.locked_recorder.specs.Audits.{AreInOrder, AreTagged, AgreeWith, AreExtended, IsOffSome, IsAuditRefusal};
+ghost use Rattle.locked_recorder.specs.Audits.{AreInOrder, AreTagged, AgreeWith, AreExtended, IsOff, IsAuditRefusal};
 
 use crate::comparisons::{are_in_order, are_tagged, first_differing, first_not_extended};
 use crate::errors::AuditError;
 use crate::recorders::Recorder;
-use crate::repeats::repeated;
+use crate::seat_comparisons::compare_seats;
 use crate::seats::Seat;
 use crate::views::View;
-use std::alloc::Global;
+use std::alloc::{AllocError, Global};
 use std::sync::Wait;
 use step_buffers::World;
-use step_trace::Trace;
+use step_trace::Config;
 
 impl Recorder {
-    /// A World with exactly the trace of the recorder's, if all seats and views fit this: each seat did exactly
-    /// what its processor does in the trace, with the rounds and decisions that it was answered, and the trace
-    /// extends all that was shown to the views. So each step of the trace stands in exactly one seat. Up to
-    /// 1,000,000 steps in all may be made in that World, whatever the recorder's limit.
+    /// A copy of the recorder's World, if all seats and views fit its trace: each seat did exactly what its processor
+    /// does in the trace, with the rounds and decisions that it was answered, and the trace extends all that was
+    /// shown to the views. So each step of the trace stands in exactly one seat.
     ///
-    /// Refuses in the order of `AuditError`. Waits for the lock, and copies the trace under it. Makes all steps
-    /// once more, without the lock, and compares what each seat did with them one by one. Takes memory for the
-    /// copy, which it gives back, for the World, and for a number for each seat.
+    /// Refuses in the order of `AuditError`. Waits for the lock, and copies the World under it; compares without it.
+    /// Takes memory for the copy, and for two numbers for each seat.
     pub fn audit<R: Wait>(
         &self,
         rt: &R,
@@ -38,36 +37,83 @@ impl Recorder {
         ensures views { IfOk result (λ world. AreExtended world.trace views.now) }
         ensures refused { IfErr result (λ e. IsAuditRefusal self.now seats.now views.now e) }
     {
-        if !are_in_order(&self.config, seats) {
-            return Err(AuditError::SeatCount);
-        }
-        if !are_tagged(self.tag, seats) {
-            return Err(AuditError::ForeignSeat);
-        }
-        let trace = match self.shown(rt, alloc) {
-            Ok(Some(trace)) => trace,
+        are_its_own(&self.config, self.tag, seats)?;
+        let world = match self.copied(rt, alloc) {
+            Ok(Some(world)) => world,
             Ok(None) => return Err(AuditError::ForeignSeat),
             Err(_) => return Err(AuditError::Memory),
         };
-        compared(alloc, &trace, seats, views)
+        compared(alloc, &world, seats, views)?;
+        Ok(world)
+    }
+
+    /// The World of a recorder to which no step is made any more, if all seats and views fit its trace, as `audit`
+    /// has it. The World itself is given, and nothing of it is copied.
+    ///
+    /// Refuses in the order of `AuditError`; then the recorder is gone. Takes memory for two numbers for each seat.
+    pub fn into_audited(
+        self,
+        alloc: Global,
+        seats: &[Seat],
+        views: &[View],
+    ) -> Result<World, AuditError>
+        ensures run { IfOk result (λ world. IsRunOf self.config world.trace) }
+        ensures order { OnOk result (AreInOrder self.config seats.now) }
+        ensures tags { OnOk result (AreTagged self.tag seats.now) }
+        ensures seats { IfOk result (λ world. AgreeWith world.trace.config world.trace.steps seats.now) }
+        ensures views { IfOk result (λ world. AreExtended world.trace views.now) }
+        ensures refused { IfErr result (λ e. IsAuditRefusal self seats.now views.now e) }
+    {
+        let Recorder { world, tag, config } = self;
+        are_its_own(&config, tag, seats)?;
+        let world = world.into_inner();
+        if !world.trace().config().is_same(&config) {
+            return Err(AuditError::ForeignSeat);
+        }
+        compared(alloc, &world, seats, views)?;
+        Ok(world)
+    }
+
+    // A copy of the World, made under the lock; none where it is of another configuration.
+    fn copied<R: Wait>(&self, rt: &R, alloc: Global) -> Result<Option<World>, AllocError>
+        ensures { IfOk result (λ copied. IfSome copied (λ world. IsRunOf self.now.config world.trace)) }
+    {
+        let world = self.world.lock(rt);
+        if !world.trace().config().is_same(&self.config) {
+            return Ok(None);
+        }
+        Ok(Some(world.copy(alloc)?))
     }
 }
 
-// A World with the steps of a trace, if seats and views fit it; else the first that doesn't.
+// Whether these are the seats of a recorder: one for each processor, in order, and of its tag.
+fn are_its_own(config: &Config, tag: u64, seats: &[Seat]) -> Result<(), AuditError>
+    ensures order { OnOk result (AreInOrder config.now seats.now) }
+    ensures tags { OnOk result (AreTagged tag seats.now) }
+    ensures refused { (views : List (Option Recorded)) → IfErr result (λ e. IsAuditRefusal (record { tag = tag; config = config.now }) seats.now views e) }
+{
+    if !are_in_order(config, seats) {
+        return Err(AuditError::SeatCount);
+    }
+    if !are_tagged(tag, seats) {
+        return Err(AuditError::ForeignSeat);
+    }
+    Ok(())
+}
+
+// Whether seats and views fit the trace of a World; else the first that doesn't.
 fn compared(
     alloc: Global,
-    trace: &Trace,
+    world: &World,
     seats: &[Seat],
     views: &[View],
-) -> Result<World, AuditError>
-    requires run { IsRunOf trace.now.config trace.now }
-    requires order { AreInOrder trace.now.config seats.now }
-    ensures run { IfOk result (λ world. IsRunOf trace.now.config world.trace) }
-    ensures seats { IfOk result (λ world. AgreeWith world.trace.config world.trace.steps seats.now) }
-    ensures views { IfOk result (λ world. AreExtended world.trace views.now) }
-    ensures refused { IfErr result (λ e. IsOffSome trace.now.config seats.now views.now e) }
+) -> Result<(), AuditError>
+    requires order { AreInOrder world.now.trace.config seats.now }
+    ensures seats { OnOk result (AgreeWith world.now.trace.config world.now.trace.steps seats.now) }
+    ensures views { OnOk result (AreExtended world.now.trace views.now) }
+    ensures refused { IfErr result (λ e. IsOff world.now.trace seats.now views.now e) }
 {
-    let Ok((world, agreed)) = repeated(alloc, trace, seats) else {
+    let Ok(agreed) = compare_seats(alloc, world, seats) else {
         return Err(AuditError::Memory);
     };
     if let Some(index) = first_differing(seats, &agreed) {
@@ -75,6 +121,6 @@ fn compared(
     }
     match first_not_extended(world.trace(), views) {
         Some(index) => Err(AuditError::ViewDiffers(index)),
-        None => Ok(world),
+        None => Ok(()),
     }
 }

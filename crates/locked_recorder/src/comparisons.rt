@@ -1,15 +1,13 @@
-//! Seats and views, compared with a trace and with what is done in it.
+//! Seats and views, compared with a configuration, and with what they must be for a trace.
 
-ghost use Rattle.std.specs.Prelude.{ℕ, ◌≡◌, ◌<◌, ◌↔◌, Option, Some, length, slice_get, slice_index_or, IsTrue, IfSome, IfNone};
-ghost use Rattle.step_trace.specs.Configurations.{IsProc};
+ghost use Rattle.std.specs.Prelude.{ℕ, ◌≡◌, ◌<◌, ◌↔◌, Option, length, slice_index_or, IsTrue, IfSome, IfNone};
 ghost use Rattle.locked_recorder.specs.Seats.{Turns};
-ghost use Rattle.locked_recorder.specs.Audits.{done_last, AreInOrder, AreTagged, IsExtended, AreExtended, IsFirstWithout};
-ghost use Rattle.locked_recorder.specs.Comparisons.{IsNextAgreed, IsWhole, AreWhole};
+ghost use Rattle.locked_recorder.specs.Audits.{AreInOrder, AreTagged, IsExtended, AreExtended, IsFirstWithout};
+ghost use Rattle.locked_recorder.specs.Comparisons.{IsWhole, AreWhole};
 
 use crate::seats::Seat;
 use crate::views::View;
-use step_buffers::{Done, World};
-use step_trace::{Config, Step, Trace};
+use step_trace::{Config, Trace};
 
 /// Whether there is one seat for each processor, in order.
 pub(crate) fn are_in_order(config: &Config, seats: &[Seat]) -> bool
@@ -31,45 +29,6 @@ pub(crate) fn are_tagged(tag: u64, seats: &[Seat]) -> bool
     ensures { IsTrue result ↔ AreTagged tag seats.now }
 {
     seats.iter().all(|seat| seat.tag == tag)
-}
-
-/// How many of the first things that a seat did are what its processor did, with the step that a World made last,
-/// where so many were it before; none from the first difference on.
-pub(crate) fn next_agreed(
-    world: &World,
-    step: &Step,
-    own: &[Done],
-    agreed: Option<usize>,
-) -> Option<usize>
-    requires { IsProc world.now.trace.config step.now.proc }
-    ensures { IsNextAgreed own.now (done_last world.now.trace.config world.now.trace.steps step.now) agreed result }
-{
-    match agreed {
-        Some(count) if has_at(world, step, own, count) => Some(count + 1),
-        _ => None,
-    }
-}
-
-// Whether what was done in the step that a World made last stands at an index of a list.
-fn has_at(world: &World, step: &Step, list: &[Done], index: usize) -> bool
-    requires { IsProc world.now.trace.config step.now.proc }
-    ensures { IsTrue result ↔ (slice_get list.now index ≡ Some (done_last world.now.trace.config world.now.trace.steps step.now)) }
-{
-    match list.get(index) {
-        Some(done) => is_last(world, step, done),
-        None => false,
-    }
-}
-
-// Whether this was done in the step that a World made last.
-fn is_last(world: &World, step: &Step, done: &Done) -> bool
-    requires { IsProc world.now.trace.config step.now.proc }
-    ensures { IsTrue result ↔ (done.now ≡ done_last world.now.trace.config world.now.trace.steps step.now) }
-{
-    done.no == world.trace().len() as u64
-        && done.step.is_same(step)
-        && done.round == world.round(step.proc)
-        && done.decision == world.decision(step.proc)
 }
 
 /// The index of the first seat of which not all agreed.

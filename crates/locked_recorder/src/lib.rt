@@ -10,7 +10,7 @@ mod missing_steps;
 mod prefixes;
 mod recorders;
 mod recordings;
-mod repeats;
+mod seat_comparisons;
 mod seats;
 mod views;
 
