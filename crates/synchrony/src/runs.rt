@@ -80,25 +80,8 @@ fn world_made<R: Threads + Wait + Sync, G: Gate>(
 {
     let room = config.n() * steps;
     let (recorder, mut seats) = Recorder::new(alloc, config.copy(alloc)?, 0, room)?;
-    driven(rt, alloc, &recorder, &mut seats, patience, steps, gate)
-}
-
-/// The World of a recorder, once each of its seats was driven in a thread of its own.
-fn driven<R: Threads + Wait + Sync, G: Gate>(
-    rt: &R,
-    alloc: Global,
-    recorder: &Recorder,
-    seats: &mut [Seat],
-    patience: u64,
-    steps: u64,
-    gate: &G,
-) -> Result<World, Fault>
-    requires { 1 ≤ patience }
-    ensures run { IfOk result (λ world. IsEvenRun recorder.now.config steps world.trace) }
-    ensures own { IfErr result IsFaultOfThreads }
-{
-    judged(drive_all(rt, alloc, recorder, seats, patience, steps, gate))?;
-    audited(rt, alloc, recorder, seats, steps)
+    judged(drive_all(rt, alloc, &recorder, &mut seats, patience, steps, gate))?;
+    audited(alloc, recorder, &seats, steps)
 }
 
 /// Drives each seat in a thread of its own, and tells the gravest ending of all.
@@ -183,17 +166,16 @@ fn judged(ending: Ending) -> Result<(), Fault>
 }
 
 /// The World of a recorder, if what was done from its seats makes up one run of so many steps of each.
-fn audited<R: Wait>(
-    rt: &R,
+fn audited(
     alloc: Global,
-    recorder: &Recorder,
+    recorder: Recorder,
     seats: &[Seat],
     steps: u64,
 ) -> Result<World, Fault>
-    ensures run { IfOk result (λ world. IsEvenRun recorder.now.config steps world.trace) }
+    ensures run { IfOk result (λ world. IsEvenRun recorder.config steps world.trace) }
     ensures own { IfErr result IsFaultOfThreads }
 {
-    let world = match recorder.audit(rt, alloc, seats, &[]) {
+    let world = match recorder.into_audited(alloc, seats, &[]) {
         Ok(world) => world,
         Err(AuditError::Memory) => return Err(Fault::Memory),
         Err(_) => return Err(Fault::NotARun(0)),
