@@ -3,7 +3,7 @@
 ghost use Rattle.std.specs.Prelude.{◌≤◌};
 ghost use Rattle.step_trace.specs.Processors.{IsWithin};
 
-use crate::traces::trace_of;
+use crate::traces::{both, trace_of};
 use bound_witness::{delta_at, phi_at};
 use std::test::Fail;
 use step_trace::{Gap, Miss, ProcSet, Row, Trace};
@@ -24,10 +24,6 @@ pub(crate) fn missed(sent: u64, missed: u64) -> Option<Miss> {
 
 pub(crate) fn silent(proc: u64, from: u64, to: u64) -> Option<Gap> {
     Some(Gap { proc, from, to })
-}
-
-pub(crate) fn both() -> ProcSet {
-    ProcSet::empty().with(1).with(2)
 }
 
 // Whether the last row that begins by `g` has the bounds of `g`, with their witnesses.

@@ -1,10 +1,10 @@
 //! What no clause can say: that calls succeed at full size where memory is ample.
 
-use crate::traces::{empty_trace, step_of};
+use crate::traces::{both, empty_trace, step_of};
 use bound_witness::gaps;
 use std::alloc::{AllocError, Global};
 use std::test::Fail;
-use step_trace::{Act, Gap, MAX_STEPS, MessageIds, ProcSet, PushError, Step, Trace};
+use step_trace::{Act, Gap, MAX_STEPS, MessageIds, PushError, Step, Trace};
 
 // Two processors take turns, but for 20,000 steps in the middle, which are all of processor 1.
 fn processor_of(no: u64) -> u64 {
@@ -63,7 +63,7 @@ fn copy_of_the_greatest_trace(rt: HostRuntime) -> Result<(), Fail> {
 fn gaps_of_turns(alloc: Global, count: u64) -> Result<Vec<Gap>, Fail> {
     let mut trace = empty_trace(alloc, 2)?;
     push_turns(alloc, &mut trace, count)?;
-    let both = ProcSet::empty().with(1).with(2);
+    let both = both();
     if !both.within(trace.config().n()) {
         return Ok(Vec::new(alloc));
     }

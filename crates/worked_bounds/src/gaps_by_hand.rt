@@ -1,14 +1,10 @@
 //! The longest gaps of worked traces, and the last misses of their messages.
 
-use crate::traces::trace_of;
+use crate::traces::{both, trace_of};
 use bound_witness::{gaps, last_miss};
 use std::alloc::{AllocError, Global};
 use std::test::Fail;
 use step_trace::{Gap, Miss, ProcSet, Trace};
-
-fn both() -> ProcSet {
-    ProcSet::empty().with(1).with(2)
-}
 
 // Whether these are the longest gaps, each as its processor, its first and its last tick.
 pub(crate) fn lists_gaps(

@@ -1,10 +1,10 @@
 //! The stairs of a long trace.
 
 use crate::stair_levels::numbers;
-use crate::traces::{empty_trace, step_of};
+use crate::traces::{both, empty_trace, step_of};
 use std::alloc::Global;
 use std::test::Fail;
-use step_trace::{ProcSet, Trace};
+use step_trace::Trace;
 use suffix_staircase::Stairs;
 
 // Two processors that take turns, but from 40,001 to 60,000 only the first takes steps. Step 1 is a
@@ -63,7 +63,7 @@ fn has_long_starts(stairs: &Stairs) -> bool {
 }
 
 fn is_long(alloc: Global, trace: &Trace) -> Result<bool, Fail> {
-    let set = ProcSet::empty().with(1).with(2);
+    let set = both();
     if !set.within(trace.config().n()) {
         return Ok(false);
     }

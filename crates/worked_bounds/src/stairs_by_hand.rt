@@ -1,7 +1,7 @@
 //! Stairs of worked traces.
 
 use crate::stair_levels::{has_levels, has_starts};
-use crate::traces::{empty_trace, step_of, trace_of};
+use crate::traces::{both, empty_trace, step_of, trace_of};
 use std::alloc::{AllocError, Global};
 use std::test::Fail;
 use step_trace::{Gap, Miss, ProcSet, Trace};
@@ -45,10 +45,6 @@ const LAST: Level = Level {
         to: 5,
     }),
 };
-
-fn both() -> ProcSet {
-    ProcSet::empty().with(1).with(2)
-}
 
 /// Whether the stairs of a trace for this set have these levels and starts.
 pub(crate) fn climbs(

@@ -1,31 +1,15 @@
 //! Bounds, gaps and misses of worked traces in which ticks are idle or hold several steps.
 
-use crate::bounds_by_hand::{both, has_rows, missed, row, silent};
+use crate::bounds_by_hand::{has_rows, missed, row, silent};
 use crate::gaps_by_hand::{lists_gaps, misses_at};
-use crate::traces::{empty_trace, step_of};
-use std::alloc::Global;
+use crate::traces::{both, ticked};
 use std::test::Fail;
-use step_trace::{ProcSet, Trace};
-
-// A trace of `n` processors with these steps, each in its tick, up to the tick `last`.
-fn in_ticks(
-    alloc: Global,
-    n: u64,
-    steps: &[(u64, u64, u64, &[u64])],
-    last: u64,
-) -> Result<Trace, Fail> {
-    let mut trace = empty_trace(alloc, n)?;
-    for (tick, proc, to, ids) in steps {
-        trace.push_at(*tick, step_of(alloc, *proc, *to, ids)?)?;
-    }
-    trace.idle_to(last)?;
-    Ok(trace)
-}
+use step_trace::ProcSet;
 
 #[test]
 fn idle_tick(rt: HostRuntime) -> Result<(), Fail> {
     let steps: [(u64, u64, u64, &[u64]); 3] = [(1, 1, 2, &[]), (3, 2, 0, &[1]), (4, 1, 0, &[])];
-    let trace = in_ticks(rt.alloc(), 2, &steps, 4)?;
+    let trace = ticked(rt.alloc(), 2, &steps, 4)?;
     let rows = [
         row(1, 1, None, 3, silent(1, 2, 3)),
         row(3, 1, None, 2, silent(2, 4, 4)),
@@ -42,7 +26,7 @@ fn shared_ticks(rt: HostRuntime) -> Result<(), Fail> {
         (2, 1, 0, &[2]),
         (2, 2, 0, &[1]),
     ];
-    let trace = in_ticks(rt.alloc(), 2, &steps, 2)?;
+    let trace = ticked(rt.alloc(), 2, &steps, 2)?;
     assert!(rt; has_rows(&trace, both(), &[row(1, 1, None, 1, None)]));
     assert!(rt; lists_gaps(rt.alloc(), &trace, both(), &[])?);
     Ok(())
@@ -51,7 +35,7 @@ fn shared_ticks(rt: HostRuntime) -> Result<(), Fail> {
 // The processor bound goes on to the last tick, past the last step.
 #[test]
 fn idle_end(rt: HostRuntime) -> Result<(), Fail> {
-    let trace = in_ticks(rt.alloc(), 2, &[(1, 1, 0, &[])], 3)?;
+    let trace = ticked(rt.alloc(), 2, &[(1, 1, 0, &[])], 3)?;
     let first = ProcSet::empty().with(1);
     let rows = [
         row(1, 1, None, 3, silent(1, 2, 3)),
@@ -64,7 +48,7 @@ fn idle_end(rt: HostRuntime) -> Result<(), Fail> {
 
 #[test]
 fn no_steps(rt: HostRuntime) -> Result<(), Fail> {
-    let trace = in_ticks(rt.alloc(), 2, &[], 2)?;
+    let trace = ticked(rt.alloc(), 2, &[], 2)?;
     let rows = [
         row(1, 1, None, 3, silent(1, 1, 2)),
         row(2, 1, None, 2, silent(1, 2, 2)),
@@ -77,7 +61,7 @@ fn no_steps(rt: HostRuntime) -> Result<(), Fail> {
 #[test]
 fn sparse(rt: HostRuntime) -> Result<(), Fail> {
     let steps: [(u64, u64, u64, &[u64]); 3] = [(1, 1, 2, &[]), (3, 2, 0, &[]), (5, 2, 0, &[1])];
-    let trace = in_ticks(rt.alloc(), 2, &steps, 5)?;
+    let trace = ticked(rt.alloc(), 2, &steps, 5)?;
     let rows = [
         row(1, 3, missed(1, 2), 5, silent(1, 2, 5)),
         row(2, 1, None, 5, silent(1, 2, 5)),
@@ -92,7 +76,7 @@ fn sparse(rt: HostRuntime) -> Result<(), Fail> {
 #[test]
 fn gaps_and_misses_of_sparse(rt: HostRuntime) -> Result<(), Fail> {
     let steps: [(u64, u64, u64, &[u64]); 3] = [(1, 1, 2, &[]), (3, 2, 0, &[]), (5, 2, 0, &[1])];
-    let trace = in_ticks(rt.alloc(), 2, &steps, 5)?;
+    let trace = ticked(rt.alloc(), 2, &steps, 5)?;
     assert!(rt;
         lists_gaps(
             rt.alloc(),
@@ -109,7 +93,7 @@ fn gaps_and_misses_of_sparse(rt: HostRuntime) -> Result<(), Fail> {
 #[test]
 fn tick_of_a_send(rt: HostRuntime) -> Result<(), Fail> {
     let steps: [(u64, u64, u64, &[u64]); 3] = [(2, 1, 2, &[]), (3, 2, 0, &[]), (4, 2, 0, &[1])];
-    let trace = in_ticks(rt.alloc(), 2, &steps, 4)?;
+    let trace = ticked(rt.alloc(), 2, &steps, 4)?;
     let rows = [
         row(1, 2, missed(1, 2), 3, silent(1, 3, 4)),
         row(3, 1, None, 3, silent(1, 3, 4)),
@@ -128,7 +112,7 @@ fn two_sends_in_a_tick(rt: HostRuntime) -> Result<(), Fail> {
         (2, 3, 0, &[]),
         (3, 3, 0, &[1, 2]),
     ];
-    let trace = in_ticks(rt.alloc(), 3, &steps, 3)?;
+    let trace = ticked(rt.alloc(), 3, &steps, 3)?;
     let rows = [
         row(1, 2, missed(2, 3), 3, silent(1, 2, 3)),
         row(2, 1, None, 3, silent(1, 2, 3)),
@@ -142,7 +126,7 @@ fn two_sends_in_a_tick(rt: HostRuntime) -> Result<(), Fail> {
 #[test]
 fn receive_in_the_sends_tick(rt: HostRuntime) -> Result<(), Fail> {
     let steps: [(u64, u64, u64, &[u64]); 3] = [(1, 1, 2, &[]), (1, 2, 0, &[]), (2, 2, 0, &[1])];
-    let trace = in_ticks(rt.alloc(), 2, &steps, 2)?;
+    let trace = ticked(rt.alloc(), 2, &steps, 2)?;
     let rows = [row(1, 1, None, 2, silent(1, 2, 2))];
     assert!(rt; has_rows(&trace, both(), &rows));
     assert!(rt; misses_at(&trace, both(), 1, None));

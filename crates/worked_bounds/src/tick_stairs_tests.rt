@@ -4,30 +4,11 @@
 use crate::plain_comparison::{Draws, all_searched, some_act, some_set};
 use crate::stair_levels::numbers;
 use crate::stairs_by_hand::climbs;
-use crate::traces::{empty_trace, step_of};
+use crate::traces::{both, step_of, ticked};
 use std::alloc::Global;
 use std::test::Fail;
 use step_trace::{Config, ProcSet, Step, Trace};
 use suffix_staircase::Stairs;
-
-fn both() -> ProcSet {
-    ProcSet::empty().with(1).with(2)
-}
-
-// A trace of `n` processors with these steps, up to the tick `last`.
-fn ticked(
-    alloc: Global,
-    n: u64,
-    steps: &[(u64, u64, u64, &[u64])],
-    last: u64,
-) -> Result<Trace, Fail> {
-    let mut trace = empty_trace(alloc, n)?;
-    for (tick, proc, to, ids) in steps {
-        trace.push_at(*tick, step_of(alloc, *proc, *to, ids)?)?;
-    }
-    trace.idle_to(last)?;
-    Ok(trace)
-}
 
 #[test]
 fn upgraded(rt: HostRuntime) -> Result<(), Fail> {

@@ -3,7 +3,7 @@
 
 use std::alloc::{AllocError, Global};
 use std::test::Fail;
-use step_trace::{Act, Config, MessageIds, Step, Trace};
+use step_trace::{Act, Config, MessageIds, ProcSet, Step, Trace};
 
 /// The step that is so written.
 pub(crate) fn step_of(alloc: Global, proc: u64, to: u64, ids: &[u64]) -> Result<Step, AllocError> {
@@ -31,4 +31,24 @@ pub(crate) fn trace_of(alloc: Global, n: u64, steps: &[(u64, u64, &[u64])]) -> R
         trace.push(step_of(alloc, *proc, *to, ids)?)?;
     }
     Ok(trace)
+}
+
+/// A trace of `n` processors with these steps, each with its tick before it, up to the tick `last`.
+pub(crate) fn ticked(
+    alloc: Global,
+    n: u64,
+    steps: &[(u64, u64, u64, &[u64])],
+    last: u64,
+) -> Result<Trace, Fail> {
+    let mut trace = empty_trace(alloc, n)?;
+    for (tick, proc, to, ids) in steps {
+        trace.push_at(*tick, step_of(alloc, *proc, *to, ids)?)?;
+    }
+    trace.idle_to(last)?;
+    Ok(trace)
+}
+
+/// The processors 1 and 2.
+pub(crate) fn both() -> ProcSet {
+    ProcSet::empty().with(1).with(2)
 }
