@@ -1,13 +1,12 @@
 //! The text of a report: a header and a record for each row, as csv writes them.
 
 ghost use Rattle.std.specs.Prelude.{◌≡◌, ◌<◌, ◌≤◌, ℕ, List, ◌∷◌, [], ◌++◌, IfOk, OnOk, IfErr, IsTrue, All, length, string_bytes};
-ghost use Rattle.std.specs.Io.KnownBytes.{Appends};
 ghost use Rattle.trace_text.specs.ByteLoops.{WasFaultless};
-ghost use Rattle.trace_text.specs.Faults.{inner_of, is_flushed};
+ghost use Rattle.trace_text.specs.Faults.{is_flushed};
 ghost use Rattle.step_trace.specs.Traces.{Recorded};
 ghost use Rattle.step_trace.specs.Ticks.{IsTrace};
 ghost use Rattle.step_trace.specs.Fronts.{IsReport};
-ghost use Rattle.trace_text.specs.TextWriting.{WroteBefore, IsWriteCause};
+ghost use Rattle.trace_text.specs.TextWriting.{Wrote, WrotePart, IsWriteCause};
 ghost use Rattle.trace_text.specs.RecordWriting.{IsReady, ArePlain, written};
 ghost use Rattle.trace_text.specs.Records.{record_line};
 ghost use Rattle.front.specs.ReportTexts.{report_header, report_text, row_record, miss_fields, gap_fields, IsRow64, StandsFor};
@@ -28,14 +27,10 @@ pub fn write_report<W: Write>(
     rows: &[Row],
     writer: &mut Counting<W>,
 ) -> Result<(), WriteError>
-    ensures whole { OnOk result
-        (Appends (W.contents (inner_of writer.old)) (W.contents (inner_of writer.new))
-        (report_text rows.now)) }
+    ensures whole { OnOk result (Wrote W.contents writer.old writer.new (report_text rows.now)) }
     ensures flushed { OnOk result (IsTrue (is_flushed writer.new)) }
     ensures faultless { OnOk result (WasFaultless writer.old writer.new) }
-    ensures part { IfErr result
-        (λ e. WroteBefore e (report_text rows.now) (W.contents (inner_of writer.old))
-        (W.contents (inner_of writer.new))) }
+    ensures part { IfErr result (WrotePart W.contents writer.old writer.new (report_text rows.now)) }
     ensures cause { IfErr result (λ e. IsWriteCause e writer.old writer.new) }
     ensures stands { All IsRow64 rows.now → StandsFor (report_text rows.now) rows.now }
     ensures short { (set : ℕ) (trace : Recorded) → IsTrace trace → IsReport set trace rows.now
