@@ -7,33 +7,31 @@ ghost use Rattle.chunk_join.specs.TickSteps.{AreStepsOf, first_take};
 
 use crate::parts::Part;
 use crate::summaries::{Fate, Message, Place, Take};
-use crate::tick_steps::{destination, receiver, stepping};
+use crate::tick_steps::{TickSpan, destination, receiver, stepping};
 use std::alloc::{AllocError, Global};
 use step_trace::{Gap, MAX_MEMBER, ProcSet, Trace};
 
-/// The summary of a tick, whose steps are those after number `before` up to number `end`.
+/// The summary of a tick of this span.
 pub(crate) fn part_of_tick(
     alloc: Global,
     trace: &Trace,
     set: ProcSet,
-    tick: u64,
-    before: u64,
-    end: u64,
+    span: TickSpan,
 ) -> Result<Part, AllocError>
     requires sound { IsTrace trace.now }
-    requires low { 1 ≤ tick }
-    requires high { tick ≤ trace.now.last }
-    requires steps { AreStepsOf trace.now tick before end }
-    ensures { IfOk result (λ part. IsSummary set trace.now (tick - 1) tick part) }
+    requires low { 1 ≤ span.tick }
+    requires high { span.tick ≤ trace.now.last }
+    requires steps { AreStepsOf trace.now span.tick span.before span.end }
+    ensures { IfOk result (λ part. IsSummary set trace.now (span.tick - 1) span.tick part) }
 {
     Ok(Part {
         set,
-        from: tick,
-        to: tick,
-        sent: sent_in(alloc, trace, set, tick, before, end)?,
-        taken: taken_in(alloc, trace, set, tick, before, end)?,
-        last: received_in(alloc, trace, set, tick, before, end)?,
-        silent: silent_in(alloc, trace, set, tick, before, end)?,
+        from: span.tick,
+        to: span.tick,
+        sent: sent_in(alloc, trace, set, span)?,
+        taken: taken_in(alloc, trace, set, span)?,
+        last: received_in(alloc, trace, set, span)?,
+        silent: silent_in(alloc, trace, set, span)?,
     })
 }
 
@@ -42,20 +40,21 @@ fn sent_in(
     alloc: Global,
     trace: &Trace,
     set: ProcSet,
-    tick: u64,
-    before: u64,
-    end: u64,
+    span: TickSpan,
 ) -> Result<Vec<Message>, AllocError>
     requires sound { IsTrace trace.now }
-    requires low { 1 ≤ tick }
-    requires steps { AreStepsOf trace.now tick before end }
-    ensures { IfOk result (λ sent. IsListing SentBefore (IsSent set trace.now (tick - 1) tick) sent.items) }
+    requires low { 1 ≤ span.tick }
+    requires steps { AreStepsOf trace.now span.tick span.before span.end }
+    ensures { IfOk result (λ sent. IsListing SentBefore (IsSent set trace.now (span.tick - 1) span.tick) sent.items) }
 {
     let mut sent = Vec::new(alloc);
-    for no in before..end {
+    for no in span.before..span.end {
         if let Some(to) = destination(trace, set, no + 1) {
             sent.push(Message {
-                sent: Place { no: no + 1, tick },
+                sent: Place {
+                    no: no + 1,
+                    tick: span.tick,
+                },
                 to,
                 fate: Fate::Open,
             })?;
@@ -69,20 +68,21 @@ fn taken_in(
     alloc: Global,
     trace: &Trace,
     set: ProcSet,
-    tick: u64,
-    before: u64,
-    end: u64,
+    span: TickSpan,
 ) -> Result<Vec<Take>, AllocError>
     requires sound { IsTrace trace.now }
-    requires low { 1 ≤ tick }
-    requires steps { AreStepsOf trace.now tick before end }
-    ensures { IfOk result (λ taken. IsListing TakenBefore (IsTake set trace.now (tick - 1) tick) taken.items) }
+    requires low { 1 ≤ span.tick }
+    requires steps { AreStepsOf trace.now span.tick span.before span.end }
+    ensures { IfOk result (λ taken. IsListing TakenBefore (IsTake set trace.now (span.tick - 1) span.tick) taken.items) }
 {
     let mut taken = Vec::new(alloc);
-    for no in before..end {
+    for no in span.before..span.end {
         if let Some(step) = trace.step(no + 1) {
             if set.contains(step.proc) {
-                let at = Place { no: no + 1, tick };
+                let at = Place {
+                    no: no + 1,
+                    tick: span.tick,
+                };
                 append_takes(&mut taken, trace, at, step.proc, step.act.ids())?;
             }
         }
@@ -121,19 +121,20 @@ fn received_in(
     alloc: Global,
     trace: &Trace,
     set: ProcSet,
-    tick: u64,
-    before: u64,
-    end: u64,
+    span: TickSpan,
 ) -> Result<Vec<Option<Place>>, AllocError>
     requires sound { IsTrace trace.now }
-    requires low { 1 ≤ tick }
-    requires steps { AreStepsOf trace.now tick before end }
-    ensures { IfOk result (λ last. AreLastReceives set trace.now (tick - 1) tick last.items) }
+    requires low { 1 ≤ span.tick }
+    requires steps { AreStepsOf trace.now span.tick span.before span.end }
+    ensures { IfOk result (λ last. AreLastReceives set trace.now (span.tick - 1) span.tick last.items) }
 {
     let mut last = vec![in alloc; None; MAX_MEMBER as usize + 1]?;
-    for no in before..end {
+    for no in span.before..span.end {
         if let Some(proc) = receiver(trace, set, no + 1) {
-            last[proc as usize] = Some(Place { no: no + 1, tick });
+            last[proc as usize] = Some(Place {
+                no: no + 1,
+                tick: span.tick,
+            });
         }
     }
     Ok(last)
@@ -144,24 +145,22 @@ fn silent_in(
     alloc: Global,
     trace: &Trace,
     set: ProcSet,
-    tick: u64,
-    before: u64,
-    end: u64,
+    span: TickSpan,
 ) -> Result<Vec<Gap>, AllocError>
     requires sound { IsTrace trace.now }
-    requires low { 1 ≤ tick }
-    requires high { tick ≤ trace.now.last }
-    requires steps { AreStepsOf trace.now tick before end }
-    ensures { IfOk result (λ silent. IsListing EndsBefore (IsLongest set trace.now (tick - 1) tick) silent.items) }
+    requires low { 1 ≤ span.tick }
+    requires high { span.tick ≤ trace.now.last }
+    requires steps { AreStepsOf trace.now span.tick span.before span.end }
+    ensures { IfOk result (λ silent. IsListing EndsBefore (IsLongest set trace.now (span.tick - 1) span.tick) silent.items) }
 {
-    let stepping = stepping(trace, set, before, end);
+    let stepping = stepping(trace, set, span.before, span.end);
     let mut silent = Vec::new(alloc);
     for p in (1..MAX_MEMBER + 1).rev() {
         if set.contains(p) && !stepping.contains(p) {
             silent.push(Gap {
                 proc: p,
-                from: tick,
-                to: tick,
+                from: span.tick,
+                to: span.tick,
             })?;
         }
     }

@@ -6,6 +6,14 @@ ghost use Rattle.chunk_join.specs.TickSteps.{AreStepsBefore, IsMessageAt, IsRece
 
 use step_trace::{Act, ProcSet, Trace};
 
+/// A tick, and which steps are its own: those after number `before` up to number `end`.
+#[derive(Clone, Copy)]
+pub(crate) struct TickSpan {
+    pub(crate) tick: u64,
+    pub(crate) before: u64,
+    pub(crate) end: u64,
+}
+
 /// How many steps come before a tick, by bisection.
 pub(crate) fn steps_before(trace: &Trace, tick: u64) -> u64
     ensures { AreStepsBefore trace.now tick result }

@@ -7,7 +7,7 @@ ghost use Rattle.chunk_join.specs.Joins.{parts_refusal, joined_parts};
 use crate::joins::Why;
 use crate::parts::{Part, join_parts};
 use crate::tick_parts::part_of_tick;
-use crate::tick_steps::{steps_before, steps_through};
+use crate::tick_steps::{TickSpan, steps_before, steps_through};
 use std::alloc::{AllocError, Global};
 use step_trace::{ProcSet, Trace};
 
@@ -27,11 +27,17 @@ pub(crate) fn part_of_trace(
 {
     let before = steps_before(trace, from);
     let mut end = steps_through(trace, from, before);
-    let mut part = part_of_tick(alloc, trace, set, from, before, end)?;
+    let first = TickSpan {
+        tick: from,
+        before,
+        end,
+    };
+    let mut part = part_of_tick(alloc, trace, set, first)?;
     for tick in from + 1..to + 1 {
         let before = end;
         end = steps_through(trace, tick, before);
-        let next = part_of_tick(alloc, trace, set, tick, before, end)?;
+        let span = TickSpan { tick, before, end };
+        let next = part_of_tick(alloc, trace, set, span)?;
         part = joined(part, next)?;
     }
     Ok(part)

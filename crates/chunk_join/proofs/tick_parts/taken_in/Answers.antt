@@ -26,18 +26,18 @@ loop-no-preserved c =
     let t = c.args.trace.now in
     let no = c.loop-no.no in
     let order = c.loop-no.invariant.0 in
-    let more : c.args.before ≤ no + 1 = omega (arith, order) in
-    let tick = steps_inside t c.args.tick c.args.before c.args.end no c.requires.steps order c.loop-no-test.true in
+    let more : c.args.span.before ≤ no + 1 = omega (arith, order) in
+    let tick = steps_inside t c.args.span.tick c.args.span.before c.args.span.end no c.requires.steps order c.loop-no-test.true in
     elim c.match-step.branch [
       | in-Some+then-contains+in_ok-append_takes w ↦ (
           let x = w.in-Some.step.now in
           let step : step_at t.steps (no + 1) ≡ Some x = search rules in
-          let list = takes_step c.args.set t c.requires.sound.steps c.requires.sound.time c.args.tick no x.proc x.act c.requires.low step tick (cc (w.contains.ensures, w.if-contains.true)) c.loop-no.taken.items c.loop-no.invariant.1 in
-          let items : w.append_takes.new.taken.items ≡ c.loop-no.taken.items ++ map (first_take t (record { no = no + 1; tick = c.args.tick }) x.proc) (act_ids x.act) = search rules in
-          rw w.taken-is (more, subst (λ xs. IsListing TakenBefore (IsTakeBy c.args.set t c.args.tick (no + 1) []) xs) (sym items) list))
+          let list = takes_step c.args.set t c.requires.sound.steps c.requires.sound.time c.args.span.tick no x.proc x.act c.requires.low step tick (cc (w.contains.ensures, w.if-contains.true)) c.loop-no.taken.items c.loop-no.invariant.1 in
+          let items : w.append_takes.new.taken.items ≡ c.loop-no.taken.items ++ map (first_take t (record { no = no + 1; tick = c.args.span.tick }) x.proc) (act_ids x.act) = search rules in
+          rw w.taken-is (more, subst (λ xs. IsListing TakenBefore (IsTakeBy c.args.set t c.args.span.tick (no + 1) []) xs) (sym items) list))
       | in-Some+else-contains w ↦ (
           let step : step_at t.steps (no + 1) ≡ Some w.in-Some.step.now = search rules in
-          rw w.taken-is (more, takes_stranger c.args.set t c.args.tick no w.in-Some.step.now step (sym w.contains.ensures ∙ w.if-contains.false) c.loop-no.taken.items c.loop-no.invariant.1))
+          rw w.taken-is (more, takes_stranger c.args.set t c.args.span.tick no w.in-Some.step.now step (sym w.contains.ensures ∙ w.if-contains.false) c.loop-no.taken.items c.loop-no.invariant.1))
       | in_default w ↦ absurd (
           let missing : step_at t.steps (no + 1) ≡ None = search rules in
           let test = c.loop-no-test.true in
@@ -50,6 +50,6 @@ returns c =
     let t = c.args.trace.now in
     let steps = c.requires.steps in
     let last = c.loop-no-test.false in
-    let upto = c.loop-no.auto.no-end (steps_order t c.args.tick c.args.before c.args.end steps) in
-    let at : c.loop-no.no ≡ c.args.end = omega (arith, last, upto) in
-    takes_all c.args.set t c.args.tick c.args.before c.args.end c.loop-no.taken.items steps (subst (λ k. IsListing TakenBefore (IsTakeBy c.args.set t c.args.tick k []) c.loop-no.taken.items) at c.loop-no.invariant.1)
+    let upto = c.loop-no.auto.no-end (steps_order t c.args.span.tick c.args.span.before c.args.span.end steps) in
+    let at : c.loop-no.no ≡ c.args.span.end = omega (arith, last, upto) in
+    takes_all c.args.set t c.args.span.tick c.args.span.before c.args.span.end c.loop-no.taken.items steps (subst (λ k. IsListing TakenBefore (IsTakeBy c.args.set t c.args.span.tick k []) c.loop-no.taken.items) at c.loop-no.invariant.1)
