@@ -8,7 +8,7 @@ use Rattle.step_trace.specs.declared.rows.Row.{Row}
 use Rattle.step_trace.specs.Traces.{Recorded}
 use Rattle.step_trace.specs.Bounds.{DeltaHolds, PhiHolds, IsDelta, IsPhi}
 use Rattle.step_trace.specs.Fronts.{Triple, IsOnFront, triple_of}
-use Rattle.step_trace.proofs.ListMembers.{Contains-nil, Contains-unmapped}
+use Rattle.step_trace.proofs.ListMembers.{Contains-nil, Contains-from_map}
 use Rattle.step_trace.proofs.BoundLaws.{DeltaHolds-later, PhiHolds-later, IsLeastBound-unique}
 use Rattle.step_trace.proofs.FrontCriterion.{IsDelta-on_front, IsPhi-on_front, on_front-changes, IsOnFront-from_change}
 use Rattle.certificate_checker.specs.declared.verdicts.Reason.{Reason}
@@ -31,7 +31,7 @@ front_row set trace rows k r are here = are.sound r (Contains-row_at rows k r he
 -- the row of a triple of the front
 row_of_front : (set : ℕ) (trace : Recorded) (rows : List Row) (t : Triple) → AreTheFront set trace rows → IsOnFront set trace t → (k : ℕ) × (r : Row) × (row_at rows k ≡ Some r) × (r.gst ≡ t.gst)
 row_of_front set trace rows t are front =
-    let member = Contains-unmapped triple_of rows t (are.complete t front) in
+    let member = Contains-from_map triple_of rows t (are.complete t front) in
     let place = row_at-from_Contains rows member.0 member.1 in
     (place.0, member.0, place.1, ap (λ (x : Triple). x.gst) member.2)
 

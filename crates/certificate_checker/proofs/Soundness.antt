@@ -6,7 +6,7 @@ use Rattle.step_trace.specs.declared.rows.Row.{Row}
 use Rattle.step_trace.specs.Traces.{Recorded}
 use Rattle.step_trace.specs.Bounds.{DeltaHolds, PhiHolds, IsDelta, IsPhi}
 use Rattle.step_trace.specs.Fronts.{Triple, IsOnFront, triple_of}
-use Rattle.step_trace.proofs.ListMembers.{Contains-mapped}
+use Rattle.step_trace.proofs.ListMembers.{Contains-map}
 use Rattle.step_trace.proofs.BoundLaws.{DeltaHolds-later, PhiHolds-later, MissRefutes-sound, GapRefutes-sound, IsLeastBound-unique}
 use Rattle.step_trace.proofs.FrontCriterion.{IsDelta-on_front, IsPhi-on_front, on_front-changes, IsOnFront-from_change}
 use Rattle.certificate_checker.specs.declared.verdicts.Reason.{Reason}
@@ -127,7 +127,7 @@ front_in_rows set trace rows t nothing front = find (serving_row rows trace.last
       let phi = IsLeastBound-unique (PhiHolds set trace t.gst) r.phi t.phi (phi_served set trace rows k r t.gst nothing serves) (IsPhi-on_front set trace t front) in
       let own = begins_within rows trace.last k r order serves.row in
       elim (cases_eq r.gst t.gst) [
-        | inl e ↦ subst (Contains (map triple_of rows)) (same_triple r t e delta phi) (Contains-mapped triple_of rows r (Contains-row_at rows k r serves.row))
+        | inl e ↦ subst (Contains (map triple_of rows)) (same_triple r t e delta phi) (Contains-map triple_of rows r (Contains-row_at rows k r serves.row))
         | inr d ↦ absurd (on_front-changes set trace t r.gst front (begins_late set trace rows k r order serves.row) (let l = serves.from in omega (arith, l, d))
             (subst (IsDelta set trace r.gst) delta (delta_served set trace rows k r r.gst nothing own))
             (subst (IsPhi set trace r.gst) phi (phi_served set trace rows k r r.gst nothing own)))

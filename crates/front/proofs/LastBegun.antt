@@ -6,7 +6,7 @@ use Rattle.std.proofs.lemmas.List.Elements.{Contains-get_or}
 use Rattle.std.proofs.lemmas.Option.{slice_get-get_or}
 use Rattle.step_trace.specs.declared.rows.Row.{Row}
 use Rattle.front.specs.Reports.{last_begun}
-use Rattle.step_trace.proofs.ListMembers.{Contains-mapped, rising-tail, rising-first}
+use Rattle.step_trace.proofs.ListMembers.{Contains-map, rising-tail, rising-first}
 
 -- what rises doesn't fall
 pub IsNonDecreasingBy-rising : (rows : List Row) → IsStrictlyIncreasing (map (λ r. r.gst) rows) → IsNonDecreasingBy (λ r. r.gst) rows
@@ -15,7 +15,7 @@ IsNonDecreasingBy-rising (x ∷ rest) rising = λ i j d l m. go (IsNonDecreasing
   go : IsNonDecreasingBy (λ r. r.gst) rest → (i j : ℕ) (d : Row) → i ≤ j → j < length (x ∷ rest) → (get_or (x ∷ rest) i d).gst ≤ (get_or (x ∷ rest) j d).gst
   go more zero zero d l m = omega arith
   go more zero (suc j) d l m =
-      let above : x.gst < (get_or rest j d).gst = rising-first x.gst (map (λ r. r.gst) rest) rising _ (Contains-mapped (λ (r : Row). r.gst) rest (get_or rest j d) (Contains-get_or rest j d (omega arith))) in
+      let above : x.gst < (get_or rest j d).gst = rising-first x.gst (map (λ r. r.gst) rest) rising _ (Contains-map (λ (r : Row). r.gst) rest (get_or rest j d) (Contains-get_or rest j d (omega arith))) in
       omega arith
   go more (suc i) zero d l m = absurd (omega arith)
   go more (suc i) (suc j) d l m = more i j d (omega arith) (omega arith)

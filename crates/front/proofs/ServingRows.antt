@@ -14,7 +14,7 @@ use Rattle.front.specs.Reports.{Reported, Serves, first_of, last_begun, row_at}
 use Rattle.step_trace.proofs.BoundLaws.{DeltaHolds-later, PhiHolds-later, DeltaHolds-past_end, PhiHolds-past_end}
 use Rattle.step_trace.proofs.FrontCriterion.{IsDelta-on_front, IsPhi-on_front}
 use Rattle.front.proofs.Stretches.{miss-refutes, gap-refutes}
-use Rattle.step_trace.proofs.ListMembers.{Contains-nil, Contains-first, Contains-later, Contains-mapped, Contains-cons_cases, Contains-unmapped, rising-tail, rising-first}
+use Rattle.step_trace.proofs.ListMembers.{Contains-nil, Contains-head, Contains-rest, Contains-map, Contains-cons_cases, Contains-from_map, rising-tail, rising-first}
 
 -- no feasible triple has nothing of the front at or below it
 pub front-below : (set : ℕ) (trace : Recorded) (size : ℕ) (t : Triple) → t.gst + t.delta + t.phi ≤ size → IsFeasible set trace t
@@ -56,7 +56,7 @@ Serves-from_row set trace rows g r report member begun end latest =
     let delta_positive : 1 ≤ r.delta = delta.positive in
     let phi_positive : 1 ≤ r.phi = phi.positive in
     let at_most = λ (o : Triple) (front : IsOnFront set trace o) (l : o.gst ≤ g).
-    let m = Contains-unmapped triple_of rows o (report.complete o front) in
+    let m = Contains-from_map triple_of rows o (report.complete o front) in
     let same : (m.0).gst ≡ o.gst = ap (λ (x : Triple). x.gst) m.2 in
     let most : (m.0).gst ≤ r.gst = latest m.0 m.1 (omega arith) in
     let below : o.gst ≤ r.gst = omega arith in
@@ -117,18 +117,18 @@ last_begun-some (x ∷ rest) g r rising some = go (last_begun rest g) refl (nat_
   go (Some y) e b t more f = subst (IsLastBegun (x ∷ rest) g) (same_Some y r f) (
       let m = more y e in
       record {
-        member = Contains-later x y rest m.member;
+        member = Contains-rest x y rest m.member;
         begun = m.begun;
         latest = λ o c l. elim (Contains-cons_cases x o rest c) [
           | inl same ↦ (
-              let after : x.gst < y.gst = rising-first x.gst (map (λ x. x.gst) rest) rising y.gst (Contains-mapped (λ (z : Row). z.gst) rest y m.member) in
+              let after : x.gst < y.gst = rising-first x.gst (map (λ x. x.gst) rest) rising y.gst (Contains-map (λ (z : Row). z.gst) rest y m.member) in
               let gst : x.gst ≡ o.gst = ap (λ (z : Row). z.gst) same in
               omega arith)
           | inr later ↦ m.latest o later l
         ];
       })
   go None e true t more f = subst (IsLastBegun (x ∷ rest) g) (same_Some x r f) (record {
-    member = Contains-first x rest;
+    member = Contains-head x rest;
     begun = grind (arith, nat_tests);
     latest = λ o c l. elim (Contains-cons_cases x o rest c) [
       | inl same ↦ (let gst : x.gst ≡ o.gst = ap (λ (z : Row). z.gst) same in omega arith)
@@ -151,7 +151,7 @@ row_at-serves report g set trace time is_report len start end =
         Serves-from_row set trace report.rows g r is_report last.member last.begun (omega arith) last.latest
     go None e = absurd (front-below set trace (g + (trace.last + 1) + (trace.last + 1)) _ (omega arith) (IsFeasible-greatest set trace g time start (omega arith))
         (λ o front a b c.
-        let m = Contains-unmapped triple_of report.rows o (is_report.complete o front) in
+        let m = Contains-from_map triple_of report.rows o (is_report.complete o front) in
         let same : (m.0).gst ≡ o.gst = ap (λ (x : Triple). x.gst) m.2 in
         let after = last_begun-none report.rows g e m.0 m.1 in
         omega arith))

@@ -18,7 +18,7 @@ use Rattle.step_trace.proofs.StepPositions.{step_at_within}
 use Rattle.trace_text.specs.Records.{record_line, text_of_records}
 use Rattle.front.specs.ReportTexts.{report_header, report_text, row_record, miss_fields, gap_fields}
 use Rattle.trace_text.proofs.LineLengths.{bytes_of, length-line, short-decimal}
-use Rattle.step_trace.proofs.ListMembers.{Contains-first, Contains-later, Contains-unmapped}
+use Rattle.step_trace.proofs.ListMembers.{Contains-head, Contains-rest, Contains-from_map}
 
 -- fields of at most seven bytes
 abbrev AreShort : List (List ℕ) → Type 0
@@ -97,8 +97,8 @@ length-row_line members trace r sound row =
 length-lines : (rows : List Row) → ((r : Row) → Contains rows r → length (record_line (row_record r)) ≤ 65) → length (text_of_records (map row_record rows)) ≤ 65 * length rows
 length-lines [] short = omega arith
 length-lines (r ∷ rows) short =
-    let line = short r (Contains-first r rows) in
-    let more = length-lines rows (λ s c. short s (Contains-later r s rows c)) in
+    let line = short r (Contains-head r rows) in
+    let more = length-lines rows (λ s c. short s (Contains-rest r s rows c)) in
     rw (length-append (record_line (row_record r)) (text_of_records (map row_record rows))) (omega (arith, line, more))
 
 -- positive numbers that rise
@@ -116,7 +116,7 @@ length-rows members trace (r ∷ rest) report =
     let numbers = map (λ (row : Row). row.gst) (r ∷ rest) in
     let size : length numbers ≡ suc (length rest) = length-map (r ∷ rest) (λ (row : Row). row.gst) in
     let feasible = λ (n : ℕ) (c : Contains numbers n).
-    let row = Contains-unmapped (λ (row : Row). row.gst) (r ∷ rest) n c in
+    let row = Contains-from_map (λ (row : Row). row.gst) (r ∷ rest) n c in
     let is = row.2 in
     let start = (report.sound row.0 row.1).front.feasible.start in
     let end = (report.sound row.0 row.1).front.feasible.end in

@@ -5,6 +5,7 @@ use Rattle.std.proofs.Math.Seq.{take-suc}
 use Rattle.std.proofs.lemmas.Bool.{cases_lt, eqb-true}
 use Rattle.std.proofs.lemmas.Option.{same_Some, none-some, slice_get_within, slice_get-get_or}
 use Rattle.std.proofs.lemmas.List.{map-append}
+use Rattle.std.proofs.lemmas.List.Elements.{Contains-push_cases}
 use Rattle.step_trace.specs.Traces.{Recorded}
 use Rattle.step_trace.specs.declared.rows.Row.{Row}
 use Rattle.step_trace.specs.Bounds.{IsDelta, IsPhi, DeltaHolds, PhiHolds}
@@ -15,7 +16,7 @@ use Rattle.suffix_staircase.specs.Levels.{IsStart, AreStarts, same_bounds}
 use Rattle.suffix_staircase.specs.Analysis.{IsLevelAt, AreLevels}
 use Rattle.front.specs.Reports.{level_of, AreRowsAt}
 use Rattle.step_trace.proofs.FrontCriterion.{IsDelta-on_front, IsPhi-on_front, on_front-changes, IsOnFront-from_change}
-use Rattle.step_trace.proofs.ListMembers.{Contains-nil, Contains-push_cases, Contains-unmapped, Contains-mapped}
+use Rattle.step_trace.proofs.ListMembers.{Contains-nil, Contains-from_map, Contains-map}
 
 pub AreRowsAt-none : (levels : List Level) (numbers : List ℕ) → AreRowsAt levels (take 0 numbers) []
 AreRowsAt-none levels numbers = record { begin = refl; each = λ r c. absurd (Contains-nil r c) }
@@ -118,7 +119,7 @@ IsReport-from_starts set trace levels numbers rows are starts at = record {
   complete = λ t front. whole t front;
 } where
   begun : (r : Row) → Contains rows r → Contains numbers r.gst
-  begun r c = subst (λ (ns : List ℕ). Contains ns r.gst) at.begin (Contains-mapped (λ (x : Row). x.gst) rows r c)
+  begun r c = subst (λ (ns : List ℕ). Contains ns r.gst) at.begin (Contains-map (λ (x : Row). x.gst) rows r c)
 
   whole : (t : Triple) → IsOnFront set trace t → Contains (map triple_of rows) t
   whole t front =
@@ -128,9 +129,9 @@ IsReport-from_starts set trace levels numbers rows are starts at = record {
       let level : Level = get_or levels (t.gst - 1) (record { delta = 1; miss = None; phi = 1; gap = None }) in
       let stands : slice_get levels (t.gst - 1) ≡ Some level = slice_get-get_or levels (t.gst - 1) (record { delta = 1; miss = None; phi = 1; gap = None }) (omega arith) in
       let start = front-start set trace levels t level are front stands (are.each t.gst level first stands) in
-      let row = Contains-unmapped (λ (r : Row). r.gst) rows t.gst (subst (λ (ns : List ℕ). Contains ns t.gst) (sym at.begin) (starts.complete t.gst start)) in
+      let row = Contains-from_map (λ (r : Row). r.gst) rows t.gst (subst (λ (ns : List ℕ). Contains ns t.gst) (sym at.begin) (starts.complete t.gst start)) in
       let known = are.each row.0.gst (level_of row.0) (starts.sound row.0.gst (begun row.0 row.1)).here (at.each row.0 row.1) in
-      subst (Contains (map triple_of rows)) (row-triple set trace row.0 t front row.2 known) (Contains-mapped triple_of rows row.0 row.1)
+      subst (Contains (map triple_of rows)) (row-triple set trace row.0 t front row.2 known) (Contains-map triple_of rows row.0 row.1)
 
 -- what stands in a list is a member of it
 pub Contains-slice_get : (xs : List ℕ) (k x : ℕ) → slice_get xs k ≡ Some x → Contains xs x

@@ -2,6 +2,7 @@
 use Rattle.std.proofs.Common.{ℕ, ◌≡◌, Bool, true, false, cond, eqb, ◌&&◌, Option, Some, None, refl, subst}
 use Rattle.std.specs.Prelude.{Contains, option_map}
 use Rattle.step_trace.specs.Configurations.{Setup}
+use Rattle.step_trace.proofs.ListMembers.{Contains-nil, Contains-from_filter}
 use Rattle.lock_phases.specs.declared.bodies.Kind.{Kind}
 use Rattle.lock_phases.specs.declared.bodies.Kind.TheVariants.{List as Listed, Lock, Ack, Locks}
 use Rattle.lock_phases.specs.declared.bodies.Body.{Body}
@@ -11,7 +12,6 @@ use Rattle.lock_phases.specs.Messages.{listed_values, is_ack, told_locks}
 use Rattle.lock_phases.specs.Locks.{is_acceptable}
 use Rattle.lock_phases.specs.NodeFunctions.{kind_sent, out, values_to_list}
 use Rattle.lock_phases.specs.Hearing.{Says, IsSaidBy}
-use Rattle.lock_phases.proofs.Membership.{Contains-nil, Contains-from_filter}
 
 -- what is sent says so
 kind_sent-says : (part : Part) (s : State) (owner me to : ℕ) (kind : Kind) → kind_sent part s owner me to ≡ Some kind → Says s kind

@@ -5,9 +5,9 @@ use Rattle.std.specs.Prelude.{Contains}
 use Rattle.std.specs.List.{list_any}
 use Rattle.std.proofs.lemmas.Bool.{and_parts}
 use Rattle.step_trace.specs.Configurations.{Setup}
+use Rattle.step_trace.proofs.ListMembers.{Contains-head, Contains-nil, list_any-found, list_any-at}
 use Rattle.lock_phases.specs.Rounds.{part_of}
 use Rattle.lock_phases.specs.Nodes.{State, LockPair, value_of}
-use Rattle.lock_phases.proofs.Membership.{Contains-head, Contains-nil, list_any-found, list_any-at}
 use Rattle.lock_phases.proofs.SendingLaws.{list-has}
 use Rattle.round_model.specs.RoundStates.{Table, processors}
 use Rattle.round_model.proofs.HeardMessages.{nodes_after}

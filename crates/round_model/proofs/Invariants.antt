@@ -5,9 +5,10 @@ use Rattle.std.specs.Prelude.{Contains, count_by, ◌==◌}
 use Rattle.std.specs.List.{list_any}
 use Rattle.std.proofs.lemmas.Bool.{eqb-true, leb-true, le-leb, cases_lt, and_parts}
 use Rattle.step_trace.specs.Configurations.{Setup}
+use Rattle.step_trace.proofs.ListMembers.{list_any-found, list_any-at}
 use Rattle.lock_phases.specs.Rounds.{owner}
 use Rattle.lock_phases.specs.Nodes.{State, LockPair, value_of, phase_of_lock}
-use Rattle.lock_phases.proofs.Membership.{list_any-found, list_any-at, count_by-found}
+use Rattle.lock_phases.proofs.Membership.{count_by-found}
 use Rattle.lock_phases.proofs.Counting.{count_by-le}
 use Rattle.round_model.specs.RoundStates.{processors}
 

@@ -2,13 +2,13 @@
 use Rattle.std.proofs.Common.{ℕ, ◌≡◌, ◌⊎◌, inl, inr, zero, suc, Some, List, [], sym, subst}
 use Rattle.std.specs.Prelude.{Contains}
 use Rattle.step_trace.specs.Configurations.{Setup}
+use Rattle.step_trace.proofs.ListMembers.{Contains-head, Contains-nil}
 use Rattle.lock_phases.specs.Rounds.{phase_of, part_of, owner}
 use Rattle.lock_phases.specs.Nodes.{State, LockPair, value_of, phase_of_lock}
 use Rattle.lock_phases.specs.Messages.{Message, sender_of, body_of}
 use Rattle.lock_phases.specs.NodeFunctions.{next}
 use Rattle.lock_phases.specs.Hearing.{IsHeardListed, IsToldToLock}
 use Rattle.lock_phases.specs.NodeLaws.{TakesIn}
-use Rattle.lock_phases.proofs.Membership.{Contains-head, Contains-nil}
 use Rattle.lock_phases.proofs.RoundLaws.{part_of-cases}
 use Rattle.lock_phases.proofs.ListingLaws.{listing-keeps}
 use Rattle.lock_phases.proofs.LockingLaws.{locking-locks}

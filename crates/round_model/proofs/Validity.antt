@@ -3,10 +3,11 @@ use Rattle.std.proofs.Common.{ℕ, ◌≡◌, ◌-◌, ◌⊎◌, inl, inr, zero
 use Rattle.std.specs.Prelude.{Contains}
 use Rattle.std.proofs.lemmas.List.Elements.{Contains-get_or}
 use Rattle.step_trace.specs.Configurations.{Setup, IsSetup, IsProc}
+use Rattle.step_trace.proofs.ListMembers.{Contains-nil}
 use Rattle.lock_phases.specs.Nodes.{State}
 use Rattle.lock_phases.specs.Messages.{Message, sender_of, body_of}
 use Rattle.lock_phases.specs.Hearing.{IsHeardProper, IsHeardListed}
-use Rattle.lock_phases.proofs.Membership.{Contains-cons_cases, Contains-nil}
+use Rattle.lock_phases.proofs.Membership.{Contains-cons_cases}
 use Rattle.lock_phases.proofs.OriginLaws.{proper-origin, proposal-origin, decision-origin}
 use Rattle.lock_phases.proofs.SentBodies.{listed-said_by}
 use Rattle.round_model.specs.RoundStates.{Table, initial_value, messages_heard, state_after}

@@ -17,7 +17,7 @@ use Rattle.step_trace.specs.Steps.{act_ids, act_dest, act_takes, act_sends_to}
 use Rattle.step_trace.specs.Traces.{step_at, IsWellFormed}
 use Rattle.step_trace.specs.PushRefusals.{is_sent_to, is_taken}
 use Rattle.step_trace.proofs.StepPositions.{step_at_within, step_at_last, taken_at-from_is_taken}
-use Rattle.lock_phases.proofs.Membership.{Contains-from_filter, Contains-rest, Contains-head, list_any-found, list_any-at}
+use Rattle.step_trace.proofs.ListMembers.{Contains-from_filter, Contains-rest, Contains-head, list_any-found, list_any-at}
 use Rattle.round_model.proofs.ProcessorRanges.{range_with_len-more, IsStrictlyIncreasing-range_with_len, All-range_with_len}
 use Rattle.step_buffers.specs.HeardTables.{numbers}
 use Rattle.step_buffers.specs.Buffers.{waits_for, buffer}

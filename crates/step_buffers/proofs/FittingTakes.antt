@@ -5,13 +5,14 @@ use Rattle.std.specs.List.Sorted.{IsStrictlyIncreasing}
 use Rattle.std.proofs.lemmas.Bool.{ltb-true}
 use Rattle.std.proofs.lemmas.Option.{none-some}
 use Rattle.std.proofs.lemmas.List.{length-take, get_or-take}
-use Rattle.lock_phases.proofs.Membership.{Contains-nil, Contains-head, Contains-rest, Contains-cons_cases}
+use Rattle.lock_phases.proofs.Membership.{Contains-cons_cases}
 use Rattle.step_trace.specs.declared.traces.TheConstants.{MAX_STEPS}
 use Rattle.step_trace.specs.declared.steps.Act.TheVariants.{Receive}
 use Rattle.step_trace.specs.declared.steps.Step.{Step}
 use Rattle.step_trace.specs.Configurations.{Setup, IsProc}
 use Rattle.step_trace.specs.PushRefusals.{is_rising, is_rising_from, refusal}
 use Rattle.step_trace.proofs.FittingSteps.{none_from_Fits}
+use Rattle.step_trace.proofs.ListMembers.{Contains-nil, Contains-head, Contains-rest}
 use Rattle.step_buffers.specs.declared.moves.StepError.{StepError}
 use Rattle.step_buffers.specs.declared.moves.StepError.TheVariants.{Full, BadProc, NothingToSend, StillSending, IdsNotRising, NotInBuffer, Memory}
 use Rattle.step_buffers.specs.declared.moves.Take.{Take}

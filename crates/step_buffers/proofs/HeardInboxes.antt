@@ -14,9 +14,10 @@ use Rattle.step_trace.specs.Configurations.{Setup, IsProc}
 use Rattle.step_trace.specs.Steps.{act_dest}
 use Rattle.step_trace.specs.Traces.{IsWellFormed}
 use Rattle.step_trace.proofs.StepPositions.{step_at_within, taken_from_at, taken_at-from_is_taken}
+use Rattle.step_trace.proofs.ListMembers.{Contains-filter, Contains-from_filter}
 use Rattle.lock_phases.specs.declared.bodies.Body.{Body}
 use Rattle.lock_phases.specs.Messages.{Message, sender_of}
-use Rattle.lock_phases.proofs.Membership.{Contains-filter, Contains-from_filter, Contains-from_filter_map, Contains-filter_map}
+use Rattle.lock_phases.proofs.Membership.{Contains-from_filter_map, Contains-filter_map}
 use Rattle.round_model.proofs.HeardMessages.{IsProc-from_processors}
 use Rattle.step_buffers.specs.declared.letters.Letter.{Letter}
 use Rattle.step_buffers.specs.HeardTables.{passed, round_at}

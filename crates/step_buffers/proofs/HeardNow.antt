@@ -7,9 +7,10 @@ use Rattle.std.specs.List.{filter_map, cons_option, range_with_len}
 use Rattle.std.proofs.lemmas.Bool.{eqb-true}
 use Rattle.std.proofs.lemmas.Option.{same_Some, none-some}
 use Rattle.std.proofs.lemmas.List.Kept.{IsStrictlyIncreasing-filter}
+use Rattle.step_trace.proofs.ListMembers.{Contains-nil, Contains-head, Contains-rest}
 use Rattle.lock_phases.specs.declared.bodies.Body.{Body}
 use Rattle.lock_phases.specs.Messages.{Message}
-use Rattle.lock_phases.proofs.Membership.{Contains-nil, Contains-head, Contains-rest, Contains-cons_cases}
+use Rattle.lock_phases.proofs.Membership.{Contains-cons_cases}
 use Rattle.round_model.proofs.ProcessorRanges.{IsStrictlyIncreasing-range_with_len, filter_map-range_with_len-more}
 use Rattle.round_model.proofs.HeardLists.{AreRising}
 use Rattle.step_buffers.specs.declared.letters.Letter.{Letter}

@@ -9,7 +9,7 @@ use Rattle.step_trace.specs.declared.steps.Step.{Step}
 use Rattle.step_trace.specs.Steps.{act_ids, act_sends}
 use Rattle.step_trace.specs.Traces.{step_at}
 use Rattle.step_trace.proofs.StepPositions.{step_at_within}
-use Rattle.lock_phases.proofs.Membership.{list_any-found, list_any-at}
+use Rattle.step_trace.proofs.ListMembers.{list_any-found, list_any-at}
 use Rattle.step_buffers.specs.HeardTables.{passed, round_at, numbers, is_sent_in, hears_at, heard_table}
 
 -- step k is one that passes a test

@@ -10,7 +10,7 @@ use Rattle.step_trace.specs.declared.steps.Step.{Step}
 use Rattle.step_trace.specs.Configurations.{Setup}
 use Rattle.step_trace.specs.Steps.{act_ids}
 use Rattle.step_trace.specs.Traces.{IsWellFormed}
-use Rattle.lock_phases.proofs.Membership.{Contains-nil, Contains-head, Contains-rest, Contains-filter, Contains-from_filter, Contains-map, Contains-from_map}
+use Rattle.step_trace.proofs.ListMembers.{Contains-nil, Contains-head, Contains-rest, Contains-filter, Contains-from_filter, Contains-map, Contains-from_map}
 use Rattle.step_buffers.specs.declared.letters.Letter.{Letter}
 use Rattle.step_buffers.specs.declared.inbox_entries.Inbox.{Inbox}
 use Rattle.step_buffers.specs.declared.processors.Processor.{Processor}

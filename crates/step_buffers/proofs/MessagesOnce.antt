@@ -7,8 +7,8 @@ use Rattle.step_trace.specs.declared.steps.Act.TheVariants.{Send}
 use Rattle.step_trace.specs.declared.steps.Step.{Step}
 use Rattle.step_trace.specs.Configurations.{Setup}
 use Rattle.step_trace.proofs.StepPositions.{step_at_within}
+use Rattle.step_trace.proofs.ListMembers.{Contains-from_filter}
 use Rattle.lock_phases.specs.NodeFunctions.{out}
-use Rattle.lock_phases.proofs.Membership.{Contains-from_filter}
 use Rattle.round_model.specs.RoundStates.{processors, state_after}
 use Rattle.round_model.proofs.RisingLists.{rising-apart}
 use Rattle.round_model.proofs.ProcessorRanges.{IsStrictlyIncreasing-range_with_len}

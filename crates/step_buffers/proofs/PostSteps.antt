@@ -9,10 +9,10 @@ use Rattle.step_trace.specs.Configurations.{Setup, IsProc}
 use Rattle.step_trace.specs.Traces.{IsWellFormed}
 use Rattle.step_trace.proofs.StepPositions.{step_at_last}
 use Rattle.step_trace.proofs.FittingSteps.{Fits}
+use Rattle.step_trace.proofs.ListMembers.{Contains-from_filter, Contains-nil}
 use Rattle.lock_phases.specs.Nodes.{State}
 use Rattle.lock_phases.specs.NodeFunctions.{out}
 use Rattle.std.specs.Prelude.{is_some}
-use Rattle.lock_phases.proofs.Membership.{Contains-from_filter, Contains-nil}
 use Rattle.round_model.specs.RoundStates.{processors}
 use Rattle.round_model.proofs.HeardMessages.{IsProc-from_processors}
 use Rattle.step_buffers.specs.declared.letters.Letter.{Letter}

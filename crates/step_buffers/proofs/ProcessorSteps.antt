@@ -10,8 +10,8 @@ use Rattle.step_trace.specs.Steps.{act_ids, act_takes, act_dest}
 use Rattle.step_trace.specs.Traces.{step_at, IsWellFormed}
 use Rattle.step_trace.specs.PushRefusals.{is_taken}
 use Rattle.step_trace.proofs.StepPositions.{step_at_within, step_at-push_cases, taken_from_at, taken_at-from_is_taken}
+use Rattle.step_trace.proofs.ListMembers.{Contains-nil}
 use Rattle.lock_phases.specs.Nodes.{State}
-use Rattle.lock_phases.proofs.Membership.{Contains-nil}
 use Rattle.step_buffers.specs.declared.processors.Processor.{Processor}
 use Rattle.step_buffers.specs.HeardTables.{act_ends, passed, round_at, is_sent_in}
 use Rattle.step_buffers.specs.Runs.{node_at, destinations, destination_after, next_destination, IsSend}

@@ -5,7 +5,7 @@ use Rattle.std.specs.Result.{is_ok}
 use Rattle.std.specs.List.Sorted.{IsStrictlyIncreasing}
 use Rattle.std.proofs.lemmas.Bool.{cases_lt, eqb-true}
 use Rattle.std.proofs.lemmas.List.{get_or_default}
-use Rattle.lock_phases.proofs.Membership.{list_any-found, list_any-at}
+use Rattle.step_trace.proofs.ListMembers.{list_any-found, list_any-at}
 use Rattle.round_model.proofs.RisingLists.{rising-later}
 use Rattle.step_buffers.specs.Moves.{is_in}
 

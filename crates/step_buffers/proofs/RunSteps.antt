@@ -11,7 +11,7 @@ use Rattle.step_trace.specs.Traces.{IsSentTo}
 use Rattle.step_trace.specs.PushRefusals.{is_rising, is_taken}
 use Rattle.step_trace.proofs.StepPositions.{step_at_last, step_at_within}
 use Rattle.step_trace.proofs.FittingSteps.{Fits-from_well_formed, is_proc-true, is_rising-from_increasing, find-none}
-use Rattle.lock_phases.proofs.Membership.{Contains-filter}
+use Rattle.step_trace.proofs.ListMembers.{Contains-filter}
 use Rattle.step_buffers.specs.declared.moves.Take.{Take}
 use Rattle.step_buffers.specs.declared.moves.Move.TheVariants as move
 use Rattle.step_buffers.specs.declared.moves.StepError.{StepError}

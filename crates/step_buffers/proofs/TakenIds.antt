@@ -3,9 +3,9 @@ use Rattle.std.proofs.Common.{ℕ, ◌≡◌, ◌<◌, ◌≤◌, List, [], ◌�
 use Rattle.std.specs.Prelude.{Contains}
 use Rattle.std.specs.List.Sorted.{IsStrictlyIncreasing}
 use Rattle.std.proofs.lemmas.List.{length-take, get_or-take, get_or_default, take-append-drop}
+use Rattle.step_trace.proofs.ListMembers.{Contains-head, Contains-rest}
 use Rattle.step_buffers.specs.Moves.{is_in}
 use Rattle.step_buffers.proofs.BufferSteps.{filter-all, filter-append}
-use Rattle.lock_phases.proofs.Membership.{Contains-head, Contains-rest}
 use Rattle.step_buffers.proofs.RisingIds.{rising-nondecreasing, is_in-member, Contains-from_is_in}
 
 -- what is less than the first of rising ids is none of them

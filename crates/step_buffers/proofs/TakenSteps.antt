@@ -9,7 +9,7 @@ use Rattle.step_trace.specs.declared.steps.Step.{Step}
 use Rattle.step_trace.specs.Configurations.{Setup}
 use Rattle.step_trace.specs.Traces.{IsWellFormed}
 use Rattle.step_trace.proofs.StepPositions.{step_at_within, step_at_last}
-use Rattle.lock_phases.proofs.Membership.{Contains-filter, Contains-from_filter}
+use Rattle.step_trace.proofs.ListMembers.{Contains-filter, Contains-from_filter}
 use Rattle.step_buffers.specs.declared.letters.Letter.{Letter}
 use Rattle.step_buffers.specs.HeardTables.{passed, round_at}
 use Rattle.step_buffers.specs.Runs.{IsSend}

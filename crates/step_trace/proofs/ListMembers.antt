@@ -1,47 +1,76 @@
 -- Members of lists, and of lists of numbers that rise.
-use Rattle.std.proofs.Common.{ℕ, ◌≡◌, ◌+◌, ◌<◌, ◌⊎◌, inl, inr, List, [], ◌∷◌, ◌++◌, length, map, get_or, Contains, refl, subst, suc, zero, arith, length-append}
+use Rattle.std.proofs.Common.{ℕ, ◌≡◌, ◌+◌, ◌<◌, ◌⊎◌, inl, inr, Bool, true, false, cond, List, [], ◌∷◌, ◌++◌, length, map, filter, get_or, Contains, refl, sym, ap, ◌∙◌, subst, suc, zero, arith, length-append, true≢false}
 use Rattle.std.specs.Prelude.{slice_index_or}
+use Rattle.std.specs.List.{list_any}
 use Rattle.std.specs.List.Sorted.{IsStrictlyIncreasing}
 use Rattle.std.proofs.lemmas.Bool.{cases_lt}
 use Rattle.std.proofs.lemmas.List.{get_or_append_left, get_or_push}
-use Rattle.std.proofs.lemmas.List.Elements.{Contains-append_cases, Contains-get_or}
+use Rattle.std.proofs.lemmas.List.Elements.{Contains-get_or}
+use Rattle.std.proofs.lemmas.List.Folds.{Any-from_list_any, list_any-from_Any}
 
-pub Contains-later : {X : Type 0} (x y : X) (xs : List X) → Contains xs y → Contains (x ∷ xs) y
-Contains-later x y xs c = (suc c.0, let l = c.1 in omega arith, c.2)
+-- the first element
+pub Contains-head : {X : Type 0} (x : X) (xs : List X) → Contains (x ∷ xs) x
+Contains-head x xs = (0, omega arith, refl)
 
-pub Contains-first : {X : Type 0} (x : X) (xs : List X) → Contains (x ∷ xs) x
-Contains-first x xs = (0, omega arith, refl)
+-- an element of the rest
+pub Contains-rest : {X : Type 0} (x y : X) (xs : List X) → Contains xs y → Contains (x ∷ xs) y
+Contains-rest x y xs c = (suc c.0, let l = c.1 in omega arith, c.2)
 
+-- an element is the first, or one of the rest
 pub Contains-cons_cases : {X : Type 0} (x y : X) (xs : List X) → Contains (x ∷ xs) y → (x ≡ y) ⊎ Contains xs y
 Contains-cons_cases x y xs c = go c.0 c.1 c.2 where
   go : (k : ℕ) → k < length (x ∷ xs) → slice_index_or (x ∷ xs) k y ≡ y → (x ≡ y) ⊎ Contains xs y
   go zero l e = inl e
   go (suc k) l e = inr (k, omega arith, e)
 
+-- an empty list has none
 pub Contains-nil : {X : Type 0} (y : X) → Contains [] y → ⊥
 Contains-nil y c = let l = c.1 in omega arith
 
--- a member of a list with one more is a member of it or the new one
-pub Contains-push_cases : {X : Type 0} (xs : List X) (x y : X) → Contains (xs ++ x ∷ []) y → Contains xs y ⊎ (x ≡ y)
-Contains-push_cases xs x y c = elim (Contains-append_cases xs (x ∷ []) y c) [
-  | inl old ↦ inl old
-  | inr new ↦ elim (Contains-cons_cases x y [] new) [ inl e ↦ inr e | inr none ↦ absurd (Contains-nil y none) ]
+-- an element of a list of images is the image of an element
+pub Contains-from_map : {X Y : Type 0} (f : X → Y) (xs : List X) (y : Y) → Contains (map f xs) y → (x : X) × Contains xs x × (f x ≡ y)
+Contains-from_map f [] y c = absurd (Contains-nil y c)
+Contains-from_map f (x ∷ xs) y c = elim (Contains-cons_cases (f x) y (map f xs) c) [
+  | inl e ↦ (x, Contains-head x xs, e)
+  | inr later ↦ (let m = Contains-from_map f xs y later in (m.0, Contains-rest x m.0 xs m.1, m.2))
 ]
 
--- what a list has whose image has y
-pub Contains-unmapped : {X Y : Type 0} (f : X → Y) (xs : List X) (y : Y) → Contains (map f xs) y → (x : X) × Contains xs x × (f x ≡ y)
-Contains-unmapped f [] y c = absurd (Contains-nil y c)
-Contains-unmapped f (x ∷ xs) y c = elim (Contains-cons_cases (f x) y (map f xs) c) [
-  | inl e ↦ (x, Contains-first x xs, e)
-  | inr later ↦ (let m = Contains-unmapped f xs y later in (m.0, Contains-later x m.0 xs m.1, m.2))
+-- the image of an element is in the list of images
+pub Contains-map : {X Y : Type 0} (f : X → Y) (xs : List X) (x : X) → Contains xs x → Contains (map f xs) (f x)
+Contains-map f [] x c = absurd (Contains-nil x c)
+Contains-map f (y ∷ ys) x c = elim (Contains-cons_cases y x ys c) [
+  | inl e ↦ subst (λ z. Contains (f y ∷ map f ys) (f z)) e (Contains-head (f y) (map f ys))
+  | inr later ↦ Contains-rest (f y) (f x) (map f ys) (Contains-map f ys x later)
 ]
 
-pub Contains-mapped : {X Y : Type 0} (f : X → Y) (xs : List X) (x : X) → Contains xs x → Contains (map f xs) (f x)
-Contains-mapped f [] x c = absurd (Contains-nil x c)
-Contains-mapped f (y ∷ ys) x c = elim (Contains-cons_cases y x ys c) [
-  | inl e ↦ subst (λ z. Contains (f y ∷ map f ys) (f z)) e (Contains-first (f y) (map f ys))
-  | inr later ↦ Contains-later (f y) (f x) (map f ys) (Contains-mapped f ys x later)
-]
+-- an element that passes is kept
+pub Contains-filter : {X : Type 0} (p : X → Bool) (xs : List X) (x : X) → Contains xs x → p x ≡ true → Contains (filter p xs) x
+Contains-filter p [] x h t = absurd (Contains-nil x h)
+Contains-filter {X} p (z ∷ xs) x h t = go (λ k. Contains-filter p xs x k t) (p z) refl (Contains-cons_cases z x xs h) where
+  go : (Contains xs x → Contains (filter p xs) x) → (b : Bool) → p z ≡ b → (z ≡ x) ⊎ Contains xs x → Contains (cond b (z ∷ filter p xs) (filter p xs)) x
+  go rest true e (inl same) = subst (λ v. Contains (z ∷ filter p xs) v) same (Contains-head z (filter p xs))
+  go rest true e (inr later) = Contains-rest z x (filter p xs) (rest later)
+  go rest false e (inl same) = absurd (true≢false (sym t ∙ ap p (sym same) ∙ e))
+  go rest false e (inr later) = rest later
+
+-- what is kept passes, and was there
+pub Contains-from_filter : {X : Type 0} (p : X → Bool) (xs : List X) (x : X) → Contains (filter p xs) x → Contains xs x × (p x ≡ true)
+Contains-from_filter p [] x h = absurd (Contains-nil x h)
+Contains-from_filter {X} p (z ∷ xs) x h = go (λ k. (let r = Contains-from_filter p xs x k in (Contains-rest z x xs r.0, r.1))) (p z) refl h where
+  go : (Contains (filter p xs) x → Contains (z ∷ xs) x × (p x ≡ true)) → (b : Bool) → p z ≡ b → Contains (cond b (z ∷ filter p xs) (filter p xs)) x → Contains (z ∷ xs) x × (p x ≡ true)
+  go rest true e k = elim (Contains-cons_cases z x (filter p xs) k) [
+    | inl same ↦ (subst (λ v. Contains (z ∷ xs) v) same (Contains-head z xs), ap p (sym same) ∙ e)
+    | inr later ↦ rest later
+  ]
+  go rest false e k = rest k
+
+-- an element that a test finds
+pub list_any-found : {X : Type 0} (p : X → Bool) (xs : List X) → list_any p xs ≡ true → (x : X) × Contains xs x × (p x ≡ true)
+list_any-found p xs e = let a = Any-from_list_any p xs e in (a.1, (a.0, a.2, a.3), a.4)
+
+-- a test finds an element that passes
+pub list_any-at : {X : Type 0} (p : X → Bool) (xs : List X) (x : X) → Contains xs x → p x ≡ true → list_any p xs ≡ true
+list_any-at p xs x c t = list_any-from_Any p xs (c.0, x, c.1, c.2, t)
 
 -- numbers that rise, and one above them all
 pub rising-push : (ns : List ℕ) (n : ℕ) → IsStrictlyIncreasing ns → ((m : ℕ) → Contains ns m → m < n) → IsStrictlyIncreasing (ns ++ n ∷ [])

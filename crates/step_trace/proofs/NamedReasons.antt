@@ -1,6 +1,6 @@
 -- What a reason against a step names.
-use Rattle.std.proofs.Common.{ℕ, ◌≡◌, ◌≢◌, ◌<◌, ◌⊎◌, inl, inr, List, [], ◌∷◌, ◌++◌, length, Option, Some, None, Bool, true, false, not, refl, sym, ◌∙◌, subst, suc, zero, arith}
-use Rattle.std.specs.Prelude.{slice_index_or, Contains, nat_lt, find, cond}
+use Rattle.std.proofs.Common.{ℕ, ◌≡◌, ◌≢◌, ◌<◌, inl, inr, List, [], ◌∷◌, ◌++◌, length, Option, Some, None, Bool, true, false, not, refl, sym, ◌∙◌, subst, suc, arith}
+use Rattle.std.specs.Prelude.{Contains, nat_lt, find, cond}
 use Rattle.std.proofs.lemmas.Option.{same_Some, none-some}
 use Rattle.std.proofs.lemmas.Bool.{and_parts, not-true, not-false, not_from_true, not_from_false}
 use Rattle.std.proofs.lemmas.Bool.Decides.{nat_tests}
@@ -14,18 +14,12 @@ use Rattle.step_trace.specs.Configurations.{Setup, is_proc}
 use Rattle.step_trace.specs.Traces.{IsWellFormed}
 use Rattle.step_trace.specs.PushRefusals.{is_taken, is_message, is_sent_to, is_rising, is_rising_from, refusal, act_refusal, first_id, IsLeastFailing, NamesLeast, IsJustified}
 use Rattle.step_trace.proofs.FittingSteps.{none_from_well_formed}
+use Rattle.step_trace.proofs.ListMembers.{Contains-cons_cases}
 
 -- a reason is never want of memory, and the id that it names is the least of its kind
 pub record IsNamed (steps : List Step) (x : Step) (e : PushError) : Type 0 where
   pub reason : e ≢ Memory
   pub least : NamesLeast steps x e
-
--- an element of a list is its first or one of the others
-Contains-cons : (x i : ℕ) (xs : List ℕ) → Contains (x ∷ xs) i → (x ≡ i) ⊎ Contains xs i
-Contains-cons x i xs h = go h.0 h.1 h.2 where
-  go : (k : ℕ) → k < length (x ∷ xs) → slice_index_or (x ∷ xs) k i ≡ i → (x ≡ i) ⊎ Contains xs i
-  go zero l e = inl e
-  go (suc k) l e = inr (k, omega arith, e)
 
 -- the elements of a rising list are above what stands before it
 rising_above : (x : ℕ) (xs : List ℕ) → is_rising_from x xs ≡ true → (i : ℕ) → Contains xs i → x < i
@@ -34,7 +28,7 @@ rising_above x (y ∷ ys) h i d =
     let parts = and_parts (nat_lt x y) (is_rising_from y ys) h in
     let test : nat_lt x y ≡ true = parts.0 in
     let first : x < y = grind (arith, nat_tests) in
-    elim (Contains-cons y i ys d) [ inl e ↦ omega (arith, e, first) | inr f ↦ (let more = rising_above y ys parts.1 i f in omega (arith, more, first)) ]
+    elim (Contains-cons_cases y i ys d) [ inl e ↦ omega (arith, e, first) | inr f ↦ (let more = rising_above y ys parts.1 i f in omega (arith, more, first)) ]
 
 -- the first element of a rising list that a test finds is the least
 pub record IsFound (p : ℕ → Bool) (xs : List ℕ) (s : ℕ) : Type 0 where
@@ -49,12 +43,12 @@ found-next p x xs s rising rest h = go (p x) refl h where
   go true e f = let same = same_Some x s f in record {
     member = (0, omega arith, same);
     passes = subst (λ (n : ℕ). p n ≡ true) same e;
-    least = λ i d l. elim (Contains-cons x i xs d) [ inl q ↦ absurd (omega (arith, q, same, l)) | inr q ↦ absurd (let above = rising_above x xs rising i q in omega (arith, above, same, l)) ];
+    least = λ i d l. elim (Contains-cons_cases x i xs d) [ inl q ↦ absurd (omega (arith, q, same, l)) | inr q ↦ absurd (let above = rising_above x xs rising i q in omega (arith, above, same, l)) ];
   }
   go false e f = let more = rest f in record {
     member = (let m = more.member in (suc m.0, let l = m.1 in omega arith, m.2));
     passes = more.passes;
-    least = λ i d l. elim (Contains-cons x i xs d) [ inl q ↦ subst (λ (n : ℕ). p n ≡ false) q e | inr q ↦ more.least i q l ];
+    least = λ i d l. elim (Contains-cons_cases x i xs d) [ inl q ↦ subst (λ (n : ℕ). p n ≡ false) q e | inr q ↦ more.least i q l ];
   }
 
 -- so it is for a list that rises from its first element

@@ -1,8 +1,9 @@
 -- The list of starts is the one that its definition names.
-use Rattle.std.proofs.Common.{ℕ, ◌≡◌, ◌+◌, ◌-◌, ◌<◌, ◌≤◌, ◌⊎◌, inl, inr, List, [], ◌∷◌, length, get_or, Bool, true, false, cond, refl, sym, subst, suc, zero, arith}
+use Rattle.std.proofs.Common.{ℕ, ◌≡◌, ◌+◌, ◌-◌, ◌<◌, ◌≤◌, inl, inr, List, [], ◌∷◌, length, get_or, Bool, true, false, cond, refl, sym, subst, suc, zero, arith}
 use Rattle.std.specs.Prelude.{Contains}
 use Rattle.std.proofs.lemmas.Option.{slice_get_within, same_Some, none-some}
 use Rattle.std.proofs.lemmas.Bool.{cases_eq}
+use Rattle.step_trace.proofs.ListMembers.{Contains-rest, Contains-cons_cases}
 use Rattle.suffix_staircase.specs.declared.levels.Level.{Level}
 use Rattle.suffix_staircase.specs.Levels.{same_bounds, starts, starts_after, IsStart, AreStarts}
 
@@ -57,17 +58,6 @@ not_second last level rest h s =
     let fits = subst (λ (x : Level). same_bounds x last ≡ false) (sym same) other in
     cc
 
--- a longer list has what the list had
-Contains-cons : (x : ℕ) (xs : List ℕ) (n : ℕ) → Contains xs n → Contains (x ∷ xs) n
-Contains-cons x xs n c = (suc c.0, let l = c.1 in omega arith, c.2)
-
--- what a longer list has is its first or stands after it
-Contains-parts : (x : ℕ) (xs : List ℕ) (n : ℕ) → Contains (x ∷ xs) n → (x ≡ n) ⊎ Contains xs n
-Contains-parts x xs n h = go h.0 h.1 h.2 where
-  go : (k : ℕ) → k < length (x ∷ xs) → get_or (x ∷ xs) k n ≡ n → (x ≡ n) ⊎ Contains xs n
-  go zero l e = inl e
-  go (suc k) l e = inr (k, omega arith, e)
-
 -- a level with the same bounds adds no start
 skip : (g : ℕ) (last level : Level) (rest : List Level) (numbers : List ℕ) → same_bounds level last ≡ true → AreStartsAfter (g + 1) level rest numbers → AreStartsAfter g last (level ∷ rest) numbers
 skip g last level rest numbers h a = record {
@@ -87,7 +77,7 @@ add : (g : ℕ) (last level : Level) (rest : List Level) (numbers : List ℕ) �
 add g last level rest numbers h a = record {
   low = low;
   rising = rising;
-  sound = λ n c. elim (Contains-parts g numbers n c) [
+  sound = λ n c. elim (Contains-cons_cases g n numbers c) [
     | inl e ↦ (let k : n + 2 - g ≡ 2 = omega (arith, e) in rw k (second last level rest h), omega (arith, e))
     | inr d ↦ (let s = a.sound n d in (let l = s.1 in let e : n + 2 - (g + 1) + 1 ≡ n + 2 - g = omega arith in rw (← e) (deeper last (level ∷ rest) (n + 2 - (g + 1)) (omega arith) s.0), let l = s.1 in omega arith))
   ];
@@ -95,7 +85,7 @@ add g last level rest numbers h a = record {
     | inl e ↦ (0, omega arith, e)
     | inr f ↦ (let l' : g + 1 ≤ n = omega (arith, f) in
         let e : n + 2 - (g + 1) + 1 ≡ n + 2 - g = omega arith in
-        Contains-cons g numbers n (a.complete n l' (shallower last (level ∷ rest) (n + 2 - (g + 1)) (omega arith) (rw (← e) at s))))
+        Contains-rest g n numbers (a.complete n l' (shallower last (level ∷ rest) (n + 2 - (g + 1)) (omega arith) (rw (← e) at s))))
   ];
 } where
   low : (i : ℕ) → i < length (g ∷ numbers) → g ≤ get_or (g ∷ numbers) i 0
@@ -129,13 +119,13 @@ AreStarts-starts [] = record {
 }
 AreStarts-starts (level ∷ rest) = record {
   rising = rising;
-  sound = λ n c. elim (Contains-parts 1 later n c) [
+  sound = λ n c. elim (Contains-cons_cases 1 n later c) [
     | inl e ↦ subst (λ (k : ℕ). IsStart (level ∷ rest) k) e first
     | inr d ↦ (let s = after.sound n d in let k : n + 2 - 2 ≡ n = omega arith in rw k at s.0)
   ];
   complete = λ n s. elim (cases_eq 1 n) [
     | inl e ↦ (0, omega arith, e)
-    | inr f ↦ (let here = s.here in let k : n + 2 - 2 ≡ n = omega arith in Contains-cons 1 later n (after.complete n (omega (arith, f)) (rw k s)))
+    | inr f ↦ (let here = s.here in let k : n + 2 - 2 ≡ n = omega arith in Contains-rest 1 n later (after.complete n (omega (arith, f)) (rw k s)))
   ];
 } where
   later : List ℕ

@@ -12,7 +12,7 @@ use Rattle.step_trace.specs.Steps.{act_ids}
 use Rattle.step_trace.specs.Configurations.{Setup}
 use Rattle.step_trace.specs.Traces.{IsWellFormed}
 use Rattle.step_trace.proofs.StepPositions.{step_at_within}
-use Rattle.step_trace.proofs.ListMembers.{Contains-first, Contains-later, Contains-nil, rising-first, rising-tail}
+use Rattle.step_trace.proofs.ListMembers.{Contains-head, Contains-rest, Contains-nil, rising-first, rising-tail}
 
 -- the ids of all Receives, one step after the other
 abbrev pub taken_ids : List Step → List ℕ
@@ -33,7 +33,7 @@ taken-in (x ∷ xs) s c = elim (Contains-append_cases (act_ids x.act) (taken_ids
 -- a number that isn't in a list differs from each number there
 apart : (n : ℕ) (ns : List ℕ) → (Contains ns n → ⊥) → AllByRecursion (λ m. eqb n m ≡ false) ns
 apart n [] none = tt
-apart n (m ∷ ns) none = (ne_eqb n m (λ e. none (0, omega arith, sym e)), apart n ns (λ c. none (Contains-later m n ns c)))
+apart n (m ∷ ns) none = (ne_eqb n m (λ e. none (0, omega arith, sym e)), apart n ns (λ c. none (Contains-rest m n ns c)))
 
 -- lists with no number twice, and none in common
 distinct-append : (ns ms : List ℕ) → IsStrictlyIncreasing ns → IsDistinct eqb ms → ((n : ℕ) → Contains ns n → Contains ms n → ⊥) → IsDistinct eqb (ns ++ ms)
@@ -42,9 +42,9 @@ distinct-append [] ms rising distinct none = distinct
 distinct-append (n ∷ ns) ms rising distinct none = (
   apart n (ns ++ ms) (λ c. elim (Contains-append_cases ns ms n c) [
     | inl here ↦ absurd (let less = rising-first n ns rising n here in omega (arith, less))
-    | inr there ↦ none n (Contains-first n ns) there
+    | inr there ↦ none n (Contains-head n ns) there
   ]),
-  distinct-append ns ms (rising-tail n ns rising) distinct (λ m c d. none m (Contains-later n m ns c) d),
+  distinct-append ns ms (rising-tail n ns rising) distinct (λ m c d. none m (Contains-rest n m ns c) d),
 )
 
 -- steps whose ids rise, and of which no two take one message
@@ -67,7 +67,7 @@ found n [] h = cc h
 found n (m ∷ ns) h = go (eqb n m) refl (λ k. found n ns k) h where
   go : (t : Bool) → eqb n m ≡ t → (list_any (eqb n) ns ≡ true → Contains ns n) → (t || list_any (eqb n) ns) ≡ true → Contains (m ∷ ns) n
   go true e more k = (0, omega arith, sym (eqb-true n m e))
-  go false e more k = Contains-later m n ns (more k)
+  go false e more k = Contains-rest m n ns (more k)
 
 -- so many ids at most
 pub length-taken_ids : (c : Setup) (steps : List Step) → IsWellFormed c steps → length (taken_ids steps) ≤ length steps

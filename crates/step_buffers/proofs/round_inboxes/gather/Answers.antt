@@ -1,7 +1,7 @@
 use Rattle.std.proofs.Common.{◌∷◌, heap_items, arith, subst}
 use Rattle.std.specs.List.Sorted.{IsPermutation}
 use Rattle.std.proofs.lemmas.List.Sorted.{IsPermutation-refl, IsPermutation-sym, IsPermutation-map, IsPermutation-pop_more, Contains-permutation}
-use Rattle.lock_phases.proofs.Membership.{Contains-rest}
+use Rattle.step_trace.proofs.ListMembers.{Contains-rest}
 use Rattle.step_buffers.specs.InboxRounds.{Entry, ids_of}
 use Rattle.step_buffers.proofs.round_inboxes.gather.Goals as goal
 
