@@ -3,12 +3,13 @@ use Rattle.std.proofs.Common.{ℕ, ◌≡◌, ◌+◌, ◌≤◌, inl, inr, List
 use Rattle.std.proofs.lemmas.Bool.{eqb-true}
 use Rattle.std.proofs.lemmas.List.Elements.{Contains-append_cases}
 use Rattle.step_trace.specs.declared.rows.Gap.{Gap}
+use Rattle.step_trace.proofs.ListMembers.{Contains-from_map, Contains-from_filter}
 use Rattle.chunk_join.specs.declared.joins.Why.TheVariants.{NotAdjacent, OtherSet}
 use Rattle.chunk_join.specs.declared.summaries.Place.{Place}
 use Rattle.chunk_join.specs.declared.summaries.Message.{Message}
 use Rattle.chunk_join.specs.Summaries.{Summary, IsConsistent, SentBefore, EndsBefore}
 use Rattle.chunk_join.specs.Joins.{settle, stops, reach_back, from_seam, takes_of, meets, parts_refusal, joined_parts}
-use Rattle.chunk_join.specs.Laws.Listings.{Contains-from_map, Contains-from_filter, Rises-append, Rises-map, Rises-filter}
+use Rattle.chunk_join.specs.Laws.Listings.{Rises-append, Rises-map, Rises-filter}
 use Rattle.chunk_join.specs.Laws.SentMessages.{settled_sent}
 use Rattle.chunk_join.specs.Laws.PiecesJoined.{length-later_each}
 use Rattle.chunk_join.proofs.SettledMessages.{settled_rise}

@@ -5,9 +5,9 @@ use Rattle.std.specs.List.Sorted.{IsPartitionedBy}
 use Rattle.std.proofs.lemmas.Bool.{cases_eq, ltb-true, lt-ltb, eqb-true, and_parts}
 use Rattle.std.proofs.lemmas.List.{take-append-drop}
 use Rattle.step_trace.specs.declared.rows.Gap.{Gap}
+use Rattle.step_trace.proofs.ListMembers.{Contains-head, Contains-rest, list_any-found}
 use Rattle.chunk_join.specs.Summaries.{Rises, EndsBefore}
 use Rattle.chunk_join.specs.Joins.{meets, goes_on, stops, reach_back, from_seam}
-use Rattle.chunk_join.specs.Laws.Listings.{Contains-here, Contains-later, some_passes}
 use Rattle.chunk_join.proofs.Places.{Rises-at}
 
 ends_no_later : (a b : Gap) → EndsBefore a b → a.to ≤ b.to
@@ -30,7 +30,7 @@ meets-at seam w v h =
 ended_stops : (seam : ℕ) (right : List Gap) (w : Gap) → w.to < seam → stops seam right w ≡ true
 ended_stops seam right w l = go (goes_on seam right w) refl where
   go : (b : Bool) → goes_on seam right w ≡ b → not b ≡ true
-  go true e = absurd (let v = some_passes (λ x. meets seam w x) right e in let same = meets-at seam w v.0 v.2 in omega (arith, same, l))
+  go true e = absurd (let v = list_any-found (λ x. meets seam w x) right e in let same = meets-at seam w v.0 v.2 in omega (arith, same, l))
   go false e = refl
 
 ended_misses : (seam : ℕ) (w v : Gap) → w.to < seam → meets seam w v ≡ false
@@ -43,16 +43,16 @@ ended_misses seam w v l = go (meets seam w v) refl where
 filter_past : (seam : ℕ) (right first rest : List Gap) → ((w : Gap) → Contains first w → w.to < seam) → filter (stops seam right) (first ++ rest) ≡ first ++ filter (stops seam right) rest
 filter_past seam right [] rest h = refl
 filter_past seam right (w ∷ first) rest h =
-    let e = ended_stops seam right w (h w (Contains-here w first)) in
+    let e = ended_stops seam right w (h w (Contains-head w first)) in
     ap (λ (b : Bool). cond b (w ∷ filter (stops seam right) (first ++ rest)) (filter (stops seam right) (first ++ rest))) e
-    ∙ ap (λ ys. w ∷ ys) (filter_past seam right first rest (λ x k. h x (Contains-later w x first k)))
+    ∙ ap (λ ys. w ∷ ys) (filter_past seam right first rest (λ x k. h x (Contains-rest w x first k)))
 
 find_past_ended : (seam : ℕ) (v : Gap) (first rest : List Gap) → ((w : Gap) → Contains first w → w.to < seam) → find (λ w. meets seam w v) (first ++ rest) ≡ find (λ w. meets seam w v) rest
 find_past_ended seam v [] rest h = refl
 find_past_ended seam v (w ∷ first) rest h =
-    let e = ended_misses seam w v (h w (Contains-here w first)) in
+    let e = ended_misses seam w v (h w (Contains-head w first)) in
     ap (λ (b : Bool). cond b (Some w) (find (λ w. meets seam w v) (first ++ rest))) e
-    ∙ find_past_ended seam v first rest (λ x k. h x (Contains-later w x first k))
+    ∙ find_past_ended seam v first rest (λ x k. h x (Contains-rest w x first k))
 
 map_reach_past : (seam : ℕ) (first rest right : List Gap) → ((w : Gap) → Contains first w → w.to < seam) → map (reach_back seam (first ++ rest)) right ≡ map (reach_back seam rest) right
 map_reach_past seam first rest [] h = refl

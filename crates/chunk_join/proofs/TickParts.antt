@@ -12,13 +12,13 @@ use Rattle.step_trace.specs.Processors.{has_proc}
 use Rattle.step_trace.specs.Traces.{Recorded, step_at, IsReceiveOf}
 use Rattle.step_trace.specs.Ticks.{tick_of, StepsIn}
 use Rattle.step_trace.proofs.StepPositions.{step_at_within}
+use Rattle.step_trace.proofs.ListMembers.{Contains-nil}
 use Rattle.suffix_staircase.proofs.ReceivesLowered.{same_step}
 use Rattle.chunk_join.specs.declared.summaries.Place.{Place}
 use Rattle.chunk_join.specs.declared.summaries.Message.{Message}
 use Rattle.chunk_join.specs.declared.summaries.Take.{Take}
 use Rattle.chunk_join.specs.Summaries.{IsListing, IsSent, IsTake, IsLongest, SentBefore, TakenBefore, EndsBefore, IsLastReceive, AreLastReceives, IsPlace, last_of}
 use Rattle.chunk_join.specs.TickSteps.{AreStepsOf, StepsAmong, IsTakeBy}
-use Rattle.chunk_join.specs.Laws.Listings.{Contains-none}
 use Rattle.chunk_join.proofs.ListingGrowth.{IsListing-none, IsListing-same}
 use Rattle.chunk_join.proofs.TickSummaries.{IsSentBy, IsSilentFrom}
 
@@ -75,7 +75,7 @@ takes_none set t x a b low s = IsListing-none TakenBefore (IsTakeBy set t x a []
       let place = i.own.at_place in
       let after = i.own.after in
       omega (arith, early, place, after))
-  | inr here ↦ Contains-none y.sent.no here.1
+  | inr here ↦ Contains-nil y.sent.no here.1
 ])
 
 -- after its last step all is

@@ -12,12 +12,12 @@ use Rattle.step_trace.specs.Steps.{act_ids}
 use Rattle.step_trace.specs.Traces.{Recorded, step_at, IsReceiveOf, IsWellFormed}
 use Rattle.step_trace.specs.Ticks.{tick_of, IsTimed}
 use Rattle.step_trace.proofs.StepPositions.{step_at_within}
+use Rattle.step_trace.proofs.ListMembers.{Contains-nil}
 use Rattle.suffix_staircase.proofs.ReceivesLowered.{same_step}
 use Rattle.chunk_join.specs.declared.summaries.Place.{Place}
 use Rattle.chunk_join.specs.declared.summaries.Take.{Take}
 use Rattle.chunk_join.specs.Summaries.{IsTake, IsListing, IsLastReceive, TakenBefore}
 use Rattle.chunk_join.specs.TickSteps.{IsTakeBy, first_take}
-use Rattle.chunk_join.specs.Laws.Listings.{Contains-none}
 use Rattle.chunk_join.proofs.ListingGrowth.{IsListing-same, IsListing-push}
 
 -- in a tick no Receive of the same processor comes before
@@ -111,7 +111,7 @@ takes_done set t x k p ends all taken step l = IsListing-same TakenBefore (IsTak
           | inl e ↦ inr (e, held y i.own e)
           | inr n ↦ inl (omega (arith, before, n))
         ]
-        | inr here ↦ absurd (Contains-none y.sent.no here.1)
+        | inr here ↦ absurd (Contains-nil y.sent.no here.1)
       ];
     }) l
   where
@@ -125,7 +125,7 @@ takes_done set t x k p ends all taken step l = IsListing-same TakenBefore (IsTak
 pub takes_same : (set : ℕ) (t : Recorded) (x k : ℕ) (taken : List Take) → ((p : ℕ) → IsTrue (has_proc set p) → IsReceiveOf t.steps (k + 1) p → ⊥) → IsListing TakenBefore (IsTakeBy set t x k []) taken
     → IsListing TakenBefore (IsTakeBy set t x (k + 1) []) taken
 takes_same set t x k taken none l = IsListing-same TakenBefore (IsTakeBy set t x k []) (IsTakeBy set t x (k + 1) []) taken
-    (λ y i. record { own = i.own; until = elim i.until [ inl before ↦ inl (omega (arith, before)) | inr here ↦ absurd (Contains-none y.sent.no here.1) ] })
+    (λ y i. record { own = i.own; until = elim i.until [ inl before ↦ inl (omega (arith, before)) | inr here ↦ absurd (Contains-nil y.sent.no here.1) ] })
     (λ y i. record {
       own = i.own;
       until = elim i.until [
@@ -133,7 +133,7 @@ takes_same set t x k taken none l = IsListing-same TakenBefore (IsTakeBy set t x
           | inl e ↦ absurd (none y.by i.own.member (subst (λ v. IsReceiveOf t.steps v y.by) e i.own.receive))
           | inr n ↦ inl (omega (arith, before, n))
         ]
-        | inr here ↦ absurd (Contains-none y.sent.no here.1)
+        | inr here ↦ absurd (Contains-nil y.sent.no here.1)
       ];
     }) l
 

@@ -5,6 +5,7 @@ use Rattle.std.proofs.lemmas.List.Elements.{Contains-append_left, Contains-appen
 use Rattle.step_trace.specs.declared.steps.Step.{Step}
 use Rattle.step_trace.specs.Traces.{Recorded, IsReceiveOf, TakesAt}
 use Rattle.step_trace.specs.Ticks.{tick_of, IsTrace}
+use Rattle.step_trace.proofs.ListMembers.{Contains-map, Contains-from_map}
 use Rattle.suffix_staircase.proofs.LastMisses.{taker_receives}
 use Rattle.suffix_staircase.proofs.ReceivesLowered.{same_step}
 use Rattle.chunk_join.specs.declared.summaries.Place.{Place}
@@ -14,7 +15,7 @@ use Rattle.chunk_join.specs.declared.summaries.Message.{Message}
 use Rattle.chunk_join.specs.declared.summaries.Take.{Take}
 use Rattle.chunk_join.specs.Summaries.{Summary, IsSummary, IsListing, IsSent, IsFate, IsTake, SentBefore, IsLastReceive, last_of}
 use Rattle.chunk_join.specs.Joins.{later_of, after, settle, settled_by, takes_of}
-use Rattle.chunk_join.specs.Laws.Listings.{Contains-map, Contains-from_map, Contains-found, none_found, Rises-append, Rises-map}
+use Rattle.chunk_join.specs.Laws.Listings.{Contains-found, none_found, Rises-append, Rises-map}
 use Rattle.chunk_join.specs.Laws.LastReceives.{IsLastReceive-after, IsLastReceive-one, IsLastReceive-some}
 use Rattle.chunk_join.specs.Laws.TakenIds.{before_take}
 

@@ -9,9 +9,10 @@ use Rattle.step_trace.specs.declared.rows.Gap.{Gap}
 use Rattle.step_trace.specs.Traces.{Recorded}
 use Rattle.step_trace.specs.Ticks.{StepsIn}
 use Rattle.step_trace.proofs.BoundDecisions.{steps_in_or_not}
+use Rattle.step_trace.proofs.ListMembers.{Contains-map, Contains-from_map, Contains-filter, Contains-from_filter, list_any-found}
 use Rattle.chunk_join.specs.Summaries.{IsLongest, IsListing, EndsBefore}
 use Rattle.chunk_join.specs.Joins.{meets, stops, reach_back, from_seam}
-use Rattle.chunk_join.specs.Laws.Listings.{Contains-map, Contains-from_map, Contains-filter, Contains-from_filter, Contains-found, none_found, some_passes, none_passes, Rises-append, Rises-filter, Rises-map}
+use Rattle.chunk_join.specs.Laws.Listings.{Contains-found, none_found, none_passes, Rises-append, Rises-filter, Rises-map}
 
 -- Silences
 
@@ -73,7 +74,7 @@ passes_or_none : {X : Type 0} (p : X → Bool) (xs : List X) → ((x : X) × Con
 passes_or_none {X} p xs = go (list_any p xs) refl
   where
     go : (b : Bool) → list_any p xs ≡ b → ((x : X) × Contains xs x × (p x ≡ true) × (b ≡ true)) ⊎ ((b ≡ false) × ((x : X) → Contains xs x → p x ≡ false))
-    go true e = let f = some_passes p xs e in inl (f.0, f.1, f.2, refl)
+    go true e = let f = list_any-found p xs e in inl (f.0, f.1, f.2, refl)
     go false e = inr (refl, λ x c. none_passes p xs x e c)
 
 meets-facts : (m : ℕ) (w v : Gap) → meets m w v ≡ true → (w.proc ≡ v.proc) × (w.to ≡ m) × (v.from ≡ m + 1)

@@ -5,11 +5,12 @@ use Rattle.std.proofs.lemmas.List.Elements.{Contains-append_left, Contains-appen
 use Rattle.step_trace.specs.Traces.{Recorded}
 use Rattle.step_trace.specs.Ticks.{IsTimed, IsTrace}
 use Rattle.step_trace.proofs.TickOrder.{number_below}
+use Rattle.step_trace.proofs.ListMembers.{Contains-map, Contains-from_map, Contains-filter, Contains-from_filter}
 use Rattle.chunk_join.specs.declared.summaries.Place.{Place}
 use Rattle.chunk_join.specs.declared.summaries.Take.{Take}
 use Rattle.chunk_join.specs.Summaries.{Summary, IsSummary, IsListing, IsTake, TakenBefore, IsLastReceive, last_of}
 use Rattle.chunk_join.specs.Joins.{later_of, is_older, reach_take}
-use Rattle.chunk_join.specs.Laws.Listings.{Contains-map, Contains-from_map, Contains-filter, Contains-from_filter, Rises-append, Rises-map, Rises-filter}
+use Rattle.chunk_join.specs.Laws.Listings.{Rises-append, Rises-map, Rises-filter}
 use Rattle.chunk_join.specs.Laws.LastReceives.{IsLastReceive-join, IsLastReceive-one, IsLastReceive-some}
 
 -- before a take of the right part its member last receives in that part, or in the left one
