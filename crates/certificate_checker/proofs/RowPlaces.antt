@@ -6,12 +6,13 @@ use Rattle.std.proofs.lemmas.Bool.{cases_eq}
 use Rattle.std.proofs.lemmas.Option.{none-some, same_Some, slice_get-map, slice_get_within, slice_get-get_or, get_or_from_slice_get}
 use Rattle.std.proofs.lemmas.List.{length-map}
 use Rattle.step_trace.specs.declared.rows.Row.{Row}
+use Rattle.step_trace.proofs.ListMembers.{Contains-slice_get}
 use Rattle.certificate_checker.specs.Certificates.{row_at}
 
 -- a row with a number is one of the rows
 pub Contains-row_at : (rows : List Row) (k : ℕ) (r : Row) → row_at rows k ≡ Some r → Contains rows r
 Contains-row_at rows zero r e = absurd (none-some r e)
-Contains-row_at rows (suc k) r e = (k, slice_get_within rows k r e, get_or_from_slice_get rows k r r e)
+Contains-row_at rows (suc k) r e = Contains-slice_get rows k r e
 
 -- and each of the rows has a number
 pub row_at-from_Contains : (rows : List Row) (r : Row) → Contains rows r → (k : ℕ) × (row_at rows k ≡ Some r)

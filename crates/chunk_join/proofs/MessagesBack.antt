@@ -11,6 +11,7 @@ use Rattle.step_trace.specs.Witnesses.{IsMiss, NamesMiss}
 use Rattle.step_trace.specs.PushRefusals.{is_taken}
 use Rattle.step_trace.proofs.StepPositions.{step_at_within, taken_from_at, taken_at-from_is_taken}
 use Rattle.step_trace.proofs.TickOrder.{number_below, ticks_rise}
+use Rattle.step_trace.proofs.ListMembers.{Contains-slice_get}
 use Rattle.suffix_staircase.specs.declared.levels.Level.{Level}
 use Rattle.suffix_staircase.specs.Levels.{StandsBefore}
 use Rattle.suffix_staircase.specs.Analysis.{KnowsMisses, NamesAfter, KnowsMissesAfter, with_miss}
@@ -30,9 +31,6 @@ use Rattle.chunk_join.proofs.Places.{Rises-at}
 
 -- Elements by place.
 
-pub Contains-slice : {X : Type 0} (xs : List X) (k : ℕ) (x : X) → slice_get xs k ≡ Some x → Contains xs x
-Contains-slice xs k x h = (k, slice_get_within xs k x h, get_or_from_slice_get xs k x x h)
-
 pub slice-Contains : {X : Type 0} (xs : List X) (x : X) → Contains xs x → (k : ℕ) × (slice_get xs k ≡ Some x)
 slice-Contains xs x c = (c.0, slice_get-get_or xs c.0 x c.1 ∙ ap (λ y. Some y) c.2)
 
@@ -43,7 +41,7 @@ Rises-slices Before xs i j x y r h k l =
 
 pub last_at-Contains : {X : Type 0} (xs : List X) (n : ℕ) (x : X) → last_at xs n ≡ Some x → Contains xs x
 last_at-Contains xs zero x h = absurd (none-some x h)
-last_at-Contains xs (suc n) x h = Contains-slice xs n x h
+last_at-Contains xs (suc n) x h = Contains-slice_get xs n x h
 
 -- Whatever the miss, the level with it may stand before the one without.
 
@@ -228,8 +226,8 @@ numbers_rise : (set : ℕ) (t : Recorded) → IsTrace t → (s : Summary) → Is
 numbers_rise set t sound s a i j x y h k l = elim (Rises-slices SentBefore s.sent i j x y a.sent.rising h k l) [
   | inr e ↦ e.1
   | inl e ↦ (
-      let u = a.sent.sound x (Contains-slice s.sent i x h) in
-      let v = a.sent.sound y (Contains-slice s.sent j y k) in
+      let u = a.sent.sound x (Contains-slice_get s.sent i x h) in
+      let v = a.sent.sound y (Contains-slice_get s.sent j y k) in
       let p = u.place in
       let q = v.place in
       number_below t sound.time x.sent.no y.sent.no _ _ u.message.sent v.message.sent (omega (arith, e, p, q)))
@@ -237,10 +235,10 @@ numbers_rise set t sound s a i j x y h k l = elim (Rises-slices SentBefore s.sen
 
 -- the messages from place n on have greater numbers than those before
 number_after : (set : ℕ) (t : Recorded) → IsTrace t → (s : Summary) → IsSummary set t 0 t.last s → (n j : ℕ) (y : Message) → slice_get s.sent j ≡ Some y → n ≤ j → number_at s.sent n < y.sent.no
-number_after set t sound s a zero j y h l = (step_at_within t.steps y.sent.no _ (a.sent.sound y (Contains-slice s.sent j y h)).message.sent).0
+number_after set t sound s a zero j y h l = (step_at_within t.steps y.sent.no _ (a.sent.sound y (Contains-slice_get s.sent j y h)).message.sent).0
 number_after set t sound s a (suc n) j y h l = go (slice_get s.sent n) refl where
   go : (o : Option Message) → slice_get s.sent n ≡ o → number_of o < y.sent.no
-  go None e = (step_at_within t.steps y.sent.no _ (a.sent.sound y (Contains-slice s.sent j y h)).message.sent).0
+  go None e = (step_at_within t.steps y.sent.no _ (a.sent.sound y (Contains-slice_get s.sent j y h)).message.sent).0
   go (Some x) e = numbers_rise set t sound s a n j x y e h (omega (arith, l))
 
 number_until : (set : ℕ) (t : Recorded) → IsTrace t → (s : Summary) → IsSummary set t 0 t.last s → (n j : ℕ) (y : Message) → slice_get s.sent j ≡ Some y → n ≤ length s.sent → j < n → y.sent.no ≤ number_at s.sent n
@@ -283,7 +281,7 @@ with_missed-lowered set t end m level (Some r) last place low known is =
 
 pub HasMissesFrom-back : (part : Summary) (j : ℕ) (m : Message) (level : Level) → slice_get part.sent j ≡ Some m → HasMissesFrom part (suc j) level → HasMissesFrom part j (with_missed part.to level m (missed part.last m))
 HasMissesFrom-back part j m level at h = λ set t sound a.
-    (let sent = a.sent.sound m (Contains-slice part.sent j m at) in
+    (let sent = a.sent.sound m (Contains-slice_get part.sent j m at) in
     let known = subst (λ o. KnowsMissesAfter set t (number_of o) level.delta level.miss) at (h set t sound a) in
     let last = IsLastMissed-summary set t sound part a m sent in
     let low = (step_at_within t.steps m.sent.no _ sent.message.sent).0 in

@@ -7,6 +7,7 @@ use Rattle.step_trace.specs.declared.rows.Gap.{Gap}
 use Rattle.step_trace.specs.Traces.{Recorded}
 use Rattle.step_trace.specs.Ticks.{StepsIn}
 use Rattle.step_trace.specs.Witnesses.{IsGap}
+use Rattle.step_trace.proofs.ListMembers.{Contains-slice_get}
 use Rattle.suffix_staircase.specs.declared.levels.Level.{Level}
 use Rattle.suffix_staircase.specs.Levels.{StandsBefore}
 use Rattle.suffix_staircase.specs.Analysis.{KnowsGaps, with_gap}
@@ -16,7 +17,7 @@ use Rattle.suffix_staircase.proofs.LongestGaps.{IsLongest as IsLongestFrom}
 use Rattle.chunk_join.specs.Summaries.{EndsBefore, IsLongest, Summary, IsSummary}
 use Rattle.chunk_join.specs.Laws.SilencesJoined.{first_silent, last_silent}
 use Rattle.chunk_join.specs.Finishes.{last_at, with_silence, BeginAfter}
-use Rattle.chunk_join.proofs.MessagesBack.{Contains-slice, slice-Contains, Rises-slices}
+use Rattle.chunk_join.proofs.MessagesBack.{slice-Contains, Rises-slices}
 
 -- Whatever the silence, the level with it may stand before the one without.
 
@@ -144,7 +145,7 @@ IsLongestFrom-top set t s a n g w start long later top from = record {
 } where
   placed : (n : ℕ) → last_at s.silent n ≡ Some w → IsLongest set t 0 t.last w
   placed zero h = absurd (none-some w h)
-  placed (suc n) h = a.silent.sound w (Contains-slice s.silent n w h)
+  placed (suc n) h = a.silent.sound w (Contains-slice_get s.silent n w h)
 
   own : IsLongest set t 0 t.last w
   own = placed n top

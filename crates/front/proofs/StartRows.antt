@@ -132,9 +132,3 @@ IsReport-from_starts set trace levels numbers rows are starts at = record {
       let row = Contains-from_map (λ (r : Row). r.gst) rows t.gst (subst (λ (ns : List ℕ). Contains ns t.gst) (sym at.begin) (starts.complete t.gst start)) in
       let known = are.each row.0.gst (level_of row.0) (starts.sound row.0.gst (begun row.0 row.1)).here (at.each row.0 row.1) in
       subst (Contains (map triple_of rows)) (row-triple set trace row.0 t front row.2 known) (Contains-map triple_of rows row.0 row.1)
-
--- what stands in a list is a member of it
-pub Contains-slice_get : (xs : List ℕ) (k x : ℕ) → slice_get xs k ≡ Some x → Contains xs x
-Contains-slice_get xs k x e =
-    let within : k < length xs = slice_get_within xs k x e in
-    (k, within, same_Some _ _ (sym (slice_get-get_or xs k x within) ∙ e))

@@ -1,9 +1,10 @@
 -- Members of lists, and of lists of numbers that rise.
-use Rattle.std.proofs.Common.{ℕ, ◌≡◌, ◌+◌, ◌<◌, ◌⊎◌, inl, inr, Bool, true, false, cond, List, [], ◌∷◌, ◌++◌, length, map, filter, get_or, Contains, refl, sym, ap, ◌∙◌, subst, suc, zero, arith, length-append, true≢false}
-use Rattle.std.specs.Prelude.{slice_index_or}
+use Rattle.std.proofs.Common.{ℕ, ◌≡◌, ◌+◌, ◌<◌, ◌⊎◌, inl, inr, Bool, true, false, cond, List, [], ◌∷◌, ◌++◌, length, map, filter, get_or, Contains, Some, refl, sym, ap, ◌∙◌, subst, suc, zero, arith, length-append, true≢false}
+use Rattle.std.specs.Prelude.{slice_get, slice_index_or}
 use Rattle.std.specs.List.{list_any}
 use Rattle.std.specs.List.Sorted.{IsStrictlyIncreasing}
 use Rattle.std.proofs.lemmas.Bool.{cases_lt}
+use Rattle.std.proofs.lemmas.Option.{slice_get_within, get_or_from_slice_get}
 use Rattle.std.proofs.lemmas.List.{get_or_append_left, get_or_push}
 use Rattle.std.proofs.lemmas.List.Elements.{Contains-get_or}
 use Rattle.std.proofs.lemmas.List.Folds.{Any-from_list_any, list_any-from_Any}
@@ -26,6 +27,10 @@ Contains-cons_cases x y xs c = go c.0 c.1 c.2 where
 -- an empty list has none
 pub Contains-nil : {X : Type 0} (y : X) → Contains [] y → ⊥
 Contains-nil y c = let l = c.1 in omega arith
+
+-- what stands at a place is an element
+pub Contains-slice_get : {X : Type 0} (xs : List X) (k : ℕ) (x : X) → slice_get xs k ≡ Some x → Contains xs x
+Contains-slice_get xs k x e = (k, slice_get_within xs k x e, get_or_from_slice_get xs k x x e)
 
 -- an element of a list of images is the image of an element
 pub Contains-from_map : {X Y : Type 0} (f : X → Y) (xs : List X) (y : Y) → Contains (map f xs) y → (x : X) × Contains xs x × (f x ≡ y)

@@ -1,8 +1,9 @@
 use Rattle.std.proofs.Common.{ℕ, ◌≡◌, ◌-◌, ◌+◌, ◌<◌, ◌≤◌, List, length, Some, None, vec_len, slice_get, sym, subst, arith}
 use Rattle.std.proofs.lemmas.Option.{slice_get_within}
+use Rattle.step_trace.proofs.ListMembers.{Contains-slice_get}
 use Rattle.suffix_staircase.specs.Levels.{starts}
 use Rattle.front.specs.Reports.{level_of, AreRowsAt}
-use Rattle.front.proofs.StartRows.{AreRowsAt-push, all-starts, Contains-slice_get}
+use Rattle.front.proofs.StartRows.{AreRowsAt-push, all-starts}
 use Rattle.front.proofs.reports.rows_of.Goals as goal
 
 pub row_at-requires-clause-high : goal.row_at-requires-clause-high
