@@ -186,62 +186,18 @@ fn write_step(
     ensures text { OnOk result (written writer.new
         ≡ written writer.old ++ record_line (step_record version no tick step.now)) }
 {
+    let number = number_text(alloc, no)?;
+    let proc = number_text(alloc, step.proc)?;
+    let arg = arg_text(alloc, &step.act)?;
+    let (number, proc, arg) = (number.as_bytes(), proc.as_bytes(), arg.as_bytes());
+    let op = op_text(&step.act);
     match version {
-        Version::One => write_numbered(alloc, writer, no, step),
-        Version::Two => write_timed(alloc, writer, no, tick, step),
+        Version::One => write_record(writer, &[number, proc, op, arg]),
+        Version::Two => {
+            let tick = number_text(alloc, tick)?;
+            write_record(writer, &[number, tick.as_bytes(), proc, op, arg])
+        }
     }
-}
-
-// `no,proc,op,arg`
-fn write_numbered(
-    alloc: Global,
-    writer: &mut Writer<Vec<u8>>,
-    no: u64,
-    step: &Step,
-) -> Result<(), AllocError>
-    requires { IsReady writer.old }
-    ensures ready { OnOk result (IsReady writer.new) }
-    ensures text { OnOk result (written writer.new
-        ≡ written writer.old ++ record_line (step_record Version.One no no step.now)) }
-{
-    let number = number_text(alloc, no)?;
-    let proc = number_text(alloc, step.proc)?;
-    let arg = arg_text(alloc, &step.act)?;
-    let op = op_text(&step.act);
-    write_record(
-        writer,
-        &[number.as_bytes(), proc.as_bytes(), op, arg.as_bytes()],
-    )
-}
-
-// `no,tick,proc,op,arg`
-fn write_timed(
-    alloc: Global,
-    writer: &mut Writer<Vec<u8>>,
-    no: u64,
-    tick: u64,
-    step: &Step,
-) -> Result<(), AllocError>
-    requires { IsReady writer.old }
-    ensures ready { OnOk result (IsReady writer.new) }
-    ensures text { OnOk result (written writer.new
-        ≡ written writer.old ++ record_line (step_record Version.Two no tick step.now)) }
-{
-    let number = number_text(alloc, no)?;
-    let tick = number_text(alloc, tick)?;
-    let proc = number_text(alloc, step.proc)?;
-    let arg = arg_text(alloc, &step.act)?;
-    let op = op_text(&step.act);
-    write_record(
-        writer,
-        &[
-            number.as_bytes(),
-            tick.as_bytes(),
-            proc.as_bytes(),
-            op,
-            arg.as_bytes(),
-        ],
-    )
 }
 
 fn op_text(act: &Act) -> &[u8]
