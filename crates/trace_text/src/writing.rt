@@ -1,6 +1,6 @@
 //! Writing of trace text: the whole text first, then its bytes.
 
-ghost use Rattle.std.specs.Prelude.{◌≡◌, ◌<◌, ◌^◌, ◌++◌, ◌↔◌, IfOk, OnOk, IfErr, IsTrue, All, length, map, decimal, string_bytes};
+ghost use Rattle.std.specs.Prelude.{◌≡◌, ◌<◌, ◌^◌, [], ◌++◌, ◌↔◌, IfOk, OnOk, IfErr, IsTrue, All, length, map, decimal, string_bytes};
 ghost use Rattle.std.specs.List.{join_with_byte};
 ghost use Rattle.csv.specs.Records.{fields_of};
 ghost use Rattle.step_trace.specs.Ticks.{IsOnePerTick};
@@ -14,11 +14,12 @@ ghost use Rattle.trace_text.specs.TraceTexts.{IsTextTrace, StandsFor, is_one_per
 use crate::byte_loops::{MAX_TEXT_BYTES, write_text};
 use crate::counting::Counting;
 use crate::record_writing::{
-    number_text, record_writer, text_written, write_byte_record, write_record,
+    number_field, number_text, record_writer, text_written, write_byte_record, write_record,
 };
 use crate::refusals::WriteError;
 use crate::versions::{Version, version_of};
 use csv::{ByteRecord, Writer};
+use itoa::Buffer;
 use std::alloc::{AllocError, Global};
 use std::io::Write;
 use step_trace::{Act, Step, Trace};
@@ -164,9 +165,11 @@ fn write_steps(
     ensures text { OnOk result (written writer.new ≡ written writer.old
         ++ text_of_records (step_records version trace.now.ticks 1 trace.now.steps)) }
 {
+    let mut arg = String::new(alloc);
     let mut no = 1;
     while let Some(step) = trace.step(no) {
-        write_step(alloc, writer, version, no, trace.tick(no), step)?;
+        put_arg(&mut arg, &step.act)?;
+        write_step(writer, version, no, trace.tick(no), step, &arg)?;
         no += 1;
     }
     Ok(())
@@ -174,28 +177,30 @@ fn write_steps(
 
 // `no,proc,op,arg`, in version 2 `no,tick,proc,op,arg`
 fn write_step(
-    alloc: Global,
     writer: &mut Writer<Vec<u8>>,
     version: Version,
     no: u64,
     tick: u64,
     step: &Step,
+    arg: &str,
 ) -> Result<(), AllocError>
-    requires { IsReady writer.old }
+    requires ready { IsReady writer.old }
+    requires arg { arg.now ≡ arg_text step.now.act }
+    requires plain { IsPlain arg.now }
     ensures ready { OnOk result (IsReady writer.new) }
     ensures text { OnOk result (written writer.new
         ≡ written writer.old ++ record_line (step_record version no tick step.now)) }
 {
-    let number = number_text(alloc, no)?;
-    let proc = number_text(alloc, step.proc)?;
-    let arg = arg_text(alloc, &step.act)?;
-    let (number, proc, arg) = (number.as_bytes(), proc.as_bytes(), arg.as_bytes());
+    let (mut numbers, mut ticks, mut procs) = (Buffer::new(), Buffer::new(), Buffer::new());
+    let number = number_field(&mut numbers, no).as_bytes();
+    let proc = number_field(&mut procs, step.proc).as_bytes();
     let op = op_text(&step.act);
+    let arg = arg.as_bytes();
     match version {
         Version::One => write_record(writer, &[number, proc, op, arg]),
         Version::Two => {
-            let tick = number_text(alloc, tick)?;
-            write_record(writer, &[number, tick.as_bytes(), proc, op, arg])
+            let tick = number_field(&mut ticks, tick).as_bytes();
+            write_record(writer, &[number, tick, proc, op, arg])
         }
     }
 }
@@ -211,31 +216,34 @@ fn op_text(act: &Act) -> &[u8]
     }
 }
 
-fn arg_text(alloc: Global, act: &Act) -> Result<String, AllocError>
-    ensures text { IfOk result (λ text. string_bytes text ≡ arg_text act.now) }
-    ensures plain { IfOk result (λ text. IsPlain (string_bytes text)) }
+// Puts the argument of a step in the place of what the text was.
+fn put_arg(text: &mut String, act: &Act) -> Result<(), AllocError>
+    ensures text { OnOk result (string_bytes text.new ≡ arg_text act.now) }
+    ensures plain { OnOk result (IsPlain (string_bytes text.new)) }
 {
+    text.clear();
     match act {
-        Act::Send { to } => number_text(alloc, *to),
-        Act::Receive { ids, .. } => ids_text(alloc, ids.as_slice()),
+        Act::Send { to } => text.push_str(number_field(&mut Buffer::new(), *to)),
+        Act::Receive { ids, .. } => put_ids(text, ids.as_slice()),
     }
 }
 
-// Ids with one space between them.
-fn ids_text(alloc: Global, ids: &[u64]) -> Result<String, AllocError>
-    ensures text { IfOk result
-        (λ text. string_bytes text ≡ join_with_byte 32 (map decimal ids.now)) }
-    ensures plain { IfOk result (λ text. IsPlain (string_bytes text)) }
+// Puts ids, with one space between them, into a text that is empty.
+fn put_ids(text: &mut String, ids: &[u64]) -> Result<(), AllocError>
+    requires { string_bytes text.old ≡ [] }
+    ensures text { OnOk result (string_bytes text.new ≡ join_with_byte 32 (map decimal ids.now)) }
+    ensures plain { OnOk result (IsPlain (string_bytes text.new)) }
 {
     let Some((first, rest)) = ids.split_first() else {
-        return Ok(String::new(alloc));
+        return Ok(());
     };
-    let mut text = number_text(alloc, *first)?;
+    let mut digits = Buffer::new();
+    text.push_str(number_field(&mut digits, *first))?;
     for id in rest {
         text.push(' ')?;
-        text.push_str(number_text(alloc, *id)?.as_str())?;
+        text.push_str(number_field(&mut digits, *id))?;
     }
-    Ok(text)
+    Ok(())
 }
 
 // `end,L`

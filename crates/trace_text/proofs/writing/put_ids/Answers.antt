@@ -2,15 +2,12 @@ use Rattle.std.proofs.Common.{◌≡◌, ◌+◌, ◌∙◌, List, ℕ, ap, arit
 use Rattle.std.specs.List.{join_with_byte}
 use Rattle.trace_text.specs.RecordWriting.{IsPlain}
 use Rattle.trace_text.proofs.WrittenRecords.{All-fit, IsPlain-ids, ids-turn}
-use Rattle.trace_text.proofs.writing.ids_text.Goals.{After-loop-id}
-use Rattle.trace_text.proofs.writing.ids_text.Goals as goal
-
-pub loop-id-init : goal.loop-id-init
-loop-id-init c = rw c.in-Some.ensures.cases.0 c.in_ok-text.ensures.digits
+use Rattle.trace_text.proofs.writing.put_ids.Goals.{After-loop-id}
+use Rattle.trace_text.proofs.writing.put_ids.Goals as goal
 
 pub loop-id-preserved : goal.loop-id-preserved
 loop-id-preserved c =
-    rw (c.in_ok-push_str.ensures.bytes, c.in_ok-push.ensures.bytes, c.in_ok-push.ensures.ascii (omega arith), c.as_str.ensures.value, c.in_ok-number_text.ensures.digits, c.loop-id.invariant)
+    rw (c.in_ok-push_str-2.ensures.bytes, c.in_ok-push.ensures.bytes, c.in_ok-push.ensures.ascii (omega arith), c.number_field-in-loop-id.ensures.digits, c.loop-id.invariant)
     (ids-turn c.args.ids.now c.in-Some.rest.now c.in-Some.first.now c.loop-id.id-index c.in-Some.ensures.cases.0 c.loop-id-test.true)
 
 -- all ids
