@@ -1,12 +1,12 @@
 //! Runs of the agreement algorithm: a thread for each processor, and the trace of what they did together.
 
-ghost use Rattle.std.specs.Prelude.{◌≡◌, ◌↔◌, ◌*◌, ◌≤◌, ℕ, List, IfOk, IfErr, OnOk, IsTrue, length};
+ghost use Rattle.std.specs.Prelude.{◌≡◌, ◌≢◌, ◌↔◌, ◌*◌, ◌≤◌, ℕ, List, Some, None, IfOk, IfErr, OnOk, MatchResult, IsTrue, length, ◌⊎◌};
 ghost use Rattle.std.specs.Io.KnownBytes.{Appends};
 ghost use Rattle.step_trace.specs.declared.traces.TheConstants.{MAX_STEPS};
 ghost use Rattle.trace_text.specs.ByteLoops.{WasFaultless};
 ghost use Rattle.trace_text.specs.Faults.{inner_of, is_flushed};
 ghost use Rattle.synchrony.specs.Printing.{IsWriteFault};
-ghost use Rattle.synchrony.specs.Runs.{HaveDone, IsEvenRun, IsEvenRunText, IsFaultOfNodes, IsFaultOfThreads, IsUnwrittenRun};
+ghost use Rattle.synchrony.specs.Runs.{HaveDone, IsEvenRun, IsEvenRunText, IsFaultOfNodes, IsFaultOfThreads, IsUnwrittenRun, ending_of, gravity, fault_of_ending};
 
 use crate::faults::Fault;
 use locked_recorder::{AuditError, DriveError, DriveStop, RecordError, Recorder, Seat};
@@ -132,7 +132,9 @@ fn gravest<R: Threads>(rt: &R, threads: Vec<JoinHandle<Ending>>) -> Ending {
 }
 
 /// How a drive ended.
-fn how_ended(driven: Result<u64, DriveError>) -> Ending {
+fn how_ended(driven: Result<u64, DriveError>) -> Ending
+    ensures { MatchResult driven (λ _. result ≡ Ending.Made) (λ stopped. result ≡ ending_of stopped.why) }
+{
     match driven {
         Ok(_) => Ending::Made,
         Err(stopped) => match stopped.why {
@@ -143,19 +145,35 @@ fn how_ended(driven: Result<u64, DriveError>) -> Ending {
     }
 }
 
-/// The one that is told of two.
-fn graver(one: Ending, other: Ending) -> Ending {
-    match (one, other) {
-        (Ending::Held, _) | (_, Ending::Held) => Ending::Held,
-        (Ending::NoMemory, _) | (_, Ending::NoMemory) => Ending::NoMemory,
-        (Ending::Refused, _) | (_, Ending::Refused) => Ending::Refused,
-        (Ending::Made, Ending::Made) => Ending::Made,
+/// The one that is told of two: the graver one.
+fn graver(one: Ending, other: Ending) -> Ending
+    ensures one { gravity one ≤ gravity result }
+    ensures other { gravity other ≤ gravity result }
+    ensures either { (result ≡ one) ⊎ (result ≡ other) }
+{
+    if gravity(one) < gravity(other) {
+        other
+    } else {
+        one
+    }
+}
+
+/// How grave an ending is.
+fn gravity(ending: Ending) -> u64
+    ensures { result ≡ gravity ending }
+{
+    match ending {
+        Ending::Made => 0,
+        Ending::Refused => 1,
+        Ending::NoMemory => 2,
+        Ending::Held => 3,
     }
 }
 
 /// The fault that the ending of all threads is, if any.
 fn judged(ending: Ending) -> Result<(), Fault>
-    ensures { IfErr result IsFaultOfThreads }
+    ensures own { IfErr result IsFaultOfThreads }
+    ensures told { MatchResult result (λ _. fault_of_ending ending ≡ None) (λ why. fault_of_ending ending ≡ Some why) }
 {
     match ending {
         Ending::Made => Ok(()),
@@ -174,6 +192,7 @@ fn audited(
 ) -> Result<World, Fault>
     ensures run { IfOk result (λ world. IsEvenRun recorder.config steps world.trace) }
     ensures own { IfErr result IsFaultOfThreads }
+    ensures no_threads { IfErr result (λ why. why ≢ Fault.Threads) }
 {
     let world = match recorder.into_audited(alloc, seats, &[]) {
         Ok(world) => world,
