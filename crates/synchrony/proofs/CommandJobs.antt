@@ -19,7 +19,7 @@ use Rattle.synchrony.specs.declared.command_line.Job.TheVariants as job
 use Rattle.synchrony.specs.declared.faults.Fault.{Fault}
 use Rattle.synchrony.specs.declared.faults.Fault.TheVariants as fault
 use Rattle.trace_text.proofs.Numbers.{bytes_eq-same}
-use Rattle.synchrony.specs.Commands.{AreCheckRows, AreReportRows, AreRunRows, AsksForCheck, AsksForReplay, AsksForReport, AsksForUpgrade, HasNumber, NamesCheck, NamesFile, NamesReplay, NamesReport, NamesRun, NamesUpgrade, check_line, is_flag, program, replay_line, report_line, upgrade_line}
+use Rattle.synchrony.specs.Commands.{AreCheckRows, AreReportRows, AreRunRows, AsksForCheck, AsksForReplay, AsksForReport, AsksForUpgrade, HasNumber, NamesCheck, NamesFile, NamesNoJob, NamesReplay, NamesReport, NamesRun, NamesUpgrade, check_line, is_flag, program, replay_line, report_line, upgrade_line}
 use Rattle.synchrony.specs.Jobs.{AreBothStandardInput, IsCheck, IsFilesFault, IsHelpFor, IsJobIn, IsJobOf, IsLineFault, IsListFault, IsMemory, IsNoList, IsRefusalFor, IsRefusalIn, IsRefusalOf, IsReplay, IsReport, IsUpgrade}
 use Rattle.synchrony.proofs.CommandLines.{asks_for_check, asks_for_replay, asks_for_report, asks_for_upgrade, check_faultless, replay_faultless, report_faultless, upgrade_faultless}
 
@@ -98,26 +98,25 @@ two_commands sub a b xs ys left right other =
     let same : a ≡ b = ap (λ (p : Text × List Row). p.0) (same_some (a, xs) (b, ys) (sym left ∙ right)) in
     let twice = bytes_eq-same a b same in cc
 
-no_report_replays : (sub : Option (Text × List Row)) (f l g : Text) (w : ℕ) → NamesReport sub f l w → NamesReplay sub g → ⊥
-no_report_replays sub f l g w a b = two_commands sub (codes "report") (codes "replay") a.rows b.rows a.named b.named refl
+-- a command that has this name is neither `report` nor `run` nor `check`
+abbrev IsNoneOfThree : Text → Type 0
+IsNoneOfThree command = (bytes_eq (codes "report") command ≡ false) × (bytes_eq command (codes "run") ≡ false) × (bytes_eq command (codes "check") ≡ false)
 
-no_report_upgrades : (sub : Option (Text × List Row)) (f l g : Text) (w : ℕ) → NamesReport sub f l w → NamesUpgrade sub g → ⊥
-no_report_upgrades sub f l g w a b = two_commands sub (codes "report") (codes "upgrade") a.rows b.rows a.named b.named refl
+no_report_files : (command : Text) (sub : Option (Text × List Row)) (f l g : Text) (w : ℕ) → IsNoneOfThree command → NamesReport sub f l w → NamesFile command sub g → ⊥
+no_report_files command sub f l g w other a b = two_commands sub (codes "report") command a.rows b.rows a.named b.named other.0
 
 no_report_runs : (sub : Option (Text × List Row)) (f l : Text) (n t : ℕ) (values : Text) (patience steps : ℕ) (w : ℕ) → NamesReport sub f l w → NamesRun sub n t values patience steps → ⊥
 no_report_runs sub f l n t values patience steps w a b = two_commands sub (codes "report") (codes "run") a.rows b.rows a.named b.named refl
 
-no_replay_runs : (sub : Option (Text × List Row)) (f : Text) (n t : ℕ) (values : Text) (patience steps : ℕ) → NamesReplay sub f → NamesRun sub n t values patience steps → ⊥
-no_replay_runs sub f n t values patience steps a b = two_commands sub (codes "replay") (codes "run") a.rows b.rows a.named b.named refl
-
-no_upgrade_runs : (sub : Option (Text × List Row)) (f : Text) (n t : ℕ) (values : Text) (patience steps : ℕ) → NamesUpgrade sub f → NamesRun sub n t values patience steps → ⊥
-no_upgrade_runs sub f n t values patience steps a b = two_commands sub (codes "upgrade") (codes "run") a.rows b.rows a.named b.named refl
+no_file_runs : (command : Text) (sub : Option (Text × List Row)) (f : Text) (n t : ℕ) (values : Text) (patience steps : ℕ) → IsNoneOfThree command → NamesFile command sub f
+    → NamesRun sub n t values patience steps → ⊥
+no_file_runs command sub f n t values patience steps other a b = two_commands sub command (codes "run") a.rows b.rows a.named b.named other.1
 
 no_report_checks : (sub : Option (Text × List Row)) (f l g c m : Text) (w : ℕ) → NamesReport sub f l w → NamesCheck sub g c m → ⊥
 no_report_checks sub f l g c m w a b = two_commands sub (codes "report") (codes "check") a.rows b.rows a.named b.named refl
 
-no_file_checks : (command : Text) (sub : Option (Text × List Row)) (f g c m : Text) → bytes_eq command (codes "check") ≡ false → NamesFile command sub f → NamesCheck sub g c m → ⊥
-no_file_checks command sub f g c m other a b = two_commands sub command (codes "check") a.rows b.rows a.named b.named other
+no_file_checks : (command : Text) (sub : Option (Text × List Row)) (f g c m : Text) → IsNoneOfThree command → NamesFile command sub f → NamesCheck sub g c m → ⊥
+no_file_checks command sub f g c m other a b = two_commands sub command (codes "check") a.rows b.rows a.named b.named other.2
 
 no_run_checks : (sub : Option (Text × List Row)) (n t : ℕ) (values : Text) (patience steps : ℕ) (g c m : Text) → NamesRun sub n t values patience steps → NamesCheck sub g c m → ⊥
 no_run_checks sub n t values patience steps g c m a b = two_commands sub (codes "run") (codes "check") a.rows b.rows a.named b.named refl
@@ -240,10 +239,10 @@ line_job : (words : List Text) (file list : Text) (workers : ℕ) → fault_of p
 line_job words file list workers none asks (job.Report name set w) h =
     let same = one_report (subcommand_of program words) (string_bytes name) h.list file list w workers h.named asks in
     (same.0, subst (λ l. IsSetIn l set) same.1 h.listed, same.2)
-line_job words file list workers none asks (job.Replay name) h = absurd (no_report_replays (subcommand_of program words) file list (string_bytes name) workers asks h)
+line_job words file list workers none asks (job.Replay name) h = absurd (no_report_files (codes "replay") (subcommand_of program words) file list (string_bytes name) workers (refl, refl, refl) asks h)
 line_job words file list workers none asks (job.Run config patience steps) h =
     absurd (no_report_runs (subcommand_of program words) file list config.n config.t h.text patience steps workers asks h.named)
-line_job words file list workers none asks (job.Upgrade name) h = absurd (no_report_upgrades (subcommand_of program words) file list (string_bytes name) workers asks h)
+line_job words file list workers none asks (job.Upgrade name) h = absurd (no_report_files (codes "upgrade") (subcommand_of program words) file list (string_bytes name) workers (refl, refl, refl) asks h)
 line_job words file list workers none asks (job.Check name certificate set) h =
     absurd (no_report_checks (subcommand_of program words) file list (string_bytes name) (string_bytes certificate) h.list workers asks h.named)
 line_job words file list workers none asks (job.Help text) h = absurd (none_among h.kind (fault_of program words) none h.among)
@@ -278,34 +277,37 @@ line_is words (Err w) _ h name file list line plain_file plain_list =
     line_refusal words file list 1 (ap (fault_of program) line ∙ report_faultless name file list plain_file plain_list)
     (subst (λ ws. AsksForReport ws file list 1) (sym line) (asks_for_report name file list plain_file plain_list)) w h
 
+-- a line that names a command with a file alone is refused for want of memory alone
+file_refusal : (command : Text) (words : List Text) (file : Text) → IsNoneOfThree command → fault_of program words ≡ [] → NamesFile command (subcommand_of program words) file
+    → ¬ NamesNoJob (subcommand_of program words) → (w : Fault) → IsRefusalOf words w → IsMemory w
+file_refusal command words file other none asks is_job (fault.Command text) (inl h) = absurd (none_among h.kind (fault_of program words) none h.among)
+file_refusal command words file other none asks is_job (fault.Command text) (inr (inl h)) =
+    absurd (no_report_files command (subcommand_of program words) h.file h.list file h.workers other h.named asks)
+file_refusal command words file other none asks is_job (fault.Command text) (inr (inr (inl h))) =
+    absurd (no_file_runs command (subcommand_of program words) file h.n h.t h.values h.patience h.steps other asks h.named)
+file_refusal command words file other none asks is_job (fault.Command text) (inr (inr (inr (inl h)))) =
+    absurd (no_file_checks command (subcommand_of program words) file h.file h.certificate h.list other asks h.named)
+file_refusal command words file other none asks is_job (fault.Command text) (inr (inr (inr (inr h)))) = absurd (is_job h)
+file_refusal command words file other none asks is_job fault.Set h = h
+file_refusal command words file other none asks is_job (fault.Trace e) h = h
+file_refusal command words file other none asks is_job (fault.Certificate e) h = h
+file_refusal command words file other none asks is_job fault.Memory h = h
+file_refusal command words file other none asks is_job fault.Read h = h
+file_refusal command words file other none asks is_job (fault.Write n) h = h
+file_refusal command words file other none asks is_job (fault.NotARun n) h = h
+file_refusal command words file other none asks is_job fault.Threads h = h
+
 -- the same of a replay, which no list can keep from it
 replayed_job : (words : List Text) (file : Text) → fault_of program words ≡ [] → AsksForReplay words file → (j : Job) → IsJobOf words j → IsReplay file j
 replayed_job words file none asks (job.Report name set workers) h =
-    absurd (no_report_replays (subcommand_of program words) (string_bytes name) h.list file workers h.named asks)
+    absurd (no_report_files (codes "replay") (subcommand_of program words) (string_bytes name) h.list file workers (refl, refl, refl) h.named asks)
 replayed_job words file none asks (job.Replay name) h = one_file_of (codes "replay") (subcommand_of program words) (string_bytes name) file h asks
 replayed_job words file none asks (job.Run config patience steps) h =
-    absurd (no_replay_runs (subcommand_of program words) file config.n config.t h.text patience steps asks h.named)
+    absurd (no_file_runs (codes "replay") (subcommand_of program words) file config.n config.t h.text patience steps (refl, refl, refl) asks h.named)
 replayed_job words file none asks (job.Upgrade name) h = absurd (no_replay_upgrades (subcommand_of program words) file (string_bytes name) asks h)
 replayed_job words file none asks (job.Check name certificate set) h =
-    absurd (no_file_checks (codes "replay") (subcommand_of program words) file (string_bytes name) (string_bytes certificate) h.list refl asks h.named)
+    absurd (no_file_checks (codes "replay") (subcommand_of program words) file (string_bytes name) (string_bytes certificate) h.list (refl, refl, refl) asks h.named)
 replayed_job words file none asks (job.Help text) h = absurd (none_among h.kind (fault_of program words) none h.among)
-
-replayed_refusal : (words : List Text) (file : Text) → fault_of program words ≡ [] → AsksForReplay words file → (w : Fault) → IsRefusalOf words w → IsMemory w
-replayed_refusal words file none asks (fault.Command text) (inl h) = absurd (none_among h.kind (fault_of program words) none h.among)
-replayed_refusal words file none asks (fault.Command text) (inr (inl h)) = absurd (no_report_replays (subcommand_of program words) h.file h.list file h.workers h.named asks)
-replayed_refusal words file none asks (fault.Command text) (inr (inr (inl h))) =
-    absurd (no_replay_runs (subcommand_of program words) file h.n h.t h.values h.patience h.steps asks h.named)
-replayed_refusal words file none asks (fault.Command text) (inr (inr (inr (inl h)))) =
-    absurd (no_file_checks (codes "replay") (subcommand_of program words) file h.file h.certificate h.list refl asks h.named)
-replayed_refusal words file none asks (fault.Command text) (inr (inr (inr (inr h)))) = absurd (h.no_replay file asks)
-replayed_refusal words file none asks fault.Set h = h
-replayed_refusal words file none asks (fault.Trace e) h = h
-replayed_refusal words file none asks (fault.Certificate e) h = h
-replayed_refusal words file none asks fault.Memory h = h
-replayed_refusal words file none asks fault.Read h = h
-replayed_refusal words file none asks (fault.Write n) h = h
-replayed_refusal words file none asks (fault.NotARun n) h = h
-replayed_refusal words file none asks fault.Threads h = h
 
 -- the line `replay FILE` gives the replay of that file
 pub replay_is : (words : List Text) (r : Result Job Fault) → IfOk r (IsJobOf words) → IfErr r (IsRefusalOf words) → (name file : Text)
@@ -314,37 +316,20 @@ replay_is words (Ok j) h _ name file line plain =
     replayed_job words file (ap (fault_of program) line ∙ replay_faultless name file plain)
     (subst (λ ws. AsksForReplay ws file) (sym line) (asks_for_replay name file plain)) j h
 replay_is words (Err w) _ h name file line plain =
-    replayed_refusal words file (ap (fault_of program) line ∙ replay_faultless name file plain)
-    (subst (λ ws. AsksForReplay ws file) (sym line) (asks_for_replay name file plain)) w h
+    let asks = subst (λ ws. AsksForReplay ws file) (sym line) (asks_for_replay name file plain) in
+    file_refusal (codes "replay") words file (refl, refl, refl) (ap (fault_of program) line ∙ replay_faultless name file plain) asks (λ none. none.no_replay file asks) w h
 
 -- and the same of an upgrade
 upgraded_job : (words : List Text) (file : Text) → fault_of program words ≡ [] → AsksForUpgrade words file → (j : Job) → IsJobOf words j → IsUpgrade file j
 upgraded_job words file none asks (job.Report name set workers) h =
-    absurd (no_report_upgrades (subcommand_of program words) (string_bytes name) h.list file workers h.named asks)
+    absurd (no_report_files (codes "upgrade") (subcommand_of program words) (string_bytes name) h.list file workers (refl, refl, refl) h.named asks)
 upgraded_job words file none asks (job.Replay name) h = absurd (no_replay_upgrades (subcommand_of program words) (string_bytes name) file h asks)
 upgraded_job words file none asks (job.Run config patience steps) h =
-    absurd (no_upgrade_runs (subcommand_of program words) file config.n config.t h.text patience steps asks h.named)
+    absurd (no_file_runs (codes "upgrade") (subcommand_of program words) file config.n config.t h.text patience steps (refl, refl, refl) asks h.named)
 upgraded_job words file none asks (job.Upgrade name) h = one_file_of (codes "upgrade") (subcommand_of program words) (string_bytes name) file h asks
 upgraded_job words file none asks (job.Check name certificate set) h =
-    absurd (no_file_checks (codes "upgrade") (subcommand_of program words) file (string_bytes name) (string_bytes certificate) h.list refl asks h.named)
+    absurd (no_file_checks (codes "upgrade") (subcommand_of program words) file (string_bytes name) (string_bytes certificate) h.list (refl, refl, refl) asks h.named)
 upgraded_job words file none asks (job.Help text) h = absurd (none_among h.kind (fault_of program words) none h.among)
-
-upgraded_refusal : (words : List Text) (file : Text) → fault_of program words ≡ [] → AsksForUpgrade words file → (w : Fault) → IsRefusalOf words w → IsMemory w
-upgraded_refusal words file none asks (fault.Command text) (inl h) = absurd (none_among h.kind (fault_of program words) none h.among)
-upgraded_refusal words file none asks (fault.Command text) (inr (inl h)) = absurd (no_report_upgrades (subcommand_of program words) h.file h.list file h.workers h.named asks)
-upgraded_refusal words file none asks (fault.Command text) (inr (inr (inl h))) =
-    absurd (no_upgrade_runs (subcommand_of program words) file h.n h.t h.values h.patience h.steps asks h.named)
-upgraded_refusal words file none asks (fault.Command text) (inr (inr (inr (inl h)))) =
-    absurd (no_file_checks (codes "upgrade") (subcommand_of program words) file h.file h.certificate h.list refl asks h.named)
-upgraded_refusal words file none asks (fault.Command text) (inr (inr (inr (inr h)))) = absurd (h.no_upgrade file asks)
-upgraded_refusal words file none asks fault.Set h = h
-upgraded_refusal words file none asks (fault.Trace e) h = h
-upgraded_refusal words file none asks (fault.Certificate e) h = h
-upgraded_refusal words file none asks fault.Memory h = h
-upgraded_refusal words file none asks fault.Read h = h
-upgraded_refusal words file none asks (fault.Write n) h = h
-upgraded_refusal words file none asks (fault.NotARun n) h = h
-upgraded_refusal words file none asks fault.Threads h = h
 
 -- the line `upgrade FILE` gives the upgrade of that file
 pub upgrade_is : (words : List Text) (r : Result Job Fault) → IfOk r (IsJobOf words) → IfErr r (IsRefusalOf words) → (name file : Text)
@@ -353,8 +338,8 @@ upgrade_is words (Ok j) h _ name file line plain =
     upgraded_job words file (ap (fault_of program) line ∙ upgrade_faultless name file plain)
     (subst (λ ws. AsksForUpgrade ws file) (sym line) (asks_for_upgrade name file plain)) j h
 upgrade_is words (Err w) _ h name file line plain =
-    upgraded_refusal words file (ap (fault_of program) line ∙ upgrade_faultless name file plain)
-    (subst (λ ws. AsksForUpgrade ws file) (sym line) (asks_for_upgrade name file plain)) w h
+    let asks = subst (λ ws. AsksForUpgrade ws file) (sym line) (asks_for_upgrade name file plain) in
+    file_refusal (codes "upgrade") words file (refl, refl, refl) (ap (fault_of program) line ∙ upgrade_faultless name file plain) asks (λ none. none.no_upgrade file asks) w h
 
 -- the same of a check, but for its list and for its files
 checked_job : (words : List Text) (file certified list : Text) → fault_of program words ≡ [] → AsksForCheck words file certified list → (j : Job) → IsJobOf words j
@@ -362,11 +347,11 @@ checked_job : (words : List Text) (file certified list : Text) → fault_of prog
 checked_job words file certified list none asks (job.Report name set workers) h =
     absurd (no_report_checks (subcommand_of program words) (string_bytes name) h.list file certified list workers h.named asks)
 checked_job words file certified list none asks (job.Replay name) h =
-    absurd (no_file_checks (codes "replay") (subcommand_of program words) (string_bytes name) file certified list refl h asks)
+    absurd (no_file_checks (codes "replay") (subcommand_of program words) (string_bytes name) file certified list (refl, refl, refl) h asks)
 checked_job words file certified list none asks (job.Run config patience steps) h =
     absurd (no_run_checks (subcommand_of program words) config.n config.t h.text patience steps file certified list h.named asks)
 checked_job words file certified list none asks (job.Upgrade name) h =
-    absurd (no_file_checks (codes "upgrade") (subcommand_of program words) (string_bytes name) file certified list refl h asks)
+    absurd (no_file_checks (codes "upgrade") (subcommand_of program words) (string_bytes name) file certified list (refl, refl, refl) h asks)
 checked_job words file certified list none asks (job.Check name certificate set) h =
     let same = one_check (subcommand_of program words) (string_bytes name) (string_bytes certificate) h.list file certified list h.named asks in (
       same.0,
