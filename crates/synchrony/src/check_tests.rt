@@ -1,8 +1,8 @@
 //! Checks of worked certificates, refused texts, and devices that fail.
 
 use crate::checks::run_check;
-use crate::fault_lines::fault_text;
-use crate::faults::{Fault, status};
+use crate::command_tests::{NEVER_DELIVERED, REDELIVERED, has_refused, was_cut};
+use crate::faults::Fault;
 use crate::verdict_lines::verdict_status;
 use certificate_checker::Verdict;
 use std::alloc::{AllocError, Global};
@@ -11,11 +11,6 @@ use std::test::Fail;
 use step_trace::ProcSet;
 use trace_text::Counting;
 use trace_text::failing_devices::{AfterBytes, FailingReader, FailingWriter, WriteFailure};
-
-const NEVER_DELIVERED: &str =
-    "dls-trace,1,2,0\ninit,5,7\n1,1,S,2\n2,2,R,\n3,1,S,2\n4,2,R,3\n5,2,R,\nend,5\n";
-
-const REDELIVERED: &str = "dls-trace,1,2,0\ninit,5,7\n1,1,S,2\n2,2,R,1\n3,2,R,1\nend,3\n";
 
 const NO_HEADER: &str = "1,5,3,1,5,1,4,5\n";
 
@@ -105,12 +100,8 @@ fn is_refused(
     told: (u8, &str),
 ) -> Result<bool, AllocError> {
     let mut writer = FailingWriter::new(alloc, 5, WriteFailure::Never);
-    let Err(fault) = checked(alloc, texts, set, &mut writer) else {
-        return Ok(false);
-    };
-    let line = fault_text(alloc, &fault)?;
-    let (code, wanted) = told;
-    Ok(status(&fault) == code && line.as_str() == wanted && writer.taken().is_empty())
+    let ended = checked(alloc, texts, set, &mut writer);
+    has_refused(alloc, &ended, &writer, told)
 }
 
 #[test]
@@ -173,9 +164,7 @@ fn is_cut(alloc: Global, failure: WriteFailure, count: usize) -> bool {
         first_two(),
         &mut writer,
     );
-    matches!(&ended, Err(Fault::Write(written)) if *written == count as u64)
-        && writer.taken().len() == count
-        && b"no PhiFails 3 1 5 5\n".starts_with(writer.taken())
+    was_cut(&ended, &writer, "no PhiFails 3 1 5 5\n", count)
 }
 
 #[test]

@@ -13,6 +13,8 @@ mod checks;
 mod command_line;
 #[cfg(test)]
 mod command_line_tests;
+#[cfg(test)]
+mod command_tests;
 mod fault_lines;
 mod faults;
 mod help_texts;

@@ -1,7 +1,7 @@
 //! Replays of worked runs, traces that are none, and devices that fail.
 
-use crate::fault_lines::fault_text;
-use crate::faults::{Fault, status};
+use crate::command_tests::{NO_STEPS, ONE_MISS, REDELIVERED, has_refused, has_written, was_cut};
+use crate::faults::Fault;
 use crate::replays::run_replay;
 use std::alloc::{AllocError, Global};
 use std::io::ErrorKind;
@@ -15,13 +15,7 @@ const DECIDES_SEVEN: &str = "dls-trace,1,3,1\ninit,5,7,7\n1,1,S,1\n2,2,S,1\n3,3,
 
 const DECIDES_SEVEN_REPLAY: &str = "proc,round,decision\n1,4,7\n2,4,\n3,4,\n";
 
-const NO_STEPS: &str = "dls-trace,1,2,0\ninit,5,7\nend,0\n";
-
-const ONE_MISS: &str = "dls-trace,1,2,0\ninit,5,7\n1,1,S,2\n2,2,R,\n3,2,R,1\nend,3\n";
-
 const SENDS_TWICE: &str = "dls-trace,1,2,0\ninit,5,7\n1,2,R,\n2,1,S,1\n3,1,S,1\nend,3\n";
-
-const REDELIVERED: &str = "dls-trace,1,2,0\ninit,5,7\n1,1,S,2\n2,2,R,1\n3,2,R,1\nend,3\n";
 
 /// Replays a text to a writer, in reads of 7 bytes.
 fn replay(
@@ -41,7 +35,7 @@ fn replay(
 fn is_replayed(alloc: Global, text: &str, wanted: &str) -> bool {
     let mut writer = FailingWriter::new(alloc, 10, WriteFailure::Never);
     let ended = replay(alloc, text, AfterBytes::End, &mut writer);
-    ended.is_ok() && writer.taken() == wanted.as_bytes()
+    has_written(&ended, &writer, wanted)
 }
 
 #[test]
@@ -62,12 +56,8 @@ fn is_refused(
     told: (u8, &str),
 ) -> Result<bool, AllocError> {
     let mut writer = FailingWriter::new(alloc, 10, WriteFailure::Never);
-    let Err(fault) = replay(alloc, text, after, &mut writer) else {
-        return Ok(false);
-    };
-    let line = fault_text(alloc, &fault)?;
-    let (code, wanted) = told;
-    Ok(status(&fault) == code && line.as_str() == wanted && writer.taken().is_empty())
+    let ended = replay(alloc, text, after, &mut writer);
+    has_refused(alloc, &ended, &writer, told)
 }
 
 #[test]
@@ -104,9 +94,7 @@ fn writes_nothing_of_what_is_no_run(rt: HostRuntime) -> Result<(), Fail> {
 fn is_cut(alloc: Global, failure: WriteFailure, count: usize) -> bool {
     let mut writer = FailingWriter::new(alloc, 10, failure);
     let ended = replay(alloc, DECIDES_SEVEN, AfterBytes::End, &mut writer);
-    matches!(&ended, Err(Fault::Write(written)) if *written == count as u64)
-        && writer.taken().len() == count
-        && DECIDES_SEVEN_REPLAY.as_bytes().starts_with(writer.taken())
+    was_cut(&ended, &writer, DECIDES_SEVEN_REPLAY, count)
 }
 
 #[test]

@@ -1,6 +1,8 @@
 //! Reports of worked traces, refused traces, and devices that fail.
 
-use crate::fault_lines::fault_text;
+use crate::command_tests::{
+    NEVER_DELIVERED, NO_STEPS, ONE_MISS, REDELIVERED, has_refused, has_written, was_cut,
+};
 use crate::faults::{Fault, status};
 use crate::reports::run_report;
 use chunk_join::MAX_WORKERS;
@@ -14,17 +16,8 @@ use step_trace::{Gate, OpenGate, ProcSet};
 use trace_text::Counting;
 use trace_text::failing_devices::{AfterBytes, FailingReader, FailingWriter, WriteFailure};
 
-const ONE_MISS: &str = "dls-trace,1,2,0\ninit,5,7\n1,1,S,2\n2,2,R,\n3,2,R,1\nend,3\n";
-
 const ONE_MISS_REPORT: &str =
     "gst,delta,phi,sent,missed,proc,from,to\n1,2,3,1,2,1,2,3\n2,1,3,,,1,2,3\n3,1,2,,,1,3,3\n";
-
-const NO_STEPS: &str = "dls-trace,1,2,0\ninit,5,7\nend,0\n";
-
-const REDELIVERED: &str = "dls-trace,1,2,0\ninit,5,7\n1,1,S,2\n2,2,R,1\n3,2,R,1\nend,3\n";
-
-const NEVER_DELIVERED: &str =
-    "dls-trace,1,2,0\ninit,5,7\n1,1,S,2\n2,2,R,\n3,1,S,2\n4,2,R,3\n5,2,R,\nend,5\n";
 
 const NEVER_DELIVERED_REPORT: &str =
     "gst,delta,phi,sent,missed,proc,from,to\n1,5,3,1,5,1,4,5\n2,1,3,,,1,4,5\n5,1,2,,,1,5,5\n";
@@ -85,7 +78,7 @@ fn is_reported<T: Threads + Wait + Sync>(
 ) -> bool {
     let mut writer = FailingWriter::new(alloc, 40, WriteFailure::Never);
     let ended = report(rt, alloc, text, AfterBytes::End, set, &mut writer);
-    ended.is_ok() && writer.taken() == wanted.as_bytes()
+    has_written(&ended, &writer, wanted)
 }
 
 /// Reports a text to a writer, for the first two processors, by these workers.
@@ -121,7 +114,7 @@ fn is_reported_by<T: Threads + Wait + Sync>(
 ) -> bool {
     let mut writer = FailingWriter::new(alloc, 40, WriteFailure::Never);
     let ended = report_by(rt, alloc, text, workers, &OpenGate, &mut writer);
-    ended.is_ok() && writer.taken() == wanted.as_bytes()
+    has_written(&ended, &writer, wanted)
 }
 
 #[test]
@@ -171,7 +164,7 @@ fn two_workers_meet(rt: HostRuntime) -> Result<(), Fail> {
         &MeetingGate::new(),
         &mut writer,
     );
-    assert!(rt; ended.is_ok() && writer.taken() == NEVER_DELIVERED_REPORT.as_bytes());
+    assert!(rt; has_written(&ended, &writer, NEVER_DELIVERED_REPORT));
     Ok(())
 }
 
@@ -245,12 +238,8 @@ fn is_refused<T: Threads + Wait + Sync>(
     told: (u8, &str),
 ) -> Result<bool, AllocError> {
     let mut writer = FailingWriter::new(alloc, 40, WriteFailure::Never);
-    let Err(fault) = report(rt, alloc, text, after, set, &mut writer) else {
-        return Ok(false);
-    };
-    let line = fault_text(alloc, &fault)?;
-    let (code, wanted) = told;
-    Ok(status(&fault) == code && line.as_str() == wanted && writer.taken().is_empty())
+    let ended = report(rt, alloc, text, after, set, &mut writer);
+    has_refused(alloc, &ended, &writer, told)
 }
 
 #[test]
@@ -307,9 +296,7 @@ fn is_cut<T: Threads + Wait + Sync>(
         first_two(),
         &mut writer,
     );
-    matches!(&ended, Err(Fault::Write(written)) if *written == count as u64)
-        && writer.taken().len() == count
-        && ONE_MISS_REPORT.as_bytes().starts_with(writer.taken())
+    was_cut(&ended, &writer, ONE_MISS_REPORT, count)
 }
 
 #[test]

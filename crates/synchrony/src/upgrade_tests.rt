@@ -1,7 +1,7 @@
 //! Upgrades of worked traces, refused traces, and devices that fail.
 
-use crate::fault_lines::fault_text;
-use crate::faults::{Fault, status};
+use crate::command_tests::{ONE_MISS, REDELIVERED, has_refused, has_written, was_cut};
+use crate::faults::Fault;
 use crate::upgrades::run_upgrade;
 use std::alloc::{AllocError, Global};
 use std::io::ErrorKind;
@@ -9,14 +9,10 @@ use std::test::Fail;
 use trace_text::Counting;
 use trace_text::failing_devices::{AfterBytes, FailingReader, FailingWriter, WriteFailure};
 
-const ONE_MISS: &str = "dls-trace,1,2,0\ninit,5,7\n1,1,S,2\n2,2,R,\n3,2,R,1\nend,3\n";
-
 const ONE_MISS_UPGRADE: &str = "dls-trace,2,2,0\ninit,5,7\n1,1,1,S,2\n2,2,2,R,\n3,3,2,R,1\nend,3\n";
 
 const SHARED_TICKS: &str =
     "dls-trace,2,2,0\ninit,5,7\n1,1,1,S,2\n2,1,2,S,1\n3,4,1,E,2\n4,4,2,R,1\nend,9\n";
-
-const REDELIVERED: &str = "dls-trace,1,2,0\ninit,5,7\n1,1,S,2\n2,2,R,1\n3,2,R,1\nend,3\n";
 
 const SAME_TICK: &str = "dls-trace,2,2,0\ninit,5,7\n1,1,1,S,2\n2,1,2,R,1\nend,1\n";
 
@@ -38,7 +34,7 @@ fn upgrade(
 fn is_upgraded(alloc: Global, text: &str, wanted: &str) -> bool {
     let mut writer = FailingWriter::new(alloc, 10, WriteFailure::Never);
     let ended = upgrade(alloc, text, AfterBytes::End, &mut writer);
-    ended.is_ok() && writer.taken() == wanted.as_bytes()
+    has_written(&ended, &writer, wanted)
 }
 
 #[test]
@@ -60,12 +56,8 @@ fn is_refused(
     told: (u8, &str),
 ) -> Result<bool, AllocError> {
     let mut writer = FailingWriter::new(alloc, 10, WriteFailure::Never);
-    let Err(fault) = upgrade(alloc, text, after, &mut writer) else {
-        return Ok(false);
-    };
-    let line = fault_text(alloc, &fault)?;
-    let (code, wanted) = told;
-    Ok(status(&fault) == code && line.as_str() == wanted && writer.taken().is_empty())
+    let ended = upgrade(alloc, text, after, &mut writer);
+    has_refused(alloc, &ended, &writer, told)
 }
 
 #[test]
@@ -100,9 +92,7 @@ fn writes_nothing_of_what_is_no_trace(rt: HostRuntime) -> Result<(), Fail> {
 fn is_cut(alloc: Global, failure: WriteFailure, count: usize) -> bool {
     let mut writer = FailingWriter::new(alloc, 10, failure);
     let ended = upgrade(alloc, ONE_MISS, AfterBytes::End, &mut writer);
-    matches!(&ended, Err(Fault::Write(written)) if *written == count as u64)
-        && writer.taken().len() == count
-        && ONE_MISS_UPGRADE.as_bytes().starts_with(writer.taken())
+    was_cut(&ended, &writer, ONE_MISS_UPGRADE, count)
 }
 
 #[test]
