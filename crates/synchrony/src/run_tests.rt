@@ -1,8 +1,13 @@
 //! Runs in threads, gates that hold a thread back, and outputs that fail.
 
+ghost use Rattle.std.specs.Prelude.{◌*◌, ◌≤◌, length};
+ghost use Rattle.step_trace.specs.declared.traces.TheConstants.{MAX_STEPS};
+
+use crate::command_tests::has_written;
 use crate::faults::{Fault, status};
+use crate::replays::run_replay;
 use crate::runs::run_nodes;
-use std::alloc::Global;
+use std::alloc::{AllocError, Global};
 use std::sync::Wait;
 use std::test::Fail;
 use std::thread::Threads;
@@ -21,28 +26,20 @@ impl Gate for HoldsTwo {
     }
 }
 
-/// Two nodes of values 5 and 7, each of which makes four steps.
-fn run_two<R: Threads + Wait + Sync, G: Gate>(
+/// Runs as many nodes as there are values, each of so many steps, where the first Receive of a round ends it.
+fn run_each<R: Threads + Wait + Sync, G: Gate>(
     rt: &R,
     alloc: Global,
+    values: &[u64],
+    faulty: u64,
+    steps: u64,
     gate: &G,
     writer: &mut FailingWriter,
-) -> Result<(), Fault> {
-    let values = Vec::from_slice(alloc, &[5, 7])?;
-    let Ok(config) = Config::new(2, 0, values) else {
-        return Err(Fault::Set);
-    };
-    run_nodes(rt, alloc, &config, 1, 4, gate, &mut Counting::new(writer))
-}
-
-/// Three nodes of values 5, 7 and 7, each of which makes twenty steps.
-fn run_three<R: Threads + Wait + Sync>(
-    rt: &R,
-    alloc: Global,
-    writer: &mut FailingWriter,
-) -> Result<(), Fault> {
-    let values = Vec::from_slice(alloc, &[5, 7, 7])?;
-    let Ok(config) = Config::new(3, 1, values) else {
+) -> Result<(), Fault>
+    requires { length values.now * steps ≤ MAX_STEPS }
+{
+    let init = Vec::from_slice(alloc, values)?;
+    let Ok(config) = Config::new(values.len() as u64, faulty, init) else {
         return Err(Fault::Set);
     };
     run_nodes(
@@ -50,10 +47,20 @@ fn run_three<R: Threads + Wait + Sync>(
         alloc,
         &config,
         1,
-        20,
-        &OpenGate,
+        steps,
+        gate,
         &mut Counting::new(writer),
     )
+}
+
+/// Two nodes of values 5 and 7, each of which makes four steps.
+fn run_two<R: Threads + Wait + Sync, G: Gate>(
+    rt: &R,
+    alloc: Global,
+    gate: &G,
+    writer: &mut FailingWriter,
+) -> Result<(), Fault> {
+    run_each(rt, alloc, &[5, 7], 0, 4, gate, writer)
 }
 
 /// How many steps the run of a text has, if it is one.
@@ -76,8 +83,41 @@ fn two_nodes_meet(rt: HostRuntime) -> Result<(), Fail> {
 fn a_run_is_replayed(rt: HostRuntime) -> Result<(), Fail> {
     let alloc = rt.alloc();
     let mut writer = FailingWriter::new(alloc, 10, WriteFailure::Never);
-    let ended = run_three(&rt, alloc, &mut writer);
+    let ended = run_each(&rt, alloc, &[5, 7, 7], 1, 20, &OpenGate, &mut writer);
     assert!(rt; ended.is_ok() && steps_of(alloc, writer.taken()) == Some(60));
+    Ok(())
+}
+
+/// Whether the replay of a text is this one.
+fn is_replayed(alloc: Global, text: &[u8], wanted: &str) -> bool {
+    let mut writer = FailingWriter::new(alloc, 100, WriteFailure::Never);
+    let ended = run_replay(
+        alloc,
+        &mut Counting::new(text),
+        &mut Counting::new(&mut writer),
+    );
+    has_written(&ended, &writer, wanted)
+}
+
+/// The replay of 64 processors of which each has ended its first round.
+fn replay_in_round_2(alloc: Global) -> Result<String, AllocError> {
+    let mut text = String::from_str(alloc, "proc,round,decision\n")?;
+    for p in 1..65u64 {
+        writeln!(text, "{p},2,")?;
+    }
+    Ok(text)
+}
+
+/// In round 1 each node has one message to send, its list to the owner; after that its first Receive ends the
+/// round. So two steps of each lead to round 2 in whatever order the threads run.
+#[test]
+fn a_full_row_of_nodes_runs(rt: HostRuntime) -> Result<(), Fail> {
+    let alloc = rt.alloc();
+    let mut writer = FailingWriter::new(alloc, 100, WriteFailure::Never);
+    let ended = run_each(&rt, alloc, &[7; 64], 31, 2, &OpenGate, &mut writer);
+    assert!(rt; ended.is_ok() && steps_of(alloc, writer.taken()) == Some(128));
+    let wanted = replay_in_round_2(alloc)?;
+    assert!(rt; is_replayed(alloc, writer.taken(), wanted.as_str()));
     Ok(())
 }
 
