@@ -11,7 +11,7 @@ use Rattle.clap.specs.Walk.{Held, Text, Waiting, Walk, after_step, finished, not
 use Rattle.clap.specs.Words.{Row, Rule, fault_of, first_of}
 use Rattle.clap.proofs.OnLiterals.{clap_on_literals}
 use Rattle.chunk_join.specs.declared.analyses.TheConstants.{MAX_WORKERS}
-use Rattle.synchrony.specs.Commands.{AsksForCheck, AsksForReplay, AsksForReport, AsksForUpgrade, HasNumber, check_app, check_line, is_flag, program, replay_app, replay_line, report_app, report_line, upgrade_app, upgrade_line}
+use Rattle.synchrony.specs.Commands.{AsksForCheck, AsksForReplay, AsksForReport, AsksForUpgrade, HasNumber, NamesFile, check_app, check_line, is_flag, program, replay_app, replay_line, report_app, report_line, upgrade_app, upgrade_line}
 
 -- a word that is no flag is neither `--` nor a long nor a short flag
 pub not_dashes : (word : Text) → is_flag word ≡ false → bytes_eq word (45 ∷ 45 ∷ []) ≡ false
@@ -73,18 +73,17 @@ abbrev second_shape : List Shape → Shape
 second_shape [] = replay_app.top
 second_shape (s ∷ more) = first_shape more
 
--- `replay` likewise
-abbrev replay : Shape
-replay = second_shape (built program).subs
+-- a command with a file alone likewise: such commands differ in their names
+abbrev file_command : Text → Shape
+file_command command = record (second_shape (built program).subs) { name = command }
+
+abbrev file_rules : List Rule
+file_rules = (second_shape (built program).subs).rules
 
 abbrev fourth_shape : List Shape → Shape
 fourth_shape [] = upgrade_app.top
 fourth_shape (s ∷ []) = upgrade_app.top
 fourth_shape (s ∷ _ ∷ more) = second_shape more
-
--- `upgrade` likewise
-abbrev upgrade : Shape
-upgrade = fourth_shape (built program).subs
 
 abbrev fifth_shape : List Shape → Shape
 fifth_shape [] = check_app.top
@@ -154,57 +153,44 @@ report_faultless name file list plain_file plain_list =
     ap (λ below. level_fault (built program).top (names_of (built program)) nothing_held (codes "report" ∷ file ∷ codes "--correct" ∷ list ∷ []) true below)
     (report_passes file list plain_file plain_list)
 
-after_replayed : (file : Text) → is_flag file ≡ false → walk replay.rules [] nothing_held (file ∷ []) ≡ after_plain replay.rules start file
+file_walk : (file : Text) → is_flag file ≡ false → walk file_rules [] nothing_held (file ∷ []) ≡ after_plain file_rules start file
 unfolding clap_on_literals
-after_replayed file plain = walked_plain replay.rules start file plain refl refl refl
+file_walk file plain = walked_plain file_rules start file plain refl refl refl
 
-pub asks_for_replay : (name file : Text) → is_flag file ≡ false → AsksForReplay (replay_line name file) file
+-- the words after such a command name the file
+file_named : (command file : Text) → is_flag file ≡ false → NamesFile command (Some (command, finished file_rules (walk file_rules [] nothing_held (file ∷ [])).held)) file
 unfolding clap_on_literals
-asks_for_replay name file plain = record {
-  rows = finished replay.rules (after_plain replay.rules start file).held;
-  named = ap (λ (w : Walk). Some (codes "replay", finished replay.rules w.held)) (after_replayed file plain);
+file_named command file plain = record {
+  rows = finished file_rules (after_plain file_rules start file).held;
+  named = ap (λ (w : Walk). Some (command, finished file_rules w.held)) (file_walk file plain);
   file_is = refl;
 }
 
-replayed_passes : (file : Text) → is_flag file ≡ false → walk_fault replay [] start (file ∷ []) ≡ []
+pub asks_for_replay : (name file : Text) → is_flag file ≡ false → AsksForReplay (replay_line name file) file
 unfolding clap_on_literals
-replayed_passes file plain = ap (λ k. or_else k []) (turn_plain replay start file plain refl refl refl)
+asks_for_replay name file plain = file_named (codes "replay") file plain
 
-replay_passes : (file : Text) → is_flag file ≡ false → level_fault replay [] nothing_held (file ∷ []) false [] ≡ []
+pub asks_for_upgrade : (name file : Text) → is_flag file ≡ false → AsksForUpgrade (upgrade_line name file) file
 unfolding clap_on_literals
-replay_passes file plain = ap₂ (level_end replay) (replayed_passes file plain) (after_replayed file plain)
+asks_for_upgrade name file plain = file_named (codes "upgrade") file plain
+
+-- and nothing in them is refused
+file_passes : (command file : Text) → is_flag file ≡ false → level_fault (file_command command) [] nothing_held (file ∷ []) false [] ≡ []
+unfolding clap_on_literals
+file_passes command file plain =
+    ap₂ (level_end (file_command command)) (ap (λ k. or_else k []) (turn_plain (file_command command) start file plain refl refl refl)) (file_walk file plain)
 
 pub replay_faultless : (name file : Text) → is_flag file ≡ false → fault_of program (replay_line name file) ≡ []
 unfolding clap_on_literals
 replay_faultless name file plain =
     ap (λ below. level_fault (built program).top (names_of (built program)) nothing_held (codes "replay" ∷ file ∷ []) true below)
-    (replay_passes file plain)
-
-after_upgraded : (file : Text) → is_flag file ≡ false → walk upgrade.rules [] nothing_held (file ∷ []) ≡ after_plain upgrade.rules start file
-unfolding clap_on_literals
-after_upgraded file plain = walked_plain upgrade.rules start file plain refl refl refl
-
-pub asks_for_upgrade : (name file : Text) → is_flag file ≡ false → AsksForUpgrade (upgrade_line name file) file
-unfolding clap_on_literals
-asks_for_upgrade name file plain = record {
-  rows = finished upgrade.rules (after_plain upgrade.rules start file).held;
-  named = ap (λ (w : Walk). Some (codes "upgrade", finished upgrade.rules w.held)) (after_upgraded file plain);
-  file_is = refl;
-}
-
-upgraded_passes : (file : Text) → is_flag file ≡ false → walk_fault upgrade [] start (file ∷ []) ≡ []
-unfolding clap_on_literals
-upgraded_passes file plain = ap (λ k. or_else k []) (turn_plain upgrade start file plain refl refl refl)
-
-upgrade_passes : (file : Text) → is_flag file ≡ false → level_fault upgrade [] nothing_held (file ∷ []) false [] ≡ []
-unfolding clap_on_literals
-upgrade_passes file plain = ap₂ (level_end upgrade) (upgraded_passes file plain) (after_upgraded file plain)
+    (file_passes (codes "replay") file plain)
 
 pub upgrade_faultless : (name file : Text) → is_flag file ≡ false → fault_of program (upgrade_line name file) ≡ []
 unfolding clap_on_literals
 upgrade_faultless name file plain =
     ap (λ below. level_fault (built program).top (names_of (built program)) nothing_held (codes "upgrade" ∷ file ∷ []) true below)
-    (upgrade_passes file plain)
+    (file_passes (codes "upgrade") file plain)
 
 abbrev after_trace : Text → Walk
 after_trace file = after_plain check.rules start file
