@@ -1,8 +1,8 @@
 //! Checks of worked certificates, refused texts, and devices that fail.
 
 use crate::checks::run_check;
-use crate::command_tests::{NEVER_DELIVERED, REDELIVERED, has_refused, was_cut};
 use crate::faults::Fault;
+use crate::test_support::{NEVER_DELIVERED, REDELIVERED, has_refused, was_cut};
 use crate::verdict_lines::verdict_status;
 use certificate_checker::Verdict;
 use std::alloc::{AllocError, Global};

@@ -13,8 +13,6 @@ mod checks;
 mod command_line;
 #[cfg(test)]
 mod command_line_tests;
-#[cfg(test)]
-mod command_tests;
 mod fault_lines;
 mod faults;
 mod help_texts;
@@ -33,6 +31,8 @@ mod run_lines;
 #[cfg(test)]
 mod run_tests;
 mod runs;
+#[cfg(test)]
+mod test_support;
 #[cfg(test)]
 mod upgrade_tests;
 mod upgrades;

@@ -1,8 +1,8 @@
 //! Replays of worked runs, traces that are none, and devices that fail.
 
-use crate::command_tests::{NO_STEPS, ONE_MISS, REDELIVERED, has_refused, has_written, was_cut};
 use crate::faults::Fault;
 use crate::replays::run_replay;
+use crate::test_support::{NO_STEPS, ONE_MISS, REDELIVERED, has_refused, has_written, was_cut};
 use std::alloc::{AllocError, Global};
 use std::io::ErrorKind;
 use std::test::Fail;

@@ -1,10 +1,10 @@
 //! Reports of worked traces, refused traces, and devices that fail.
 
-use crate::command_tests::{
-    NEVER_DELIVERED, NO_STEPS, ONE_MISS, REDELIVERED, has_refused, has_written, was_cut,
-};
 use crate::faults::{Fault, status};
 use crate::reports::run_report;
+use crate::test_support::{
+    NEVER_DELIVERED, NO_STEPS, ONE_MISS, REDELIVERED, has_refused, has_written, was_cut,
+};
 use chunk_join::MAX_WORKERS;
 use std::alloc::{AllocError, Global};
 use std::io::ErrorKind;

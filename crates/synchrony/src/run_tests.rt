@@ -3,10 +3,10 @@
 ghost use Rattle.std.specs.Prelude.{◌*◌, ◌≤◌, length};
 ghost use Rattle.step_trace.specs.declared.traces.TheConstants.{MAX_STEPS};
 
-use crate::command_tests::has_written;
 use crate::faults::{Fault, status};
 use crate::replays::run_replay;
 use crate::runs::run_nodes;
+use crate::test_support::has_written;
 use std::alloc::{AllocError, Global};
 use std::sync::Wait;
 use std::test::Fail;

@@ -1,7 +1,7 @@
 //! Upgrades of worked traces, refused traces, and devices that fail.
 
-use crate::command_tests::{ONE_MISS, REDELIVERED, has_refused, has_written, was_cut};
 use crate::faults::Fault;
+use crate::test_support::{ONE_MISS, REDELIVERED, has_refused, has_written, was_cut};
 use crate::upgrades::run_upgrade;
 use std::alloc::{AllocError, Global};
 use std::io::ErrorKind;
