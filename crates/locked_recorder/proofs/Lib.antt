@@ -7,3 +7,5 @@ pub mod SeatOrder
 pub mod SeatRounds
 pub mod ComparedSeats
 pub mod Answered
+pub mod SendsFirst
+pub mod DriveMoves

@@ -1,33 +1,58 @@
 -- Drives: many steps made from one seat.
-use Rattle.std.specs.Prelude.{ℕ, ◌≡◌, ◌<◌, ◌++◌, List, length, All}
+use Rattle.std.specs.Prelude.{ℕ, ◌≡◌, ◌<◌, ◌+◌, ◌==◌, ◌++◌, if◌then◌else◌, List, length, take, slice_get, fold, Option, Some}
+use Rattle.step_trace.specs.declared.steps.Act.{Act}
+use Rattle.step_trace.specs.declared.steps.Act.TheVariants as act
 use Rattle.step_trace.specs.Configurations.{Setup}
 use Rattle.step_buffers.specs.declared.moves.Done.{Done}
 use Rattle.step_buffers.specs.declared.moves.Move.{Move}
-use Rattle.locked_recorder.specs.declared.errors.RecordError.{RecordError}
+use Rattle.step_buffers.specs.declared.moves.Move.TheVariants.{Receive}
+use Rattle.step_buffers.specs.declared.moves.Take.TheVariants.{All}
+use Rattle.locked_recorder.specs.declared.errors.DriveError.{DriveError}
 use Rattle.locked_recorder.specs.declared.errors.DriveStop.{DriveStop}
 use Rattle.locked_recorder.specs.declared.errors.DriveStop.TheVariants.{Held, Record}
 use Rattle.locked_recorder.specs.Seats.{Turns}
 use Rattle.locked_recorder.specs.Recorders.{Identity}
-use Rattle.locked_recorder.specs.Recordings.{IsAnswer, IsRecorded, IsRecordRefusal}
+use Rattle.locked_recorder.specs.Choices.{send_or, IsChosenAnswer, IsChosen, IsChoiceRefusal}
 
--- a seat after one step, whatever the move
-abbrev pub IsMoved : Setup → Turns → Turns → Type 0
-IsMoved c old new = (move : Move) × IsRecorded c move old new
+-- How many Receives a processor made in its round, after one act more. One that ends the round leaves none.
+abbrev pub received_with : ℕ → Act → ℕ
+received_with n (act.Send to) = n
+received_with n (act.Receive ends ids) = if ends then 0 else n + 1
 
--- a recorder refuses some move from a seat for this reason
-abbrev pub IsAnyRefusal : Identity → Turns → RecordError → Type 0
-IsAnyRefusal r s why = (move : Move) × IsRecordRefusal r s move why
+-- how many Receives of all that was done come after the last that ended a round
+abbrev pub received : List Done → ℕ
+received done = fold (λ n d. received_with n d.step.act) 0 done
 
--- A seat after so many steps: as many things more are done, each of which a World of the configuration answers to
--- some move. Steps are made from a seat of the recorder's tag alone.
-pub record IsDriven (r : Identity) (steps : ℕ) (old new : Turns) : Type 0 where
+-- the Receive of a drive: of all that waits; the `patience`-th of a round ends it
+abbrev pub drive_receive : ℕ → ℕ → Move
+drive_receive patience before = Receive All (before + 1 == patience)
+
+-- The move of a drive that made so many Receives in the round: before the first of them it sends where there is something
+-- to send, and else it receives.
+abbrev pub drive_move : ℕ → ℕ → Option ℕ → Move
+drive_move patience before to = if before == 0 then send_or (drive_receive patience before) to else drive_receive patience before
+
+-- a seat after one step of a drive that made `before` Receives in the round, and then `after`
+pub record IsMoved (c : Setup) (patience before after : ℕ) (old new : Turns) : Type 0 where
+  pub chosen : IsChosen c (drive_move patience before) old new
+  pub counted : after ≡ received_with before chosen.done.step.act
+
+-- A seat after so many steps: as many things more are done, each of which a World of the configuration answers to the
+-- move of the drive after the things before it. Steps are made from a seat of the recorder's tag alone.
+pub record IsDriven (r : Identity) (patience steps : ℕ) (old new : Turns) : Type 0 where
   pub more : List Done
   pub count : length more ≡ steps
   pub appended : new ≡ record old { done = old.done ++ more }
-  pub answers : All (λ done. (move : Move) × IsAnswer r.config old.proc move done) more
+  pub answers : (k : ℕ) (d : Done) → slice_get more k ≡ Some d → IsChosenAnswer r.config old.proc (drive_move patience (received (take k more))) d
   pub tag : 0 < steps → old.tag ≡ r.tag
 
--- why a drive stops after so many steps, when the seat is so; Held shows nothing but that none was made
-abbrev pub IsStop : Identity → Turns → ℕ → DriveStop → Type 0
-IsStop r s made Held = made ≡ 0
-IsStop r s made (Record why) = IsAnyRefusal r s why
+-- Why a drive stops that made `made` of its steps and then `before` Receives in the round, when the seat is so. Held shows
+-- nothing but that no step was made; a step is refused only before the last.
+abbrev pub IsStop : Identity → ℕ → ℕ → ℕ → ℕ → Turns → DriveStop → Type 0
+IsStop r patience steps made before s Held = made ≡ 0
+IsStop r patience steps made before s (Record why) = (made < steps) × IsChoiceRefusal r s (drive_move patience before) why
+
+-- a seat after a drive that stopped: what was made, and why no more
+pub record IsStopped (r : Identity) (patience steps : ℕ) (old new : Turns) (e : DriveError) : Type 0 where
+  pub driven : IsDriven r patience e.made old new
+  pub stop : IsStop r patience steps e.made (received driven.more) new e.why

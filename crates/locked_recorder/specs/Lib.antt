@@ -1,6 +1,7 @@
 pub mod Seats
 pub mod Recorders
 pub mod Recordings
+pub mod Choices
 pub mod Lent
 pub mod Prefixes
 pub mod Audits

@@ -1,9 +1,8 @@
 //! Drives: the loop of a thread that makes the steps of one processor.
 
-ghost use Rattle.std.specs.Prelude.{◌≡◌, ◌↔◌, ◌+◌, ◌<◌, ◌≤◌, IsTrue, IfOk, IfErr, OnOk, OnErr};
-ghost use Rattle.step_buffers.specs.declared.moves.Move.{Move as TraceMove};
-ghost use Rattle.locked_recorder.specs.Recordings.{IsAnswer, IsRefused};
-ghost use Rattle.locked_recorder.specs.Drives.{IsMoved, IsAnyRefusal, IsDriven, IsStop};
+ghost use Rattle.std.specs.Prelude.{◌≡◌, ◌+◌, ◌<◌, ◌≤◌, ◌==◌, if◌then◌else◌, IfOk, IfErr, OnOk, OnErr};
+ghost use Rattle.locked_recorder.specs.Choices.{send_or, IsSendAnswer, IsSendRecorded, IsChoiceRefused, IsChoiceRefusal};
+ghost use Rattle.locked_recorder.specs.Drives.{drive_move, IsMoved, IsDriven, IsStopped};
 
 use crate::errors::{DriveError, DriveStop, RecordError};
 use crate::recorders::Recorder;
@@ -19,8 +18,6 @@ struct Pace {
     // How many Receives end a round, and how many it made in this one.
     patience: u64,
     received: u64,
-    // Whether there may be something to send.
-    sends: bool,
     ghost early: { received < patience },
 }
 
@@ -42,9 +39,8 @@ impl Recorder {
     ) -> Result<u64, DriveError>
         requires { 1 ≤ patience }
         ensures steps { IfOk result (λ made. made ≡ steps) }
-        ensures driven { OnOk result (IsDriven self.now steps seat.old seat.new) }
-        ensures made { IfErr result (λ e. IsDriven self.now e.made seat.old seat.new) }
-        ensures stopped { IfErr result (λ e. IsStop self.now seat.new e.made e.why) }
+        ensures driven { OnOk result (IsDriven self.now patience steps seat.old seat.new) }
+        ensures stopped { IfErr result (λ e. IsStopped self.now patience steps seat.old seat.new e) }
     {
         if !gate.enter(seat.proc) {
             return Err(DriveError {
@@ -64,7 +60,8 @@ impl Recorder {
         Ok(steps)
     }
 
-    // Makes one step of a drive: a Send if there is something to send, and else a Receive.
+    // Makes one step of a drive: a Send if there is something to send, and else a Receive. From the first Receive of
+    // a round to its end there is nothing to send.
     fn go_on<R: Wait>(
         &self,
         rt: &R,
@@ -73,18 +70,18 @@ impl Recorder {
         pace: &mut Pace,
     ) -> Result<(), RecordError>
         ensures tag { OnOk result (seat.old.tag ≡ self.now.tag) }
-        ensures moved { OnOk result (IsMoved self.now.config seat.old seat.new) }
-        ensures refused { IfErr result (λ e. IsAnyRefusal self.now seat.old e) }
+        ensures moved { OnOk result (IsMoved self.now.config pace.old.patience pace.old.received pace.new.received seat.old seat.new) }
+        ensures refused { IfErr result (IsChoiceRefusal self.now seat.old (drive_move pace.old.patience pace.old.received)) }
+        ensures patience { pace.new.patience ≡ pace.old.patience }
         ensures err { OnErr result (seat.new ≡ seat.old) }
     {
         let ends = pace.is_over();
         let take = Take::All;
         let receive = Move::Receive { take, ends };
-        if pace.sends {
-            if seat.record_either(rt, alloc, self, Move::Send, receive)? {
+        if pace.received == 0 {
+            if seat.record_send_or(rt, alloc, self, receive)? {
                 return Ok(());
             }
-            pace.sends = false;
         } else {
             seat.record(rt, alloc, self, receive)?;
         }
@@ -92,29 +89,31 @@ impl Recorder {
         Ok(())
     }
 
-    // Makes one step of processor `p` under the lock, by the first of these moves, or by the second where the first
-    // finds nothing to send; and says whether it was by the first.
-    fn make_either<R: Wait>(
+    // Makes one step of processor `p` under the lock: a Send where there is something to send, and else by this move;
+    // and says whether it was a Send.
+    fn make_send_or<R: Wait>(
         &self,
         rt: &R,
         alloc: Global,
         p: u64,
-        first: Move,
-        second: Move,
+        otherwise: Move,
     ) -> Result<(Done, bool), RecordError>
-        ensures answered { IfOk result (λ made. (step : TraceMove) × IsAnswer self.now.config p step made.0) }
-        ensures refused { IfErr result (λ e. (step : TraceMove) × IsRefused self.now.config p step e) }
+        ensures answered { IfOk result (λ made. IsSendAnswer self.now.config p otherwise.entry made.0 made.1) }
+        ensures refused { IfErr result (IsChoiceRefused self.now.config p (send_or otherwise.entry)) }
     {
         let mut world = self.world.lock(rt);
         if !world.trace().config().is_same(&self.config) {
             return Err(RecordError::ForeignSeat);
         }
-        match world.step(alloc, p, first) {
+        match world.step(alloc, p, Move::Send) {
             Ok(done) => return Ok((done, true)),
-            Err(StepError::NothingToSend) => {}
-            Err(why) => return Err(RecordError::Step(why)),
+            Err(why) => {
+                if why != StepError::NothingToSend {
+                    return Err(RecordError::Step(why));
+                }
+            }
         }
-        match world.step(alloc, p, second) {
+        match world.step(alloc, p, otherwise) {
             Ok(done) => Ok((done, false)),
             Err(why) => Err(RecordError::Step(why)),
         }
@@ -122,20 +121,18 @@ impl Recorder {
 }
 
 impl Seat {
-    // Makes one step by the first of these moves, or by the second where the first finds nothing to send, taking
-    // the lock once; keeps what was done, and says whether it was by the first. The list grows before the lock is
-    // taken.
-    fn record_either<R: Wait>(
+    // Makes one step, taking the lock once: a Send where there is something to send, and else by this move. Keeps
+    // what was done, and says whether it was a Send. The list grows before the lock is taken.
+    fn record_send_or<R: Wait>(
         &mut self,
         rt: &R,
         alloc: Global,
         recorder: &Recorder,
-        first: Move,
-        second: Move,
+        otherwise: Move,
     ) -> Result<bool, RecordError>
         ensures tag { OnOk result (self.old.tag ≡ recorder.now.tag) }
-        ensures moved { OnOk result (IsMoved recorder.now.config self.old self.new) }
-        ensures refused { IfErr result (λ e. IsAnyRefusal recorder.now self.old e) }
+        ensures recorded { IfOk result (IsSendRecorded recorder.now.config otherwise.entry self.old self.new) }
+        ensures refused { IfErr result (IsChoiceRefusal recorder.now self.old (send_or otherwise.entry)) }
         ensures err { OnErr result (self.new ≡ self.old) }
     {
         if self.tag != recorder.tag {
@@ -144,9 +141,9 @@ impl Seat {
         if self.done.reserve(1).is_err() {
             return Err(RecordError::Step(StepError::Memory));
         }
-        let (done, is_first) = recorder.make_either(rt, alloc, self.proc, first, second)?;
+        let (done, sent) = recorder.make_send_or(rt, alloc, self.proc, otherwise)?;
         self.done.push(done).unwrap();
-        Ok(is_first)
+        Ok(sent)
     }
 }
 
@@ -154,28 +151,28 @@ impl Pace {
     // The pace at the beginning of a round.
     fn new(patience: u64) -> Self
         requires { 1 ≤ patience }
+        ensures patience { result.patience ≡ patience }
+        ensures received { result.received ≡ 0 }
     {
         Pace {
             patience,
             received: 0,
-            sends: true,
         }
     }
 
     // Whether the next Receive ends the round.
     fn is_over(&self) -> bool
-        ensures { IsTrue result ↔ (self.now.received + 1 ≡ self.now.patience) }
+        ensures { result ≡ (self.now.received + 1 == self.now.patience) }
     {
         self.received + 1 == self.patience
     }
 
     // Counts a Receive, with which the next round begins if it ends this one.
-    fn receive(&mut self) {
-        if self.is_over() {
-            self.received = 0;
-            self.sends = true;
-        } else {
-            self.received += 1;
-        }
+    fn receive(&mut self)
+        ensures patience { self.new.patience ≡ self.old.patience }
+        ensures received { self.new.received
+            ≡ (if self.old.received + 1 == self.old.patience then 0 else self.old.received + 1) }
+    {
+        self.received = if self.is_over() { 0 } else { self.received + 1 };
     }
 }
