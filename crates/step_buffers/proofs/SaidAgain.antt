@@ -1,13 +1,12 @@
 -- What a processor said to one in a round it says to all to whom it sends in it.
-use Rattle.std.proofs.Common.{ℕ, ◌≡◌, Option, Some, None, IfSome, is_some, true, refl, sym, ap, ◌∙◌}
+use Rattle.std.proofs.Common.{ℕ, ◌≡◌, Option, Some, None, is_some, true, sym, ap, ◌∙◌}
 use Rattle.std.specs.Prelude.{IsSome}
 use Rattle.step_trace.specs.Configurations.{Setup}
-use Rattle.lock_phases.specs.declared.bodies.Body.{Body}
 use Rattle.lock_phases.specs.Nodes.{State}
 use Rattle.lock_phases.specs.NodeFunctions.{out}
 use Rattle.lock_phases.proofs.Sendings.{out_by_part}
 use Rattle.step_buffers.specs.declared.letters.Letter.{Letter}
-use Rattle.step_buffers.specs.Worlds.{IsSaidTo, IsSaid, IsPlaceOf}
+use Rattle.step_buffers.specs.Worlds.{IsSaid, IsPlaceOf}
 
 pub IsPlaceOf-said : (c : Setup) (p : ℕ) (node : State) (r to : ℕ) (said place : Option Letter) → IsSaid c p node r said → is_some said ≡ true → place ≡ said → IsSome (out c node p r to)
     → IsPlaceOf c p node r to place

@@ -1,4 +1,4 @@
-use Rattle.std.proofs.Common.{◌≡◌, ◌+◌, ◌-◌, ◌<◌, ◌≤◌, ◌∙◌, sym, arith}
+use Rattle.std.proofs.Common.{◌+◌, ◌-◌, ◌≤◌, ◌∙◌, sym, arith}
 use Rattle.step_buffers.specs.HeardTables.{passed}
 use Rattle.step_buffers.proofs.PostSteps.{IsProcessor-at}
 use Rattle.step_buffers.proofs.worlds.World.decision_in.Goals as goal
