@@ -6,7 +6,7 @@ use std::test::Fail;
 use step_trace::{Config, Step, Trace};
 
 // One-miss: message 1 goes from 1 to 2, which receives nothing at first, and then the message.
-const ONE_MISS: [(u64, u64, &[u64]); 3] = [(1, 2, &[]), (2, 0, &[]), (2, 0, &[1])];
+const ONE_MISS: &[(u64, u64, &[u64])] = &[(1, 2, &[]), (2, 0, &[]), (2, 0, &[1])];
 
 // Whether the trace of two processors with these steps extends the one with those.
 fn extends(
@@ -19,33 +19,26 @@ fn extends(
     Ok(longer.begins(&shorter))
 }
 
-#[test]
-fn a_trace_extends_its_prefixes(rt: HostRuntime) -> Result<(), Fail> {
-    for (steps, others, wanted) in [
-        (3, 3, true),
-        (3, 2, true),
-        (3, 0, true),
-        (0, 0, true),
-        (2, 3, false),
-    ] {
-        assert!(rt;
-            extends(rt.alloc(), &ONE_MISS[..steps], &ONE_MISS[..others])? == wanted,
-            "{steps} steps and {others}"
-        );
-    }
-    Ok(())
-}
+// Traces, others, and whether the first extend those: prefixes of one-miss, and traces that differ in one step.
+const EXTENSIONS: &[(&[(u64, u64, &[u64])], &[(u64, u64, &[u64])], bool)] = &[
+    (ONE_MISS, ONE_MISS, true),
+    (ONE_MISS, &[(1, 2, &[]), (2, 0, &[])], true),
+    (ONE_MISS, &[], true),
+    (&[], &[], true),
+    (&[(1, 2, &[]), (2, 0, &[])], ONE_MISS, false),
+    (ONE_MISS, &[(2, 2, &[]), (2, 0, &[]), (2, 0, &[1])], false),
+    (ONE_MISS, &[(1, 1, &[]), (2, 0, &[]), (2, 0, &[])], false),
+    (ONE_MISS, &[(1, 2, &[]), (2, 1, &[]), (2, 0, &[1])], false),
+    (ONE_MISS, &[(1, 2, &[]), (2, 0, &[]), (2, 0, &[])], false),
+];
 
 #[test]
-fn one_step_differs(rt: HostRuntime) -> Result<(), Fail> {
-    let others: [[(u64, u64, &[u64]); 3]; 4] = [
-        [(2, 2, &[]), (2, 0, &[]), (2, 0, &[1])],
-        [(1, 1, &[]), (2, 0, &[]), (2, 0, &[])],
-        [(1, 2, &[]), (2, 1, &[]), (2, 0, &[1])],
-        [(1, 2, &[]), (2, 0, &[]), (2, 0, &[])],
-    ];
-    for steps in &others {
-        assert!(rt; !extends(rt.alloc(), &ONE_MISS, steps)?);
+fn traces_that_extend_others(rt: HostRuntime) -> Result<(), Fail> {
+    for &(longer, shorter, wanted) in EXTENSIONS {
+        assert!(rt;
+            extends(rt.alloc(), longer, shorter)? == wanted,
+            "{shorter:?}"
+        );
     }
     Ok(())
 }
@@ -76,13 +69,21 @@ fn extends_under(alloc: Global, t: u64, init: &[u64]) -> Result<bool, Fail> {
     Ok(trace.begins(&other))
 }
 
+const CONFIGURATIONS: &[(u64, &[u64], bool)] = &[
+    (0, &[5, 7, 7], true),
+    (1, &[5, 7, 7], false),
+    (0, &[5, 7, 9], false),
+    (0, &[5, 7], false),
+];
+
 #[test]
 fn another_configuration_differs(rt: HostRuntime) -> Result<(), Fail> {
-    let alloc = rt.alloc();
-    assert!(rt; extends_under(alloc, 0, &[5, 7, 7])?);
-    assert!(rt; !extends_under(alloc, 1, &[5, 7, 7])?);
-    assert!(rt; !extends_under(alloc, 0, &[5, 7, 9])?);
-    assert!(rt; !extends_under(alloc, 0, &[5, 7])?);
+    for &(t, init, wanted) in CONFIGURATIONS {
+        assert!(rt;
+            extends_under(rt.alloc(), t, init)? == wanted,
+            "{t} {init:?}"
+        );
+    }
     Ok(())
 }
 
@@ -105,16 +106,17 @@ fn is_step(trace: &Trace, numbered: &(u64, Step)) -> bool {
 
 // Whether processor `p` has the steps of one-miss with these numbers for its own.
 fn has_own_steps(alloc: Global, p: u64, numbers: &[u64]) -> Result<bool, Fail> {
-    let trace = trace_of(alloc, 2, &ONE_MISS)?;
+    let trace = trace_of(alloc, 2, ONE_MISS)?;
     let own = trace.restrict(alloc, p)?;
     Ok(are_steps(&trace, &own, numbers))
 }
 
+const OWN_STEPS: &[(u64, &[u64])] = &[(2, &[2, 3]), (1, &[1]), (3, &[])];
+
 #[test]
 fn own_steps(rt: HostRuntime) -> Result<(), Fail> {
-    let alloc = rt.alloc();
-    assert!(rt; has_own_steps(alloc, 2, &[2, 3])?);
-    assert!(rt; has_own_steps(alloc, 1, &[1])?);
-    assert!(rt; has_own_steps(alloc, 3, &[])?);
+    for &(p, numbers) in OWN_STEPS {
+        assert!(rt; has_own_steps(rt.alloc(), p, numbers)?, "{p}");
+    }
     Ok(())
 }

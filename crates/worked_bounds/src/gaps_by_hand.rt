@@ -6,26 +6,31 @@ use std::alloc::{AllocError, Global};
 use std::test::Fail;
 use step_trace::{Gap, Miss, ProcSet, Trace};
 
-// Whether these are the longest gaps, each as its processor, its first and its last tick.
+// Whether these are the longest gaps of the processors of a list, each as its processor, its first and its last
+// tick.
 pub(crate) fn lists_gaps(
     alloc: Global,
     trace: &Trace,
-    set: ProcSet,
+    correct: &str,
     want: &[(u64, u64, u64)],
 ) -> Result<bool, AllocError> {
+    let Some(set) = ProcSet::parse_list(correct) else {
+        return Ok(false);
+    };
     if !set.within(trace.config().n()) {
         return Ok(false);
     }
-    let listed = gaps(alloc, trace, set)?;
-    if listed.len() != want.len() {
-        return Ok(false);
-    }
-    for (gap, (proc, from, to)) in listed.iter().zip(want.iter()) {
-        if gap.proc != *proc || gap.from != *from || gap.to != *to {
-            return Ok(false);
+    Ok(are_gaps(&gaps(alloc, trace, set)?, want))
+}
+
+fn are_gaps(listed: &[Gap], want: &[(u64, u64, u64)]) -> bool {
+    for i in 0..want.len() {
+        let (proc, from, to) = want[i];
+        if listed.get(i) != Some(&Gap { proc, from, to }) {
+            return false;
         }
     }
-    Ok(true)
+    listed.len() == want.len()
 }
 
 // Whether the last miss of the message is at this Receive; None stands for no miss.
@@ -37,21 +42,22 @@ pub(crate) fn misses_at(trace: &Trace, set: ProcSet, sent: u64, missed: Option<u
 #[test]
 fn one_miss(rt: HostRuntime) -> Result<(), Fail> {
     let trace = trace_of(rt.alloc(), 2, &[(1, 2, &[]), (2, 0, &[]), (2, 0, &[1])])?;
-    assert!(rt; lists_gaps(rt.alloc(), &trace, both(), &[(1, 2, 3), (2, 1, 1)])?);
+    assert!(rt; lists_gaps(rt.alloc(), &trace, "1,2", &[(1, 2, 3), (2, 1, 1)])?);
     assert!(rt; misses_at(&trace, both(), 1, Some(2)));
     Ok(())
 }
 
+const NEVER_DELIVERED: &[(u64, u64, &[u64])] = &[
+    (1, 2, &[]),
+    (2, 0, &[]),
+    (1, 2, &[]),
+    (2, 0, &[3]),
+    (2, 0, &[]),
+];
+
 #[test]
 fn never_delivered(rt: HostRuntime) -> Result<(), Fail> {
-    let steps: [(u64, u64, &[u64]); 5] = [
-        (1, 2, &[]),
-        (2, 0, &[]),
-        (1, 2, &[]),
-        (2, 0, &[3]),
-        (2, 0, &[]),
-    ];
-    let trace = trace_of(rt.alloc(), 2, &steps)?;
+    let trace = trace_of(rt.alloc(), 2, NEVER_DELIVERED)?;
     for (sent, missed) in [(0, None), (1, Some(5)), (2, None), (3, None), (6, None)] {
         assert!(rt; misses_at(&trace, both(), sent, missed), "of {sent}");
     }

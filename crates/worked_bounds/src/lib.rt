@@ -3,8 +3,6 @@
 #![tactic(auto)]
 
 #[cfg(test)]
-mod bounds_by_hand;
-#[cfg(test)]
 mod extensions_by_hand;
 #[cfg(test)]
 mod full_size;
@@ -25,8 +23,10 @@ mod stairs_by_hand;
 #[cfg(test)]
 mod texts_by_hand;
 #[cfg(test)]
-mod tick_bounds_tests;
-#[cfg(test)]
 mod tick_stairs_tests;
 #[cfg(test)]
 mod traces;
+#[cfg(test)]
+mod worked_ticks;
+#[cfg(test)]
+mod worked_traces;

@@ -1,6 +1,6 @@
 //! The stairs of a long trace.
 
-use crate::stair_levels::numbers;
+use crate::stair_levels::level_of;
 use crate::traces::{both, empty_trace, step_of};
 use std::alloc::Global;
 use std::test::Fail;
@@ -28,7 +28,7 @@ fn long_trace(alloc: Global) -> Result<Trace, Fail> {
 
 // The message is last missed at 69,998. The gap of the second goes to 60,001, and the one of the
 // first in the last step is as long as what is left of it from there.
-fn level_of(g: u64) -> [u64; 7] {
+fn numbers_of(g: u64) -> [u64; 7] {
     if g == 1 {
         [69_998, 1, 69_998, 20_002, 2, 40_001, 60_001]
     } else if g <= 40_001 {
@@ -45,7 +45,7 @@ fn has_long_levels(stairs: &Stairs) -> bool {
         return false;
     }
     for g in 1..stairs.len() as u64 + 1 {
-        if numbers(stairs.at(g)) != level_of(g) {
+        if stairs.at(g) != level_of(numbers_of(g)) {
             return false;
         }
     }

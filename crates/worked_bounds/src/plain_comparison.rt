@@ -3,6 +3,7 @@
 ghost use Rattle.std.specs.Prelude.{◌<◌, ◌≤◌};
 ghost use Rattle.step_trace.specs.Processors.{IsWithin};
 
+use crate::stair_levels::level_of;
 use bound_witness::{delta_at, phi_at};
 use std::alloc::Global;
 use std::test::Fail;
@@ -115,8 +116,25 @@ fn is_searched(trace: &Trace, set: ProcSet, g: u64, level: Level) -> bool
     level == searched
 }
 
-/// Whether each level is the one that the plain searches give.
-pub(crate) fn all_searched(stairs: &Stairs, trace: &Trace, set: ProcSet) -> bool
+/// Whether the plain searches give exactly these levels, written as in `stair_levels`, where the processors of a
+/// list are correct.
+pub(crate) fn have_levels(trace: &Trace, correct: &str, levels: &[[u64; 7]]) -> bool {
+    let Some(set) = ProcSet::parse_list(correct) else {
+        return false;
+    };
+    if !set.within(trace.config().n()) || levels.len() as u64 != trace.last_tick() {
+        return false;
+    }
+    for i in 0..levels.len() {
+        if !is_searched(trace, set, i as u64 + 1, level_of(levels[i])) {
+            return false;
+        }
+    }
+    true
+}
+
+// Whether each level is the one that the plain searches give.
+fn all_searched(stairs: &Stairs, trace: &Trace, set: ProcSet) -> bool
     requires set { IsWithin set trace.now.config.n }
 {
     if stairs.len() as u64 != trace.last_tick() {
@@ -130,15 +148,19 @@ pub(crate) fn all_searched(stairs: &Stairs, trace: &Trace, set: ProcSet) -> bool
     true
 }
 
-// Whether the pass agrees with the plain searches on one more trace and set.
-fn agrees(alloc: Global, draws: &mut Draws) -> Result<bool, Fail> {
-    let trace = some_trace(alloc, draws)?;
-    let set = some_set(draws);
+/// Whether the pass agrees with the plain searches on a trace, where the set is within it.
+pub(crate) fn stairs_agree(alloc: Global, trace: &Trace, set: ProcSet) -> Result<bool, Fail> {
     if !set.within(trace.config().n()) {
         return Ok(false);
     }
-    let stairs = Stairs::of_trace(alloc, &trace, set)?;
-    Ok(all_searched(&stairs, &trace, set))
+    let stairs = Stairs::of_trace(alloc, trace, set)?;
+    Ok(all_searched(&stairs, trace, set))
+}
+
+// Whether it does on one more trace and set.
+fn agrees(alloc: Global, draws: &mut Draws) -> Result<bool, Fail> {
+    let trace = some_trace(alloc, draws)?;
+    stairs_agree(alloc, &trace, some_set(draws))
 }
 
 #[test]

@@ -11,22 +11,24 @@ fn reason(alloc: Global, n: u64, t: u64, values: usize) -> Result<Option<ConfigE
     Ok(Config::new(n, t, init).err())
 }
 
+// N, t and how many initial values there are.
+const CONFIGURATIONS: &[(u64, u64, usize, Option<ConfigError>)] = &[
+    (1, 0, 1, Some(ConfigError::BadSize)),
+    (65, 0, 65, Some(ConfigError::BadSize)),
+    (u64::MAX, 0, 65, Some(ConfigError::BadSize)),
+    (2, 1, 2, Some(ConfigError::BadFaults)),
+    (64, 32, 64, Some(ConfigError::BadFaults)),
+    (3, u64::MAX, 3, Some(ConfigError::BadFaults)),
+    (2, 0, 3, Some(ConfigError::BadInit)),
+    (64, 31, 65, Some(ConfigError::BadInit)),
+    (2, 0, 2, None),
+    (17, 8, 17, None),
+    (64, 31, 64, None),
+];
+
 #[test]
 fn limits_of_a_configuration(rt: HostRuntime) -> Result<(), AllocError> {
-    let cases = [
-        (1, 0, 1, Some(ConfigError::BadSize)),
-        (65, 0, 65, Some(ConfigError::BadSize)),
-        (u64::MAX, 0, 65, Some(ConfigError::BadSize)),
-        (2, 1, 2, Some(ConfigError::BadFaults)),
-        (64, 32, 64, Some(ConfigError::BadFaults)),
-        (3, u64::MAX, 3, Some(ConfigError::BadFaults)),
-        (2, 0, 3, Some(ConfigError::BadInit)),
-        (64, 31, 65, Some(ConfigError::BadInit)),
-        (2, 0, 2, None),
-        (17, 8, 17, None),
-        (64, 31, 64, None),
-    ];
-    for (n, t, values, why) in cases {
+    for &(n, t, values, why) in CONFIGURATIONS {
         assert!(rt;
             reason(rt.alloc(), n, t, values)? == why,
             "n = {n}, t = {t}"
@@ -77,75 +79,44 @@ fn no_steps(rt: HostRuntime) -> Result<(), Fail> {
     Ok(())
 }
 
-// Whether the trace, which has four steps, takes or refuses one more step so. It keeps the step that
-// it takes.
+// Whether the trace takes or refuses one more step so. It keeps the step that it takes.
 fn answers(
     alloc: Global,
     trace: &mut Trace,
     (proc, to, ids): (u64, u64, &[u64]),
     why: Option<PushError>,
 ) -> Result<bool, AllocError> {
+    let length = trace.len();
     let answer = trace.push(step_of(alloc, proc, to, ids)?).err();
-    let length = if why.is_none() { 5 } else { 4 };
-    Ok(answer == why && trace.len() == length)
+    let added = if why.is_none() { 1 } else { 0 };
+    Ok(answer == why && trace.len() == length + added)
 }
 
 // Messages 1 and 2 go to processor 2, message 3 to processor 1; 1 was taken at step 4.
-fn four_steps(alloc: Global) -> Result<Trace, Fail> {
-    let steps: [(u64, u64, &[u64]); 4] = [(1, 2, &[]), (1, 2, &[]), (2, 1, &[]), (2, 0, &[1])];
-    trace_of(alloc, 2, &steps)
-}
+const FOUR_STEPS: &[(u64, u64, &[u64])] = &[(1, 2, &[]), (1, 2, &[]), (2, 1, &[]), (2, 0, &[1])];
+
+// What follows them, first what is refused and then what is taken.
+const ANSWERS: &[((u64, u64, &[u64]), Option<PushError>)] = &[
+    ((0, 0, &[]), Some(PushError::BadProc)),
+    ((3, 0, &[]), Some(PushError::BadProc)),
+    ((3, 0, &[9]), Some(PushError::BadProc)),
+    ((1, 3, &[]), Some(PushError::BadDest)),
+    ((2, 0, &[2, 2]), Some(PushError::IdsNotRising)),
+    ((2, 0, &[9, 2]), Some(PushError::IdsNotRising)),
+    ((2, 0, &[1, 3, 5]), Some(PushError::UnknownMessage(5))),
+    ((2, 0, &[0, 4]), Some(PushError::UnknownMessage(0))),
+    ((2, 0, &[1, 3]), Some(PushError::NotAddressed(3))),
+    ((1, 0, &[1]), Some(PushError::NotAddressed(1))),
+    ((2, 0, &[1, 2]), Some(PushError::Redelivered(1))),
+    ((1, 2, &[]), None),
+    ((2, 0, &[2]), None),
+];
 
 #[test]
-fn refused_processors(rt: HostRuntime) -> Result<(), Fail> {
-    let mut trace = four_steps(rt.alloc())?;
-    for (proc, to, why) in [
-        (0, 0, Some(PushError::BadProc)),
-        (3, 0, Some(PushError::BadProc)),
-        (1, 3, Some(PushError::BadDest)),
-        (1, 2, None),
-    ] {
-        assert!(rt;
-            answers(rt.alloc(), &mut trace, (proc, to, &[]), why)?,
-            "{proc} to {to}"
-        );
-    }
-    Ok(())
-}
-
-#[test]
-fn refused_ids(rt: HostRuntime) -> Result<(), Fail> {
-    let mut trace = four_steps(rt.alloc())?;
-    let cases: [(u64, &[u64], PushError); 5] = [
-        (3, &[9], PushError::BadProc),
-        (2, &[2, 2], PushError::IdsNotRising),
-        (2, &[9, 2], PushError::IdsNotRising),
-        (2, &[1, 3, 5], PushError::UnknownMessage(5)),
-        (2, &[0, 4], PushError::UnknownMessage(0)),
-    ];
-    for (proc, ids, why) in cases {
-        assert!(rt;
-            answers(rt.alloc(), &mut trace, (proc, 0, ids), Some(why))?,
-            "ids {ids:?}"
-        );
-    }
-    Ok(())
-}
-
-#[test]
-fn refused_messages(rt: HostRuntime) -> Result<(), Fail> {
-    let mut trace = four_steps(rt.alloc())?;
-    let cases: [(u64, &[u64], Option<PushError>); 4] = [
-        (2, &[1, 3], Some(PushError::NotAddressed(3))),
-        (1, &[1], Some(PushError::NotAddressed(1))),
-        (2, &[1, 2], Some(PushError::Redelivered(1))),
-        (2, &[2], None),
-    ];
-    for (proc, ids, why) in cases {
-        assert!(rt;
-            answers(rt.alloc(), &mut trace, (proc, 0, ids), why)?,
-            "ids {ids:?}"
-        );
+fn refused_and_taken_steps(rt: HostRuntime) -> Result<(), Fail> {
+    let mut trace = trace_of(rt.alloc(), 2, FOUR_STEPS)?;
+    for &(step, why) in ANSWERS {
+        assert!(rt; answers(rt.alloc(), &mut trace, step, why)?, "{step:?}");
     }
     Ok(())
 }

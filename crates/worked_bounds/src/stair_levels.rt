@@ -1,27 +1,25 @@
-//! Stairs as plain numbers. A level is [delta, sent, missed, phi, proc, from, to], with 0 for none.
+//! Levels as plain numbers. A level is written [delta, sent, missed, phi, proc, from, to], with 0 for none.
 
 use step_trace::{Gap, Miss};
 use suffix_staircase::{Level, Stairs};
 
-fn miss_numbers(miss: Option<Miss>) -> (u64, u64) {
-    match miss {
-        Some(miss) => (miss.sent, miss.missed),
-        None => (0, 0),
+/// The level that is so written.
+pub(crate) fn level_of(numbers: [u64; 7]) -> Level {
+    let [delta, sent, missed, phi, proc, from, to] = numbers;
+    Level {
+        delta,
+        miss: if sent == 0 {
+            None
+        } else {
+            Some(Miss { sent, missed })
+        },
+        phi,
+        gap: if proc == 0 {
+            None
+        } else {
+            Some(Gap { proc, from, to })
+        },
     }
-}
-
-fn gap_numbers(gap: Option<Gap>) -> (u64, u64, u64) {
-    match gap {
-        Some(gap) => (gap.proc, gap.from, gap.to),
-        None => (0, 0, 0),
-    }
-}
-
-/// The numbers of a level.
-pub(crate) fn numbers(level: Level) -> [u64; 7] {
-    let (sent, missed) = miss_numbers(level.miss);
-    let (proc, from, to) = gap_numbers(level.gap);
-    [level.delta, sent, missed, level.phi, proc, from, to]
 }
 
 /// Whether the stairs have exactly these levels.
@@ -29,8 +27,8 @@ pub(crate) fn has_levels(stairs: &Stairs, levels: &[[u64; 7]]) -> bool {
     if stairs.len() != levels.len() {
         return false;
     }
-    for g in 1..stairs.len() as u64 + 1 {
-        if Some(numbers(stairs.at(g))) != levels.get(g as usize - 1).copied() {
+    for i in 0..levels.len() {
+        if stairs.at(i as u64 + 1) != level_of(levels[i]) {
             return false;
         }
     }

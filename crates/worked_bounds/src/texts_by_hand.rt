@@ -3,20 +3,21 @@
 use std::alloc::{AllocError, Global};
 use step_trace::{ProcSet, PushError, read_number};
 
+const NUMBERS: &[(&[u8], Option<u64>)] = &[
+    (b"0", Some(0)),
+    (b"18446744073709551615", Some(u64::MAX)),
+    (b"18446744073709551616", None),
+    (b"", None),
+    (b"01", None),
+    (b"+1", None),
+    (b"-1", None),
+    (b" 1", None),
+    (b"\xff", None),
+];
+
 #[test]
 fn numbers(rt: HostRuntime) {
-    let cases: [(&[u8], Option<u64>); 9] = [
-        (b"0", Some(0)),
-        (b"18446744073709551615", Some(u64::MAX)),
-        (b"18446744073709551616", None),
-        (b"", None),
-        (b"01", None),
-        (b"+1", None),
-        (b"-1", None),
-        (b" 1", None),
-        (b"\xff", None),
-    ];
-    for (field, number) in cases {
+    for &(field, number) in NUMBERS {
         assert!(rt; read_number(field) == number, "{field:?}");
     }
 }
@@ -37,45 +38,38 @@ fn lists(text: &str, p: u64) -> Option<bool> {
     Some(set.contains(p))
 }
 
-#[test]
-fn lists_of_processors(rt: HostRuntime) {
-    let cases = [
-        ("none", 1, false),
-        ("7", 7, true),
-        ("7", 6, false),
-        ("64,1,64", 1, true),
-        ("64,1,64", 64, true),
-        ("64,1,64", 2, false),
-    ];
-    for (text, p, is_member) in cases {
-        assert!(rt; lists(text, p) == Some(is_member), "{p} in {text:?}");
-    }
-}
+// Texts, and whether this processor is listed; None where they list nothing.
+const LISTS: &[(&str, u64, Option<bool>)] = &[
+    ("none", 1, Some(false)),
+    ("7", 7, Some(true)),
+    ("7", 6, Some(false)),
+    ("64,1,64", 1, Some(true)),
+    ("64,1,64", 64, Some(true)),
+    ("64,1,64", 2, Some(false)),
+    ("", 1, None),
+    (",", 1, None),
+    ("1,", 1, None),
+    (",1", 1, None),
+    ("1,,2", 1, None),
+    ("0", 1, None),
+    ("65", 1, None),
+    ("01", 1, None),
+    ("+1", 1, None),
+    ("-1", 1, None),
+    ("1, 2", 1, None),
+    (" 1", 1, None),
+    ("1;2", 1, None),
+    ("1,none", 1, None),
+    ("none,1", 1, None),
+    ("None", 1, None),
+    ("none ", 1, None),
+    ("18446744073709551617", 1, None),
+];
 
 #[test]
-fn texts_that_list_nothing(rt: HostRuntime) {
-    let texts = [
-        "",
-        ",",
-        "1,",
-        ",1",
-        "1,,2",
-        "0",
-        "65",
-        "01",
-        "+1",
-        "-1",
-        "1, 2",
-        " 1",
-        "1;2",
-        "1,none",
-        "none,1",
-        "None",
-        "none ",
-        "18446744073709551617",
-    ];
-    for text in texts {
-        assert!(rt; lists(text, 1) == None, "{text:?}");
+fn lists_of_processors(rt: HostRuntime) {
+    for &(text, p, is_member) in LISTS {
+        assert!(rt; lists(text, p) == is_member, "{p} in {text:?}");
     }
 }
 
@@ -84,22 +78,23 @@ fn prints(alloc: Global, why: PushError, text: &str) -> Result<bool, AllocError>
     Ok(printed.as_str() == text)
 }
 
+const REASONS: &[(PushError, &str)] = &[
+    (PushError::Full, "trace is full"),
+    (PushError::BadProc, "no such processor"),
+    (PushError::BadDest, "no such destination"),
+    (PushError::IdsNotRising, "ids do not rise"),
+    (PushError::UnknownMessage(2), "message 2 unknown"),
+    (
+        PushError::NotAddressed(3),
+        "message 3 is for another processor",
+    ),
+    (PushError::Redelivered(1), "message 1 was received before"),
+    (PushError::Memory, "out of memory"),
+];
+
 #[test]
 fn reasons_against_a_step(rt: HostRuntime) -> Result<(), AllocError> {
-    let cases = [
-        (PushError::Full, "trace is full"),
-        (PushError::BadProc, "no such processor"),
-        (PushError::BadDest, "no such destination"),
-        (PushError::IdsNotRising, "ids do not rise"),
-        (PushError::UnknownMessage(2), "message 2 unknown"),
-        (
-            PushError::NotAddressed(3),
-            "message 3 is for another processor",
-        ),
-        (PushError::Redelivered(1), "message 1 was received before"),
-        (PushError::Memory, "out of memory"),
-    ];
-    for (why, text) in cases {
+    for &(why, text) in REASONS {
         assert!(rt; prints(rt.alloc(), why, text)?, "{text}");
     }
     Ok(())

@@ -1,145 +1,13 @@
-//! Stairs of worked traces in which ticks are idle or hold several steps, and the backward pass beside the
-//! plain searches on such traces. A step is written as its tick and then as in the plain traces.
+//! The stairs of a million idle ticks, and the backward pass beside the plain searches on small traces in which
+//! ticks are idle or hold several steps.
 
-use crate::plain_comparison::{Draws, all_searched, some_act, some_set};
-use crate::stair_levels::numbers;
-use crate::stairs_by_hand::climbs;
-use crate::traces::{both, step_of, ticked};
+use crate::plain_comparison::{Draws, some_act, some_set, stairs_agree};
+use crate::stair_levels::level_of;
+use crate::traces::{step_of, ticked};
 use std::alloc::Global;
 use std::test::Fail;
 use step_trace::{Config, ProcSet, Step, Trace};
 use suffix_staircase::Stairs;
-
-#[test]
-fn upgraded(rt: HostRuntime) -> Result<(), Fail> {
-    let steps: [(u64, u64, u64, &[u64]); 3] = [(1, 1, 2, &[]), (2, 2, 0, &[]), (3, 2, 0, &[1])];
-    let trace = ticked(rt.alloc(), 2, &steps, 3)?;
-    let levels = [
-        [2, 1, 2, 3, 1, 2, 3],
-        [1, 0, 0, 3, 1, 2, 3],
-        [1, 0, 0, 2, 1, 3, 3],
-    ];
-    let found = climbs(rt.alloc(), &trace, both(), &levels, &[1, 2, 3])?;
-    assert!(rt; found);
-    Ok(())
-}
-
-#[test]
-fn idle_tick(rt: HostRuntime) -> Result<(), Fail> {
-    let steps: [(u64, u64, u64, &[u64]); 3] = [(1, 1, 2, &[]), (3, 2, 0, &[1]), (4, 1, 0, &[])];
-    let trace = ticked(rt.alloc(), 2, &steps, 4)?;
-    let levels = [
-        [1, 0, 0, 3, 1, 2, 3],
-        [1, 0, 0, 3, 1, 2, 3],
-        [1, 0, 0, 2, 2, 4, 4],
-        [1, 0, 0, 2, 2, 4, 4],
-    ];
-    let found = climbs(rt.alloc(), &trace, both(), &levels, &[1, 3])?;
-    assert!(rt; found);
-    Ok(())
-}
-
-#[test]
-fn shared_ticks(rt: HostRuntime) -> Result<(), Fail> {
-    let steps: [(u64, u64, u64, &[u64]); 4] = [
-        (1, 1, 2, &[]),
-        (1, 2, 1, &[]),
-        (2, 1, 0, &[2]),
-        (2, 2, 0, &[1]),
-    ];
-    let trace = ticked(rt.alloc(), 2, &steps, 2)?;
-    let levels = [[1, 0, 0, 1, 0, 0, 0]; 2];
-    let found = climbs(rt.alloc(), &trace, both(), &levels, &[1])?;
-    assert!(rt; found);
-    Ok(())
-}
-
-// The processor bound goes on to the last tick, past the last step.
-#[test]
-fn idle_end(rt: HostRuntime) -> Result<(), Fail> {
-    let trace = ticked(rt.alloc(), 2, &[(1, 1, 0, &[])], 3)?;
-    let levels = [
-        [1, 0, 0, 3, 1, 2, 3],
-        [1, 0, 0, 3, 1, 2, 3],
-        [1, 0, 0, 2, 1, 3, 3],
-    ];
-    let first = ProcSet::empty().with(1);
-    let found = climbs(rt.alloc(), &trace, first, &levels, &[1, 3])?;
-    assert!(rt; found);
-    Ok(())
-}
-
-#[test]
-fn sparse(rt: HostRuntime) -> Result<(), Fail> {
-    let steps: [(u64, u64, u64, &[u64]); 3] = [(1, 1, 2, &[]), (3, 2, 0, &[]), (5, 2, 0, &[1])];
-    let trace = ticked(rt.alloc(), 2, &steps, 5)?;
-    let levels = [
-        [3, 1, 2, 5, 1, 2, 5],
-        [1, 0, 0, 5, 1, 2, 5],
-        [1, 0, 0, 4, 1, 3, 5],
-        [1, 0, 0, 3, 1, 4, 5],
-        [1, 0, 0, 2, 1, 5, 5],
-    ];
-    let found = climbs(rt.alloc(), &trace, both(), &levels, &[1, 2, 3, 4, 5])?;
-    assert!(rt; found);
-    Ok(())
-}
-
-// A miss counts from its Send's tick, which is 2, and not from its number, which is 1.
-#[test]
-fn tick_of_a_send(rt: HostRuntime) -> Result<(), Fail> {
-    let steps: [(u64, u64, u64, &[u64]); 3] = [(2, 1, 2, &[]), (3, 2, 0, &[]), (4, 2, 0, &[1])];
-    let trace = ticked(rt.alloc(), 2, &steps, 4)?;
-    let levels = [
-        [2, 1, 2, 3, 1, 3, 4],
-        [2, 1, 2, 3, 1, 3, 4],
-        [1, 0, 0, 3, 1, 3, 4],
-        [1, 0, 0, 2, 1, 4, 4],
-    ];
-    let found = climbs(rt.alloc(), &trace, both(), &levels, &[1, 3, 4])?;
-    assert!(rt; found);
-    Ok(())
-}
-
-// A Receive in its Send's own tick is no miss.
-#[test]
-fn received_in_the_tick_of_the_send(rt: HostRuntime) -> Result<(), Fail> {
-    let steps: [(u64, u64, u64, &[u64]); 3] = [(1, 1, 2, &[]), (1, 2, 0, &[]), (2, 2, 0, &[1])];
-    let trace = ticked(rt.alloc(), 2, &steps, 2)?;
-    let levels = [[1, 0, 0, 2, 1, 2, 2]; 2];
-    let found = climbs(rt.alloc(), &trace, both(), &levels, &[1])?;
-    assert!(rt; found);
-    Ok(())
-}
-
-// Of two misses of one length from one tick the later number is named.
-#[test]
-fn two_sends_in_a_tick(rt: HostRuntime) -> Result<(), Fail> {
-    let steps: [(u64, u64, u64, &[u64]); 4] = [
-        (1, 1, 3, &[]),
-        (1, 2, 3, &[]),
-        (2, 3, 0, &[]),
-        (3, 3, 0, &[1, 2]),
-    ];
-    let trace = ticked(rt.alloc(), 3, &steps, 3)?;
-    let levels = [
-        [2, 2, 3, 3, 1, 2, 3],
-        [1, 0, 0, 3, 1, 2, 3],
-        [1, 0, 0, 2, 1, 3, 3],
-    ];
-    let found = climbs(rt.alloc(), &trace, both().with(3), &levels, &[1, 2, 3])?;
-    assert!(rt; found);
-    Ok(())
-}
-
-#[test]
-fn no_steps_but_ticks(rt: HostRuntime) -> Result<(), Fail> {
-    let trace = ticked(rt.alloc(), 2, &[], 2)?;
-    let levels = [[1, 0, 0, 3, 1, 1, 2], [1, 0, 0, 2, 1, 2, 2]];
-    let found = climbs(rt.alloc(), &trace, both(), &levels, &[1, 2])?;
-    assert!(rt; found);
-    Ok(())
-}
 
 // Whether the stairs of a trace are as many levels as this, in which no bound is above 1.
 fn is_flat(alloc: Global, trace: &Trace, set: ProcSet, len: u64) -> Result<bool, Fail> {
@@ -150,7 +18,7 @@ fn is_flat(alloc: Global, trace: &Trace, set: ProcSet, len: u64) -> Result<bool,
     if stairs.len() as u64 != len || len == 0 {
         return Ok(false);
     }
-    Ok(numbers(stairs.at(1)) == [1, 0, 0, 1, 0, 0, 0] && stairs.start(1).is_none())
+    Ok(stairs.at(1) == level_of([1, 0, 0, 1, 0, 0, 0]) && stairs.start(1).is_none())
 }
 
 #[test]
@@ -188,12 +56,7 @@ fn some_ticks(alloc: Global, draws: &mut Draws) -> Result<Trace, Fail> {
 // Whether the pass agrees with the plain searches on one more trace and set.
 fn agrees(alloc: Global, draws: &mut Draws) -> Result<bool, Fail> {
     let trace = some_ticks(alloc, draws)?;
-    let set = some_set(draws);
-    if !set.within(trace.config().n()) {
-        return Ok(false);
-    }
-    let stairs = Stairs::of_trace(alloc, &trace, set)?;
-    Ok(all_searched(&stairs, &trace, set))
+    stairs_agree(alloc, &trace, some_set(draws))
 }
 
 #[test]
