@@ -8,12 +8,7 @@ use trace_text::{Counting, read_all, write_text};
 
 /// How many bytes a call took or gave, none where it failed; then the faults that were counted and the
 /// calls that reached the device.
-#[derive(Clone, Copy, PartialEq, Eq, Debug)]
-struct Called {
-    count: Option<usize>,
-    faults: u64,
-    calls: u64,
-}
+type Called = (Option<usize>, u64, u64);
 
 /// One read of at most four bytes.
 fn read_once(bytes: &[u8], after: AfterBytes) -> Called {
@@ -21,11 +16,7 @@ fn read_once(bytes: &[u8], after: AfterBytes) -> Called {
     let mut reader = Counting::new(&mut device);
     let count = reader.read(&mut [0u8; 4]).ok();
     let faults = reader.faults();
-    Called {
-        count,
-        faults,
-        calls: device.reads(),
-    }
+    (count, faults, device.reads())
 }
 
 /// One write of four bytes, to a writer that takes at most `piece`.
@@ -34,11 +25,7 @@ fn write_once(alloc: Global, piece: usize, failure: WriteFailure) -> Called {
     let mut writer = Counting::new(&mut device);
     let count = writer.write(b"init").ok();
     let faults = writer.faults();
-    Called {
-        count,
-        faults,
-        calls: device.writes(),
-    }
+    (count, faults, device.writes())
 }
 
 /// One flush, which takes no byte.
@@ -47,11 +34,7 @@ fn flush_once(alloc: Global, failure: WriteFailure) -> Called {
     let mut writer = Counting::new(&mut device);
     let count = writer.flush().ok().map(|()| 0);
     let faults = writer.faults();
-    Called {
-        count,
-        faults,
-        calls: device.flushes(),
-    }
+    (count, faults, device.flushes())
 }
 
 /// The reads that reach the device while ten bytes are read, in pieces of at most `piece`.
@@ -70,96 +53,89 @@ fn writes_of_ten(alloc: Global, piece: usize, failure: WriteFailure) -> (u64, u6
 
 const STOP: ErrorKind = ErrorKind::Interrupted;
 
+const READS: &[(&[u8], AfterBytes, Option<usize>, u64)] = &[
+    (b"7", AfterBytes::End, Some(1), 0),
+    (b"", AfterBytes::End, Some(0), 0),
+    (b"", AfterBytes::Repeat(7), Some(4), 0),
+    (b"7", AfterBytes::Fail(STOP), Some(1), 0),
+    (b"", AfterBytes::Fail(STOP), None, 1),
+    (b"", AfterBytes::Fail(ErrorKind::Other), None, 1),
+];
+
 #[test]
 fn one_read_is_one_call(rt: HostRuntime) {
-    for (bytes, after, count, faults) in [
-        (b"7".as_slice(), AfterBytes::End, Some(1), 0),
-        (b"", AfterBytes::End, Some(0), 0),
-        (b"", AfterBytes::Repeat(7), Some(4), 0),
-        (b"7", AfterBytes::Fail(STOP), Some(1), 0),
-        (b"", AfterBytes::Fail(STOP), None, 1),
-        (b"", AfterBytes::Fail(ErrorKind::Other), None, 1),
-    ] {
-        let calls = 1;
-        assert_eq!(rt;
-            read_once(bytes, after),
-            Called {
-                count,
-                faults,
-                calls
-            }
-        );
+    for &(bytes, after, count, faults) in READS {
+        assert!(rt; read_once(bytes, after) == (count, faults, 1), "{after:?}");
     }
 }
+
+const WRITES: &[(usize, WriteFailure, Option<usize>, u64)] = &[
+    (4, WriteFailure::Never, Some(4), 0),
+    (3, WriteFailure::Never, Some(3), 0),
+    (4, WriteFailure::FailAfter(2, STOP), Some(2), 0),
+    (4, WriteFailure::FailAfter(0, STOP), None, 1),
+    (4, WriteFailure::TakeNothingAfter(0), Some(0), 0),
+    (4, WriteFailure::FailFlush(STOP), Some(4), 0),
+];
 
 #[test]
 fn one_write_is_one_call(rt: HostRuntime) {
-    for (piece, failure, count, faults) in [
-        (4, WriteFailure::Never, Some(4), 0),
-        (3, WriteFailure::Never, Some(3), 0),
-        (4, WriteFailure::FailAfter(2, STOP), Some(2), 0),
-        (4, WriteFailure::FailAfter(0, STOP), None, 1),
-        (4, WriteFailure::TakeNothingAfter(0), Some(0), 0),
-        (4, WriteFailure::FailFlush(STOP), Some(4), 0),
-    ] {
-        let calls = 1;
-        let called = write_once(rt.alloc(), piece, failure);
-        assert_eq!(rt;
-            called,
-            Called {
-                count,
-                faults,
-                calls
-            }
+    for &(piece, failure, count, faults) in WRITES {
+        assert!(rt;
+            write_once(rt.alloc(), piece, failure) == (count, faults, 1),
+            "{failure:?}"
         );
     }
 }
+
+const FLUSHES: &[(WriteFailure, Option<usize>, u64)] = &[
+    (WriteFailure::Never, Some(0), 0),
+    (WriteFailure::FailAfter(0, STOP), Some(0), 0),
+    (WriteFailure::FailFlush(STOP), None, 1),
+    (WriteFailure::FailFlush(ErrorKind::Other), None, 1),
+];
 
 #[test]
 fn one_flush_is_one_call(rt: HostRuntime) {
-    for (failure, count, faults) in [
-        (WriteFailure::Never, Some(0), 0),
-        (WriteFailure::FailAfter(0, STOP), Some(0), 0),
-        (WriteFailure::FailFlush(STOP), None, 1),
-        (WriteFailure::FailFlush(ErrorKind::Other), None, 1),
-    ] {
-        let calls = 1;
-        let called = flush_once(rt.alloc(), failure);
-        assert_eq!(rt;
-            called,
-            Called {
-                count,
-                faults,
-                calls
-            }
+    for &(failure, count, faults) in FLUSHES {
+        assert!(rt;
+            flush_once(rt.alloc(), failure) == (count, faults, 1),
+            "{failure:?}"
         );
     }
 }
 
+const READS_OF_TEN: &[(usize, AfterBytes, u64)] = &[
+    (10, AfterBytes::End, 2),
+    (3, AfterBytes::End, 5),
+    (1, AfterBytes::End, 11),
+    (10, AfterBytes::Fail(STOP), 2),
+    (3, AfterBytes::Fail(STOP), 5),
+];
+
 #[test]
 fn a_text_is_read_by_so_many_calls(rt: HostRuntime) {
-    for (piece, after, reads) in [
-        (10, AfterBytes::End, 2),
-        (3, AfterBytes::End, 5),
-        (1, AfterBytes::End, 11),
-        (10, AfterBytes::Fail(STOP), 2),
-        (3, AfterBytes::Fail(STOP), 5),
-    ] {
-        assert_eq!(rt; reads_of_ten(rt.alloc(), piece, after), reads);
+    for &(piece, after, reads) in READS_OF_TEN {
+        assert!(rt; reads_of_ten(rt.alloc(), piece, after) == reads, "{piece}");
     }
 }
 
+const WRITES_OF_TEN: &[(usize, WriteFailure, (u64, u64))] = &[
+    (10, WriteFailure::Never, (1, 1)),
+    (9, WriteFailure::Never, (2, 1)),
+    (1, WriteFailure::Never, (10, 1)),
+    (10, WriteFailure::FailAfter(7, STOP), (2, 0)),
+    (3, WriteFailure::TakeNothingAfter(7), (4, 0)),
+    (10, WriteFailure::FailFlush(STOP), (1, 1)),
+];
+
 #[test]
 fn a_text_is_written_by_so_many_calls(rt: HostRuntime) {
-    for (piece, failure, calls) in [
-        (10, WriteFailure::Never, (1, 1)),
-        (9, WriteFailure::Never, (2, 1)),
-        (1, WriteFailure::Never, (10, 1)),
-        (10, WriteFailure::FailAfter(7, STOP), (2, 0)),
-        (3, WriteFailure::TakeNothingAfter(7), (4, 0)),
-        (10, WriteFailure::FailFlush(STOP), (1, 1)),
-    ] {
-        assert_eq!(rt; writes_of_ten(rt.alloc(), piece, failure), calls);
+    for &(piece, failure, calls) in WRITES_OF_TEN {
+        assert!(rt;
+            writes_of_ten(rt.alloc(), piece, failure) == calls,
+            "{failure:?}"
+        );
     }
 }
 
@@ -175,6 +151,6 @@ fn faults_of_reads(times: u64) -> u64 {
 #[test]
 fn faults_are_counted(rt: HostRuntime) {
     for (times, faults) in [(0, 0), (1, 0), (2, 1), (3, 2)] {
-        assert_eq!(rt; faults_of_reads(times), faults);
+        assert!(rt; faults_of_reads(times) == faults, "{times}");
     }
 }

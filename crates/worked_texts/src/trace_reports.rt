@@ -59,54 +59,51 @@ fn has_report(
     }
 }
 
-#[test]
-fn reports_of_two(rt: HostRuntime) -> Result<(), Fail> {
-    let rows = [
-        ("end,0\n", ""),
-        (ONE_MISS, "1,2,3,1,2,1,2,3\n2,1,3,,,1,2,3\n3,1,2,,,1,3,3\n"),
-        (
-            "1,1,S,2\n2,1,S,1\n3,1,S,1\n4,2,R,1\nend,4\n",
-            "1,1,4,,,2,1,3\n2,1,3,,,2,2,3\n3,1,2,,,1,4,4\n",
-        ),
-        (
-            NEVER_DELIVERED,
-            "1,5,3,1,5,1,4,5\n2,1,3,,,1,4,5\n5,1,2,,,1,5,5\n",
-        ),
-        (
-            "1,1,S,2\n2,1,S,2\n3,2,R,\n4,2,R,1\n5,2,R,2\nend,5\n",
-            "1,3,4,2,4,1,3,5\n3,1,4,,,1,3,5\n4,1,3,,,1,4,5\n5,1,2,,,1,5,5\n",
-        ),
-    ];
-    for (steps, records) in rows {
-        assert!(rt;
-            has_report(rt.alloc(), TWO, steps, "1,2", records)?,
-            "{steps}"
-        );
-    }
-    Ok(())
-}
+/// The beginning of a trace text, its steps, a set, and the records of its report.
+const REPORTS: &[(&str, &str, &str, &str)] = &[
+    (TWO, "end,0\n", "1,2", ""),
+    (
+        TWO,
+        ONE_MISS,
+        "1,2",
+        "1,2,3,1,2,1,2,3\n2,1,3,,,1,2,3\n3,1,2,,,1,3,3\n",
+    ),
+    (
+        TWO,
+        "1,1,S,2\n2,1,S,1\n3,1,S,1\n4,2,R,1\nend,4\n",
+        "1,2",
+        "1,1,4,,,2,1,3\n2,1,3,,,2,2,3\n3,1,2,,,1,4,4\n",
+    ),
+    (
+        TWO,
+        NEVER_DELIVERED,
+        "1,2",
+        "1,5,3,1,5,1,4,5\n2,1,3,,,1,4,5\n5,1,2,,,1,5,5\n",
+    ),
+    (
+        TWO,
+        "1,1,S,2\n2,1,S,2\n3,2,R,\n4,2,R,1\n5,2,R,2\nend,5\n",
+        "1,2",
+        "1,3,4,2,4,1,3,5\n3,1,4,,,1,3,5\n4,1,3,,,1,4,5\n5,1,2,,,1,5,5\n",
+    ),
+    (TWO, ONE_MISS, "2", "1,1,2,,,2,1,1\n2,1,1,,,,,\n"),
+    (TWO, ONE_MISS, "none", "1,1,1,,,,,\n"),
+    (
+        "dls-trace,1,3,1\ninit,5,7,7\n",
+        "1,1,R,\n2,2,R,\n3,3,R,\n4,3,R,\nend,4\n",
+        "1,2,3",
+        "1,1,4,,,1,2,4\n3,1,3,,,1,3,4\n4,1,2,,,1,4,4\n",
+    ),
+];
 
 #[test]
-fn reports_of_fewer(rt: HostRuntime) -> Result<(), Fail> {
-    let rows = [
-        ("2", "1,1,2,,,2,1,1\n2,1,1,,,,,\n"),
-        ("none", "1,1,1,,,,,\n"),
-    ];
-    for (list, records) in rows {
+fn reports_of_traces(rt: HostRuntime) -> Result<(), Fail> {
+    for &(head, steps, list, records) in REPORTS {
         assert!(rt;
-            has_report(rt.alloc(), TWO, ONE_MISS, list, records)?,
-            "{list}"
+            has_report(rt.alloc(), head, steps, list, records)?,
+            "{list} of {steps}"
         );
     }
-    Ok(())
-}
-
-#[test]
-fn report_of_three(rt: HostRuntime) -> Result<(), Fail> {
-    let head = "dls-trace,1,3,1\ninit,5,7,7\n";
-    let steps = "1,1,R,\n2,2,R,\n3,3,R,\n4,3,R,\nend,4\n";
-    let records = "1,1,4,,,1,2,4\n3,1,3,,,1,3,4\n4,1,2,,,1,4,4\n";
-    assert!(rt; has_report(rt.alloc(), head, steps, "1,2,3", records)?);
     Ok(())
 }
 
@@ -128,7 +125,7 @@ fn report_of_both(alloc: Global, steps: &str) -> Result<Option<Report>, Fail> {
 fn rows_serve_their_stretches(rt: HostRuntime) -> Result<(), Fail> {
     let report = report_of_both(rt.alloc(), NEVER_DELIVERED)?.expect(&rt, "a set within the trace");
     for (g, gst) in [(0, 0), (1, 1), (2, 2), (3, 2), (4, 2), (5, 5), (6, 0)] {
-        assert_eq!(rt; served_from(&report, g), gst, "at {g}");
+        assert!(rt; served_from(&report, g) == gst, "at {g}");
     }
     Ok(())
 }

@@ -63,21 +63,24 @@ pub(crate) fn empty_receives(alloc: Global, steps: u64) -> Result<String, AllocE
     Ok(text)
 }
 
+/// Texts that stand for one-miss.
+pub(crate) const FORMS_OF_ONE_MISS: &[&str] = &[
+    ONE_MISS,
+    "dls-trace,1,2,0\r\ninit,5,7\r\n1,1,S,2\r\n2,2,R,\r\n3,2,R,1\r\nend,3\r\n",
+    "dls-trace,1,2,0\ninit,5,7\n\"1\",\"1\",\"S\",2\n2,2,R,\"\"\n3,2,R,1\n\"end\",3",
+    "\n\ndls-trace,1,2,0\n\ninit,5,7\n1,1,S,2\n2,2,R,\n3,2,R,1\nend,3\n\n\n",
+];
+
 #[test]
 fn forms_of_one_miss(rt: HostRuntime) -> Result<(), Fail> {
-    let forms = [
-        ONE_MISS,
-        "dls-trace,1,2,0\r\ninit,5,7\r\n1,1,S,2\r\n2,2,R,\r\n3,2,R,1\r\nend,3\r\n",
-        "dls-trace,1,2,0\ninit,5,7\n\"1\",\"1\",\"S\",2\n2,2,R,\"\"\n3,2,R,1\n\"end\",3",
-        "\n\ndls-trace,1,2,0\n\ninit,5,7\n1,1,S,2\n2,2,R,\n3,2,R,1\nend,3\n\n\n",
-    ];
-    for form in forms {
+    for form in FORMS_OF_ONE_MISS {
         assert!(rt; is_one_miss(rt.alloc(), form.as_bytes())?, "{form}");
     }
     Ok(())
 }
 
-const BAD_STARTS: &[(&str, &str)] = &[
+const STARTS: &[(&str, &str)] = &[
+    // The header.
     ("", "BadHeader"),
     ("\n\n", "BadHeader"),
     ("dls-trace,1,2", "BadHeader"),
@@ -95,17 +98,7 @@ const BAD_STARTS: &[(&str, &str)] = &[
     ("dls-trace,1,,0", "BadSize"),
     ("dls-trace,1,18446744073709551615,0", "BadSize"),
     ("dls-trace,1,3,18446744073709551615", "BadSize"),
-];
-
-#[test]
-fn bad_starts(rt: HostRuntime) -> Result<(), AllocError> {
-    for &(text, wanted) in BAD_STARTS {
-        assert!(rt; is_answer(rt.alloc(), text.as_bytes(), wanted)?, "{text}");
-    }
-    Ok(())
-}
-
-const INITIAL_VALUES: &[(&str, &str)] = &[
+    // The initial values.
     ("dls-trace,1,2,0\n", "BadInit"),
     ("dls-trace,1,2,0\ninit,5", "BadInit"),
     ("dls-trace,1,2,0\ninit,5,7,9", "BadInit"),
@@ -133,14 +126,15 @@ const INITIAL_VALUES: &[(&str, &str)] = &[
 ];
 
 #[test]
-fn initial_values(rt: HostRuntime) -> Result<(), AllocError> {
-    for &(text, wanted) in INITIAL_VALUES {
+fn starts(rt: HostRuntime) -> Result<(), AllocError> {
+    for &(text, wanted) in STARTS {
         assert!(rt; is_answer(rt.alloc(), text.as_bytes(), wanted)?, "{text}");
     }
     Ok(())
 }
 
-const ENDS: &[(&str, &str)] = &[
+const RECORDS_OF_STEPS: &[(&str, &str)] = &[
+    // The end.
     ("1,1,S,2\n2,2,R,\n3,2,R,1\n", "NoEnd"),
     ("1,1,S,2\n2,2,R,\n3,2,R,1\nend,4\n", "WrongEnd"),
     ("1,1,S,2\n2,2,R,\n3,2,R,1\nend,03\n", "WrongEnd"),
@@ -150,17 +144,7 @@ const ENDS: &[(&str, &str)] = &[
     ("end,0\n\"\"\n", "AfterEnd"),
     ("1,1,S,2\nend\n", "BadFields(2)"),
     ("1,1,S,2\nend,1,2,3\n", "BadFields(2)"),
-];
-
-#[test]
-fn ends(rt: HostRuntime) -> Result<(), AllocError> {
-    for &(rest, wanted) in ENDS {
-        assert!(rt; is_answer_after_init(rt.alloc(), rest, wanted)?, "{rest}");
-    }
-    Ok(())
-}
-
-const BAD_STEPS: &[(&str, &str)] = &[
+    // The fields of a step.
     ("1,1,S\n", "BadFields(1)"),
     ("01,1,S\n", "BadFields(1)"),
     ("1,1,S,2,\n", "BadFields(1)"),
@@ -180,19 +164,7 @@ const BAD_STEPS: &[(&str, &str)] = &[
     ("1,1,S,2\n2,2,R,1 \n", "BadNumber(2)"),
     ("1,1,S,2\n2,1,S,2\n3,2,E,1  2\n", "BadNumber(3)"),
     ("1,1,S,2\n2,1,S,2\n3,2,E,1 2\nend,3\n", "accepted"),
-];
-
-#[test]
-fn bad_steps(rt: HostRuntime) -> Result<(), AllocError> {
-    for &(rest, wanted) in BAD_STEPS {
-        assert!(rt; is_answer_after_init(rt.alloc(), rest, wanted)?, "{rest}");
-    }
-    let no_text = b"dls-trace,1,2,0\ninit,5,7\n1,1,\xff,2\n";
-    assert!(rt; is_answer(rt.alloc(), no_text, "BadOp(1)")?);
-    Ok(())
-}
-
-const STEPS_THAT_THE_TRACE_REFUSES: &[(&str, &str)] = &[
+    // Steps that the trace refuses.
     ("1,3,S,2\n", "BadStep(1, BadProc)"),
     ("1,0,R,\n", "BadStep(1, BadProc)"),
     ("1,18446744073709551615,R,\n", "BadStep(1, BadProc)"),
@@ -204,10 +176,12 @@ const STEPS_THAT_THE_TRACE_REFUSES: &[(&str, &str)] = &[
 ];
 
 #[test]
-fn steps_that_the_trace_refuses(rt: HostRuntime) -> Result<(), AllocError> {
-    for &(rest, wanted) in STEPS_THAT_THE_TRACE_REFUSES {
+fn records_of_steps(rt: HostRuntime) -> Result<(), AllocError> {
+    for &(rest, wanted) in RECORDS_OF_STEPS {
         assert!(rt; is_answer_after_init(rt.alloc(), rest, wanted)?, "{rest}");
     }
+    let no_text = b"dls-trace,1,2,0\ninit,5,7\n1,1,\xff,2\n";
+    assert!(rt; is_answer(rt.alloc(), no_text, "BadOp(1)")?);
     Ok(())
 }
 
@@ -231,7 +205,7 @@ fn answer_of_cut(k: usize) -> &'static str {
 #[test]
 fn cut_texts(rt: HostRuntime) -> Result<(), AllocError> {
     let text = ONE_MISS.as_bytes();
-    assert_eq!(rt; text.len(), 54);
+    assert!(rt; text.len() == 54);
     for k in 0..55 {
         let cut = text.get(..k).unwrap_or(text);
         assert!(rt; is_answer(rt.alloc(), cut, answer_of_cut(k))?, "{k}");

@@ -1,6 +1,6 @@
 //! Traces written: what is written of a trace is its text, in plain form.
 
-use crate::trace_texts::{ONE_MISS, empty_receives};
+use crate::trace_texts::{FORMS_OF_ONE_MISS, ONE_MISS, empty_receives};
 use std::alloc::Global;
 use std::io::ErrorKind;
 use std::test::Fail;
@@ -32,14 +32,8 @@ fn stops_after(
 
 #[test]
 fn forms_of_one_miss(rt: HostRuntime) -> Result<(), Fail> {
-    let forms = [
-        ONE_MISS,
-        "dls-trace,1,2,0\r\ninit,5,7\r\n1,1,S,2\r\n2,2,R,\r\n3,2,R,1\r\nend,3\r\n",
-        "dls-trace,1,2,0\ninit,5,7\n\"1\",\"1\",\"S\",2\n2,2,R,\"\"\n3,2,R,1\n\"end\",3",
-        "\n\ndls-trace,1,2,0\n\ninit,5,7\n1,1,S,2\n2,2,R,\n3,2,R,1\nend,3\n\n\n",
-    ];
-    assert_eq!(rt; ONE_MISS.len(), 54);
-    for form in forms {
+    assert!(rt; ONE_MISS.len() == 54);
+    for form in FORMS_OF_ONE_MISS {
         assert!(rt; is_written_as(rt.alloc(), form, ONE_MISS)?, "{form}");
     }
     Ok(())
