@@ -79,15 +79,17 @@ fn is_told(alloc: Global, certificate: &str, code: u8, line: &str) -> bool {
     verdict_status(verdict) == code && writer.taken() == line.as_bytes()
 }
 
+const VERDICTS: &[(&str, u8, &str)] = &[
+    (YES, 0, "yes\n"),
+    (NO_ROWS, 1, "no NoRows\n"),
+    (TWICE, 1, "no NotRising 2\n"),
+    (SMALL_DELTA, 1, "no DeltaFails 1 1 5\n"),
+    (SMALL_PHI, 1, "no PhiFails 3 1 5 5\n"),
+];
+
 #[test]
 fn tells_verdicts(rt: HostRuntime) -> Result<(), Fail> {
-    for (certificate, code, line) in [
-        (YES, 0, "yes\n"),
-        (NO_ROWS, 1, "no NoRows\n"),
-        (TWICE, 1, "no NotRising 2\n"),
-        (SMALL_DELTA, 1, "no DeltaFails 1 1 5\n"),
-        (SMALL_PHI, 1, "no PhiFails 3 1 5 5\n"),
-    ] {
+    for &(certificate, code, line) in VERDICTS {
         assert!(rt; is_told(rt.alloc(), certificate, code, line), "{line}");
     }
     Ok(())
@@ -167,13 +169,15 @@ fn is_cut(alloc: Global, failure: WriteFailure, count: usize) -> bool {
     was_cut(&ended, &writer, "no PhiFails 3 1 5 5\n", count)
 }
 
+const CUTS: &[(WriteFailure, usize)] = &[
+    (WriteFailure::FailAfter(12, ErrorKind::Other), 12),
+    (WriteFailure::TakeNothingAfter(0), 0),
+    (WriteFailure::FailFlush(ErrorKind::Other), 20),
+];
+
 #[test]
 fn says_how_much_of_a_verdict_it_wrote(rt: HostRuntime) -> Result<(), Fail> {
-    for (failure, count) in [
-        (WriteFailure::FailAfter(12, ErrorKind::Other), 12),
-        (WriteFailure::TakeNothingAfter(0), 0),
-        (WriteFailure::FailFlush(ErrorKind::Other), 20),
-    ] {
+    for &(failure, count) in CUTS {
         assert!(rt; is_cut(rt.alloc(), failure, count), "{failure:?}");
     }
     Ok(())

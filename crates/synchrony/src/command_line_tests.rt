@@ -22,82 +22,63 @@ fn read(alloc: Global, words: &[&str]) -> Result<Job, Fault> {
     read_command(alloc, line(alloc, words)?)
 }
 
-fn is_same_set(set: ProcSet, wanted: ProcSet) -> bool {
-    (1..65u64).all(|p| set.contains(p) == wanted.contains(p))
+fn has_members(set: ProcSet, members: &[u64]) -> bool {
+    (1..65u64).all(|p| set.contains(p) == members.contains(&p))
 }
 
 fn asks_for_report(
     alloc: Global,
     words: &[&str],
     name: &str,
-    members: ProcSet,
+    members: &[u64],
     threads: u64,
 ) -> bool {
     match read(alloc, words) {
         Ok(Job::Report { file, set, workers }) => {
-            file.as_str() == name && is_same_set(set, members) && workers == threads
+            file.as_str() == name && has_members(set, members) && workers == threads
         }
         _ => false,
     }
 }
 
+/// Words, and the file, the processors and the workers that they ask for.
+const REPORTS: &[(&[&str], &str, &[u64], u64)] = &[
+    (&["report", "-", "--correct", "1,2"], "-", &[1, 2], 1),
+    (&["report", "--correct", "none", "t.csv"], "t.csv", &[], 1),
+    (&["report", "a b", "--correct", "64"], "a b", &[64], 1),
+    (
+        &["report", "t.csv", "--correct", "none", "--workers", "64"],
+        "t.csv",
+        &[],
+        64,
+    ),
+    (
+        &["report", "--workers", "1", "--correct", "none", "t.csv"],
+        "t.csv",
+        &[],
+        1,
+    ),
+    (
+        &["report", "--workers", "7", "t.csv", "--correct", "none"],
+        "t.csv",
+        &[],
+        7,
+    ),
+    (
+        &["report", "--workers", "+2", "t.csv", "--correct", "none"],
+        "t.csv",
+        &[],
+        2,
+    ),
+];
+
 #[test]
 fn reads_reports(rt: HostRuntime) -> Result<(), Fail> {
-    let empty = ProcSet::empty();
-    for (words, name, members) in [
-        (
-            ["report", "-", "--correct", "1,2"],
-            "-",
-            empty.with(1).with(2),
-        ),
-        (["report", "--correct", "none", "t.csv"], "t.csv", empty),
-        (["report", "a b", "--correct", "64"], "a b", empty.with(64)),
-    ] {
+    for &(words, name, members, workers) in REPORTS {
         assert!(rt;
-            asks_for_report(rt.alloc(), &words, name, members, 1),
+            asks_for_report(rt.alloc(), words, name, members, workers),
             "{words:?}"
         );
-    }
-    Ok(())
-}
-
-#[test]
-fn reads_workers(rt: HostRuntime) -> Result<(), Fail> {
-    for (words, workers) in [
-        (
-            ["report", "t.csv", "--correct", "none", "--workers", "64"],
-            64,
-        ),
-        (
-            ["report", "--workers", "1", "--correct", "none", "t.csv"],
-            1,
-        ),
-        (
-            ["report", "--workers", "7", "t.csv", "--correct", "none"],
-            7,
-        ),
-        (
-            ["report", "--workers", "+2", "t.csv", "--correct", "none"],
-            2,
-        ),
-    ] {
-        assert!(rt;
-            asks_for_report(rt.alloc(), &words, "t.csv", ProcSet::empty(), workers),
-            "{words:?}"
-        );
-    }
-    Ok(())
-}
-
-#[test]
-fn refuses_workers(rt: HostRuntime) -> Result<(), Fail> {
-    for (word, begins) in [
-        ("0", "error: invalid value '0' for '--workers <W>'"),
-        ("65", "error: invalid value '65' for '--workers <W>'"),
-        ("x", "error: invalid value 'x' for '--workers <W>'"),
-    ] {
-        let words = ["report", "-", "--correct", "1,,2", "--workers", word];
-        assert!(rt; is_refused(rt.alloc(), &words, begins)?, "{word}");
     }
     Ok(())
 }
@@ -179,32 +160,35 @@ fn refuses_run(alloc: Global, words: [&str; 5], begins: &str) -> Result<bool, Al
     is_refused(alloc, &line, begins)
 }
 
+/// The words of a run for N, T, the values, P and S, and how their refusal begins.
+const REFUSED_RUNS: &[([&str; 5], &str)] = &[
+    (["1", "9", "5", "1", "0"], "synchrony: bad --nodes"),
+    (["65", "9", "", "1", "1000000"], "synchrony: bad --nodes"),
+    (["4", "2", "5", "1", "1000000"], "synchrony: bad --faults"),
+    (["3", "1", "5,7", "1", "1000000"], "synchrony: bad --values"),
+    (["3", "1", "5,7,7,", "1", "0"], "synchrony: bad --values"),
+    (["3", "1", "5,07,7", "1", "0"], "synchrony: bad --values"),
+    (
+        ["3", "1", "5,7,7", "1", "333334"],
+        "synchrony: too many steps",
+    ),
+    (
+        ["3", "1", "5,7,7", "0", "1"],
+        "error: invalid value '0' for '--patience <P>'",
+    ),
+    (
+        ["3", "1", "5,7,7", "1", "1000001"],
+        "error: invalid value '1000001' for '--steps <S>'",
+    ),
+    (
+        ["x", "1", "5,7,7", "1", "1"],
+        "error: invalid value 'x' for '--nodes <N>'",
+    ),
+];
+
 #[test]
 fn refuses_numbers_of_runs(rt: HostRuntime) -> Result<(), Fail> {
-    for (words, begins) in [
-        (["1", "9", "5", "1", "0"], "synchrony: bad --nodes"),
-        (["65", "9", "", "1", "1000000"], "synchrony: bad --nodes"),
-        (["4", "2", "5", "1", "1000000"], "synchrony: bad --faults"),
-        (["3", "1", "5,7", "1", "1000000"], "synchrony: bad --values"),
-        (["3", "1", "5,7,7,", "1", "0"], "synchrony: bad --values"),
-        (["3", "1", "5,07,7", "1", "0"], "synchrony: bad --values"),
-        (
-            ["3", "1", "5,7,7", "1", "333334"],
-            "synchrony: too many steps",
-        ),
-        (
-            ["3", "1", "5,7,7", "0", "1"],
-            "error: invalid value '0' for '--patience <P>'",
-        ),
-        (
-            ["3", "1", "5,7,7", "1", "1000001"],
-            "error: invalid value '1000001' for '--steps <S>'",
-        ),
-        (
-            ["x", "1", "5,7,7", "1", "1"],
-            "error: invalid value 'x' for '--nodes <N>'",
-        ),
-    ] {
+    for &(words, begins) in REFUSED_RUNS {
         assert!(rt; refuses_run(rt.alloc(), words, begins)?, "{words:?}");
     }
     Ok(())
@@ -228,7 +212,7 @@ fn reads_upgrades(rt: HostRuntime) -> Result<(), Fail> {
     Ok(())
 }
 
-fn asks_for_check(alloc: Global, words: &[&str], names: (&str, &str), members: ProcSet) -> bool {
+fn asks_for_check(alloc: Global, words: &[&str], names: (&str, &str), members: &[u64]) -> bool {
     match read(alloc, words) {
         Ok(
             Job::Check {
@@ -237,21 +221,25 @@ fn asks_for_check(alloc: Global, words: &[&str], names: (&str, &str), members: P
                 set,
             },
         ) => {
-            file.as_str() == names.0 && certificate.as_str() == names.1 && is_same_set(set, members)
+            file.as_str() == names.0 && certificate.as_str() == names.1 && has_members(set, members)
         }
         _ => false,
     }
 }
 
+const CHECKS: &[(&[&str], (&str, &str))] = &[
+    (&["check", "t", "c", "--correct", "1,2"], ("t", "c")),
+    (&["check", "-", "c", "--correct", "1,2"], ("-", "c")),
+    (&["check", "t", "--correct", "1,2", "-"], ("t", "-")),
+];
+
 #[test]
 fn reads_checks(rt: HostRuntime) -> Result<(), Fail> {
-    let two = ProcSet::empty().with(1).with(2);
-    for (words, names) in [
-        (["check", "t", "c", "--correct", "1,2"], ("t", "c")),
-        (["check", "-", "c", "--correct", "1,2"], ("-", "c")),
-        (["check", "t", "--correct", "1,2", "-"], ("t", "-")),
-    ] {
-        assert!(rt; asks_for_check(rt.alloc(), &words, names, two), "{words:?}");
+    for &(words, names) in CHECKS {
+        assert!(rt;
+            asks_for_check(rt.alloc(), words, names, &[1, 2]),
+            "{words:?}"
+        );
     }
     Ok(())
 }
@@ -263,15 +251,21 @@ fn asks_for_text(alloc: Global, words: &[&str], begins: &str) -> bool {
     }
 }
 
+const HELPS: &[(&[&str], &str)] = &[
+    (&["--help"], "Tells how synchronous"),
+    (&["report", "--help"], "Prints the report"),
+    (&["replay", "--help"], "Prints each processor"),
+    (&["run", "--help"], "Runs the agreement"),
+    (&["upgrade", "--help"], "Prints a trace"),
+    (&["check", "--help"], "Checks a report"),
+    (&["--version"], "synchrony 0.1.0\n"),
+];
+
 #[test]
 fn reads_requests_for_texts(rt: HostRuntime) -> Result<(), Fail> {
-    assert!(rt; asks_for_text(rt.alloc(), &["--help"], "Tells how synchronous"));
-    assert!(rt; asks_for_text(rt.alloc(), &["report", "--help"], "Prints the report"));
-    assert!(rt; asks_for_text(rt.alloc(), &["replay", "--help"], "Prints each processor"));
-    assert!(rt; asks_for_text(rt.alloc(), &["run", "--help"], "Runs the agreement"));
-    assert!(rt; asks_for_text(rt.alloc(), &["upgrade", "--help"], "Prints a trace"));
-    assert!(rt; asks_for_text(rt.alloc(), &["check", "--help"], "Checks a report"));
-    assert!(rt; asks_for_text(rt.alloc(), &["--version"], "synchrony 0.1.0\n"));
+    for &(words, begins) in HELPS {
+        assert!(rt; asks_for_text(rt.alloc(), words, begins), "{words:?}");
+    }
     Ok(())
 }
 
@@ -284,39 +278,52 @@ fn is_refused(alloc: Global, words: &[&str], begins: &str) -> Result<bool, Alloc
     Ok(status(&fault) == 2 && text.as_str().starts_with(begins))
 }
 
+const REFUSED_LINES: &[(&[&str], &str)] = &[
+    (&["report", "-"], "error: the following required arguments"),
+    (&["replay"], "error: the following required arguments"),
+    (&["replay", "a", "b"], "error: unexpected argument 'b'"),
+    (&["upgrade"], "error: the following required arguments"),
+    (
+        &["report", "-", "--correct", "1", "--workers"],
+        "error: a value is required for '--workers <W>'",
+    ),
+    (
+        &["run", "--values", "5,7"],
+        "error: the following required arguments",
+    ),
+    (
+        &["check", "-", "-"],
+        "error: the following required arguments",
+    ),
+    (
+        &["check", "-", "-", "--correct", "1,,2"],
+        "synchrony: bad --correct",
+    ),
+    (
+        &["check", "-", "-", "--correct", "1,2"],
+        "synchrony: only one file can be -",
+    ),
+    (
+        &["report", "-", "--correct", "1,,2"],
+        "synchrony: bad --correct",
+    ),
+    (
+        &["report", "-", "--correct", "1,,2", "--workers", "0"],
+        "error: invalid value '0' for '--workers <W>'",
+    ),
+    (
+        &["report", "-", "--correct", "1,,2", "--workers", "65"],
+        "error: invalid value '65' for '--workers <W>'",
+    ),
+    (
+        &["report", "-", "--correct", "1,,2", "--workers", "x"],
+        "error: invalid value 'x' for '--workers <W>'",
+    ),
+];
+
 #[test]
 fn refuses_other_lines(rt: HostRuntime) -> Result<(), Fail> {
-    let lines: [(&[&str], &str); 10] = [
-        (&["report", "-"], "error: the following required arguments"),
-        (&["replay"], "error: the following required arguments"),
-        (&["replay", "a", "b"], "error: unexpected argument 'b'"),
-        (&["upgrade"], "error: the following required arguments"),
-        (
-            &["report", "-", "--correct", "1", "--workers"],
-            "error: a value is required for '--workers <W>'",
-        ),
-        (
-            &["run", "--values", "5,7"],
-            "error: the following required arguments",
-        ),
-        (
-            &["check", "-", "-"],
-            "error: the following required arguments",
-        ),
-        (
-            &["check", "-", "-", "--correct", "1,,2"],
-            "synchrony: bad --correct",
-        ),
-        (
-            &["check", "-", "-", "--correct", "1,2"],
-            "synchrony: only one file can be -",
-        ),
-        (
-            &["report", "-", "--correct", "1,,2"],
-            "synchrony: bad --correct",
-        ),
-    ];
-    for (words, begins) in lines {
+    for &(words, begins) in REFUSED_LINES {
         assert!(rt; is_refused(rt.alloc(), words, begins)?, "{words:?}");
     }
     Ok(())

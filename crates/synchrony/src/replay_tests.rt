@@ -38,12 +38,14 @@ fn is_replayed(alloc: Global, text: &str, wanted: &str) -> bool {
     has_written(&ended, &writer, wanted)
 }
 
+const REPLAYS: &[(&str, &str)] = &[
+    (DECIDES_SEVEN, DECIDES_SEVEN_REPLAY),
+    (NO_STEPS, "proc,round,decision\n1,1,\n2,1,\n"),
+];
+
 #[test]
 fn prints_replays(rt: HostRuntime) -> Result<(), Fail> {
-    for (text, wanted) in [
-        (DECIDES_SEVEN, DECIDES_SEVEN_REPLAY),
-        (NO_STEPS, "proc,round,decision\n1,1,\n2,1,\n"),
-    ] {
+    for &(text, wanted) in REPLAYS {
         assert!(rt; is_replayed(rt.alloc(), text, wanted), "{wanted}");
     }
     Ok(())
@@ -60,30 +62,32 @@ fn is_refused(
     has_refused(alloc, &ended, &writer, told)
 }
 
+const REFUSED: &[(&str, AfterBytes, (u8, &str))] = &[
+    (
+        ONE_MISS,
+        AfterBytes::End,
+        (7, "synchrony: not a run: step 1"),
+    ),
+    (
+        SENDS_TWICE,
+        AfterBytes::End,
+        (7, "synchrony: not a run: step 3"),
+    ),
+    (
+        REDELIVERED,
+        AfterBytes::End,
+        (3, "synchrony: trace: step 3: message 1 was received before"),
+    ),
+    (
+        DECIDES_SEVEN,
+        AfterBytes::Fail(ErrorKind::Other),
+        (6, "synchrony: cannot read"),
+    ),
+];
+
 #[test]
 fn writes_nothing_of_what_is_no_run(rt: HostRuntime) -> Result<(), Fail> {
-    for (text, after, told) in [
-        (
-            ONE_MISS,
-            AfterBytes::End,
-            (7, "synchrony: not a run: step 1"),
-        ),
-        (
-            SENDS_TWICE,
-            AfterBytes::End,
-            (7, "synchrony: not a run: step 3"),
-        ),
-        (
-            REDELIVERED,
-            AfterBytes::End,
-            (3, "synchrony: trace: step 3: message 1 was received before"),
-        ),
-        (
-            DECIDES_SEVEN,
-            AfterBytes::Fail(ErrorKind::Other),
-            (6, "synchrony: cannot read"),
-        ),
-    ] {
+    for &(text, after, told) in REFUSED {
         assert!(rt; is_refused(rt.alloc(), text, after, told)?, "{told:?}");
     }
     Ok(())
@@ -97,13 +101,15 @@ fn is_cut(alloc: Global, failure: WriteFailure, count: usize) -> bool {
     was_cut(&ended, &writer, DECIDES_SEVEN_REPLAY, count)
 }
 
+const CUTS: &[(WriteFailure, usize)] = &[
+    (WriteFailure::FailAfter(25, ErrorKind::Other), 25),
+    (WriteFailure::TakeNothingAfter(0), 0),
+    (WriteFailure::FailFlush(ErrorKind::Other), 36),
+];
+
 #[test]
 fn says_how_much_of_a_replay_it_wrote(rt: HostRuntime) -> Result<(), Fail> {
-    for (failure, count) in [
-        (WriteFailure::FailAfter(25, ErrorKind::Other), 25),
-        (WriteFailure::TakeNothingAfter(0), 0),
-        (WriteFailure::FailFlush(ErrorKind::Other), 36),
-    ] {
+    for &(failure, count) in CUTS {
         assert!(rt; is_cut(rt.alloc(), failure, count), "{failure:?}");
     }
     Ok(())

@@ -73,9 +73,12 @@ fn is_reported<T: Threads + Wait + Sync>(
     rt: &T,
     alloc: Global,
     text: &str,
-    set: ProcSet,
+    list: &str,
     wanted: &str,
 ) -> bool {
+    let Some(set) = ProcSet::parse_list(list) else {
+        return false;
+    };
     let mut writer = FailingWriter::new(alloc, 40, WriteFailure::Never);
     let ended = report(rt, alloc, text, AfterBytes::End, set, &mut writer);
     has_written(&ended, &writer, wanted)
@@ -117,36 +120,30 @@ fn is_reported_by<T: Threads + Wait + Sync>(
     has_written(&ended, &writer, wanted)
 }
 
-#[test]
-fn workers_change_nothing(rt: HostRuntime) -> Result<(), Fail> {
-    for (text, wanted) in [
-        (ONE_MISS, ONE_MISS_REPORT),
-        (UNRECEIVED_UNTIL_END, UNRECEIVED_UNTIL_END_REPORT),
-        (NEVER_DELIVERED, NEVER_DELIVERED_REPORT),
-        (SHARED_TICKS, SHARED_TICKS_REPORT),
-    ] {
-        for workers in [1, 3, 7] {
-            assert!(rt;
-                is_reported_by(&rt, rt.alloc(), text, workers, wanted),
-                "{workers} {wanted}"
-            );
-        }
-    }
-    Ok(())
-}
+const BY_WORKERS: &[(u64, &str, &str)] = &[
+    (1, ONE_MISS, ONE_MISS_REPORT),
+    (3, ONE_MISS, ONE_MISS_REPORT),
+    (7, ONE_MISS, ONE_MISS_REPORT),
+    (1, UNRECEIVED_UNTIL_END, UNRECEIVED_UNTIL_END_REPORT),
+    (3, UNRECEIVED_UNTIL_END, UNRECEIVED_UNTIL_END_REPORT),
+    (7, UNRECEIVED_UNTIL_END, UNRECEIVED_UNTIL_END_REPORT),
+    (1, NEVER_DELIVERED, NEVER_DELIVERED_REPORT),
+    (2, NEVER_DELIVERED, NEVER_DELIVERED_REPORT),
+    (3, NEVER_DELIVERED, NEVER_DELIVERED_REPORT),
+    (5, NEVER_DELIVERED, NEVER_DELIVERED_REPORT),
+    (7, NEVER_DELIVERED, NEVER_DELIVERED_REPORT),
+    (64, NEVER_DELIVERED, NEVER_DELIVERED_REPORT),
+    (1, SHARED_TICKS, SHARED_TICKS_REPORT),
+    (3, SHARED_TICKS, SHARED_TICKS_REPORT),
+    (7, SHARED_TICKS, SHARED_TICKS_REPORT),
+];
 
 #[test]
-fn any_number_of_workers_gives_the_same(rt: HostRuntime) -> Result<(), Fail> {
-    for workers in [1, 2, 3, 5, 64] {
+fn workers_change_nothing(rt: HostRuntime) -> Result<(), Fail> {
+    for &(workers, text, wanted) in BY_WORKERS {
         assert!(rt;
-            is_reported_by(
-                &rt,
-                rt.alloc(),
-                NEVER_DELIVERED,
-                workers,
-                NEVER_DELIVERED_REPORT
-            ),
-            "{workers}"
+            is_reported_by(&rt, rt.alloc(), text, workers, wanted),
+            "{workers} {wanted}"
         );
     }
     Ok(())
@@ -176,29 +173,30 @@ fn a_worker_is_held(rt: HostRuntime) -> Result<(), Fail> {
     Ok(())
 }
 
+/// Trace texts, the correct processors, and the reports.
+const REPORTS: &[(&str, &str, &str)] = &[
+    (ONE_MISS, "1,2", ONE_MISS_REPORT),
+    (NO_STEPS, "1,2", "gst,delta,phi,sent,missed,proc,from,to\n"),
+    (NEVER_DELIVERED, "1,2", NEVER_DELIVERED_REPORT),
+    (
+        ONE_MISS,
+        "2",
+        "gst,delta,phi,sent,missed,proc,from,to\n1,1,2,,,2,1,1\n2,1,1,,,,,\n",
+    ),
+    (
+        ONE_MISS,
+        "none",
+        "gst,delta,phi,sent,missed,proc,from,to\n1,1,1,,,,,\n",
+    ),
+];
+
 #[test]
 fn prints_reports(rt: HostRuntime) -> Result<(), Fail> {
-    let second = ProcSet::empty().with(2);
-    for (text, set, wanted) in [
-        (ONE_MISS, first_two(), ONE_MISS_REPORT),
-        (
-            NO_STEPS,
-            first_two(),
-            "gst,delta,phi,sent,missed,proc,from,to\n",
-        ),
-        (NEVER_DELIVERED, first_two(), NEVER_DELIVERED_REPORT),
-        (
-            ONE_MISS,
-            second,
-            "gst,delta,phi,sent,missed,proc,from,to\n1,1,2,,,2,1,1\n2,1,1,,,,,\n",
-        ),
-        (
-            ONE_MISS,
-            ProcSet::empty(),
-            "gst,delta,phi,sent,missed,proc,from,to\n1,1,1,,,,,\n",
-        ),
-    ] {
-        assert!(rt; is_reported(&rt, rt.alloc(), text, set, wanted), "{wanted}");
+    for &(text, list, wanted) in REPORTS {
+        assert!(rt;
+            is_reported(&rt, rt.alloc(), text, list, wanted),
+            "{wanted}"
+        );
     }
     Ok(())
 }
@@ -225,56 +223,51 @@ const LONG_REPORT: &str = "gst,delta,phi,sent,missed,proc,from,to\n\
 #[test]
 fn prints_the_report_of_100_000_steps(rt: HostRuntime) -> Result<(), Fail> {
     let text = long_trace(rt.alloc())?;
-    assert!(rt; is_reported(&rt, rt.alloc(), text.as_str(), first_two(), LONG_REPORT));
+    assert!(rt; is_reported(&rt, rt.alloc(), text.as_str(), "1,2", LONG_REPORT));
     Ok(())
 }
 
+/// Whether the report of a text for processor 3 is refused so.
 fn is_refused<T: Threads + Wait + Sync>(
     rt: &T,
     alloc: Global,
     text: &str,
     after: AfterBytes,
-    set: ProcSet,
     told: (u8, &str),
 ) -> Result<bool, AllocError> {
+    let set = ProcSet::empty().with(3);
     let mut writer = FailingWriter::new(alloc, 40, WriteFailure::Never);
     let ended = report(rt, alloc, text, after, set, &mut writer);
     has_refused(alloc, &ended, &writer, told)
 }
 
+const REFUSED: &[(&str, AfterBytes, (u8, &str))] = &[
+    (
+        REDELIVERED,
+        AfterBytes::End,
+        (3, "synchrony: trace: step 3: message 1 was received before"),
+    ),
+    (
+        ONE_MISS,
+        AfterBytes::End,
+        (2, "synchrony: no such processor in --correct"),
+    ),
+    (
+        ONE_MISS,
+        AfterBytes::Fail(ErrorKind::Other),
+        (6, "synchrony: cannot read"),
+    ),
+    (
+        ONE_MISS,
+        AfterBytes::Fail(ErrorKind::Interrupted),
+        (6, "synchrony: cannot read"),
+    ),
+];
+
 #[test]
 fn writes_nothing_on_a_fault(rt: HostRuntime) -> Result<(), Fail> {
-    let third = ProcSet::empty().with(3);
-    for (text, after, set, told) in [
-        (
-            REDELIVERED,
-            AfterBytes::End,
-            third,
-            (3, "synchrony: trace: step 3: message 1 was received before"),
-        ),
-        (
-            ONE_MISS,
-            AfterBytes::End,
-            third,
-            (2, "synchrony: no such processor in --correct"),
-        ),
-        (
-            ONE_MISS,
-            AfterBytes::Fail(ErrorKind::Other),
-            third,
-            (6, "synchrony: cannot read"),
-        ),
-        (
-            ONE_MISS,
-            AfterBytes::Fail(ErrorKind::Interrupted),
-            third,
-            (6, "synchrony: cannot read"),
-        ),
-    ] {
-        assert!(rt;
-            is_refused(&rt, rt.alloc(), text, after, set, told)?,
-            "{told:?}"
-        );
+    for &(text, after, told) in REFUSED {
+        assert!(rt; is_refused(&rt, rt.alloc(), text, after, told)?, "{told:?}");
     }
     Ok(())
 }
@@ -299,16 +292,18 @@ fn is_cut<T: Threads + Wait + Sync>(
     was_cut(&ended, &writer, ONE_MISS_REPORT, count)
 }
 
+const CUTS: &[(WriteFailure, usize)] = &[
+    (WriteFailure::FailAfter(40, ErrorKind::Other), 40),
+    (WriteFailure::FailAfter(0, ErrorKind::Other), 0),
+    (WriteFailure::TakeNothingAfter(82), 82),
+    (WriteFailure::FailFlush(ErrorKind::Other), 83),
+];
+
 #[test]
 fn says_how_far_it_wrote(rt: HostRuntime) -> Result<(), Fail> {
-    for (failure, count) in [
-        (WriteFailure::FailAfter(40, ErrorKind::Other), 40),
-        (WriteFailure::FailAfter(0, ErrorKind::Other), 0),
-        (WriteFailure::TakeNothingAfter(82), 82),
-        (WriteFailure::FailFlush(ErrorKind::Other), 83),
-    ] {
+    for &(failure, count) in CUTS {
         assert!(rt; is_cut(&rt, rt.alloc(), failure, count), "{failure:?}");
     }
-    assert_eq!(rt; status(&Fault::Write(40)), 6);
+    assert!(rt; status(&Fault::Write(40)) == 6);
     Ok(())
 }

@@ -37,13 +37,15 @@ fn is_upgraded(alloc: Global, text: &str, wanted: &str) -> bool {
     has_written(&ended, &writer, wanted)
 }
 
+const UPGRADES: &[(&str, &str)] = &[
+    (ONE_MISS, ONE_MISS_UPGRADE),
+    (ONE_MISS_UPGRADE, ONE_MISS_UPGRADE),
+    (SHARED_TICKS, SHARED_TICKS),
+];
+
 #[test]
 fn prints_version_2(rt: HostRuntime) -> Result<(), Fail> {
-    for (text, wanted) in [
-        (ONE_MISS, ONE_MISS_UPGRADE),
-        (ONE_MISS_UPGRADE, ONE_MISS_UPGRADE),
-        (SHARED_TICKS, SHARED_TICKS),
-    ] {
+    for &(text, wanted) in UPGRADES {
         assert!(rt; is_upgraded(rt.alloc(), text, wanted), "{wanted}");
     }
     Ok(())
@@ -60,28 +62,30 @@ fn is_refused(
     has_refused(alloc, &ended, &writer, told)
 }
 
+const REFUSED: &[(&str, AfterBytes, (u8, &str))] = &[
+    (
+        REDELIVERED,
+        AfterBytes::End,
+        (3, "synchrony: trace: step 3: message 1 was received before"),
+    ),
+    (
+        SAME_TICK,
+        AfterBytes::End,
+        (
+            3,
+            "synchrony: trace: step 2: message 1 was sent in this tick",
+        ),
+    ),
+    (
+        ONE_MISS,
+        AfterBytes::Fail(ErrorKind::Other),
+        (6, "synchrony: cannot read"),
+    ),
+];
+
 #[test]
 fn writes_nothing_of_what_is_no_trace(rt: HostRuntime) -> Result<(), Fail> {
-    for (text, after, told) in [
-        (
-            REDELIVERED,
-            AfterBytes::End,
-            (3, "synchrony: trace: step 3: message 1 was received before"),
-        ),
-        (
-            SAME_TICK,
-            AfterBytes::End,
-            (
-                3,
-                "synchrony: trace: step 2: message 1 was sent in this tick",
-            ),
-        ),
-        (
-            ONE_MISS,
-            AfterBytes::Fail(ErrorKind::Other),
-            (6, "synchrony: cannot read"),
-        ),
-    ] {
+    for &(text, after, told) in REFUSED {
         assert!(rt; is_refused(rt.alloc(), text, after, told)?, "{told:?}");
     }
     Ok(())
@@ -95,13 +99,15 @@ fn is_cut(alloc: Global, failure: WriteFailure, count: usize) -> bool {
     was_cut(&ended, &writer, ONE_MISS_UPGRADE, count)
 }
 
+const CUTS: &[(WriteFailure, usize)] = &[
+    (WriteFailure::FailAfter(25, ErrorKind::Other), 25),
+    (WriteFailure::TakeNothingAfter(0), 0),
+    (WriteFailure::FailFlush(ErrorKind::Other), 60),
+];
+
 #[test]
 fn says_how_much_of_an_upgrade_it_wrote(rt: HostRuntime) -> Result<(), Fail> {
-    for (failure, count) in [
-        (WriteFailure::FailAfter(25, ErrorKind::Other), 25),
-        (WriteFailure::TakeNothingAfter(0), 0),
-        (WriteFailure::FailFlush(ErrorKind::Other), 60),
-    ] {
+    for &(failure, count) in CUTS {
         assert!(rt; is_cut(rt.alloc(), failure, count), "{failure:?}");
     }
     Ok(())
