@@ -6,11 +6,6 @@ use std::alloc::Global;
 use std::test::Fail;
 use step_trace::{ProcSet, Trace};
 
-/// The set of processors 1 and 2.
-pub(crate) fn both() -> ProcSet {
-    ProcSet::empty().with(1).with(2)
-}
-
 /// The row that is so written.
 pub(crate) fn row_of(fields: [u64; 8]) -> Row {
     let [gst, delta, phi, sent, missed, proc, from, to] = fields;
@@ -31,14 +26,17 @@ pub(crate) fn row_of(fields: [u64; 8]) -> Row {
     }
 }
 
-/// Whether the check of these rows gives this verdict.
+/// Whether the check of these rows, where the processors of a list are correct, gives this verdict.
 pub(crate) fn says(
     alloc: Global,
     trace: &Trace,
-    set: ProcSet,
+    correct: &str,
     rows: &[[u64; 8]],
     verdict: Verdict,
 ) -> Result<bool, Fail> {
+    let Some(set) = ProcSet::parse_list(correct) else {
+        return Ok(false);
+    };
     if !set.within(trace.config().n()) {
         return Ok(false);
     }

@@ -1,10 +1,11 @@
 //! Rows with values at the ends of their types, and witnesses that name nothing.
 
-use crate::checks::{both, says};
+use crate::checks::says;
 use crate::traces::{empty_trace, step_of, trace_of};
 use certificate_checker::{Reason, Verdict};
-use std::alloc::Global;
+use std::alloc::{AllocError, Global};
 use std::test::Fail;
+use step_trace::Trace;
 
 const TOP: u64 = u64::MAX;
 
@@ -13,81 +14,74 @@ const SELF_SEND: [(u64, u64, &[u64]); 2] = [(1, 1, &[]), (2, 0, &[])];
 // Whether this one row of a trace of two steps is refused for this reason.
 fn refuses(alloc: Global, row: [u64; 8], why: Reason) -> Result<bool, Fail> {
     let trace = trace_of(alloc, 2, &SELF_SEND)?;
-    says(alloc, &trace, both(), &[row], Verdict::No(why))
+    says(alloc, &trace, "1,2", &[row], Verdict::No(why))
 }
 
+const REFUSED: &[([u64; 8], Reason)] = &[
+    ([1, 0, 2, 0, 0, 1, 2, 2], Reason::BadMiss(1)),
+    ([1, 0, 2, 1, 2, 1, 2, 2], Reason::BadMiss(1)),
+    ([1, 2, 2, 0, 0, 1, 2, 2], Reason::BadMiss(1)),
+    ([1, TOP, 2, 1, 2, 1, 2, 2], Reason::BadMiss(1)),
+    ([1, 2, 2, TOP, TOP, 1, 2, 2], Reason::BadMiss(1)),
+    ([1, 2, 2, 1, TOP, 1, 2, 2], Reason::BadMiss(1)),
+    ([1, 2, 2, 1, 0, 1, 2, 2], Reason::BadMiss(1)),
+    ([1, 2, 2, 2, 1, 1, 2, 2], Reason::BadMiss(1)),
+    ([1, 2, 2, 1, 2, 1, 2, 2], Reason::BadMiss(1)),
+    ([1, 1, 0, 0, 0, 0, 0, 0], Reason::BadGap(1)),
+    ([1, 1, 2, 0, 0, 0, 0, 0], Reason::BadGap(1)),
+    ([1, 1, 1, 0, 0, 1, 2, 2], Reason::BadGap(1)),
+    ([1, 1, TOP, 0, 0, 1, 2, 2], Reason::BadGap(1)),
+    ([1, 1, 2, 0, 0, 65, 2, 2], Reason::BadGap(1)),
+    ([1, 1, 2, 0, 0, TOP, 2, 2], Reason::BadGap(1)),
+    ([1, 1, 2, 0, 0, 1, 0, 0], Reason::BadGap(1)),
+    ([1, 1, 2, 0, 0, 1, 2, 1], Reason::BadGap(1)),
+    ([1, 1, TOP, 0, 0, 1, 1, TOP], Reason::BadGap(1)),
+    ([1, 1, 2, 0, 0, 1, 3, 3], Reason::BadGap(1)),
+    ([1, 1, 2, 0, 0, 1, 1, 1], Reason::BadGap(1)),
+    ([1, 1, 2, 0, 0, 2, 2, 2], Reason::BadGap(1)),
+    ([0, 1, 2, 0, 0, 1, 2, 2], Reason::FirstNotOne),
+    ([TOP, 1, 2, 0, 0, 1, 2, 2], Reason::FirstNotOne),
+];
+
 #[test]
-fn misses(rt: HostRuntime) -> Result<(), Fail> {
-    let rows = [
-        [1, 0, 2, 0, 0, 1, 2, 2],
-        [1, 0, 2, 1, 2, 1, 2, 2],
-        [1, 2, 2, 0, 0, 1, 2, 2],
-        [1, TOP, 2, 1, 2, 1, 2, 2],
-        [1, 2, 2, TOP, TOP, 1, 2, 2],
-        [1, 2, 2, 1, TOP, 1, 2, 2],
-        [1, 2, 2, 1, 0, 1, 2, 2],
-        [1, 2, 2, 2, 1, 1, 2, 2],
-        [1, 2, 2, 1, 2, 1, 2, 2],
-    ];
-    for row in rows {
-        assert!(rt; refuses(rt.alloc(), row, Reason::BadMiss(1))?);
+fn refused_rows(rt: HostRuntime) -> Result<(), Fail> {
+    for &(row, why) in REFUSED {
+        assert!(rt; refuses(rt.alloc(), row, why)?, "{row:?}");
     }
     Ok(())
 }
 
 #[test]
-fn gaps(rt: HostRuntime) -> Result<(), Fail> {
-    let rows = [
-        [1, 1, 0, 0, 0, 0, 0, 0],
-        [1, 1, 2, 0, 0, 0, 0, 0],
-        [1, 1, 1, 0, 0, 1, 2, 2],
-        [1, 1, TOP, 0, 0, 1, 2, 2],
-        [1, 1, 2, 0, 0, 65, 2, 2],
-        [1, 1, 2, 0, 0, TOP, 2, 2],
-        [1, 1, 2, 0, 0, 1, 0, 0],
-        [1, 1, 2, 0, 0, 1, 2, 1],
-        [1, 1, TOP, 0, 0, 1, 1, TOP],
-        [1, 1, 2, 0, 0, 1, 3, 3],
-        [1, 1, 2, 0, 0, 1, 1, 1],
-        [1, 1, 2, 0, 0, 2, 2, 2],
-    ];
-    for row in rows {
-        assert!(rt; refuses(rt.alloc(), row, Reason::BadGap(1))?);
-    }
-    Ok(())
-}
-
-#[test]
-fn beginnings(rt: HostRuntime) -> Result<(), Fail> {
-    let a = rt.alloc();
-    assert!(rt; refuses(a, [0, 1, 2, 0, 0, 1, 2, 2], Reason::FirstNotOne)?);
-    assert!(rt; refuses(a, [TOP, 1, 2, 0, 0, 1, 2, 2], Reason::FirstNotOne)?);
-    let trace = trace_of(a, 2, &SELF_SEND)?;
+fn a_row_far_beyond_the_end(rt: HostRuntime) -> Result<(), Fail> {
+    let trace = trace_of(rt.alloc(), 2, &SELF_SEND)?;
     let far = [[1, TOP, TOP, 0, 0, 0, 0, 0], [TOP, TOP, 1, 0, 0, 0, 0, 0]];
-    assert!(rt; says(a, &trace, both(), &far, Verdict::No(Reason::BeyondEnd(2)))?);
+    let beyond = Verdict::No(Reason::BeyondEnd(2));
+    assert!(rt; says(rt.alloc(), &trace, "1,2", &far, beyond)?);
     Ok(())
 }
 
-// A message to its own sender that isn't taken is missed, like any other.
-#[test]
-fn self_send(rt: HostRuntime) -> Result<(), Fail> {
-    let steps: [(u64, u64, &[u64]); 2] = [(1, 1, &[]), (1, 0, &[])];
-    let trace = trace_of(rt.alloc(), 2, &steps)?;
-    let rows = [[1, 2, 3, 1, 2, 2, 1, 2], [2, 1, 2, 0, 0, 2, 2, 2]];
-    assert!(rt; says(rt.alloc(), &trace, both(), &rows, Verdict::Yes)?);
-    Ok(())
+// Processor 1 alone steps, 300 times.
+fn lone_steps(alloc: Global) -> Result<Trace, Fail> {
+    let mut trace = empty_trace(alloc, 2)?;
+    for _ in 0..300 {
+        trace.push(step_of(alloc, 1, 0, &[])?)?;
+    }
+    Ok(trace)
+}
+
+fn lone_rows(alloc: Global) -> Result<Vec<[u64; 8]>, AllocError> {
+    let mut rows = Vec::new(alloc);
+    for no in 1..301 {
+        rows.push([no, 1, 302 - no, 0, 0, 2, no, 300])?;
+    }
+    Ok(rows)
 }
 
 // Each tick is a row of its own, where one processor alone steps.
 #[test]
 fn as_many_rows_as_ticks(rt: HostRuntime) -> Result<(), Fail> {
-    let a = rt.alloc();
-    let mut trace = empty_trace(a, 2)?;
-    let mut rows = Vec::new(a);
-    for no in 1..301 {
-        trace.push(step_of(a, 1, 0, &[])?)?;
-        rows.push([no, 1, 302 - no, 0, 0, 2, no, 300])?;
-    }
-    assert!(rt; says(a, &trace, both(), &rows, Verdict::Yes)?);
+    let trace = lone_steps(rt.alloc())?;
+    let rows = lone_rows(rt.alloc())?;
+    assert!(rt; says(rt.alloc(), &trace, "1,2", &rows, Verdict::Yes)?);
     Ok(())
 }
