@@ -18,12 +18,12 @@ pub record AreRounds (steps : List Step) (n : ℕ) (rounds : List ℕ) : Type 0 
 
 -- before the first step all are in the first round
 pub AreRounds-none : (steps : List Step) (rounds : List ℕ) → ((i d : ℕ) → i < length rounds → get_or rounds i d ≡ 1) → AreRounds steps 0 rounds
-AreRounds-none steps rounds ones = record { each = λ i d l. ones i d l; }
+AreRounds-none steps rounds ones = record { each = λ i d l. ones i d l }
 
 -- a step may end the round of its processor
 pub AreRounds-more : (steps : List Step) (n : ℕ) (x : Step) (rounds : List ℕ) (i round next : ℕ) → step_at steps (suc n) ≡ Some x → x.proc ≡ i + 1 → i < length rounds
     → round ≡ get_or rounds i round → next ≡ round + cond (act_ends x.act) 1 0 → AreRounds steps n rounds → AreRounds steps (n + 1) (set rounds i next)
-AreRounds-more steps n x rounds i round next at own inside is after are = record { each = λ j d l. go j d l (j == i) refl; }
+AreRounds-more steps n x rounds i round next at own inside is after are = record { each = λ j d l. go j d l (j == i) refl }
   where
     go : (j d : ℕ) → j < length (set rounds i next) → (b : Bool) → (j == i) ≡ b → get_or (set rounds i next) j d ≡ passed (take (n + 1) steps) (j + 1) + 1
     go j d l true e =

@@ -102,12 +102,7 @@ fn are_its_own(config: &Config, tag: u64, seats: &[Seat]) -> Result<(), AuditErr
 }
 
 // Whether seats and views fit the trace of a World; else the first that doesn't.
-fn compared(
-    alloc: Global,
-    world: &World,
-    seats: &[Seat],
-    views: &[View],
-) -> Result<(), AuditError>
+fn compared(alloc: Global, world: &World, seats: &[Seat], views: &[View]) -> Result<(), AuditError>
     requires order { AreInOrder world.now.trace.config seats.now }
     ensures seats { OnOk result (AgreeWith world.now.trace.config world.now.trace.steps seats.now) }
     ensures views { OnOk result (AreExtended world.now.trace views.now) }

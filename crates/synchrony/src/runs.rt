@@ -184,12 +184,7 @@ fn judged(ending: Ending) -> Result<(), Fault>
 }
 
 /// The World of a recorder, if what was done from its seats makes up one run of so many steps of each.
-fn audited(
-    alloc: Global,
-    recorder: Recorder,
-    seats: &[Seat],
-    steps: u64,
-) -> Result<World, Fault>
+fn audited(alloc: Global, recorder: Recorder, seats: &[Seat], steps: u64) -> Result<World, Fault>
     ensures run { IfOk result (λ world. IsEvenRun recorder.config steps world.trace) }
     ensures own { IfErr result IsFaultOfThreads }
     ensures no_threads { IfErr result (λ why. why ≢ Fault.Threads) }

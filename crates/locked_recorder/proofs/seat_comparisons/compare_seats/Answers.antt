@@ -33,8 +33,7 @@ loop-no-init c =
     let zeros : (i : ℕ) (m : Option ℕ) → i < length c.in_ok-agreed.agreed.items → get_or c.in_ok-agreed.agreed.items i m ≡ Some 0 =
     λ i m l. rw some (get_or-replicate c.n-n.result i (Some 0) m (omega (arith, l, c.in_ok-agreed.ensures.len, c.in_ok-agreed.agreed.ok.0))) in
     let ones : (i d : ℕ) → i < length c.in_ok-rounds.rounds.items → get_or c.in_ok-rounds.rounds.items i d ≡ 1 =
-    λ i d l. rw one (get_or-replicate c.n-n.result i 1 d (omega (arith, l, c.in_ok-rounds.ensures.len, c.in_ok-rounds.rounds.ok.0))) in
-    (
+    λ i d l. rw one (get_or-replicate c.n-n.result i 1 d (omega (arith, l, c.in_ok-rounds.ensures.len, c.in_ok-rounds.rounds.ok.0))) in (
       AreCompared-none trace.config trace.steps seats c.in_ok-agreed.agreed.items (omega (arith, c.in_ok-agreed.ensures.len, c.in_ok-agreed.agreed.ok.0)) zeros,
       AreRounds-none trace.steps c.in_ok-rounds.rounds.items ones,
       omega (arith, c.in_ok-rounds.ensures.len, c.in_ok-rounds.rounds.ok.0),
@@ -157,8 +156,7 @@ loop-no-preserved c =
     let same = done_last-by_round trace.config trace.steps (n + 1) x c.round_after-round.result c.decision_in-decision.result c.trace-trace.ensures.run.well_formed (omega arith) round c.decision_in-decision.ensures in
     let step : IsNextAgreed c.index-seats-i.result.done (done_last trace.config (take (n + 1) trace.steps) x) c.index-in-loop-no.result.now c.next_agreed.result =
     subst (λ (d : Done). IsNextAgreed c.index-seats-i.result.done d c.index-in-loop-no.result.now c.next_agreed.result) (subst (λ k. record { no = k; step = x; round = c.round_after-round.result; decision = c.decision_in-decision.result } ≡ done_last trace.config (take (n + 1) trace.steps) x) place same)
-    (subst (λ (ds : List Done). IsNextAgreed ds (record { no = c.loop-no.no; step = x; round = c.round_after-round.result; decision = c.decision_in-decision.result }) c.index-in-loop-no.result.now c.next_agreed.result) c.done.ensures c.next_agreed.ensures) in
-    (
+    (subst (λ (ds : List Done). IsNextAgreed ds (record { no = c.loop-no.no; step = x; round = c.round_after-round.result; decision = c.decision_in-decision.result }) c.index-in-loop-no.result.now c.next_agreed.result) c.done.ensures c.next_agreed.ensures) in (
       rw next (AreCompared-more trace.config trace.steps n x seats c.loop-no.agreed.items i c.index-seats-i.result c.index-in-loop-no.result.now c.next_agreed.result
           c.requires.order is.at c.loop-no.invariant.0 is.own is.seat c.index-seats-i.is c.index-in-loop-no.ensures step),
       rw next (AreRounds-more trace.steps n x c.loop-no.rounds.items i c.index.result.now c.round_after-round.result is.at is.own is.place c.index.ensures after c.loop-no.invariant.1),
@@ -174,4 +172,3 @@ returns c =
     let most = c.loop-no.auto.no-end (omega arith) in
     let end : c.loop-no.no - 1 ≡ length trace.steps = omega arith in
     subst (λ (k : ℕ). AreCompared trace.config trace.steps k c.args.seats.now c.loop-no.agreed.items) end c.loop-no.invariant.0
-
