@@ -1,5 +1,5 @@
 -- What is done in the first steps of a trace, and in one more.
-use Rattle.std.proofs.Common.{ℕ, zero, suc, Some, None, ◌≡◌, ◌+◌, ◌-◌, ◌<◌, ◌≤◌, List, ◌∷◌, [], ◌++◌, length, take, drop, get_or, Option, cond, Bool, true, false, ◌==◌, ◌&&◌, refl, sym, ap, subst, ◌∙◌, arith, eq-eqb}
+use Rattle.std.proofs.Common.{ℕ, zero, suc, Some, None, ◌≡◌, ◌+◌, ◌-◌, ◌<◌, ◌≤◌, List, ◌∷◌, [], ◌++◌, length, take, drop, get_or, Option, cond, Bool, true, false, ◌==◌, refl, sym, ap, subst, ◌∙◌, arith, eq-eqb}
 use Rattle.std.specs.List.{enumerate_from}
 use Rattle.std.proofs.lemmas.List.{take_more, take-append-drop, length-take, length-map, get_or-map}
 use Rattle.std.proofs.lemmas.List.FromFn.{length-enumerate_from, get_or-enumerate_from}
@@ -7,7 +7,6 @@ use Rattle.std.proofs.lemmas.Option.{slice_get_within, get_or_from_slice_get}
 use Rattle.step_trace.specs.declared.steps.Step.{Step}
 use Rattle.step_trace.specs.Configurations.{Setup}
 use Rattle.step_trace.specs.Traces.{step_at, IsWellFormed}
-use Rattle.lock_phases.specs.Nodes.{State}
 use Rattle.round_model.specs.RoundStates.{state_after}
 use Rattle.step_buffers.specs.declared.moves.Done.{Done}
 use Rattle.step_buffers.specs.HeardTables.{act_ends, passed, heard_table}

@@ -1,10 +1,9 @@
 -- The version in which a trace is written: the first exactly where there is one step in each tick.
-use Rattle.std.proofs.Common.{ℕ, zero, suc, ◌≡◌, ◌+◌, ◌<◌, ◌≤◌, ◌==◌, ◌&&◌, ◌∙◌, List, [], ◌∷◌, length, Bool, true, false, refl, sym, arith, eq-eqb}
+use Rattle.std.proofs.Common.{ℕ, zero, suc, ◌≡◌, ◌+◌, ◌<◌, ◌≤◌, ◌==◌, List, [], ◌∷◌, length, Bool, true, false, refl, arith, eq-eqb}
 use Rattle.std.specs.Prelude.{◌↔◌, IsTrue, slice_index_or, if◌then◌else◌}
 use Rattle.std.proofs.lemmas.Bool.{eqb-true, and_parts}
 use Rattle.step_trace.specs.Traces.{Recorded}
-use Rattle.step_trace.specs.Ticks.{tick_at, tick_of, IsTimed, IsOnePerTick}
-use Rattle.trace_text.specs.declared.versions.Version.{Version}
+use Rattle.step_trace.specs.Ticks.{tick_of, IsTimed, IsOnePerTick}
 use Rattle.trace_text.specs.declared.versions.Version.TheVariants.{One, Two}
 use Rattle.trace_text.specs.TraceTexts.{HasTextsOf, counts_from, is_one_per_tick, version_of}
 

@@ -1,12 +1,12 @@
 -- The first steps of a well-formed trace, with their ticks, are one, to which the next step may be appended.
-use Rattle.std.proofs.Common.{ℕ, zero, suc, ◌≡◌, ◌<◌, ◌≤◌, inl, inr, ◌∙◌, List, [], ◌∷◌, ◌++◌, length, Some, refl, sym, ap, subst, arith, append_assoc, length-append}
+use Rattle.std.proofs.Common.{ℕ, zero, suc, ◌≡◌, ◌<◌, ◌≤◌, inl, inr, ◌∙◌, List, [], ◌∷◌, ◌++◌, length, Some, refl, sym, ap, subst, arith, length-append}
 use Rattle.std.specs.Prelude.{slice_get, slice_index_or}
 use Rattle.std.proofs.lemmas.Grind.{common_steps}
 use Rattle.std.proofs.lemmas.Option.{none-some}
 use Rattle.step_trace.specs.declared.steps.Step.{Step}
 use Rattle.step_trace.specs.Configurations.{Setup}
 use Rattle.step_trace.specs.Traces.{Recorded, step_at, TakesAt, IsWellFormed}
-use Rattle.step_trace.specs.Ticks.{tick_at, tick_of, ComesBefore, IsTimed, IsTrace, CanAppend, with_step}
+use Rattle.step_trace.specs.Ticks.{tick_at, ComesBefore, IsTimed, IsTrace, CanAppend, with_step}
 use Rattle.step_trace.proofs.StepPositions.{step_at_within}
 use Rattle.step_trace.proofs.TickOrder.{ticks_rise}
 use Rattle.step_trace.proofs.TickPositions.{tick_at-push_old, tick_at-push_last, tick_of-limit, step_exists}

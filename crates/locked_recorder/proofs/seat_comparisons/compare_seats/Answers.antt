@@ -1,12 +1,11 @@
-use Rattle.std.proofs.Common.{ℕ, suc, ◌⊎◌, inl, inr, replicate, Some, None, Option, List, ◌≡◌, ◌+◌, ◌-◌, ◌*◌, ◌<◌, ◌≤◌, ◌∙◌, length, take, get_or, cond, Bool, true, false, refl, sym, ap, subst, arith}
+use Rattle.std.proofs.Common.{ℕ, ◌⊎◌, inl, inr, replicate, Some, None, Option, List, ◌≡◌, ◌+◌, ◌-◌, ◌<◌, ◌≤◌, ◌∙◌, length, take, get_or, refl, sym, ap, subst, arith}
 use Rattle.std.specs.Prelude.{option_copied}
 use Rattle.std.proofs.lemmas.Option.{slice_get_within}
 use Rattle.std.proofs.lemmas.List.{length-take, length-set, get_or-replicate}
-use Rattle.step_trace.specs.declared.traces.TheConstants.{MAX_STEPS}
 use Rattle.step_trace.specs.Configurations.{Setup}
 use Rattle.step_trace.specs.Traces.{Recorded, step_at}
 use Rattle.step_buffers.specs.declared.moves.Done.{Done}
-use Rattle.step_buffers.specs.HeardTables.{act_ends, passed}
+use Rattle.step_buffers.specs.HeardTables.{passed}
 use Rattle.step_buffers.proofs.ReceivedProcessors.{passed-within}
 use Rattle.locked_recorder.specs.Audits.{done_last}
 use Rattle.locked_recorder.specs.Comparisons.{AreCompared, IsNextAgreed}

@@ -1,4 +1,4 @@
-use Rattle.std.proofs.Common.{◌≡◌, ◌<◌, ◌^◌, decimal, subst, sym, arith}
+use Rattle.std.proofs.Common.{subst, sym, arith}
 use Rattle.trace_text.specs.RecordWriting.{IsPlain}
 use Rattle.trace_text.proofs.PlainFields.{IsPlain-decimal}
 use Rattle.trace_text.proofs.record_writing.number_field.Goals as goal

@@ -1,4 +1,4 @@
-use Rattle.std.proofs.Common.{◌≤◌, ◌<◌, ◌+◌, length, arith}
+use Rattle.std.proofs.Common.{◌≤◌, length, arith}
 use Rattle.trace_text.proofs.OnePerTick.{one-where_numbered, two-otherwise, tests-IsOnePerTick}
 use Rattle.trace_text.proofs.versions.version_of.Goals as goal
 

@@ -1,4 +1,3 @@
-use Rattle.std.proofs.Common.{subst}
 use Rattle.trace_text.specs.TraceTexts.{version_of}
 use Rattle.trace_text.proofs.OnePerTick.{HasTextsOf-version_of}
 use Rattle.trace_text.proofs.WrittenTexts.{StandsFor-version_text, short-version_text}
