@@ -1,4 +1,4 @@
--- Comparisons: how what the seats did is compared with a trace while its steps are made again, one by one.
+-- Comparisons: how what the seats did is compared with a trace, one step after the other.
 use Rattle.std.specs.Prelude.{ℕ, ◌≡◌, ◌≢◌, ◌+◌, ◌<◌, ◌≤◌, List, length, take, Option, Some, None, slice_get, slice_index_or}
 use Rattle.step_trace.specs.declared.steps.Step.{Step}
 use Rattle.step_trace.specs.Configurations.{Setup}

@@ -45,7 +45,7 @@ pub enum AuditError {
     SeatDiffers(u64),
     /// The trace doesn't extend the view of this index, which counts from 0 and is the least such.
     ViewDiffers(u64),
-    /// There was no memory for the copy of the trace or for the World.
+    /// There was no memory for the copy of the World, or for comparing the seats with it.
     Memory,
 }
 

@@ -51,7 +51,8 @@ IsPlaceOf c p node r to place = (x : Letter) × (place ≡ Some x) × IsSaidTo c
 abbrev pub IsSaid : Setup → ℕ → State → ℕ → Option Letter → Type 0
 IsSaid c p node r said = IfSome said (λ x. (to : ℕ) × IsSaidTo c p node r to x)
 
--- p has this decision since a round that it has reached, and in no round before it had one
+-- p has this decision since a round that it has reached, and in no round before it had one (in round r + 1 it has
+-- passed r rounds)
 pub record IsDecidedSince (c : Setup) (steps : List Step) (p : ℕ) (decision : Option ℕ) (since : ℕ) : Type 0 where
   pub reached : since ≤ passed steps p + 1
   pub before : (r : ℕ) → r ≤ passed steps p → r + 1 < since → (state_after c (heard_table steps) r p).decision ≡ None
