@@ -2,6 +2,8 @@
 use Rattle.std.specs.Prelude.{ℕ}
 use Rattle.std.specs.declared.io.ErrorKind.{ErrorKind}
 use Rattle.std.specs.declared.io.ErrorKind.TheVariants.{OutOfMemory}
+use Rattle.command_line.specs.declared.line_errors.LineError.{LineError}
+use Rattle.command_line.specs.declared.line_errors.LineError.TheVariants as unread
 use Rattle.trace_text.specs.declared.refusals.TextError.{TextError}
 use Rattle.trace_text.specs.declared.refusals.TextError.TheVariants as why
 use Rattle.trace_text.specs.declared.refusals.WriteError.{WriteError}
@@ -24,6 +26,11 @@ status_of fault.Read = 6
 status_of (fault.Write written) = 6
 status_of (fault.NotARun number) = 7
 status_of fault.Threads = 8
+
+-- the fault that a refused command line is
+abbrev pub fault_of_line : LineError → Fault
+fault_of_line (unread.Refused words) = fault.Command words
+fault_of_line unread.Memory = fault.Memory
 
 -- the fault that a refusal of a text is: want of memory and a failed read are faults of their own
 abbrev pub fault_of_text : TextError → Fault

@@ -1,10 +1,6 @@
 pub mod Faults
 pub mod FaultLines
 pub mod Printing
-pub mod Commands
-pub mod ValueLists
-pub mod RunJobs
-pub mod Jobs
 pub mod Inputs
 pub mod Reports
 pub mod ReplayTexts

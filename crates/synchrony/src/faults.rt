@@ -4,6 +4,7 @@ ghost use Rattle.std.specs.Prelude.{◌≡◌};
 ghost use Rattle.std.specs.IoError.{error_kind};
 ghost use Rattle.synchrony.specs.Faults.{status_of, fault_of_opening};
 
+use command_line::LineError;
 use front::ReportError;
 use std::alloc::AllocError;
 use std::io;
@@ -42,6 +43,19 @@ impl From<AllocError> for Fault {
 
     fn from(_error: AllocError) -> Fault {
         Fault::Memory
+    }
+}
+
+impl From<LineError> for Fault {
+    ghost use Rattle.synchrony.specs.Faults.{fault_of_line};
+
+    ghost from_gives = { λ why made. made ≡ fault_of_line why };
+
+    fn from(why: LineError) -> Fault {
+        match why {
+            LineError::Refused(words) => Fault::Command(words),
+            LineError::Memory => Fault::Memory,
+        }
     }
 }
 

@@ -6,28 +6,20 @@
 ghost use Rattle.std.specs.Prelude.{◌≤◌};
 ghost use Rattle.chunk_join.specs.declared.analyses.TheConstants.{MAX_WORKERS};
 
-mod check_lines;
 #[cfg(test)]
 mod check_tests;
 mod checks;
-mod command_line;
-#[cfg(test)]
-mod command_line_tests;
 mod fault_lines;
 mod faults;
-mod help_texts;
 mod inputs;
-mod numbers;
 mod printing;
 #[cfg(test)]
 mod replay_tests;
 mod replay_texts;
 mod replays;
-mod report_lines;
 #[cfg(test)]
 mod report_tests;
 mod reports;
-mod run_lines;
 #[cfg(test)]
 mod run_tests;
 mod runs;
@@ -36,11 +28,9 @@ mod test_support;
 #[cfg(test)]
 mod upgrade_tests;
 mod upgrades;
-mod value_lists;
 mod verdict_lines;
 
 use crate::checks::run_check;
-use crate::command_line::{Job, names_standard_input, read_command, refuse_words};
 use crate::faults::{Fault, status, unopened};
 use crate::printing::{print, tell};
 use crate::replays::run_replay;
@@ -49,6 +39,7 @@ use crate::runs::run_nodes;
 use crate::upgrades::run_upgrade;
 use crate::verdict_lines::verdict_status;
 use certificate_checker::Verdict;
+use command_line::{Job, names_standard_input, read_command, refuse_words};
 use std::env;
 use std::fs::File;
 use std::io::Read;
@@ -74,7 +65,7 @@ fn main(rt: HostRuntime) -> ExitCode {
 fn run<R: Threads + Wait + Sync>(rt: &HostRuntime, threads: &R) -> Result<u8, Fault> {
     let words = match env::args(rt) {
         Ok(words) => words.collect(rt.alloc())?,
-        Err(error) => return Err(refuse_words(rt.alloc(), error.kind())?),
+        Err(error) => return Err(Fault::from(refuse_words(rt.alloc(), error.kind())?)),
     };
     match read_command(rt.alloc(), words)? {
         Job::Report { file, set, workers } => report(rt, threads, file.as_str(), set, workers)?,
