@@ -14,7 +14,7 @@ use Rattle.trace_text.specs.TraceTexts.{trace_text}
 use Rattle.locked_recorder.specs.Audits.{done_at, AreInOrder, AgreeWith}
 use Rattle.locked_recorder.specs.Prefixes.{IsRunOf}
 use Rattle.locked_recorder.specs.Seats.{Turns}
-use Rattle.synchrony.specs.Faults.{fault_of_write}
+use Rattle.text_commands.specs.Faults.{fault_of_write}
 use Rattle.synchrony.specs.Runs.{HaveDone, IsEvenRun, IsUnwrittenRun}
 
 -- what was done from the seats is what the trace has of their processors

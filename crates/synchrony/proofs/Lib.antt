@@ -1,4 +1,1 @@
-pub mod ReportFaults
-pub mod UpgradeFaults
 pub mod EvenRuns
-pub mod CheckFaults

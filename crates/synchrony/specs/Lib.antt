@@ -1,11 +1,2 @@
-pub mod Faults
-pub mod FaultLines
-pub mod Printing
-pub mod Inputs
-pub mod Reports
-pub mod ReplayTexts
-pub mod Replays
+pub mod LineFaults
 pub mod Runs
-pub mod Upgrades
-pub mod VerdictLines
-pub mod Checks

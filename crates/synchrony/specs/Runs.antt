@@ -12,8 +12,8 @@ use Rattle.locked_recorder.specs.declared.errors.DriveStop.TheVariants as stop
 use Rattle.locked_recorder.specs.declared.errors.RecordError.TheVariants as record_error
 use Rattle.locked_recorder.specs.Prefixes.{IsRunOf}
 use Rattle.locked_recorder.specs.Seats.{Turns}
-use Rattle.synchrony.specs.declared.faults.Fault.{Fault}
-use Rattle.synchrony.specs.declared.faults.Fault.TheVariants as fault
+use Rattle.text_commands.specs.declared.faults.Fault.{Fault}
+use Rattle.text_commands.specs.declared.faults.Fault.TheVariants as fault
 use Rattle.synchrony.specs.declared.runs.Ending.{Ending}
 use Rattle.synchrony.specs.declared.runs.Ending.TheVariants as ending
 

@@ -1,14 +1,12 @@
 //! Checks of worked certificates, refused texts, and devices that fail.
 
-use crate::checks::run_check;
-use crate::faults::Fault;
 use crate::test_support::{NEVER_DELIVERED, REDELIVERED, has_refused, was_cut};
-use crate::verdict_lines::verdict_status;
 use certificate_checker::Verdict;
 use std::alloc::{AllocError, Global};
 use std::io::ErrorKind;
 use std::test::Fail;
 use step_trace::ProcSet;
+use text_commands::{Fault, run_check, verdict_status};
 use trace_text::Counting;
 use trace_text::failing_devices::{AfterBytes, FailingReader, FailingWriter, WriteFailure};
 

@@ -8,18 +8,11 @@ ghost use Rattle.chunk_join.specs.declared.analyses.TheConstants.{MAX_WORKERS};
 
 #[cfg(test)]
 mod check_tests;
-mod checks;
-mod fault_lines;
-mod faults;
-mod inputs;
-mod printing;
+mod line_faults;
 #[cfg(test)]
 mod replay_tests;
-mod replay_texts;
-mod replays;
 #[cfg(test)]
 mod report_tests;
-mod reports;
 #[cfg(test)]
 mod run_tests;
 mod runs;
@@ -27,17 +20,9 @@ mod runs;
 mod test_support;
 #[cfg(test)]
 mod upgrade_tests;
-mod upgrades;
-mod verdict_lines;
 
-use crate::checks::run_check;
-use crate::faults::{Fault, status, unopened};
-use crate::printing::{print, tell};
-use crate::replays::run_replay;
-use crate::reports::run_report;
+use crate::line_faults::refused_line;
 use crate::runs::run_nodes;
-use crate::upgrades::run_upgrade;
-use crate::verdict_lines::verdict_status;
 use certificate_checker::Verdict;
 use command_line::{Job, names_standard_input, read_command, refuse_words};
 use std::env;
@@ -47,6 +32,10 @@ use std::process::ExitCode;
 use std::sync::Wait;
 use std::thread::Threads;
 use step_trace::{OpenGate, ProcSet};
+use text_commands::{
+    Fault, print, run_check, run_replay, run_report, run_upgrade, status, tell, unopened,
+    verdict_status,
+};
 use trace_text::Counting;
 
 fn main(rt: HostRuntime) -> ExitCode {
@@ -65,9 +54,9 @@ fn main(rt: HostRuntime) -> ExitCode {
 fn run<R: Threads + Wait + Sync>(rt: &HostRuntime, threads: &R) -> Result<u8, Fault> {
     let words = match env::args(rt) {
         Ok(words) => words.collect(rt.alloc())?,
-        Err(error) => return Err(Fault::from(refuse_words(rt.alloc(), error.kind())?)),
+        Err(error) => return Err(refused_line(refuse_words(rt.alloc(), error.kind())?)),
     };
-    match read_command(rt.alloc(), words)? {
+    match read_command(rt.alloc(), words).map_err(refused_line)? {
         Job::Report { file, set, workers } => report(rt, threads, file.as_str(), set, workers)?,
         Job::Replay { file } => replay(rt, file.as_str())?,
         Job::Run {
@@ -100,6 +89,14 @@ fn run<R: Threads + Wait + Sync>(rt: &HostRuntime, threads: &R) -> Result<u8, Fa
     Ok(0)
 }
 
+/// Opens a file to be read.
+fn open(rt: &HostRuntime, file: &str) -> Result<File, Fault> {
+    match File::open(rt, file) {
+        Ok(opened) => Ok(opened),
+        Err(error) => Err(unopened(error)),
+    }
+}
+
 /// Prints the report of the trace in a file. `threads` starts the threads of the workers.
 fn report<T: Threads + Wait + Sync>(
     rt: &HostRuntime,
@@ -114,7 +111,7 @@ fn report<T: Threads + Wait + Sync>(
     if names_standard_input(file) {
         return report_read(rt, threads, rt.stdin(), set, workers);
     }
-    let opened = File::open(rt, file).map_err(unopened)?;
+    let opened = open(rt, file)?;
     report_read(rt, threads, opened, set, workers)
 }
 
@@ -146,7 +143,7 @@ fn replay(rt: &HostRuntime, file: &str) -> Result<(), Fault> {
     if names_standard_input(file) {
         return run_replay(rt.alloc(), &mut Counting::new(rt.stdin()), &mut output);
     }
-    let opened = File::open(rt, file).map_err(unopened)?;
+    let opened = open(rt, file)?;
     run_replay(rt.alloc(), &mut Counting::new(opened), &mut output)
 }
 
@@ -156,7 +153,7 @@ fn upgrade(rt: &HostRuntime, file: &str) -> Result<(), Fault> {
     if names_standard_input(file) {
         return run_upgrade(rt.alloc(), &mut Counting::new(rt.stdin()), &mut output);
     }
-    let opened = File::open(rt, file).map_err(unopened)?;
+    let opened = open(rt, file)?;
     run_upgrade(rt.alloc(), &mut Counting::new(opened), &mut output)
 }
 
@@ -164,14 +161,14 @@ fn upgrade(rt: &HostRuntime, file: &str) -> Result<(), Fault> {
 /// read.
 fn check(rt: &HostRuntime, file: &str, certificate: &str, set: ProcSet) -> Result<Verdict, Fault> {
     if names_standard_input(file) {
-        let opened = File::open(rt, certificate).map_err(unopened)?;
+        let opened = open(rt, certificate)?;
         return check_read(rt, rt.stdin(), opened, set);
     }
-    let opened = File::open(rt, file).map_err(unopened)?;
+    let opened = open(rt, file)?;
     if names_standard_input(certificate) {
         return check_read(rt, opened, rt.stdin(), set);
     }
-    let other = File::open(rt, certificate).map_err(unopened)?;
+    let other = open(rt, certificate)?;
     check_read(rt, opened, other, set)
 }
 

@@ -1,11 +1,10 @@
 //! Replays of worked runs, traces that are none, and devices that fail.
 
-use crate::faults::Fault;
-use crate::replays::run_replay;
 use crate::test_support::{NO_STEPS, ONE_MISS, REDELIVERED, has_refused, has_written, was_cut};
 use std::alloc::{AllocError, Global};
 use std::io::ErrorKind;
 use std::test::Fail;
+use text_commands::{Fault, run_replay};
 use trace_text::Counting;
 use trace_text::failing_devices::{AfterBytes, FailingReader, FailingWriter, WriteFailure};
 

@@ -1,7 +1,5 @@
 //! Reports of worked traces, refused traces, and devices that fail.
 
-use crate::faults::{Fault, status};
-use crate::reports::run_report;
 use crate::test_support::{
     NEVER_DELIVERED, NO_STEPS, ONE_MISS, REDELIVERED, has_refused, has_written, was_cut,
 };
@@ -13,6 +11,7 @@ use std::test::Fail;
 use std::thread::Threads;
 use step_trace::meeting::MeetingGate;
 use step_trace::{Gate, OpenGate, ProcSet};
+use text_commands::{Fault, run_report, status};
 use trace_text::Counting;
 use trace_text::failing_devices::{AfterBytes, FailingReader, FailingWriter, WriteFailure};
 

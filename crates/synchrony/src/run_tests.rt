@@ -3,8 +3,6 @@
 ghost use Rattle.std.specs.Prelude.{◌*◌, ◌≤◌, length};
 ghost use Rattle.step_trace.specs.declared.traces.TheConstants.{MAX_STEPS};
 
-use crate::faults::{Fault, status};
-use crate::replays::run_replay;
 use crate::runs::run_nodes;
 use crate::test_support::has_written;
 use std::alloc::{AllocError, Global};
@@ -14,6 +12,7 @@ use std::thread::Threads;
 use step_buffers::replay;
 use step_trace::meeting::MeetingGate;
 use step_trace::{Config, Gate, OpenGate};
+use text_commands::{Fault, run_replay, status};
 use trace_text::failing_devices::{FailingWriter, WriteFailure};
 use trace_text::{Counting, read_trace};
 

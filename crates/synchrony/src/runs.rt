@@ -5,10 +5,9 @@ ghost use Rattle.std.specs.Io.KnownBytes.{Appends};
 ghost use Rattle.step_trace.specs.declared.traces.TheConstants.{MAX_STEPS};
 ghost use Rattle.trace_text.specs.ByteLoops.{WasFaultless};
 ghost use Rattle.trace_text.specs.Faults.{inner_of, is_flushed};
-ghost use Rattle.synchrony.specs.Printing.{IsWriteFault};
+ghost use Rattle.text_commands.specs.Printing.{IsWriteFault};
 ghost use Rattle.synchrony.specs.Runs.{HaveDone, IsEvenRun, IsEvenRunText, IsFaultOfNodes, IsFaultOfThreads, IsUnwrittenRun, ending_of, gravity, fault_of_ending};
 
-use crate::faults::Fault;
 use locked_recorder::{AuditError, DriveError, DriveStop, RecordError, Recorder, Seat};
 use std::alloc::Global;
 use std::io::Write;
@@ -17,6 +16,7 @@ use std::thread;
 use std::thread::{JoinHandle, Threads};
 use step_buffers::{StepError, World};
 use step_trace::{Config, Gate};
+use text_commands::Fault;
 use trace_text::{Counting, write_trace};
 
 /// How a thread ended, or all of them together.

@@ -1,8 +1,7 @@
 //! What the tests of the commands share: trace texts, and what is looked at when a command has ended.
 
-use crate::fault_lines::fault_text;
-use crate::faults::{Fault, status};
 use std::alloc::{AllocError, Global};
+use text_commands::{Fault, fault_text, status};
 use trace_text::failing_devices::FailingWriter;
 
 pub(crate) const ONE_MISS: &str = "dls-trace,1,2,0\ninit,5,7\n1,1,S,2\n2,2,R,\n3,2,R,1\nend,3\n";

@@ -1,11 +1,10 @@
 //! Upgrades of worked traces, refused traces, and devices that fail.
 
-use crate::faults::Fault;
 use crate::test_support::{ONE_MISS, REDELIVERED, has_refused, has_written, was_cut};
-use crate::upgrades::run_upgrade;
 use std::alloc::{AllocError, Global};
 use std::io::ErrorKind;
 use std::test::Fail;
+use text_commands::{Fault, run_upgrade};
 use trace_text::Counting;
 use trace_text::failing_devices::{AfterBytes, FailingReader, FailingWriter, WriteFailure};
 

@@ -1,0 +1,3 @@
+pub mod ReportFaults
+pub mod UpgradeFaults
+pub mod CheckFaults

@@ -1,0 +1,10 @@
+pub mod Faults
+pub mod FaultLines
+pub mod Printing
+pub mod Inputs
+pub mod Reports
+pub mod ReplayTexts
+pub mod Replays
+pub mod Upgrades
+pub mod VerdictLines
+pub mod Checks

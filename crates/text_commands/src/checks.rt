@@ -1,0 +1,79 @@
+//! The check of a certificate against a trace text, from two readers to a writer.
+
+ghost use Rattle.std.specs.Prelude.{◌≡◌, ◌≤◌, ℕ, List, OnOk, IfOk, IfErr, IfSome, IsTrue, length};
+ghost use Rattle.std.specs.Io.KnownBytes.{IsAtEnd, Appends};
+ghost use Rattle.step_trace.specs.declared.rows.Row.{Row};
+ghost use Rattle.trace_text.specs.ByteLoops.{WasFaultless};
+ghost use Rattle.trace_text.specs.Faults.{inner_of, faults_of, is_flushed};
+ghost use Rattle.trace_text.specs.declared.byte_loops.TheConstants.{MAX_TEXT_BYTES};
+ghost use Rattle.front.specs.ReportTexts.{StandsFor};
+ghost use Rattle.text_commands.specs.Checks.{IsCheckFault, IsEitherReadFault, IsFaultBefore, IsFaultOfCheck, IsUnchecked, IsVerdictOn, told_verdict};
+ghost use Rattle.text_commands.specs.Inputs.{IsReadFault};
+ghost use Rattle.text_commands.specs.Printing.{IsWriteFault};
+
+use crate::faults::Fault;
+use crate::reports::trace_within;
+use crate::verdict_lines::tell_verdict;
+use certificate_checker::{Verdict, check};
+use front::read_report;
+use std::alloc::Global;
+use std::io::{Read, Write};
+use step_trace::ProcSet;
+use trace_text::{Counting, read_all};
+
+/// Reads a trace text and then a certificate to their ends, checks the rows of the certificate against the
+/// trace, for `set` as the correct processors, and writes the line of the verdict. Nothing is written before the
+/// verdict stands.
+///
+/// Refuses, in this order: Read, or Trace for a trace text that is too large; Trace for any other refusal of it;
+/// Set where a member is above the trace's number of processors; Read, or Certificate with the first refusal of
+/// the certificate; Write with the number of bytes that went out before. Memory may come at any step before the
+/// first write.
+pub fn run_check<R: Read, S: Read, W: Write>(
+    alloc: Global,
+    trace: &mut Counting<R>,
+    certificate: &mut Counting<S>,
+    writer: &mut Counting<W>,
+    set: ProcSet,
+) -> Result<Verdict, Fault>
+    ensures end { OnOk result (IsAtEnd (R.remaining (inner_of trace.new)) × IsAtEnd (S.remaining (inner_of certificate.new))) }
+    ensures verdict { IfOk result (λ verdict. (text : List ℕ) × (rows : List Row)
+        × IfSome (R.remaining (inner_of trace.old)) (λ known. text ≡ known)
+        × IfSome (S.remaining (inner_of certificate.old)) (λ known. StandsFor known rows × (length known ≤ MAX_TEXT_BYTES))
+        × IsVerdictOn set text rows verdict
+        × Appends (W.contents (inner_of writer.old)) (W.contents (inner_of writer.new)) (told_verdict verdict)) }
+    ensures flushed { OnOk result (IsTrue (is_flushed writer.new)) }
+    ensures faultless { OnOk result ((faults_of trace.new ≡ faults_of trace.old) × (faults_of certificate.new ≡ faults_of certificate.old)
+        × WasFaultless writer.old writer.new) }
+    ensures refused { IfErr result (λ why. IfSome (R.remaining (inner_of trace.old)) (λ text. IfSome (S.remaining (inner_of certificate.old)) (λ claimed.
+        IsCheckFault set text claimed (W.contents (inner_of writer.old)) (W.contents (inner_of writer.new)) why))) }
+    ensures own { IfErr result IsFaultOfCheck }
+    ensures read { IfErr result (IsEitherReadFault (faults_of trace.old) (faults_of trace.new) (faults_of certificate.old) (faults_of certificate.new)) }
+    ensures unwritten { IfErr result (IsWriteFault writer.old writer.new) }
+{
+    let text = read_all(alloc, trace)?;
+    let verdict = verdict_on(alloc, text, certificate, set)?;
+    tell_verdict(alloc, verdict, writer)?;
+    Ok(verdict)
+}
+
+/// The verdict on the certificate that the reader has left, for the trace that a text stands for.
+fn verdict_on<S: Read>(
+    alloc: Global,
+    text: Vec<u8>,
+    certificate: &mut Counting<S>,
+    set: ProcSet,
+) -> Result<Verdict, Fault>
+    ensures end { OnOk result (IsAtEnd (S.remaining (inner_of certificate.new))) }
+    ensures verdict { IfOk result (λ verdict. (rows : List Row)
+        × IfSome (S.remaining (inner_of certificate.old)) (λ known. StandsFor known rows × (length known ≤ MAX_TEXT_BYTES))
+        × IsVerdictOn set text.items rows verdict) }
+    ensures faultless { OnOk result (faults_of certificate.new ≡ faults_of certificate.old) }
+    ensures refused { IfErr result (λ why. IfSome (S.remaining (inner_of certificate.old)) (λ claimed. IsUnchecked set text.items claimed why)) }
+    ensures own { IfErr result IsFaultBefore }
+    ensures read { IfErr result (IsReadFault (faults_of certificate.old) (faults_of certificate.new)) }
+{
+    let trace = trace_within(alloc, text, set)?;
+    let rows = read_report(alloc, certificate)?;
+    Ok(check(alloc, &trace, set, &rows)?)
+}

@@ -1,0 +1,106 @@
+//! The lines in which faults are told.
+
+ghost use Rattle.std.specs.Prelude.{◌≡◌, IfOk, string_bytes};
+ghost use Rattle.text_commands.specs.FaultLines.{fault_line, ended_line};
+
+use crate::faults::Fault;
+use front::ReportError;
+use std::alloc::{AllocError, Global};
+use std::fmt;
+use trace_text::TextError;
+
+/// The line of a fault without its line feed, or the words of the command line's reader, which end
+/// in one.
+pub fn fault_text(alloc: Global, fault: &Fault) -> Result<String, AllocError>
+    ensures { IfOk result (λ text. string_bytes text ≡ fault_line fault.now) }
+{
+    fault.to_string(alloc)
+}
+
+/// The line of a fault, with one line feed at its end.
+pub fn told_line(alloc: Global, fault: &Fault) -> Result<String, AllocError>
+    ensures { IfOk result (λ line. string_bytes line ≡ ended_line (fault_line fault.now)) }
+{
+    let mut line = fault_text(alloc, fault)?;
+    if !line.as_str().ends_with('\n') {
+        line.push_str("\n")?;
+    }
+    Ok(line)
+}
+
+impl fmt::Display for Fault {
+    ghost use Rattle.std.specs.Prelude.{Some};
+    ghost use Rattle.text_commands.specs.FaultLines.{fault_line};
+
+    ghost output = { λ fault. Some (fault_line fault) };
+
+    fn fmt<W: fmt::Write>(&self, f: &mut fmt::Formatter<W>) -> fmt::Result {
+        match self {
+            Fault::Command(words) => f.write_str(words.as_str()),
+            Fault::Set => f.write_str("synchrony: no such processor in --correct"),
+            Fault::Trace(why) => write!(f, "synchrony: trace: {}", TraceWords(why)),
+            Fault::Certificate(why) => {
+                write!(f, "synchrony: certificate: {}", CertificateWords(why))
+            }
+            Fault::Memory => f.write_str("synchrony: out of memory"),
+            Fault::Read => f.write_str("synchrony: cannot read"),
+            Fault::Write(_) => f.write_str("synchrony: cannot write"),
+            Fault::NotARun(no) => write!(f, "synchrony: not a run: step {no}"),
+            Fault::Threads => f.write_str("synchrony: worker not started or held"),
+        }
+    }
+}
+
+/// What is told of a refused trace text.
+#[derive(Clone, Copy)]
+struct TraceWords<'a>(&'a TextError);
+
+impl fmt::Display for TraceWords<'_> {
+    ghost use Rattle.std.specs.Prelude.{Some};
+    ghost use Rattle.text_commands.specs.FaultLines.{trace_words};
+
+    ghost output = { λ words. Some (trace_words words.0.now) };
+
+    fn fmt<W: fmt::Write>(&self, f: &mut fmt::Formatter<W>) -> fmt::Result {
+        match self.0 {
+            TextError::TooLarge => f.write_str("text too large"),
+            TextError::Read => f.write_str("cannot read"),
+            TextError::BadHeader => f.write_str("bad header"),
+            TextError::BadVersion => f.write_str("bad version"),
+            TextError::BadSize => f.write_str("bad size"),
+            TextError::BadInit => f.write_str("bad init"),
+            TextError::BadFields(no) => write!(f, "step {no}: bad fields"),
+            TextError::WrongNumber(no) => write!(f, "step {no}: wrong number"),
+            TextError::BadOp(no) => write!(f, "step {no}: bad operation"),
+            TextError::BadNumber(no) => write!(f, "step {no}: bad number"),
+            TextError::BadStep(no, why) => write!(f, "step {no}: {why}"),
+            TextError::NoEnd => f.write_str("no end"),
+            TextError::WrongEnd => f.write_str("wrong end"),
+            TextError::AfterEnd => f.write_str("text after end"),
+            TextError::Memory => f.write_str("out of memory"),
+        }
+    }
+}
+
+/// What is told of a refused certificate.
+#[derive(Clone, Copy)]
+struct CertificateWords<'a>(&'a ReportError);
+
+impl fmt::Display for CertificateWords<'_> {
+    ghost use Rattle.std.specs.Prelude.{Some};
+    ghost use Rattle.text_commands.specs.FaultLines.{certificate_words};
+
+    ghost output = { λ words. Some (certificate_words words.0.now) };
+
+    fn fmt<W: fmt::Write>(&self, f: &mut fmt::Formatter<W>) -> fmt::Result {
+        match self.0 {
+            ReportError::TooLarge => f.write_str("text too large"),
+            ReportError::Read => f.write_str("cannot read"),
+            ReportError::BadHeader => f.write_str("bad header"),
+            ReportError::BadFields(row) => write!(f, "row {row}: bad fields"),
+            ReportError::BadNumber(row) => write!(f, "row {row}: bad number"),
+            ReportError::HalfWitness(row) => write!(f, "row {row}: half a witness"),
+            ReportError::Memory => f.write_str("out of memory"),
+        }
+    }
+}

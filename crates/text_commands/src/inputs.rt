@@ -1,0 +1,19 @@
+//! The trace that a text stands for, for the commands that read one.
+
+ghost use Rattle.std.specs.Prelude.{IfOk, IfErr};
+ghost use Rattle.text_commands.specs.Inputs.{IsTextOf, IsTraceFault};
+
+use crate::faults::Fault;
+use std::alloc::Global;
+use step_trace::Trace;
+use trace_text::read_trace;
+
+/// The trace that a text stands for. It lets go of the text, which takes much memory for a long trace.
+///
+/// Refuses Trace with the first refusal of the text, and Memory.
+pub fn trace_of(alloc: Global, text: Vec<u8>) -> Result<Trace, Fault>
+    ensures read { IfOk result (λ t. IsTextOf text.items t) }
+    ensures refused { IfErr result (IsTraceFault text.items) }
+{
+    Ok(read_trace(alloc, &text)?)
+}

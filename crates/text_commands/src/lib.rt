@@ -1,0 +1,24 @@
+//! The commands that make text of text, each from a reader to a writer: the report of a trace, its replay,
+//! its upgrade, and the check of a report; and the faults that end the program, their lines and their
+//! statuses. `specs/` has the definitions that the contracts cite.
+#![tactic(auto)]
+
+mod checks;
+mod fault_lines;
+mod faults;
+mod inputs;
+mod printing;
+mod replay_texts;
+mod replays;
+mod reports;
+mod upgrades;
+mod verdict_lines;
+
+pub use checks::run_check;
+pub use fault_lines::{fault_text, told_line};
+pub use faults::{Fault, status, unopened};
+pub use printing::{print, tell};
+pub use replays::run_replay;
+pub use reports::run_report;
+pub use upgrades::run_upgrade;
+pub use verdict_lines::{tell_verdict, verdict_status};

@@ -1,0 +1,139 @@
+//! The report of a trace text, from a reader to a writer.
+
+ghost use Rattle.std.specs.Prelude.{◌≡◌, ◌≢◌, ◌≤◌, ℕ, List, OnOk, IfOk, IfErr, IfSome, IsTrue, MatchResult};
+ghost use Rattle.std.specs.Io.KnownBytes.{IsAtEnd, Appends};
+ghost use Rattle.step_trace.specs.Fronts.{IsReport};
+ghost use Rattle.step_trace.specs.Processors.{IsWithin};
+ghost use Rattle.trace_text.specs.ByteLoops.{WasFaultless};
+ghost use Rattle.trace_text.specs.Faults.{inner_of, faults_of, is_flushed};
+ghost use Rattle.chunk_join.specs.declared.analyses.TheConstants.{MAX_WORKERS};
+ghost use Rattle.text_commands.specs.Inputs.{IsReadFault, IsTextOf};
+ghost use Rattle.text_commands.specs.Printing.{IsWriteFault};
+ghost use Rattle.text_commands.specs.Reports.{AreRowsOf, IsReportOf, IsFaultOfReading, IsFaultOfReport, IsFaultOfWorkers, IsReportFault, IsTextFault, IsUnreported, TellsAnalysis};
+
+use crate::faults::Fault;
+use crate::inputs::trace_of;
+use chunk_join::{AnalyseError, analyse};
+use front::{Report, front, write_report};
+use std::alloc::Global;
+use std::io::{Read, Write};
+use std::sync::Wait;
+use std::thread::Threads;
+use step_trace::{Gate, ProcSet, Trace};
+use trace_text::{Counting, read_all};
+
+/// Reads a trace text to its end, and writes the report of its trace, for `set` as the correct
+/// processors. So many workers find the bounds, each in a thread of its own, which enters the gate
+/// before its work; whatever their number, the report is the same. Nothing is written before the whole
+/// report stands.
+///
+/// Asks for 1 to `MAX_WORKERS` workers, and waits for them. Refuses, in this order: Read, or Trace for
+/// a text that is too large; Trace for any other refusal of the text; Set where a member is above the
+/// trace's number of processors; Threads where the gate held a worker back or its thread couldn't be
+/// started; Write with the number of bytes that went out before. Memory may come at any step before
+/// the first write.
+pub fn run_report<T: Threads + Wait + Sync, R: Read, W: Write, G: Gate>(
+    rt: &T,
+    alloc: Global,
+    reader: &mut Counting<R>,
+    writer: &mut Counting<W>,
+    set: ProcSet,
+    workers: u64,
+    gate: &G,
+) -> Result<(), Fault>
+    requires some { 1 ≤ workers }
+    requires few { workers ≤ MAX_WORKERS }
+    ensures end { OnOk result (IsAtEnd (R.remaining (inner_of reader.new))) }
+    ensures report { OnOk result ((text : List ℕ) × (report : List ℕ)
+        × IfSome (R.remaining (inner_of reader.old)) (λ known. text ≡ known)
+        × IsReportOf set text report
+        × Appends (W.contents (inner_of writer.old)) (W.contents (inner_of writer.new)) report) }
+    ensures flushed { OnOk result (IsTrue (is_flushed writer.new)) }
+    ensures faultless { OnOk result ((faults_of reader.new ≡ faults_of reader.old) × WasFaultless writer.old writer.new) }
+    ensures refused { IfErr result (λ why. IfSome (R.remaining (inner_of reader.old)) (λ text.
+        IsReportFault set text (W.contents (inner_of writer.old)) (W.contents (inner_of writer.new)) why)) }
+    ensures own { IfErr result IsFaultOfReport }
+    ensures read { IfErr result (IsReadFault (faults_of reader.old) (faults_of reader.new)) }
+    ensures unwritten { IfErr result (IsWriteFault writer.old writer.new) }
+{
+    let text = read_all(alloc, reader)?;
+    let report = report_of(rt, alloc, text, set, workers, gate)?;
+    Ok(write_report(alloc, report.rows(), writer)?)
+}
+
+/// The report of the trace that a text stands for.
+fn report_of<T: Threads + Wait + Sync, G: Gate>(
+    rt: &T,
+    alloc: Global,
+    text: Vec<u8>,
+    set: ProcSet,
+    workers: u64,
+    gate: &G,
+) -> Result<Report, Fault>
+    requires some { 1 ≤ workers }
+    requires few { workers ≤ MAX_WORKERS }
+    ensures report { IfOk result (λ r. AreRowsOf set text.items r.rows) }
+    ensures refused { IfErr result (IsUnreported set text.items) }
+    ensures own { IfErr result IsFaultOfReport }
+{
+    let trace = trace_within(alloc, text, set)?;
+    rows_of(rt, alloc, &trace, set, workers, gate)
+}
+
+/// The trace that a text stands for, where no member of the set is above its processors.
+///
+/// Refuses, in this order: Trace with the first refusal of the text; Set. Memory may come instead.
+pub fn trace_within(alloc: Global, text: Vec<u8>, set: ProcSet) -> Result<Trace, Fault>
+    ensures read { IfOk result (λ t. IsTextOf text.items t) }
+    ensures within { IfOk result (λ t. IsWithin set t.config.n) }
+    ensures refused { IfErr result (IsTextFault set text.items) }
+    ensures own { IfErr result IsFaultOfReading }
+{
+    let trace = trace_of(alloc, text)?;
+    test_set(set, trace.config().n())?;
+    Ok(trace)
+}
+
+/// The report of a trace, whose bounds so many workers find.
+fn rows_of<T: Threads + Wait + Sync, G: Gate>(
+    rt: &T,
+    alloc: Global,
+    trace: &Trace,
+    set: ProcSet,
+    workers: u64,
+    gate: &G,
+) -> Result<Report, Fault>
+    requires within { IsWithin set trace.now.config.n }
+    requires some { 1 ≤ workers }
+    requires few { workers ≤ MAX_WORKERS }
+    ensures report { IfOk result (λ r. IsReport set trace.now r.rows) }
+    ensures refused { IfErr result IsFaultOfWorkers }
+{
+    match analyse(rt, alloc, trace, set, workers, gate) {
+        Ok(stairs) => Ok(front(alloc, &stairs)?),
+        Err(why) => Err(unanalysed(why)),
+    }
+}
+
+/// The fault of a trace that wasn't analysed, though the number of workers was right.
+fn unanalysed(why: AnalyseError) -> Fault
+    requires { why ≢ AnalyseError.BadWorkers }
+    ensures { TellsAnalysis why result }
+{
+    match why {
+        AnalyseError::Held | AnalyseError::Start => Fault::Threads,
+        AnalyseError::Memory => Fault::Memory,
+        AnalyseError::BadWorkers => unreachable!(),
+    }
+}
+
+/// Refuses a set that has a member above `n`, and no other.
+fn test_set(set: ProcSet, n: u64) -> Result<(), Fault>
+    ensures { MatchResult result (λ _. IsWithin set n) (λ why. (why ≡ Fault.Set) × (¬ IsWithin set n)) }
+{
+    if set.within(n) {
+        Ok(())
+    } else {
+        Err(Fault::Set)
+    }
+}

@@ -1,0 +1,44 @@
+//! The upgrade of a trace text to version 2, from a reader to a writer.
+
+ghost use Rattle.std.specs.Prelude.{◌≡◌, ℕ, List, OnOk, IfErr, IfSome, IsTrue};
+ghost use Rattle.std.specs.Io.KnownBytes.{IsAtEnd, Appends};
+ghost use Rattle.trace_text.specs.ByteLoops.{WasFaultless};
+ghost use Rattle.trace_text.specs.Faults.{inner_of, faults_of, is_flushed};
+ghost use Rattle.text_commands.specs.Inputs.{IsReadFault};
+ghost use Rattle.text_commands.specs.Printing.{IsWriteFault};
+ghost use Rattle.text_commands.specs.Upgrades.{IsUpgradeOf, IsFaultOfUpgrade, IsUpgradeFault};
+
+use crate::faults::Fault;
+use crate::inputs::trace_of;
+use std::alloc::Global;
+use std::io::{Read, Write};
+use trace_text::{Counting, read_all, write_trace_2};
+
+/// Reads a trace text of either version to its end, and writes the version 2 text of its trace. Nothing is
+/// written before the whole text stands.
+///
+/// Refuses, in this order: Read, or Trace for a text that is too large; Trace for any other refusal of
+/// the text; Write with the number of bytes that went out before. Memory may come at any step before the
+/// first write.
+pub fn run_upgrade<R: Read, W: Write>(
+    alloc: Global,
+    reader: &mut Counting<R>,
+    writer: &mut Counting<W>,
+) -> Result<(), Fault>
+    ensures end { OnOk result (IsAtEnd (R.remaining (inner_of reader.new))) }
+    ensures upgrade { OnOk result ((text : List ℕ) × (upgrade : List ℕ)
+        × IfSome (R.remaining (inner_of reader.old)) (λ known. text ≡ known)
+        × IsUpgradeOf text upgrade
+        × Appends (W.contents (inner_of writer.old)) (W.contents (inner_of writer.new)) upgrade) }
+    ensures flushed { OnOk result (IsTrue (is_flushed writer.new)) }
+    ensures faultless { OnOk result ((faults_of reader.new ≡ faults_of reader.old) × WasFaultless writer.old writer.new) }
+    ensures refused { IfErr result (λ why. IfSome (R.remaining (inner_of reader.old)) (λ text.
+        IsUpgradeFault text (W.contents (inner_of writer.old)) (W.contents (inner_of writer.new)) why)) }
+    ensures own { IfErr result IsFaultOfUpgrade }
+    ensures read { IfErr result (IsReadFault (faults_of reader.old) (faults_of reader.new)) }
+    ensures unwritten { IfErr result (IsWriteFault writer.old writer.new) }
+{
+    let text = read_all(alloc, reader)?;
+    let trace = trace_of(alloc, text)?;
+    Ok(write_trace_2(alloc, &trace, writer)?)
+}
