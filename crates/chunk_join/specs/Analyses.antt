@@ -6,6 +6,10 @@ use Rattle.step_trace.specs.Ticks.{IsTrace}
 use Rattle.chunk_join.specs.declared.analyses.TheConstants.{MAX_WORKERS}
 use Rattle.chunk_join.specs.declared.analyses.PieceOf.{PieceOf}
 use Rattle.chunk_join.specs.declared.analyses.Share.{Share}
+use Rattle.chunk_join.specs.declared.analyses.AnalyseError.{AnalyseError}
+use Rattle.chunk_join.specs.declared.analyses.AnalyseError.TheVariants as unanalysed
+use Rattle.chunk_join.specs.declared.analyses.Stop.{Stop}
+use Rattle.chunk_join.specs.declared.analyses.Stop.TheVariants as stopped
 use Rattle.chunk_join.specs.Summaries.{Summary, IsPiece}
 
 -- there are no workers, or too many
@@ -34,3 +38,15 @@ pub record IsPromised (set : ℕ) (trace : Recorded) (workers w : ℕ) (promise 
 -- these threads promise the pieces of the workers from the first on, in their order
 abbrev pub ArePromised : {T : Type 0} → ℕ → Recorded → ℕ → List (PromisedHandle T PieceOf) → Type 0
 ArePromised set trace workers threads = (k : ℕ) (thread : PromisedHandle _ PieceOf) → slice_get threads k ≡ Some thread → IsPromised set trace workers (k + 1) thread.promise
+
+-- how grave a cause is: of several the gravest is told
+abbrev pub gravity : Stop → ℕ
+gravity stopped.Held = 3
+gravity stopped.Start = 2
+gravity stopped.Memory = 1
+
+-- the error that tells of a cause
+abbrev pub error_of : Stop → AnalyseError
+error_of stopped.Held = unanalysed.Held
+error_of stopped.Start = unanalysed.Start
+error_of stopped.Memory = unanalysed.Memory

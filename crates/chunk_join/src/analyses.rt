@@ -1,6 +1,6 @@
 //! The bounds of a trace, found by several threads.
 
-ghost use Rattle.std.specs.Prelude.{◌≡◌, ◌≢◌, ◌↔◌, ◌+◌, ◌-◌, ◌<◌, ◌≤◌, ℕ, length, slice_get, Some, IfOk, OnOk, IfErr};
+ghost use Rattle.std.specs.Prelude.{◌≡◌, ◌↔◌, ◌+◌, ◌-◌, ◌<◌, ◌≤◌, ◌⊎◌, ℕ, length, slice_get, Some, Err, IfOk, OnOk, IfErr};
 ghost use Rattle.step_trace.specs.declared.traces.TheConstants.{MAX_TICKS};
 ghost use Rattle.step_trace.specs.Ticks.{IsTrace};
 ghost use Rattle.step_trace.specs.Processors.{IsWithin};
@@ -8,7 +8,8 @@ ghost use Rattle.step_trace.specs.Traces.{Recorded};
 ghost use Rattle.suffix_staircase.specs.Analysis.{AreLevels};
 ghost use Rattle.chunk_join.specs.declared.analyses.Share.{Share};
 ghost use Rattle.chunk_join.specs.declared.analyses.AnalyseError.{AnalyseError};
-ghost use Rattle.chunk_join.specs.Analyses.{AreBadWorkers, ArePromised, IsPieceOf, IsShare, cut};
+ghost use Rattle.chunk_join.specs.declared.analyses.Stop.{Stop};
+ghost use Rattle.chunk_join.specs.Analyses.{AreBadWorkers, ArePromised, IsPieceOf, IsShare, cut, error_of, gravity};
 
 use crate::joins::Joined;
 use crate::lone_worker::stairs_by_one;
@@ -240,7 +241,12 @@ fn joined<R: Threads>(
 
 /// Two pieces joined, or the gravest reason against it.
 fn both(left: Result<Piece, Stop>, right: Result<Piece, Stop>) -> Result<Piece, Stop>
-    ensures { IfOk result (λ piece. (set : ℕ) (trace : Recorded) (i j k : ℕ) → IfOk left (IsPieceOf set trace i j) → IfOk right (IsPieceOf set trace j k) → IsPieceOf set trace i k piece) }
+    ensures piece { IfOk result (λ piece. (set : ℕ) (trace : Recorded) (i j k : ℕ) → IfOk left (IsPieceOf set trace i j) → IfOk right (IsPieceOf set trace j k) → IsPieceOf set trace i k piece) }
+    ensures left { IfErr result (λ stop. IfErr left (λ one. gravity one ≤ gravity stop)) }
+    ensures right { IfErr result (λ stop. IfErr right (λ other. gravity other ≤ gravity stop)) }
+
+    // Where both are pieces, only memory for their join can be wanting.
+    ensures cause { IfErr result (λ stop. (left ≡ Err stop) ⊎ (right ≡ Err stop) ⊎ (stop ≡ Stop.Memory)) }
 {
     match (left, right) {
         (Ok(left), Ok(right)) => match left.join(right) {
@@ -253,7 +259,11 @@ fn both(left: Result<Piece, Stop>, right: Result<Piece, Stop>) -> Result<Piece, 
 }
 
 /// What is told where a thread couldn't be started, beside what the others ended with.
-fn unstarted(others: Result<Piece, Stop>) -> Stop {
+fn unstarted(others: Result<Piece, Stop>) -> Stop
+    ensures start { gravity Stop.Start ≤ gravity result }
+    ensures others { IfErr others (λ stop. gravity stop ≤ gravity result) }
+    ensures cause { (result ≡ Stop.Start) ⊎ (others ≡ Err result) }
+{
     match others {
         Ok(_) => Stop::Start,
         Err(stop) => graver(stop, Stop::Start),
@@ -261,7 +271,11 @@ fn unstarted(others: Result<Piece, Stop>) -> Stop {
 }
 
 /// The one that is told of two.
-fn graver(one: Stop, other: Stop) -> Stop {
+fn graver(one: Stop, other: Stop) -> Stop
+    ensures one { gravity one ≤ gravity result }
+    ensures other { gravity other ≤ gravity result }
+    ensures cause { (result ≡ one) ⊎ (result ≡ other) }
+{
     match (one, other) {
         (Stop::Held, _) | (_, Stop::Held) => Stop::Held,
         (Stop::Start, _) | (_, Stop::Start) => Stop::Start,
@@ -270,7 +284,7 @@ fn graver(one: Stop, other: Stop) -> Stop {
 }
 
 fn refused(stop: Stop) -> AnalyseError
-    ensures { result ≢ AnalyseError.BadWorkers }
+    ensures { result ≡ error_of stop }
 {
     match stop {
         Stop::Held => AnalyseError::Held,

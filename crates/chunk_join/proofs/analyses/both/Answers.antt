@@ -6,8 +6,8 @@ use Rattle.chunk_join.specs.Laws.PiecesJoined.{pieces_join}
 use Rattle.chunk_join.proofs.analyses.both.Goals as goal
 
 -- they are parts of one whole
-pub returns-in-Ok : goal.returns-in-Ok
-returns-in-Ok c = λ set trace i j k l r sound.
+pub returns-in-Ok-clause-piece : goal.returns-in-Ok-clause-piece
+returns-in-Ok-clause-piece c = λ set trace i j k l r sound.
     (let left : IsPieceOf set trace i j c.in-Ok-Ok.left = subst (λ x. IfOk x (IsPieceOf set trace i j)) c.in-Ok-Ok.is-0 l in
     let right : IsPieceOf set trace j k c.in-Ok-Ok.right = subst (λ x. IfOk x (IsPieceOf set trace j k)) c.in-Ok-Ok.is-1 r in
     let both = pieces_join.part (record { set = set; trace = trace; sound = sound }) i j k _ _ (left sound) (right sound) in
