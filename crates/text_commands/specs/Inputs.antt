@@ -1,5 +1,7 @@
 -- What the program reads: the trace that a text stands for, and why there is none.
-use Rattle.std.specs.Prelude.{ℕ, ◌≡◌, ◌≢◌, ◌≤◌, List, length, ⊤}
+use Rattle.std.specs.Prelude.{ℕ, ◌≡◌, ◌≢◌, ◌<◌, ◌≤◌, List, length, nat_le, ⊤}
+use Rattle.std.proofs.Common.{refl, false, arith}
+use Rattle.std.proofs.lemmas.Bool.Decides.{nat_tests}
 use Rattle.step_trace.specs.Traces.{Recorded}
 use Rattle.trace_text.specs.declared.byte_loops.TheConstants.{MAX_TEXT_BYTES}
 use Rattle.trace_text.specs.declared.refusals.TextError.TheVariants as why
@@ -8,6 +10,7 @@ use Rattle.trace_text.specs.TraceTexts.{IsTextTrace, StandsFor}
 use Rattle.trace_text.specs.TextRefusals.{IsFirstRefusal}
 use Rattle.text_commands.specs.declared.faults.Fault.{Fault}
 use Rattle.text_commands.specs.declared.faults.Fault.TheVariants as fault
+use Rattle.text_commands.specs.Serving.{IsFaultOf, Kinds}
 
 -- The text stands for this trace, and isn't too large.
 pub record IsTextOf (text : List ℕ) (t : Recorded) : Type 0 where
@@ -26,3 +29,13 @@ IsTraceFault text _ = ⊥
 abbrev pub IsReadFault : ℕ → ℕ → Fault → Type 0
 IsReadFault old new fault.Read = Rose old new
 IsReadFault old new _ = new ≡ old
+
+-- a text that is too large has that as its first refusal
+pub too_large : (text : List ℕ) → MAX_TEXT_BYTES < length text → IsTraceFault text (fault.Trace why.TooLarge)
+too_large text h = let e : nat_le (length text) MAX_TEXT_BYTES ≡ false = grind (arith, nat_tests) in (rw e refl, λ r. cc, λ r. cc)
+
+-- a refusal of the text may be told by every command
+pub own_trace : (k : Kinds) (text : List ℕ) (w : Fault) → IsTraceFault text w → IsFaultOf k w
+own_trace k text (fault.Trace reason) h = (h.1, h.2)
+own_trace k text fault.Memory h = tt
+own_trace k text w h = absurd h

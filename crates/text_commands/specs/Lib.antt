@@ -1,6 +1,7 @@
 pub mod Faults
 pub mod FaultLines
 pub mod Printing
+pub mod Serving
 pub mod Inputs
 pub mod Reports
 pub mod ReplayTexts

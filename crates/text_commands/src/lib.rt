@@ -11,6 +11,7 @@ mod printing;
 mod replay_texts;
 mod replays;
 mod reports;
+mod serving;
 mod upgrades;
 mod verdict_lines;
 
@@ -20,5 +21,6 @@ pub use faults::{Fault, status, unopened};
 pub use printing::{print, tell};
 pub use replays::run_replay;
 pub use reports::run_report;
+pub use serving::{Answer, serve};
 pub use upgrades::run_upgrade;
 pub use verdict_lines::{tell_verdict, verdict_status};

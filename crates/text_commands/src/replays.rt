@@ -7,15 +7,17 @@ ghost use Rattle.trace_text.specs.Faults.{inner_of, faults_of, is_flushed};
 ghost use Rattle.step_buffers.specs.Runs.{IsRun};
 ghost use Rattle.text_commands.specs.Inputs.{IsReadFault};
 ghost use Rattle.text_commands.specs.Printing.{IsWriteFault};
-ghost use Rattle.text_commands.specs.Replays.{IsReplayOf, IsFaultOfReplay, IsReplayFault, IsTextOfSteps, IsUnreplayed};
+ghost use Rattle.text_commands.specs.Replays.{IsReplayOf, IsTextOfSteps, IsUnreplayed, replay_kinds};
+ghost use Rattle.text_commands.specs.Serving.{IsFaultOf, IsServeFault};
 
 use crate::faults::Fault;
 use crate::inputs::trace_of;
 use crate::replay_texts::replay_text_of;
+use crate::serving::{Answer, serve};
 use std::alloc::Global;
 use std::io::{Read, Write};
 use step_buffers::{World, replay};
-use trace_text::{Counting, read_all, write_text};
+use trace_text::Counting;
 
 /// Reads a trace text to its end, replays its trace as a run of the algorithm, and writes the round and
 /// the decision of each processor at its end. Nothing is written before the whole text stands.
@@ -36,23 +38,42 @@ pub fn run_replay<R: Read, W: Write>(
     ensures flushed { OnOk result (IsTrue (is_flushed writer.new)) }
     ensures faultless { OnOk result ((faults_of reader.new ≡ faults_of reader.old) × WasFaultless writer.old writer.new) }
     ensures refused { IfErr result (λ why. IfSome (R.remaining (inner_of reader.old)) (λ text.
-        IsReplayFault text (W.contents (inner_of writer.old)) (W.contents (inner_of writer.new)) why)) }
-    ensures own { IfErr result IsFaultOfReplay }
+        IsServeFault IsReplayOf IsUnreplayed text (W.contents (inner_of writer.old)) (W.contents (inner_of writer.new)) why)) }
+    ensures own { IfErr result (IsFaultOf replay_kinds) }
     ensures read { IfErr result (IsReadFault (faults_of reader.old) (faults_of reader.new)) }
     ensures unwritten { IfErr result (IsWriteFault writer.old writer.new) }
 {
-    let text = read_all(alloc, reader)?;
-    let replay = replay_of(alloc, text)?;
-    Ok(write_text(&replay, writer)?)
+    serve(alloc, &Replay, reader, writer)
 }
 
-/// The text of the replay of what a text stands for.
-fn replay_of(alloc: Global, text: Vec<u8>) -> Result<Vec<u8>, Fault>
-    ensures replay { IfOk result (λ replay. IsReplayOf text.items replay.items) }
-    ensures refused { IfErr result (IsUnreplayed text.items) }
-{
-    let world = world_of(alloc, text)?;
-    Ok(replay_text_of(alloc, &world)?)
+/// The command `replay`.
+#[derive(Clone, Copy)]
+struct Replay;
+
+impl Answer for Replay {
+    ghost use Rattle.text_commands.specs.Inputs.{too_large};
+    ghost use Rattle.text_commands.specs.Replays.{IsReplayOf, IsUnreplayed, own_replay, replay_kinds};
+
+    ghost Gives = { λ _. IsReplayOf };
+
+    ghost Refuses = { λ _. IsUnreplayed };
+
+    ghost kinds = { λ _. replay_kinds };
+
+    fn answer(&self, alloc: Global, text: Vec<u8>) -> Result<Vec<u8>, Fault> {
+        let world = world_of(alloc, text)?;
+        Ok(replay_text_of(alloc, &world)?)
+    }
+
+    ghost too_large = { λ _ text l. too_large text l };
+
+    ghost memory = { λ _ text. tt };
+
+    ghost own = { λ _ text w h. own_replay text w h };
+
+    ghost no_read = { λ _ text h. h };
+
+    ghost no_write = { λ _ text n h. h };
 }
 
 /// The World that made the steps of what a text stands for, whatever their ticks. It lets go of the trace,

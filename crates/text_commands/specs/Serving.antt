@@ -1,0 +1,32 @@
+-- What a command does that makes one text of another, and which faults it may tell.
+use Rattle.std.specs.Prelude.{ℕ, ◌≢◌, ◌≤◌, List, length, take, Option, Bool, IsTrue, ⊤}
+use Rattle.std.specs.Io.KnownBytes.{Appends}
+use Rattle.trace_text.specs.declared.refusals.TextError.TheVariants as why
+use Rattle.front.specs.declared.refusals.ReportError.TheVariants as uncertified
+use Rattle.text_commands.specs.declared.faults.Fault.{Fault}
+use Rattle.text_commands.specs.declared.faults.Fault.TheVariants as fault
+
+-- For what a command may refuse, beside a trace text: a set, a certificate, a trace that is no run, and a thread.
+pub record Kinds : Type 0 where
+  pub set : Bool
+  pub certificate : Bool
+  pub run : Bool
+  pub threads : Bool
+
+-- the fault is of these kinds, or of a trace text, of memory, of a reader or of a writer; want of memory and a failed
+-- read are faults of their own, and no refusals of a text
+abbrev pub IsFaultOf : Kinds → Fault → Type 0
+IsFaultOf k (fault.Command words) = ⊥
+IsFaultOf k fault.Set = IsTrue k.set
+IsFaultOf k (fault.Trace reason) = (reason ≢ why.Read) × (reason ≢ why.Memory)
+IsFaultOf k (fault.Certificate reason) = IsTrue k.certificate × (reason ≢ uncertified.Read) × (reason ≢ uncertified.Memory)
+IsFaultOf k (fault.NotARun number) = IsTrue k.run
+IsFaultOf k fault.Threads = IsTrue k.threads
+IsFaultOf k _ = ⊤
+
+-- The fault has its cause: the command refuses the text for it; or a read failed; or the text has an answer, of
+-- which that many first bytes went out.
+abbrev pub IsServeFault : (List ℕ → List ℕ → Type 0) → (List ℕ → Fault → Type 0) → List ℕ → Option (List ℕ) → Option (List ℕ) → Fault → Type 0
+IsServeFault Gives Refuses text before after fault.Read = ⊤
+IsServeFault Gives Refuses text before after (fault.Write n) = (out : List ℕ) × Gives text out × (n ≤ length out) × Appends before after (take n out)
+IsServeFault Gives Refuses text before after w = Refuses text w
