@@ -56,23 +56,23 @@ each-push P more x each last k d at = go (nat_lt k (length more)) refl
 
 -- one step more is made
 pub IsUnderWay-more : (r : Identity) (patience steps before after : ℕ) (old mid new : Turns) → IsUnderWay r patience steps before old mid → mid.tag ≡ r.tag
-    → IsMoved r.config patience before after mid new → IsUnderWay r patience (steps + 1) after old new
+    → IsMoved r patience before after mid new → IsUnderWay r patience (steps + 1) after old new
 IsUnderWay-more r patience steps before after old mid new so tagged moved =
     let driven = so.driven in
     let more = driven.more in
     let done = moved.chosen.done in
     let tag : mid.tag ≡ old.tag = ap (λ (s : Turns). s.tag) driven.appended in
     let proc : mid.proc ≡ old.proc = ap (λ (s : Turns). s.proc) driven.appended in
-    let next : IsChosenAnswer r.config old.proc (drive_move patience (received more)) done =
-    subst (λ n. IsChosenAnswer r.config old.proc (drive_move patience n) done) so.counted
-    (subst (λ p. IsChosenAnswer r.config p (drive_move patience before) done) proc moved.chosen.answer) in
+    let next : IsChosenAnswer r old.proc (drive_move patience (received more)) done =
+    subst (λ n. IsChosenAnswer r old.proc (drive_move patience n) done) so.counted
+    (subst (λ p. IsChosenAnswer r p (drive_move patience before) done) proc moved.chosen.answer) in
     record {
       driven = record {
         more = more ++ done ∷ [];
         count = length_push more done ∙ ap (λ n. n + 1) driven.count;
         appended = moved.chosen.appended ∙ ap (λ (s : Turns). with_done s done) driven.appended
             ∙ ap (λ all. record old { done = all }) (append_assoc old.done more (done ∷ []));
-        answers = each-push (λ front d. IsChosenAnswer r.config old.proc (drive_move patience (received front)) d) more done driven.answers next;
+        answers = each-push (λ front d. IsChosenAnswer r old.proc (drive_move patience (received front)) d) more done driven.answers next;
         tag = λ _. sym tag ∙ tagged;
       };
       counted = moved.counted ∙ ap (λ n. received_with n done.step.act) so.counted ∙ sym (received-push more done);

@@ -42,9 +42,9 @@ nothing_to_send c limit steps p = go (nat_lt (length steps) limit) (is_proc c p)
     go false b to h = cc
 
 -- the same of a World that is as it was before it refused the Send
-pub nothing_to_send_after : (c : Setup) (old w : Progress) (p : ℕ) (why : StepError) → w ≡ old → IsShown c w → why ≡ NothingToSend
-    → IsStepRefusal why (step_refusal old.trace.config old.limit old.trace.steps p Send) → next_send c w.trace.steps p ≡ None
-nothing_to_send_after c old w p why same shown is refused =
+pub nothing_to_send_after : (r : Identity) (old w : Progress) (p : ℕ) (why : StepError) → w ≡ old → IsShown r w → why ≡ NothingToSend
+    → IsStepRefusal why (step_refusal old.trace.config old.limit old.trace.steps p Send) → next_send r.config w.trace.steps p ≡ None
+nothing_to_send_after r old w p why same shown is refused =
     let there : step_refusal old.trace.config old.limit old.trace.steps p Send ≡ Some NothingToSend =
     subst (λ (e : StepError). IsStepRefusal e (step_refusal old.trace.config old.limit old.trace.steps p Send)) is refused in
     let here : step_refusal w.trace.config w.limit w.trace.steps p Send ≡ Some NothingToSend =
@@ -63,62 +63,61 @@ any_move c limit steps p move why other = go (nat_lt (length steps) limit) (is_p
     go false b to own h = h
 
 -- a Send that is refused for another reason than NothingToSend
-pub IsChosenStepReason-send : (c : Setup) (w : Progress) (p : ℕ) (otherwise : Move) (why : StepError) → IsShown c w → (why ≡ NothingToSend → ⊥)
-    → IsStepRefusal why (step_refusal w.trace.config w.limit w.trace.steps p Send) → IsChosenStepReason c p (send_or otherwise) why
-IsChosenStepReason-send c w p otherwise Memory shown other h = tt
-IsChosenStepReason-send c w p otherwise why shown other h = by_choice (IsAgainst-shown c w p Send why shown h).0
+pub IsChosenStepReason-send : (r : Identity) (w : Progress) (p : ℕ) (otherwise : Move) (why : StepError) → IsShown r w → (why ≡ NothingToSend → ⊥)
+    → IsStepRefusal why (step_refusal w.trace.config w.limit w.trace.steps p Send) → IsChosenStepReason r p (send_or otherwise) why
+IsChosenStepReason-send r w p otherwise Memory shown other h = tt
+IsChosenStepReason-send r w p otherwise why shown other h = by_choice (IsAgainst-shown r w p Send why shown h).0
   where
-    by_choice : IsAgainst c p Send why → IsChosenAgainst c p (send_or otherwise) why
+    by_choice : IsAgainst r p Send why → IsChosenAgainst r p (send_or otherwise) why
     by_choice against =
-        let to = next_send c against.before p in
+        let to = next_send r.config against.before p in
         record {
           to = to;
           against = record {
-            limit = against.limit;
             before = against.before;
             world = against.world;
-            reason = any_move c against.limit against.before p (send_or otherwise to) why other against.reason;
+            reason = any_move r.config r.limit against.before p (send_or otherwise to) why other against.reason;
           };
           next = refl;
         }
 
 -- the other move, refused where there is nothing to send
-pub IsChosenStepReason-otherwise : (c : Setup) (w : Progress) (p : ℕ) (otherwise : Move) (why : StepError) → IsShown c w
-    → next_send c w.trace.steps p ≡ None → IsStepRefusal why (step_refusal w.trace.config w.limit w.trace.steps p otherwise) → IsChosenStepReason c p (send_or otherwise) why
-IsChosenStepReason-otherwise c w p otherwise Memory shown nothing h = tt
-IsChosenStepReason-otherwise c w p otherwise why shown nothing h =
-    let against = IsAgainst-shown c w p otherwise why shown h in
+pub IsChosenStepReason-otherwise : (r : Identity) (w : Progress) (p : ℕ) (otherwise : Move) (why : StepError) → IsShown r w
+    → next_send r.config w.trace.steps p ≡ None → IsStepRefusal why (step_refusal w.trace.config w.limit w.trace.steps p otherwise) → IsChosenStepReason r p (send_or otherwise) why
+IsChosenStepReason-otherwise r w p otherwise Memory shown nothing h = tt
+IsChosenStepReason-otherwise r w p otherwise why shown nothing h =
+    let against = IsAgainst-shown r w p otherwise why shown h in
     record {
       to = None;
       against = against.0;
-      next = ap (λ steps. next_send c steps p) against.1 ∙ nothing;
+      next = ap (λ steps. next_send r.config steps p) against.1 ∙ nothing;
     }
 
 -- a Send that was made
-pub IsSendAnswer-sent : (c : Setup) (p : ℕ) (otherwise : Move) (done : Done) → IsAnswer c p Send done → IsSendAnswer c p otherwise done true
-IsSendAnswer-sent c p otherwise done answer = go (next_send c answer.before p) refl
+pub IsSendAnswer-sent : (r : Identity) (p : ℕ) (otherwise : Move) (done : Done) → IsAnswer r p Send done → IsSendAnswer r p otherwise done true
+IsSendAnswer-sent r p otherwise done answer = go (next_send r.config answer.before p) refl
   where
-    go : (to : Option ℕ) → next_send c answer.before p ≡ to → IsSendAnswer c p otherwise done true
-    go None next = absurd (no_send c answer.limit answer.before p next answer.allowed)
+    go : (to : Option ℕ) → next_send r.config answer.before p ≡ to → IsSendAnswer r p otherwise done true
+    go None next = absurd (no_send r.config r.limit answer.before p next answer.allowed)
     go (Some to) next = record { chosen = record { to = Some to; answer = answer; next = next }; told = refl }
 
 -- the other move, made where there is nothing to send
-pub IsSendAnswer-otherwise : (c : Setup) (p : ℕ) (otherwise : Move) (done : Done) (steps : List Step) → next_send c steps p ≡ None
-    → (answer : IsAnswer c p otherwise done) × (answer.before ≡ steps) → IsSendAnswer c p otherwise done false
-IsSendAnswer-otherwise c p otherwise done steps nothing made =
-    let next = ap (λ (before : List Step). next_send c before p) made.1 ∙ nothing in
+pub IsSendAnswer-otherwise : (r : Identity) (p : ℕ) (otherwise : Move) (done : Done) (steps : List Step) → next_send r.config steps p ≡ None
+    → (answer : IsAnswer r p otherwise done) × (answer.before ≡ steps) → IsSendAnswer r p otherwise done false
+IsSendAnswer-otherwise r p otherwise done steps nothing made =
+    let next = ap (λ (before : List Step). next_send r.config before p) made.1 ∙ nothing in
     record { chosen = record { to = None; answer = made.0; next = next }; told = refl }
 
 -- what is kept of either
-pub IsSendRecorded-kept : (c : Setup) (p : ℕ) (otherwise : Move) (old new : Turns) (done : Done) (sent : Bool) → old.proc ≡ p → new ≡ with_done old done
-    → IsSendAnswer c p otherwise done sent → IsSendRecorded c otherwise old new sent
-IsSendRecorded-kept c p otherwise old new done sent own kept answer =
-    let mine = subst (λ (q : ℕ). IsSendAnswer c q otherwise done sent) (sym own) answer in
+pub IsSendRecorded-kept : (r : Identity) (p : ℕ) (otherwise : Move) (old new : Turns) (done : Done) (sent : Bool) → old.proc ≡ p → new ≡ with_done old done
+    → IsSendAnswer r p otherwise done sent → IsSendRecorded r otherwise old new sent
+IsSendRecorded-kept r p otherwise old new done sent own kept answer =
+    let mine = subst (λ (q : ℕ). IsSendAnswer r q otherwise done sent) (sym own) answer in
     record { chosen = record { done = done; appended = kept; answer = mine.chosen }; told = mine.told }
 
 -- a refusal, asked for by a seat
 pub IsChoiceRefusal-refused : (r : Identity) (s : Turns) (p : ℕ) (choice : Option ℕ → Move) (why : RecordError) → s.proc ≡ p → s.tag ≡ r.tag
-    → IsChoiceRefused r.config p choice why → IsChoiceRefusal r s choice why
+    → IsChoiceRefused r p choice why → IsChoiceRefusal r s choice why
 IsChoiceRefusal-refused r s p choice record_error.ForeignSeat own tag refused = tt
 IsChoiceRefusal-refused r s p choice (record_error.Step why) own tag refused =
-    (tag, subst (λ (q : ℕ). IsChosenStepReason r.config q choice why) (sym own) refused)
+    (tag, subst (λ (q : ℕ). IsChosenStepReason r q choice why) (sym own) refused)

@@ -1,6 +1,5 @@
 -- Choices: moves that hang on where a processor sends next. Which World it was, under the lock, is not seen.
 use Rattle.std.specs.Prelude.{ℕ, ◌≡◌, Bool, Option, Some, None, is_some}
-use Rattle.step_trace.specs.Configurations.{Setup}
 use Rattle.step_buffers.specs.declared.moves.Done.{Done}
 use Rattle.step_buffers.specs.declared.moves.Move.{Move}
 use Rattle.step_buffers.specs.declared.moves.Move.TheVariants.{Send}
@@ -18,46 +17,46 @@ abbrev pub send_or : Move → Option ℕ → Move
 send_or otherwise None = otherwise
 send_or otherwise (Some to) = Send
 
--- This was done on a World of the configuration, in which p sends next to `to`, that p was told to move as the choice
+-- This was done on a World of a recorder, in which p sends next to `to`, that p was told to move as the choice
 -- says.
-pub record IsChosenAnswer (c : Setup) (p : ℕ) (choice : Option ℕ → Move) (done : Done) : Type 0 where
+pub record IsChosenAnswer (r : Identity) (p : ℕ) (choice : Option ℕ → Move) (done : Done) : Type 0 where
   pub to : Option ℕ
-  pub answer : IsAnswer c p (choice to) done
-  pub next : next_send c answer.before p ≡ to
+  pub answer : IsAnswer r p (choice to) done
+  pub next : next_send r.config answer.before p ≡ to
 
--- A World of the configuration, in which p sends next to `to`, refuses for this reason to move p as the choice says.
-pub record IsChosenAgainst (c : Setup) (p : ℕ) (choice : Option ℕ → Move) (why : StepError) : Type 0 where
+-- A World of a recorder, in which p sends next to `to`, refuses for this reason to move p as the choice says.
+pub record IsChosenAgainst (r : Identity) (p : ℕ) (choice : Option ℕ → Move) (why : StepError) : Type 0 where
   pub to : Option ℕ
-  pub against : IsAgainst c p (choice to) why
-  pub next : next_send c against.before p ≡ to
+  pub against : IsAgainst r p (choice to) why
+  pub next : next_send r.config against.before p ≡ to
 
 -- why a World refuses; want of memory shows nothing
-abbrev pub IsChosenStepReason : Setup → ℕ → (Option ℕ → Move) → StepError → Type 0
-IsChosenStepReason c p choice Memory = Unit {0}
-IsChosenStepReason c p choice why = IsChosenAgainst c p choice why
+abbrev pub IsChosenStepReason : Identity → ℕ → (Option ℕ → Move) → StepError → Type 0
+IsChosenStepReason r p choice Memory = Unit {0}
+IsChosenStepReason r p choice why = IsChosenAgainst r p choice why
 
--- why a recorder of the configuration refuses to move p as the choice says
-abbrev pub IsChoiceRefused : Setup → ℕ → (Option ℕ → Move) → RecordError → Type 0
-IsChoiceRefused c p choice record_error.ForeignSeat = Unit {0}
-IsChoiceRefused c p choice (record_error.Step why) = IsChosenStepReason c p choice why
+-- why a recorder refuses to move p as the choice says
+abbrev pub IsChoiceRefused : Identity → ℕ → (Option ℕ → Move) → RecordError → Type 0
+IsChoiceRefused r p choice record_error.ForeignSeat = Unit {0}
+IsChoiceRefused r p choice (record_error.Step why) = IsChosenStepReason r p choice why
 
 -- why a recorder refuses a choice from a seat, as `IsRecordRefusal` says it of a move
 abbrev pub IsChoiceRefusal : Identity → Turns → (Option ℕ → Move) → RecordError → Type 0
 IsChoiceRefusal r s choice record_error.ForeignSeat = Unit {0}
-IsChoiceRefusal r s choice (record_error.Step why) = (s.tag ≡ r.tag) × IsChosenStepReason r.config s.proc choice why
+IsChoiceRefusal r s choice (record_error.Step why) = (s.tag ≡ r.tag) × IsChosenStepReason r s.proc choice why
 
 -- a seat after a recorded step that was made as the choice says
-pub record IsChosen (c : Setup) (choice : Option ℕ → Move) (old new : Turns) : Type 0 where
+pub record IsChosen (r : Identity) (choice : Option ℕ → Move) (old new : Turns) : Type 0 where
   pub done : Done
   pub appended : new ≡ with_done old done
-  pub answer : IsChosenAnswer c old.proc choice done
+  pub answer : IsChosenAnswer r old.proc choice done
 
 -- what is answered to a Send where there is something to send, and else to this move; and whether it was a Send
-pub record IsSendAnswer (c : Setup) (p : ℕ) (otherwise : Move) (done : Done) (sent : Bool) : Type 0 where
-  pub chosen : IsChosenAnswer c p (send_or otherwise) done
+pub record IsSendAnswer (r : Identity) (p : ℕ) (otherwise : Move) (done : Done) (sent : Bool) : Type 0 where
+  pub chosen : IsChosenAnswer r p (send_or otherwise) done
   pub told : sent ≡ is_some chosen.to
 
 -- a seat after such a step was recorded, and whether it was a Send
-pub record IsSendRecorded (c : Setup) (otherwise : Move) (old new : Turns) (sent : Bool) : Type 0 where
-  pub chosen : IsChosen c (send_or otherwise) old new
+pub record IsSendRecorded (r : Identity) (otherwise : Move) (old new : Turns) (sent : Bool) : Type 0 where
+  pub chosen : IsChosen r (send_or otherwise) old new
   pub told : sent ≡ is_some chosen.answer.to

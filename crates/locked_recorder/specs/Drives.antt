@@ -2,7 +2,6 @@
 use Rattle.std.specs.Prelude.{ℕ, ◌≡◌, ◌<◌, ◌+◌, ◌==◌, ◌++◌, if◌then◌else◌, List, length, take, slice_get, fold, Option, Some}
 use Rattle.step_trace.specs.declared.steps.Act.{Act}
 use Rattle.step_trace.specs.declared.steps.Act.TheVariants as act
-use Rattle.step_trace.specs.Configurations.{Setup}
 use Rattle.step_buffers.specs.declared.moves.Done.{Done}
 use Rattle.step_buffers.specs.declared.moves.Move.{Move}
 use Rattle.step_buffers.specs.declared.moves.Move.TheVariants.{Receive}
@@ -33,17 +32,17 @@ abbrev pub drive_move : ℕ → ℕ → Option ℕ → Move
 drive_move patience before to = if before == 0 then send_or (drive_receive patience before) to else drive_receive patience before
 
 -- a seat after one step of a drive that made `before` Receives in the round, and then `after`
-pub record IsMoved (c : Setup) (patience before after : ℕ) (old new : Turns) : Type 0 where
-  pub chosen : IsChosen c (drive_move patience before) old new
+pub record IsMoved (r : Identity) (patience before after : ℕ) (old new : Turns) : Type 0 where
+  pub chosen : IsChosen r (drive_move patience before) old new
   pub counted : after ≡ received_with before chosen.done.step.act
 
--- A seat after so many steps: as many things more are done, each of which a World of the configuration answers to the
--- move of the drive after the things before it. Steps are made from a seat of the recorder's tag alone.
+-- A seat after so many steps: as many things more are done, each of which a World of the recorder answers to the move
+-- of the drive after the things before it. Steps are made from a seat of the recorder's tag alone.
 pub record IsDriven (r : Identity) (patience steps : ℕ) (old new : Turns) : Type 0 where
   pub more : List Done
   pub count : length more ≡ steps
   pub appended : new ≡ record old { done = old.done ++ more }
-  pub answers : (k : ℕ) (d : Done) → slice_get more k ≡ Some d → IsChosenAnswer r.config old.proc (drive_move patience (received (take k more))) d
+  pub answers : (k : ℕ) (d : Done) → slice_get more k ≡ Some d → IsChosenAnswer r old.proc (drive_move patience (received (take k more))) d
   pub tag : 0 < steps → old.tag ≡ r.tag
 
 -- Why a drive stops that made `made` of its steps and then `before` Receives in the round, when the seat is so. Held shows

@@ -2,7 +2,8 @@
 use Rattle.std.specs.Prelude.{ℕ}
 use Rattle.step_trace.specs.Configurations.{Setup}
 
--- the tag of its seats, and the configuration of its World
+-- the tag of its seats, the configuration of its World, and how many steps may be made in that
 pub record Identity : Type 0 where
   pub tag : ℕ
   pub config : Setup
+  pub limit : ℕ

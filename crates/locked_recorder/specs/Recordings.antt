@@ -1,7 +1,7 @@
--- Recorded steps: what a World of a configuration answers. Which World it was, under the lock, is not seen.
+-- Recorded steps: what a World of a recorder answers. Which World it was, under the lock, is not seen.
 use Rattle.std.specs.Prelude.{ℕ, ◌≡◌, ◌+◌, ◌≤◌, ◌++◌, ◌∷◌, [], List, length, Some, None}
 use Rattle.step_trace.specs.declared.steps.Step.{Step}
-use Rattle.step_trace.specs.Configurations.{Setup}
+use Rattle.step_trace.specs.declared.traces.TheConstants.{MAX_STEPS}
 use Rattle.step_buffers.specs.declared.moves.Done.{Done}
 use Rattle.step_buffers.specs.declared.moves.Move.{Move}
 use Rattle.step_buffers.specs.declared.moves.StepError.{StepError}
@@ -14,48 +14,48 @@ use Rattle.locked_recorder.specs.declared.errors.RecordError.TheVariants as reco
 use Rattle.locked_recorder.specs.Seats.{Turns, with_done}
 use Rattle.locked_recorder.specs.Recorders.{Identity}
 
--- A World of a configuration: a run of it, of no more steps than may be made.
-pub record IsWorldOf (c : Setup) (limit : ℕ) (steps : List Step) : Type 0 where
-  pub run : IsRun c steps
-  pub within : length steps ≤ limit
+-- The steps of a World of a recorder: a run of its configuration, of no more steps than may be made in it, of which
+-- there are at most as many as a trace may have.
+pub record IsWorldOf (r : Identity) (steps : List Step) : Type 0 where
+  pub run : IsRun r.config steps
+  pub within : length steps ≤ r.limit
+  pub bounded : r.limit ≤ MAX_STEPS
 
--- This was done on a World of the configuration that p was told to move so: the move isn't refused, and what
--- was done is its step, with its number, and the round and decision of p after it.
-pub record IsAnswer (c : Setup) (p : ℕ) (move : Move) (done : Done) : Type 0 where
-  pub limit : ℕ
+-- This was done on a World of a recorder that p was told to move so: the move isn't refused, and what was done is its
+-- step, with its number, and the round and decision of p after it.
+pub record IsAnswer (r : Identity) (p : ℕ) (move : Move) (done : Done) : Type 0 where
   pub before : List Step
-  pub world : IsWorldOf c limit before
-  pub allowed : step_refusal c limit before p move ≡ None
-  pub step : Some done.step ≡ step_of c before p move
+  pub world : IsWorldOf r before
+  pub allowed : step_refusal r.config r.limit before p move ≡ None
+  pub step : Some done.step ≡ step_of r.config before p move
   pub number : done.no ≡ length before + 1
   pub round : done.round ≡ passed (before ++ done.step ∷ []) p + 1
-  pub decision : done.decision ≡ (node_at c (before ++ done.step ∷ []) p).decision
+  pub decision : done.decision ≡ (node_at r.config (before ++ done.step ∷ []) p).decision
 
--- A World of the configuration refuses for this reason to move p so.
-pub record IsAgainst (c : Setup) (p : ℕ) (move : Move) (why : StepError) : Type 0 where
-  pub limit : ℕ
+-- A World of a recorder refuses for this reason to move p so.
+pub record IsAgainst (r : Identity) (p : ℕ) (move : Move) (why : StepError) : Type 0 where
   pub before : List Step
-  pub world : IsWorldOf c limit before
-  pub reason : step_refusal c limit before p move ≡ Some why
+  pub world : IsWorldOf r before
+  pub reason : step_refusal r.config r.limit before p move ≡ Some why
 
 -- why a World refuses; want of memory shows nothing
-abbrev pub IsStepReason : Setup → ℕ → Move → StepError → Type 0
-IsStepReason c p move Memory = Unit {0}
-IsStepReason c p move why = IsAgainst c p move why
+abbrev pub IsStepReason : Identity → ℕ → Move → StepError → Type 0
+IsStepReason r p move Memory = Unit {0}
+IsStepReason r p move why = IsAgainst r p move why
 
--- why a recorder of the configuration refuses to move p so
-abbrev pub IsRefused : Setup → ℕ → Move → RecordError → Type 0
-IsRefused c p move record_error.ForeignSeat = Unit {0}
-IsRefused c p move (record_error.Step why) = IsStepReason c p move why
+-- why a recorder refuses to move p so
+abbrev pub IsRefused : Identity → ℕ → Move → RecordError → Type 0
+IsRefused r p move record_error.ForeignSeat = Unit {0}
+IsRefused r p move (record_error.Step why) = IsStepReason r p move why
 
 -- Why a recorder refuses a move from a seat. ForeignSeat shows nothing; any other reason is answered to a seat
 -- of the recorder's tag alone.
 abbrev pub IsRecordRefusal : Identity → Turns → Move → RecordError → Type 0
 IsRecordRefusal r s move record_error.ForeignSeat = Unit {0}
-IsRecordRefusal r s move (record_error.Step why) = (s.tag ≡ r.tag) × IsStepReason r.config s.proc move why
+IsRecordRefusal r s move (record_error.Step why) = (s.tag ≡ r.tag) × IsStepReason r s.proc move why
 
--- a seat after a recorded step: one more thing is done, which is what a World of the configuration answers
-pub record IsRecorded (c : Setup) (move : Move) (old new : Turns) : Type 0 where
+-- a seat after a recorded step: one more thing is done, which is what a World of the recorder answers
+pub record IsRecorded (r : Identity) (move : Move) (old new : Turns) : Type 0 where
   pub done : Done
   pub appended : new ≡ with_done old done
-  pub answer : IsAnswer c old.proc move done
+  pub answer : IsAnswer r old.proc move done

@@ -1,13 +1,13 @@
 //! Audits: whether the trace, the seats and the views of a recorder fit together.
 
-ghost use Rattle.std.specs.Prelude.{List, Option, IfOk, IfErr, IfSome, OnOk};
+ghost use Rattle.std.specs.Prelude.{ℕ, ◌≡◌, List, Option, IfOk, IfErr, IfSome, OnOk};
 ghost use Rattle.step_trace.specs.Traces.{Recorded};
 ghost use Rattle.locked_recorder.specs.Prefixes.{IsRunOf};
 ghost use Rattle.locked_recorder.specs.Audits.{AreInOrder, AreTagged, AgreeWith, AreExtended, IsOff, IsAuditRefusal};
 
 use crate::comparisons::{are_in_order, are_tagged, first_differing, first_not_extended};
 use crate::errors::AuditError;
-use crate::recorders::Recorder;
+use crate::recorders::{Recorder, is_world_of};
 use crate::seat_comparisons::compare_seats;
 use crate::seats::Seat;
 use crate::views::View;
@@ -31,6 +31,7 @@ impl Recorder {
         views: &[View],
     ) -> Result<World, AuditError>
         ensures run { IfOk result (λ world. IsRunOf self.now.config world.trace) }
+        ensures limit { IfOk result (λ world. world.limit ≡ self.now.limit) }
         ensures order { OnOk result (AreInOrder self.now.config seats.now) }
         ensures tags { OnOk result (AreTagged self.now.tag seats.now) }
         ensures seats { IfOk result (λ world. AgreeWith world.trace.config world.trace.steps seats.now) }
@@ -58,28 +59,35 @@ impl Recorder {
         views: &[View],
     ) -> Result<World, AuditError>
         ensures run { IfOk result (λ world. IsRunOf self.config world.trace) }
+        ensures limit { IfOk result (λ world. world.limit ≡ self.limit) }
         ensures order { OnOk result (AreInOrder self.config seats.now) }
         ensures tags { OnOk result (AreTagged self.tag seats.now) }
         ensures seats { IfOk result (λ world. AgreeWith world.trace.config world.trace.steps seats.now) }
         ensures views { IfOk result (λ world. AreExtended world.trace views.now) }
         ensures refused { IfErr result (λ e. IsAuditRefusal self seats.now views.now e) }
     {
-        let Recorder { world, tag, config } = self;
+        let Recorder {
+            world,
+            tag,
+            config,
+            limit,
+        } = self;
         are_its_own(&config, tag, seats)?;
         let world = world.into_inner();
-        if !world.trace().config().is_same(&config) {
+        if !is_world_of(&world, &config, limit) {
             return Err(AuditError::ForeignSeat);
         }
         compared(alloc, &world, seats, views)?;
         Ok(world)
     }
 
-    // A copy of the World, made under the lock; none where it is of another configuration.
+    // A copy of the World, made under the lock; none where it isn't the recorder's own.
     fn copied<R: Wait>(&self, rt: &R, alloc: Global) -> Result<Option<World>, AllocError>
-        ensures { IfOk result (λ copied. IfSome copied (λ world. IsRunOf self.now.config world.trace)) }
+        ensures run { IfOk result (λ copied. IfSome copied (λ world. IsRunOf self.now.config world.trace)) }
+        ensures limit { IfOk result (λ copied. IfSome copied (λ world. world.limit ≡ self.now.limit)) }
     {
         let world = self.world.lock(rt);
-        if !world.trace().config().is_same(&self.config) {
+        if !is_world_of(&world, &self.config, self.limit) {
             return Ok(None);
         }
         Ok(Some(world.copy(alloc)?))
@@ -90,7 +98,7 @@ impl Recorder {
 fn are_its_own(config: &Config, tag: u64, seats: &[Seat]) -> Result<(), AuditError>
     ensures order { OnOk result (AreInOrder config.now seats.now) }
     ensures tags { OnOk result (AreTagged tag seats.now) }
-    ensures refused { (views : List (Option Recorded)) → IfErr result (λ e. IsAuditRefusal (record { tag = tag; config = config.now }) seats.now views e) }
+    ensures refused { (views : List (Option Recorded)) (limit : ℕ) → IfErr result (λ e. IsAuditRefusal (record { tag = tag; config = config.now; limit = limit }) seats.now views e) }
 {
     if !are_in_order(config, seats) {
         return Err(AuditError::SeatCount);

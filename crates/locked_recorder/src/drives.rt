@@ -5,7 +5,7 @@ ghost use Rattle.locked_recorder.specs.Choices.{send_or, IsSendAnswer, IsSendRec
 ghost use Rattle.locked_recorder.specs.Drives.{drive_move, IsMoved, IsDriven, IsStopped};
 
 use crate::errors::{DriveError, DriveStop, RecordError};
-use crate::recorders::Recorder;
+use crate::recorders::{Recorder, is_world_of};
 use crate::seats::Seat;
 use std::alloc::Global;
 use std::sync::Wait;
@@ -70,7 +70,7 @@ impl Recorder {
         pace: &mut Pace,
     ) -> Result<(), RecordError>
         ensures tag { OnOk result (seat.old.tag ≡ self.now.tag) }
-        ensures moved { OnOk result (IsMoved self.now.config pace.old.patience pace.old.received pace.new.received seat.old seat.new) }
+        ensures moved { OnOk result (IsMoved self.now pace.old.patience pace.old.received pace.new.received seat.old seat.new) }
         ensures refused { IfErr result (IsChoiceRefusal self.now seat.old (drive_move pace.old.patience pace.old.received)) }
         ensures patience { pace.new.patience ≡ pace.old.patience }
         ensures err { OnErr result (seat.new ≡ seat.old) }
@@ -98,11 +98,11 @@ impl Recorder {
         p: u64,
         otherwise: Move,
     ) -> Result<(Done, bool), RecordError>
-        ensures answered { IfOk result (λ made. IsSendAnswer self.now.config p otherwise.entry made.0 made.1) }
-        ensures refused { IfErr result (IsChoiceRefused self.now.config p (send_or otherwise.entry)) }
+        ensures answered { IfOk result (λ made. IsSendAnswer self.now p otherwise.entry made.0 made.1) }
+        ensures refused { IfErr result (IsChoiceRefused self.now p (send_or otherwise.entry)) }
     {
         let mut world = self.world.lock(rt);
-        if !world.trace().config().is_same(&self.config) {
+        if !is_world_of(&world, &self.config, self.limit) {
             return Err(RecordError::ForeignSeat);
         }
         match world.step(alloc, p, Move::Send) {
@@ -131,7 +131,7 @@ impl Seat {
         otherwise: Move,
     ) -> Result<bool, RecordError>
         ensures tag { OnOk result (self.old.tag ≡ recorder.now.tag) }
-        ensures recorded { IfOk result (IsSendRecorded recorder.now.config otherwise.entry self.old self.new) }
+        ensures recorded { IfOk result (IsSendRecorded recorder.now otherwise.entry self.old self.new) }
         ensures refused { IfErr result (IsChoiceRefusal recorder.now self.old (send_or otherwise.entry)) }
         ensures err { OnErr result (self.new ≡ self.old) }
     {

@@ -6,7 +6,7 @@ use step_trace::Step;
 /// Why no step was recorded, in the order in which the reasons are tested.
 #[derive(Clone, Copy, Debug, PartialEq, Eq)]
 pub enum RecordError {
-    /// The seat is of a recorder with another tag, or of another configuration.
+    /// The seat is of a recorder with another tag; or the World isn't of the recorder's configuration and limit.
     ForeignSeat,
     /// The World refused the step; or there was no memory for it.
     Step(StepError),
@@ -17,7 +17,7 @@ pub enum RecordError {
 pub enum PrefixError {
     /// The trace doesn't extend what the view has seen. At number `at`, the least such, it has `found`, a step
     /// with its tick, which isn't the view's; where it has all steps of the view, `at` is the number after
-    /// them. At 0 it is of another configuration.
+    /// them. At 0 it is of another configuration, or the World isn't of the recorder's configuration and limit.
     NotAnExtension { at: u64, found: Option<(u64, Step)> },
     /// There was no memory for the copies.
     Memory,
@@ -26,7 +26,7 @@ pub enum PrefixError {
 /// Why no prefix was shown to a seat, in the order in which the reasons are tested.
 #[derive(Clone, Copy, Debug, PartialEq, Eq)]
 pub enum MineError {
-    /// The seat is of a recorder with another tag, or of another configuration.
+    /// The seat is of a recorder with another tag; or the World isn't of the recorder's configuration and limit.
     ForeignSeat,
     /// The trace hasn't the step of this number that the seat did. It is the least such number.
     NotMine(u64),
@@ -39,7 +39,7 @@ pub enum MineError {
 pub enum AuditError {
     /// There isn't one seat for each processor, in order.
     SeatCount,
-    /// A seat is of a recorder with another tag, or of another configuration.
+    /// A seat is of a recorder with another tag; or the World isn't of the recorder's configuration and limit.
     ForeignSeat,
     /// The seat of this processor, the least such, isn't what the trace makes of it.
     SeatDiffers(u64),

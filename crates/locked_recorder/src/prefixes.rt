@@ -6,7 +6,7 @@ ghost use Rattle.locked_recorder.specs.Prefixes.{IsRunOf, placed_at, IsPrefixRef
 
 use crate::errors::{MineError, PrefixError};
 use crate::missing_steps::least_missing;
-use crate::recorders::Recorder;
+use crate::recorders::{Recorder, is_world_of};
 use crate::seats::Seat;
 use crate::views::View;
 use std::alloc::{AllocError, Global};
@@ -73,12 +73,12 @@ impl Recorder {
         }
     }
 
-    // A copy of the trace, made under the lock; none where the World is of another configuration.
+    // A copy of the trace, made under the lock; none where the World isn't the recorder's own.
     pub(crate) fn shown<R: Wait>(&self, rt: &R, alloc: Global) -> Result<Option<Trace>, AllocError>
         ensures { IfOk result (λ shown. IfSome shown (λ trace. IsRunOf self.now.config trace)) }
     {
         let world = self.world.lock(rt);
-        if !world.trace().config().is_same(&self.config) {
+        if !is_world_of(&world, &self.config, self.limit) {
             return Ok(None);
         }
         Ok(Some(world.trace().copy(alloc)?))

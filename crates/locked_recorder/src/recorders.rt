@@ -1,7 +1,9 @@
 //! The recorder: a World under a lock.
 
-ghost use Rattle.std.specs.Prelude.{◌≡◌, ◌≤◌, IfOk, None};
+ghost use Rattle.std.specs.Prelude.{◌≡◌, ◌≤◌, ◌↔◌, length, IsTrue, IfOk, None};
 ghost use Rattle.step_trace.specs.declared.traces.TheConstants.{MAX_STEPS};
+ghost use Rattle.step_trace.specs.Ticks.{IsOnePerTick};
+ghost use Rattle.step_buffers.specs.Runs.{IsRun};
 ghost use Rattle.locked_recorder.specs.Seats.{opening_seats};
 
 use crate::seats::Seat;
@@ -12,12 +14,14 @@ use std::sync::Mutex;
 use step_buffers::World;
 use step_trace::Config;
 
-/// A World under a lock, with the tag by which its seats are known and the configuration of the World.
+/// A World under a lock, with the tag by which its seats are known, the configuration of the World, and how many
+/// steps may be made in it.
 #[derive(Drop)]
 pub struct Recorder {
     pub(crate) world: Mutex<World>,
     pub(crate) tag: u64,
     pub(crate) config: Config,
+    pub(crate) limit: u64,
 }
 
 impl Model for Recorder {
@@ -25,7 +29,7 @@ impl Model for Recorder {
 
     ghost Value = { Identity };
 
-    ghost view = { λ a. record { tag = a.tag; config = a.config } };
+    ghost view = { λ a. record { tag = a.tag; config = a.config; limit = a.limit } };
 }
 
 impl Recorder {
@@ -40,7 +44,7 @@ impl Recorder {
         max_steps: u64,
     ) -> Result<(Recorder, Vec<Seat>), AllocError>
         requires { max_steps ≤ MAX_STEPS }
-        ensures recorder { IfOk result (λ made. made.0 ≡ record { tag = tag; config = config }) }
+        ensures recorder { IfOk result (λ made. made.0 ≡ record { tag = tag; config = config; limit = max_steps }) }
         ensures seats { IfOk result (λ made. made.1.items ≡ opening_seats tag config.n) }
     {
         let seats = opening_seats(alloc, tag, &config)?;
@@ -49,6 +53,7 @@ impl Recorder {
             world: Mutex::new(world),
             tag,
             config,
+            limit: max_steps,
         };
         Ok((recorder, seats))
     }
@@ -59,6 +64,19 @@ impl Recorder {
     {
         View::new()
     }
+}
+
+// Whether a World is one of this configuration, in which so many steps may be made. The lock's type keeps that it
+// is a World, and not which.
+pub(crate) fn is_world_of(world: &World, config: &Config, limit: u64) -> bool
+    ensures same { IsTrue result ↔ ((world.now.trace.config ≡ config.now) × (world.now.limit ≡ limit)) }
+    ensures run { IsRun world.now.trace.config world.now.trace.steps }
+    ensures one_per_tick { IsOnePerTick world.now.trace }
+    ensures within { length world.now.trace.steps ≤ world.now.limit }
+    ensures bounded { world.now.limit ≤ MAX_STEPS }
+{
+    let room = world.limit();
+    world.trace().config().is_same(config) && room == limit
 }
 
 // A seat for each processor, in order.

@@ -6,7 +6,7 @@ ghost use Rattle.locked_recorder.specs.Lent.{Appends};
 ghost use Rattle.locked_recorder.specs.Recordings.{IsAnswer, IsRefused, IsRecorded, IsRecordRefusal};
 
 use crate::errors::RecordError;
-use crate::recorders::Recorder;
+use crate::recorders::{Recorder, is_world_of};
 use crate::seats::Seat;
 use std::alloc::Global;
 use std::sync::Wait;
@@ -24,7 +24,7 @@ impl Recorder {
         step: Move,
     ) -> Result<&'a Done, RecordError>
         ensures tag { OnOk result (seat.old.tag ≡ self.now.tag) }
-        ensures answered { IfOk result (λ done. IsAnswer self.now.config seat.old.proc step.entry done.now) }
+        ensures answered { IfOk result (λ done. IsAnswer self.now seat.old.proc step.entry done.now) }
         ensures refused { IfErr result (λ e. IsRecordRefusal self.now seat.old step.entry e) }
     {
         seat.step(rt, alloc, self, step)
@@ -32,11 +32,11 @@ impl Recorder {
 
     // Makes one step of processor `p` under the lock.
     fn make<R: Wait>(&self, rt: &R, alloc: Global, p: u64, step: Move) -> Result<Done, RecordError>
-        ensures answered { IfOk result (λ done. IsAnswer self.now.config p step.entry done) }
-        ensures refused { IfErr result (λ e. IsRefused self.now.config p step.entry e) }
+        ensures answered { IfOk result (λ done. IsAnswer self.now p step.entry done) }
+        ensures refused { IfErr result (λ e. IsRefused self.now p step.entry e) }
     {
         let mut world = self.world.lock(rt);
-        if !world.trace().config().is_same(&self.config) {
+        if !is_world_of(&world, &self.config, self.limit) {
             return Err(RecordError::ForeignSeat);
         }
         match world.step(alloc, p, step) {
@@ -61,7 +61,7 @@ impl Seat {
     ) -> Result<&'a Done, RecordError>
         ensures* lends { sem 𝓛 (Appends self.entry result) }
         ensures tag { OnOk result (self.old.tag ≡ recorder.now.tag) }
-        ensures answered { IfOk result (λ done. IsAnswer recorder.now.config self.old.proc step.entry done.now) }
+        ensures answered { IfOk result (λ done. IsAnswer recorder.now self.old.proc step.entry done.now) }
         ensures refused { IfErr result (λ e. IsRecordRefusal recorder.now self.old step.entry e) }
     {
         self.record(rt, alloc, recorder, step)?;
@@ -77,7 +77,7 @@ impl Seat {
         step: Move,
     ) -> Result<(), RecordError>
         ensures tag { OnOk result (self.old.tag ≡ recorder.now.tag) }
-        ensures recorded { OnOk result (IsRecorded recorder.now.config step.entry self.old self.new) }
+        ensures recorded { OnOk result (IsRecorded recorder.now step.entry self.old self.new) }
         ensures refused { IfErr result (λ e. IsRecordRefusal recorder.now self.old step.entry e) }
         ensures err { OnErr result (self.new ≡ self.old) }
     {

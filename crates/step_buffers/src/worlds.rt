@@ -93,6 +93,14 @@ impl World {
         &self.trace
     }
 
+    /// How many steps may be made in all.
+    pub fn limit(&self) -> u64
+        ensures value { result ≡ self.now.limit }
+        ensures bounded { result ≤ MAX_STEPS }
+    {
+        self.limit
+    }
+
     /// The round of processor `p`. Asks for a processor.
     pub fn round(&self, p: u64) -> u64
         requires { IsProc self.now.trace.config p }

@@ -13,7 +13,7 @@ loop-made-init g c =
 pub loop-made-preserved : goal.loop-made-preserved
 loop-made-preserved g c =
     let is = c.loop-made.invariant in
-    let moved = subst (λ n. IsMoved c.args.self.now.config n c.loop-made.pace.received c.go_on.new.pace.received c.loop-made.seat c.go_on.new.seat) is.0 c.in_default.ensures.moved in (
+    let moved = subst (λ n. IsMoved c.args.self.now n c.loop-made.pace.received c.go_on.new.pace.received c.loop-made.seat c.go_on.new.seat) is.0 c.in_default.ensures.moved in (
       c.go_on.ensures.patience ∙ is.0,
       IsUnderWay-more c.args.self.now c.args.patience c.loop-made.made c.loop-made.pace.received c.go_on.new.pace.received c.args.seat.now c.loop-made.seat c.go_on.new.seat
           is.1 c.in_default.ensures.tag moved,

@@ -12,5 +12,5 @@ returns-in_err-done-clause-refused g c =
 
 pub returns-clause-recorded : goal.returns-clause-recorded
 returns-clause-recorded g c =
-    IsSendRecorded-kept c.args.recorder.now.config c.self.inside.proc c.args.otherwise c.args.self.now _ c.in_ok-done.done c.in_ok-done.sent
+    IsSendRecorded-kept c.args.recorder.now c.self.inside.proc c.args.otherwise c.args.self.now _ c.in_ok-done.done c.in_ok-done.sent
     (search rules) (search rules) c.in_ok-done.ensures.answered
