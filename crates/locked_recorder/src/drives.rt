@@ -1,8 +1,8 @@
 //! Drives: the loop of a thread that makes the steps of one processor.
 
-ghost use Rattle.std.specs.Prelude.{◌≡◌, ◌+◌, ◌<◌, ◌≤◌, ◌==◌, if◌then◌else◌, IfOk, IfErr, OnOk, OnErr};
+ghost use Rattle.std.specs.Prelude.{◌≡◌, ◌+◌, ◌<◌, ◌≤◌, ◌==◌, if◌then◌else◌, true, MatchResult, IfOk, IfErr, OnOk, OnErr};
 ghost use Rattle.locked_recorder.specs.Choices.{send_or, IsSendAnswer, IsSendRecorded, IsChoiceRefused, IsChoiceRefusal};
-ghost use Rattle.locked_recorder.specs.Drives.{drive_move, IsMoved, IsDriven, IsStopped};
+ghost use Rattle.locked_recorder.specs.Drives.{drive_move, was_let_in, IsMoved, IsDriven, IsStopped};
 
 use crate::errors::{DriveError, DriveStop, RecordError};
 use crate::recorders::{Recorder, is_world_of};
@@ -38,6 +38,7 @@ impl Recorder {
         steps: u64,
     ) -> Result<u64, DriveError>
         requires { 1 ≤ patience }
+        ensures entered { MatchResult result (λ _. G.lets gate.now seat.old.proc true) (λ e. G.lets gate.now seat.old.proc (was_let_in e.why)) }
         ensures steps { IfOk result (λ made. made ≡ steps) }
         ensures driven { OnOk result (IsDriven self.now patience steps seat.old seat.new) }
         ensures stopped { IfErr result (λ e. IsStopped self.now patience steps seat.old seat.new e) }
