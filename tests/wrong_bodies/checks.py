@@ -1,0 +1,216 @@
+"""Where wrong bodies are checked: copies of a checkout's crates, the libraries below them, and checks side by side."""
+
+import fcntl
+import hashlib
+import os
+import shutil
+import signal
+import subprocess
+import sys
+import tempfile
+import threading
+from pathlib import Path
+
+import tree
+from verdicts import Told
+
+
+def say(text):
+    print(text, flush=True)
+
+
+def progress(text):
+    print(f"mutants: {text}", file=sys.stderr, flush=True)
+
+
+def folder_of_copy(checkout):
+    name = hashlib.sha256(str(checkout).encode()).hexdigest()[:12]
+    return Path(tempfile.gettempdir()) / f"mutants-{os.getuid()}" / name
+
+
+def newest(files):
+    return max((it.stat().st_mtime for it in files), default=0)
+
+
+def link(file, to):
+    """Makes a file be in another place too (a check replaces files and writes into none, so a link serves)."""
+    try:
+        os.link(file, to)
+    except OSError:
+        shutil.copy2(file, to)
+
+
+class Stopped(Exception):
+    """The run ends, and nothing more is begun."""
+
+
+class Commands:
+    """Commands that run side by side, all of which end when the run does."""
+
+    def __init__(self):
+        self.running, self.guard, self.is_stopped = set(), threading.Lock(), False
+
+    def run(self, words, folder):
+        """Runs a command in a folder, and returns what it printed, its status and the processor time that it took."""
+        how = {"stdin": subprocess.DEVNULL, "stdout": subprocess.PIPE, "stderr": subprocess.STDOUT}
+        with self.guard:
+            if self.is_stopped:
+                raise Stopped
+            command = subprocess.Popen(words, cwd=folder, start_new_session=True, **how)
+            self.running.add(command)
+        output = command.stdout.read().decode(errors="replace")
+        # (so that the command's own time is had, whatever else runs)
+        _, status, used = os.wait4(command.pid, 0)
+        with self.guard:
+            command.returncode = os.waitstatus_to_exitcode(status)
+            self.running.remove(command)
+            if self.is_stopped:
+                raise Stopped
+        return output, command.returncode, used.ru_utime + used.ru_stime
+
+    def stop(self):
+        with self.guard:
+            self.is_stopped = True
+            for it in self.running:
+                os.killpg(it.pid, signal.SIGTERM)
+
+
+class Workshop:
+    """Copies of a checkout's crates below /tmp, with the kept work of their own checks. One run uses them at a time."""
+
+    def __init__(self, checkout, names):
+        self.checkout, self.commands, self.top = checkout, Commands(), folder_of_copy(checkout)
+        self.crates = tree.read_crates(checkout)
+        self.toolchain = Path(subprocess.run(["rt", "doc"], stdout=subprocess.PIPE, text=True, check=True).stdout.strip()).parent
+        self.top.mkdir(parents=True, exist_ok=True)
+        (self.top / "checkout").write_text(f"{checkout}\n")
+        # (rt looks for crates.txt no higher than here)
+        (self.top / ".git").touch()
+        self.lock = open(self.top / "lock", "w")
+        try:
+            fcntl.flock(self.lock, fcntl.LOCK_EX | fcntl.LOCK_NB)
+        except BlockingIOError:
+            progress("waiting for another run over this checkout")
+            fcntl.flock(self.lock, fcntl.LOCK_EX)
+        shutil.copyfile(checkout / "crates.txt", self.top / "crates.txt")
+        for name in self.crates:
+            self.put_back(name)
+            tree.copy_sources(checkout / "crates" / name, self.folder(name))
+        self.libraries = tree.with_those_below(self.crates, [below for name in names for below in self.crates[name]])
+        self.of_gate = self.has_libraries_of_gate()
+        for name in names if self.of_gate else {*names, *self.libraries}:
+            self.take_kept_work(name)
+        if not self.of_gate:
+            self.build_libraries()
+
+    def folder(self, name):
+        return self.top / "crates" / name
+
+    def put_back(self, name):
+        """Has a crate's kept work back in its place, after a run that was interrupted too."""
+        clean, kept = self.top / "clean" / name, self.folder(name) / "out" / "incremental"
+        if clean.is_dir():
+            shutil.rmtree(kept, ignore_errors=True)
+            kept.parent.mkdir(parents=True, exist_ok=True)
+            clean.rename(kept)
+
+    def take_kept_work(self, name):
+        """Takes what the checkout's own checks kept, and its built library, where they are newer than those here."""
+        theirs, ours = self.checkout / "crates" / name / "out", self.folder(name) / "out"
+        for part, mark in (("incremental", "antt-checked-*"), ("rlib", "stamp")):
+            there, here = newest(theirs.glob(f"{part}/{mark}")), newest(ours.glob(f"{part}/{mark}"))
+            if there <= here:
+                continue
+            try:
+                # (rt's work in the crate is waited for only where none is here)
+                held = tree.lock(self.checkout / "crates" / name, is_shared=True, waits=not here)
+            except tree.Busy:
+                continue
+            shutil.rmtree(ours / part, ignore_errors=True)
+            shutil.copytree(theirs / part, ours / part, copy_function=link)
+            os.close(held)
+
+    def has_libraries_of_gate(self):
+        """Whether the checkout's libraries are those that a whole run of `rt ci` left, newer than what they are made of.
+
+        They hold what the crates above can cite, without proofs and without the stamp by which rt would know them again.
+        """
+        made = {}
+        for name in self.libraries:
+            home = self.checkout / "crates" / name
+            mark, sources = self.library(name, self.checkout) / "format", tree.files_of(home)
+            if not mark.is_file() or (home / "out/rlib/stamp").exists():
+                return False
+            made[name] = mark.stat().st_mtime
+            if made[name] < max([newest([*sources, self.checkout / "crates.txt"]), *[made[it] for it in self.crates[name]]]):
+                return False
+        return bool(self.libraries)
+
+    def library(self, name, top):
+        return top / "crates" / name / "out/rlib" / f"{name}.rlib"
+
+    def build_libraries(self):
+        """Builds the libraries that are to stand below: in no time where the kept work has them."""
+        highest = [it for it in self.libraries if not any(it in self.crates[above] for above in self.libraries)]
+        for name in highest:
+            progress(f"building the library {name} and those below it")
+            output, status, _ = self.commands.run(["rt", "lib"], self.folder(name))
+            if status:
+                sys.exit(f"{output}\nmutants: the library {name} is not proved or built")
+
+    def words(self, name, jobs):
+        """The words by which rt has a crate checked over its libraries and over the work kept in out/."""
+        kit, top = self.toolchain, self.checkout if self.of_gate else self.top
+        lines = (it.partition("#")[0].partition(":") for it in (self.top / "crates.txt").read_text().splitlines())
+        named = next(below.replace(",", " ").split() for it, _, below in lines if it.split()[:1] == [name])
+        root = "src/main.rt" if (self.folder(name) / "src/main.rt").is_file() else "src/lib.rt"
+        words = [str(kit / "bin/rattle"), "check", "--crate-name", name, root, "-L", f"dependency={kit}/rlibs"]
+        for it in ["std", *[it for it in named if it not in self.crates]]:
+            words += ["--extern", f"{it}={kit}/rlibs/{it}.rlib"]
+        for it in self.crates[name]:
+            words += ["--extern", f"{it}={self.library(it, top)}"]
+        for it in tree.with_those_below(self.crates, self.crates[name]):
+            words += ["-L", f"dependency={self.library(it, top).parent}"]
+        words += ["--antt-project", f"{kit}/rattle/logic/antt-project.json", "--logic-built", f"{kit}/logic_built"]
+        return [*words, "--links", f"{name}=", "--incremental", "out/incremental", "--jobs", str(jobs)]
+
+
+class Bench:
+    """The checks of one crate, one after the other."""
+
+    def __init__(self, workshop, crate, jobs):
+        # (jobs is asked for how many each check gets, as it begins)
+        self.workshop, self.crate, self.jobs = workshop, crate, jobs
+        self.kept, self.clean = crate.folder / "out" / "incremental", workshop.top / "clean" / crate.name
+        self.checks, self.seconds = 0, 0.0
+
+    def check(self, changed):
+        """Checks the crate with these texts in place of its own, over the kept work of its check with none, if there is one."""
+        if self.clean.is_dir():
+            shutil.rmtree(self.kept, ignore_errors=True)
+            shutil.copytree(self.clean, self.kept, copy_function=os.link)
+        self.kept.parent.mkdir(exist_ok=True)
+        try:
+            for path, text in changed.items():
+                (self.crate.folder / path).write_text(text)
+            output, status, seconds = self.run(self.jobs())
+            if status < 0:
+                progress(f"{self.crate.name}: the check was killed, most likely for memory: once more, with one job")
+                output, status, more = self.run(1)
+                seconds += more
+        finally:
+            for path in changed:
+                (self.crate.folder / path).write_text(self.crate.texts[path])
+        self.checks, self.seconds = self.checks + 1, self.seconds + seconds
+        return Told(output)
+
+    def run(self, jobs):
+        return self.workshop.commands.run(self.workshop.words(self.crate.name, jobs), self.crate.folder)
+
+    def check_unchanged(self):
+        """Checks the crate as it stands, and sets that work aside for the checks of mutants."""
+        told = self.check({})
+        if told.is_proved:
+            self.clean.parent.mkdir(exist_ok=True)
+            self.kept.rename(self.clean)
+        return told

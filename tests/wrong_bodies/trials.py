@@ -1,0 +1,145 @@
+"""The trial of wrong bodies: which go into one check, and what is said of each."""
+
+import threading
+from concurrent.futures import ThreadPoolExecutor
+
+import tree
+from checks import Bench, Stopped, Workshop, progress, say
+from edits import Bad, planted, together
+from sources import Crate
+from verdicts import ALONE, BROKEN, NEXT, PROVED, REFUSED, verdict_alone, verdict_among_others
+
+
+def one_of_each_unit(mutants):
+    chosen = {}
+    for it in mutants:
+        chosen.setdefault(it.function.unit(), it)
+    return list(chosen.values())
+
+
+class Trial:
+    """The trial of a crate's mutants, and the verdict on each."""
+
+    def __init__(self, bench, is_proved):
+        # is_proved: whether it is known that the crate is proved as it stands
+        self.bench, self.crate, self.is_proved, self.told = bench, bench.crate, is_proved, {}
+
+    def tell(self, label, verdict, why):
+        self.told[label] = verdict
+        say(f"{label}: {verdict}{': ' if why else ''}{why}")
+
+    def run(self, edits, is_one_at_a_time=False):
+        mutants = []
+        for label, edit in edits:
+            try:
+                mutants.append(planted(label, edit, self.crate))
+            except Bad as why:
+                self.tell(label, BROKEN, why)
+        if not mutants:
+            return
+        units = None
+        if not self.is_proved:
+            progress(f"{self.crate.name}: checking it as it stands, before {len(mutants)} wrong bodies")
+            told = self.proved_as_it_stands(mutants)
+            if not told:
+                return
+            units = set(self.crate.units_of(told.functions).values())
+        is_placed = lambda it: not is_one_at_a_time and it.function and (units is None or it.function.unit() in units)
+        alone = [it for it in mutants if not is_placed(it)]
+        alone += self.try_in_batches([it for it in mutants if is_placed(it)])
+        for number, it in enumerate(alone, 1):
+            if it.label in self.told:
+                continue
+            progress(f"{self.crate.name}: {it.label} alone ({number} of {len(alone)})")
+            self.tell(it.label, *verdict_alone(self.bench.check(it.texts), it.texts))
+
+    def proved_as_it_stands(self, mutants):
+        """What the check of the crate as it stands says, or None where it isn't proved, so that no mutant can be tried."""
+        told = self.bench.check_unchanged()
+        if told.is_proved:
+            return told
+        for it in mutants:
+            if it.label not in self.told:
+                self.tell(it.label, BROKEN, f"the crate itself is not proved: {told.first_error()}")
+        return None
+
+    def try_in_batches(self, left):
+        """Tries mutants of different functions together, and returns those that are to be tried alone."""
+        alone = []
+        while left:
+            batch = one_of_each_unit(left)
+            answers = self.try_together(batch) if len(batch) > 1 else {it: (ALONE, "") for it in batch}
+            if answers is None:
+                return self.alone_if_proved([*alone, *left])
+            if all(verdict == NEXT for verdict, _ in answers.values()):
+                answers = {it: (ALONE, "") for it in batch}
+            for it, (verdict, why) in answers.items():
+                if verdict not in (NEXT, ALONE):
+                    self.tell(it.label, verdict, why)
+                alone += [it] if verdict == ALONE else []
+                left = [other for other in left if other is not it or verdict == NEXT]
+        return alone
+
+    def alone_if_proved(self, mutants):
+        """These mutants, to be tried alone, once it is known that the crate is proved as it stands."""
+        if not self.is_proved or self.proved_as_it_stands(mutants):
+            return mutants
+        return []
+
+    def try_together(self, batch):
+        """Tries one mutant of each of several functions in one check, and returns the verdict on each, or None where what
+        none of them changes isn't proved either."""
+        progress(f"{self.crate.name}: {len(batch)} wrong bodies in one check")
+        changed, lines = together(batch, self.crate.texts)
+        told = self.bench.check(changed)
+        if told.is_proved is None:
+            errors = [(path, line) for path, line, is_note, _ in told.remarks if not is_note]
+            guilty = [it for it in batch if any(path == it.path and line in lines[it] for path, line in errors)]
+            return {it: (ALONE if it in (guilty or batch) else NEXT, "") for it in batch}
+        units, own = self.crate.units_of(told.functions), {it.function.unit(): {} for it in batch}
+        for name, said in told.functions.items():
+            if units.get(name) in own:
+                own[units[name]][name] = said
+            elif "did not prove" in said:
+                progress(f"{self.crate.name}: {name}, which none of them changes, isn't proved, so each goes alone")
+                return None
+        return {it: verdict_among_others(it, own[it.function.unit()], told, lines[it]) for it in batch}
+
+
+def try_all(checkout, edits, are_proved, jobs=None, is_one_at_a_time=False):
+    """Tries these edits, several crates at a time, and returns the verdict on each label.
+
+    Where it is known that the crates are proved as they stand (are_proved), the first check of each has wrong bodies in it.
+    """
+    workshop = Workshop(checkout, [*edits])
+    crates = {name: Crate(name, workshop.folder(name)) for name in edits}
+    size = {name: sum(map(len, crate.texts.values())) for name, crate in crates.items()}
+    left, guard, told = {*edits}, threading.Lock(), {}
+    at_once = tree.carried(tree.processors())
+
+    def jobs_now():
+        # (the last crates share the processors that nothing else takes)
+        return jobs or max(1, tree.processors() // max(1, min(len(left), at_once)))
+
+    def try_crate(name):
+        bench = Bench(workshop, crates[name], jobs_now)
+        trial = Trial(bench, are_proved)
+        try:
+            trial.run(edits[name], is_one_at_a_time)
+        finally:
+            workshop.put_back(name)
+            with guard:
+                left.discard(name)
+                told.update(trial.told)
+        say(f"{name}: {len(edits[name])} wrong bodies in {bench.checks} checks, {bench.seconds:.0f} s of processor time")
+
+    # What takes longest, by the lengths of its texts, goes first.
+    with ThreadPoolExecutor(at_once) as pool:
+        tried = [pool.submit(try_crate, name) for name in sorted(edits, key=lambda it: -size[it])]
+        try:
+            for it in tried:
+                it.result()
+        except BaseException:
+            workshop.commands.stop()
+            raise
+    return told
