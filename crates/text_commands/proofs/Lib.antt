@@ -1,3 +1,3 @@
+pub mod ServeFaults
 pub mod ReportFaults
-pub mod UpgradeFaults
 pub mod CheckFaults

@@ -1,18 +1,16 @@
 -- What the program makes of a trace text in a report.
-use Rattle.std.specs.Prelude.{ℕ, ◌≡◌, ◌≢◌, ◌≤◌, List, length, take, Option, ⊤}
-use Rattle.std.specs.Io.KnownBytes.{Appends}
+use Rattle.std.specs.Prelude.{ℕ, ◌≡◌, List, true, false, ⊤}
 use Rattle.step_trace.specs.declared.rows.Row.{Row}
 use Rattle.step_trace.specs.Processors.{IsWithin}
 use Rattle.step_trace.specs.Traces.{Recorded}
 use Rattle.step_trace.specs.Fronts.{IsReport}
-use Rattle.trace_text.specs.declared.refusals.TextError.TheVariants as why
-use Rattle.trace_text.specs.TextRefusals.{IsFirstRefusal}
 use Rattle.chunk_join.specs.declared.analyses.AnalyseError.{AnalyseError}
 use Rattle.chunk_join.specs.declared.analyses.AnalyseError.TheVariants as unanalysed
 use Rattle.front.specs.ReportTexts.{report_text}
 use Rattle.text_commands.specs.declared.faults.Fault.{Fault}
 use Rattle.text_commands.specs.declared.faults.Fault.TheVariants as fault
-use Rattle.text_commands.specs.Inputs.{IsTextOf}
+use Rattle.text_commands.specs.Inputs.{IsTextOf, IsTraceFault}
+use Rattle.text_commands.specs.Serving.{Kinds}
 
 -- The text stands for a trace, and these rows are its report: the front of the triples that the trace
 -- leaves possible for this set of correct processors, each with its named evidence.
@@ -54,45 +52,16 @@ IsFaultOfWorkers fault.Memory = ⊤
 IsFaultOfWorkers fault.Threads = ⊤
 IsFaultOfWorkers _ = ⊥
 
--- the fault is none of the command line or of a replay; want of memory and a failed read are faults of their own,
--- and no refusals of the trace
-abbrev pub IsFaultOfReport : Fault → Type 0
-IsFaultOfReport (fault.Command words) = ⊥
-IsFaultOfReport (fault.Trace reason) = (reason ≢ why.Read) × (reason ≢ why.Memory)
-IsFaultOfReport (fault.Certificate reason) = ⊥
-IsFaultOfReport (fault.NotARun number) = ⊥
-IsFaultOfReport _ = ⊤
-
--- nor is it one of threads, before there are any
-abbrev pub IsFaultOfReading : Fault → Type 0
-IsFaultOfReading fault.Threads = ⊥
-IsFaultOfReading w = IsFaultOfReport w
+-- it may refuse a set, and a thread
+abbrev pub report_kinds : Kinds
+report_kinds = record { set = true; certificate = false; run = false; threads = true }
 
 -- The fault has its cause in the text: its first refusal, or a member of the set that its trace hasn't.
 abbrev pub IsTextFault : ℕ → List ℕ → Fault → Type 0
-IsTextFault set text (fault.Command words) = ⊥
 IsTextFault set text fault.Set = IsSetOutside set text
-IsTextFault set text (fault.Trace reason) = IsFirstRefusal text reason
-IsTextFault set text (fault.Certificate reason) = ⊥
-IsTextFault set text fault.Memory = ⊤
-IsTextFault set text fault.Read = ⊥
-IsTextFault set text (fault.NotARun number) = ⊥
-IsTextFault set text fault.Threads = ⊥
-IsTextFault set text (fault.Write n) = ⊥
+IsTextFault set text w = IsTraceFault text w
 
 -- The same; or the text stands for a trace with the set's members, and it was for a thread.
 abbrev pub IsUnreported : ℕ → List ℕ → Fault → Type 0
 IsUnreported set text fault.Threads = IsSetInside set text
 IsUnreported set text w = IsTextFault set text w
-
--- The same; or the text has a report, of which that many first bytes went out.
-abbrev pub IsReportFault : ℕ → List ℕ → Option (List ℕ) → Option (List ℕ) → Fault → Type 0
-IsReportFault set text before after (fault.Command words) = ⊥
-IsReportFault set text before after fault.Set = IsTextFault set text fault.Set
-IsReportFault set text before after (fault.Trace reason) = IsTextFault set text (fault.Trace reason)
-IsReportFault set text before after (fault.Certificate reason) = ⊥
-IsReportFault set text before after fault.Memory = ⊤
-IsReportFault set text before after fault.Read = ⊤
-IsReportFault set text before after (fault.NotARun number) = ⊥
-IsReportFault set text before after fault.Threads = IsSetInside set text
-IsReportFault set text before after (fault.Write n) = (report : List ℕ) × IsReportOf set text report × (n ≤ length report) × Appends before after (take n report)

@@ -7,9 +7,10 @@ ghost use Rattle.trace_text.specs.ByteLoops.{WasFaultless};
 ghost use Rattle.trace_text.specs.Faults.{inner_of, faults_of, is_flushed};
 ghost use Rattle.trace_text.specs.declared.byte_loops.TheConstants.{MAX_TEXT_BYTES};
 ghost use Rattle.front.specs.ReportTexts.{StandsFor};
-ghost use Rattle.text_commands.specs.Checks.{IsCheckFault, IsEitherReadFault, IsFaultBefore, IsFaultOfCheck, IsUnchecked, IsVerdictOn, told_verdict};
+ghost use Rattle.text_commands.specs.Checks.{IsEitherReadFault, IsFaultBefore, IsLineOn, IsUnchecked, IsVerdictOn, check_kinds, told_verdict};
 ghost use Rattle.text_commands.specs.Inputs.{IsReadFault};
 ghost use Rattle.text_commands.specs.Printing.{IsWriteFault};
+ghost use Rattle.text_commands.specs.Serving.{IsFaultOf, IsServeFault};
 
 use crate::faults::Fault;
 use crate::reports::trace_within;
@@ -46,8 +47,8 @@ pub fn run_check<R: Read, S: Read, W: Write>(
     ensures faultless { OnOk result ((faults_of trace.new ≡ faults_of trace.old) × (faults_of certificate.new ≡ faults_of certificate.old)
         × WasFaultless writer.old writer.new) }
     ensures refused { IfErr result (λ why. IfSome (R.remaining (inner_of trace.old)) (λ text. IfSome (S.remaining (inner_of certificate.old)) (λ claimed.
-        IsCheckFault set text claimed (W.contents (inner_of writer.old)) (W.contents (inner_of writer.new)) why))) }
-    ensures own { IfErr result IsFaultOfCheck }
+        IsServeFault (IsLineOn set claimed) (IsUnchecked set claimed) text (W.contents (inner_of writer.old)) (W.contents (inner_of writer.new)) why))) }
+    ensures own { IfErr result (IsFaultOf check_kinds) }
     ensures read { IfErr result (IsEitherReadFault (faults_of trace.old) (faults_of trace.new) (faults_of certificate.old) (faults_of certificate.new)) }
     ensures unwritten { IfErr result (IsWriteFault writer.old writer.new) }
 {
@@ -69,7 +70,7 @@ fn verdict_on<S: Read>(
         × IfSome (S.remaining (inner_of certificate.old)) (λ known. StandsFor known rows × (length known ≤ MAX_TEXT_BYTES))
         × IsVerdictOn set text.items rows verdict) }
     ensures faultless { OnOk result (faults_of certificate.new ≡ faults_of certificate.old) }
-    ensures refused { IfErr result (λ why. IfSome (S.remaining (inner_of certificate.old)) (λ claimed. IsUnchecked set text.items claimed why)) }
+    ensures refused { IfErr result (λ why. IfSome (S.remaining (inner_of certificate.old)) (λ claimed. IsUnchecked set claimed text.items why)) }
     ensures own { IfErr result IsFaultBefore }
     ensures read { IfErr result (IsReadFault (faults_of certificate.old) (faults_of certificate.new)) }
 {

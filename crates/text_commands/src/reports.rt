@@ -9,7 +9,8 @@ ghost use Rattle.trace_text.specs.Faults.{inner_of, faults_of, is_flushed};
 ghost use Rattle.chunk_join.specs.declared.analyses.TheConstants.{MAX_WORKERS};
 ghost use Rattle.text_commands.specs.Inputs.{IsReadFault, IsTextOf};
 ghost use Rattle.text_commands.specs.Printing.{IsWriteFault};
-ghost use Rattle.text_commands.specs.Reports.{AreRowsOf, IsReportOf, IsFaultOfReading, IsFaultOfReport, IsFaultOfWorkers, IsReportFault, IsTextFault, IsUnreported, TellsAnalysis};
+ghost use Rattle.text_commands.specs.Reports.{AreRowsOf, IsReportOf, IsFaultOfWorkers, IsTextFault, IsUnreported, TellsAnalysis, report_kinds};
+ghost use Rattle.text_commands.specs.Serving.{IsFaultOf, IsServeFault};
 
 use crate::faults::Fault;
 use crate::inputs::trace_of;
@@ -51,8 +52,8 @@ pub fn run_report<T: Threads + Wait + Sync, R: Read, W: Write, G: Gate>(
     ensures flushed { OnOk result (IsTrue (is_flushed writer.new)) }
     ensures faultless { OnOk result ((faults_of reader.new ≡ faults_of reader.old) × WasFaultless writer.old writer.new) }
     ensures refused { IfErr result (λ why. IfSome (R.remaining (inner_of reader.old)) (λ text.
-        IsReportFault set text (W.contents (inner_of writer.old)) (W.contents (inner_of writer.new)) why)) }
-    ensures own { IfErr result IsFaultOfReport }
+        IsServeFault (IsReportOf set) (IsUnreported set) text (W.contents (inner_of writer.old)) (W.contents (inner_of writer.new)) why)) }
+    ensures own { IfErr result (IsFaultOf report_kinds) }
     ensures read { IfErr result (IsReadFault (faults_of reader.old) (faults_of reader.new)) }
     ensures unwritten { IfErr result (IsWriteFault writer.old writer.new) }
 {
@@ -74,7 +75,6 @@ fn report_of<T: Threads + Wait + Sync, G: Gate>(
     requires few { workers ≤ MAX_WORKERS }
     ensures report { IfOk result (λ r. AreRowsOf set text.items r.rows) }
     ensures refused { IfErr result (IsUnreported set text.items) }
-    ensures own { IfErr result IsFaultOfReport }
 {
     let trace = trace_within(alloc, text, set)?;
     rows_of(rt, alloc, &trace, set, workers, gate)
@@ -87,7 +87,6 @@ pub fn trace_within(alloc: Global, text: Vec<u8>, set: ProcSet) -> Result<Trace,
     ensures read { IfOk result (λ t. IsTextOf text.items t) }
     ensures within { IfOk result (λ t. IsWithin set t.config.n) }
     ensures refused { IfErr result (IsTextFault set text.items) }
-    ensures own { IfErr result IsFaultOfReading }
 {
     let trace = trace_of(alloc, text)?;
     test_set(set, trace.config().n())?;

@@ -4,9 +4,10 @@ ghost use Rattle.std.specs.Prelude.{◌≡◌, ℕ, List, OnOk, IfErr, IfSome, I
 ghost use Rattle.std.specs.Io.KnownBytes.{IsAtEnd, Appends};
 ghost use Rattle.trace_text.specs.ByteLoops.{WasFaultless};
 ghost use Rattle.trace_text.specs.Faults.{inner_of, faults_of, is_flushed};
-ghost use Rattle.text_commands.specs.Inputs.{IsReadFault};
+ghost use Rattle.text_commands.specs.Inputs.{IsReadFault, IsTraceFault};
 ghost use Rattle.text_commands.specs.Printing.{IsWriteFault};
-ghost use Rattle.text_commands.specs.Upgrades.{IsUpgradeOf, IsFaultOfUpgrade, IsUpgradeFault};
+ghost use Rattle.text_commands.specs.Serving.{IsFaultOf, IsServeFault};
+ghost use Rattle.text_commands.specs.Upgrades.{IsUpgradeOf, upgrade_kinds};
 
 use crate::faults::Fault;
 use crate::inputs::trace_of;
@@ -33,8 +34,8 @@ pub fn run_upgrade<R: Read, W: Write>(
     ensures flushed { OnOk result (IsTrue (is_flushed writer.new)) }
     ensures faultless { OnOk result ((faults_of reader.new ≡ faults_of reader.old) × WasFaultless writer.old writer.new) }
     ensures refused { IfErr result (λ why. IfSome (R.remaining (inner_of reader.old)) (λ text.
-        IsUpgradeFault text (W.contents (inner_of writer.old)) (W.contents (inner_of writer.new)) why)) }
-    ensures own { IfErr result IsFaultOfUpgrade }
+        IsServeFault IsUpgradeOf IsTraceFault text (W.contents (inner_of writer.old)) (W.contents (inner_of writer.new)) why)) }
+    ensures own { IfErr result (IsFaultOf upgrade_kinds) }
     ensures read { IfErr result (IsReadFault (faults_of reader.old) (faults_of reader.new)) }
     ensures unwritten { IfErr result (IsWriteFault writer.old writer.new) }
 {

@@ -1,17 +1,12 @@
 use Rattle.std.proofs.Common.{rules}
 use Rattle.std.proofs.lemmas.Result.{err_from_is_err_and}
-use Rattle.text_commands.proofs.ReportFaults.{own_trace_fault, set_fault, trace_fault}
+use Rattle.text_commands.proofs.ReportFaults.{set_fault, trace_fault}
 use Rattle.text_commands.proofs.reports.trace_within.Goals as goal
 
 pub returns-in_err-trace-clause-refused : goal.returns-in_err-trace-clause-refused
 returns-in_err-trace-clause-refused c =
     let p = err_from_is_err_and c.from_residual.result c.from_residual.ensures.1 in
     rw (p.1, p.2) (trace_fault c.args.set c.args.text.items _ c.in_err-trace.ensures.refused)
-
-pub returns-in_err-trace-clause-own : goal.returns-in_err-trace-clause-own
-returns-in_err-trace-clause-own c =
-    let p = err_from_is_err_and c.from_residual.result c.from_residual.ensures.1 in
-    rw (p.1, p.2) (own_trace_fault c.args.text.items _ c.in_err-trace.ensures.refused)
 
 pub returns-in_err-test_set-clause-refused : goal.returns-in_err-test_set-clause-refused
 returns-in_err-test_set-clause-refused c =
