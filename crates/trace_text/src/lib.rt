@@ -18,4 +18,4 @@ pub use byte_loops::{MAX_TEXT_BYTES, read_all, write_text};
 pub use counting::Counting;
 pub use reading::read_trace;
 pub use refusals::{TextError, WriteError};
-pub use writing::{write_trace, write_trace_2};
+pub use writing::{trace_text_2_of, write_trace, write_trace_2};

@@ -62,7 +62,18 @@ pub fn write_trace_2<W: Write>(
     ensures stands { StandsFor (trace_text_2 trace.now) trace.now }
     ensures short { length (trace_text_2 trace.now) < MAX_TEXT_BYTES }
 {
-    write_version(alloc, Version::Two, trace, writer)
+    match trace_text_2_of(alloc, trace) {
+        Ok(text) => write_text(&text, writer),
+        Err(_) => Err(WriteError::Memory),
+    }
+}
+
+/// The text of a trace in version 2.
+pub fn trace_text_2_of(alloc: Global, trace: &Trace) -> Result<Vec<u8>, AllocError>
+    ensures text { IfOk result (λ text. text.items ≡ trace_text_2 trace.now) }
+    ensures sound { IsTextTrace trace.now }
+{
+    trace_text_of(alloc, Version::Two, trace)
 }
 
 // Writes the text of a trace in a version.
