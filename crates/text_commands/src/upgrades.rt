@@ -11,9 +11,10 @@ ghost use Rattle.text_commands.specs.Upgrades.{IsUpgradeOf, upgrade_kinds};
 
 use crate::faults::Fault;
 use crate::inputs::trace_of;
+use crate::serving::{Answer, serve};
 use std::alloc::Global;
 use std::io::{Read, Write};
-use trace_text::{Counting, read_all, write_trace_2};
+use trace_text::{Counting, trace_text_2_of};
 
 /// Reads a trace text of either version to its end, and writes the version 2 text of its trace. Nothing is
 /// written before the whole text stands.
@@ -39,7 +40,35 @@ pub fn run_upgrade<R: Read, W: Write>(
     ensures read { IfErr result (IsReadFault (faults_of reader.old) (faults_of reader.new)) }
     ensures unwritten { IfErr result (IsWriteFault writer.old writer.new) }
 {
-    let text = read_all(alloc, reader)?;
-    let trace = trace_of(alloc, text)?;
-    Ok(write_trace_2(alloc, &trace, writer)?)
+    serve(alloc, &Upgrade, reader, writer)
+}
+
+/// The command `upgrade`.
+#[derive(Clone, Copy)]
+struct Upgrade;
+
+impl Answer for Upgrade {
+    ghost use Rattle.text_commands.specs.Inputs.{IsTraceFault, own_trace, too_large};
+    ghost use Rattle.text_commands.specs.Upgrades.{IsUpgradeOf, upgrade_kinds};
+
+    ghost Gives = { λ _. IsUpgradeOf };
+
+    ghost Refuses = { λ _. IsTraceFault };
+
+    ghost kinds = { λ _. upgrade_kinds };
+
+    fn answer(&self, alloc: Global, text: Vec<u8>) -> Result<Vec<u8>, Fault> {
+        let trace = trace_of(alloc, text)?;
+        Ok(trace_text_2_of(alloc, &trace)?)
+    }
+
+    ghost too_large = { λ _ text l. too_large text l };
+
+    ghost memory = { λ _ text. tt };
+
+    ghost own = { λ _ text w h. own_trace upgrade_kinds text w h };
+
+    ghost no_read = { λ _ text h. h };
+
+    ghost no_write = { λ _ text n h. h };
 }
