@@ -1,0 +1,109 @@
+-- What holds of each command: its words ask for one thing, what is asked for below it is what the line gives, and a
+-- plain line of it asks for that and has no fault.
+use Rattle.std.proofs.Common.{ℕ, ◌≡◌, ◌∙◌, inl, inr, ap, sym, subst, refl, false, List, [], ◌∷◌, Option, Some, Result, Ok, Err, IfOk, IfErr, codes, string_bytes, arith}
+use Rattle.std.specs.Str.{bytes_eq}
+use Rattle.std.specs.Str.Parse.{digits_value, without_leading_plus}
+use Rattle.std.proofs.lemmas.Slice.Eq.{bytes_eq-Decides}
+use Rattle.clap.proofs.OnLiterals.{clap_on_literals}
+use Rattle.clap.specs.Words.{Row, Text, first_of}
+use Rattle.command_line.specs.declared.jobs.Job.{Job}
+use Rattle.command_line.specs.declared.jobs.Job.TheVariants as job
+use Rattle.command_line.specs.declared.jobs.report.TheConstants.{MAX_WORKERS}
+use Rattle.command_line.specs.declared.line_errors.LineError.{LineError}
+use Rattle.command_line.specs.declared.line_errors.LineError.TheVariants as unread
+use Rattle.command_line.specs.Arguments.{HasNumber, IsLineFault, is_flag}
+use Rattle.command_line.specs.Commands.{AreCheckRows, AreReportRows, AreRowsOf, AreRunRows, Asked, Check, IsJobFor, IsRefusalFor, Replay, Report, Run, check_line, command_of, replay_line, report_line}
+use Rattle.command_line.specs.Jobs.{IsAnswerIn, IsJobIn, IsRefusalIn, Names, NamesNoJob}
+use Rattle.command_line.proofs.PlainWords.{IsPlain, after_value, after_word, at_end, plain_line, shape_of_command}
+
+pub same_some : {A : Type 0} (a b : A) → Some a ≡ Some b → a ≡ b
+same_some a b e = cc
+
+-- two texts that differ aren't equal
+apart : (a b : Text) → a ≡ b → bytes_eq a b ≡ false → ⊥
+apart a b same other = let twice = (bytes_eq-Decides a b).1 same in cc
+
+-- a number of one name is one number
+one_number : (rows : List Row) (name : Text) (least most v w : ℕ) → HasNumber rows name least most v → HasNumber rows name least most w → v ≡ w
+one_number rows name least most v w a b =
+    let same = same_some a.text b.text (sym a.text_is ∙ b.text_is) in
+    a.value_is ∙ ap (λ t. digits_value 10 (without_leading_plus t)) same ∙ sym b.value_is
+
+-- the rows below one command ask for one thing
+pub one_asked : (rows : List Row) (a b : Asked) → command_of a ≡ command_of b → AreRowsOf a rows → AreRowsOf b rows → a ≡ b
+one_asked rows (Report f l v) (Report g m w) e a b = cc (one_number rows _ _ _ v w a.workers_is b.workers_is)
+one_asked rows (Replay f) (Replay g) e a b = cc
+one_asked rows (Run n t vs p s) (Run m u ws q r) e a b = cc (
+  one_number rows _ _ _ n m a.nodes_is b.nodes_is,
+  one_number rows _ _ _ t u a.faults_is b.faults_is,
+  one_number rows _ _ _ p q a.patience_is b.patience_is,
+  one_number rows _ _ _ s r a.steps_is b.steps_is,
+)
+one_asked rows (Check f c l) (Check g d m) e a b = cc
+one_asked rows a b e _ _ = absurd (apart (command_of a) (command_of b) e refl)
+
+-- what is asked for below a command gives what the line gives
+pub given : (a : Asked) (rows : List Row) (r : Result Job LineError) → AreRowsOf a rows → IfOk r (IsJobFor a) → IfErr r (IsRefusalFor a) → IsAnswerIn (Some (command_of a, rows)) r
+given a rows (Ok j) has h _ = record { asked = a; names = record { rows = rows; named = refl; has = has }; is_job = h }
+given a rows (Err (unread.Refused text)) has _ h = inl (record { asked = a; names = record { rows = rows; named = refl; has = has }; refused = h })
+given a rows (Err unread.Memory) has _ h = tt
+
+-- so of the commands with a file alone
+abbrev IsReplayBelow : List Row → Job → Type 0
+IsReplayBelow rows (job.Replay file) = first_of (codes "file") rows ≡ Some (string_bytes file)
+IsReplayBelow rows _ = ⊥
+
+pub replay_asked : (rows : List Row) (j : Job) → IsReplayBelow rows j → IsJobIn (Some (codes "replay", rows)) j
+replay_asked rows (job.Replay file) has = given (Replay (string_bytes file)) rows (Ok (job.Replay file)) has refl tt
+replay_asked rows _ h = absurd h
+
+-- what is named below a command has the command's name and its rows
+rows_below : (command : Text) (rows : List Row) (a : Asked) → Names (Some (command, rows)) a → AreRowsOf a rows
+rows_below command rows a h =
+    subst (AreRowsOf a) (sym (ap (λ (p : Text × List Row). p.1) (same_some (command, rows) (command_of a, h.rows) h.named))) h.has
+
+elsewhere : (command : Text) (rows : List Row) (a : Asked) → Names (Some (command, rows)) a → bytes_eq command (command_of a) ≡ false → ⊥
+elsewhere command rows a h other =
+    apart command (command_of a) (ap (λ (p : Text × List Row). p.0) (same_some (command, rows) (command_of a, h.rows) h.named)) other
+
+-- so a line that lacks a word of its command asks for nothing, and is refused
+pub nothing_named : (sub : Option (Text × List Row)) (w : LineError) → NamesNoJob sub → IsLineFault w → IsRefusalIn sub w
+nothing_named sub (unread.Refused text) none h = inr none
+nothing_named sub unread.Memory none h = absurd h
+
+pub no_report : (rows : List Row) → ((file list : Text) (workers : ℕ) → ¬ AreReportRows rows file list workers) → NamesNoJob (Some (codes "report", rows))
+no_report rows none (Report f l w) h = none f l w (rows_below _ rows (Report f l w) h)
+no_report rows none a h = elsewhere _ rows a h refl
+
+pub no_run : (rows : List Row) → ((n t : ℕ) (values : Text) (patience steps : ℕ) → ¬ AreRunRows rows n t values patience steps) → NamesNoJob (Some (codes "run", rows))
+no_run rows none (Run n t vs p s) h = none n t vs p s (rows_below _ rows (Run n t vs p s) h)
+no_run rows none a h = elsewhere _ rows a h refl
+
+pub no_check : (rows : List Row) → ((file certificate list : Text) → ¬ AreCheckRows rows file certificate list) → NamesNoJob (Some (codes "check", rows))
+no_check rows none (Check f c l) h = none f c l (rows_below _ rows (Check f c l) h)
+no_check rows none a h = elsewhere _ rows a h refl
+
+-- one worker, where the rows have the text that stands for no other number
+one_worker : (rows : List Row) → first_of (codes "workers") rows ≡ Some (codes "1") → HasNumber rows (codes "workers") 1 MAX_WORKERS 1
+one_worker rows has =
+    record { text = codes "1"; text_is = has; numeral = (omega arith, (omega arith, tt)); value_is = refl; low = omega arith; high = omega arith }
+
+pub plain_report : (name file list : Text) → is_flag file ≡ false → is_flag list ≡ false → IsPlain (report_line name file list) (Report file list 1)
+unfolding clap_on_literals
+plain_report name file list plain_file plain_list = plain_line (shape_of_command (codes "report")) (file ∷ codes "--correct" ∷ list ∷ []) _ (Report file list 1) _
+    (after_value _ _ file _ _ plain_file refl refl refl refl (after_word _ _ _ (codes "--correct") _ _ refl refl (after_value _ _ list _ _ plain_list refl refl refl refl (at_end _ _))))
+    refl (record { file_is = refl; list_is = refl; workers_is = one_worker _ refl }) refl refl refl
+
+pub plain_replay : (name file : Text) → is_flag file ≡ false → IsPlain (replay_line name file) (Replay file)
+unfolding clap_on_literals
+plain_replay name file plain_file = plain_line (shape_of_command (codes "replay")) (file ∷ []) _ (Replay file) _
+    (after_value _ _ file _ _ plain_file refl refl refl refl (at_end _ _)) refl refl refl refl refl
+
+pub plain_check : (name file certificate list : Text) → is_flag file ≡ false → is_flag certificate ≡ false → is_flag list ≡ false
+    → IsPlain (check_line name file certificate list) (Check file certificate list)
+unfolding clap_on_literals
+plain_check name file certificate list plain_file plain_certificate plain_list =
+    plain_line (shape_of_command (codes "check")) (file ∷ certificate ∷ codes "--correct" ∷ list ∷ []) _ (Check file certificate list) _
+    (after_value _ _ file _ _ plain_file refl refl refl refl (after_value _ _ certificate _ _ plain_certificate refl refl refl refl
+    (after_word _ _ _ (codes "--correct") _ _ refl refl (after_value _ _ list _ _ plain_list refl refl refl refl (at_end _ _)))))
+    refl (record { file_is = refl; certificate_is = refl; list_is = refl }) refl refl refl

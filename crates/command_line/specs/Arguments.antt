@@ -1,0 +1,73 @@
+-- The arguments that several commands take, what the words of a command line say of them, and why they are refused.
+use Rattle.std.specs.Prelude.{ℕ, ◌≡◌, ◌≢◌, ◌≤◌, Bool, false, true, ◌==◌, List, [], ◌∷◌, Some, codes, string_bytes, ⊤}
+use Rattle.std.specs.Str.Parse.{IsNumeral, digits_value, without_leading_plus}
+use Rattle.clap.specs.Words.{App, Row, Rule, Text, app_of, first_of, new_rule, rule_of}
+use Rattle.clap.specs.declared.builder.Arg.{Arg}
+use Rattle.clap.specs.declared.builder.ArgAction.TheVariants.{Set}
+use Rattle.clap.specs.declared.builder.Command.{Command}
+use Rattle.clap.specs.declared.builder.Command.TheViews.{out-Command}
+use Rattle.clap.specs.declared.builder.value_parser.ValueParser.TheVariants as vp
+use Rattle.step_trace.specs.ProcessorLists.{IsListOf}
+use Rattle.command_line.specs.declared.line_errors.LineError.{LineError}
+use Rattle.command_line.specs.declared.line_errors.LineError.TheVariants as unread
+
+-- The argument has this rule, and none for the commands below it.
+pub record IsArgument (rule : Rule) (a : Arg) : Type 0 where
+  pub rule_is : rule_of a ≡ rule
+  pub local : a.global ≡ false
+
+-- The command is this one, and gives no argument on to commands below it.
+pub record IsCommand (app : App) (c : Command) : Type 0 where
+  pub app_is : app_of c ≡ app
+  pub local : (out-Command c).has_globals ≡ false
+
+-- FILE
+abbrev pub file_rule : Rule
+file_rule = record (new_rule (codes "file")) { action = Some Set; value_names = 1; required = true }
+
+-- --NAME VALUE
+abbrev pub option_rule : Text → Rule
+option_rule name = record (new_rule name) { long = Some name; action = Some Set; value_names = 1; required = true }
+
+-- the same, for a number within these bounds
+abbrev pub number_rule : Text → ℕ → ℕ → Rule
+number_rule name least most = record (option_rule name) { parser = Some (vp.Unsigned least most) }
+
+-- --correct LIST
+abbrev pub correct_rule : Rule
+correct_rule = option_rule (codes "correct")
+
+-- The rows have a number of this name, as the reader of 64-bit numbers reads it, within these bounds.
+pub record HasNumber (rows : List Row) (name : Text) (least most value : ℕ) : Type 0 where
+  pub text : Text
+  pub text_is : first_of name rows ≡ Some text
+  pub numeral : IsNumeral 10 (without_leading_plus text)
+  pub value_is : value ≡ digits_value 10 (without_leading_plus text)
+  pub low : least ≤ value
+  pub high : value ≤ most
+
+-- the word begins with a hyphen and goes on
+abbrev pub is_flag : Text → Bool
+is_flag [] = false
+is_flag (b ∷ []) = false
+is_flag (b ∷ c ∷ rest) = b == 45
+
+-- the fault is want of memory
+abbrev pub IsMemory : LineError → Type 0
+IsMemory unread.Memory = ⊤
+IsMemory _ = ⊥
+
+-- a refusal of the command line
+abbrev pub IsLineFault : LineError → Type 0
+IsLineFault (unread.Refused text) = Unit {0}
+IsLineFault _ = ⊥
+
+-- the text is no list of processors
+pub record IsNoList (list : List ℕ) : Type 0 where
+  pub other : list ≢ codes "none"
+  pub unlisted : (numbers : List ℕ) → ¬ IsListOf list numbers
+
+-- the refusal of a text that is no list, or want of memory
+abbrev pub IsListFault : List ℕ → LineError → Type 0
+IsListFault list (unread.Refused text) = (string_bytes text ≡ codes "synchrony: bad --correct") × IsNoList list
+IsListFault list unread.Memory = Unit {0}

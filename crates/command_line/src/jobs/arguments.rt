@@ -1,0 +1,84 @@
+//! The arguments that several commands take, and what the words of a command line say of them.
+
+ghost use Rattle.std.specs.Prelude.{◌≡◌, ◌≢◌, ◌↔◌, ℕ, List, IfOk, IfErr, IfSome, IfNone, IsTrue, codes};
+ghost use Rattle.clap.specs.Words.{first_of, found_of, rows_of};
+ghost use Rattle.step_trace.specs.ProcessorLists.{IsSetIn};
+ghost use Rattle.command_line.specs.Arguments.{HasNumber, IsArgument, IsLineFault, IsListFault, correct_rule, file_rule};
+
+use crate::line_errors::LineError;
+use clap::{Arg, ArgAction, ArgMatches};
+use std::alloc::{AllocError, Global};
+use step_trace::ProcSet;
+
+/// The argument FILE.
+pub fn file_argument<'a>(alloc: Global) -> Arg<'a>
+    ensures { IsArgument file_rule result }
+{
+    Arg::new(alloc, "file")
+        .value_name("FILE")
+        .help("The trace text; - is standard input")
+        .required(true)
+        .action(ArgAction::Set)
+}
+
+/// The option --correct LIST.
+pub fn correct_argument<'a>(alloc: Global) -> Arg<'a>
+    ensures { IsArgument correct_rule result }
+{
+    Arg::new(alloc, "correct")
+        .long("correct")
+        .value_name("LIST")
+        .help("The correct processors, from 1 to 64: 1,2,5, or none")
+        .required(true)
+        .action(ArgAction::Set)
+}
+
+/// The text of this name, where the matches have one.
+pub fn text<'a>(found: &ArgMatches<'a>, name: &str) -> Option<&'a str>
+    ensures some { IfSome result (λ text. first_of name.now (rows_of (found_of found.now)) ≡ Some text.now) }
+    ensures none { IfNone result ((text : List ℕ) → first_of name.now (rows_of (found_of found.now)) ≢ Some text) }
+{
+    found.get_str(name)
+}
+
+/// The number of this name, where the matches have one within these bounds.
+pub fn number(found: &ArgMatches<'_>, name: &str, least: u64, most: u64) -> Option<u64>
+    ensures some { IfSome result (λ value. HasNumber (rows_of (found_of found.now)) name.now least most value) }
+    ensures none { IfNone result ((value : ℕ) → ¬ HasNumber (rows_of (found_of found.now)) name.now least most value) }
+{
+    let word = text(found, name)?;
+    let Ok(value) = word.parse::<u64>() else {
+        return None;
+    };
+    if value < least || value > most {
+        return None;
+    }
+    Some(value)
+}
+
+/// The set that a list is.
+pub fn set_in(alloc: Global, list: &str) -> Result<ProcSet, LineError>
+    ensures set { IfOk result (IsSetIn list.now) }
+    ensures refused { IfErr result (IsListFault list.now) }
+{
+    let Some(set) = ProcSet::parse_list(list) else {
+        let text = String::from_str(alloc, "synchrony: bad --correct")?;
+        return Err(LineError::Refused(text));
+    };
+    Ok(set)
+}
+
+/// Whether the file of a job is standard input.
+pub fn names_standard_input(file: &str) -> bool
+    ensures { IsTrue result ↔ (file.now ≡ codes "-") }
+{
+    file == "-"
+}
+
+/// The refusal of a command line that has none of the commands, or lacks a word of its command.
+pub fn unknown(alloc: Global) -> Result<LineError, AllocError>
+    ensures { IfOk result IsLineFault }
+{
+    let text = String::from_str(alloc, "synchrony: bad command line")?;
+    Ok(LineError::Refused(text))
+}

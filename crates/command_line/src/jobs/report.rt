@@ -1,0 +1,139 @@
+//! The command `report`: its words and its help text, and the job that they give.
+
+ghost use Rattle.std.specs.Prelude.{◌≡◌, List, ℕ, None, IfOk, IfErr, IfSome, codes};
+ghost use Rattle.clap.specs.Words.{found_of, rows_of};
+ghost use Rattle.command_line.specs.Arguments.{IsArgument, IsCommand, IsListFault};
+ghost use Rattle.command_line.specs.Commands.{AreReportRows, IsReport, report_app, workers_rule};
+ghost use Rattle.command_line.specs.Jobs.{IsAnswerIn};
+
+use crate::jobs::Job;
+use crate::jobs::arguments::{correct_argument, file_argument, number, set_in, text, unknown};
+use crate::line_errors::LineError;
+use clap::builder::ValueParser;
+use clap::{Arg, ArgAction, ArgMatches, Command};
+use std::alloc::{AllocError, Global};
+
+/// The greatest number of workers that a command line may ask for.
+pub const MAX_WORKERS: u64 = 64;
+
+/// What the words after `report` say.
+#[derive(Clone, Copy)]
+struct ReportWords<'a> {
+    /// The path of the trace's file.
+    file: &'a str,
+    /// The list of the correct processors.
+    list: &'a str,
+    /// How many workers find the bounds.
+    workers: u64,
+}
+
+/// The command `report`, as the command line's reader takes it.
+pub fn command<'a>(alloc: Global) -> Result<Command<'a>, AllocError>
+    ensures { IfOk result (IsCommand report_app) }
+{
+    Command::new(alloc, "report")
+        .about("Prints the report of a trace, for a set of correct processors")
+        .after_help(help())
+        .arg(file_argument(alloc))?
+        .arg(correct_argument(alloc))?
+        .arg(workers_argument(alloc))
+}
+
+/// The option --workers W.
+fn workers_argument<'a>(alloc: Global) -> Arg<'a>
+    ensures { IsArgument workers_rule result }
+{
+    Arg::new(alloc, "workers")
+        .long("workers")
+        .value_name("W")
+        .help("How many threads analyse it, from 1 to 64")
+        .default_value("1")
+        .value_parser(ValueParser::unsigned(1, MAX_WORKERS))
+        .action(ArgAction::Set)
+}
+
+/// The job that the words after `report` ask for.
+///
+/// Refuses words that aren't all there, and a list that isn't one. Memory may come instead.
+pub fn job(alloc: Global, found: &ArgMatches<'_>) -> Result<Job, LineError>
+    ensures { IsAnswerIn (Some (codes "report", rows_of (found_of found.now))) result }
+{
+    match words(found) {
+        Some(words) => report(alloc, words),
+        None => Err(unknown(alloc)?),
+    }
+}
+
+/// What the matches below `report` say, where they have all of it.
+fn words<'a>(found: &ArgMatches<'a>) -> Option<ReportWords<'a>>
+    ensures some { IfSome result (λ w. AreReportRows (rows_of (found_of found.now)) w.file.now w.list.now w.workers) }
+    ensures none { result ≡ None → (file list : List ℕ) (workers : ℕ) → ¬ AreReportRows (rows_of (found_of found.now)) file list workers }
+{
+    Some(ReportWords {
+        file: text(found, "file")?,
+        list: text(found, "correct")?,
+        workers: number(found, "workers", 1, MAX_WORKERS)?,
+    })
+}
+
+/// The job of a report with these words.
+fn report(alloc: Global, words: ReportWords<'_>) -> Result<Job, LineError>
+    ensures job { IfOk result (IsReport words.entry.file.now words.entry.list.now words.entry.workers) }
+    ensures refused { IfErr result (IsListFault words.entry.list.now) }
+{
+    let set = set_in(alloc, words.list)?;
+    let file = String::from_str(alloc, words.file)?;
+    Ok(Job::Report {
+        file,
+        set,
+        workers: words.workers,
+    })
+}
+
+/// How a report is asked for, and how it is read.
+fn help() -> &'static str {
+    "\
+The report has a header and a row for each triple (gst, delta, phi) of the
+front: no other triple that holds is as small in all three. gst rises from row
+to row, and a row serves up to the tick before the next row's gst, the last one
+to the end of the trace. Ticks are real-time steps; where each holds one step,
+as in version 1 of the trace text, they are the numbers of the steps.
+
+  gst           the stabilization time: what the row says holds from tick gst
+                to the end of the trace
+  delta         the least communication bound: what a correct processor sends
+                to a correct one in a tick x is delivered by each Receive of
+                its receiver in tick x + delta or later
+  phi           the least processor bound: in any phi ticks in a row, each
+                correct processor takes a step
+  sent,missed   why no smaller delta holds: the numbers of a Send, and of a
+                Receive of its receiver by which it was not yet delivered;
+                empty where delta is 1
+  proc,from,to  why no smaller phi holds: processor proc takes no step from
+                tick from to tick to; empty where phi is 1
+
+Example, at the top of the repository:
+  ./synchrony report examples/one-miss.trace --correct 1,2
+prints
+  gst,delta,phi,sent,missed,proc,from,to
+  1,2,3,1,2,1,2,3
+  2,1,3,,,1,2,3
+  3,1,2,,,1,3,3
+From tick 1 on, delta 2 and phi 3 are the least bounds: the message sent at
+step 1 was not yet delivered when its receiver received at step 2, and
+processor 1 takes no step from 2 to 3. From tick 2 on delta 1 holds, and from
+tick 3 on phi 2.
+
+The ticks are shared out evenly among the W threads: each summarises its share,
+and the summaries are joined. The report is the same for each W, byte for byte.
+
+Exit status:
+  0  the report is printed, or this text
+  2  the command line is refused, LIST is no list, or it has a processor above
+     the trace's number of processors
+  3  the trace is refused
+  5  out of memory
+  6  FILE can't be opened or read, or the output can't be written
+  8  a thread wasn't started or was held back
+A fault is told on standard error. No report is begun before it stands whole."
+}

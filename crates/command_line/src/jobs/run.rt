@@ -1,0 +1,205 @@
+//! The command `run`: its words and its help text, and the job that they give.
+
+ghost use Rattle.std.specs.Prelude.{◌≡◌, ◌↔◌, ◌*◌, ◌<◌, ℕ, List, None, IfOk, IfErr, IfSome, IsTrue, codes};
+ghost use Rattle.clap.specs.Words.{found_of, rows_of};
+ghost use Rattle.step_trace.specs.declared.traces.TheConstants.{MAX_STEPS};
+ghost use Rattle.command_line.specs.Arguments.{IsArgument, IsCommand, number_rule, option_rule};
+ghost use Rattle.command_line.specs.Commands.{AreRunRows, run_app};
+ghost use Rattle.command_line.specs.Jobs.{IsAnswerIn};
+ghost use Rattle.command_line.specs.RunJobs.{AreListed, IsConfigFault, IsConfigOf, IsRunFault, IsRunJob, TellsConfig};
+
+use crate::jobs::Job;
+use crate::jobs::arguments::{number, text, unknown};
+use crate::jobs::value_lists::read_values;
+use crate::line_errors::LineError;
+use clap::builder::ValueParser;
+use clap::{Arg, ArgAction, ArgMatches, Command};
+use std::alloc::{AllocError, Global};
+use step_trace::{Config, ConfigError, MAX_STEPS};
+
+const NODES_HELP: &str = "The number of processors, from 2 to 64";
+
+const FAULTS_HELP: &str = "How many may be faulty; 2 * T + 1 is at most N";
+
+const VALUES_HELP: &str = "Their initial values, with one comma between each two";
+
+const PATIENCE_HELP: &str = "Which Receive of a round ends it, from 1 to 1000000";
+
+const STEPS_HELP: &str = "The steps that each makes; N * S is at most 1000000";
+
+/// The greatest patience.
+const MAX_PATIENCE: u64 = 1_000_000;
+
+/// What the words after `run` say.
+#[derive(Clone, Copy)]
+struct RunWords<'a> {
+    /// The number of processors.
+    nodes: u64,
+    /// How many of them may be faulty.
+    faults: u64,
+    /// The list of their initial values.
+    values: &'a str,
+    /// Which Receive of a round ends it.
+    patience: u64,
+    /// How many steps each processor makes.
+    steps: u64,
+}
+
+/// The command `run`, as the command line's reader takes it.
+pub fn command<'a>(alloc: Global) -> Result<Command<'a>, AllocError>
+    ensures { IfOk result (IsCommand run_app) }
+{
+    Command::new(alloc, "run")
+        .about("Runs the agreement algorithm and prints the trace of its steps")
+        .after_help(help())
+        .arg(number_option(alloc, "nodes", "N", NODES_HELP, 0, u64::MAX))?
+        .arg(number_option(alloc, "faults", "T", FAULTS_HELP, 0, u64::MAX))?
+        .arg(option(alloc, "values", "V1,..,VN", VALUES_HELP))?
+        .arg(number_option(alloc, "patience", "P", PATIENCE_HELP, 1, MAX_PATIENCE))?
+        .arg(number_option(alloc, "steps", "S", STEPS_HELP, 0, MAX_STEPS as u64))
+}
+
+/// A required option `--NAME VALUE`, whose value is a number within these bounds.
+fn number_option<'a>(
+    alloc: Global,
+    name: &'a str,
+    value_name: &'a str,
+    help: &'a str,
+    least: u64,
+    most: u64,
+) -> Arg<'a>
+    ensures { IsArgument (number_rule name.entry.now least most) result }
+{
+    option(alloc, name, value_name, help).value_parser(ValueParser::unsigned(least, most))
+}
+
+/// A required option `--NAME VALUE`.
+fn option<'a>(alloc: Global, name: &'a str, value_name: &'a str, help: &'a str) -> Arg<'a>
+    ensures { IsArgument (option_rule name.entry.now) result }
+{
+    Arg::new(alloc, name)
+        .long(name)
+        .value_name(value_name)
+        .help(help)
+        .required(true)
+        .action(ArgAction::Set)
+}
+
+/// The job that the words after `run` ask for.
+///
+/// Refuses words that aren't all there; a number of processors outside its limits; too many that may be
+/// faulty; values that aren't one for each processor; and more than `MAX_STEPS` steps of all processors
+/// together. Memory may come instead.
+pub fn job(alloc: Global, found: &ArgMatches<'_>) -> Result<Job, LineError>
+    ensures { IsAnswerIn (Some (codes "run", rows_of (found_of found.now))) result }
+{
+    match words(found) {
+        Some(words) => run(alloc, words),
+        None => Err(unknown(alloc)?),
+    }
+}
+
+/// What the matches below `run` say, where they have all of it.
+fn words<'a>(found: &ArgMatches<'a>) -> Option<RunWords<'a>>
+    ensures some { IfSome result (λ w. AreRunRows (rows_of (found_of found.now)) w.nodes w.faults w.values.now w.patience w.steps) }
+    ensures none { result ≡ None → (n t : ℕ) (values : List ℕ) (patience steps : ℕ) → ¬ AreRunRows (rows_of (found_of found.now)) n t values patience steps }
+{
+    Some(RunWords {
+        nodes: number(found, "nodes", 0, u64::MAX)?,
+        faults: number(found, "faults", 0, u64::MAX)?,
+        values: text(found, "values")?,
+        patience: number(found, "patience", 1, MAX_PATIENCE)?,
+        steps: number(found, "steps", 0, MAX_STEPS as u64)?,
+    })
+}
+
+/// The job of a run with these words.
+fn run(alloc: Global, words: RunWords<'_>) -> Result<Job, LineError>
+    ensures job { IfOk result (IsRunJob words.entry.nodes words.entry.faults words.entry.values.now words.entry.patience words.entry.steps) }
+    ensures refused { IfErr result (IsRunFault words.entry.nodes words.entry.faults words.entry.values.now words.entry.steps) }
+{
+    let config = configuration(alloc, words.nodes, words.faults, words.values)?;
+    if is_too_long(words.nodes, words.steps) {
+        let text = String::from_str(alloc, "synchrony: too many steps")?;
+        return Err(LineError::Refused(text));
+    }
+    Ok(Job::Run {
+        config,
+        patience: words.patience,
+        steps: words.steps,
+    })
+}
+
+/// The configuration of these numbers and of the values that a text lists.
+fn configuration(alloc: Global, n: u64, t: u64, list: &str) -> Result<Config, LineError>
+    ensures config { IfOk result (IsConfigOf n t list.now) }
+    ensures refused { IfErr result (IsConfigFault n t list.now) }
+{
+    let values = listed(alloc, list)?;
+    match Config::new(n, t, values) {
+        Ok(config) => Ok(config),
+        Err(why) => Err(config_fault(alloc, why)?),
+    }
+}
+
+/// The values that a text lists, or none where it is no list.
+fn listed(alloc: Global, list: &str) -> Result<Vec<u64>, AllocError>
+    ensures { IfOk result (λ values. AreListed list.now values.items) }
+{
+    match read_values(alloc, list)? {
+        Some(values) => Ok(values),
+        None => Ok(Vec::new(alloc)),
+    }
+}
+
+/// The fault that a reason against a configuration is.
+fn config_fault(alloc: Global, why: ConfigError) -> Result<LineError, AllocError>
+    ensures { IfOk result (TellsConfig why) }
+{
+    let words = match why {
+        ConfigError::BadSize => "synchrony: bad --nodes",
+        ConfigError::BadFaults => "synchrony: bad --faults",
+        ConfigError::BadInit => "synchrony: bad --values",
+    };
+    Ok(LineError::Refused(String::from_str(alloc, words)?))
+}
+
+/// Whether `n` processors that make so many steps each make more than `MAX_STEPS`.
+fn is_too_long(n: u64, steps: u64) -> bool
+    ensures { IsTrue result ↔ (MAX_STEPS < n * steps) }
+{
+    match n.checked_mul(steps) {
+        Some(all) => all > MAX_STEPS as u64,
+        None => true,
+    }
+}
+
+/// How the algorithm is run, and what is printed of it.
+fn help() -> &'static str {
+    "\
+Each processor is a thread. While it has something to send in its round it
+sends; otherwise it receives all that waits for it, and its P-th Receive of a
+round ends the round. Each makes S steps, in whatever order the threads run.
+The trace of all steps is printed as `report` and `replay` read it. The values
+are numbers of 64 bits.
+
+Examples, at the top of the repository:
+  ./synchrony run --nodes 3 --faults 1 --values 5,7,7 --patience 1 --steps 0
+prints
+  dls-trace,1,3,1
+  init,5,7,7
+  end,0
+Whether the processors decide depends on the order of their steps; the greater P
+is, the more of each other's messages they hear in time:
+  ./synchrony run --nodes 3 --faults 1 --values 5,7,7 --patience 10000 \\
+    --steps 200000 | ./synchrony replay -
+
+Exit status:
+  0  the trace is printed, or this text
+  2  the command line is refused, or a number or a value in it
+  5  out of memory
+  6  the output can't be written
+  7  the threads' steps make no run, which is a fault of this program
+  8  a thread wasn't started or was held
+A fault is told on standard error. Nothing is printed before it stands whole."
+}
