@@ -12,7 +12,7 @@ use Rattle.command_line.specs.declared.jobs.report.TheConstants.{MAX_WORKERS}
 use Rattle.command_line.specs.declared.line_errors.LineError.{LineError}
 use Rattle.command_line.specs.declared.line_errors.LineError.TheVariants as unread
 use Rattle.command_line.specs.Arguments.{HasNumber, IsLineFault, is_flag}
-use Rattle.command_line.specs.Commands.{AreCheckRows, AreReportRows, AreRowsOf, AreRunRows, Asked, Check, IsJobFor, IsRefusalFor, Replay, Report, Run, check_line, command_of, replay_line, report_line}
+use Rattle.command_line.specs.Commands.{AreCheckRows, AreReportRows, AreRowsOf, AreRunRows, Asked, Check, IsJobFor, IsRefusalFor, Replay, Report, Run, Upgrade, check_line, command_of, replay_line, report_line, upgrade_line}
 use Rattle.command_line.specs.Jobs.{IsAnswerIn, IsJobIn, IsRefusalIn, Names, NamesNoJob}
 use Rattle.command_line.proofs.PlainWords.{IsPlain, after_value, after_word, at_end, plain_line, shape_of_command}
 
@@ -39,6 +39,7 @@ one_asked rows (Run n t vs p s) (Run m u ws q r) e a b = cc (
   one_number rows _ _ _ p q a.patience_is b.patience_is,
   one_number rows _ _ _ s r a.steps_is b.steps_is,
 )
+one_asked rows (Upgrade f) (Upgrade g) e a b = cc
 one_asked rows (Check f c l) (Check g d m) e a b = cc
 one_asked rows a b e _ _ = absurd (apart (command_of a) (command_of b) e refl)
 
@@ -56,6 +57,14 @@ IsReplayBelow rows _ = ⊥
 pub replay_asked : (rows : List Row) (j : Job) → IsReplayBelow rows j → IsJobIn (Some (codes "replay", rows)) j
 replay_asked rows (job.Replay file) has = given (Replay (string_bytes file)) rows (Ok (job.Replay file)) has refl tt
 replay_asked rows _ h = absurd h
+
+abbrev IsUpgradeBelow : List Row → Job → Type 0
+IsUpgradeBelow rows (job.Upgrade file) = first_of (codes "file") rows ≡ Some (string_bytes file)
+IsUpgradeBelow rows _ = ⊥
+
+pub upgrade_asked : (rows : List Row) (j : Job) → IsUpgradeBelow rows j → IsJobIn (Some (codes "upgrade", rows)) j
+upgrade_asked rows (job.Upgrade file) has = given (Upgrade (string_bytes file)) rows (Ok (job.Upgrade file)) has refl tt
+upgrade_asked rows _ h = absurd h
 
 -- what is named below a command has the command's name and its rows
 rows_below : (command : Text) (rows : List Row) (a : Asked) → Names (Some (command, rows)) a → AreRowsOf a rows
@@ -97,6 +106,11 @@ plain_report name file list plain_file plain_list = plain_line (shape_of_command
 pub plain_replay : (name file : Text) → is_flag file ≡ false → IsPlain (replay_line name file) (Replay file)
 unfolding clap_on_literals
 plain_replay name file plain_file = plain_line (shape_of_command (codes "replay")) (file ∷ []) _ (Replay file) _
+    (after_value _ _ file _ _ plain_file refl refl refl refl (at_end _ _)) refl refl refl refl refl
+
+pub plain_upgrade : (name file : Text) → is_flag file ≡ false → IsPlain (upgrade_line name file) (Upgrade file)
+unfolding clap_on_literals
+plain_upgrade name file plain_file = plain_line (shape_of_command (codes "upgrade")) (file ∷ []) _ (Upgrade file) _
     (after_value _ _ file _ _ plain_file refl refl refl refl (at_end _ _)) refl refl refl refl refl
 
 pub plain_check : (name file certificate list : Text) → is_flag file ≡ false → is_flag certificate ≡ false → is_flag list ≡ false
