@@ -1,0 +1,5 @@
+//! Worked command lines: tests of the crate below, by its public items.
+#![tactic(auto)]
+
+#[cfg(test)]
+mod command_line_tests;
