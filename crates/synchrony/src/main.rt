@@ -6,20 +6,10 @@
 ghost use Rattle.std.specs.Prelude.{◌≤◌};
 ghost use Rattle.chunk_join.specs.declared.analyses.TheConstants.{MAX_WORKERS};
 
-#[cfg(test)]
-mod check_tests;
 mod line_faults;
-#[cfg(test)]
-mod replay_tests;
-#[cfg(test)]
-mod report_tests;
 #[cfg(test)]
 mod run_tests;
 mod runs;
-#[cfg(test)]
-mod test_support;
-#[cfg(test)]
-mod upgrade_tests;
 
 use crate::line_faults::refused_line;
 use crate::runs::run_nodes;

@@ -4,7 +4,6 @@ ghost use Rattle.std.specs.Prelude.{◌*◌, ◌≤◌, length};
 ghost use Rattle.step_trace.specs.declared.traces.TheConstants.{MAX_STEPS};
 
 use crate::runs::run_nodes;
-use crate::test_support::has_written;
 use std::alloc::{AllocError, Global};
 use std::sync::Wait;
 use std::test::Fail;
@@ -95,7 +94,7 @@ fn is_replayed(alloc: Global, text: &[u8], wanted: &str) -> bool {
         &mut Counting::new(text),
         &mut Counting::new(&mut writer),
     );
-    has_written(&ended, &writer, wanted)
+    ended.is_ok() && writer.taken() == wanted.as_bytes()
 }
 
 /// The replay of 64 processors of which each has ended its first round.

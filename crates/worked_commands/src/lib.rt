@@ -1,0 +1,11 @@
+//! Worked examples of the commands that make text of text: tests of `text_commands`, by its public items.
+#![tactic(auto)]
+
+#[cfg(test)]
+mod commands;
+#[cfg(test)]
+mod told;
+#[cfg(test)]
+mod traces;
+#[cfg(test)]
+mod workers;

@@ -1,0 +1,173 @@
+//! What each command answers, refuses and leaves half written, on worked texts and failing devices.
+
+use crate::commands::Command::{Check, Replay, Report, Upgrade};
+use crate::commands::{Command, Input, ended, has_refused, whole};
+use crate::traces::{
+    DECIDES_SEVEN, DECIDES_SEVEN_REPLAY, ENDS_A_ROUND, NEVER_DELIVERED, NEVER_DELIVERED_REPORT,
+    NO_STEPS, ONE_MISS, ONE_MISS_REPORT, ONE_MISS_UPGRADE, REDELIVERED, SAME_TICK, SENDS_TWICE,
+};
+use std::io::ErrorKind;
+use std::test::Fail;
+use text_commands::{Fault, status};
+use trace_text::failing_devices::AfterBytes::{End, Fail as Fails};
+use trace_text::failing_devices::{AfterBytes, FailingWriter, WriteFailure};
+
+const NO_ROWS: &str = "gst,delta,phi,sent,missed,proc,from,to\n";
+
+const FOR_TWO: &str = "gst,delta,phi,sent,missed,proc,from,to\n1,1,2,,,2,1,1\n2,1,1,,,,,\n";
+
+const FOR_NOBODY: &str = "gst,delta,phi,sent,missed,proc,from,to\n1,1,1,,,,,\n";
+
+const NO_HEADER: &str = "1,5,3,1,5,1,4,5\n";
+
+const HALF_A_MISS: &str = "gst,delta,phi,sent,missed,proc,from,to\n1,5,3,1,,1,4,5\n";
+
+const SMALL_DELTA: &str =
+    "gst,delta,phi,sent,missed,proc,from,to\n1,4,3,1,4,1,4,5\n2,1,3,,,1,4,5\n5,1,2,,,1,5,5\n";
+
+const SMALL_PHI: &str =
+    "gst,delta,phi,sent,missed,proc,from,to\n1,5,3,1,5,1,4,5\n2,1,3,,,1,4,5\n5,1,1,,,,,\n";
+
+const PHI_FAILS: &str = "no PhiFails 3 1 5 5\n";
+
+const TWICE: &str = "gst,delta,phi,sent,missed,proc,from,to\n1,5,3,1,5,1,4,5\n1,5,3,1,5,1,4,5\n";
+
+/// A command, its trace text, its status, and what it writes.
+const TOLD: &[(Command, &str, u8, &str)] = &[
+    (Report("1,2"), ONE_MISS, 0, ONE_MISS_REPORT),
+    (Report("1,2"), NO_STEPS, 0, NO_ROWS),
+    (Report("1,2"), NEVER_DELIVERED, 0, NEVER_DELIVERED_REPORT),
+    (Report("2"), ONE_MISS, 0, FOR_TWO),
+    (Report("none"), ONE_MISS, 0, FOR_NOBODY),
+    (Replay, DECIDES_SEVEN, 0, DECIDES_SEVEN_REPLAY),
+    (Replay, NO_STEPS, 0, "proc,round,decision\n1,1,\n2,1,\n"),
+    (Upgrade, ONE_MISS, 0, ONE_MISS_UPGRADE),
+    (Upgrade, ONE_MISS_UPGRADE, 0, ONE_MISS_UPGRADE),
+    (Upgrade, ENDS_A_ROUND, 0, ENDS_A_ROUND),
+    (
+        Check("1,2", NEVER_DELIVERED_REPORT),
+        NEVER_DELIVERED,
+        0,
+        "yes\n",
+    ),
+    (Check("1,2", NO_ROWS), NEVER_DELIVERED, 1, "no NoRows\n"),
+    (Check("1,2", TWICE), NEVER_DELIVERED, 1, "no NotRising 2\n"),
+    (
+        Check("1,2", SMALL_DELTA),
+        NEVER_DELIVERED,
+        1,
+        "no DeltaFails 1 1 5\n",
+    ),
+    (Check("1,2", SMALL_PHI), NEVER_DELIVERED, 1, PHI_FAILS),
+];
+
+#[test]
+fn tells_its_answer(rt: HostRuntime) -> Result<(), Fail> {
+    for &(command, text, code, wanted) in TOLD {
+        let mut writer = FailingWriter::new(rt.alloc(), 10, WriteFailure::Never);
+        let ended = ended(&rt, rt.alloc(), command, whole(text), &mut writer);
+        let told = matches!(ended, Ok(told) if told == code);
+        assert!(rt;
+            told && writer.taken() == wanted.as_bytes(),
+            "{command:?} {wanted}"
+        );
+    }
+    Ok(())
+}
+
+const RECEIVED: &str = "trace: step 3: message 1 was received before";
+
+const SENT_IN_TICK: &str = "trace: step 2: message 1 was sent in this tick";
+
+const NO_PROCESSOR: &str = "no such processor in --correct";
+
+const BAD_HEADER: &str = "certificate: bad header";
+
+const HALF_WITNESS: &str = "certificate: row 1: half a witness";
+
+/// A command, its trace text, its status, and what its line tells of the fault.
+const REFUSED: &[(Command, &str, u8, &str)] = &[
+    (Report("3"), REDELIVERED, 3, RECEIVED),
+    (Report("3"), ONE_MISS, 2, NO_PROCESSOR),
+    (Replay, ONE_MISS, 7, "not a run: step 1"),
+    (Replay, SENDS_TWICE, 7, "not a run: step 3"),
+    (Replay, REDELIVERED, 3, RECEIVED),
+    (Upgrade, REDELIVERED, 3, RECEIVED),
+    (Upgrade, SAME_TICK, 3, SENT_IN_TICK),
+    (Check("3", NO_HEADER), REDELIVERED, 3, RECEIVED),
+    (Check("3", NO_HEADER), NEVER_DELIVERED, 2, NO_PROCESSOR),
+    (Check("1,2", NO_HEADER), NEVER_DELIVERED, 4, BAD_HEADER),
+    (Check("1,2", HALF_A_MISS), NEVER_DELIVERED, 4, HALF_WITNESS),
+];
+
+#[test]
+fn writes_nothing_on_a_refusal(rt: HostRuntime) -> Result<(), Fail> {
+    for &(command, text, code, line) in REFUSED {
+        let mut writer = FailingWriter::new(rt.alloc(), 10, WriteFailure::Never);
+        let ended = ended(&rt, rt.alloc(), command, whole(text), &mut writer);
+        let refused = has_refused(rt.alloc(), &ended, &writer, code, line)?;
+        assert!(rt; refused, "{command:?} {line}");
+    }
+    Ok(())
+}
+
+const FAILS: AfterBytes = Fails(ErrorKind::Other);
+
+const INTERRUPTED: AfterBytes = Fails(ErrorKind::Interrupted);
+
+/// A command, its trace text, and what comes after its bytes and after those of the certificate.
+const UNREAD: &[(Command, &str, AfterBytes, AfterBytes)] = &[
+    (Report("3"), ONE_MISS, FAILS, End),
+    (Report("3"), ONE_MISS, INTERRUPTED, End),
+    (Replay, DECIDES_SEVEN, FAILS, End),
+    (Upgrade, ONE_MISS, FAILS, End),
+    (Check("1,2", SMALL_PHI), NEVER_DELIVERED, FAILS, End),
+    (Check("1,2", SMALL_PHI), NEVER_DELIVERED, End, FAILS),
+];
+
+#[test]
+fn writes_nothing_after_a_failed_read(rt: HostRuntime) -> Result<(), Fail> {
+    for &(command, text, after, after_rows) in UNREAD {
+        let input = Input {
+            text,
+            after,
+            after_rows,
+        };
+        let mut writer = FailingWriter::new(rt.alloc(), 10, WriteFailure::Never);
+        let ended = ended(&rt, rt.alloc(), command, input, &mut writer);
+        let refused = has_refused(rt.alloc(), &ended, &writer, 6, "cannot read")?;
+        assert!(rt; refused, "{command:?} {after:?}");
+    }
+    Ok(())
+}
+
+/// A command, its trace text, what it would write, after how many bytes the writer fails, and after how many it
+/// takes nothing.
+const CUT: &[(Command, &str, &str, usize, usize)] = &[
+    (Report("1,2"), ONE_MISS, ONE_MISS_REPORT, 40, 82),
+    (Report("1,2"), ONE_MISS, ONE_MISS_REPORT, 0, 0),
+    (Replay, DECIDES_SEVEN, DECIDES_SEVEN_REPLAY, 25, 0),
+    (Upgrade, ONE_MISS, ONE_MISS_UPGRADE, 25, 0),
+    (Check("1,2", SMALL_PHI), NEVER_DELIVERED, PHI_FAILS, 12, 0),
+];
+
+/// Each of them refuses with Write(count), and just the first `count` bytes went out, all where the flush failed.
+#[test]
+fn says_how_much_it_wrote(rt: HostRuntime) -> Result<(), Fail> {
+    for &(command, text, wanted, fails, stalls) in CUT {
+        for (failure, count) in [
+            (WriteFailure::FailAfter(fails, ErrorKind::Other), fails),
+            (WriteFailure::TakeNothingAfter(stalls), stalls),
+            (WriteFailure::FailFlush(ErrorKind::Other), wanted.len()),
+        ] {
+            let mut writer = FailingWriter::new(rt.alloc(), 5, failure);
+            let ended = ended(&rt, rt.alloc(), command, whole(text), &mut writer);
+            let told = matches!(ended, Err(Fault::Write(written)) if written == count as u64);
+            let cut = writer.taken().len() == count
+                && wanted.as_bytes().starts_with(writer.taken());
+            assert!(rt; told && cut, "{command:?} {failure:?}");
+        }
+    }
+    assert!(rt; status(&Fault::Write(40)) == 6);
+    Ok(())
+}
