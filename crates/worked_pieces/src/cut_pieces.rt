@@ -86,25 +86,29 @@ fn climbs_joined_at(
     }
 }
 
+const FOUR_STEPS: &[(u64, u64, &[u64])] = &[(1, 2, &[]), (1, 0, &[]), (2, 0, &[]), (2, 0, &[1])];
+
+const FOUR_LEVELS: &[[u64; 7]] = &[
+    [3, 1, 3, 3, 1, 3, 4],
+    [1, 0, 0, 3, 1, 3, 4],
+    [1, 0, 0, 3, 1, 3, 4],
+    [1, 0, 0, 2, 1, 4, 4],
+];
+
 // The five ways to join four pieces in their order.
+const TREES: &[[usize; 3]] = &[[0, 0, 0], [0, 1, 0], [1, 0, 0], [1, 1, 0], [2, 1, 0]];
+
 #[test]
 fn five_trees(rt: HostRuntime) -> Result<(), Fail> {
-    let steps: [(u64, u64, &[u64]); 4] = [(1, 2, &[]), (1, 0, &[]), (2, 0, &[]), (2, 0, &[1])];
-    let trace = trace_of(rt.alloc(), 2, &steps)?;
-    let levels = [
-        [3, 1, 3, 3, 1, 3, 4],
-        [1, 0, 0, 3, 1, 3, 4],
-        [1, 0, 0, 3, 1, 3, 4],
-        [1, 0, 0, 2, 1, 4, 4],
-    ];
-    for places in [[0, 0, 0], [0, 1, 0], [1, 0, 0], [1, 1, 0], [2, 1, 0]] {
-        assert!(rt; climbs_joined_at(rt.alloc(), &trace, &places, &levels)?);
+    let trace = trace_of(rt.alloc(), 2, FOUR_STEPS)?;
+    for places in TREES {
+        assert!(rt; climbs_joined_at(rt.alloc(), &trace, places, FOUR_LEVELS)?);
     }
     Ok(())
 }
 
-// Whether a trace that is cut in two after this tick has its stairs.
-fn is_whole_cut_after(alloc: Global, trace: &Trace, cut: u64) -> Result<bool, Fail> {
+/// Whether a trace that is cut in two after this tick has its stairs.
+pub(crate) fn is_whole_cut_after(alloc: Global, trace: &Trace, cut: u64) -> Result<bool, Fail> {
     if cut > trace.last_tick() {
         return Ok(false);
     }
@@ -133,27 +137,32 @@ fn is_whole_of_ticks(alloc: Global, trace: &Trace) -> Result<bool, Fail> {
     }
 }
 
-// Two messages that are missed, in five pieces.
+// Two messages that are missed.
+const TWO_MISSES: &[(u64, u64, &[u64])] = &[
+    (1, 2, &[]),
+    (1, 2, &[]),
+    (2, 0, &[]),
+    (2, 0, &[1]),
+    (2, 0, &[2]),
+];
+
 #[test]
 fn cut_in_five(rt: HostRuntime) -> Result<(), Fail> {
-    let steps: [(u64, u64, &[u64]); 5] = [
-        (1, 2, &[]),
-        (1, 2, &[]),
-        (2, 0, &[]),
-        (2, 0, &[1]),
-        (2, 0, &[2]),
-    ];
-    let trace = trace_of(rt.alloc(), 2, &steps)?;
+    let trace = trace_of(rt.alloc(), 2, TWO_MISSES)?;
     assert!(rt; is_whole_of_ticks(rt.alloc(), &trace)?);
     Ok(())
 }
 
-#[test]
-fn no_pieces(rt: HostRuntime) -> Result<(), Fail> {
-    let none: Vec<Piece> = Vec::new(rt.alloc());
+// Whether no pieces at all, joined, have stairs without levels.
+fn is_unit_of_none(alloc: Global) -> bool {
+    let none: Vec<Piece> = Vec::new(alloc);
     match join_all(none) {
-        Ok(unit) => assert!(rt; climbs(rt.alloc(), &unit, &[])),
-        Err(_) => assert!(rt; false, "nothing to join"),
+        Ok(unit) => climbs(alloc, &unit, &[]),
+        Err(_) => false,
     }
-    Ok(())
+}
+
+#[test]
+fn no_pieces(rt: HostRuntime) {
+    assert!(rt; is_unit_of_none(rt.alloc()));
 }

@@ -45,26 +45,23 @@ fn two_meet(rt: HostRuntime) -> Result<(), Fail> {
     Ok(())
 }
 
+// How many workers there are, whom the gate holds back, and what is told.
+const HELD: &[(u64, u64, Option<AnalyseError>)] = &[
+    (1, 1, Some(AnalyseError::Held)),
+    (3, 1, Some(AnalyseError::Held)),
+    (3, 2, Some(AnalyseError::Held)),
+    (3, 3, Some(AnalyseError::Held)),
+    (3, 4, None),
+    (0, 1, Some(AnalyseError::BadWorkers)),
+    (65, 1, Some(AnalyseError::BadWorkers)),
+];
+
 #[test]
 fn workers_held_back(rt: HostRuntime) -> Result<(), Fail> {
     let trace = never_delivered(rt.alloc())?;
-    for (workers, held) in [(1, 1), (3, 1), (3, 2), (3, 3)] {
+    for &(workers, held, told) in HELD {
         let found = why(&rt, rt.alloc(), &trace, workers, &GateShutTo(held))?;
-        assert!(rt; found == Some(AnalyseError::Held), "{held} of {workers}");
-    }
-    assert!(rt; why(&rt, rt.alloc(), &trace, 3, &GateShutTo(4))? == None);
-    Ok(())
-}
-
-#[test]
-fn bad_numbers_of_workers(rt: HostRuntime) -> Result<(), Fail> {
-    let trace = never_delivered(rt.alloc())?;
-    for workers in [0, 65] {
-        let found = why(&rt, rt.alloc(), &trace, workers, &GateShutTo(1))?;
-        assert!(rt;
-            found == Some(AnalyseError::BadWorkers),
-            "{workers} workers"
-        );
+        assert!(rt; found == told, "{held} of {workers}");
     }
     Ok(())
 }

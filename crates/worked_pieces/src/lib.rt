@@ -4,6 +4,8 @@
 #[cfg(test)]
 mod cut_pieces;
 #[cfg(test)]
+mod full_size;
+#[cfg(test)]
 mod held_workers;
 #[cfg(test)]
 mod random_pieces;

@@ -5,12 +5,10 @@ use crate::traces::{both, trace_of};
 use chunk_join::{FinishError, Joined, Piece, Why};
 use std::alloc::Global;
 use std::test::Fail;
-use step_trace::{ProcSet, Trace};
+use step_trace::ProcSet;
 
 // Message 1 goes from 1 to 2, which receives nothing at first, and then the message.
-fn one_miss(alloc: Global) -> Result<Trace, Fail> {
-    trace_of(alloc, 2, &[(1, 2, &[]), (2, 0, &[]), (2, 0, &[1])])
-}
+const ONE_MISS: &[(u64, u64, &[u64])] = &[(1, 2, &[]), (2, 0, &[]), (2, 0, &[1])];
 
 fn why(left: Piece, right: Piece) -> Option<Why> {
     if left.fits(&right) {
@@ -23,26 +21,37 @@ fn why(left: Piece, right: Piece) -> Option<Why> {
 }
 
 // Why the piece of the first tick for 1 and 2, and that of the ticks from here to the last for a set, don't join.
-fn why_after_the_first(alloc: Global, set: ProcSet, from: u64) -> Result<Option<Why>, Fail> {
-    let trace = one_miss(alloc)?;
+fn why_after_the_first(alloc: Global, list: &str, from: u64) -> Result<Option<Why>, Fail> {
+    let Some(set) = ProcSet::parse_list(list) else {
+        return Err(Fail::new("no list"));
+    };
+    let trace = trace_of(alloc, 2, ONE_MISS)?;
     let first = piece_of(alloc, &trace, both(), 1, 1)?;
     let rest = piece_of(alloc, &trace, set, from, 3)?;
     Ok(why(first, rest))
 }
 
+// The set of the second piece, its first tick, and why the first isn't joined with it.
+const NEIGHBOURS: &[(&str, u64, Option<Why>)] = &[
+    ("1,2", 2, None),
+    ("1,2", 3, Some(Why::NotAdjacent)),
+    ("2", 2, Some(Why::OtherSet)),
+];
+
 #[test]
 fn pieces_that_do_not_join(rt: HostRuntime) -> Result<(), Fail> {
-    let alloc = rt.alloc();
-    let second = ProcSet::empty().with(2);
-    assert!(rt; why_after_the_first(alloc, both(), 2)? == None);
-    assert!(rt; why_after_the_first(alloc, both(), 3)? == Some(Why::NotAdjacent));
-    assert!(rt; why_after_the_first(alloc, second, 2)? == Some(Why::OtherSet));
+    for &(list, from, why) in NEIGHBOURS {
+        assert!(rt;
+            why_after_the_first(rt.alloc(), list, from)? == why,
+            "{list} from {from}"
+        );
+    }
     Ok(())
 }
 
 // Why the piece of the ticks from here to the last has no stairs.
 fn why_not_whole(alloc: Global, from: u64) -> Result<Option<FinishError>, Fail> {
-    let trace = one_miss(alloc)?;
+    let trace = trace_of(alloc, 2, ONE_MISS)?;
     let rest = piece_of(alloc, &trace, both(), from, 3)?;
     match rest.finish(alloc) {
         Ok(_) => Ok(None),
@@ -52,7 +61,8 @@ fn why_not_whole(alloc: Global, from: u64) -> Result<Option<FinishError>, Fail> 
 
 #[test]
 fn a_piece_that_is_not_whole(rt: HostRuntime) -> Result<(), Fail> {
-    assert!(rt; why_not_whole(rt.alloc(), 1)? == None);
-    assert!(rt; why_not_whole(rt.alloc(), 2)? == Some(FinishError::NotWhole));
+    for (from, why) in [(1, None), (2, Some(FinishError::NotWhole))] {
+        assert!(rt; why_not_whole(rt.alloc(), from)? == why, "from {from}");
+    }
     Ok(())
 }

@@ -98,26 +98,28 @@ fn climb<R: Threads + Wait + Sync>(
 }
 
 // Two ticks of two steps each, and two idle ticks. Message 1 is missed in tick 3.
+const TICKS: &[(u64, u64, u64, &[u64])] = &[
+    (1, 1, 2, &[]),
+    (1, 2, 1, &[]),
+    (3, 1, 0, &[2]),
+    (3, 2, 0, &[]),
+    (4, 2, 0, &[1]),
+];
+
+const LEVELS: &[[u64; 7]] = &[
+    [3, 1, 4, 3, 1, 4, 5],
+    [1, 0, 0, 3, 1, 4, 5],
+    [1, 0, 0, 3, 1, 4, 5],
+    [1, 0, 0, 3, 1, 4, 5],
+    [1, 0, 0, 2, 1, 5, 5],
+];
+
 #[test]
 fn ticks(rt: HostRuntime) -> Result<(), Fail> {
-    let steps: [(u64, u64, u64, &[u64]); 5] = [
-        (1, 1, 2, &[]),
-        (1, 2, 1, &[]),
-        (3, 1, 0, &[2]),
-        (3, 2, 0, &[]),
-        (4, 2, 0, &[1]),
-    ];
-    let trace = ticked(rt.alloc(), 2, &steps, 5)?;
-    let levels = [
-        [3, 1, 4, 3, 1, 4, 5],
-        [1, 0, 0, 3, 1, 4, 5],
-        [1, 0, 0, 3, 1, 4, 5],
-        [1, 0, 0, 3, 1, 4, 5],
-        [1, 0, 0, 2, 1, 5, 5],
-    ];
+    let trace = ticked(rt.alloc(), 2, TICKS, 5)?;
     for workers in [1, 3] {
         assert!(rt;
-            climb(&rt, rt.alloc(), &trace, workers, &levels),
+            climb(&rt, rt.alloc(), &trace, workers, LEVELS),
             "{workers} workers"
         );
     }

@@ -1,0 +1,87 @@
+//! Calls that take memory, at full size: what no clause says is that they succeed.
+
+use crate::cut_pieces::{are_stairs_of, is_whole_cut_after, piece_of};
+use crate::stair_levels::has_levels_at;
+use crate::traces::{both, empty_trace, step_of};
+use chunk_join::Piece;
+use std::alloc::Global;
+use std::test::Fail;
+use step_trace::Trace;
+
+// So many steps, in which 1 and 2 take turns to send to each other.
+fn sent_in_turns(alloc: Global, count: u64) -> Result<Trace, Fail> {
+    let mut trace = empty_trace(alloc, 2)?;
+    for before in 0..count {
+        let is_first = before % 2 == 0;
+        let (proc, to) = if is_first { (1, 2) } else { (2, 1) };
+        trace.push(step_of(alloc, proc, to, &[])?)?;
+    }
+    Ok(trace)
+}
+
+// So many messages go from 1 to 2, which then takes one after the other.
+fn sent_and_then_taken(alloc: Global, count: u64) -> Result<Trace, Fail> {
+    let mut trace = empty_trace(alloc, 2)?;
+    for _ in 0..count {
+        trace.push(step_of(alloc, 1, 2, &[])?)?;
+    }
+    take_all(alloc, &mut trace, count)?;
+    Ok(trace)
+}
+
+fn take_all(alloc: Global, trace: &mut Trace, count: u64) -> Result<(), Fail> {
+    for before in 0..count {
+        trace.push(step_of(alloc, 2, 0, &[before + 1])?)?;
+    }
+    Ok(())
+}
+
+fn climbs_at(alloc: Global, whole: &Piece, levels: &[(u64, [u64; 7])]) -> bool {
+    match whole.finish(alloc) {
+        Ok(stairs) => has_levels_at(&stairs, levels),
+        Err(_) => false,
+    }
+}
+
+// Whether the piece of all its ticks has the stairs of a trace, and these levels at these ticks.
+fn is_summarised(alloc: Global, trace: &Trace, levels: &[(u64, [u64; 7])]) -> Result<bool, Fail> {
+    let whole = piece_of(alloc, trace, both(), 1, trace.last_tick())?;
+    Ok(are_stairs_of(alloc, &whole, trace, both())? && climbs_at(alloc, &whole, levels))
+}
+
+// No message is missed, since nobody receives. Both are silent in every other tick, and 1 in the last one.
+const IN_TURNS: &[(u64, [u64; 7])] = &[
+    (1, [1, 0, 0, 2, 1, 1_000_000, 1_000_000]),
+    (1_000_000, [1, 0, 0, 2, 1, 1_000_000, 1_000_000]),
+];
+
+#[test]
+fn a_piece_of_a_million_sends(rt: HostRuntime) -> Result<(), Fail> {
+    let trace = sent_in_turns(rt.alloc(), 1_000_000)?;
+    assert!(rt; is_summarised(rt.alloc(), &trace, IN_TURNS)?);
+    Ok(())
+}
+
+// All messages but the first are last missed 499,999 ticks after they were sent. Each processor is silent in one half.
+const BY_HALVES: &[(u64, [u64; 7])] = &[
+    (
+        1,
+        [500_000, 500_000, 999_999, 500_001, 1, 500_001, 1_000_000],
+    ),
+    (
+        500_000,
+        [500_000, 500_000, 999_999, 500_001, 1, 500_001, 1_000_000],
+    ),
+    (500_001, [1, 0, 0, 500_001, 1, 500_001, 1_000_000]),
+    (500_002, [1, 0, 0, 500_000, 1, 500_002, 1_000_000]),
+    (1_000_000, [1, 0, 0, 2, 1, 1_000_000, 1_000_000]),
+];
+
+// The piece of all ticks, and those of the two halves, over whose seam each message goes.
+#[test]
+fn pieces_of_half_a_million_messages(rt: HostRuntime) -> Result<(), Fail> {
+    let trace = sent_and_then_taken(rt.alloc(), 500_000)?;
+    assert!(rt; is_summarised(rt.alloc(), &trace, BY_HALVES)?);
+    assert!(rt; is_whole_cut_after(rt.alloc(), &trace, 500_000)?);
+    Ok(())
+}
