@@ -40,6 +40,14 @@ def copy_sources(crate, to):
             shutil.copytree(crate / part, to / part)
 
 
+def link(file, to):
+    """Makes a file be in another place too: rt replaces files and writes into none, so a link serves where one can be had."""
+    try:
+        os.link(file, to)
+    except OSError:
+        shutil.copy2(file, to)
+
+
 class Busy(Exception):
     """Another rt works in this crate."""
 

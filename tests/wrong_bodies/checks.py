@@ -32,14 +32,6 @@ def newest(files):
     return max((it.stat().st_mtime for it in files), default=0)
 
 
-def link(file, to):
-    """Makes a file be in another place too (a check replaces files and writes into none, so a link serves)."""
-    try:
-        os.link(file, to)
-    except OSError:
-        shutil.copy2(file, to)
-
-
 class Stopped(Exception):
     """The run ends, and nothing more is begun."""
 
@@ -114,6 +106,12 @@ class Workshop:
             kept.parent.mkdir(parents=True, exist_ok=True)
             clean.rename(kept)
 
+    def leave(self, name):
+        """Ends the work in a crate: what the gate's checks kept is of no more use, and takes hundreds of megabytes."""
+        self.put_back(name)
+        if self.of_gate:
+            shutil.rmtree(self.folder(name) / "out", ignore_errors=True)
+
     def take_kept_work(self, name):
         """Takes what the checkout's own checks kept, and its built library, where they are newer than those here."""
         theirs, ours = self.checkout / "crates" / name / "out", self.folder(name) / "out"
@@ -127,7 +125,7 @@ class Workshop:
             except tree.Busy:
                 continue
             shutil.rmtree(ours / part, ignore_errors=True)
-            shutil.copytree(theirs / part, ours / part, copy_function=link)
+            shutil.copytree(theirs / part, ours / part, copy_function=tree.link)
             os.close(held)
 
     def has_libraries_of_gate(self):
@@ -188,7 +186,7 @@ class Bench:
         """Checks the crate with these texts in place of its own, over the kept work of its check with none, if there is one."""
         if self.clean.is_dir():
             shutil.rmtree(self.kept, ignore_errors=True)
-            shutil.copytree(self.clean, self.kept, copy_function=os.link)
+            shutil.copytree(self.clean, self.kept, copy_function=tree.link)
         self.kept.parent.mkdir(exist_ok=True)
         try:
             for path, text in changed.items():

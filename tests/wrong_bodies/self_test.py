@@ -137,6 +137,39 @@ PLANTED_ABOVE = {
     "lesser-is-the-first": ("lib", ["least(a, b)", "a"], PROVED),
     "lesser-has-a-type-error": ("lib", ["least(a, b)", "is_small(a)"], BROKEN),
 }
+# A crate that isn't proved as it stands, so that no verdict on a wrong body of it says anything.
+UNPROVED = """\
+//! A function that isn't what it says.
+#![tactic(auto)]
+
+ghost use Rattle.std.specs.Prelude.{◌≡◌, ◌≤◌};
+
+/// A number that is at most this one.
+pub fn half(p: u64) -> u64
+    ensures { result ≤ p }
+{
+    p / 2
+}
+
+/// The number itself.
+pub fn same(p: u64) -> u64
+    ensures { result ≡ p }
+{
+    p
+}
+
+/// The number itself, so it says.
+pub fn other(p: u64) -> u64
+    ensures { result ≡ p }
+{
+    p / 3
+}
+"""
+PLANTED_UNPROVED = {
+    "half-of-one": "file: src/lib.rt\nold: p / 2\nnew: p / 2 + 1\n",
+    "same-is-zero": "file: src/lib.rt\nafter: pub fn same\nold:     p\nnew:     p / 4\n",
+}
+
 # A text that stands twice, after one that stands once.
 AFTER = "file: src/lib.rt\nafter: pub fn lesser\nold: (a, b)\nnew: (b, b)\n"
 
@@ -154,17 +187,28 @@ def write(top):
     (top / f"crates/above/{PUBLIC}/lesser-of-the-second.edit").write_text(AFTER)
 
 
+def add_unproved(top):
+    """Writes the crate that isn't proved, which `rt ci` would refuse."""
+    (top / "crates.txt").write_text(f"{TOY['crates.txt']}unproved:\n")
+    for path, text in (("src/lib.rt", UNPROVED), *[(f"{PUBLIC}/{name}.edit", edit) for name, edit in PLANTED_UNPROVED.items()]):
+        (top / "crates/unproved" / path).parent.mkdir(parents=True, exist_ok=True)
+        (top / "crates/unproved" / path).write_text(text)
+
+
 def failures(top):
     """What is not as it should be, after all has been tried."""
     due = {f"toy/{name}": verdict for name, (_, _, verdict) in PLANTED.items()}
     due |= {f"above/public/{name}": verdict for name, (_, _, verdict) in PLANTED_ABOVE.items()}
     due["above/public/lesser-of-the-second"] = REFUSED
+    due |= {f"unproved/public/{name}": BROKEN for name in PLANTED_UNPROVED}
     told = try_all(top, chosen(top, [], ["mutants"]), are_proved=False)
     gate = subprocess.run(["rt", "ci"], cwd=top, stdin=subprocess.DEVNULL, stdout=subprocess.PIPE, stderr=subprocess.STDOUT, text=True)
     found = [f"rt ci does not pass the toy crates: {gate.stdout}"] if gate.returncode else []
     built = [it.name for it in top.glob("crates/*/out/rlib/stamp")]
     found += ["rt ci left libraries with a stamp, so those of a whole run weren't tried"] if built else []
     told |= try_all(top, chosen(top, [], [PUBLIC]), are_proved=True)
+    add_unproved(top)
+    told |= try_all(top, chosen(top, ["unproved"], [PUBLIC]), are_proved=True)
     found += [f"{label}: {verdict} is due, and {told.get(label)} was told" for label, verdict in due.items() if told.get(label) != verdict]
     named = {it.path().partition("::")[2] for it in lacking(top, ["toy"])}
     wrong = named ^ {it.removeprefix("lib::") for it in LACKING}

@@ -21,44 +21,44 @@ class Trial:
     """The trial of a crate's mutants, and the verdict on each."""
 
     def __init__(self, bench, is_proved):
-        # is_proved: whether it is known that the crate is proved as it stands
-        self.bench, self.crate, self.is_proved, self.told = bench, bench.crate, is_proved, {}
+        # is_proved: whether the crate is said to be proved as it stands, so that this isn't looked at first
+        self.bench, self.crate, self.is_proved = bench, bench.crate, is_proved
+        self.mutants, self.told = [], {}
 
     def tell(self, label, verdict, why):
         self.told[label] = verdict
         say(f"{label}: {verdict}{': ' if why else ''}{why}")
 
     def run(self, edits, is_one_at_a_time=False):
-        mutants = []
         for label, edit in edits:
             try:
-                mutants.append(planted(label, edit, self.crate))
+                self.mutants.append(planted(label, edit, self.crate))
             except Bad as why:
                 self.tell(label, BROKEN, why)
-        if not mutants:
+        if not self.mutants:
             return
         units = None
         if not self.is_proved:
-            progress(f"{self.crate.name}: checking it as it stands, before {len(mutants)} wrong bodies")
-            told = self.proved_as_it_stands(mutants)
+            progress(f"{self.crate.name}: checking it as it stands, before {len(self.mutants)} wrong bodies")
+            told = self.proved_as_it_stands()
             if not told:
                 return
             units = set(self.crate.units_of(told.functions).values())
         is_placed = lambda it: not is_one_at_a_time and it.function and (units is None or it.function.unit() in units)
-        alone = [it for it in mutants if not is_placed(it)]
-        alone += self.try_in_batches([it for it in mutants if is_placed(it)])
+        alone = [it for it in self.mutants if not is_placed(it)]
+        alone += self.try_in_batches([it for it in self.mutants if is_placed(it)])
         for number, it in enumerate(alone, 1):
             if it.label in self.told:
                 continue
             progress(f"{self.crate.name}: {it.label} alone ({number} of {len(alone)})")
             self.tell(it.label, *verdict_alone(self.bench.check(it.texts), it.texts))
 
-    def proved_as_it_stands(self, mutants):
+    def proved_as_it_stands(self):
         """What the check of the crate as it stands says, or None where it isn't proved, so that no mutant can be tried."""
         told = self.bench.check_unchanged()
         if told.is_proved:
             return told
-        for it in mutants:
+        for it in self.mutants:
             if it.label not in self.told:
                 self.tell(it.label, BROKEN, f"the crate itself is not proved: {told.first_error()}")
         return None
@@ -70,7 +70,9 @@ class Trial:
             batch = one_of_each_unit(left)
             answers = self.try_together(batch) if len(batch) > 1 else {it: (ALONE, "") for it in batch}
             if answers is None:
-                return self.alone_if_proved([*alone, *left])
+                if not self.is_proved_indeed():
+                    return []
+                answers = {it: (ALONE, "") for it in batch}
             if all(verdict == NEXT for verdict, _ in answers.values()):
                 answers = {it: (ALONE, "") for it in batch}
             for it, (verdict, why) in answers.items():
@@ -80,11 +82,12 @@ class Trial:
                 left = [other for other in left if other is not it or verdict == NEXT]
         return alone
 
-    def alone_if_proved(self, mutants):
-        """These mutants, to be tried alone, once it is known that the crate is proved as it stands."""
-        if not self.is_proved or self.proved_as_it_stands(mutants):
-            return mutants
-        return []
+    def is_proved_indeed(self):
+        """Whether the crate is proved as it stands, where that was said and not yet seen."""
+        if self.is_proved and not self.proved_as_it_stands():
+            return False
+        self.is_proved = False
+        return True
 
     def try_together(self, batch):
         """Tries one mutant of each of several functions in one check, and returns the verdict on each, or None where what
@@ -127,7 +130,7 @@ def try_all(checkout, edits, are_proved, jobs=None, is_one_at_a_time=False):
         try:
             trial.run(edits[name], is_one_at_a_time)
         finally:
-            workshop.put_back(name)
+            workshop.leave(name)
             with guard:
                 left.discard(name)
                 told.update(trial.told)
