@@ -16,3 +16,5 @@ mod size_tests;
 mod table_tests;
 #[cfg(test)]
 mod tables;
+#[cfg(test)]
+mod worked_nodes;

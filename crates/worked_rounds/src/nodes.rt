@@ -18,6 +18,26 @@ pub enum Says<'a> {
     Locks(&'a [(u64, u64)]),
 }
 
+/// A message: its sender, what it says, and its PROPER.
+pub type Told<'a> = (u64, Says<'a>, &'a [u64]);
+
+/// What a node has.
+#[derive(Clone, Copy)]
+pub struct State<'a> {
+    pub proper: &'a [u64],
+    pub locks: &'a [(u64, u64)],
+    pub proposal: Option<u64>,
+    pub ack: bool,
+    pub decision: Option<u64>,
+}
+
+/// A round of a node: its number, what the node hears in it, and what it has then.
+pub struct Round<'a> {
+    pub number: u64,
+    pub heard: &'a [Told<'a>],
+    pub then: State<'a>,
+}
+
 /// `n` processors, of which at most `t` are faulty, with initial values that no test looks at.
 pub fn config(alloc: Global, n: u64, t: u64) -> Result<Config, Fail>
     ensures { IfOk result (λ c. c.n ≡ n) }
@@ -60,215 +80,178 @@ fn is_kind(kind: &Kind, says: Says) -> bool {
     }
 }
 
-/// Whether the node has these PROPER values, locks, proposal, flag and decision.
-pub fn has_state(
-    node: &Node,
-    proper: &[u64],
-    locks: &[(u64, u64)],
-    proposal: Option<u64>,
-    ack: bool,
-    decision: Option<u64>,
-) -> bool {
-    node.proper() == proper
-        && node.locks() == locks
-        && node.proposal() == proposal
-        && node.ack() == ack
-        && node.decision() == decision
+/// Whether the node has this.
+pub fn has_state(node: &Node, state: &State) -> bool {
+    node.proper() == state.proper
+        && node.locks() == state.locks
+        && node.proposal() == state.proposal
+        && node.ack() == state.ack
+        && node.decision() == state.decision
 }
 
-/// Whether node `me`, of three processors, sends this to `to` in the round.
+/// Whether the node has this, and its copy too.
+pub fn is_copied(node: &Node, alloc: Global, state: &State) -> Result<bool, AllocError> {
+    Ok(has_state(node, state) && has_state(&node.copy(alloc)?, state))
+}
+
+/// Whether node `me` sends this to `to` in a round, or nothing at all.
 pub fn sends(
     node: &Node,
     alloc: Global,
+    config: &Config,
     me: u64,
-    round: u64,
-    to: u64,
-    says: Says,
-    proper: &[u64],
-) -> Result<bool, Fail>
-    requires me_low { 1 ≤ me }
-    requires me_high { me ≤ 3 }
-    requires to_low { 1 ≤ to }
-    requires to_high { to ≤ 3 }
-    requires positive { 1 ≤ round }
-{
-    let config = config(alloc, 3, 1)?;
-    Ok(match node.out(alloc, &config, me, round, to)? {
-        Some(body) => node.sends_to(&config, me, round, to) && is_body(&body, says, proper),
-        None => false,
-    })
+    (round, to, wanted): (u64, u64, Option<(Says, &[u64])>),
+) -> Result<bool, AllocError> {
+    if round == 0 || me == 0 || me > config.n() || to == 0 || to > config.n() {
+        return Ok(false);
+    }
+    if node.sends_to(config, me, round, to) != wanted.is_some() {
+        return Ok(false);
+    }
+    match (node.out(alloc, config, me, round, to)?, wanted) {
+        (Some(body), Some((says, proper))) => Ok(is_body(&body, says, proper)),
+        (None, None) => Ok(true),
+        _ => Ok(false),
+    }
 }
 
-/// Whether node `me`, of three processors, sends nothing to `to` in the round.
-pub fn is_silent(node: &Node, alloc: Global, me: u64, round: u64, to: u64) -> Result<bool, Fail>
-    requires me_low { 1 ≤ me }
-    requires me_high { me ≤ 3 }
-    requires to_low { 1 ≤ to }
-    requires to_high { to ≤ 3 }
-    requires positive { 1 ≤ round }
-{
-    let config = config(alloc, 3, 1)?;
-    Ok(!node.sends_to(&config, me, round, to) && node.out(alloc, &config, me, round, to)?.is_none())
-}
-
-/// A round in which node `me`, of three processors, hears one message.
+/// A round in which node `me` hears one to three messages, in the order of their senders.
 pub fn hear(
     node: &mut Node,
     alloc: Global,
+    config: &Config,
     me: u64,
     round: u64,
-    sender: u64,
-    says: Says,
-    proper: &[u64],
-) -> Result<(), Fail>
-    requires me_low { 1 ≤ me }
-    requires me_high { me ≤ 3 }
-    requires positive { 1 ≤ round }
-    requires low { 1 ≤ sender }
-    requires high { sender ≤ 3 }
-{
-    let config = config(alloc, 3, 1)?;
-    let body = body(alloc, says, proper)?;
-    Ok(node.compute(alloc, &config, me, round, &[(sender, body)])?)
+    heard: &[Told],
+) -> Result<(), Fail> {
+    if round == 0 || me == 0 || me > config.n() {
+        return Err(Fail::new("no round, or no processor"));
+    }
+    if heard.len() == 1 {
+        return hear_one(node, alloc, config, me, round, heard[0]);
+    }
+    if heard.len() == 2 {
+        return hear_two(node, alloc, config, me, round, heard[0], heard[1]);
+    }
+    if heard.len() == 3 {
+        return hear_three(
+            node,
+            alloc,
+            config,
+            me,
+            round,
+            [heard[0], heard[1], heard[2]],
+        );
+    }
+    Err(Fail::new("no message, or more than three"))
 }
 
-/// A round in which node `me`, of three processors, hears two messages.
-pub fn hear_two(
+fn hear_one(
     node: &mut Node,
     alloc: Global,
+    config: &Config,
     me: u64,
     round: u64,
-    first: (u64, Says, &[u64]),
-    second: (u64, Says, &[u64]),
+    told: Told,
 ) -> Result<(), Fail>
-    requires me_low { 1 ≤ me }
-    requires me_high { me ≤ 3 }
+    requires processor { IsProc config.now me }
     requires positive { 1 ≤ round }
-    requires low { 1 ≤ first.0 }
-    requires rising { first.0 < second.0 }
-    requires high { second.0 ≤ 3 }
 {
+    let (sender, says, proper) = told;
+    if sender == 0 || sender > config.n() {
+        return Err(Fail::new("no sender"));
+    }
+    let body = body(alloc, says, proper)?;
+    Ok(node.compute(alloc, config, me, round, &[(sender, body)])?)
+}
+
+fn hear_two(
+    node: &mut Node,
+    alloc: Global,
+    config: &Config,
+    me: u64,
+    round: u64,
+    first: Told,
+    second: Told,
+) -> Result<(), Fail>
+    requires processor { IsProc config.now me }
+    requires positive { 1 ≤ round }
+{
+    if first.0 == 0 || first.0 >= second.0 || second.0 > config.n() {
+        return Err(Fail::new("no senders in their order"));
+    }
     let one = body(alloc, first.1, first.2)?;
     let other = body(alloc, second.1, second.2)?;
-    compute_two(node, alloc, me, round, (first.0, one), (second.0, other))
+    compute_two(
+        node,
+        alloc,
+        config,
+        me,
+        round,
+        (first.0, one),
+        (second.0, other),
+    )
 }
 
 fn compute_two(
     node: &mut Node,
     alloc: Global,
+    config: &Config,
     me: u64,
     round: u64,
     first: (u64, Body),
     second: (u64, Body),
 ) -> Result<(), Fail>
-    requires me_low { 1 ≤ me }
-    requires me_high { me ≤ 3 }
+    requires processor { IsProc config.now me }
     requires positive { 1 ≤ round }
     requires low { 1 ≤ first.0 }
     requires rising { first.0 < second.0 }
-    requires high { second.0 ≤ 3 }
+    requires high { IsProc config.now second.0 }
 {
-    let config = config(alloc, 3, 1)?;
-    Ok(node.compute(alloc, &config, me, round, &[first, second])?)
+    Ok(node.compute(alloc, config, me, round, &[first, second])?)
 }
 
-/// A round in which node `me`, of three processors, hears the lists of all three: PROPER of each is its list.
-pub fn hear_lists(
+// The processors 1, 2 and 3 are heard.
+fn hear_three(
     node: &mut Node,
     alloc: Global,
+    config: &Config,
     me: u64,
     round: u64,
-    lists: [&[u64]; 3],
+    heard: [Told; 3],
 ) -> Result<(), Fail>
-    requires me_low { 1 ≤ me }
-    requires me_high { me ≤ 3 }
+    requires processor { IsProc config.now me }
     requires positive { 1 ≤ round }
 {
-    let first = body(alloc, Says::List(lists[0]), lists[0])?;
-    let second = body(alloc, Says::List(lists[1]), lists[1])?;
-    let third = body(alloc, Says::List(lists[2]), lists[2])?;
-    compute_three(node, alloc, me, round, first, second, third)
+    let [one, two, three] = heard;
+    if one.0 != 1 || two.0 != 2 || three.0 != 3 || config.n() < 3 {
+        return Err(Fail::new("no three senders in their order"));
+    }
+    let first = body(alloc, one.1, one.2)?;
+    let second = body(alloc, two.1, two.2)?;
+    let third = body(alloc, three.1, three.2)?;
+    compute_three(node, alloc, config, me, round, first, second, third)
 }
 
 fn compute_three(
     node: &mut Node,
     alloc: Global,
+    config: &Config,
     me: u64,
     round: u64,
     first: Body,
     second: Body,
     third: Body,
 ) -> Result<(), Fail>
-    requires me_low { 1 ≤ me }
-    requires me_high { me ≤ 3 }
+    requires processor { IsProc config.now me }
     requires positive { 1 ≤ round }
+    requires third { IsProc config.now 3 }
 {
-    let config = config(alloc, 3, 1)?;
     Ok(node.compute(
         alloc,
-        &config,
+        config,
         me,
         round,
         &[(1, first), (2, second), (3, third)],
     )?)
-}
-
-/// Node 1 with value 5, which heard the lists [5], [7] and [7] in round 1.
-pub fn proposer(alloc: Global) -> Result<Node, Fail> {
-    let mut node = Node::new(alloc, 5)?;
-    hear_lists(&mut node, alloc, 1, 1, [&[5], &[7], &[7]])?;
-    Ok(node)
-}
-
-/// Node 3 with value 5, which locked 5 in round 2 and 7 in round 6.
-pub fn locker(alloc: Global) -> Result<Node, Fail> {
-    let mut node = Node::new(alloc, 5)?;
-    hear(&mut node, alloc, 3, 2, 1, Says::Lock(5), &[5, 7])?;
-    hear(&mut node, alloc, 3, 6, 2, Says::Lock(7), &[7])?;
-    Ok(node)
-}
-
-/// Node 1 with value 5, which proposes 7 and has locked it.
-pub fn locked_proposer(alloc: Global) -> Result<Node, Fail> {
-    let mut node = proposer(alloc)?;
-    hear(&mut node, alloc, 1, 2, 1, Says::Lock(7), &[5, 7])?;
-    Ok(node)
-}
-
-/// Node 1, which decided 7 in its first phase and proposes 5 in its next one.
-pub fn second_proposer(alloc: Global) -> Result<Node, Fail> {
-    let mut node = proposer(alloc)?;
-    hear_two(
-        &mut node,
-        alloc,
-        1,
-        3,
-        (2, Says::Ack, &[7]),
-        (3, Says::Ack, &[7]),
-    )?;
-    let five = Says::List(&[5]);
-    hear_two(&mut node, alloc, 1, 13, (2, five, &[5]), (3, five, &[5]))?;
-    Ok(node)
-}
-
-/// Node 1 of two processors of which none may be faulty, which heard both list 5.
-pub fn proposer_of_two(alloc: Global) -> Result<Node, Fail> {
-    let mut node = Node::new(alloc, 5)?;
-    let config = config(alloc, 2, 0)?;
-    let lists = [(1, list_of_five(alloc)?), (2, list_of_five(alloc)?)];
-    node.compute(alloc, &config, 1, 1, &lists)?;
-    Ok(node)
-}
-
-fn list_of_five(alloc: Global) -> Result<Body, AllocError> {
-    body(alloc, Says::List(&[5]), &[5])
-}
-
-/// A round in which node 1 of two processors hears its own acknowledgement.
-pub fn hear_own_ack_of_two(node: &mut Node, alloc: Global, round: u64) -> Result<(), Fail>
-    requires { 1 ≤ round }
-{
-    let ack = body(alloc, Says::Ack, &[5])?;
-    let config = config(alloc, 2, 0)?;
-    Ok(node.compute(alloc, &config, 1, round, &[(1, ack)])?)
 }

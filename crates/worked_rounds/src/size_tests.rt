@@ -2,12 +2,14 @@
 
 ghost use Rattle.std.specs.Prelude.{◌≤◌, ◌+◌};
 ghost use Rattle.step_trace.specs.declared.configurations.TheConstants.{MAX_PROCESSORS};
+ghost use Rattle.round_model.specs.declared.heard_sets.TheConstants.{MAX_ROUNDS};
 
-use crate::nodes::{Says, body, has_state, hear, is_body, locked_proposer};
-use crate::tables::{all_decide, all_heard, all_hold};
+use crate::nodes::{Says, State, body, config, hear, is_body, is_copied};
+use crate::tables::{all_decide, all_heard, hold, run};
 use lock_phases::Node;
 use round_model::{Heard, MAX_ROUNDS};
 use std::alloc::{AllocError, Global};
+use std::process::Abort;
 use std::test::Fail;
 use step_trace::ProcSet;
 
@@ -29,49 +31,56 @@ fn numbers_to(alloc: Global, last: u64) -> Result<Vec<u64>, AllocError>
     Ok(numbers)
 }
 
+const KINDS: &[Says] = &[
+    Says::List(&[]),
+    Says::Lock(GREATEST),
+    Says::Ack,
+    Says::Locks(&[(5, 1), (7, 250_000), (GREATEST, 2)]),
+    Says::Locks(&[]),
+];
+
 #[test]
 fn bodies_are_cloned(rt: HostRuntime) -> Result<(), Fail> {
-    let alloc = rt.alloc();
-    let mut all = numbers_to(alloc, 63)?;
+    let mut all = numbers_to(rt.alloc(), 63)?;
     all.push(GREATEST)?;
-    let pairs = [(5, 1), (7, 250_000), (GREATEST, 2)];
-    for says in [
-        Says::List(&all),
-        Says::List(&[]),
-        Says::Lock(GREATEST),
-        Says::Ack,
-        Says::Locks(&pairs),
-        Says::Locks(&[]),
-    ] {
-        assert!(rt; is_cloned(alloc, says, &all)?);
+    assert!(rt; is_cloned(rt.alloc(), Says::List(&all), &all)?);
+    for &says in KINDS {
+        assert!(rt; is_cloned(rt.alloc(), says, &all)?);
     }
     Ok(())
 }
 
-#[test]
-fn the_greatest_value_is_copied(rt: HostRuntime) -> Result<(), Fail> {
-    let alloc = rt.alloc();
-    let copy = Node::new(alloc, GREATEST)?.copy(alloc)?;
-    assert!(rt; has_state(&copy, &[GREATEST], &[], None, false, None));
-    Ok(())
+fn holding(proper: &[u64]) -> State {
+    State {
+        proper,
+        locks: &[],
+        proposal: None,
+        ack: false,
+        decision: None,
+    }
 }
 
 #[test]
-fn each_field_is_copied(rt: HostRuntime) -> Result<(), Fail> {
-    let alloc = rt.alloc();
-    let node = locked_proposer(alloc)?;
-    assert!(rt; has_state(&node.copy(alloc)?, &[5, 7], &[(7, 1)], Some(7), true, None));
+fn the_greatest_value_is_copied(rt: HostRuntime) -> Result<(), Fail> {
+    let node = Node::new(rt.alloc(), GREATEST)?;
+    assert!(rt; is_copied(&node, rt.alloc(), &holding(&[GREATEST]))?);
     Ok(())
+}
+
+/// The node of a processor with the value 65 that learns of 64 others.
+fn learner(alloc: Global) -> Result<Node, Fail> {
+    let others = numbers_to(alloc, 64)?;
+    let mut node = Node::new(alloc, 65)?;
+    let config = config(alloc, 3, 1)?;
+    hear(&mut node, alloc, &config, 1, 1, &[(2, Says::Ack, &others)])?;
+    Ok(node)
 }
 
 #[test]
 fn sixty_five_values_are_copied(rt: HostRuntime) -> Result<(), Fail> {
-    let alloc = rt.alloc();
-    let others = numbers_to(alloc, 64)?;
-    let all = numbers_to(alloc, 65)?;
-    let mut node = Node::new(alloc, 65)?;
-    hear(&mut node, alloc, 1, 1, 2, Says::Ack, &others)?;
-    assert!(rt; has_state(&node.copy(alloc)?, &all, &[], None, false, None));
+    let all = numbers_to(rt.alloc(), 65)?;
+    let node = learner(rt.alloc())?;
+    assert!(rt; is_copied(&node, rt.alloc(), &holding(&all))?);
     Ok(())
 }
 
@@ -85,58 +94,77 @@ fn a_table_of_the_most_rounds(rt: HostRuntime) -> Result<(), Fail> {
     Ok(())
 }
 
+const SIXTEEN: &[u64] = &[4, 3, 2, 1, 8, 7, 6, 5, 12, 11, 10, 9, 16, 15, 14, 13];
+
+/// Whether sixteen processors of which seven may be faulty have decided so after so many rounds in which all hear
+/// all: the first this, and the others 1.
+fn sixteen_decide(
+    rt: &impl Abort,
+    alloc: Global,
+    rounds: u64,
+    first: Option<u64>,
+) -> Result<bool, Fail>
+    requires { rounds ≤ MAX_ROUNDS }
+{
+    let mut decisions = [Some(1); 16];
+    decisions[0] = first;
+    let heard = all_heard(rt, alloc, 16, rounds)?;
+    all_decide(rt, alloc, (7, SIXTEEN), &heard, &decisions)
+}
+
 // All in touch from round 1 on: all have decided by round 67, which is 4 (1 + 16) - 1.
 #[test]
 fn sixteen_decide_by_the_bound(rt: HostRuntime) -> Result<(), Fail> {
-    let alloc = rt.alloc();
-    let init = [4, 3, 2, 1, 8, 7, 6, 5, 12, 11, 10, 9, 16, 15, 14, 13];
-    let mut decisions = [Some(1); 16];
-    for (rounds, first) in [(66, None), (67, Some(1))] {
-        decisions[0] = first;
-        let heard = all_heard(&rt, alloc, 16, rounds)?;
-        assert!(rt; all_decide(&rt, alloc, (7, &init), &heard, &decisions)?);
+    for (rounds, first) in [(66, None), (67, Some(1)), (100_001, Some(1))] {
+        assert!(rt; sixteen_decide(&rt, rt.alloc(), rounds, first)?, "{rounds}");
     }
     Ok(())
 }
 
-// Of 64 processors none of which is faulty, all have decided by round 259, which is 4 (1 + 64) - 1. In phase 1 its
-// owner 1 hears no value in all 64 lists, and all learn all values at its end; then each owner decides in its phase,
-// 64 in round 255 and 1 last, in phase 65.
+/// Of 64 processors: how many may be faulty, the initial value of the last one, where that of the others is 7, and
+/// for how many rounds they all hear one another; then what the first has decided, each of the others, and the last.
+type Outcome = (u64, u64, u64, Option<u64>, Option<u64>, Option<u64>);
+
+const SIXTY_FOUR: &[Outcome] = &[
+    // In phase 1 its owner 1 hears no value in all 64 lists, and all learn all values at its end; then each owner
+    // decides in its phase, 64 in round 255 and 1 last, in phase 65: by round 259, which is 4 (1 + 64) - 1.
+    (0, 1, 254, None, Some(1), None),
+    (0, 1, 255, None, Some(1), Some(1)),
+    (0, 1, 258, None, Some(1), Some(1)),
+    (0, 1, 259, Some(1), Some(1), Some(1)),
+    // Each owner decides in its own phase, from phase 1 on.
+    (31, 7, 254, Some(7), Some(7), None),
+    (31, 7, 255, Some(7), Some(7), Some(7)),
+];
+
+/// Whether they have decided so.
+fn sixty_four_decide(rt: &impl Abort, alloc: Global, outcome: Outcome) -> Result<bool, Fail> {
+    let (t, last_value, rounds, first, others, last) = outcome;
+    if rounds > MAX_ROUNDS {
+        return Ok(false);
+    }
+    let mut init = [7; 64];
+    init[63] = last_value;
+    let mut decisions = [others; 64];
+    decisions[0] = first;
+    decisions[63] = last;
+    let heard = all_heard(rt, alloc, 64, rounds)?;
+    all_decide(rt, alloc, (t, &init), &heard, &decisions)
+}
+
 #[test]
 fn sixty_four_decide_by_the_bound(rt: HostRuntime) -> Result<(), Fail> {
-    let alloc = rt.alloc();
-    let mut init = [2; 64];
-    init[63] = 1;
-    let mut decisions = [Some(1); 64];
-    for (rounds, first, last) in [
-        (254, None, None),
-        (255, None, Some(1)),
-        (258, None, Some(1)),
-        (259, Some(1), Some(1)),
-    ] {
-        decisions[0] = first;
-        decisions[63] = last;
-        let heard = all_heard(&rt, alloc, 64, rounds)?;
-        assert!(rt; all_decide(&rt, alloc, (0, &init), &heard, &decisions)?);
+    for &outcome in SIXTY_FOUR {
+        assert!(rt; sixty_four_decide(&rt, rt.alloc(), outcome)?, "{outcome:?}");
     }
     Ok(())
 }
 
 #[test]
 fn sixty_four_values_are_learned(rt: HostRuntime) -> Result<(), Fail> {
-    let alloc = rt.alloc();
-    let init = numbers_to(alloc, 64)?;
-    let heard = all_heard(&rt, alloc, 64, 4)?;
-    let held = (init.as_slice(), [].as_slice());
-    assert!(rt; all_hold(&rt, alloc, (31, &init), &heard, &[held; 64])?);
-    Ok(())
-}
-
-#[test]
-fn many_rounds(rt: HostRuntime) -> Result<(), Fail> {
-    let alloc = rt.alloc();
-    let init = [4, 3, 2, 1, 8, 7, 6, 5, 12, 11, 10, 9, 16, 15, 14, 13];
-    let heard = all_heard(&rt, alloc, 16, 100_001)?;
-    assert!(rt; all_decide(&rt, alloc, (7, &init), &heard, &[Some(1); 16])?);
+    let init = numbers_to(rt.alloc(), 64)?;
+    let heard = all_heard(&rt, rt.alloc(), 64, 4)?;
+    let nodes = run(&rt, rt.alloc(), (31, &init), &heard)?;
+    assert!(rt; hold(&nodes, &[(init.as_slice(), [].as_slice()); 64]));
     Ok(())
 }

@@ -1,61 +1,149 @@
 //! Worked tables. There are three processors of which one may be faulty.
 
 use crate::tables::{
-    all_decide, all_heard, all_hold, hear, one_deciding, pair_in_touch, values_shared,
+    all_decide, all_heard, have_decisions, hear, heard_by_three, hold, pair_in_touch, run,
 };
-use round_model::Heard;
+use round_model::{Heard, MAX_ROUNDS};
+use std::alloc::Global;
+use std::process::Abort;
 use std::test::Fail;
 
-#[test]
-fn one_decides(rt: HostRuntime) -> Result<(), Fail> {
-    let alloc = rt.alloc();
-    let heard = one_deciding(&rt, alloc)?;
-    let setup = (1, [5, 7, 9].as_slice());
-    let all = [5, 7, 9].as_slice();
-    let five = [(5, 2)].as_slice();
-    assert!(rt; all_decide(&rt, alloc, setup, &heard, &[None, Some(5), None])?);
-    assert!(rt;
-        all_hold(
-            &rt,
-            alloc,
-            setup,
-            &heard,
-            &[(all, five), (all, five), (all, &[])]
-        )?
-    );
-    Ok(())
+/// Initial values; a table of so many rounds, in these of which the processors 1, 2 and 3 hear these senders, and
+/// nobody hears anything in the others; what each has decided after them; and its PROPER values and locks.
+struct Worked<'a> {
+    name: &'a str,
+    init: &'a [u64],
+    rounds: u64,
+    hearing: &'a [(u64, [&'a [u64]; 3])],
+    decisions: &'a [Option<u64>],
+    held: &'a [(&'a [u64], &'a [(u64, u64)])],
+}
+
+const ALL: &[u64] = &[1, 2, 3];
+
+const NOBODY: &[u64] = &[];
+
+const FIVE: &[(u64, u64)] = &[(5, 2)];
+
+const SEVEN: &[(u64, u64)] = &[(7, 1)];
+
+const LEARNED: (&[u64], &[(u64, u64)]) = (&[5, 7, 9], &[]);
+
+const LOCKED: (&[u64], &[(u64, u64)]) = (&[5, 7], SEVEN);
+
+const WORKED: &[Worked] = &[
+    // 1 hears all in round 1 and proposes nothing, and all learn all values in round 4. Then 2 proposes; 1 and 2 hear
+    // its lock, and 2 hears both acknowledge it.
+    Worked {
+        name: "one decides",
+        init: &[5, 7, 9],
+        rounds: 7,
+        hearing: &[
+            (1, [ALL, NOBODY, NOBODY]),
+            (4, [ALL, ALL, ALL]),
+            (5, [NOBODY, ALL, NOBODY]),
+            (6, [&[2], &[2], NOBODY]),
+            (7, [NOBODY, &[1, 2], NOBODY]),
+        ],
+        decisions: &[None, Some(5), None],
+        held: &[(&[5, 7, 9], FIVE), (&[5, 7, 9], FIVE), (&[5, 7, 9], &[])],
+    },
+    Worked {
+        name: "nobody decides",
+        init: &[5, 7, 9],
+        rounds: 4,
+        hearing: &[(1, [ALL, NOBODY, NOBODY]), (4, [ALL, ALL, ALL])],
+        decisions: &[None; 3],
+        held: &[LEARNED; 3],
+    },
+    Worked {
+        name: "all hear all in three rounds",
+        init: &[5, 7, 7],
+        rounds: 3,
+        hearing: &[(1, [ALL; 3]), (2, [ALL; 3]), (3, [ALL; 3])],
+        decisions: &[Some(7), None, None],
+        held: &[LOCKED; 3],
+    },
+    Worked {
+        name: "no rounds",
+        init: &[5, 7, 7],
+        rounds: 0,
+        hearing: &[],
+        decisions: &[None; 3],
+        held: &[(&[5], &[]), (&[7], &[]), (&[7], &[])],
+    },
+    // 1 hears two lists with 7, of which its own is one.
+    Worked {
+        name: "its own list is heard",
+        init: &[7, 7, 5],
+        rounds: 3,
+        hearing: &[(1, [&[1, 2], ALL, ALL]), (2, [ALL; 3]), (3, [ALL; 3])],
+        decisions: &[Some(7), None, None],
+        held: &[(&[5, 7], SEVEN), (&[7], SEVEN), (&[5, 7], SEVEN)],
+    },
+    // A processor hears itself only where the table says so: 1 hears one list, and proposes nothing.
+    Worked {
+        name: "its own list is missed",
+        init: &[7, 7, 5],
+        rounds: 3,
+        hearing: &[(1, [&[2], ALL, ALL]), (2, [ALL; 3]), (3, [ALL; 3])],
+        decisions: &[None; 3],
+        held: &[(&[7], &[]), (&[7], &[]), (&[5], &[])],
+    },
+    // 1 doesn't lock what it proposes, and decides by the acknowledgements of 2 and 3.
+    Worked {
+        name: "its own Lock is missed",
+        init: &[7, 7, 5],
+        rounds: 3,
+        hearing: &[
+            (1, [&[1, 2], ALL, ALL]),
+            (2, [&[2, 3], ALL, ALL]),
+            (3, [ALL; 3]),
+        ],
+        decisions: &[Some(7), None, None],
+        held: &[(&[5, 7], &[]), (&[7], SEVEN), (&[5, 7], SEVEN)],
+    },
+    // 1 hears one acknowledgement, where two are needed.
+    Worked {
+        name: "its own acknowledgement is missed",
+        init: &[7, 7, 5],
+        rounds: 3,
+        hearing: &[
+            (1, [&[1, 2], ALL, ALL]),
+            (2, [ALL; 3]),
+            (3, [&[2], ALL, ALL]),
+        ],
+        decisions: &[None; 3],
+        held: &[(&[7], SEVEN), (&[7], SEVEN), (&[5, 7], SEVEN)],
+    },
+];
+
+fn ends_so(rt: &impl Abort, alloc: Global, worked: &Worked) -> Result<bool, Fail> {
+    if worked.rounds > MAX_ROUNDS {
+        return Ok(false);
+    }
+    let heard = heard_by_three(rt, alloc, worked.rounds, worked.hearing)?;
+    let nodes = run(rt, alloc, (1, worked.init), &heard)?;
+    Ok(have_decisions(&nodes, worked.decisions) && hold(&nodes, worked.held))
 }
 
 #[test]
-fn nobody_decides(rt: HostRuntime) -> Result<(), Fail> {
-    let alloc = rt.alloc();
-    let heard = values_shared(&rt, alloc, 4)?;
-    let setup = (1, [5, 7, 9].as_slice());
-    let learned = ([5, 7, 9].as_slice(), [].as_slice());
-    assert!(rt; all_decide(&rt, alloc, setup, &heard, &[None; 3])?);
-    assert!(rt; all_hold(&rt, alloc, setup, &heard, &[learned; 3])?);
+fn worked_tables(rt: HostRuntime) -> Result<(), Fail> {
+    for worked in WORKED {
+        assert!(rt; ends_so(&rt, rt.alloc(), worked)?, "{}", worked.name);
+    }
     Ok(())
 }
 
-#[test]
-fn all_hear_all_in_three_rounds(rt: HostRuntime) -> Result<(), Fail> {
-    let alloc = rt.alloc();
-    let heard = all_heard(&rt, alloc, 3, 3)?;
-    let setup = (1, [5, 7, 7].as_slice());
-    let held = ([5, 7].as_slice(), [(7, 1)].as_slice());
-    assert!(rt; all_decide(&rt, alloc, setup, &heard, &[Some(7), None, None])?);
-    assert!(rt; all_hold(&rt, alloc, setup, &heard, &[held; 3])?);
-    Ok(())
-}
+const DIFFERENT: &[u64] = &[5, 7, 9];
 
 // With N = 3 and all in touch from round 1 on, all have decided by round 15: 4 (1 + 3) - 1.
 #[test]
 fn all_decide_by_the_bound(rt: HostRuntime) -> Result<(), Fail> {
-    let alloc = rt.alloc();
-    let setup = (1, [5, 7, 9].as_slice());
     for (rounds, first) in [(14, None), (15, Some(5))] {
-        let heard = all_heard(&rt, alloc, 3, rounds)?;
-        assert!(rt; all_decide(&rt, alloc, setup, &heard, &[first, Some(5), Some(5)])?);
+        let heard = all_heard(&rt, rt.alloc(), 3, rounds)?;
+        let decisions = [first, Some(5), Some(5)];
+        assert!(rt; all_decide(&rt, rt.alloc(), (1, DIFFERENT), &heard, &decisions)?);
     }
     Ok(())
 }
@@ -64,23 +152,11 @@ fn all_decide_by_the_bound(rt: HostRuntime) -> Result<(), Fail> {
 // their own phases, 2 and 3.
 #[test]
 fn a_pair_decides_by_the_bound(rt: HostRuntime) -> Result<(), Fail> {
-    let alloc = rt.alloc();
-    let setup = (1, [5, 7, 9].as_slice());
     for (rounds, last) in [(10, None), (11, Some(7)), (15, Some(7))] {
-        let heard = pair_in_touch(&rt, alloc, rounds)?;
-        assert!(rt; all_decide(&rt, alloc, setup, &heard, &[None, Some(7), last])?);
+        let heard = pair_in_touch(&rt, rt.alloc(), rounds)?;
+        let decisions = [None, Some(7), last];
+        assert!(rt; all_decide(&rt, rt.alloc(), (1, DIFFERENT), &heard, &decisions)?);
     }
-    Ok(())
-}
-
-#[test]
-fn no_rounds(rt: HostRuntime) -> Result<(), Fail> {
-    let alloc = rt.alloc();
-    let heard = Heard::new(alloc, 3, 0)?;
-    let setup = (1, [5, 7, 7].as_slice());
-    let seven = ([7].as_slice(), [].as_slice());
-    assert!(rt; all_decide(&rt, alloc, setup, &heard, &[None; 3])?);
-    assert!(rt; all_hold(&rt, alloc, setup, &heard, &[(&[5], &[]), seven, seven])?);
     Ok(())
 }
 

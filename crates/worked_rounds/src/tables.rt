@@ -69,24 +69,21 @@ pub fn pair_in_touch(rt: &impl Abort, alloc: Global, rounds: u64) -> Result<Hear
     Ok(heard)
 }
 
-/// Three processors: 1 hears all in round 1, and all hear all in round 4. So nobody proposes, and everybody
-/// learns all values.
-pub fn values_shared(rt: &impl Abort, alloc: Global, rounds: u64) -> Result<Heard, Fail>
+/// Three processors, and in these rounds each of them hears these senders. Nothing else is heard.
+pub fn heard_by_three(
+    rt: &impl Abort,
+    alloc: Global,
+    rounds: u64,
+    hearing: &[(u64, [&[u64]; 3])],
+) -> Result<Heard, Fail>
     requires { rounds ≤ MAX_ROUNDS }
 {
     let mut heard = Heard::new(alloc, 3, rounds)?;
-    hear(rt, &mut heard, 1, 1, &[1, 2, 3]);
-    all_hear_all(rt, &mut heard, 4);
-    Ok(heard)
-}
-
-/// `values_shared`, and then 2 proposes; 1 and 2 hear its lock, and 2 hears both acknowledge it.
-pub fn one_deciding(rt: &impl Abort, alloc: Global) -> Result<Heard, Fail> {
-    let mut heard = values_shared(rt, alloc, 7)?;
-    hear(rt, &mut heard, 5, 2, &[1, 2, 3]);
-    hear(rt, &mut heard, 6, 1, &[2]);
-    hear(rt, &mut heard, 6, 2, &[2]);
-    hear(rt, &mut heard, 7, 2, &[1, 2]);
+    for &(round, [by_one, by_two, by_three]) in hearing {
+        hear(rt, &mut heard, round, 1, by_one);
+        hear(rt, &mut heard, round, 2, by_two);
+        hear(rt, &mut heard, round, 3, by_three);
+    }
     Ok(heard)
 }
 
@@ -95,36 +92,26 @@ fn config(alloc: Global, t: u64, init: &[u64]) -> Result<Config, Fail> {
     Ok(Config::new(init.len() as u64, t, init)?)
 }
 
-fn run(
+/// The nodes after all rounds of the table, of processors with these initial values of which `t` may be faulty.
+pub fn run(
     rt: &impl Abort,
     alloc: Global,
-    setup: (u64, &[u64]),
+    (t, init): (u64, &[u64]),
     heard: &Heard,
 ) -> Result<Vec<Node>, Fail> {
-    let config = config(alloc, setup.0, setup.1)?;
+    let config = config(alloc, t, init)?;
     assert!(rt; heard.n() == config.n());
     Ok(run_rounds(alloc, &config, heard)?)
 }
 
-/// Whether the nodes of these processors have these decisions after all rounds of the table, and `decided`
-/// gives the first.
-pub fn all_decide(
-    rt: &impl Abort,
-    alloc: Global,
-    setup: (u64, &[u64]),
-    heard: &Heard,
-    decisions: &[Option<u64>],
-) -> Result<bool, Fail> {
-    let nodes = run(rt, alloc, setup, heard)?;
-    Ok(have_decisions(&nodes, decisions) && decided(&nodes) == first_of(decisions))
-}
-
-fn have_decisions(nodes: &[Node], decisions: &[Option<u64>]) -> bool {
+/// Whether the nodes have these decisions, and `decided` gives the first.
+pub fn have_decisions(nodes: &[Node], decisions: &[Option<u64>]) -> bool {
     nodes.len() == decisions.len()
         && nodes
             .iter()
             .zip(decisions)
             .all(|(node, decision)| node.decision() == *decision)
+        && decided(nodes) == first_of(decisions)
 }
 
 fn first_of(decisions: &[Option<u64>]) -> Option<u64> {
@@ -136,25 +123,28 @@ fn first_of(decisions: &[Option<u64>]) -> Option<u64> {
     None
 }
 
-/// Whether these PROPER values and locks are those of the nodes after all rounds of the table, and no node has
-/// a proposal or owes an acknowledgement.
-pub fn all_hold(
-    rt: &impl Abort,
-    alloc: Global,
-    setup: (u64, &[u64]),
-    heard: &Heard,
-    held: &[(&[u64], &[(u64, u64)])],
-) -> Result<bool, Fail> {
-    let nodes = run(rt, alloc, setup, heard)?;
-    Ok(
-        nodes.len() == held.len()
-            && nodes
-                .iter()
-                .zip(held)
-                .all(|(node, (proper, locks))| holds(node, proper, locks)),
-    )
+/// Whether these PROPER values and locks are those of the nodes, and no node has a proposal or owes an
+/// acknowledgement.
+pub fn hold(nodes: &[Node], held: &[(&[u64], &[(u64, u64)])]) -> bool {
+    nodes.len() == held.len()
+        && nodes
+            .iter()
+            .zip(held)
+            .all(|(node, (proper, locks))| holds(node, proper, locks))
 }
 
 fn holds(node: &Node, proper: &[u64], locks: &[(u64, u64)]) -> bool {
     node.proper() == proper && node.locks() == locks && node.proposal().is_none() && !node.ack()
+}
+
+/// Whether the nodes of these processors have these decisions after all rounds of the table.
+pub fn all_decide(
+    rt: &impl Abort,
+    alloc: Global,
+    setup: (u64, &[u64]),
+    heard: &Heard,
+    decisions: &[Option<u64>],
+) -> Result<bool, Fail> {
+    let nodes = run(rt, alloc, setup, heard)?;
+    Ok(have_decisions(&nodes, decisions))
 }
