@@ -24,7 +24,7 @@ struct LongestMiss {
     miss: Option<Miss>,
 }
 
-// The length of a miss.
+/// The length of a miss.
 fn span(trace: &Trace, miss: Miss) -> u64
     requires { HasSpan trace.now miss }
     ensures { result ≡ span_of trace.now miss }
@@ -32,7 +32,7 @@ fn span(trace: &Trace, miss: Miss) -> u64
     trace.tick(miss.missed) - trace.tick(miss.sent)
 }
 
-// The longer of the miss of an earlier message and this one: this one where they are equally long.
+/// The longer of the miss of an earlier message and this one: this one where they are equally long.
 fn longer_miss(trace: &Trace, earlier: Option<Miss>, miss: Option<Miss>) -> Option<Miss>
     requires earlier { IfSome earlier (HasSpan trace.now) }
     requires miss { IfSome miss (HasSpan trace.now) }
@@ -51,7 +51,7 @@ fn longer_miss(trace: &Trace, earlier: Option<Miss>, miss: Option<Miss>) -> Opti
     }
 }
 
-// Goes back over the messages that were sent in tick `from` or later.
+/// Goes back over the messages that were sent in tick `from` or later.
 fn misses_from(
     trace: &Trace,
     set: ProcSet,
@@ -115,7 +115,7 @@ struct LongestSilence {
     end: u64,
 }
 
-// Goes back over the ticks from `from` to before `until`.
+/// Goes back over the ticks from `from` to before `until`.
 fn silence_from(closings: &[u32], from: u64, until: u64, longest: LongestSilence) -> LongestSilence
     requires closings { IsAhead closings.now }
     requires order { from ≤ until }
@@ -133,7 +133,7 @@ fn silence_from(closings: &[u32], from: u64, until: u64, longest: LongestSilence
     longest
 }
 
-// The first row whose processor bound is no longer than the longest silence from its stabilization time on.
+/// The first row whose processor bound is no longer than the longest silence from its stabilization time on.
 fn first_too_short(closings: &[u32], rows: &[Row]) -> Option<(u64, LongestSilence)>
     requires closings { IsAhead closings.now }
     requires order { AreInOrder rows.now (length closings.now - 1) }

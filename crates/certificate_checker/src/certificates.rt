@@ -40,7 +40,7 @@ pub fn check(
     verdict_on(alloc, trace, set, rows)
 }
 
-// The verdict by the list of reasons.
+/// The verdict by the list of reasons.
 fn verdict_on(
     alloc: Global,
     trace: &Trace,

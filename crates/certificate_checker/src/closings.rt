@@ -36,7 +36,7 @@ pub(crate) fn closings(alloc: Global, trace: &Trace, set: ProcSet) -> Result<Vec
     Ok(closed)
 }
 
-// Whether the set has a member.
+/// Whether the set has a member.
 fn has_member(trace: &Trace, set: ProcSet) -> bool
     requires { IsWithin set trace.now.config.n }
     ensures { IsTrue result ↔ HasMember set }
@@ -49,7 +49,7 @@ fn has_member(trace: &Trace, set: ProcSet) -> bool
     false
 }
 
-// Each tick up to the last, in its own place: where nobody is awaited, each tick closes itself.
+/// Each tick up to the last, in its own place: where nobody is awaited, each tick closes itself.
 fn own_ticks(alloc: Global, last: u64) -> Result<Vec<u32>, AllocError>
     requires { last ≤ MAX_TICKS }
     ensures long { IfOk result (λ v. length v.items ≡ last + 1) }
@@ -62,7 +62,7 @@ fn own_ticks(alloc: Global, last: u64) -> Result<Vec<u32>, AllocError>
     Ok(ticks)
 }
 
-// Closes the ticks from the first open one to before `until` by a tick, and gives the one that is the first open now.
+/// Closes the ticks from the first open one to before `until` by a tick, and gives the one that is the first open now.
 fn close(closed: &mut Vec<u32>, first_open: u64, until: u64, tick: u32) -> u64
     requires { until ≤ length closed.old.items }
     ensures len { length closed.new.items ≡ length closed.old.items }

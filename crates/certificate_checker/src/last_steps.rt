@@ -57,7 +57,7 @@ impl LastSteps {
     }
 }
 
-// The first member from this number on that has taken no step, or the number after the last processor.
+/// The first member from this number on that has taken no step, or the number after the last processor.
 fn next_awaited(set: ProcSet, last: &[u32], from: u64) -> u64
     requires { from ≤ length last.now }
     ensures low { from ≤ result }
@@ -74,7 +74,7 @@ fn next_awaited(set: ProcSet, last: &[u32], from: u64) -> u64
     last.len() as u64
 }
 
-// The first step from `from` on that is the last one of a member, or step `no` where none before it is.
+/// The first step from `from` on that is the last one of a member, or step `no` where none before it is.
 fn next_oldest(trace: &Trace, set: ProcSet, last: &[u32], from: u64, no: u64) -> u64
     requires known { AreLastSteps trace.now (no + 1) last.now }
     requires set { IsWithin set trace.now.config.n }

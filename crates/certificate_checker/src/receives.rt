@@ -38,7 +38,7 @@ impl Receives {
         Ok(receives)
     }
 
-    // What is known before the first step.
+    /// What is known before the first step.
     fn before_all(alloc: Global, trace: &Trace) -> Result<Self, AllocError>
         ensures { IfOk result (λ r. KnowsReceives trace.now 0 r) }
     {
@@ -50,7 +50,7 @@ impl Receives {
         })
     }
 
-    // Goes on over a step.
+    /// Goes on over a step.
     fn note(&mut self, trace: &Trace, no: u64)
         requires low { 1 ≤ no }
         requires high { no ≤ length trace.now.steps }
@@ -114,7 +114,7 @@ impl Receives {
     }
 }
 
-// Notes the Receive before the one that takes these messages.
+/// Notes the Receive before the one that takes these messages.
 fn note_takes(list: &mut Vec<u32>, before: u32, ids: &[u64])
     requires ids { All (λ s. s < length list.old.items) ids.now }
     ensures len { length list.new.items ≡ length list.old.items }

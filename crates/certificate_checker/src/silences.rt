@@ -16,7 +16,7 @@ pub(crate) struct Silence {
 }
 
 impl Silence {
-    // Goes on over a step in this tick.
+    /// Goes on over a step in this tick.
     fn note(&mut self, tick: u64) -> Result<(), AllocError>
         requires { tick ≤ MAX_TICKS }
         ensures { OnOk result (self.new.ticks.items ≡ self.old.ticks.items ++ tick ∷ []) }
@@ -42,7 +42,7 @@ impl Silence {
     }
 }
 
-// What is known of the members before the first step.
+/// What is known of the members before the first step.
 fn before_all(alloc: Global, trace: &Trace) -> Result<Vec<Silence>, AllocError>
     ensures { IfOk result (λ v. (set : ℕ) → KnowsSilences set trace.now 1 v.items) }
 {
@@ -55,7 +55,7 @@ fn before_all(alloc: Global, trace: &Trace) -> Result<Vec<Silence>, AllocError>
     Ok(found)
 }
 
-// Goes on over a step.
+/// Goes on over a step.
 fn note(silences: &mut Vec<Silence>, trace: &Trace, set: ProcSet, no: u64) -> Result<(), AllocError>
     requires low { 1 ≤ no }
     requires high { no ≤ length trace.now.steps }

@@ -14,7 +14,7 @@ use crate::receives::Receives;
 use crate::silences::Silence;
 use step_trace::{ProcSet, Row, Trace};
 
-// The tick after the stretch of row `k`, where `last` is the last tick.
+/// The tick after the stretch of row `k`, where `last` is the last tick.
 fn after_stretch(rows: &[Row], last: u64, k: usize) -> u64
     requires { last < MAX_TICKS + 1 }
     ensures { result ≡ after_stretch rows.now last k }
@@ -26,7 +26,7 @@ fn after_stretch(rows: &[Row], last: u64, k: usize) -> u64
     }
 }
 
-// Whether a row's miss shows that no smaller communication bound holds from each tick before `after`.
+/// Whether a row's miss shows that no smaller communication bound holds from each tick before `after`.
 fn shows_delta(trace: &Trace, set: ProcSet, receives: &Receives, after: u64, row: &Row) -> bool
     requires set { IsWithin set trace.now.config.n }
     requires known { KnowsReceives trace.now (length trace.now.steps) receives.now }
@@ -42,7 +42,7 @@ fn shows_delta(trace: &Trace, set: ProcSet, receives: &Receives, after: u64, row
     trace.tick(miss.missed) - sent == row.delta - 1 && after <= sent + 1
 }
 
-// Whether a row's gap shows that no smaller processor bound holds from each tick before `after`.
+/// Whether a row's gap shows that no smaller processor bound holds from each tick before `after`.
 fn shows_phi(trace: &Trace, set: ProcSet, silences: &[Silence], after: u64, row: &Row) -> bool
     requires set { IsWithin set trace.now.config.n }
     requires known { AreSilences set trace.now silences.now }

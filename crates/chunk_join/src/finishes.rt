@@ -57,7 +57,7 @@ impl Piece {
     }
 }
 
-// The stairs of a part that is a whole trace: its messages and its silences are gone over from the last ones back.
+/// The stairs of a part that is a whole trace: its messages and its silences are gone over from the last ones back.
 fn stairs_of(alloc: Global, part: &Part) -> Result<Stairs, AllocError>
     ensures { IfOk result (λ stairs. (set : ℕ) (trace : Recorded) → IsTrace trace → IsSummary set trace 0 trace.last part.now → AreLevels set trace stairs) }
 {
@@ -79,8 +79,8 @@ fn stairs_of(alloc: Global, part: &Part) -> Result<Stairs, AllocError>
     Ok(builder.build())
 }
 
-// Takes the misses of the messages of tick `g`, which are the last of the first `count`, into the level, and gives how
-// many messages come before them.
+/// Takes the misses of the messages of tick `g`, which are the last of the first `count`, into the level, and gives how
+/// many messages come before them.
 fn note_messages(level: &mut Level, part: &Part, count: usize, g: u64) -> usize
     requires { count ≤ length part.now.sent }
     ensures within { result ≤ count }
@@ -101,7 +101,7 @@ fn note_messages(level: &mut Level, part: &Part, count: usize, g: u64) -> usize
     0
 }
 
-// The last Receive that misses the message.
+/// The last Receive that misses the message.
 fn missed(last: &[Option<Place>], message: &Message) -> Option<Place>
     ensures { result ≡ missed last.now message.now }
 {
@@ -111,7 +111,7 @@ fn missed(last: &[Option<Place>], message: &Message) -> Option<Place>
     }
 }
 
-// Takes this miss of the message into the level. No miss ends after tick `end`, which is the part's last.
+/// Takes this miss of the message into the level. No miss ends after tick `end`, which is the part's last.
 fn note_message(level: &mut Level, message: &Message, missed: Option<Place>, end: u64)
     requires { end ≤ MAX_TICKS }
     ensures { level.new ≡ with_missed end level.old message.now missed }
@@ -126,7 +126,7 @@ fn note_message(level: &mut Level, message: &Message, missed: Option<Place>, end
     }
 }
 
-// How many of the first `count` silences there are up to the last one that begins at tick `g` or before.
+/// How many of the first `count` silences there are up to the last one that begins at tick `g` or before.
 fn begun_by(silent: &[Gap], count: usize, g: u64) -> usize
     requires { count ≤ length silent.now }
     ensures within { result ≤ count }
@@ -141,7 +141,7 @@ fn begun_by(silent: &[Gap], count: usize, g: u64) -> usize
     0
 }
 
-// The last of the first `count` silences.
+/// The last of the first `count` silences.
 fn last_at(silent: &[Gap], count: usize) -> Option<Gap>
     requires { count ≤ length silent.now }
     ensures { result ≡ last_at silent.now count }
@@ -153,7 +153,7 @@ fn last_at(silent: &[Gap], count: usize) -> Option<Gap>
     }
 }
 
-// Takes the gap that a silence has from tick `g` on into the level.
+/// Takes the gap that a silence has from tick `g` on into the level.
 fn note_silence(level: &mut Level, silence: Option<Gap>, g: u64)
     requires positive { 1 ≤ level.old.phi }
     requires from { 1 ≤ g }

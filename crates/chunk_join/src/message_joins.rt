@@ -23,7 +23,7 @@ pub(crate) fn join_messages(
     }
 }
 
-// Gives each message that the right part takes its fate.
+/// Gives each message that the right part takes its fate.
 fn settle_all(sent: &mut [Message], taken: &[Take], last: &[Option<Place>])
     requires { Rises SentBefore sent.old }
     ensures { sent.new ≡ map (settle taken.now last.now) sent.old }
@@ -33,7 +33,7 @@ fn settle_all(sent: &mut [Message], taken: &[Take], last: &[Option<Place>])
     }
 }
 
-// Gives the message of this take its fate. Where there is none, its sender doesn't count.
+/// Gives the message of this take its fate. Where there is none, its sender doesn't count.
 fn settle_one(sent: &mut [Message], take: &Take, last: &[Option<Place>])
     requires { Rises SentBefore sent.old }
     ensures { sent.new ≡ map (settle_with last.now take.now) sent.old }
@@ -44,7 +44,7 @@ fn settle_one(sent: &mut [Message], take: &Take, last: &[Option<Place>])
     }
 }
 
-// A message after one take.
+/// A message after one take.
 fn settled(message: Message, take: &Take, last: &[Option<Place>]) -> Message
     ensures { result ≡ settle_with last.now take.now message }
 {
@@ -59,7 +59,7 @@ fn settled(message: Message, take: &Take, last: &[Option<Place>]) -> Message
     }
 }
 
-// Whether it is a take of the message.
+/// Whether it is a take of the message.
 fn takes_of(message: &Message, take: &Take) -> bool
     ensures { result ≡ takes_of message.now take.now }
 {

@@ -88,7 +88,7 @@ pub(crate) fn join_parts(mut left: Part, right: Part) -> Result<Part, JoinRefuse
     Ok(left)
 }
 
-// Makes room for the lists of the part that follows, and gives a copy of the silences from place `start` on.
+/// Makes room for the lists of the part that follows, and gives a copy of the silences from place `start` on.
 fn make_room(
     sent: &mut Vec<Message>,
     taken: &mut Vec<Take>,
@@ -111,7 +111,7 @@ fn make_room(
     Vec::from_slice(*silent.allocator(), &silent[start..])
 }
 
-// Appends what was sent before tick `from`, each with the last Receive before it in either part.
+/// Appends what was sent before tick `from`, each with the last Receive before it in either part.
 fn append_older(taken: &mut Vec<Take>, from: u64, more: &[Take], last: &[Option<Place>])
     requires { vec_len taken.old + length more.now ≤ vec_capacity taken.old }
     ensures { taken.new.items ≡ taken.old.items ++ map (reach_take last.now) (filter (is_older from) more.now) }
@@ -124,7 +124,7 @@ fn append_older(taken: &mut Vec<Take>, from: u64, more: &[Take], last: &[Option<
     }
 }
 
-// The last Receives of the right part stand in for those of the left one.
+/// The last Receives of the right part stand in for those of the left one.
 fn replace_last(left: &mut Vec<Option<Place>>, right: &[Option<Place>])
     requires { length left.old.items ≡ length right.now }
     ensures { left.new.items ≡ later_each left.old.items right.now }

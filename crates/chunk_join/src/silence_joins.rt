@@ -38,7 +38,7 @@ pub(crate) fn join_silences(
     append_reached(left, tail, seam, right);
 }
 
-// Appends the silences of the left part that don't go on in the right one.
+/// Appends the silences of the left part that don't go on in the right one.
 fn append_stopping(left: &mut Vec<Gap>, tail: &[Gap], seam: u64, right: &[Gap])
     requires room { vec_len left.old + length tail.now ≤ vec_capacity left.old }
     requires limit { seam ≤ MAX_TICKS }
@@ -53,7 +53,7 @@ fn append_stopping(left: &mut Vec<Gap>, tail: &[Gap], seam: u64, right: &[Gap])
     }
 }
 
-// Appends the silences of the right part, each from where it began in the left one.
+/// Appends the silences of the right part, each from where it began in the left one.
 fn append_reached(left: &mut Vec<Gap>, tail: &[Gap], seam: u64, right: &[Gap])
     requires room { vec_len left.old + length right.now ≤ vec_capacity left.old }
     requires limit { seam ≤ MAX_TICKS }
@@ -64,7 +64,7 @@ fn append_reached(left: &mut Vec<Gap>, tail: &[Gap], seam: u64, right: &[Gap])
     }
 }
 
-// Whether the first silence ends at the seam, and the second goes on with it.
+/// Whether the first silence ends at the seam, and the second goes on with it.
 fn meets(seam: u64, first: &Gap, second: &Gap) -> bool
     requires { seam ≤ MAX_TICKS }
     ensures { result ≡ meets seam first.now second.now }
@@ -72,7 +72,7 @@ fn meets(seam: u64, first: &Gap, second: &Gap) -> bool
     first.proc == second.proc && first.to == seam && second.from == seam + 1
 }
 
-// Whether a silence of the left part goes on in the right one.
+/// Whether a silence of the left part goes on in the right one.
 fn goes_on(seam: u64, silence: &Gap, right: &[Gap]) -> bool
     requires { seam ≤ MAX_TICKS }
     ensures { result ≡ goes_on seam right.now silence.now }
@@ -80,7 +80,7 @@ fn goes_on(seam: u64, silence: &Gap, right: &[Gap]) -> bool
     right.iter().any(|second| meets(seam, silence, second))
 }
 
-// The silence of the left part with which this one goes on.
+/// The silence of the left part with which this one goes on.
 fn begun(left: &[Gap], seam: u64, silence: Gap) -> Option<Gap>
     requires { seam ≤ MAX_TICKS }
     ensures { result ≡ find (λ w. meets seam w silence) left.now }
@@ -90,7 +90,7 @@ fn begun(left: &[Gap], seam: u64, silence: Gap) -> Option<Gap>
         .find(|first| meets(seam, first, &silence))
 }
 
-// A silence of the right part, from where it began in the left one.
+/// A silence of the right part, from where it began in the left one.
 fn reach_back(left: &[Gap], seam: u64, silence: Gap) -> Gap
     requires { seam ≤ MAX_TICKS }
     ensures { result ≡ reach_back seam left.now silence }

@@ -35,7 +35,7 @@ pub(crate) fn part_of_tick(
     })
 }
 
-// The messages between members that are sent in the tick: all are open.
+/// The messages between members that are sent in the tick: all are open.
 fn sent_in(
     alloc: Global,
     trace: &Trace,
@@ -63,7 +63,7 @@ fn sent_in(
     Ok(sent)
 }
 
-// What members take in the tick: all was sent before it.
+/// What members take in the tick: all was sent before it.
 fn taken_in(
     alloc: Global,
     trace: &Trace,
@@ -90,7 +90,7 @@ fn taken_in(
     Ok(taken)
 }
 
-// Appends the takes of these messages by a Receive.
+/// Appends the takes of these messages by a Receive.
 fn append_takes(
     taken: &mut Vec<Take>,
     trace: &Trace,
@@ -116,7 +116,7 @@ fn append_takes(
     Ok(())
 }
 
-// For each member its Receive in the tick.
+/// For each member its Receive in the tick.
 fn received_in(
     alloc: Global,
     trace: &Trace,
@@ -140,7 +140,7 @@ fn received_in(
     Ok(last)
 }
 
-// The silences of the members that have no step in the tick.
+/// The silences of the members that have no step in the tick.
 fn silent_in(
     alloc: Global,
     trace: &Trace,

@@ -43,7 +43,7 @@ pub(crate) fn part_of_trace(
     Ok(part)
 }
 
-// Joins two parts that follow one another: nothing but want of memory stands against it.
+/// Joins two parts that follow one another: nothing but want of memory stands against it.
 fn joined(left: Part, right: Part) -> Result<Part, AllocError>
     requires { parts_refusal left right ≡ None }
     ensures { IfOk result (λ whole. whole ≡ joined_parts left right) }

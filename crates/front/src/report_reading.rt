@@ -70,7 +70,7 @@ pub fn read_report<R: Read>(
     }
 }
 
-// The rows of a text.
+/// The rows of a text.
 fn rows_of_text(alloc: Global, text: &[u8]) -> Result<Vec<Row>, ReportError>
     ensures { Gives (λ v. v.items) result (rows_of_records (records_of_text text.now)) }
 {
@@ -79,7 +79,7 @@ fn rows_of_text(alloc: Global, text: &[u8]) -> Result<Vec<Row>, ReportError>
     rows_at_end(rows)
 }
 
-// What the end of the text says.
+/// What the end of the text says.
 fn rows_at_end(taken: ReportRows) -> Result<Vec<Row>, ReportError>
     ensures rows { MatchResult result (λ v. rows_at_end taken ≡ Ok v.items)
         (λ e. rows_at_end taken ≡ Err e) }
@@ -117,7 +117,7 @@ impl TakeRecords for ReportRows {
     }
 }
 
-// Takes in the row of one more record.
+/// Takes in the row of one more record.
 fn take_row(rows: &mut Vec<Row>, fields: &ByteRecord) -> Result<(), ReportError>
     ensures row { ReachesUnless is_memory result (Some rows.new.items)
         (with_row rows.old.items (row_of (length rows.old.items + 1) (fields_of fields.now))) }

@@ -42,7 +42,7 @@ pub fn write_report<W: Write>(
     write_text(&text, writer)
 }
 
-// The text of a report of these rows.
+/// The text of a report of these rows.
 pub(crate) fn report_text_of(alloc: Global, rows: &[Row]) -> Result<Vec<u8>, AllocError>
     ensures { IfOk result (λ v. v.items ≡ report_text rows.now) }
 {
@@ -94,7 +94,7 @@ fn write_row(alloc: Global, writer: &mut Writer<Vec<u8>>, row: &Row) -> Result<(
     )
 }
 
-// The fields of a miss, empty where there is none.
+/// The fields of a miss, empty where there is none.
 fn miss_texts(alloc: Global, miss: Option<Miss>) -> Result<(String, String), AllocError>
     ensures fields { IfOk result
         (λ t. string_bytes t.0 ∷ string_bytes t.1 ∷ [] ≡ miss_fields miss) }
@@ -106,7 +106,7 @@ fn miss_texts(alloc: Global, miss: Option<Miss>) -> Result<(String, String), All
     }
 }
 
-// The fields of a gap, empty where there is none.
+/// The fields of a gap, empty where there is none.
 fn gap_texts(alloc: Global, gap: Option<Gap>) -> Result<(String, String, String), AllocError>
     ensures fields { IfOk result
         (λ t. string_bytes t.0 ∷ string_bytes t.1 ∷ string_bytes t.2 ∷ [] ≡ gap_fields gap) }

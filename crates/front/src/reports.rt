@@ -93,7 +93,7 @@ pub fn front(alloc: Global, stairs: &Stairs) -> Result<Report, AllocError>
     })
 }
 
-// The rows of all starts.
+/// The rows of all starts.
 fn rows_of(alloc: Global, stairs: &Stairs) -> Result<Vec<Row>, AllocError>
     ensures { IfOk result
         (λ v. AreRowsAt stairs.now (starts stairs.now) v.items
@@ -106,7 +106,7 @@ fn rows_of(alloc: Global, stairs: &Stairs) -> Result<Vec<Row>, AllocError>
     Ok(rows)
 }
 
-// The row of a stretch that begins at `gst`.
+/// The row of a stretch that begins at `gst`.
 fn row_at(stairs: &Stairs, gst: u64) -> Row
     requires low { 1 ≤ gst }
     requires high { gst ≤ length stairs.now }
@@ -128,7 +128,7 @@ fn row_at(stairs: &Stairs, gst: u64) -> Row
     }
 }
 
-// The last row that begins at `g` or before, of rows in rising stabilization time.
+/// The last row that begins at `g` or before, of rows in rising stabilization time.
 fn last_begun(rows: &[Row], g: u64) -> Option<Row>
     requires { IsStrictlyIncreasing (map (λ r. r.gst) rows.now) }
     ensures { result ≡ last_begun rows.now g }

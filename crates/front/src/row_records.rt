@@ -70,7 +70,7 @@ fn entries_of(fields: &ByteRecord) -> Option<Entries>
     })
 }
 
-// The row of entries whose witnesses are whole.
+/// The row of entries whose witnesses are whole.
 fn whole_row(entries: Entries) -> Option<Row>
     ensures { result ≡ whole_row entries }
 {
@@ -103,7 +103,7 @@ fn gap_of(proc: Option<u64>, from: Option<u64>, to: Option<u64>) -> Option<Optio
     }
 }
 
-// The number of a field of a witness, or that it is empty.
+/// The number of a field of a witness, or that it is empty.
 fn entry_of(field: &[u8]) -> Option<Option<u64>>
     ensures { result ≡ entry_of field.now }
 {

@@ -39,7 +39,7 @@ pub(crate) fn put_lock(locks: &mut Vec<(u64, u64)>, v: u64, phase: u64) -> Resul
     Ok(())
 }
 
-// The place of the lock on `v`, or where it belongs among locks that rise by value.
+/// The place of the lock on `v`, or where it belongs among locks that rise by value.
 fn find_lock(locks: &[(u64, u64)], v: u64) -> Result<usize, usize>
     ensures held { IfOk result (λ place. place < length locks.now) }
     ensures replaced { IfOk result

@@ -162,7 +162,7 @@ impl Node {
         Ok(Some(Body { kind, proper }))
     }
 
-    // What it says in a round to whomever it sends, PROPER aside.
+    /// What it says in a round to whomever it sends, PROPER aside.
     fn kind_in(&self, alloc: Global, round: u64) -> Result<Option<Kind>, AllocError>
         requires { 1 ≤ round }
         ensures { IfOk result (λ kind. kind ≡ kind_in (part_at (part_of round)) self.now) }
@@ -227,7 +227,7 @@ impl Node {
         Ok(())
     }
 
-    // The compute part of a round, PROPER aside.
+    /// The compute part of a round, PROPER aside.
     fn compute_part(
         &mut self,
         config: &Config,

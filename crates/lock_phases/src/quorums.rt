@@ -18,7 +18,7 @@ pub(crate) fn least_listed(quorum: u64, heard: &[(u64, Body)]) -> Option<u64>
     least
 }
 
-// The least of a value so far and the values of a list that are in at least `quorum` of the lists heard.
+/// The least of a value so far and the values of a list that are in at least `quorum` of the lists heard.
 fn lesser_of_list(
     quorum: u64,
     heard: &[(u64, Body)],

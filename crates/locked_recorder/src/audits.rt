@@ -81,7 +81,7 @@ impl Recorder {
         Ok(world)
     }
 
-    // A copy of the World, made under the lock; none where it isn't the recorder's own.
+    /// A copy of the World, made under the lock; none where it isn't the recorder's own.
     fn copied<R: Wait>(&self, rt: &R, alloc: Global) -> Result<Option<World>, AllocError>
         ensures run { IfOk result (λ copied. IfSome copied (λ world. IsRunOf self.now.config world.trace)) }
         ensures limit { IfOk result (λ copied. IfSome copied (λ world. world.limit ≡ self.now.limit)) }
@@ -94,7 +94,7 @@ impl Recorder {
     }
 }
 
-// Whether these are the seats of a recorder: one for each processor, in order, and of its tag.
+/// Whether these are the seats of a recorder: one for each processor, in order, and of its tag.
 fn are_its_own(config: &Config, tag: u64, seats: &[Seat]) -> Result<(), AuditError>
     ensures order { OnOk result (AreInOrder config.now seats.now) }
     ensures tags { OnOk result (AreTagged tag seats.now) }
@@ -109,7 +109,7 @@ fn are_its_own(config: &Config, tag: u64, seats: &[Seat]) -> Result<(), AuditErr
     Ok(())
 }
 
-// Whether seats and views fit the trace of a World; else the first that doesn't.
+/// Whether seats and views fit the trace of a World; else the first that doesn't.
 fn compared(alloc: Global, world: &World, seats: &[Seat], views: &[View]) -> Result<(), AuditError>
     requires order { AreInOrder world.now.trace.config seats.now }
     ensures seats { OnOk result (AgreeWith world.now.trace.config world.now.trace.steps seats.now) }

@@ -60,7 +60,7 @@ pub(crate) fn first_not_extended(trace: &Trace, views: &[View]) -> Option<u64>
     None
 }
 
-// Whether the trace extends what a view has seen.
+/// Whether the trace extends what a view has seen.
 fn extends(trace: &Trace, view: &View) -> bool
     ensures { IsTrue result ↔ IsExtended trace.now view.now }
 {

@@ -61,8 +61,8 @@ impl Recorder {
         Ok(steps)
     }
 
-    // Makes one step of a drive: a Send if there is something to send, and else a Receive. From the first Receive of
-    // a round to its end there is nothing to send.
+    /// Makes one step of a drive: a Send if there is something to send, and else a Receive. From the first Receive of
+    /// a round to its end there is nothing to send.
     fn go_on<R: Wait>(
         &self,
         rt: &R,
@@ -90,8 +90,8 @@ impl Recorder {
         Ok(())
     }
 
-    // Makes one step of processor `p` under the lock: a Send where there is something to send, and else by this move;
-    // and says whether it was a Send.
+    /// Makes one step of processor `p` under the lock: a Send where there is something to send, and else by this move;
+    /// and says whether it was a Send.
     fn make_send_or<R: Wait>(
         &self,
         rt: &R,
@@ -122,8 +122,8 @@ impl Recorder {
 }
 
 impl Seat {
-    // Makes one step, taking the lock once: a Send where there is something to send, and else by this move. Keeps
-    // what was done, and says whether it was a Send. The list grows before the lock is taken.
+    /// Makes one step, taking the lock once: a Send where there is something to send, and else by this move. Keeps
+    /// what was done, and says whether it was a Send. The list grows before the lock is taken.
     fn record_send_or<R: Wait>(
         &mut self,
         rt: &R,
@@ -149,7 +149,7 @@ impl Seat {
 }
 
 impl Pace {
-    // The pace at the beginning of a round.
+    /// The pace at the beginning of a round.
     fn new(patience: u64) -> Self
         requires { 1 ≤ patience }
         ensures patience { result.patience ≡ patience }
@@ -161,14 +161,14 @@ impl Pace {
         }
     }
 
-    // Whether the next Receive ends the round.
+    /// Whether the next Receive ends the round.
     fn is_over(&self) -> bool
         ensures { result ≡ (self.now.received + 1 == self.now.patience) }
     {
         self.received + 1 == self.patience
     }
 
-    // Counts a Receive, with which the next round begins if it ends this one.
+    /// Counts a Receive, with which the next round begins if it ends this one.
     fn receive(&mut self)
         ensures patience { self.new.patience ≡ self.old.patience }
         ensures received { self.new.received

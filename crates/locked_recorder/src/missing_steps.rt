@@ -19,7 +19,7 @@ pub(crate) fn least_missing(trace: &Trace, done: &[Done]) -> Option<u64>
     least
 }
 
-// Whether the trace has this at its number.
+/// Whether the trace has this at its number.
 fn stands(trace: &Trace, done: &Done) -> bool
     ensures { IsTrue result ↔ Stands trace.now.steps done.now }
 {
@@ -29,7 +29,7 @@ fn stands(trace: &Trace, done: &Done) -> bool
     }
 }
 
-// Whether a number is below another one, if there is one.
+/// Whether a number is below another one, if there is one.
 fn is_below(no: u64, least: Option<u64>) -> bool
     ensures { IsTrue result ↔ IfSome least (λ n. no < n) }
 {

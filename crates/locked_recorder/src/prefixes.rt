@@ -73,7 +73,7 @@ impl Recorder {
         }
     }
 
-    // A copy of the trace, made under the lock; none where the World isn't the recorder's own.
+    /// A copy of the trace, made under the lock; none where the World isn't the recorder's own.
     pub(crate) fn shown<R: Wait>(&self, rt: &R, alloc: Global) -> Result<Option<Trace>, AllocError>
         ensures { IfOk result (λ shown. IfSome shown (λ trace. IsRunOf self.now.config trace)) }
     {
@@ -85,7 +85,7 @@ impl Recorder {
     }
 }
 
-// Whether a trace extends what was seen; else the first difference, with a copy of what the trace has there.
+/// Whether a trace extends what was seen; else the first difference, with a copy of what the trace has there.
 fn compare(alloc: Global, trace: &Trace, seen: &Trace) -> Result<(), PrefixError>
     requires { IsRunOf trace.now.config trace.now }
     ensures extends { OnOk result (Extends trace.now seen.now) }
@@ -104,7 +104,7 @@ fn compare(alloc: Global, trace: &Trace, seen: &Trace) -> Result<(), PrefixError
     }
 }
 
-// A copy of the step of this number, with its tick, if there is one.
+/// A copy of the step of this number, with its tick, if there is one.
 fn placed(trace: &Trace, no: u64) -> Result<Option<(u64, Step)>, AllocError>
     ensures { IfOk result (λ there. there ≡ placed_at trace.now no) }
 {
@@ -114,8 +114,8 @@ fn placed(trace: &Trace, no: u64) -> Result<Option<(u64, Step)>, AllocError>
     }
 }
 
-// The least number of a step that was seen at which the trace has none, another one, or one in another tick;
-// or else the number after all of these.
+/// The least number of a step that was seen at which the trace has none, another one, or one in another tick;
+/// or else the number after all of these.
 fn first_difference(trace: &Trace, seen: &Trace) -> u64
     ensures first { 1 ≤ result }
     ensures last { result ≤ length seen.now.steps + 1 }
@@ -131,7 +131,7 @@ fn first_difference(trace: &Trace, seen: &Trace) -> u64
     end
 }
 
-// Whether two traces have the same at this number: one step, in one tick; or both none.
+/// Whether two traces have the same at this number: one step, in one tick; or both none.
 fn is_same_at(one: &Trace, other: &Trace, no: u64) -> bool
     ensures { IsTrue result ↔ (placed_at one.now no ≡ placed_at other.now no) }
 {

@@ -66,8 +66,8 @@ impl Recorder {
     }
 }
 
-// Whether a World is one of this configuration, in which so many steps may be made. The lock's type keeps that it
-// is a World, and not which.
+/// Whether a World is one of this configuration, in which so many steps may be made. The lock's type keeps that it
+/// is a World, and not which.
 pub(crate) fn is_world_of(world: &World, config: &Config, limit: u64) -> bool
     ensures same { IsTrue result ↔ ((world.now.trace.config ≡ config.now) × (world.now.limit ≡ limit)) }
     ensures run { IsRun world.now.trace.config world.now.trace.steps }
@@ -79,7 +79,7 @@ pub(crate) fn is_world_of(world: &World, config: &Config, limit: u64) -> bool
     world.trace().config().is_same(config) && room == limit
 }
 
-// A seat for each processor, in order.
+/// A seat for each processor, in order.
 fn opening_seats(alloc: Global, tag: u64, config: &Config) -> Result<Vec<Seat>, AllocError>
     ensures { IfOk result (λ seats. seats.items ≡ opening_seats tag config.now.n) }
 {

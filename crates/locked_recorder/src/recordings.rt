@@ -30,7 +30,7 @@ impl Recorder {
         seat.step(rt, alloc, self, step)
     }
 
-    // Makes one step of processor `p` under the lock.
+    /// Makes one step of processor `p` under the lock.
     fn make<R: Wait>(&self, rt: &R, alloc: Global, p: u64, step: Move) -> Result<Done, RecordError>
         ensures answered { IfOk result (λ done. IsAnswer self.now p step.entry done) }
         ensures refused { IfErr result (λ e. IsRefused self.now p step.entry e) }
@@ -68,7 +68,7 @@ impl Seat {
         Ok(self.last())
     }
 
-    // Makes one step, and keeps what was done. The list grows before the lock is taken.
+    /// Makes one step, and keeps what was done. The list grows before the lock is taken.
     pub(crate) fn record<R: Wait>(
         &mut self,
         rt: &R,

@@ -39,7 +39,7 @@ pub(crate) fn compare_seats(
     Ok(agreed)
 }
 
-// The round of a processor after its step in a round.
+/// The round of a processor after its step in a round.
 fn round_after(step: &Step, round: u64) -> u64
     requires { round ≤ MAX_STEPS }
     ensures { result ≡ round + cond (act_ends step.now.act) 1 0 }
@@ -50,8 +50,8 @@ fn round_after(step: &Step, round: u64) -> u64
     }
 }
 
-// How many of the first things that a seat did are what its processor did, with one step more, where so many were
-// it before; none from the first difference on.
+/// How many of the first things that a seat did are what its processor did, with one step more, where so many were
+/// it before; none from the first difference on.
 fn next_agreed(
     own: &[Done],
     agreed: Option<usize>,
@@ -68,7 +68,7 @@ fn next_agreed(
     }
 }
 
-// Whether this was done at an index of a list.
+/// Whether this was done at an index of a list.
 fn has_at(
     list: &[Done],
     index: usize,

@@ -24,7 +24,7 @@ impl Model for Seat {
 }
 
 impl Seat {
-    // The seat of a processor that did nothing yet.
+    /// The seat of a processor that did nothing yet.
     pub(crate) fn new(alloc: Global, tag: u64, proc: u64) -> Self
         ensures { result ≡ record { tag = tag; proc = proc; done = [] } }
     {
@@ -49,7 +49,7 @@ impl Seat {
         self.done.as_slice()
     }
 
-    // What it did last.
+    /// What it did last.
     pub(crate) fn last(&self) -> &Done
         requires { 0 < length self.now.done }
         ensures { slice_get self.now.done (length self.now.done - 1) ≡ Some result.now }

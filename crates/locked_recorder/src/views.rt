@@ -21,7 +21,7 @@ impl Model for View {
 impl View {
     ghost use Rattle.std.specs.Prelude.{◌≡◌, Some, None, option_copied};
 
-    // The view of one who was shown nothing.
+    /// The view of one who was shown nothing.
     pub(crate) fn new() -> Self
         ensures { result ≡ None }
     {
@@ -35,7 +35,7 @@ impl View {
         self.seen.as_ref()
     }
 
-    // Keeps what was shown.
+    /// Keeps what was shown.
     pub(crate) fn see(&mut self, shown: Trace)
         ensures { self.new ≡ Some shown }
     {

@@ -107,7 +107,7 @@ impl Heard {
     }
 }
 
-// The set of processor i + 1 in round j + 1.
+/// The set of processor i + 1 in round j + 1.
 fn set_at(sets: &[Vec<ProcSet>], i: usize, j: usize) -> ProcSet
     requires outer { i < length sets.now }
     requires inner { j < length (slice_index_or (rows_of sets.now) i []) }
@@ -116,7 +116,7 @@ fn set_at(sets: &[Vec<ProcSet>], i: usize, j: usize) -> ProcSet
     sets[i][j]
 }
 
-// Puts another set there.
+/// Puts another set there.
 fn put(sets: &mut [Vec<ProcSet>], i: usize, j: usize, set: ProcSet)
     requires outer { i < length sets.old }
     requires inner { j < length (slice_index_or (rows_of sets.old) i []) }
@@ -127,7 +127,7 @@ fn put(sets: &mut [Vec<ProcSet>], i: usize, j: usize, set: ProcSet)
     row[j] = set;
 }
 
-// The empty sets of so many rounds, for each of `n` processors.
+/// The empty sets of so many rounds, for each of `n` processors.
 fn empty_table(alloc: Global, n: u64, rounds: u64) -> Result<Vec<Vec<ProcSet>>, AllocError>
     requires { rounds ≤ MAX_ROUNDS }
     ensures processors { IfOk result (λ sets. length sets.items ≡ n) }

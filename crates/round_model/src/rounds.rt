@@ -62,7 +62,7 @@ pub fn decided(nodes: &[Node]) -> Option<u64>
     None
 }
 
-// The opening nodes of all processors.
+/// The opening nodes of all processors.
 fn opening_nodes(alloc: Global, config: &Config) -> Result<Vec<Node>, AllocError>
     ensures nodes { IfOk result (λ nodes. nodes.items ≡ opening_nodes config.now) }
     ensures setup { IsSetup config.now }
@@ -74,7 +74,7 @@ fn opening_nodes(alloc: Global, config: &Config) -> Result<Vec<Node>, AllocError
     Ok(nodes)
 }
 
-// Takes the nodes through a round. All messages are sent before any node changes.
+/// Takes the nodes through a round. All messages are sent before any node changes.
 fn run_round(
     alloc: Global,
     config: &Config,
@@ -96,7 +96,7 @@ fn run_round(
     Ok(())
 }
 
-// The messages that each processor hears in a round.
+/// The messages that each processor hears in a round.
 fn messages_of_round(
     alloc: Global,
     config: &Config,
@@ -119,7 +119,7 @@ fn messages_of_round(
     Ok(messages)
 }
 
-// The messages that a processor hears in a round, in the order of their senders.
+/// The messages that a processor hears in a round, in the order of their senders.
 fn messages_to(
     alloc: Global,
     config: &Config,

@@ -53,7 +53,7 @@ fn release_one(letters: &mut Vec<Place>, id: u64, round: u64)
     }
 }
 
-// Whether the message of this id was sent in an earlier round than this one.
+/// Whether the message of this id was sent in an earlier round than this one.
 fn is_past(letters: &[Place], id: u64, round: u64) -> bool
     ensures past { IsTrue result → round_of letters.now id < round }
     ensures low { IsTrue result → 1 ≤ id }

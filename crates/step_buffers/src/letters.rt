@@ -124,7 +124,7 @@ pub(crate) fn heard_in(
     heard_from(alloc, letters, &ids, n)
 }
 
-// Adds those of these ids whose messages were sent in a round.
+/// Adds those of these ids whose messages were sent in a round.
 fn add_of_round(
     of_round: &mut Vec<u64>,
     letters: &[Place],
@@ -161,8 +161,8 @@ fn heard_from(
     Ok(heard)
 }
 
-// For each of `n` processors the first of these messages that is its own, in the place of its number; 0 where there is
-// none.
+/// For each of `n` processors the first of these messages that is its own, in the place of its number; 0 where there is
+/// none.
 fn first_by_sender(
     alloc: Global,
     letters: &[Place],
@@ -180,7 +180,7 @@ fn first_by_sender(
     Ok(first)
 }
 
-// Notes a message in the place of its sender.
+/// Notes a message in the place of its sender.
 fn note_sender(first: &mut Vec<u64>, letters: &[Place], id: u64)
     ensures long { length first.new.items ≡ length first.old.items }
     ensures each { (q : ℕ) → q < length first.old.items → said_by q (letter_at letters.now (slice_index first.new.items q))
@@ -201,7 +201,7 @@ pub(crate) fn copied(body: &Body) -> Result<Body, AllocError>
     body.clone()
 }
 
-// What the message of this id says, if it is of this sender.
+/// What the message of this id says, if it is of this sender.
 fn said_by(letters: &[Place], id: u64, sender: u64) -> Option<&Body>
     ensures { option_copied result ≡ said_by sender (letter_at letters.now id) }
 {

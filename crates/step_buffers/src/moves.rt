@@ -27,7 +27,7 @@ pub enum Move<'a> {
 /// A step that was made.
 #[derive(Debug, Drop)]
 pub struct Done {
-    /// The number of the step, which is its real-time step.
+    /// The number of the step, which is also its tick, since a World makes one step in each tick.
     pub no: u64,
     /// The step.
     pub step: Step,

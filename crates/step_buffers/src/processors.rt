@@ -36,7 +36,7 @@ pub(crate) struct Processor {
     pub said: Place,
 }
 
-// The next destination of a processor. None where all messages of its round are out. Takes no memory.
+/// The next destination of a processor. None where all messages of its round are out. Takes no memory.
 fn next_destination(config: &Config, p: u64, round: u64, last: u64, node: &Node) -> Option<u64>
     requires positive { 1 ≤ round }
     requires within { last ≤ config.now.n }
@@ -50,8 +50,8 @@ fn next_destination(config: &Config, p: u64, round: u64, last: u64, node: &Node)
     None
 }
 
-// The processor after the last one to which anything goes next in a round, if anything does: lists and
-// acknowledgements go to the owner alone.
+/// The processor after the last one to which anything goes next in a round, if anything does: lists and
+/// acknowledgements go to the owner alone.
 fn candidate(config: &Config, round: u64, last: u64) -> u64
     requires positive { 1 ≤ round }
     requires within { last ≤ config.now.n }
@@ -68,7 +68,7 @@ fn candidate(config: &Config, round: u64, last: u64) -> u64
     if next < owner { owner } else { next }
 }
 
-// Whether it is a round in which nobody but the owner is sent anything.
+/// Whether it is a round in which nobody but the owner is sent anything.
 fn is_to_owner(round: u64) -> bool
     requires { 1 ≤ round }
     ensures owner { result ≡ true → (part_of round ≡ 1) ⊎ (part_of round ≡ 3) }

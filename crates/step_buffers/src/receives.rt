@@ -50,7 +50,7 @@ pub(crate) fn chosen(
     Ok(MessageIds::new(ids))
 }
 
-// Whether this would end the round of `p` before all its messages are out.
+/// Whether this would end the round of `p` before all its messages are out.
 fn is_early(trace: &Trace, receiver: &Processor, p: u64, ends: bool) -> bool
     requires { IsProcessor trace.now.config trace.now.steps p receiver.now }
     ensures { result ≡ (ends && is_some (next_send trace.now.config trace.now.steps p)) }
@@ -87,7 +87,7 @@ pub(crate) fn receive(
     }
 }
 
-// Takes these messages for `p`, which stays in its round.
+/// Takes these messages for `p`, which stays in its round.
 fn take_messages(
     trace: &mut Trace,
     letters: &mut Vec<Place>,
@@ -108,7 +108,7 @@ fn take_messages(
     Ok(())
 }
 
-// Takes these messages for `p`, and ends its round: its node computes from what it heard in it.
+/// Takes these messages for `p`, and ends its round: its node computes from what it heard in it.
 fn end_round(
     alloc: Global,
     trace: &mut Trace,
@@ -133,7 +133,7 @@ fn end_round(
     Ok(())
 }
 
-// The node of `p` after it took these messages and ended its round, where those of its round are at hand.
+/// The node of `p` after it took these messages and ended its round, where those of its round are at hand.
 fn computed(
     alloc: Global,
     trace: &Trace,
@@ -165,7 +165,7 @@ fn computed(
     Ok(node)
 }
 
-// Takes these messages, whose receiver stays in its round.
+/// Takes these messages, whose receiver stays in its round.
 fn settle_taken(
     trace: &mut Trace,
     letters: &mut Vec<Place>,
@@ -195,7 +195,7 @@ fn settle_taken(
     Ok(())
 }
 
-// Takes these messages, whose receiver ends its round with this node.
+/// Takes these messages, whose receiver ends its round with this node.
 fn settle_ended(
     trace: &mut Trace,
     letters: &mut Vec<Place>,
@@ -236,7 +236,7 @@ fn settle_ended(
     Ok(())
 }
 
-// Appends a Receive to the trace, and makes room for what it changes.
+/// Appends a Receive to the trace, and makes room for what it changes.
 fn push_receive(
     trace: &mut Trace,
     letters: &mut Vec<Place>,

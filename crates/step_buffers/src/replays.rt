@@ -49,7 +49,7 @@ pub fn replay(alloc: Global, trace: &Trace) -> Result<World, ReplayError>
     Ok(world)
 }
 
-// The World of a configuration before the first step, with room for the steps of each trace.
+/// The World of a configuration before the first step, with room for the steps of each trace.
 fn opening_world(alloc: Global, config: &Config) -> Result<World, AllocError>
     ensures config { IfOk result (λ world. world.trace.config ≡ config.now) }
     ensures steps { IfOk result (λ world. world.trace.steps ≡ []) }
@@ -58,7 +58,7 @@ fn opening_world(alloc: Global, config: &Config) -> Result<World, AllocError>
     World::new(alloc, config.copy(alloc)?, MAX_STEPS as u64)
 }
 
-// The step of a trace that comes after as many as a World made.
+/// The step of a trace that comes after as many as a World made.
 fn next_step<'a>(world: &World, trace: &'a Trace) -> Option<&'a Step>
     ensures value { option_copied result ≡ step_at trace.now.steps (length world.now.trace.steps + 1) }
     ensures limit { length trace.now.steps ≤ MAX_STEPS }
@@ -68,7 +68,7 @@ fn next_step<'a>(world: &World, trace: &'a Trace) -> Option<&'a Step>
     trace.step(world.trace().len() as u64 + 1)
 }
 
-// Makes this step, if it is one that its processor makes next.
+/// Makes this step, if it is one that its processor makes next.
 fn follow(alloc: Global, world: &mut World, step: &Step) -> Result<(), ReplayError>
     requires { length world.old.trace.steps < world.old.limit }
     ensures made { OnOk result (world.new.trace.steps ≡ world.old.trace.steps ++ step.now ∷ []) }
@@ -88,8 +88,8 @@ fn follow(alloc: Global, world: &mut World, step: &Step) -> Result<(), ReplayErr
     }
 }
 
-// Makes the Send that `p` makes next, and says whether it was one to this processor. It says no where `p` has
-// nothing to send, too.
+/// Makes the Send that `p` makes next, and says whether it was one to this processor. It says no where `p` has
+/// nothing to send, too.
 fn follow_send(alloc: Global, world: &mut World, p: u64, to: u64) -> Result<bool, AllocError>
     requires { length world.old.trace.steps < world.old.limit }
     ensures made { IfOk result (λ is. is ≡ true → world.new.trace.steps ≡ world.old.trace.steps ++ record { proc = p; act = Act.Send to } ∷ []) }
@@ -103,7 +103,7 @@ fn follow_send(alloc: Global, world: &mut World, p: u64, to: u64) -> Result<bool
     }
 }
 
-// Makes this Receive, if nothing is against it, and says whether it was made.
+/// Makes this Receive, if nothing is against it, and says whether it was made.
 fn follow_receive(
     alloc: Global,
     world: &mut World,
@@ -124,7 +124,7 @@ fn follow_receive(
     not_made(why)
 }
 
-// Says that a step wasn't made, for a reason that stands against it; want of memory is none.
+/// Says that a step wasn't made, for a reason that stands against it; want of memory is none.
 fn not_made(why: StepError) -> Result<bool, AllocError>
     ensures no { IfOk result (λ made. made ≡ false) }
     ensures reason { OnOk result (¬ IsStepRefusal why None) }
@@ -135,7 +135,7 @@ fn not_made(why: StepError) -> Result<bool, AllocError>
     }
 }
 
-// Whether the last step of a trace is a Send to a processor.
+/// Whether the last step of a trace is a Send to a processor.
 fn last_sends_to(trace: &Trace, p: u64) -> bool
     ensures { (steps : List TraceStep) (last : TraceStep) → trace.now.steps ≡ steps ++ last ∷ [] → result ≡ act_sends_to last.act p }
 {

@@ -50,7 +50,7 @@ pub(crate) fn gather(inbox: &mut Inbox, round: u64) -> Result<(), AllocError>
     }
 }
 
-// Takes the first of these out, if it is of a round up to this one.
+/// Takes the first of these out, if it is of a round up to this one.
 fn next_due(later: &mut BinaryHeap<Reverse<(u64, u64)>>, round: u64) -> Option<u64>
     requires { IsHeap earlier_first (heap_items later.old) }
     ensures order { IsHeap earlier_first (heap_items later.new) }
@@ -68,7 +68,7 @@ fn next_due(later: &mut BinaryHeap<Reverse<(u64, u64)>>, round: u64) -> Option<u
     Some(id)
 }
 
-// Whether one of these is of a round up to this one.
+/// Whether one of these is of a round up to this one.
 fn is_due(later: &BinaryHeap<Reverse<(u64, u64)>>, round: u64) -> bool
     requires { IsHeap earlier_first (heap_items later.now) }
     ensures some { result ≡ true → 0 < heap_len later.now }
@@ -97,7 +97,7 @@ pub(crate) fn keep_ahead(inbox: &mut Inbox, letters: &[Place], ids: &[u64], roun
     }
 }
 
-// Keeps a message, where there is room: at hand if it is of this round, else for later.
+/// Keeps a message, where there is room: at hand if it is of this round, else for later.
 fn keep(inbox: &mut Inbox, round: u64, sent: u64, id: u64)
     requires room_near { vec_len inbox.old.near < vec_capacity inbox.old.near }
     requires room_later { heap_len inbox.old.later < heap_capacity inbox.old.later }
@@ -115,7 +115,7 @@ fn keep(inbox: &mut Inbox, round: u64, sent: u64, id: u64)
     }
 }
 
-// Keeps a message of a round for later, where there is room.
+/// Keeps a message of a round for later, where there is room.
 fn keep_for_later(inbox: &mut Inbox, round: u64, id: u64)
     requires { heap_len inbox.old.later < heap_capacity inbox.old.later }
     ensures near { inbox.new.near ≡ inbox.old.near }

@@ -42,7 +42,7 @@ pub(crate) fn send(
     post(trace, letters, processors, p, to, place)
 }
 
-// What `p` says to a processor to which it sends anything: what it said before in its round, if it did.
+/// What `p` says to a processor to which it sends anything: what it said before in its round, if it did.
 fn said_to(
     alloc: Global,
     config: &Config,
@@ -63,7 +63,7 @@ fn said_to(
     Place::of(alloc, letter_to(alloc, config, sender, p, to)?)
 }
 
-// What `p` sends to a processor to which it sends anything.
+/// What `p` sends to a processor to which it sends anything.
 fn letter_to(
     alloc: Global,
     config: &Config,
@@ -88,7 +88,7 @@ fn letter_to(
     })
 }
 
-// Sends a message of `p`, which has this place, to its next destination.
+/// Sends a message of `p`, which has this place, to its next destination.
 fn post(
     trace: &mut Trace,
     letters: &mut Vec<Place>,
@@ -118,7 +118,7 @@ fn post(
     Ok(())
 }
 
-// Appends a Send to the trace, and makes room for what it changes.
+/// Appends a Send to the trace, and makes room for what it changes.
 fn push_send(
     trace: &mut Trace,
     letters: &mut Vec<Place>,
@@ -151,7 +151,7 @@ fn push_send(
     )
 }
 
-// Makes room for one more message, and for its id in the buffer of the processor that it goes to.
+/// Makes room for one more message, and for its id in the buffer of the processor that it goes to.
 fn make_room(
     letters: &mut Vec<Place>,
     processors: &mut Vec<Processor>,

@@ -60,7 +60,7 @@ pub(crate) fn take_out(buffer: &mut Vec<u64>, ids: &[u64])
     }
 }
 
-// How many of these ids are less than a bound.
+/// How many of these ids are less than a bound.
 fn count_below(ids: &[u64], bound: u64) -> usize
     requires { IsStrictlyIncreasing ids.now }
     ensures within { result ≤ length ids.now }
@@ -69,7 +69,7 @@ fn count_below(ids: &[u64], bound: u64) -> usize
     ids.partition_point(|s| *s < bound)
 }
 
-// Takes these ids out of a buffer from this index on.
+/// Takes these ids out of a buffer from this index on.
 fn take_out_from(buffer: &mut Vec<u64>, ids: &[u64], from: usize)
     requires rising { IsStrictlyIncreasing ids.now }
     requires within { from ≤ length buffer.old.items }
@@ -86,7 +86,7 @@ fn take_out_from(buffer: &mut Vec<u64>, ids: &[u64], from: usize)
     buffer.truncate(kept);
 }
 
-// The first of these ids that isn't in a buffer.
+/// The first of these ids that isn't in a buffer.
 fn first_missing(buffer: &[u64], ids: &[u64]) -> Option<u64>
     requires { IsStrictlyIncreasing buffer.now }
     ensures { result ≡ find (λ s. not (is_in buffer.now s)) ids.now }
@@ -94,7 +94,7 @@ fn first_missing(buffer: &[u64], ids: &[u64]) -> Option<u64>
     ids.iter().copied().find(|s| !is_in(buffer, *s))
 }
 
-// Whether an id is one of these.
+/// Whether an id is one of these.
 fn is_in(ids: &[u64], id: u64) -> bool
     requires { IsStrictlyIncreasing ids.now }
     ensures { result ≡ is_in ids.now id }

@@ -200,7 +200,7 @@ impl World {
         self.make(alloc, p, act)
     }
 
-    // What processor `p` does in a move.
+    /// What processor `p` does in a move.
     fn act_of(&self, alloc: Global, p: u64, step: Move) -> Result<Act, StepError>
         ensures step { IfOk result (λ act. Some (record { proc = p; act = act }) ≡ step_of self.now.trace.config self.now.trace.steps p step.entry) }
         ensures room { OnOk result (length self.now.trace.steps < self.now.limit) }
@@ -219,7 +219,7 @@ impl World {
         act_of(alloc, &self.trace, &self.processors, p, step)
     }
 
-    // Makes a step of processor `p` that is due.
+    /// Makes a step of processor `p` that is due.
     fn make(&mut self, alloc: Global, p: u64, act: Act) -> Result<(), StepError>
         requires room { length self.old.trace.steps < self.old.limit }
         requires processor { IsProc self.old.trace.config p }

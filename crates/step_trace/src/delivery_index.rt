@@ -49,7 +49,7 @@ pub(crate) fn append(steps: &mut Vec<Step>, taken: &mut Vec<bool>, step: Step)
     steps.push_reserved(step);
 }
 
-// Sets the flags of these messages.
+/// Sets the flags of these messages.
 fn mark(taken: &mut Vec<bool>, ids: &[u64])
     requires { All (λ s. (0 < s) × (s ≤ length taken.old.items)) ids.now }
     ensures len { length taken.new.items ≡ length taken.old.items }

@@ -24,7 +24,7 @@ pub(crate) fn own_steps(
     Ok(own)
 }
 
-// A copy of the step, with its number.
+/// A copy of the step, with its number.
 fn numbered(no: u64, step: &Step) -> Result<(u64, Step), AllocError>
     ensures { IfOk result (λ pair. pair ≡ (no, step.now)) }
 {

@@ -1,7 +1,8 @@
 //! The plain data in which bounds and their evidence are reported.
 
 /// A message whose Send has the number `sent`, and a Receive of its receiver, of number `missed`,
-/// by which it wasn't delivered: evidence against each communication bound up to `missed - sent`.
+/// by which it wasn't delivered: evidence against each communication bound up to the ticks from the one
+/// to the other, which are `missed - sent` where each tick holds one step.
 #[derive(Clone, Copy, Debug, PartialEq, Eq)]
 pub struct Miss {
     pub sent: u64,

@@ -257,7 +257,7 @@ impl Trace {
         Ok(())
     }
 
-    // The first reason against a step in this tick.
+    /// The first reason against a step in this tick.
     fn refusal(&self, tick: u64, step: &Step) -> Option<PushError>
         ensures exact { result ≡ refusal_in self.now tick step.now }
         ensures sound { IsTrace self.now }

@@ -67,7 +67,7 @@ impl Pass {
         Ok(())
     }
 
-    // Goes back over a step, which is in this tick.
+    /// Goes back over a step, which is in this tick.
     fn step_back(&mut self, trace: &Trace, no: u64, tick: u64)
         requires low { 1 ≤ no }
         requires high { no ≤ length trace.now.steps }
@@ -85,8 +85,8 @@ impl Pass {
         note_miss(&mut self.level, Miss { sent: no, missed }, long);
     }
 
-    // Goes back over the ticks from `high` to the one after that of step `done`, between which there is no
-    // step, and puts their levels before those so far. Gives the tick of that step.
+    /// Goes back over the ticks from `high` to the one after that of step `done`, between which there is no
+    /// step, and puts their levels before those so far. Gives the tick of that step.
     fn ticks_back(
         &mut self,
         trace: &Trace,
@@ -109,7 +109,7 @@ impl Pass {
         Ok(tick)
     }
 
-    // The level of a tick whose steps were gone over.
+    /// The level of a tick whose steps were gone over.
     fn tick_back(&mut self, g: u64) -> Level
         requires low { 1 ≤ g }
         requires positive { 1 ≤ self.old.level.phi }
@@ -126,7 +126,7 @@ impl Pass {
     }
 }
 
-// The tick of the step of this number, and 0 for number 0.
+/// The tick of the step of this number, and 0 for number 0.
 fn tick_of(trace: &Trace, no: u64) -> u64
     requires { no ≤ length trace.now.steps }
     ensures value { result ≡ tick_of trace.now no }

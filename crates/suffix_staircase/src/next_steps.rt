@@ -66,7 +66,7 @@ impl NextSteps {
     }
 }
 
-// The next steps from the end of a trace on: each is one after the last tick.
+/// The next steps from the end of a trace on: each is one after the last tick.
 fn no_next_steps(alloc: Global, trace: &Trace) -> Result<Vec<u64>, AllocError>
     ensures { IfOk result (λ n. AreNextTicks trace.now (length trace.now.steps) n.items) }
 {
@@ -76,7 +76,7 @@ fn no_next_steps(alloc: Global, trace: &Trace) -> Result<Vec<u64>, AllocError>
     Ok(next_steps)
 }
 
-// The member whose next step comes in the last tick, and of these the least: 0 if there is no member.
+/// The member whose next step comes in the last tick, and of these the least: 0 if there is no member.
 fn latest_member(next_steps: &[u64], set: ProcSet) -> u64
     requires some { 0 < length next_steps.now }
     requires zero { slice_index next_steps.now 0 ≡ 0 }

@@ -38,7 +38,7 @@ pub(crate) fn step_of(trace: &Trace, no: u64) -> &Step
     }
 }
 
-// So many zeros.
+/// So many zeros.
 fn zeros(alloc: Global, count: usize) -> Result<Vec<u32>, AllocError>
     ensures { IfOk result (λ v. v.items ≡ replicate count 0) }
 {
@@ -86,7 +86,7 @@ impl Receives {
         }
     }
 
-    // The last Receive after the step that doesn't find the message delivered, which goes to `to`.
+    /// The last Receive after the step that doesn't find the message delivered, which goes to `to`.
     fn last_missed(&self, sent: u64, to: u64) -> u64
         requires sent { sent < length self.now.taken_by.items }
         requires taken { slice_index self.now.taken_by.items sent < length self.now.before.items }
@@ -101,8 +101,8 @@ impl Receives {
         }
     }
 
-    // Notes a Receive that comes before those so far. Where there is none yet, `before` is written at
-    // number 0, which stands for no step.
+    /// Notes a Receive that comes before those so far. Where there is none yet, `before` is written at
+    /// number 0, which stands for no step.
     fn note(&mut self, no: u64, proc: u64, ids: &[u64])
         requires limit { no ≤ MAX_STEPS }
         requires ids { All (λ s. s < length self.old.taken_by.items) ids.now }
@@ -121,7 +121,7 @@ impl Receives {
     }
 }
 
-// Notes that the Receive of number `no` takes these messages.
+/// Notes that the Receive of number `no` takes these messages.
 fn note_takes(taken_by: &mut Vec<u32>, no: u64, ids: &[u64])
     requires limit { no ≤ MAX_STEPS }
     requires ids { All (λ s. s < length taken_by.old.items) ids.now }

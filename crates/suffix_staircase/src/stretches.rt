@@ -28,7 +28,7 @@ pub(crate) fn height(stretches: &[Stretch]) -> u64
     }
 }
 
-// The stretch that was put before all others.
+/// The stretch that was put before all others.
 fn top(stretches: &[Stretch]) -> Option<Stretch>
     ensures { result ≡ slice_get stretches.now (length stretches.now - 1) }
 {
@@ -80,7 +80,7 @@ pub(crate) fn put_before(stretches: &mut Vec<Stretch>, level: Level) -> Result<(
     Ok(())
 }
 
-// Whether a level that is put before the others has another bound than the first of them.
+/// Whether a level that is put before the others has another bound than the first of them.
 fn begins(stretches: &[Stretch], level: &Level) -> bool
     requires { AreStretches stretches.now }
     ensures { result ≡ begins level.now (levels_of stretches.now) }

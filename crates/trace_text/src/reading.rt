@@ -55,7 +55,7 @@ pub fn read_trace(alloc: Global, text: &[u8]) -> Result<Trace, TextError>
     read_whole(alloc, text)
 }
 
-// The trace of all records.
+/// The trace of all records.
 fn read_whole(alloc: Global, text: &[u8]) -> Result<Trace, TextError>
     ensures { Gives result (trace_of_records (records_of_text text.now)) }
 {
@@ -64,7 +64,7 @@ fn read_whole(alloc: Global, text: &[u8]) -> Result<Trace, TextError>
     trace_at_end(stage)
 }
 
-// What the end of the text says.
+/// What the end of the text says.
 fn trace_at_end(stage: Stage) -> Result<Trace, TextError>
     ensures { result ≡ trace_at_end stage }
 {
@@ -108,7 +108,7 @@ impl TakeRecords for Stage {
     }
 }
 
-// Ends the trace, where one is being recorded.
+/// Ends the trace, where one is being recorded.
 fn end(stage: &mut Stage)
     ensures { (v : Version) (t : Recorded) → stage.old ≡ Stage.Recording v t → stage.new ≡ Stage.Ended t }
 {
@@ -117,7 +117,7 @@ fn end(stage: &mut Stage)
     }
 }
 
-// `dls-trace,V,N,t`
+/// `dls-trace,V,N,t`
 fn read_header(fields: &ByteRecord) -> Result<Stage, TextError>
     ensures { result ≡ header_stage (fields_of fields.now) }
 {
@@ -139,7 +139,7 @@ fn read_header(fields: &ByteRecord) -> Result<Stage, TextError>
     Ok(Stage::Sized { version, n, t })
 }
 
-// `init,v1,..,vN`
+/// `init,v1,..,vN`
 fn read_init(
     alloc: Global,
     version: Version,
@@ -165,7 +165,7 @@ fn read_init(
     }
 }
 
-// `no,proc,op,arg`, in version 2 `no,tick,proc,op,arg`
+/// `no,proc,op,arg`, in version 2 `no,tick,proc,op,arg`
 fn read_step(
     alloc: Global,
     version: Version,
@@ -192,7 +192,7 @@ fn read_step(
     }
 }
 
-// The step of a record that has its fields and its number, and its tick.
+/// The step of a record that has its fields and its number, and its tick.
 fn step_of(
     alloc: Global,
     version: Version,
@@ -250,7 +250,7 @@ fn received(alloc: Global, no: u64, arg: &[u8], ends: bool) -> Result<Act, TextE
     })
 }
 
-// `end,L`
+/// `end,L`
 fn read_end(version: Version, trace: &mut Trace, fields: &ByteRecord) -> Result<(), TextError>
     ensures { MatchResult result
         (λ _. end_stage version trace.old (fields_of fields.now) ≡ Ok (Stage.Ended trace.new))
@@ -266,7 +266,7 @@ fn read_end(version: Version, trace: &mut Trace, fields: &ByteRecord) -> Result<
     }
 }
 
-// The end of version 1 tells the number of steps.
+/// The end of version 1 tells the number of steps.
 fn check_count(fields: &ByteRecord, steps: u64) -> Result<(), TextError>
     ensures { MatchResult result
         (λ _. IsTrue (bytes_eq (field_of (fields_of fields.now) 1) (decimal steps)))
@@ -279,7 +279,7 @@ fn check_count(fields: &ByteRecord, steps: u64) -> Result<(), TextError>
     Ok(())
 }
 
-// The end of version 2 tells the last tick.
+/// The end of version 2 tells the last tick.
 fn end_in(trace: &mut Trace, last: &[u8]) -> Result<(), TextError>
     ensures { MatchResult result
         (λ _. ended Version.Two trace.old last.now ≡ Ok (Stage.Ended trace.new))

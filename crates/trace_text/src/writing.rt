@@ -76,7 +76,7 @@ pub fn trace_text_2_of(alloc: Global, trace: &Trace) -> Result<Vec<u8>, AllocErr
     trace_text_of(alloc, Version::Two, trace)
 }
 
-// Writes the text of a trace in a version.
+/// Writes the text of a trace in a version.
 fn write_version<W: Write>(
     alloc: Global,
     version: Version,
@@ -96,7 +96,7 @@ fn write_version<W: Write>(
     write_text(&text, writer)
 }
 
-// The text of a trace in a version.
+/// The text of a trace in a version.
 fn trace_text_of(alloc: Global, version: Version, trace: &Trace) -> Result<Vec<u8>, AllocError>
     ensures text { IfOk result (λ text. text.items ≡ version_text version trace.now) }
     ensures sound { IsTextTrace trace.now }
@@ -114,7 +114,7 @@ fn trace_text_of(alloc: Global, version: Version, trace: &Trace) -> Result<Vec<u
     text_written(writer)
 }
 
-// `dls-trace,V,N,t`
+/// `dls-trace,V,N,t`
 fn write_header(
     alloc: Global,
     writer: &mut Writer<Vec<u8>>,
@@ -150,7 +150,7 @@ fn version_field<'a>(version: Version) -> &'a [u8]
     }
 }
 
-// `init,v1,..,vN`
+/// `init,v1,..,vN`
 fn init_fields(alloc: Global, values: &[u64]) -> Result<ByteRecord, AllocError>
     ensures fields { IfOk result (λ fields. fields_of fields ≡ init_record values.now) }
     ensures plain { IfOk result (λ fields. ArePlain (fields_of fields)) }
@@ -164,7 +164,7 @@ fn init_fields(alloc: Global, values: &[u64]) -> Result<ByteRecord, AllocError>
     Ok(fields)
 }
 
-// A record for each step.
+/// A record for each step.
 fn write_steps(
     alloc: Global,
     writer: &mut Writer<Vec<u8>>,
@@ -186,7 +186,7 @@ fn write_steps(
     Ok(())
 }
 
-// `no,proc,op,arg`, in version 2 `no,tick,proc,op,arg`
+/// `no,proc,op,arg`, in version 2 `no,tick,proc,op,arg`
 fn write_step(
     writer: &mut Writer<Vec<u8>>,
     version: Version,
@@ -227,7 +227,7 @@ fn op_text(act: &Act) -> &[u8]
     }
 }
 
-// Puts the argument of a step in the place of what the text was.
+/// Puts the argument of a step in the place of what the text was.
 fn put_arg(text: &mut String, act: &Act) -> Result<(), AllocError>
     ensures text { OnOk result (string_bytes text.new ≡ arg_text act.now) }
     ensures plain { OnOk result (IsPlain (string_bytes text.new)) }
@@ -239,7 +239,7 @@ fn put_arg(text: &mut String, act: &Act) -> Result<(), AllocError>
     }
 }
 
-// Puts ids, with one space between them, into a text that is empty.
+/// Puts ids, with one space between them, into a text that is empty.
 fn put_ids(text: &mut String, ids: &[u64]) -> Result<(), AllocError>
     requires { string_bytes text.old ≡ [] }
     ensures text { OnOk result (string_bytes text.new ≡ join_with_byte 32 (map decimal ids.now)) }
@@ -257,7 +257,7 @@ fn put_ids(text: &mut String, ids: &[u64]) -> Result<(), AllocError>
     Ok(())
 }
 
-// `end,L`
+/// `end,L`
 fn write_end(alloc: Global, writer: &mut Writer<Vec<u8>>, last: u64) -> Result<(), AllocError>
     requires { IsReady writer.old }
     ensures ready { OnOk result (IsReady writer.new) }
