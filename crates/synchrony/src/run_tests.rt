@@ -15,12 +15,13 @@ use text_commands::{Fault, run_replay, status};
 use trace_text::failing_devices::{FailingWriter, WriteFailure};
 use trace_text::{Counting, read_trace};
 
-/// A gate that lets in everybody but 2.
-struct HoldsTwo;
+/// A gate that lets in everybody but one.
+#[derive(Clone, Copy)]
+struct Holds(u64);
 
-impl Gate for HoldsTwo {
+impl Gate for Holds {
     fn enter(&self, who: u64) -> bool {
-        who != 2
+        who != self.0
     }
 }
 
@@ -119,11 +120,15 @@ fn a_full_row_of_nodes_runs(rt: HostRuntime) -> Result<(), Fail> {
     Ok(())
 }
 
+/// Whichever thread is held, the first or the last, the run tells of it.
 #[test]
 fn a_thread_is_held(rt: HostRuntime) -> Result<(), Fail> {
-    let mut writer = FailingWriter::new(rt.alloc(), 10, WriteFailure::Never);
-    let ended = run_two(&rt, rt.alloc(), &HoldsTwo, &mut writer);
-    assert!(rt; ended.is_err_and(|fault| status(&fault) == 8) && writer.taken().is_empty());
+    for held in [1, 2] {
+        let mut writer = FailingWriter::new(rt.alloc(), 10, WriteFailure::Never);
+        let ended = run_two(&rt, rt.alloc(), &Holds(held), &mut writer);
+        let told = ended.is_err_and(|fault| status(&fault) == 8);
+        assert!(rt; told && writer.taken().is_empty(), "{held}");
+    }
     Ok(())
 }
 
