@@ -13,9 +13,8 @@ use std::sync::Wait;
 use step_buffers::{Done, Move, StepError};
 
 impl Recorder {
-    /// Makes one step from a seat, and lends what was done from the seat's list.
-    ///
-    /// `Seat::step` does the same, and says what the seat is afterwards.
+    /// Makes one step from a seat as `Seat::step` does, and lends what was done. No clause says here what the seat is
+    /// afterwards: use `Seat::step` where that is asked.
     pub fn step<'a, R: Wait>(
         &self,
         rt: &R,
