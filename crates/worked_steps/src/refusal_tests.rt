@@ -16,12 +16,6 @@ fn refuses(alloc: Global, world: &mut World, p: u64, step: Move, why: StepError)
     }
 }
 
-// Whether 1 may not take these ids, for this reason.
-fn refuses_ids(alloc: Global, world: &mut World, ids: &[u64], why: StepError) -> bool {
-    let take = Take::These(ids);
-    refuses(alloc, world, 1, Move::Receive { take, ends: false }, why)
-}
-
 // Whether 1 takes messages in the step of this number, and then waits for these.
 fn leaves(
     rt: &impl Abort,
@@ -47,37 +41,62 @@ const BOTH_SEND: [Row; 2] = [(1, S, 0, [0; 3]), (2, S, 0, [0; 3])];
 
 const ONE_SENDS: [Row; 1] = [(1, S, 0, [0; 3])];
 
+// Receives of all that waits, or of these messages, that end a round or don't.
+const END_ALL: Move = Move::Receive {
+    take: Take::All,
+    ends: true,
+};
+
+const END_SEVEN: Move = Move::Receive {
+    take: Take::These(&[7]),
+    ends: true,
+};
+
+const TAKE_TWO: Move = Move::Receive {
+    take: Take::These(&[2]),
+    ends: false,
+};
+
+const TAKE_TWICE: Move = Move::Receive {
+    take: Take::These(&[1, 1]),
+    ends: false,
+};
+
+// What is refused of a processor after these steps, why, and for which messages 1 waits.
+const REFUSALS: &[(&[Row], u64, Move, StepError, &[u64])] = &[
+    (&[], 1, END_ALL, StepError::StillSending, &[]),
+    (&ONE_SENDS, 2, END_SEVEN, StepError::StillSending, &[1]),
+    (&ONE_SENDS, 3, END_SEVEN, StepError::BadProc, &[1]),
+    (&ONE_SENDS, 1, Move::Send, StepError::NothingToSend, &[1]),
+    (&ONE_SENDS, 1, TAKE_TWO, StepError::NotInBuffer(2), &[1]),
+    (&ONE_SENDS, 1, TAKE_TWICE, StepError::IdsNotRising, &[1]),
+];
+
 #[test]
 fn refuses_in_order(rt: HostRuntime) -> Result<(), Fail> {
     let alloc = rt.alloc();
-    let mut world = ran(&rt, alloc, 0, &[5, 7], &ONE_SENDS)?;
-    let ends = Move::Receive {
-        take: Take::These(&[7]),
-        ends: true,
-    };
-    assert!(rt; refuses(alloc, &mut world, 2, ends, StepError::StillSending));
-    assert!(rt; refuses(alloc, &mut world, 3, ends, StepError::BadProc));
-    assert!(rt; refuses(alloc, &mut world, 1, Move::Send, StepError::NothingToSend));
+    for &(rows, p, step, why, waiting) in REFUSALS {
+        let mut world = ran(&rt, alloc, 0, &[5, 7], &[rows])?;
+        assert!(rt; refuses(alloc, &mut world, p, step, why), "{why:?}");
+        assert!(rt; waits_for(&rt, &world, waiting), "{why:?}");
+    }
     Ok(())
 }
 
-#[test]
-fn only_waiting_messages_are_taken(rt: HostRuntime) -> Result<(), Fail> {
-    let alloc = rt.alloc();
-    let mut world = ran(&rt, alloc, 0, &[5, 7], &ONE_SENDS)?;
-    assert!(rt; refuses_ids(alloc, &mut world, &[2], StepError::NotInBuffer(2)));
-    assert!(rt; refuses_ids(alloc, &mut world, &[1, 1], StepError::IdsNotRising));
-    assert!(rt; waits_for(&rt, &world, &[1]));
-    Ok(())
-}
+// What 1 takes one after the other of messages 1 and 2, in the step of which number, and what it leaves.
+const TAKES: &[(Take, u64, &[u64])] = &[
+    (Take::Oldest(1), 3, &[2]),
+    (Take::Nothing, 4, &[2]),
+    (Take::Oldest(5), 5, &[]),
+];
 
 #[test]
 fn the_oldest_are_taken(rt: HostRuntime) -> Result<(), Fail> {
     let alloc = rt.alloc();
-    let mut world = ran(&rt, alloc, 0, &[5, 7], &BOTH_SEND)?;
-    assert!(rt; leaves(&rt, alloc, &mut world, Take::Oldest(1), 3, &[2]));
-    assert!(rt; leaves(&rt, alloc, &mut world, Take::Nothing, 4, &[2]));
-    assert!(rt; leaves(&rt, alloc, &mut world, Take::Oldest(5), 5, &[]));
+    let mut world = ran(&rt, alloc, 0, &[5, 7], &[&BOTH_SEND])?;
+    for &(take, no, left) in TAKES {
+        assert!(rt; leaves(&rt, alloc, &mut world, take, no, left), "step {no}");
+    }
     Ok(())
 }
 

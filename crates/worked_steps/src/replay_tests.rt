@@ -1,7 +1,7 @@
 //! Traces that are made again by a World, and traces that aren't runs.
 
 use crate::long_scripts::{DECIDES_SEVEN, LOST_LOCK, NO_PROPOSAL};
-use crate::scripts::{E, R, Row, S, all_stand, recorded, records};
+use crate::scripts::{E, R, Row, S, Stand, all_stand, recorded, records};
 use std::alloc::Global;
 use std::process::Abort;
 use std::test::Fail;
@@ -9,12 +9,7 @@ use step_buffers::{Move, ReplayError, StepError, replay};
 use step_trace::{Act, MAX_STEPS, MessageIds, Step, Trace};
 
 // Whether a World makes all steps of a trace, and its processors then stand so.
-fn replays(
-    rt: &impl Abort,
-    alloc: Global,
-    trace: &Trace,
-    rows: &[(u64, u64, Option<u64>)],
-) -> bool {
+fn replays(rt: &impl Abort, alloc: Global, trace: &Trace, rows: &[Stand]) -> bool {
     match replay(alloc, trace) {
         Ok(world) => world.trace().len() == trace.len() && all_stand(rt, &world, rows),
         Err(_) => false,
@@ -32,48 +27,43 @@ fn is_off_at(alloc: Global, trace: &Trace, no: u64) -> bool {
 // Whether this step is the first that isn't one of a run, after so many of the script that decides 7.
 fn is_off_after(rt: &impl Abort, alloc: Global, steps: usize, row: Row) -> Result<bool, Fail> {
     assert!(rt; steps <= DECIDES_SEVEN.len());
-    let mut trace = recorded(rt, alloc, 1, &[5, 7, 7], &DECIDES_SEVEN[..steps])?;
+    let mut trace = recorded(rt, alloc, 1, &[5, 7, 7], &[&DECIDES_SEVEN[..steps]])?;
     let last = [row];
     assert!(rt; records(rt, alloc, &mut trace, &last)?);
     Ok(is_off_at(alloc, &trace, steps as u64 + 1))
 }
 
-#[test]
-fn a_run_that_decides_is_made_again(rt: HostRuntime) -> Result<(), Fail> {
-    let alloc = rt.alloc();
-    let trace = recorded(&rt, alloc, 1, &[5, 7, 7], &DECIDES_SEVEN)?;
-    assert!(rt;
-        replays(
-            &rt,
-            alloc,
-            &trace,
-            &[(1, 4, Some(7)), (2, 4, None), (3, 4, None)]
-        )
-    );
-    Ok(())
-}
+// A run: how many may be faulty and the initial values, its steps, and how its processors then stand.
+type Run = (
+    u64,
+    &'static [u64],
+    &'static [&'static [Row]],
+    &'static [Stand],
+);
+
+const RUNS: &[Run] = &[
+    (0, &[5, 7], &[], &[(1, 1, None), (2, 1, None)]),
+    (
+        1,
+        &[5, 7, 7],
+        &[&DECIDES_SEVEN],
+        &[(1, 4, Some(7)), (2, 4, None), (3, 4, None)],
+    ),
+    (
+        1,
+        &[5, 7, 9],
+        &[&NO_PROPOSAL, &LOST_LOCK],
+        &[(1, 8, None), (2, 8, Some(5)), (3, 8, None)],
+    ),
+];
 
 #[test]
-fn a_run_that_loses_a_lock_is_made_again(rt: HostRuntime) -> Result<(), Fail> {
+fn runs_are_made_again(rt: HostRuntime) -> Result<(), Fail> {
     let alloc = rt.alloc();
-    let mut trace = recorded(&rt, alloc, 1, &[5, 7, 9], &NO_PROPOSAL)?;
-    assert!(rt; records(&rt, alloc, &mut trace, &LOST_LOCK)?);
-    assert!(rt;
-        replays(
-            &rt,
-            alloc,
-            &trace,
-            &[(1, 8, None), (2, 8, Some(5)), (3, 8, None)]
-        )
-    );
-    Ok(())
-}
-
-#[test]
-fn no_steps_are_a_run(rt: HostRuntime) -> Result<(), Fail> {
-    let alloc = rt.alloc();
-    let trace = recorded(&rt, alloc, 0, &[5, 7], &[])?;
-    assert!(rt; replays(&rt, alloc, &trace, &[(1, 1, None), (2, 1, None)]));
+    for &(t, init, scripts, stands) in RUNS {
+        let trace = recorded(&rt, alloc, t, init, scripts)?;
+        assert!(rt; replays(&rt, alloc, &trace, stands), "{stands:?}");
+    }
     Ok(())
 }
 
@@ -87,18 +77,27 @@ const ONE_MISS: [Row; 3] = [
 #[test]
 fn one_miss_is_no_run(rt: HostRuntime) -> Result<(), Fail> {
     let alloc = rt.alloc();
-    let trace = recorded(&rt, alloc, 0, &[5, 7], &ONE_MISS)?;
+    let trace = recorded(&rt, alloc, 0, &[5, 7], &[&ONE_MISS])?;
     assert!(rt; is_off_at(alloc, &trace, 1));
     Ok(())
 }
 
-// A destination passed over, a Send of who has nothing to send, and an end while messages are still to be sent.
+// After so many steps of the script: a destination passed over, a Send of who has nothing to send, and an end while
+// messages are still to be sent.
+const OFF: &[(usize, Row)] = &[
+    (7, (1, S, 1, [3, 0, 0])),
+    (8, (2, S, 1, [1, 0, 0])),
+    (6, (1, E, 0, [0; 3])),
+];
+
 #[test]
 fn a_later_step_is_no_run(rt: HostRuntime) -> Result<(), Fail> {
-    let alloc = rt.alloc();
-    assert!(rt; is_off_after(&rt, alloc, 7, (1, S, 1, [3, 0, 0]))?);
-    assert!(rt; is_off_after(&rt, alloc, 8, (2, S, 1, [1, 0, 0]))?);
-    assert!(rt; is_off_after(&rt, alloc, 6, (1, E, 0, [0; 3]))?);
+    for &(steps, row) in OFF {
+        assert!(rt;
+            is_off_after(&rt, rt.alloc(), steps, row)?,
+            "after {steps} steps"
+        );
+    }
     Ok(())
 }
 
@@ -116,7 +115,7 @@ fn next_number(alloc: Global, trace: &Trace) -> Option<u64> {
 #[test]
 fn a_run_goes_on(rt: HostRuntime) -> Result<(), Fail> {
     let alloc = rt.alloc();
-    let trace = recorded(&rt, alloc, 1, &[5, 7, 7], &DECIDES_SEVEN)?;
+    let trace = recorded(&rt, alloc, 1, &[5, 7, 7], &[&DECIDES_SEVEN])?;
     assert!(rt; next_number(alloc, &trace) == Some(19));
     Ok(())
 }
@@ -136,17 +135,21 @@ fn idle_run(rt: &impl Abort, alloc: Global, count: usize) -> Result<Trace, Fail>
     Ok(trace)
 }
 
-// Whether the World of a trace may make no further step.
+// Whether the World of a trace is copied, and the copy may make no further step.
 fn is_full(alloc: Global, trace: &Trace) -> bool {
-    let Ok(mut world) = replay(alloc, trace) else {
+    let Ok(world) = replay(alloc, trace) else {
         return false;
     };
-    match world.step(alloc, 1, Move::Send) {
+    let Ok(mut copy) = world.copy(alloc) else {
+        return false;
+    };
+    match copy.step(alloc, 1, Move::Send) {
         Ok(_) => false,
-        Err(why) => why == StepError::Full,
+        Err(why) => why == StepError::Full && copy.trace().len() == trace.len(),
     }
 }
 
+// No clause refuses a replay or a copy that gives up past a size for want of memory: these are of the greatest.
 #[test]
 fn the_longest_trace_is_made_again(rt: HostRuntime) -> Result<(), Fail> {
     let alloc = rt.alloc();

@@ -17,6 +17,9 @@ pub const E: u64 = 2;
 /// recorded has its destination in their place.
 pub type Row = (u64, u64, usize, [u64; 3]);
 
+/// How a processor stands: in this round, with this decision.
+pub type Stand = (u64, u64, Option<u64>);
+
 /// The World of this configuration, which may make a hundred steps.
 pub fn world(alloc: Global, t: u64, init: &[u64]) -> Result<World, Fail> {
     let init = Vec::from_slice(alloc, init)?;
@@ -57,16 +60,18 @@ pub fn advances(rt: &impl Abort, alloc: Global, world: &mut World, rows: &[Row])
     true
 }
 
-/// The World of this configuration after these steps.
+/// The World of this configuration after the steps of these scripts.
 pub fn ran(
     rt: &impl Abort,
     alloc: Global,
     t: u64,
     init: &[u64],
-    rows: &[Row],
+    scripts: &[&[Row]],
 ) -> Result<World, Fail> {
     let mut world = world(alloc, t, init)?;
-    assert!(rt; makes(rt, alloc, &mut world, rows));
+    for rows in scripts {
+        assert!(rt; makes(rt, alloc, &mut world, *rows));
+    }
     Ok(world)
 }
 
@@ -94,17 +99,19 @@ pub fn records(
     Ok(true)
 }
 
-/// The trace of this configuration with these steps.
+/// The trace of this configuration with the steps of these scripts.
 pub fn recorded(
     rt: &impl Abort,
     alloc: Global,
     t: u64,
     init: &[u64],
-    rows: &[Row],
+    scripts: &[&[Row]],
 ) -> Result<Trace, Fail> {
     let init = Vec::from_slice(alloc, init)?;
     let mut trace = Trace::new(alloc, Config::new(init.len() as u64, t, init)?);
-    assert!(rt; records(rt, alloc, &mut trace, rows)?);
+    for rows in scripts {
+        assert!(rt; records(rt, alloc, &mut trace, *rows)?);
+    }
     Ok(trace)
 }
 
@@ -121,8 +128,8 @@ pub fn copy_holds(
     Ok(makes(rt, alloc, &mut copy, rows) && holds(rt, &copy, p, proper, &[]))
 }
 
-/// Whether each of these processors is in this round, with this decision.
-pub fn all_stand(rt: &impl Abort, world: &World, rows: &[(u64, u64, Option<u64>)]) -> bool {
+/// Whether each of these processors stands so.
+pub fn all_stand(rt: &impl Abort, world: &World, rows: &[Stand]) -> bool {
     for (p, round, decision) in rows {
         assert!(rt; world.trace().config().is_processor(*p));
         if world.round(*p) != *round || world.decision(*p) != *decision {
