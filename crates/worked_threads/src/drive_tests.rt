@@ -4,9 +4,10 @@ use crate::seats::{did, opened};
 use locked_recorder::{DriveError, DriveStop, RecordError, Recorder, Seat};
 use std::alloc::Global;
 use std::sync::Wait;
+use std::sync::atomic::{AtomicU64, Ordering};
 use std::test::Fail;
 use step_buffers::{Done, StepError};
-use step_trace::{Act, Gate, OpenGate};
+use step_trace::{Act, Gate};
 
 // A gate that holds everybody back.
 struct ClosedGate;
@@ -14,6 +15,19 @@ struct ClosedGate;
 impl Gate for ClosedGate {
     fn enter(&self, _who: u64) -> bool {
         false
+    }
+}
+
+// A gate that lets everybody in, and counts how often it is entered.
+#[derive(Drop)]
+struct CountingGate {
+    entered: AtomicU64,
+}
+
+impl Gate for CountingGate {
+    fn enter(&self, _who: u64) -> bool {
+        self.entered.fetch_add(1, Ordering::SeqCst);
+        true
     }
 }
 
@@ -57,13 +71,18 @@ fn went_round(seat: &Seat) -> bool {
         && received(&done[2], true, &[])
 }
 
+// No clause counts how often a gate is entered: this refuses a drive that enters it before each step.
 #[test]
 fn a_drive_goes_round(rt: HostRuntime) -> Result<(), Fail> {
     let alloc = rt.alloc();
+    let gate = CountingGate {
+        entered: AtomicU64::new(0),
+    };
     let (recorder, mut seats) = opened(&rt, alloc, 1, 0, &[5, 7], 3)?;
     assert!(rt; !seats.is_empty());
     let full = DriveStop::Record(RecordError::Step(StepError::Full));
-    assert!(rt; stops(&rt, alloc, &recorder, &mut seats[0], &OpenGate, 3, full));
+    assert!(rt; stops(&rt, alloc, &recorder, &mut seats[0], &gate, 3, full));
+    assert!(rt; gate.entered.load(Ordering::SeqCst) == 1);
     assert!(rt; went_round(&seats[0]));
     Ok(())
 }

@@ -7,10 +7,14 @@ mod decision_tests;
 #[cfg(test)]
 mod drive_tests;
 #[cfg(test)]
+mod full_size_tests;
+#[cfg(test)]
 mod prefix_tests;
 #[cfg(test)]
 mod refusal_tests;
 #[cfg(test)]
 mod seats;
+#[cfg(test)]
+mod step_tests;
 #[cfg(test)]
 mod stranger_tests;

@@ -1,6 +1,6 @@
 //! Prefixes that are shown while three threads go on.
 
-use crate::seats::opened;
+use crate::seats::{opened, waits};
 use locked_recorder::{Recorder, Seat, View};
 use std::alloc::Global;
 use std::slice::from_ref;
@@ -117,5 +117,31 @@ fn prefixes_grow(rt: HostRuntime) -> Result<(), Fail> {
     let mut view = recorder.view();
     assert!(rt; all_shown(&rt, alloc, &recorder, seats.as_mut_slice(), &mut view));
     assert!(rt; fits(&rt, alloc, &recorder, &seats, from_ref(&view)));
+    Ok(())
+}
+
+// Whether a seat is shown so many steps.
+fn shows_mine<R: Wait>(
+    rt: &R,
+    alloc: Global,
+    recorder: &Recorder,
+    seat: &Seat,
+    steps: usize,
+) -> bool {
+    match recorder.prefix_mine(rt, alloc, seat) {
+        Ok(trace) => trace.len() == steps,
+        Err(_) => false,
+    }
+}
+
+// ForeignSeat shows nothing: this refuses it as the answer to a seat from which nothing was done.
+#[test]
+fn an_idle_seat_is_shown_what_others_did(rt: HostRuntime) -> Result<(), Fail> {
+    let alloc = rt.alloc();
+    let (recorder, mut seats) = opened(&rt, alloc, 1, 0, &[5, 7], 100)?;
+    assert!(rt; seats.len() == 2);
+    assert!(rt; shows_mine(&rt, alloc, &recorder, &seats[1], 0));
+    assert!(rt; waits(&rt, alloc, &recorder, &mut seats[0], 3));
+    assert!(rt; shows_mine(&rt, alloc, &recorder, &seats[1], 3));
     Ok(())
 }

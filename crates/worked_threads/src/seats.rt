@@ -47,3 +47,17 @@ pub fn waits<R: Wait>(
 pub fn did(seat: &Seat, count: usize) -> bool {
     seat.done().len() == count
 }
+
+/// Whether an audit of the seats finds so many steps.
+pub fn is_audited<R: Wait>(
+    rt: &R,
+    alloc: Global,
+    recorder: &Recorder,
+    seats: &[Seat],
+    steps: usize,
+) -> bool {
+    match recorder.audit(rt, alloc, seats, &[]) {
+        Ok(world) => world.trace().len() == steps,
+        Err(_) => false,
+    }
+}

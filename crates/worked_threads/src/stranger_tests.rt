@@ -19,11 +19,11 @@ fn stranger(
     opened(rt, alloc, tag, 0, &[5, value], 100)
 }
 
-// The seats of a recorder with tag 1, from the first of which one step was made.
+// The seats of a recorder with tag 1, from the first of which three steps were made.
 fn stepped_seats<R: Wait + Abort>(rt: &R, alloc: Global) -> Result<Vec<Seat>, Fail> {
     let (recorder, mut seats) = stranger(rt, alloc, 1, 7)?;
     assert!(rt; seats.len() == 2);
-    assert!(rt; waits(rt, alloc, &recorder, &mut seats[0], 1));
+    assert!(rt; waits(rt, alloc, &recorder, &mut seats[0], 3));
     Ok(seats)
 }
 
@@ -96,15 +96,18 @@ fn goes_another_way<R: Wait + Abort>(rt: &R, alloc: Global, view: &mut View) -> 
     Ok(goes)
 }
 
-// Whether a stranger shows no prefix to the seat, for this reason.
+// Whether a stranger, from whose first seat so many steps were made, shows no prefix to the seat, for this reason.
 fn refuses_mine<R: Wait + Abort>(
     rt: &R,
     alloc: Global,
     tag: u64,
+    steps: u64,
     seat: &Seat,
     why: MineError,
 ) -> Result<bool, Fail> {
-    let (recorder, _) = stranger(rt, alloc, tag, 7)?;
+    let (recorder, mut seats) = stranger(rt, alloc, tag, 7)?;
+    assert!(rt; !seats.is_empty());
+    assert!(rt; waits(rt, alloc, &recorder, &mut seats[0], steps));
     Ok(match recorder.prefix_mine(rt, alloc, seat) {
         Ok(_) => false,
         Err(e) => e == why,
@@ -169,12 +172,17 @@ fn a_view_of_another_configuration(rt: HostRuntime) -> Result<(), Fail> {
     Ok(())
 }
 
+// After so many of the same steps of its own, the least that a stranger misses of the three.
+const LEAST_MISSING: &[(u64, u64)] = &[(0, 1), (1, 2), (2, 3)];
+
 #[test]
 fn seats_of_another_recorder(rt: HostRuntime) -> Result<(), Fail> {
     let alloc = rt.alloc();
     let seats = stepped_seats(&rt, alloc)?;
     assert!(rt; seats.len() == 2);
-    assert!(rt; refuses_mine(&rt, alloc, 1, &seats[0], MineError::NotMine(1))?);
+    for &(steps, least) in LEAST_MISSING {
+        assert!(rt; refuses_mine(&rt, alloc, 1, steps, &seats[0], MineError::NotMine(least))?);
+    }
     assert!(rt; refuses_seats(&rt, alloc, 1, &seats, AuditError::SeatDiffers(1))?);
     assert!(rt; refuses_seats(&rt, alloc, 1, &seats[..1], AuditError::SeatCount)?);
     Ok(())
@@ -186,7 +194,7 @@ fn seats_of_another_tag(rt: HostRuntime) -> Result<(), Fail> {
     let mut seats = stepped_seats(&rt, alloc)?;
     assert!(rt; seats.len() == 2);
     assert!(rt; is_foreign(&rt, alloc, &mut seats[0])?);
-    assert!(rt; refuses_mine(&rt, alloc, 2, &seats[0], MineError::ForeignSeat)?);
+    assert!(rt; refuses_mine(&rt, alloc, 2, 0, &seats[0], MineError::ForeignSeat)?);
     assert!(rt; refuses_seats(&rt, alloc, 2, &seats, AuditError::ForeignSeat)?);
     Ok(())
 }

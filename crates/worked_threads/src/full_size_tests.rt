@@ -1,0 +1,67 @@
+//! Recorders of the greatest size: no clause refuses a body that gives up past a size for want of memory.
+
+use crate::seats::{is_audited, opened, waits};
+use locked_recorder::{Recorder, Seat};
+use std::alloc::Global;
+use std::sync::Wait;
+use std::test::Fail;
+use step_trace::OpenGate;
+
+// Whether one step is made from each seat.
+fn all_wait<R: Wait>(rt: &R, alloc: Global, recorder: &Recorder, seats: &mut [Seat]) -> bool {
+    for seat in seats {
+        if !waits(rt, alloc, recorder, seat, 1) {
+            return false;
+        }
+    }
+    true
+}
+
+// Whether so many steps are made from a seat, in one round.
+fn drives<R: Wait>(
+    rt: &R,
+    alloc: Global,
+    recorder: &Recorder,
+    seat: &mut Seat,
+    steps: u64,
+) -> bool {
+    recorder.drive(rt, alloc, seat, &OpenGate, 1_000_000, steps).is_ok()
+}
+
+// Whether both audits find so many steps.
+fn is_audited_twice<R: Wait>(
+    rt: &R,
+    alloc: Global,
+    recorder: Recorder,
+    seats: &[Seat],
+    steps: usize,
+) -> bool {
+    if !is_audited(rt, alloc, &recorder, seats, steps) {
+        return false;
+    }
+    match recorder.into_audited(alloc, seats, &[]) {
+        Ok(world) => world.trace().len() == steps,
+        Err(_) => false,
+    }
+}
+
+#[test]
+fn sixty_four_seats_are_audited(rt: HostRuntime) -> Result<(), Fail> {
+    let alloc = rt.alloc();
+    let (recorder, mut seats) = opened(&rt, alloc, 1, 31, &[7; 64], 64)?;
+    assert!(rt; all_wait(&rt, alloc, &recorder, &mut seats));
+    assert!(rt; is_audited_twice(&rt, alloc, recorder, &seats, 64));
+    Ok(())
+}
+
+// No clause says under which limit the World of a new recorder is: this refuses one of fewer steps than it was opened
+// with.
+#[test]
+fn a_million_steps_are_driven(rt: HostRuntime) -> Result<(), Fail> {
+    let alloc = rt.alloc();
+    let (recorder, mut seats) = opened(&rt, alloc, 1, 0, &[5, 7], 1_000_000)?;
+    assert!(rt; !seats.is_empty());
+    assert!(rt; drives(&rt, alloc, &recorder, &mut seats[0], 1_000_000));
+    assert!(rt; is_audited_twice(&rt, alloc, recorder, &seats, 1_000_000));
+    Ok(())
+}
