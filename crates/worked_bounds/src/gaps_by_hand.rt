@@ -39,10 +39,14 @@ pub(crate) fn misses_at(trace: &Trace, set: ProcSet, sent: u64, missed: Option<u
     set.within(trace.config().n()) && last_miss(trace, set, sent) == want
 }
 
+const ONE_MISS: &[(u64, u64, &[u64])] = &[(1, 2, &[]), (2, 0, &[]), (2, 0, &[1])];
+
+const ITS_GAPS: &[(u64, u64, u64)] = &[(1, 2, 3), (2, 1, 1)];
+
 #[test]
 fn one_miss(rt: HostRuntime) -> Result<(), Fail> {
-    let trace = trace_of(rt.alloc(), 2, &[(1, 2, &[]), (2, 0, &[]), (2, 0, &[1])])?;
-    assert!(rt; lists_gaps(rt.alloc(), &trace, "1,2", &[(1, 2, 3), (2, 1, 1)])?);
+    let trace = trace_of(rt.alloc(), 2, ONE_MISS)?;
+    assert!(rt; lists_gaps(rt.alloc(), &trace, "1,2", ITS_GAPS)?);
     assert!(rt; misses_at(&trace, both(), 1, Some(2)));
     Ok(())
 }

@@ -3,7 +3,7 @@
 use crate::traces::{empty_trace, step_of, trace_of};
 use std::alloc::{AllocError, Global};
 use std::test::Fail;
-use step_trace::{Act, Config, ConfigError, PushError, Trace};
+use step_trace::{Act, BadTick, Config, ConfigError, MAX_TICKS, PushError, Trace};
 
 // The reason against a configuration with so many initial values.
 fn reason(alloc: Global, n: u64, t: u64, values: usize) -> Result<Option<ConfigError>, AllocError> {
@@ -63,11 +63,12 @@ fn sends_to(act: &Act) -> u64 {
     }
 }
 
+const ONE_MISS: &[(u64, u64, &[u64])] = &[(1, 2, &[]), (2, 0, &[]), (2, 0, &[1])];
+
 #[test]
 fn one_miss(rt: HostRuntime) -> Result<(), Fail> {
-    let steps: [(u64, u64, &[u64]); 3] = [(1, 2, &[]), (2, 0, &[]), (2, 0, &[1])];
-    let trace = trace_of(rt.alloc(), 2, &steps)?;
-    assert!(rt; has_steps(&trace, &steps));
+    let trace = trace_of(rt.alloc(), 2, ONE_MISS)?;
+    assert!(rt; has_steps(&trace, ONE_MISS));
     assert!(rt; trace.config().n() == 2 && trace.step(4).is_none());
     Ok(())
 }
@@ -118,5 +119,46 @@ fn refused_and_taken_steps(rt: HostRuntime) -> Result<(), Fail> {
     for &(step, why) in ANSWERS {
         assert!(rt; answers(rt.alloc(), &mut trace, step, why)?, "{step:?}");
     }
+    Ok(())
+}
+
+// Whether a Receive of nothing is taken in this tick, or refused so.
+fn answers_in(
+    alloc: Global,
+    trace: &mut Trace,
+    tick: u64,
+    why: Option<PushError>,
+) -> Result<bool, AllocError> {
+    let answer = trace.push_at(tick, step_of(alloc, 1, 0, &[])?).err();
+    Ok(answer == why && trace.last_tick() == MAX_TICKS)
+}
+
+// What a trace with no steps whose last tick is 1,000,000 says to one.
+const IN_TICKS: &[(u64, Option<PushError>)] = &[
+    (999_999, Some(PushError::BadTick)),
+    (1_000_001, Some(PushError::BadTick)),
+    (1_000_000, None),
+];
+
+#[test]
+fn steps_in_the_greatest_tick(rt: HostRuntime) -> Result<(), Fail> {
+    let mut trace = empty_trace(rt.alloc(), 2)?;
+    trace.idle_to(1_000_000)?;
+    for &(tick, why) in IN_TICKS {
+        assert!(rt; answers_in(rt.alloc(), &mut trace, tick, why)?, "{tick}");
+    }
+    Ok(())
+}
+
+// There is no tick after the greatest, and none before it is left.
+#[test]
+fn the_greatest_tick_is_the_last(rt: HostRuntime) -> Result<(), Fail> {
+    let mut trace = empty_trace(rt.alloc(), 2)?;
+    trace.idle_to(1_000_000)?;
+    assert!(rt; answers(rt.alloc(), &mut trace, (1, 0, &[]), Some(PushError::Full))?);
+    for tick in [0, 999_999, 1_000_001] {
+        assert!(rt; trace.idle_to(tick) == Err(BadTick), "{tick}");
+    }
+    assert!(rt; trace.idle_to(1_000_000).is_ok() && trace.last_tick() == 1_000_000);
     Ok(())
 }

@@ -71,11 +71,12 @@ fn alternation(alloc: Global, count: u64) -> Result<Trace, Fail> {
     Ok(trace)
 }
 
+const ALTERNATION: &[[u64; 7]] = &[[1, 0, 0, 2, 1, 600, 600]; 600];
+
 #[test]
 fn silent_alternation(rt: HostRuntime) -> Result<(), Fail> {
     let trace = alternation(rt.alloc(), 600)?;
-    let levels = [[1, 0, 0, 2, 1, 600, 600]; 600];
-    assert!(rt; climbs(rt.alloc(), &trace, "1,2", &levels, &[1])?);
+    assert!(rt; climbs(rt.alloc(), &trace, "1,2", ALTERNATION, &[1])?);
     Ok(())
 }
 

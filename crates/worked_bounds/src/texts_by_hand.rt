@@ -80,7 +80,9 @@ fn prints(alloc: Global, why: PushError, text: &str) -> Result<bool, AllocError>
 
 const REASONS: &[(PushError, &str)] = &[
     (PushError::Full, "trace is full"),
+    (PushError::BadTick, "bad tick"),
     (PushError::BadProc, "no such processor"),
+    (PushError::ProcOrder, "processors do not rise"),
     (PushError::BadDest, "no such destination"),
     (PushError::IdsNotRising, "ids do not rise"),
     (PushError::UnknownMessage(2), "message 2 unknown"),
@@ -88,6 +90,7 @@ const REASONS: &[(PushError, &str)] = &[
         PushError::NotAddressed(3),
         "message 3 is for another processor",
     ),
+    (PushError::SameTick(4), "message 4 was sent in this tick"),
     (PushError::Redelivered(1), "message 1 was received before"),
     (PushError::Memory, "out of memory"),
 ];
