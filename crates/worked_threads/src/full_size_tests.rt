@@ -25,7 +25,9 @@ fn drives<R: Wait>(
     seat: &mut Seat,
     steps: u64,
 ) -> bool {
-    recorder.drive(rt, alloc, seat, &OpenGate, 1_000_000, steps).is_ok()
+    recorder
+        .drive(rt, alloc, seat, &OpenGate, 1_000_000, steps)
+        .is_ok()
 }
 
 // Whether both audits find so many steps.
