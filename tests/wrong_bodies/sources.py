@@ -80,9 +80,16 @@ def lines_of(text):
 
 
 def end_of_header(lines, first):
-    """The line that ends the header which this line begins: it stands as far left, and opens a body or needs none."""
-    left = [it for it in range(first, len(lines)) if lines[it].indent == lines[first].indent]
-    return next((it for it in left if lines[it].text.endswith(("{", "}", ";"))), len(lines) - 1)
+    """The line that ends the header which this line begins: it stands as far left, and opens a body or needs none; or it
+    is a last clause, with the semicolon of a method that a trait only declares."""
+    depth = 0
+    for number in range(first, len(lines)):
+        text = lines[number].text
+        depth += sum(text.count(it) for it in "([{") - sum(text.count(it) for it in ")]}")
+        stands_left = lines[number].indent == lines[first].indent
+        if stands_left and text.endswith(("{", "}", ";")) or depth == 0 and text.endswith(";"):
+            return number
+    return len(lines) - 1
 
 
 def end_of_body(lines, opening):
