@@ -1,7 +1,6 @@
 -- The causes of the faults of any command: where its reading ends, where it refuses, and where its writing ends.
-use Rattle.std.proofs.Common.{◌<◌, ◌≢◌, ℕ, List, length, Option, Some, None, IfSome, subst, ◌≡◌}
+use Rattle.std.proofs.Common.{◌<◌, ℕ, List, length, Option, Some, None, IfSome, subst, ◌≡◌}
 use Rattle.trace_text.specs.declared.byte_loops.TheConstants.{MAX_TEXT_BYTES}
-use Rattle.trace_text.specs.declared.counting.Counting.{Counting}
 use Rattle.trace_text.specs.declared.refusals.TextError.{TextError}
 use Rattle.trace_text.specs.declared.refusals.TextError.TheVariants as why
 use Rattle.trace_text.specs.declared.refusals.WriteError.{WriteError}
@@ -18,6 +17,12 @@ use Rattle.text_commands.specs.Serving.{IsFaultOf, IsServeFault, Kinds}
 pub of_known : (P : List ℕ → Type 0) (text : List ℕ) (known : Option (List ℕ)) → IfSome known (λ xs. text ≡ xs) → P text → IfSome known P
 of_known P text None same p = tt
 of_known P text (Some xs) same p = subst P same p
+
+-- so of a fault that is told of the text that was read
+pub served_known : (Gives : List ℕ → List ℕ → Type 0) (Refuses : List ℕ → Fault → Type 0) (before after : Option (List ℕ)) (w : Fault)
+    (text : List ℕ) (known : Option (List ℕ)) → IfSome known (λ xs. text ≡ xs) → IsServeFault Gives Refuses text before after w
+    → IfSome known (λ xs. IsServeFault Gives Refuses xs before after w)
+served_known Gives Refuses before after w = of_known (λ xs. IsServeFault Gives Refuses xs before after w)
 
 -- what holds of all bytes holds of those that are known
 pub of_all : (P : List ℕ → Type 0) (known : Option (List ℕ)) → ((xs : List ℕ) → P xs) → IfSome known P

@@ -3,7 +3,7 @@ use Rattle.std.proofs.lemmas.Result.{err_from_is_err_and}
 use Rattle.front.specs.ReportTexts.{report_text}
 use Rattle.text_commands.specs.Reports.{IsReportOf, IsUnreported, report_kinds}
 use Rattle.text_commands.proofs.ReportFaults.{own_unreported, unread_text}
-use Rattle.text_commands.proofs.ServeFaults.{cut, of_known, own_unread, unanswered, untold}
+use Rattle.text_commands.proofs.ServeFaults.{cut, own_unread, served_known, unanswered, untold}
 use Rattle.text_commands.proofs.reports.run_report.Goals as goal
 
 pub returns-in_err-text-clause-refused : goal.returns-in_err-text-clause-refused
@@ -18,7 +18,7 @@ returns-in_err-text-clause-own g c =
 pub returns-in_err-report-clause-refused : goal.returns-in_err-report-clause-refused
 returns-in_err-report-clause-refused g c =
     let p = err_from_is_err_and c.from_residual-in_err-report.result c.from_residual-in_err-report.ensures.1 in
-    rw (p.1, p.2) (of_known _ c.in_ok-text.text.items _ c.in_ok-text.ensures.text
+    rw (p.1, p.2) (served_known (IsReportOf c.args.set) (IsUnreported c.args.set) _ _ _ c.in_ok-text.text.items _ c.in_ok-text.ensures.text
     (unanswered (IsReportOf c.args.set) (IsUnreported c.args.set) _ _ _ _ (λ n h. h) c.in_err-report.ensures.refused))
 
 pub returns-in_err-report-clause-own : goal.returns-in_err-report-clause-own
@@ -29,7 +29,7 @@ returns-in_err-report-clause-own g c =
 pub returns-in_err-write_report-clause-refused : goal.returns-in_err-write_report-clause-refused
 returns-in_err-write_report-clause-refused g c =
     let p = err_from_is_err_and c.from_residual-in_err-write_report.result c.from_residual-in_err-write_report.ensures.1 in
-    rw (p.1, p.2) (of_known _ c.in_ok-text.text.items _ c.in_ok-text.ensures.text
+    rw (p.1, p.2) (served_known (IsReportOf c.args.set) (IsUnreported c.args.set) _ _ _ c.in_ok-text.text.items _ c.in_ok-text.ensures.text
     (cut (IsReportOf c.args.set) (IsUnreported c.args.set) _ _ _ _ _
     (record { rows = c.in_ok-report.report.rows; exact = c.in_ok-report.ensures.report; written = ap report_text c.rows.ensures }) tt
     (untold _ _ _ _ c.in_err-write_report.ensures.part)))

@@ -13,3 +13,12 @@ returns-clause-plain c =
 
 pub returns-clause-numbers : goal.returns-clause-numbers
 returns-clause-numbers c = All-fit c.args.values.now c.type_inv.values
+
+pub returns-in_err-push_field-clause-numbers : goal.returns-in_err-push_field-clause-numbers
+returns-in_err-push_field-clause-numbers c = All-fit c.args.values.now c.type_inv.values
+
+pub returns-in_err-number_text-clause-numbers : goal.returns-in_err-number_text-clause-numbers
+returns-in_err-number_text-clause-numbers c = All-fit c.args.values.now c.type_inv.values
+
+pub returns-in_err-push_field-2-clause-numbers : goal.returns-in_err-push_field-2-clause-numbers
+returns-in_err-push_field-2-clause-numbers c = All-fit c.args.values.now c.type_inv.values
