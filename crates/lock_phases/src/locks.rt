@@ -1,6 +1,6 @@
 //! Locks: which values are acceptable beside them, and how they are put and released.
 
-ghost use Rattle.std.specs.Prelude.{◌≡◌, ◌≤◌, ◌<◌, ℕ, OnOk, OnErr, IfOk, IfErr, length, insert, slice_set};
+ghost use Rattle.std.specs.Prelude.{◌≡◌, ◌≤◌, ◌<◌, ℕ, OnOk, OnErr, IfOk, IfErr, filter, length, insert, slice_set};
 ghost use Rattle.std.specs.List.{list_any};
 ghost use Rattle.lock_phases.specs.Locks.{is_acceptable, heard_lock, put_lock, releases, is_released, kept_locks};
 
@@ -12,6 +12,13 @@ pub(crate) fn is_acceptable(locks: &[(u64, u64)], v: u64) -> bool
     ensures { result ≡ is_acceptable locks.now v }
 {
     locks.iter().all(|(locked, _)| *locked == v)
+}
+
+/// Keeps those of these values that are acceptable beside these locks.
+pub(crate) fn keep_acceptable(values: &mut Vec<u64>, locks: &[(u64, u64)])
+    ensures { values.new.items ≡ filter (is_acceptable locks.now) values.old.items }
+{
+    values.retain(|v| is_acceptable(locks, *v));
 }
 
 /// The value that the owner's Lock asks to lock, where it is heard.

@@ -4,7 +4,7 @@ ghost use Rattle.std.specs.Prelude.{◌≡◌, ◌<◌, ◌≤◌, length, IfOk,
 ghost use Rattle.std.specs.List.Sorted.{IsStrictlyIncreasing};
 
 use crate::bodies::{Body, Kind, LockPairs, Values};
-use crate::locks::{heard_lock, is_acceptable, put_lock, release};
+use crate::locks::{heard_lock, keep_acceptable, put_lock, release};
 use crate::quorums::{acks, least_listed};
 use crate::rounds::{owner, part_of, phase_of};
 use crate::values::grown;
@@ -178,14 +178,9 @@ impl Node {
     fn values_to_list(&self, alloc: Global) -> Result<Values, AllocError>
         ensures { IfOk result (λ values. values ≡ values_to_list self.now) }
     {
-        let locks = &self.locks;
-        let values = self
-            .proper
-            .as_slice()
-            .iter()
-            .copied()
-            .filter(|v| is_acceptable(locks, *v))
-            .collect(alloc)?;
+        // (`collect` would ask again for less where its growth is refused)
+        let mut values = Vec::from_slice(alloc, self.proper.as_slice())?;
+        keep_acceptable(&mut values, &self.locks);
         Ok(Values::new(alloc, values)?)
     }
 

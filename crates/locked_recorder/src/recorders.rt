@@ -83,7 +83,10 @@ pub(crate) fn is_world_of(world: &World, config: &Config, limit: u64) -> bool
 fn opening_seats(alloc: Global, tag: u64, config: &Config) -> Result<Vec<Seat>, AllocError>
     ensures { IfOk result (λ seats. seats.items ≡ opening_seats tag config.now.n) }
 {
-    (1..config.n() + 1)
-        .map(|p| Seat::new(alloc, tag, p))
-        .collect(alloc)
+    // (`collect` would ask again for less where its growth is refused)
+    let mut seats = Vec::with_capacity(alloc, config.n() as usize)?;
+    for p in 1..config.n() + 1 {
+        seats.push(Seat::new(alloc, tag, p))?;
+    }
+    Ok(seats)
 }
