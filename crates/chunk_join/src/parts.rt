@@ -8,7 +8,7 @@ use crate::joins::{JoinRefused, Why};
 use crate::message_joins::join_messages;
 use crate::silence_joins::{ended_before, join_silences};
 use crate::summaries::{Message, Place, Take, last_of, later_of};
-use std::alloc::AllocError;
+use std::alloc::{AllocError, Global};
 use std::marker::Model;
 use step_trace::{Gap, ProcSet};
 
@@ -40,6 +40,21 @@ impl Model for Part {
 
 impl Part {
     ghost use Rattle.chunk_join.specs.Joins.{parts_refusal};
+
+    /// An equal part.
+    pub(crate) fn copy(&self, alloc: Global) -> Result<Part, AllocError>
+        ensures { IfOk result (λ copy. copy ≡ self.now) }
+    {
+        Ok(Part {
+            set: self.set,
+            from: self.from,
+            to: self.to,
+            sent: Vec::from_slice(alloc, &self.sent)?,
+            taken: Vec::from_slice(alloc, &self.taken)?,
+            last: Vec::from_slice(alloc, &self.last)?,
+            silent: Vec::from_slice(alloc, &self.silent)?,
+        })
+    }
 
     /// The first reason against joining the part that follows, other than want of memory.
     pub(crate) fn refusal(&self, right: &Part) -> Option<Why>
