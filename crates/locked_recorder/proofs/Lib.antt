@@ -1,4 +1,3 @@
-pub mod FirstDifferences
 pub mod LeastMissing
 pub mod DoneSteps
 pub mod DoneOf

@@ -1,10 +1,10 @@
 -- Prefixes of a recorder's trace: what they show, and why none is shown.
-use Rattle.std.specs.Prelude.{ℕ, zero, suc, ◌≡◌, ◌≢◌, ◌+◌, ◌≤◌, ◌<◌, List, length, Option, Some, None, Contains, All, option_map}
+use Rattle.std.specs.Prelude.{ℕ, zero, suc, ◌≡◌, ◌<◌, List, Option, Some, None, Contains, All}
 use Rattle.step_trace.specs.declared.steps.Step.{Step}
 use Rattle.step_trace.specs.Configurations.{Setup}
 use Rattle.step_trace.specs.Traces.{Recorded, step_at}
-use Rattle.step_trace.specs.Ticks.{tick_of, IsOnePerTick}
-use Rattle.step_trace.specs.Extensions.{Extends}
+use Rattle.step_trace.specs.Ticks.{IsOnePerTick}
+use Rattle.step_trace.specs.Differences.{IsFirstDifference}
 use Rattle.step_buffers.specs.declared.moves.Done.{Done}
 use Rattle.step_buffers.specs.Runs.{IsRun}
 use Rattle.locked_recorder.specs.declared.errors.PrefixError.{PrefixError}
@@ -20,24 +20,8 @@ pub record IsRunOf (c : Setup) (trace : Recorded) : Type 0 where
   pub run : IsRun c trace.steps
   pub one_per_tick : IsOnePerTick trace
 
--- what a trace has at a number: the step, with its tick
-abbrev pub placed_at : Recorded → ℕ → Option (ℕ × Step)
-placed_at trace k = option_map (λ x. (tick_of trace k, x)) (step_at trace.steps k)
-
--- The first difference of a trace from one that was seen and that it doesn't extend: the least number of a step
--- that was seen at which there is none, another one, or one in another tick; where there is no such number, the
--- one after all of these; and what there is.
-pub record IsFirstDifference (trace seen : Recorded) (place : ℕ) (there : Option (ℕ × Step)) : Type 0 where
-  pub first : 1 ≤ place
-  pub last : place ≤ length seen.steps + 1
-  pub before : (k : ℕ) → k < place → placed_at trace k ≡ placed_at seen k
-  pub found : there ≡ placed_at trace place
-  pub differs : place ≤ length seen.steps → there ≢ placed_at seen place
-  pub off : ¬ Extends trace seen
-
 -- some run of the configuration has its first difference there from what was seen
 pub record IsOtherRun (c : Setup) (seen : Recorded) (place : ℕ) (found : Option (ℕ × Step)) : Type 0 where
-  pub config : seen.config ≡ c
   pub trace : Recorded
   pub run : IsRunOf c trace
   pub difference : IsFirstDifference trace seen place found

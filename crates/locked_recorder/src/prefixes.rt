@@ -1,8 +1,8 @@
 //! Prefixes of a recorder's trace, for views and for seats.
 
-ghost use Rattle.std.specs.Prelude.{◌≡◌, ◌≢◌, ◌↔◌, ◌+◌, ◌<◌, ◌≤◌, ℕ, IsTrue, Some, length, IfOk, IfErr, OnOk, OnErr, IfSome, All};
+ghost use Rattle.std.specs.Prelude.{◌≡◌, Some, IfOk, IfErr, OnOk, OnErr, IfSome, All};
 ghost use Rattle.step_trace.specs.Extensions.{Extends};
-ghost use Rattle.locked_recorder.specs.Prefixes.{IsRunOf, placed_at, IsPrefixRefusal, IsMineRefusal, Stands};
+ghost use Rattle.locked_recorder.specs.Prefixes.{IsRunOf, IsPrefixRefusal, IsMineRefusal, Stands};
 
 use crate::errors::{MineError, PrefixError};
 use crate::missing_steps::least_missing;
@@ -11,7 +11,7 @@ use crate::seats::Seat;
 use crate::views::View;
 use std::alloc::{AllocError, Global};
 use std::sync::Wait;
-use step_trace::{Step, Trace};
+use step_trace::Trace;
 
 impl Recorder {
     /// The trace as it is now, shown to a view: it extends what the view had seen, and the view has then seen
@@ -36,7 +36,7 @@ impl Recorder {
             Err(_) => return Err(PrefixError::Memory),
         };
         if let Some(seen) = view.seen() {
-            compare(alloc, &trace, seen)?;
+            compare(&trace, seen)?;
         }
         let Ok(copy) = trace.copy(alloc) else {
             return Err(PrefixError::Memory);
@@ -86,7 +86,7 @@ impl Recorder {
 }
 
 /// Whether a trace extends what was seen; else the first difference, with a copy of what the trace has there.
-fn compare(alloc: Global, trace: &Trace, seen: &Trace) -> Result<(), PrefixError>
+fn compare(trace: &Trace, seen: &Trace) -> Result<(), PrefixError>
     requires { IsRunOf trace.now.config trace.now }
     ensures extends { OnOk result (Extends trace.now seen.now) }
     ensures refused { IfErr result (λ e. IsPrefixRefusal trace.now.config (Some seen.now) e) }
@@ -97,49 +97,9 @@ fn compare(alloc: Global, trace: &Trace, seen: &Trace) -> Result<(), PrefixError
     if !trace.config().is_same(seen.config()) {
         return Err(PrefixError::NotAnExtension { at: 0, found: None });
     }
-    let at = first_difference(trace, seen);
-    match placed(trace, at) {
+    let at = trace.first_difference(seen);
+    match trace.placed(at) {
         Ok(found) => Err(PrefixError::NotAnExtension { at, found }),
         Err(_) => Err(PrefixError::Memory),
-    }
-}
-
-/// A copy of the step of this number, with its tick, if there is one.
-fn placed(trace: &Trace, no: u64) -> Result<Option<(u64, Step)>, AllocError>
-    ensures { IfOk result (λ there. there ≡ placed_at trace.now no) }
-{
-    match trace.step(no) {
-        Some(step) => Ok(Some((trace.tick(no), step.clone()?))),
-        None => Ok(None),
-    }
-}
-
-/// The least number of a step that was seen at which the trace has none, another one, or one in another tick;
-/// or else the number after all of these.
-fn first_difference(trace: &Trace, seen: &Trace) -> u64
-    ensures first { 1 ≤ result }
-    ensures last { result ≤ length seen.now.steps + 1 }
-    ensures before { (k : ℕ) → k < result → placed_at trace.now k ≡ placed_at seen.now k }
-    ensures differs { result ≤ length seen.now.steps → placed_at trace.now result ≢ placed_at seen.now result }
-{
-    let end = seen.len() as u64 + 1;
-    for no in 1..end {
-        if !is_same_at(trace, seen, no) {
-            return no;
-        }
-    }
-    end
-}
-
-/// Whether two traces have the same at this number: one step, in one tick; or both none.
-fn is_same_at(one: &Trace, other: &Trace, no: u64) -> bool
-    ensures { IsTrue result ↔ (placed_at one.now no ≡ placed_at other.now no) }
-{
-    match (one.step(no), other.step(no)) {
-        (Some(step), Some(other_step)) => {
-            step.is_same(other_step) && one.tick(no) == other.tick(no)
-        }
-        (None, None) => true,
-        _ => false,
     }
 }

@@ -12,6 +12,7 @@ pub mod TickPositions
 pub mod FittingTicks
 pub mod TickReasons
 pub mod ExtendedTraces
+pub mod FirstDifferences
 pub mod BoundLaws
 pub mod BoundDecisions
 pub mod ListMembers

@@ -5,6 +5,7 @@ pub mod Steps
 pub mod Traces
 pub mod Ticks
 pub mod Extensions
+pub mod Differences
 pub mod OwnSteps
 pub mod PushRefusals
 pub mod TickRefusals

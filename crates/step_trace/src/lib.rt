@@ -5,6 +5,7 @@
 
 mod configurations;
 mod delivery_index;
+mod differences;
 mod extensions;
 mod gates;
 pub mod meeting;

@@ -3,6 +3,8 @@
 #![tactic(auto)]
 
 #[cfg(test)]
+mod differences_by_hand;
+#[cfg(test)]
 mod extensions_by_hand;
 #[cfg(test)]
 mod full_size;

@@ -2,7 +2,7 @@
 use Rattle.std.proofs.Common.{ℕ, ◌≡◌, ◌+◌, ◌<◌, refl, zero, suc, Bool, true, false, ◌==◌, arith}
 use Rattle.std.proofs.lemmas.Bool.Decides.{nat_tests}
 use Rattle.step_trace.specs.Traces.{Recorded}
-use Rattle.locked_recorder.specs.Prefixes.{placed_at}
+use Rattle.step_trace.specs.Differences.{placed_at}
 
 -- there is nothing at 0
 pub same_at_zero : (trace seen : Recorded) (k : ℕ) → k < 1 → placed_at trace k ≡ placed_at seen k

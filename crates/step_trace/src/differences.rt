@@ -1,0 +1,53 @@
+//! Where a trace differs from one that was seen before.
+
+ghost use Rattle.std.specs.Prelude.{◌≡◌, ◌≢◌, ◌↔◌, ◌+◌, ◌<◌, ◌≤◌, ℕ, None, length, IsTrue, IfOk, OnErr};
+ghost use Rattle.step_trace.specs.Differences.{placed_at};
+
+use crate::steps::Step;
+use crate::traces::Trace;
+use std::alloc::AllocError;
+
+impl Trace {
+    /// A copy of the step of this number, with its tick before it, if there is one.
+    ///
+    /// Refuses only for want of memory, and only where there is a step.
+    pub fn placed(&self, no: u64) -> Result<Option<(u64, Step)>, AllocError>
+        ensures placed { IfOk result (λ there. there ≡ placed_at self.now no) }
+        ensures more { OnErr result (placed_at self.now no ≢ None) }
+    {
+        match self.step(no) {
+            Some(step) => Ok(Some((self.tick(no), step.clone()?))),
+            None => Ok(None),
+        }
+    }
+
+    /// The least number of a step that was seen at which this trace has none, another one, or one in another
+    /// tick; or else the number after all of these. It looks at steps and their ticks alone. Takes no memory.
+    pub fn first_difference(&self, seen: &Trace) -> u64
+        ensures first { 1 ≤ result }
+        ensures last { result ≤ length seen.now.steps + 1 }
+        ensures before { (k : ℕ) → k < result → placed_at self.now k ≡ placed_at seen.now k }
+        ensures differs { result ≤ length seen.now.steps → placed_at self.now result ≢ placed_at seen.now result }
+    {
+        let end = seen.len() as u64 + 1;
+        for no in 1..end {
+            if !is_same_at(self, seen, no) {
+                return no;
+            }
+        }
+        end
+    }
+}
+
+/// Whether two traces have the same at this number: one step, in one tick; or both none.
+fn is_same_at(one: &Trace, other: &Trace, no: u64) -> bool
+    ensures { IsTrue result ↔ (placed_at one.now no ≡ placed_at other.now no) }
+{
+    match (one.step(no), other.step(no)) {
+        (Some(step), Some(other_step)) => {
+            step.is_same(other_step) && one.tick(no) == other.tick(no)
+        }
+        (None, None) => true,
+        _ => false,
+    }
+}
