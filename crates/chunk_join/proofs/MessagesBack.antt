@@ -14,7 +14,7 @@ use Rattle.step_trace.proofs.TickOrder.{number_below, ticks_rise}
 use Rattle.step_trace.proofs.ListMembers.{Contains-slice_get}
 use Rattle.suffix_staircase.specs.declared.levels.Level.{Level}
 use Rattle.suffix_staircase.specs.Levels.{StandsBefore}
-use Rattle.suffix_staircase.specs.Analysis.{KnowsMisses, NamesAfter, KnowsMissesAfter, with_miss}
+use Rattle.suffix_staircase.specs.Analysis.{KnowsMisses, IsNamedAfter, NamesAfter, KnowsMissesAfter, with_miss}
 use Rattle.suffix_staircase.proofs.LastMisses.{message_unique}
 use Rattle.suffix_staircase.proofs.LevelBounds.{StandsBefore-itself}
 use Rattle.suffix_staircase.proofs.MissBounds.{after_positive, MissesLowered-with_miss}
@@ -23,7 +23,8 @@ use Rattle.chunk_join.specs.declared.summaries.Place.{Place}
 use Rattle.chunk_join.specs.declared.summaries.Fate.{Fate}
 use Rattle.chunk_join.specs.declared.summaries.Fate.TheVariants.{Open, Taken}
 use Rattle.chunk_join.specs.declared.summaries.Message.{Message}
-use Rattle.chunk_join.specs.Summaries.{Rises, SentBefore, IsLastReceive, IsFate, IsSent, Summary, IsSummary, last_of}
+use Rattle.chunk_join.specs.Summaries.{Rises, SentBefore, IsLastReceive, IsFate, IsSent, Summary, IsSummary, AreLastReceives, last_of}
+use Rattle.chunk_join.specs.Sufficient.{Suffices}
 use Rattle.chunk_join.specs.Joins.{after}
 use Rattle.chunk_join.specs.Laws.LastReceives.{IsLastReceive-after, IsLastReceive-some}
 use Rattle.chunk_join.specs.Finishes.{last_at, missed, missed_with, up_to, with_missed, number_of, number_at, SentFrom, HasMissesFrom}
@@ -95,28 +96,32 @@ StandsBefore-through a b c h k =
       gap = λ e. h.gap (omega (arith, e, ph, pk)) ∙ k.gap (omega (arith, e, ph, pk));
     }
 
--- what is known of misses after one number is known after another, if no miss lies between
-KnowsMissesAfter-moved : (set : ℕ) (t : Recorded) (old new d : ℕ) (o : Option Miss) → ((m : Miss) → IsMiss set t m → old < m.sent → new < m.sent) → ((m : Miss) → IsMiss set t m → new < m.sent → old < m.sent)
+-- what is known of misses after one number is known after a smaller one, if misses between are covered by later ones
+KnowsMissesAfter-moved : (set : ℕ) (t : Recorded) (old new d : ℕ) (o : Option Miss) → new ≤ old
+    → ((n : Miss) → IsMiss set t n → new < n.sent → (m : Miss) × IsMiss set t m × (old < m.sent) × (tick_of t n.missed + tick_of t m.sent ≤ tick_of t m.missed + tick_of t n.sent))
     → KnowsMissesAfter set t old d o → KnowsMissesAfter set t new d o
-KnowsMissesAfter-moved set t old new d o to from k = record {
-  shorter = λ m i l. k.shorter m i (from m i l);
+KnowsMissesAfter-moved set t old new d o less cover k = record {
+  shorter = λ n i l. (let c = cover n i l in let short = k.shorter c.0 c.1 c.2 in let long = c.3 in omega (arith, short, long));
   named = go o k.named;
 } where
   go : (o : Option Miss) → NamesAfter set t old d o → NamesAfter set t new d o
   go None h = h
-  go (Some m) h = let named = h.1 in (
+  go (Some m) h = let named = h.1 in let after = named.after in (
     h.0,
     record {
       miss = named.miss;
-      after = to m named.miss named.after;
+      after = omega (arith, less, after);
       long = named.long;
-      greatest = λ n i l e. named.greatest n i (from n i l) e;
+      greatest = λ n i l e. elim (cases_lt old n.sent) [
+        | inl late ↦ named.greatest n i late e
+        | inr early ↦ omega (arith, early, after)
+      ];
     },
   )
 
 -- and of the misses from a tick on, if they are those after the number
 KnowsMisses-from_number : (set : ℕ) (t : Recorded) (done g d : ℕ) (o : Option Miss)
-    → ((m : Miss) → IsMiss set t m → done < m.sent → g ≤ tick_of t m.sent) → ((m : Miss) → IsMiss set t m → g ≤ tick_of t m.sent → done < m.sent)
+    → ((m : Miss) → IsNamedAfter set t done d m → g ≤ tick_of t m.sent) → ((m : Miss) → IsMiss set t m → g ≤ tick_of t m.sent → done < m.sent)
     → ((m n : Miss) → IsMiss set t m → IsMiss set t n → m.sent ≤ n.sent → tick_of t m.sent ≤ tick_of t n.sent)
     → KnowsMissesAfter set t done d o → KnowsMisses set t g d o
 KnowsMisses-from_number set t done g d o to from rise k = record {
@@ -125,7 +130,7 @@ KnowsMisses-from_number set t done g d o to from rise k = record {
 } where
   go : (o : Option Miss) → NamesAfter set t done d o → NamesMiss set t g d o
   go None h = h
-  go (Some m) h = let named = h.1 in let start = to m named.miss named.after in (
+  go (Some m) h = let named = h.1 in let start = to m named in (
     h.0,
     record {
       miss = named.miss;
@@ -137,14 +142,14 @@ KnowsMisses-from_number set t done g d o to from rise k = record {
   )
 
 -- the number of the miss, if there is one
-abbrev number_of_missed : Option Place → ℕ
+abbrev pub number_of_missed : Option Place → ℕ
 number_of_missed None = 0
 number_of_missed (Some r) = r.no
 
 -- the last Receive of the receiver before it has the message, or before the end, is the last that misses it
-record IsLastMissed (set : ℕ) (t : Recorded) (m : Message) (o : Option Place) : Type 0 where
-  last : IsLastMissOf set t m.sent.no (number_of_missed o)
-  inside : (r : Place) → o ≡ Some r → (tick_of t r.no ≡ r.tick) × (r.tick ≤ t.last)
+pub record IsLastMissed (set : ℕ) (t : Recorded) (m : Message) (o : Option Place) : Type 0 where
+  pub last : IsLastMissOf set t m.sent.no (number_of_missed o)
+  pub inside : (r : Place) → o ≡ Some r → (tick_of t r.no ≡ r.tick) × (r.tick ≤ t.last)
 
 IsLastMissed-from_last : (set : ℕ) (t : Recorded) (m : Message) (high : ℕ) (o : Option Place) → IsMessage set t.steps m.sent.no m.to → tick_of t m.sent.no ≡ m.sent.tick → high ≤ t.last + 1
     → ((y : ℕ) → IsDelivered t m.sent.no (tick_of t y) → tick_of t y < high → ⊥)
@@ -172,7 +177,7 @@ IsLastMissed-from_last set t m high (Some r) message place end undelivered below
   until = l.until
 
 -- so it is what a summary keeps of the message
-IsLastMissed-summary : (set : ℕ) (t : Recorded) → IsTrace t → (s : Summary) → IsSummary set t 0 t.last s → (m : Message) → IsSent set t 0 t.last m → IsLastMissed set t m (missed s.last m)
+pub IsLastMissed-summary : (set : ℕ) (t : Recorded) → IsTrace t → (s : Summary) → AreLastReceives set t 0 t.last s.last → (m : Message) → IsSent set t 0 t.last m → IsLastMissed set t m (missed s.last m)
 IsLastMissed-summary set t sound s a m sent = go m.fate sent.fate where
   inside : (y : ℕ) → IsMiss set t (record { sent = m.sent.no; missed = y }) → tick_of t y < t.last + 1
   inside y i = let l = (sound.time.inside y _ i.receive.step).1 in omega (arith, l)
@@ -181,7 +186,7 @@ IsLastMissed-summary set t sound s a m sent = go m.fate sent.fate where
   go Open fate = IsLastMissed-from_last set t m (t.last + 1) (after m.sent (last_of s.last m.to)) sent.message sent.place (omega arith)
       (λ y d l. (let late = fate d.place d.takes in let end = (sound.time.inside d.place d.takes.0 d.takes.1).1 in omega (arith, late, end)))
       inside
-      (IsLastReceive-after t m.to 0 (t.last + 1) m.sent (last_of s.last m.to) (omega arith) (a.last.members m.to sent.message.receiver))
+      (IsLastReceive-after t m.to 0 (t.last + 1) m.sent (last_of s.last m.to) (omega arith) (a.members m.to sent.message.receiver))
   go (Taken missed) fate =
       let until = fate.2 in
       IsLastMissed-from_last set t m (tick_of t fate.0) missed sent.message sent.place (omega (arith, until))
@@ -204,14 +209,14 @@ fate_exists set t sound s q = go (is_taken t.steps s.no) refl where
   go false e = (Open, λ x takes. absurd (true≢false (sym (taken_from_at t.steps x s.no takes) ∙ e)))
 
 -- where a message stands in the list
-record IsListed (t : Recorded) (sent : List Message) (s : ℕ) : Type 0 where
-  place : ℕ
-  message : Message
-  at : slice_get sent place ≡ Some message
-  no : message.sent.no ≡ s
-  tick : message.sent.tick ≡ tick_of t s
+pub record IsListed (t : Recorded) (sent : List Message) (s : ℕ) : Type 0 where
+  pub place : ℕ
+  pub message : Message
+  pub at : slice_get sent place ≡ Some message
+  pub no : message.sent.no ≡ s
+  pub tick : message.sent.tick ≡ tick_of t s
 
-IsListed-message : (set : ℕ) (t : Recorded) → IsTrace t → (s : Summary) → IsSummary set t 0 t.last s → (x b : ℕ) → IsMessage set t.steps x b → IsListed t s.sent x
+pub IsListed-message : (set : ℕ) (t : Recorded) → IsTrace t → (s : Summary) → IsSummary set t 0 t.last s → (x b : ℕ) → IsMessage set t.steps x b → IsListed t s.sent x
 IsListed-message set t sound s a x b m =
     let place : Place = record { no = x; tick = tick_of t x } in
     let fate = fate_exists set t sound place b in
@@ -222,26 +227,26 @@ IsListed-message set t sound s a x b m =
     record { place = at.0; message = own; at = at.1; no = refl; tick = refl }
 
 -- numbers rise as the places do
-numbers_rise : (set : ℕ) (t : Recorded) → IsTrace t → (s : Summary) → IsSummary set t 0 t.last s → (i j : ℕ) (x y : Message) → slice_get s.sent i ≡ Some x → slice_get s.sent j ≡ Some y → i < j → x.sent.no < y.sent.no
-numbers_rise set t sound s a i j x y h k l = elim (Rises-slices SentBefore s.sent i j x y a.sent.rising h k l) [
+numbers_rise : (set : ℕ) (t : Recorded) → IsTrace t → (s : Summary) → Suffices set t s → (i j : ℕ) (x y : Message) → slice_get s.sent i ≡ Some x → slice_get s.sent j ≡ Some y → i < j → x.sent.no < y.sent.no
+numbers_rise set t sound s a i j x y h k l = elim (Rises-slices SentBefore s.sent i j x y a.sent_rising h k l) [
   | inr e ↦ e.1
   | inl e ↦ (
-      let u = a.sent.sound x (Contains-slice_get s.sent i x h) in
-      let v = a.sent.sound y (Contains-slice_get s.sent j y k) in
+      let u = a.sent_sound x (Contains-slice_get s.sent i x h) in
+      let v = a.sent_sound y (Contains-slice_get s.sent j y k) in
       let p = u.place in
       let q = v.place in
       number_below t sound.time x.sent.no y.sent.no _ _ u.message.sent v.message.sent (omega (arith, e, p, q)))
 ]
 
 -- the messages from place n on have greater numbers than those before
-number_after : (set : ℕ) (t : Recorded) → IsTrace t → (s : Summary) → IsSummary set t 0 t.last s → (n j : ℕ) (y : Message) → slice_get s.sent j ≡ Some y → n ≤ j → number_at s.sent n < y.sent.no
-number_after set t sound s a zero j y h l = (step_at_within t.steps y.sent.no _ (a.sent.sound y (Contains-slice_get s.sent j y h)).message.sent).0
+number_after : (set : ℕ) (t : Recorded) → IsTrace t → (s : Summary) → Suffices set t s → (n j : ℕ) (y : Message) → slice_get s.sent j ≡ Some y → n ≤ j → number_at s.sent n < y.sent.no
+number_after set t sound s a zero j y h l = (step_at_within t.steps y.sent.no _ (a.sent_sound y (Contains-slice_get s.sent j y h)).message.sent).0
 number_after set t sound s a (suc n) j y h l = go (slice_get s.sent n) refl where
   go : (o : Option Message) → slice_get s.sent n ≡ o → number_of o < y.sent.no
-  go None e = (step_at_within t.steps y.sent.no _ (a.sent.sound y (Contains-slice_get s.sent j y h)).message.sent).0
+  go None e = (step_at_within t.steps y.sent.no _ (a.sent_sound y (Contains-slice_get s.sent j y h)).message.sent).0
   go (Some x) e = numbers_rise set t sound s a n j x y e h (omega (arith, l))
 
-number_until : (set : ℕ) (t : Recorded) → IsTrace t → (s : Summary) → IsSummary set t 0 t.last s → (n j : ℕ) (y : Message) → slice_get s.sent j ≡ Some y → n ≤ length s.sent → j < n → y.sent.no ≤ number_at s.sent n
+number_until : (set : ℕ) (t : Recorded) → IsTrace t → (s : Summary) → Suffices set t s → (n j : ℕ) (y : Message) → slice_get s.sent j ≡ Some y → n ≤ length s.sent → j < n → y.sent.no ≤ number_at s.sent n
 number_until set t sound s a zero j y h long l = absurd (omega (arith, l))
 number_until set t sound s a (suc n) j y h long l =
     let at = slice_get-get_or s.sent n y (omega (arith, long)) in
@@ -281,84 +286,86 @@ with_missed-lowered set t end m level (Some r) last place low known is =
 
 pub HasMissesFrom-back : (part : Summary) (j : ℕ) (m : Message) (level : Level) → slice_get part.sent j ≡ Some m → HasMissesFrom part (suc j) level → HasMissesFrom part j (with_missed part.to level m (missed part.last m))
 HasMissesFrom-back part j m level at h = λ set t sound a.
-    (let sent = a.sent.sound m (Contains-slice_get part.sent j m at) in
+    (let sent = a.sent_sound m (Contains-slice_get part.sent j m at) in
     let known = subst (λ o. KnowsMissesAfter set t (number_of o) level.delta level.miss) at (h set t sound a) in
-    let last = IsLastMissed-summary set t sound part a m sent in
+    let last = IsLastMissed-summary set t sound part a.last m sent in
     let low = (step_at_within t.steps m.sent.no _ sent.message.sent).0 in
     let lowered = with_missed-lowered set t part.to m level (missed part.last m) a.to sent.place (omega (arith, low)) known last in
-    KnowsMissesAfter-moved set t (m.sent.no - 1) (number_at part.sent j) _ _ (to set t sound a) (from set t sound a) lowered) where
-      to : (set : ℕ) (t : Recorded) → IsTrace t → IsSummary set t 0 t.last part → (n : Miss) → IsMiss set t n → m.sent.no - 1 < n.sent → number_at part.sent j < n.sent
-      to set t sound a n i l =
-          let listed = IsListed-message set t sound part a n.sent i.to i.message in
-          let no = listed.no in
-          elim (cases_lt listed.place j) [
-            | inl below ↦ absurd (let rise = numbers_rise set t sound part a listed.place j listed.message m listed.at at below in omega (arith, rise, no, l))
-            | inr above ↦ (let later = number_after set t sound part a j listed.place listed.message listed.at (omega (arith, above)) in omega (arith, later, no))
-          ]
-
-      from : (set : ℕ) (t : Recorded) → IsTrace t → IsSummary set t 0 t.last part → (n : Miss) → IsMiss set t n → number_at part.sent j < n.sent → m.sent.no - 1 < n.sent
-      from set t sound a n i l =
-          let listed = IsListed-message set t sound part a n.sent i.to i.message in
-          let no = listed.no in
-          let long = slice_get_within part.sent j m at in
-          elim (cases_lt listed.place j) [
-            | inl below ↦ absurd (let until = number_until set t sound part a j listed.place listed.message listed.at (omega (arith, long)) below in omega (arith, until, no, l))
-            | inr above ↦ elim (cases_lt j listed.place) [
-              | inl later ↦ (let rise = numbers_rise set t sound part a j listed.place m listed.message at listed.at later in omega (arith, rise, no))
-              | inr b ↦ (let e : listed.place ≡ j = omega (arith, above, b) in
-                  let same = ap (λ (x : Message). x.sent.no) (same_Some _ _ (sym listed.at ∙ ap (slice_get part.sent) e ∙ at)) in
-                  omega (arith, same, no, l))
-            ]
-          ]
+    let before = number_after set t sound part a j j m at (omega arith) in
+    KnowsMissesAfter-moved set t (m.sent.no - 1) (number_at part.sent j) _ _ (omega (arith, before)) (cover set t sound a) lowered) where
+      cover : (set : ℕ) (t : Recorded) → IsTrace t → Suffices set t part → (n : Miss) → IsMiss set t n → number_at part.sent j < n.sent
+          → (u : Miss) × IsMiss set t u × (m.sent.no - 1 < u.sent) × (tick_of t n.missed + tick_of t u.sent ≤ tick_of t u.missed + tick_of t n.sent)
+      cover set t sound a n i l =
+          let c = a.missed n i in
+          let no = c.sent_in in
+          let later = c.later in
+          let place = slice-Contains part.sent c.message c.listed in
+          let long = slice_get_within part.sent j m at in (
+            c.miss,
+            c.is,
+            elim (cases_lt place.0 j) [
+              | inl below ↦ absurd (let until = number_until set t sound part a j place.0 c.message place.1 (omega (arith, long)) below in omega (arith, until, no, later, l))
+              | inr above ↦ elim (cases_lt j place.0) [
+                | inl after ↦ (let rise = numbers_rise set t sound part a j place.0 m c.message at place.1 after in omega (arith, rise, no))
+                | inr b ↦ (let e : place.0 ≡ j = omega (arith, above, b) in
+                    let same = ap (λ (x : Message). x.sent.no) (same_Some _ _ (sym place.1 ∙ ap (slice_get part.sent) e ∙ at)) in
+                    let own = (step_at_within t.steps m.sent.no _ (a.sent_sound m (Contains-slice_get part.sent j m at)).message.sent).0 in
+                    omega (arith, same, no, own))
+              ]
+            ],
+            c.long,
+          )
 
 -- Before any message is gone over there is no miss.
 pub HasMissesFrom-all : (part : Summary) (level : Level) → level.delta ≡ 1 → level.miss ≡ None → HasMissesFrom part (length part.sent) level
 HasMissesFrom-all part level d o set t sound a = rw (d, o) (record {
-  shorter = λ m i l. absurd (let listed = IsListed-message set t sound part a m.sent i.to i.message in
-      let no = listed.no in
-      let inside = slice_get_within part.sent listed.place listed.message listed.at in
-      let until = number_until set t sound part a (length part.sent) listed.place listed.message listed.at (omega arith) inside in
-      omega (arith, until, no, l));
+  shorter = λ m i l. absurd (let c = a.missed m i in
+      let no = c.sent_in in
+      let later = c.later in
+      let place = slice-Contains part.sent c.message c.listed in
+      let inside = slice_get_within part.sent place.0 c.message place.1 in
+      let until = number_until set t sound part a (length part.sent) place.0 c.message place.1 (omega arith) inside in
+      omega (arith, until, no, later, l));
   named = refl;
 })
 
 -- Where the messages that are left are those before a tick, the misses are those from the tick on.
 pub KnowsMisses-from_left : (part : Summary) (g left : ℕ) (level : Level) → left ≤ length part.sent → SentFrom part.sent g left → ((x : Message) → last_at part.sent left ≡ Some x → x.sent.tick < g) → HasMissesFrom part left level
-    → (set : ℕ) (t : Recorded) → IsTrace t → IsSummary set t 0 t.last part → KnowsMisses set t g level.delta level.miss
-KnowsMisses-from_left part g left level long later earlier h set t sound a = KnowsMisses-from_number set t (number_at part.sent left) g level.delta level.miss to from
+    → (set : ℕ) (t : Recorded) → IsTrace t → Suffices set t part → KnowsMisses set t g level.delta level.miss
+KnowsMisses-from_left part g left level long sent_later earlier h set t sound a = KnowsMisses-from_number set t (number_at part.sent left) g level.delta level.miss to from
     (λ m n i j l. ticks_rise t sound.time m.sent n.sent _ _ i.message.sent j.message.sent l) (h set t sound a) where
-      to : (m : Miss) → IsMiss set t m → number_at part.sent left < m.sent → g ≤ tick_of t m.sent
-      to m i l =
-          let listed = IsListed-message set t sound part a m.sent i.to i.message in
-          let no = listed.no in
-          let tick = listed.tick in
-          elim (cases_lt listed.place left) [
-            | inl below ↦ absurd (let until = number_until set t sound part a left listed.place listed.message listed.at long below in omega (arith, until, no, l))
-            | inr above ↦ (let at = later listed.place listed.message (omega (arith, above)) listed.at in omega (arith, at, tick))
-          ]
+      known : KnowsMissesAfter set t (number_at part.sent left) level.delta level.miss
+      known = h set t sound a
 
-      -- no message before is sent later than the last of them
-      before : (n j : ℕ) (x : Message) → n ≤ length part.sent → ((y : Message) → last_at part.sent n ≡ Some y → y.sent.tick < g) → slice_get part.sent j ≡ Some x → j < n → x.sent.tick < g
-      before zero j x long top at l = absurd (omega (arith, l))
-      before (suc n) j x long top at l =
-          let own = slice_get-get_or part.sent n x (omega (arith, long)) in
-          let high = top _ own in
-          elim (cases_lt j n) [
-            | inl below ↦ elim (Rises-slices SentBefore part.sent j n x _ a.sent.rising at own below) [
-              | inl e ↦ omega (arith, e, high)
-              | inr e ↦ (let same = e.0 in omega (arith, same, high))
-            ]
-            | inr above ↦ (let e : j ≡ n = omega (arith, above, l) in
-                let same = ap (λ (y : Message). y.sent.tick) (same_Some _ _ (sym at ∙ ap (slice_get part.sent) e ∙ own)) in
-                omega (arith, same, high))
+      to : (m : Miss) → IsNamedAfter set t (number_at part.sent left) level.delta m → g ≤ tick_of t m.sent
+      to m named =
+          let c = a.missed m named.miss in
+          let no = c.sent_in in
+          let later = c.later in
+          let covers = c.long in
+          let own = named.long in
+          let after = named.after in
+          let short = known.shorter c.miss c.is (omega (arith, later, after)) in
+          let first = named.greatest c.miss c.is (omega (arith, later, after)) (omega (arith, covers, own, short)) in
+          let same : c.message.sent.no ≡ m.sent = omega (arith, no, later, first) in
+          let tick = (a.sent_sound c.message c.listed).place in
+          let at_tick = ap (tick_of t) same in
+          let place = slice-Contains part.sent c.message c.listed in
+          elim (cases_lt place.0 left) [
+            | inl below ↦ absurd (let until = number_until set t sound part a left place.0 c.message place.1 long below in omega (arith, until, same, after))
+            | inr above ↦ (let at = sent_later place.0 c.message (omega (arith, above)) place.1 in omega (arith, at, tick, at_tick))
           ]
 
       from : (m : Miss) → IsMiss set t m → g ≤ tick_of t m.sent → number_at part.sent left < m.sent
-      from m i l =
-          let listed = IsListed-message set t sound part a m.sent i.to i.message in
-          let no = listed.no in
-          let tick = listed.tick in
-          elim (cases_lt listed.place left) [
-            | inl below ↦ absurd (let early = before left listed.place listed.message long earlier listed.at below in omega (arith, early, tick, l))
-            | inr above ↦ (let b = number_after set t sound part a left listed.place listed.message listed.at (omega (arith, above)) in omega (arith, b, no))
-          ]
+      from m i l = go (last_at part.sent left) refl where
+        go : (o : Option Message) → last_at part.sent left ≡ o → number_of o < m.sent
+        go None e = (step_at_within t.steps m.sent _ i.message.sent).0
+        go (Some x) e = elim (cases_lt x.sent.no m.sent) [
+          | inl late ↦ late
+          | inr early ↦ absurd (
+              let sent = a.sent_sound x (last_at-Contains part.sent left x e) in
+              let place = sent.place in
+              let rise = ticks_rise t sound.time m.sent x.sent.no _ _ i.message.sent sent.message.sent early in
+              let low = earlier x e in
+              omega (arith, rise, place, low, l))
+        ]

@@ -1,5 +1,5 @@
 -- The silences of a part that is a whole trace, gone over from the last one back: the longest gap from a tick on.
-use Rattle.std.proofs.Common.{ℕ, ◌≡◌, ◌+◌, ◌-◌, ◌≤◌, inl, inr, length, Bool, true, false, Option, Some, None, cond, zero, suc, refl, sym, ap, subst, ◌∙◌, arith}
+use Rattle.std.proofs.Common.{ℕ, ◌≡◌, ◌+◌, ◌-◌, ◌<◌, ◌≤◌, ◌⊎◌, inl, inr, length, Bool, true, false, Option, Some, None, cond, zero, suc, refl, sym, ap, subst, ◌∙◌, arith}
 use Rattle.std.specs.Prelude.{slice_get, nat_le}
 use Rattle.std.proofs.lemmas.Bool.{cases_lt, leb-true}
 use Rattle.std.proofs.lemmas.Option.{same_Some, none-some, slice_get-get_or}
@@ -7,17 +7,17 @@ use Rattle.step_trace.specs.declared.rows.Gap.{Gap}
 use Rattle.step_trace.specs.Traces.{Recorded}
 use Rattle.step_trace.specs.Ticks.{StepsIn}
 use Rattle.step_trace.specs.Witnesses.{IsGap}
-use Rattle.step_trace.proofs.ListMembers.{Contains-slice_get}
 use Rattle.suffix_staircase.specs.declared.levels.Level.{Level}
 use Rattle.suffix_staircase.specs.Levels.{StandsBefore}
 use Rattle.suffix_staircase.specs.Analysis.{KnowsGaps, with_gap}
-use Rattle.suffix_staircase.proofs.GapBounds.{GapsLowered, GapsLowered-with_longest}
+use Rattle.suffix_staircase.proofs.GapBounds.{GapsLowered}
+use Rattle.chunk_join.proofs.GapsBack.{IsLongestOver, GapsLowered-with_over}
 use Rattle.suffix_staircase.proofs.LevelBounds.{StandsBefore-itself}
-use Rattle.suffix_staircase.proofs.LongestGaps.{IsLongest as IsLongestFrom}
-use Rattle.chunk_join.specs.Summaries.{EndsBefore, IsLongest, Summary, IsSummary}
+use Rattle.chunk_join.specs.Summaries.{EndsBefore, IsLongest, Summary}
+use Rattle.chunk_join.specs.Sufficient.{Suffices, IsGapCovered}
 use Rattle.chunk_join.specs.Laws.SilencesJoined.{first_silent, last_silent}
 use Rattle.chunk_join.specs.Finishes.{last_at, with_silence, BeginAfter}
-use Rattle.chunk_join.proofs.MessagesBack.{slice-Contains, Rises-slices}
+use Rattle.chunk_join.proofs.MessagesBack.{slice-Contains, Rises-slices, last_at-Contains}
 
 -- Whatever the silence, the level with it may stand before the one without.
 
@@ -93,46 +93,66 @@ record IsTopped (w u : Gap) : Type 0 where
   until : u.to ≤ w.to
   proc : u.to ≡ w.to → w.proc ≤ u.proc
 
-topped : (set : ℕ) (t : Recorded) (s : Summary) → IsSummary set t 0 t.last s → (n g : ℕ) → n ≤ length s.silent → BeginAfter s.silent g n → (u : Gap) → IsGap set t u → u.from ≡ g
-    → (w : Gap) × (last_at s.silent n ≡ Some w) × IsTopped w u
-topped set t s a n g long later u gap from = go n long later where
-  v : Gap
-  v = (around set t u gap).0
+-- what covers a silence ends no earlier, and at one end is of no greater processor
+ends_later : (v w : Gap) → (v ≡ w) ⊎ EndsBefore v w → (v.to ≤ w.to) × (v.to ≡ w.to → w.proc ≤ v.proc)
+ends_later v w (inl same) = let p = ap (λ (x : Gap). x.to) same in let q = ap (λ (x : Gap). x.proc) same in (omega (arith, p), λ e. omega (arith, q))
+ends_later v w (inr (inl l)) = (omega (arith, l), λ e. absurd (omega (arith, e, l)))
+ends_later v w (inr (inr e)) = let p = e.0 in let q = e.1 in (omega (arith, p), λ f. omega (arith, q))
 
-  is : IsAround set t u v
+-- A gap from tick g on is within the last silence that begins by then, or no longer than a later one.
+topped : (set : ℕ) (t : Recorded) (s : Summary) → Suffices set t s → (n g f : ℕ) (o : Option Gap) → n ≤ length s.silent → BeginAfter s.silent g n → KnowsGaps set t (g + 1) f o → (u : Gap) → IsGap set t u → u.from ≡ g
+    → ((w : Gap) × (last_at s.silent n ≡ Some w) × IsTopped w u) ⊎ (u.to + 1 < g + f)
+topped set t s a n g f o long later known u gap from = elim (cases_lt g c.by.from) [
+  | inl beyond ↦ inr (
+      let v = a.silent_sound c.by c.listed in
+      let short = known.shorter c.by v.gap (omega (arith, beyond)) in
+      let covers = c.long in
+      let low = is.from in
+      let high = is.to in
+      let order = gap.order in
+      omega (arith, short, covers, low, high, from, order))
+  | inr begun ↦ inl (go n long later begun)
+] where
+  is : IsAround set t u (around set t u gap).0
   is = (around set t u gap).1
 
-  at : (k : ℕ) × (slice_get s.silent k ≡ Some v)
-  at = slice-Contains s.silent v (a.silent.complete v is.longest)
+  c : IsGapCovered s.silent (around set t u gap).0
+  c = a.covered (around set t u gap).0 is.longest
 
-  go : (n : ℕ) → n ≤ length s.silent → BeginAfter s.silent g n → (w : Gap) × (last_at s.silent n ≡ Some w) × IsTopped w u
-  go zero long later = absurd (let l = later at.0 v (omega arith) at.1 in let b = is.from in omega (arith, l, b, from))
-  go (suc n) long later =
-      let own = slice_get-get_or s.silent n v (omega (arith, long)) in
+  at : (k : ℕ) × (slice_get s.silent k ≡ Some c.by)
+  at = slice-Contains s.silent c.by c.listed
+
+  go : (n : ℕ) → n ≤ length s.silent → BeginAfter s.silent g n → c.by.from ≤ g → (w : Gap) × (last_at s.silent n ≡ Some w) × IsTopped w u
+  go zero long later begun = absurd (let l = later at.0 c.by (omega arith) at.1 in omega (arith, l, begun))
+  go (suc n) long later begun =
+      let own = slice_get-get_or s.silent n c.by (omega (arith, long)) in
+      let e = ends_later _ c.by c.later in
+      let until = e.0 in
+      let tie = e.1 in
       let proc = is.proc in
       let to = is.to in (
         _,
         own,
         elim (cases_lt n at.0) [
-          | inl beyond ↦ absurd (let l = later at.0 v (omega (arith, beyond)) at.1 in let b = is.from in omega (arith, l, b, from))
+          | inl beyond ↦ absurd (let l = later at.0 c.by (omega (arith, beyond)) at.1 in omega (arith, l, begun))
           | inr inside ↦ elim (cases_lt at.0 n) [
-            | inl below ↦ elim (Rises-slices EndsBefore s.silent at.0 n v _ a.silent.rising at.1 own below) [
-              | inl e ↦ record { until = omega (arith, e, to); proc = λ same. absurd (omega (arith, e, to, same)) }
-              | inr e ↦ (let same = e.0 in let less = e.1 in record { until = omega (arith, same, to); proc = λ f. omega (arith, less, proc) })
+            | inl below ↦ elim (Rises-slices EndsBefore s.silent at.0 n c.by _ a.silent_rising at.1 own below) [
+              | inl e ↦ record { until = omega (arith, e, to, until); proc = λ same. absurd (omega (arith, e, to, until, same)) }
+              | inr e ↦ (let same = e.0 in let less = e.1 in record { until = omega (arith, same, to, until); proc = λ f. (let p = tie (omega (arith, f, same, to, until)) in omega (arith, less, proc, p)) })
             ]
             | inr above ↦ (let e : at.0 ≡ n = omega (arith, above, inside) in
                 let same = same_Some _ _ (sym at.1 ∙ ap (slice_get s.silent) e ∙ own) in
                 let p = ap (λ (x : Gap). x.proc) same in
                 let q = ap (λ (x : Gap). x.to) same in
-                record { until = omega (arith, q, to); proc = λ f. omega (arith, p, proc) })
+                record { until = omega (arith, q, to, until); proc = λ f. (let r = tie (omega (arith, f, q, to, until)) in omega (arith, p, proc, r)) })
           ]
         ],
       )
 
--- The last silence that begins by tick g has the longest gap from g on.
-IsLongestFrom-top : (set : ℕ) (t : Recorded) (s : Summary) → IsSummary set t 0 t.last s → (n g : ℕ) (w : Gap) → 1 ≤ g → n ≤ length s.silent → BeginAfter s.silent g n → last_at s.silent n ≡ Some w → w.from ≤ g
-    → IsLongestFrom set t g w.proc (w.to + 1)
-IsLongestFrom-top set t s a n g w start long later top from = record {
+-- The last silence that begins by tick g has the longest gap from g on, or that gap is no longer than a later one.
+IsLongestOver-top : (set : ℕ) (t : Recorded) (s : Summary) → Suffices set t s → (n g f : ℕ) (o : Option Gap) (w : Gap) → 1 ≤ g → n ≤ length s.silent → BeginAfter s.silent g n → KnowsGaps set t (g + 1) f o → last_at s.silent n ≡ Some w → w.from ≤ g
+    → IsLongestOver set t g f w.proc (w.to + 1)
+IsLongestOver-top set t s a n g f o w start long later known top from = record {
   gap = λ l. record {
     member = own.gap.member;
     start = start;
@@ -140,31 +160,39 @@ IsLongestFrom-top set t s a n g w start long later top from = record {
     inside = let i = own.gap.inside in omega (arith, i);
     silent = λ x b e s. own.gap.silent x (omega (arith, b, from)) (omega (arith, e)) s;
   };
-  longest = λ u i e. (let h = topped set t s a n g long later u i e in let b = (is u h).until in omega (arith, b));
-  least = λ u i e f. (let h = topped set t s a n g long later u i e in (is u h).proc (omega (arith, f)));
+  longest = λ u i e. elim (topped set t s a n g f o long later known u i e) [
+    | inl h ↦ inl (let b = (is u h).until in omega (arith, b))
+    | inr short ↦ inr short
+  ];
+  least = λ u i e long_enough same. elim (topped set t s a n g f o long later known u i e) [
+    | inl h ↦ (is u h).proc (omega (arith, same))
+    | inr short ↦ absurd (omega (arith, short, long_enough))
+  ];
 } where
-  placed : (n : ℕ) → last_at s.silent n ≡ Some w → IsLongest set t 0 t.last w
-  placed zero h = absurd (none-some w h)
-  placed (suc n) h = a.silent.sound w (Contains-slice_get s.silent n w h)
-
   own : IsLongest set t 0 t.last w
-  own = placed n top
+  own = a.silent_sound w (last_at-Contains s.silent n w top)
 
   is : (u : Gap) → (v : Gap) × (last_at s.silent n ≡ Some v) × IsTopped v u → IsTopped w u
   is u h = subst (λ v. IsTopped v u) (same_Some h.0 w (sym h.1 ∙ top)) h.2
 
--- Where no silence begins by then there is no gap from g on.
-IsLongestFrom-none : (set : ℕ) (t : Recorded) (s : Summary) → IsSummary set t 0 t.last s → (n g : ℕ) → n ≤ length s.silent → BeginAfter s.silent g n → last_at s.silent n ≡ None → IsLongestFrom set t g 0 g
-IsLongestFrom-none set t s a n g long later top = record {
+-- Where no silence begins by then, each gap from g on is shorter than that.
+IsLongestOver-none : (set : ℕ) (t : Recorded) (s : Summary) → Suffices set t s → (n g f : ℕ) (o : Option Gap) → n ≤ length s.silent → BeginAfter s.silent g n → KnowsGaps set t (g + 1) f o → last_at s.silent n ≡ None → IsLongestOver set t g f 0 g
+IsLongestOver-none set t s a n g f o long later known top = record {
   gap = λ l. absurd (omega (arith, l));
-  longest = λ u i e. absurd (let h = topped set t s a n g long later u i e in none-some h.0 (sym top ∙ h.1));
-  least = λ u i e f. absurd (let h = topped set t s a n g long later u i e in none-some h.0 (sym top ∙ h.1));
+  longest = λ u i e. elim (topped set t s a n g f o long later known u i e) [
+    | inl h ↦ absurd (none-some h.0 (sym top ∙ h.1))
+    | inr short ↦ inr short
+  ];
+  least = λ u i e long_enough same. elim (topped set t s a n g f o long later known u i e) [
+    | inl h ↦ absurd (none-some h.0 (sym top ∙ h.1))
+    | inr short ↦ absurd (omega (arith, short, long_enough))
+  ];
 }
 
 -- One tick back the level takes that gap.
-pub GapsLowered-with_silence : (set : ℕ) (t : Recorded) (s : Summary) → IsSummary set t 0 t.last s → (n g : ℕ) (level : Level) → 1 ≤ g → 1 ≤ level.phi → n ≤ length s.silent → BeginAfter s.silent g n
+pub GapsLowered-with_silence : (set : ℕ) (t : Recorded) (s : Summary) → Suffices set t s → (n g : ℕ) (level : Level) → 1 ≤ g → 1 ≤ level.phi → n ≤ length s.silent → BeginAfter s.silent g n
     → ((w : Gap) → last_at s.silent n ≡ Some w → w.from ≤ g) → KnowsGaps set t (g + 1) level.phi level.gap → GapsLowered set t g level (with_silence level g (last_at s.silent n))
 GapsLowered-with_silence set t s a n g level start positive long later begun known = go (last_at s.silent n) refl where
   go : (o : Option Gap) → last_at s.silent n ≡ o → GapsLowered set t g level (with_silence level g o)
-  go None e = subst (λ (l : Level). GapsLowered set t g level l) (with_gap-none level 0 g positive) (GapsLowered-with_longest set t g 0 g level (IsLongestFrom-none set t s a n g long later e) known)
-  go (Some w) e = GapsLowered-with_longest set t g w.proc (w.to + 1) level (IsLongestFrom-top set t s a n g w start long later e (begun w e)) known
+  go None e = subst (λ (l : Level). GapsLowered set t g level l) (with_gap-none level 0 g positive) (GapsLowered-with_over set t g 0 g level (IsLongestOver-none set t s a n g level.phi level.gap long later known e) known)
+  go (Some w) e = GapsLowered-with_over set t g w.proc (w.to + 1) level (IsLongestOver-top set t s a n g level.phi level.gap w start long later known e (begun w e)) known

@@ -10,7 +10,8 @@ use Rattle.suffix_staircase.specs.Analysis.{KnowsGaps, AreLevels}
 use Rattle.suffix_staircase.proofs.GapBounds.{GapsLowered}
 use Rattle.suffix_staircase.proofs.LevelBounds.{StandsBefore-itself, CanStandBefore-through, IsLevelAt-from_known, AreLevelsFrom-before, AreLevelsFrom-after_all, AreLevels-from_first, KnowsGaps-after_all}
 use Rattle.chunk_join.specs.declared.summaries.Message.{Message}
-use Rattle.chunk_join.specs.Summaries.{Summary, IsSummary}
+use Rattle.chunk_join.specs.Summaries.{Summary}
+use Rattle.chunk_join.specs.Sufficient.{Suffices}
 use Rattle.chunk_join.specs.Finishes.{last_at, with_silence, SentFrom, BeginAfter, HasMissesFrom, IsGoneOver}
 use Rattle.chunk_join.proofs.MessagesBack.{StandsBefore-through, HasMissesFrom-all, KnowsMisses-from_left}
 use Rattle.chunk_join.proofs.SilencesBack.{StandsBefore-with_silence, GapsLowered-with_silence}
@@ -85,11 +86,11 @@ IsTickBack-read part g m s n o old mid levels known read = record {
   positive : 1 ≤ mid.phi
   positive = let a = read.phi in let b = known.positive in omega (arith, a, b)
 
-  lowered : (set : ℕ) (t : Recorded) → IsTrace t → IsSummary set t 0 t.last part → GapsLowered set t g mid new
+  lowered : (set : ℕ) (t : Recorded) → IsTrace t → Suffices set t part → GapsLowered set t g mid new
   lowered set t sound a =
       let gaps : KnowsGaps set t (g + 1) mid.phi mid.gap = (let p = read.phi in let q = read.gap in rw (p, q) (known.ticks.gaps set t sound a)) in
       GapsLowered-with_silence set t part a o g mid read.start positive read.silences_within read.silent read.begun gaps
 
 -- From the first tick on they are the levels of the trace.
-pub AreLevels-gone_over : (part : Summary) (messages silences : ℕ) (level : Level) (levels : List Level) → IsGoneOver part 1 messages silences level levels → (set : ℕ) (t : Recorded) → IsTrace t → IsSummary set t 0 t.last part → AreLevels set t levels
+pub AreLevels-gone_over : (part : Summary) (messages silences : ℕ) (level : Level) (levels : List Level) → IsGoneOver part 1 messages silences level levels → (set : ℕ) (t : Recorded) → IsTrace t → Suffices set t part → AreLevels set t levels
 AreLevels-gone_over part messages silences level levels known set t sound a = AreLevels-from_first set t levels (known.ticks.each set t sound a)

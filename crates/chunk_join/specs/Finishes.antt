@@ -11,7 +11,8 @@ use Rattle.chunk_join.specs.declared.summaries.Place.{Place}
 use Rattle.chunk_join.specs.declared.summaries.Fate.TheVariants.{Open, Taken}
 use Rattle.chunk_join.specs.declared.summaries.Fate.{Fate}
 use Rattle.chunk_join.specs.declared.summaries.Message.{Message}
-use Rattle.chunk_join.specs.Summaries.{Summary, IsSummary, last_of}
+use Rattle.chunk_join.specs.Summaries.{Summary, last_of}
+use Rattle.chunk_join.specs.Sufficient.{Suffices}
 use Rattle.chunk_join.specs.Joins.{after}
 
 -- the piece is empty, or begins with tick 1
@@ -64,7 +65,7 @@ BeginAfter silent g left = (k : ℕ) (w : Gap) → left ≤ k → slice_get sile
 
 -- Where the part is a whole trace, the level's misses are those of its messages from number `left` on.
 abbrev pub HasMissesFrom : Summary → ℕ → Level → Type 0
-HasMissesFrom part left level = (set : ℕ) (trace : Recorded) → IsTrace trace → IsSummary set trace 0 trace.last part → KnowsMissesAfter set trace (number_at part.sent left) level.delta level.miss
+HasMissesFrom part left level = (set : ℕ) (trace : Recorded) → IsTrace trace → Suffices set trace part → KnowsMissesAfter set trace (number_at part.sent left) level.delta level.miss
 
 -- going from so many messages left to fewer keeps that
 abbrev pub KeepsMisses : Summary → ℕ → Level → ℕ → Level → Type 0
@@ -72,8 +73,8 @@ KeepsMisses part count old left new = HasMissesFrom part count old → HasMisses
 
 -- Where it is a whole trace, the level's gaps and the levels so far are those from tick g on.
 pub record HasTicksFrom (part : Summary) (g : ℕ) (level : Level) (levels : List Level) : Type 0 where
-  pub gaps : (set : ℕ) (trace : Recorded) → IsTrace trace → IsSummary set trace 0 trace.last part → KnowsGaps set trace g level.phi level.gap
-  pub each : (set : ℕ) (trace : Recorded) → IsTrace trace → IsSummary set trace 0 trace.last part → AreLevelsFrom set trace g levels
+  pub gaps : (set : ℕ) (trace : Recorded) → IsTrace trace → Suffices set trace part → KnowsGaps set trace g level.phi level.gap
+  pub each : (set : ℕ) (trace : Recorded) → IsTrace trace → Suffices set trace part → AreLevelsFrom set trace g levels
 
 -- what is known of a part whose ticks from g on were gone over, with so many messages and silences left
 pub record IsGoneOver (part : Summary) (g messages silences : ℕ) (level : Level) (levels : List Level) : Type 0 where

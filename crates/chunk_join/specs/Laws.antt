@@ -1,7 +1,9 @@
 -- That pieces of one trace join, and give the piece of both together: the proofs, smallest first.
 pub mod Listings
+pub mod Thinned
 pub mod LastReceives
 pub mod TakenIds
 pub mod SentMessages
 pub mod SilencesJoined
 pub mod PiecesJoined
+pub mod DigestsJoined

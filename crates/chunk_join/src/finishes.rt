@@ -9,7 +9,8 @@ ghost use Rattle.suffix_staircase.specs.Analysis.{AreLevels};
 ghost use Rattle.suffix_staircase.specs.Levels.{StandsBefore};
 ghost use Rattle.chunk_join.specs.declared.summaries.Message.{Message};
 ghost use Rattle.chunk_join.specs.declared.finishes.FinishError.TheVariants.{NotWhole};
-ghost use Rattle.chunk_join.specs.Summaries.{Whole, IsPiece, IsSummary};
+ghost use Rattle.chunk_join.specs.Summaries.{Whole, IsPiece};
+ghost use Rattle.chunk_join.specs.Sufficient.{Suffices};
 ghost use Rattle.chunk_join.specs.Prefixes.{prefix};
 ghost use Rattle.chunk_join.specs.Finishes.{BeginsWithFirst, last_at, missed, with_missed, with_silence, KeepsMisses};
 
@@ -57,9 +58,10 @@ impl Piece {
     }
 }
 
-/// The stairs of a part that is a whole trace: its messages and its silences are gone over from the last ones back.
-fn stairs_of(alloc: Global, part: &Part) -> Result<Stairs, AllocError>
-    ensures { IfOk result (λ stairs. (set : ℕ) (trace : Recorded) → IsTrace trace → IsSummary set trace 0 trace.last part.now → AreLevels set trace stairs) }
+/// The stairs of a part that has what the levels of a whole trace need: its messages and its silences are gone over
+/// from the last ones back.
+pub(crate) fn stairs_of(alloc: Global, part: &Part) -> Result<Stairs, AllocError>
+    ensures { IfOk result (λ stairs. (set : ℕ) (trace : Recorded) → IsTrace trace → Suffices set trace part.now → AreLevels set trace stairs) }
 {
     let mut builder = StairBuilder::new(alloc);
     let mut level = Level {

@@ -78,19 +78,6 @@ impl Joined for Piece {
 
 impl Piece {
     ghost use Rattle.std.specs.Prelude.{◌≡◌, ◌+◌, ◌-◌, ◌≤◌, IfOk, OnErr};
-
-    /// An equal piece.
-    pub(crate) fn copy(&self, alloc: Global) -> Result<Piece, AllocError>
-        ensures { IfOk result (λ copy. copy ≡ self.now) }
-    {
-        match &self.part {
-            None => Ok(Piece { part: None }),
-            Some(part) => Ok(Piece {
-                part: Some(part.copy(alloc)?),
-            }),
-        }
-    }
-
     ghost use Rattle.step_trace.specs.Ticks.{IsTrace};
     ghost use Rattle.chunk_join.specs.Summaries.{IsPiece};
 

@@ -109,7 +109,7 @@ IsPiece-one whole i j None (Some y) a b = absurd (let l = b.0 in omega (arith, l
 IsPiece-one whole i j (Some x) None a b = absurd (let l = a.0 in omega (arith, l, b))
 IsPiece-one whole i j (Some x) (Some y) a b = ap (λ (s : Summary). Some s) (IsSummary-one whole.set whole.trace whole.sound i j x y a.2 b.2)
 
-refusal-parts : (l r : Summary) → l.to + 1 ≡ r.from → l.set ≡ r.set → refusal (Some l) (Some r) ≡ None
+pub refusal-parts : (l r : Summary) → l.to + 1 ≡ r.from → l.set ≡ r.set → refusal (Some l) (Some r) ≡ None
 refusal-parts l r e f = rw (eq-eqb _ _ e, eq-eqb _ _ f) refl
 
 IsPiece-fit : (whole : Whole) (i j k : ℕ) (x y : Option Summary) → IsPiece whole i j x → IsPiece whole j k y → refusal x y ≡ None
@@ -129,7 +129,7 @@ right_unit : (x : Option Summary) → joined x None ≡ x
 right_unit None = refl
 right_unit (Some x) = refl
 
-right_fits : (x : Option Summary) → refusal x None ≡ None
+pub right_fits : (x : Option Summary) → refusal x None ≡ None
 right_fits None = refl
 right_fits (Some x) = refl
 

@@ -134,7 +134,7 @@ left_listed set t i s j l m f a k early fate =
     (own, a.sent.complete (with_fate m f) own)
 
 -- a message of the left part that no Receive of the right part takes is as it was
-settle-open : (set : ℕ) (t : Recorded) (s j : ℕ) (l r : Summary) (m : Message) → IsSummary set t s j r → ((x : ℕ) → TakesAt t.steps x m.sent.no → s < tick_of t x → tick_of t x ≤ j → ⊥)
+pub settle-open : (set : ℕ) (t : Recorded) (s j : ℕ) (l r : Summary) (m : Message) → IsSummary set t s j r → ((x : ℕ) → TakesAt t.steps x m.sent.no → s < tick_of t x → tick_of t x ≤ j → ⊥)
     → settle r.taken l.last m ≡ m
 settle-open set t s j l r m b none = go (find (takes_of m) r.taken) refl where
   go : (o : Option Take) → find (takes_of m) r.taken ≡ o → settled_by l.last m o ≡ m

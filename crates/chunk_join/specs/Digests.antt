@@ -1,0 +1,68 @@
+-- The digest of a part of a trace: its summary without what later messages and silences make needless (own). A message
+-- that no Receive of the part takes stays, for its fate is open; so does a silence that reaches the part's first or last
+-- tick, for it may go on beyond. Of the others only those stay that are longer than all that come later.
+use Rattle.std.specs.Prelude.{ℕ, ◌≡◌, ◌+◌, ◌-◌, ◌<◌, ◌≤◌, ◌||◌, Bool, true, false, Option, Some, None, nat_le}
+use Rattle.step_trace.specs.declared.rows.Gap.{Gap}
+use Rattle.step_trace.specs.Traces.{Recorded}
+use Rattle.chunk_join.specs.declared.summaries.Place.{Place}
+use Rattle.chunk_join.specs.declared.summaries.Fate.{Fate}
+use Rattle.chunk_join.specs.declared.summaries.Fate.TheVariants.{Open, Taken}
+use Rattle.chunk_join.specs.declared.summaries.Message.{Message}
+use Rattle.chunk_join.specs.Summaries.{Summary, IsSummary, Whole}
+use Rattle.chunk_join.specs.Joins.{joined_parts}
+use Rattle.chunk_join.specs.Thinning.{thinned}
+
+abbrev pub is_open_fate : Fate → Bool
+is_open_fate Open = true
+is_open_fate (Taken missed) = false
+
+-- no Receive of the part takes the message
+abbrev pub is_open : Message → Bool
+is_open m = is_open_fate m.fate
+
+-- the length of a miss by this Receive
+abbrev pub long_from : Place → Option Place → ℕ
+long_from sent None = 0
+long_from sent (Some r) = r.tick - sent.tick
+
+abbrev pub fate_long : Place → Fate → ℕ
+fate_long sent Open = 0
+fate_long sent (Taken missed) = long_from sent missed
+
+-- the length of its last miss, where it is taken
+abbrev pub miss_long : Message → ℕ
+miss_long m = fate_long m.sent m.fate
+
+-- the silence reaches the first or the last of these ticks
+abbrev pub reaches_edge : ℕ → ℕ → Gap → Bool
+reaches_edge from to w = nat_le w.from from || nat_le to w.to
+
+abbrev pub gap_long : Gap → ℕ
+gap_long w = w.to + 1 - w.from
+
+-- a summary without what is needless
+abbrev pub digest : Summary → Summary
+digest s = record {
+  set = s.set;
+  from = s.from;
+  to = s.to;
+  sent = thinned is_open miss_long s.sent;
+  taken = s.taken;
+  last = s.last;
+  silent = thinned (reaches_edge s.from s.to) gap_long s.silent;
+}
+
+-- this is the digest of the part from cut i to cut j
+abbrev pub IsDigest : ℕ → Recorded → ℕ → ℕ → Summary → Type 0
+IsDigest set trace i j d = (s : Summary) × IsSummary set trace i j s × (d ≡ digest s)
+
+-- the part of a trace from cut i to cut j: its digest, or none where the cuts are one
+abbrev pub IsDigestOf : Whole → ℕ → ℕ → Option Summary → Type 0
+IsDigestOf whole i j None = i ≡ j
+IsDigestOf whole i j (Some d) = (i < j) × (j ≤ whole.trace.last) × IsDigest whole.set whole.trace i j d
+
+-- both as one; where one is the empty part, the other one
+abbrev pub joined_digests : Option Summary → Option Summary → Option Summary
+joined_digests None right = right
+joined_digests (Some l) None = Some l
+joined_digests (Some l) (Some r) = Some (digest (joined_parts l r))
