@@ -1,8 +1,11 @@
-//! Worked examples of pieces, and random traces cut into pieces: tests of the crate below, by its public items.
+//! Worked examples of pieces and of an analyst, and random traces cut into pieces: tests of the crate below, by its
+//! public items.
 #![tactic(auto)]
 
 #[cfg(test)]
 mod cut_pieces;
+#[cfg(test)]
+mod following;
 #[cfg(test)]
 mod full_size;
 #[cfg(test)]
