@@ -1,6 +1,7 @@
-//! Prefixes that are shown while three threads go on.
+//! Prefixes that are shown, and followed by an analyst, while three threads go on.
 
 use crate::seats::{opened, waits};
+use chunk_join::Analyst;
 use locked_recorder::{Recorder, Seat, View};
 use std::alloc::Global;
 use std::slice::from_ref;
@@ -8,7 +9,8 @@ use std::sync::Wait;
 use std::test::Fail;
 use std::thread;
 use std::thread::Threads;
-use step_trace::OpenGate;
+use step_trace::{Config, OpenGate, ProcSet, Trace};
+use suffix_staircase::Stairs;
 
 // Makes twenty steps.
 fn drives<R: Wait>(rt: &R, alloc: Global, recorder: &Recorder, seat: &mut Seat) -> bool {
@@ -18,23 +20,72 @@ fn drives<R: Wait>(rt: &R, alloc: Global, recorder: &Recorder, seat: &mut Seat) 
     }
 }
 
-// Whether the trace is shown, with as many steps as before or more.
-fn grows<R: Wait>(rt: &R, alloc: Global, recorder: &Recorder, view: &mut View) -> bool {
-    let seen = match view.seen() {
+// The processors that count as correct.
+fn all_three() -> ProcSet {
+    ProcSet::empty().with(1).with(2).with(3)
+}
+
+// Whether two have the same levels.
+fn same_stairs(a: &Stairs, b: &Stairs) -> bool {
+    if a.len() != b.len() {
+        return false;
+    }
+    for g in 1..a.len() as u64 + 1 {
+        if a.at(g) != b.at(g) {
+            return false;
+        }
+    }
+    true
+}
+
+// Whether an analyst's answer to this trace is the one from scratch.
+fn is_followed(alloc: Global, analyst: &mut Analyst, trace: &Trace) -> bool {
+    let set = all_three();
+    if !set.within(trace.config().n()) {
+        return false;
+    }
+    let Ok(stairs) = Stairs::of_trace(alloc, trace, set) else {
+        return false;
+    };
+    match analyst.feed(alloc, trace) {
+        Ok(fed) => same_stairs(&fed, &stairs),
+        Err(_) => false,
+    }
+}
+
+// A view with an analyst who is fed all that it is shown.
+#[derive(Drop)]
+struct Watcher {
+    view: View,
+    analyst: Analyst,
+}
+
+// A watcher who was shown nothing yet, of this recorder's configuration.
+fn watcher_of(alloc: Global, recorder: &Recorder) -> Result<Watcher, Fail> {
+    let config = Config::new(3, 1, Vec::from_slice(alloc, &[5, 7, 7])?)?;
+    Ok(Watcher {
+        view: recorder.view(),
+        analyst: Analyst::new(alloc, config, all_three()),
+    })
+}
+
+// Whether the trace is shown and followed, with as many steps as before or more.
+fn grows<R: Wait>(rt: &R, alloc: Global, recorder: &Recorder, watcher: &mut Watcher) -> bool {
+    let seen = match watcher.view.seen() {
         Some(trace) => trace.len(),
         None => 0,
     };
-    match recorder.prefix(rt, alloc, view) {
-        Ok(trace) => seen <= trace.len(),
+    match recorder.prefix(rt, alloc, &mut watcher.view) {
+        Ok(trace) => { seen <= trace.len() && is_followed(alloc, &mut watcher.analyst, &trace) }
         Err(_) => false,
     }
 }
 
 // Shows the trace again and again.
-fn watches<R: Wait>(rt: &R, alloc: Global, recorder: &Recorder, view: &mut View) -> bool {
+fn watches<R: Wait>(rt: &R, alloc: Global, recorder: &Recorder, watcher: &mut Watcher) -> bool {
     let mut all = true;
     for _ in 0..20 {
-        all = grows(rt, alloc, recorder, view) && all;
+        all = grows(rt, alloc, recorder, watcher) && all;
     }
     all
 }
@@ -45,7 +96,7 @@ fn all_go<R: Threads + Wait + Sync>(
     alloc: Global,
     recorder: &Recorder,
     seats: &mut [Seat],
-    view: &mut View,
+    watcher: &mut Watcher,
 ) -> bool {
     thread::scope(thread::scope_env(), rt, |scope| {
         let mut threads = Vec::new(alloc);
@@ -57,10 +108,10 @@ fn all_go<R: Threads + Wait + Sync>(
                 return false;
             }
         }
-        let Ok(watcher) = scope.spawn(move || watches(rt, alloc, recorder, view)) else {
+        let Ok(watching) = scope.spawn(move || watches(rt, alloc, recorder, watcher)) else {
             return false;
         };
-        let mut all = watcher.join(rt);
+        let mut all = watching.join(rt);
         for started in threads {
             all = started.join(rt) && all;
         }
@@ -68,16 +119,16 @@ fn all_go<R: Threads + Wait + Sync>(
     })
 }
 
-// Whether the trace that is shown has so many steps.
+// Whether the trace that is shown has so many steps, and is followed.
 fn shows<R: Wait>(
     rt: &R,
     alloc: Global,
     recorder: &Recorder,
-    view: &mut View,
+    watcher: &mut Watcher,
     steps: usize,
 ) -> bool {
-    match recorder.prefix(rt, alloc, view) {
-        Ok(trace) => trace.len() == steps,
+    match recorder.prefix(rt, alloc, &mut watcher.view) {
+        Ok(trace) => { trace.len() == steps && is_followed(alloc, &mut watcher.analyst, &trace) }
         Err(_) => false,
     }
 }
@@ -102,21 +153,21 @@ fn all_shown<R: Threads + Wait + Sync>(
     alloc: Global,
     recorder: &Recorder,
     seats: &mut [Seat],
-    view: &mut View,
+    watcher: &mut Watcher,
 ) -> bool {
-    view.seen().is_none()
-        && shows(rt, alloc, recorder, view, 0)
-        && all_go(rt, alloc, recorder, seats, view)
-        && shows(rt, alloc, recorder, view, 60)
+    watcher.view.seen().is_none()
+        && shows(rt, alloc, recorder, watcher, 0)
+        && all_go(rt, alloc, recorder, seats, watcher)
+        && shows(rt, alloc, recorder, watcher, 60)
 }
 
 #[test]
 fn prefixes_grow(rt: HostRuntime) -> Result<(), Fail> {
     let alloc = rt.alloc();
     let (recorder, mut seats) = opened(&rt, alloc, 1, 1, &[5, 7, 7], 100)?;
-    let mut view = recorder.view();
-    assert!(rt; all_shown(&rt, alloc, &recorder, seats.as_mut_slice(), &mut view));
-    assert!(rt; fits(&rt, alloc, &recorder, &seats, from_ref(&view)));
+    let mut watcher = watcher_of(alloc, &recorder)?;
+    assert!(rt; all_shown(&rt, alloc, &recorder, seats.as_mut_slice(), &mut watcher));
+    assert!(rt; fits(&rt, alloc, &recorder, &seats, from_ref(&watcher.view)));
     Ok(())
 }
 
