@@ -1,22 +1,32 @@
 //! An analyst that is fed longer and longer traces, and traces that don't extend those.
 
+use crate::random_traces::{Draws, empty_trace_of_three, push_near, some_set};
 use crate::stair_levels::{has_levels, has_one_level, same_stairs};
 use crate::traces::{both, empty_trace, never_delivered, step_of, ticked, trace_of};
 use chunk_join::{Analyst, FeedError};
 use std::alloc::Global;
 use std::test::Fail;
-use step_trace::{Step, Trace};
+use step_trace::{ProcSet, Step, Trace};
 use suffix_staircase::Stairs;
 
-// An analyst for processors 1 and 2 of two, who was fed nothing yet.
-fn new_analyst(alloc: Global) -> Result<Analyst, Fail> {
+/// An analyst for processors 1 and 2 of two, who was fed nothing yet.
+pub(crate) fn new_analyst(alloc: Global) -> Result<Analyst, Fail> {
     let opening = empty_trace(alloc, 2)?;
     Ok(Analyst::new(alloc, opening.config().copy(alloc)?, both()))
 }
 
-// Whether the answer to this trace is the one from scratch.
+// Whether the answer of an analyst for 1 and 2 to this trace is the one from scratch.
 fn follows(alloc: Global, analyst: &mut Analyst, trace: &Trace) -> Result<bool, Fail> {
-    let set = both();
+    follows_for(alloc, analyst, trace, both())
+}
+
+// The same of an analyst for any set.
+fn follows_for(
+    alloc: Global,
+    analyst: &mut Analyst,
+    trace: &Trace,
+    set: ProcSet,
+) -> Result<bool, Fail> {
     if !set.within(trace.config().n()) {
         return Ok(false);
     }
@@ -211,5 +221,29 @@ fn pages_are_followed(rt: HostRuntime) -> Result<(), Fail> {
     assert!(rt; differs(alloc, &mut analyst, &shorter, 258, None)?);
     let again = silent_alternation(alloc, 600)?;
     assert!(rt; follows(alloc, &mut analyst, &again)?);
+    Ok(())
+}
+
+// Whether an analyst follows one more trace from step to step.
+fn follows_some(alloc: Global, draws: &mut Draws) -> Result<bool, Fail> {
+    let mut trace = empty_trace_of_three(alloc)?;
+    let set = some_set(draws);
+    let mut analyst = Analyst::new(alloc, trace.config().copy(alloc)?, set);
+    for _ in 0..2 + draws.below(12) {
+        push_near(alloc, draws, &mut trace)?;
+        if !follows_for(alloc, &mut analyst, &trace, set)? {
+            return Ok(false);
+        }
+    }
+    Ok(true)
+}
+
+#[test]
+fn random_traces_are_followed(rt: HostRuntime) -> Result<(), Fail> {
+    let mut draws = Draws { state: 23 };
+    for round in 0..400 {
+        let found = follows_some(rt.alloc(), &mut draws)?;
+        assert!(rt; found, "trace {round}");
+    }
     Ok(())
 }

@@ -1,9 +1,10 @@
 //! Calls that take memory, at full size: what no clause says is that they succeed.
 
 use crate::cut_pieces::{are_stairs_of, is_whole_cut_after, piece_of};
+use crate::following::new_analyst;
 use crate::stair_levels::has_levels_at;
 use crate::traces::{both, empty_trace, step_of};
-use chunk_join::Piece;
+use chunk_join::{Analyst, Piece};
 use std::alloc::Global;
 use std::test::Fail;
 use step_trace::Trace;
@@ -19,12 +20,18 @@ fn sent_in_turns(alloc: Global, count: u64) -> Result<Trace, Fail> {
     Ok(trace)
 }
 
-// So many messages go from 1 to 2, which then takes one after the other.
-fn sent_and_then_taken(alloc: Global, count: u64) -> Result<Trace, Fail> {
+// So many messages go from 1 to 2.
+fn sent(alloc: Global, count: u64) -> Result<Trace, Fail> {
     let mut trace = empty_trace(alloc, 2)?;
     for _ in 0..count {
         trace.push(step_of(alloc, 1, 2, &[])?)?;
     }
+    Ok(trace)
+}
+
+// So many messages go from 1 to 2, which then takes one after the other.
+fn sent_and_then_taken(alloc: Global, count: u64) -> Result<Trace, Fail> {
+    let mut trace = sent(alloc, count)?;
     take_all(alloc, &mut trace, count)?;
     Ok(trace)
 }
@@ -83,5 +90,34 @@ fn pieces_of_half_a_million_messages(rt: HostRuntime) -> Result<(), Fail> {
     let trace = sent_and_then_taken(rt.alloc(), 500_000)?;
     assert!(rt; is_summarised(rt.alloc(), &trace, BY_HALVES)?);
     assert!(rt; is_whole_cut_after(rt.alloc(), &trace, 500_000)?);
+    Ok(())
+}
+
+// Nobody receives, and 2 doesn't step.
+const ALL_SENT: &[(u64, [u64; 7])] = &[
+    (1, [1, 0, 0, 500_001, 2, 1, 500_000]),
+    (500_000, [1, 0, 0, 2, 2, 500_000, 500_000]),
+];
+
+fn climbs_fed(
+    alloc: Global,
+    analyst: &mut Analyst,
+    trace: &Trace,
+    levels: &[(u64, [u64; 7])],
+) -> bool {
+    match analyst.feed(alloc, trace) {
+        Ok(stairs) => has_levels_at(&stairs, levels),
+        Err(_) => false,
+    }
+}
+
+// All messages are open when the analyst is fed first.
+#[test]
+fn a_million_steps_are_followed(rt: HostRuntime) -> Result<(), Fail> {
+    let mut trace = sent(rt.alloc(), 500_000)?;
+    let mut analyst = new_analyst(rt.alloc())?;
+    assert!(rt; climbs_fed(rt.alloc(), &mut analyst, &trace, ALL_SENT));
+    take_all(rt.alloc(), &mut trace, 500_000)?;
+    assert!(rt; climbs_fed(rt.alloc(), &mut analyst, &trace, BY_HALVES));
     Ok(())
 }

@@ -59,9 +59,9 @@ fn some_act(alloc: Global, draws: &mut Draws, trace: &Trace, proc: u64) -> Resul
     Ok(Act::Receive { ids, ends: false })
 }
 
-// Appends a step in the last tick or up to two ticks after it, or where it is refused an empty Receive in
-// the next one.
-fn push_near(alloc: Global, draws: &mut Draws, trace: &mut Trace) -> Result<(), Fail> {
+/// Appends a step in the last tick or up to two ticks after it, or where it is refused an empty Receive in
+/// the next one.
+pub(crate) fn push_near(alloc: Global, draws: &mut Draws, trace: &mut Trace) -> Result<(), Fail> {
     let proc = 1 + draws.below(3);
     let tick = trace.last_tick() + draws.below(3);
     let act = some_act(alloc, draws, trace, proc)?;
@@ -71,10 +71,15 @@ fn push_near(alloc: Global, draws: &mut Draws, trace: &mut Trace) -> Result<(), 
     Ok(())
 }
 
+/// A trace of three processors that has no steps.
+pub(crate) fn empty_trace_of_three(alloc: Global) -> Result<Trace, Fail> {
+    let config = Config::new(3, 1, Vec::from_slice(alloc, &[5, 7, 9])?)?;
+    Ok(Trace::new(alloc, config))
+}
+
 /// Up to 13 steps of three processors, and up to two idle ticks after them.
 pub(crate) fn some_trace(alloc: Global, draws: &mut Draws) -> Result<Trace, Fail> {
-    let config = Config::new(3, 1, Vec::from_slice(alloc, &[5, 7, 9])?)?;
-    let mut trace = Trace::new(alloc, config);
+    let mut trace = empty_trace_of_three(alloc)?;
     for _ in 0..2 + draws.below(12) {
         push_near(alloc, draws, &mut trace)?;
     }
