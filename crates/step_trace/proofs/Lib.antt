@@ -11,8 +11,11 @@ pub mod TickOrder
 pub mod TickPositions
 pub mod FittingTicks
 pub mod TickReasons
+pub mod PagePlaces
+pub mod TickedPlaces
 pub mod ExtendedTraces
 pub mod FirstDifferences
+pub mod SamePrefixes
 pub mod BoundLaws
 pub mod BoundDecisions
 pub mod ListMembers

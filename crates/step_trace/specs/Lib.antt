@@ -10,6 +10,8 @@ pub mod OwnSteps
 pub mod PushRefusals
 pub mod TickRefusals
 pub mod PushErrorTexts
+pub mod Pages
+pub mod PlacedSteps
 pub mod DeliveryIndex
 pub mod Bounds
 pub mod Witnesses

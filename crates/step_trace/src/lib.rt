@@ -6,11 +6,12 @@
 mod configurations;
 mod delivery_index;
 mod differences;
-mod extensions;
 mod gates;
 pub mod meeting;
 mod numbers;
 mod own_steps;
+mod paged_lists;
+mod placed_steps;
 mod processor_lists;
 mod processors;
 mod push_error_texts;

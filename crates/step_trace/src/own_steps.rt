@@ -3,22 +3,25 @@
 ghost use Rattle.std.specs.Prelude.{◌≡◌, ◌<◌, length, IfOk, OnErr};
 ghost use Rattle.step_trace.specs.OwnSteps.{own_steps};
 
+use crate::placed_steps::PlacedSteps;
 use crate::steps::Step;
 use std::alloc::{AllocError, Global};
 
 /// The steps of processor `p` with their numbers, in order. Refuses only where there is one.
 pub(crate) fn own_steps(
     alloc: Global,
-    steps: &[Step],
+    placed: &PlacedSteps,
     p: u64,
 ) -> Result<Vec<(u64, Step)>, AllocError>
-    ensures own { IfOk result (λ own. own.items ≡ own_steps steps.now p) }
-    ensures more { OnErr result (0 < length (own_steps steps.now p)) }
+    ensures own { IfOk result (λ own. own.items ≡ own_steps placed.now.steps p) }
+    ensures more { OnErr result (0 < length (own_steps placed.now.steps p)) }
 {
     let mut own = Vec::new(alloc);
-    for (i, step) in steps.iter().enumerate() {
-        if step.proc == p {
-            own.push(numbered(i as u64 + 1, step)?)?;
+    for i in 0..placed.len() as u64 {
+        if let Some(step) = placed.step(i + 1) {
+            if step.proc == p {
+                own.push(numbered(i + 1, step)?)?;
+            }
         }
     }
     Ok(own)

@@ -3,12 +3,12 @@
 ghost use Rattle.std.specs.Prelude.{◌≡◌, [], ◌++◌, ◌∷◌, ◌≤◌, ◌<◌, length, option_copied, OnOk, OnErr, IfErr, IfOk, IsTrue, ◌↔◌, None, ◌+◌, ◌⊎◌};
 
 use crate::configurations::Config;
-use crate::delivery_index::{append, make_room};
-use crate::extensions::begins_with;
+use crate::delivery_index::append_flag;
 use crate::own_steps::own_steps;
-use crate::push_refusals::{ids_refusal, step_of};
+use crate::placed_steps::PlacedSteps;
+use crate::push_refusals::ids_refusal;
 use crate::steps::{Act, Step};
-use crate::ticks::{self, BadTick, comes_after_last, tick_at};
+use crate::ticks::{BadTick, comes_after_last};
 use std::alloc::{AllocError, Global};
 use std::marker::Model;
 
@@ -51,9 +51,7 @@ pub enum PushError {
 #[derive(Debug, Drop)]
 pub struct Trace {
     config: Config,
-    steps: Vec<Step>,
-    // For each step, its tick.
-    ticks: Vec<u32>,
+    placed: PlacedSteps,
     // The last tick.
     last: u64,
     // For each step, whether the message of its number was taken.
@@ -68,10 +66,10 @@ impl Model for Trace {
     ghost use Rattle.step_trace.specs.Ticks.{IsTrace};
     ghost use Rattle.step_trace.specs.DeliveryIndex.{IsIndex};
 
-    ghost view = { λ a. record { config = a.config; steps = a.steps.items; ticks = a.ticks.items; last = a.last } };
+    ghost view = { λ a. record { config = a.config; steps = a.placed.steps; ticks = a.placed.ticks; last = a.last } };
 
-    ghost invariant = { λ a. IsTrace (record { config = a.config; steps = a.steps.items; ticks = a.ticks.items; last = a.last })
-        × IsIndex a.steps.items a.taken.items };
+    ghost invariant = { λ a. IsTrace (record { config = a.config; steps = a.placed.steps; ticks = a.placed.ticks; last = a.last })
+        × IsIndex a.placed.steps a.taken.items };
 }
 
 impl Trace {
@@ -92,21 +90,20 @@ impl Trace {
     {
         Trace {
             config,
-            steps: Vec::new(alloc),
-            ticks: Vec::new(alloc),
+            placed: PlacedSteps::new(alloc),
             last: 0,
             taken: Vec::new(alloc),
         }
     }
 
-    /// An equal trace, in time that grows with its length.
+    /// An equal trace. It shares the pages of steps that are full; the steps after them, and what was taken, are
+    /// copied.
     pub fn copy(&self, alloc: Global) -> Result<Self, AllocError>
         ensures copied { IfOk result (λ copy. copy ≡ self.now) }
     {
         Ok(Trace {
             config: self.config.copy(alloc)?,
-            steps: self.steps.clone()?,
-            ticks: Vec::from_slice(alloc, &self.ticks)?,
+            placed: self.placed.copy()?,
             last: self.last,
             taken: Vec::from_slice(alloc, &self.taken)?,
         })
@@ -125,14 +122,14 @@ impl Trace {
         ensures limit { result ≤ MAX_STEPS }
         ensures sound { IsWellFormed self.now.config self.now.steps }
     {
-        self.steps.len()
+        self.placed.len()
     }
 
     /// Whether it has no steps.
     pub fn is_empty(&self) -> bool
         ensures { IsTrue result ↔ (self.now.steps ≡ []) }
     {
-        self.steps.is_empty()
+        self.placed.len() == 0
     }
 
     /// The step of this number, if there is one.
@@ -141,7 +138,7 @@ impl Trace {
         ensures limit { length self.now.steps ≤ MAX_STEPS }
         ensures sound { IsWellFormed self.now.config self.now.steps }
     {
-        step_of(&self.steps, no)
+        self.placed.step(no)
     }
 
     /// Whether it extends another trace: they have one configuration, the other's steps with their ticks
@@ -153,17 +150,16 @@ impl Trace {
         if !self.config.is_same(&other.config) {
             return false;
         }
-        if !begins_with(&self.steps, &other.steps)
-            || !ticks::begins_with(&self.ticks, &other.ticks)
-        {
+        // It differs only after all of the other's steps.
+        if self.first_difference(other) <= other.placed.len() as u64 {
             return false;
         }
         if self.last < other.last {
             return false;
         }
         // The ticks of the steps after the next one are no lower than its own.
-        other.steps.len() == self.steps.len()
-            || other.last <= tick_at(&self.ticks, other.steps.len() as u64 + 1)
+        other.placed.len() == self.placed.len()
+            || other.last <= self.placed.tick(other.placed.len() as u64 + 1)
     }
 
     /// The steps of a processor with their numbers, in order: none where there is no such processor.
@@ -173,7 +169,7 @@ impl Trace {
         ensures own { IfOk result (λ own. own.items ≡ own_steps self.now.steps proc) }
         ensures more { OnErr result (0 < length (own_steps self.now.steps proc)) }
     {
-        own_steps(alloc, &self.steps, proc)
+        own_steps(alloc, &self.placed, proc)
     }
 
     /// The tick of the step of this number. Asks for the number of a step.
@@ -184,7 +180,7 @@ impl Trace {
         ensures limit { result ≤ MAX_TICKS }
         ensures timed { IsTimed self.now }
     {
-        tick_at(&self.ticks, no)
+        self.placed.tick(no)
     }
 
     /// The last tick: 0 in a new trace.
@@ -232,11 +228,13 @@ impl Trace {
         if let Some(why) = self.refusal(tick, &step) {
             return Err(why);
         }
-        if make_room(&mut self.steps, &mut self.ticks, &mut self.taken).is_err() {
+        let Ok(()) = self.taken.reserve(1) else {
             return Err(PushError::Memory);
-        }
-        append(&mut self.steps, &mut self.taken, step);
-        self.ticks.push_reserved(tick as u32);
+        };
+        let Ok(()) = self.placed.push(step, tick as u32) else {
+            return Err(PushError::Memory);
+        };
+        append_flag(&mut self.taken, self.placed.last_ids());
         self.last = tick;
         Ok(())
     }
@@ -262,7 +260,7 @@ impl Trace {
         ensures exact { result ≡ refusal_in self.now tick step.now }
         ensures sound { IsTrace self.now }
     {
-        if self.steps.len() >= MAX_STEPS {
+        if self.placed.len() >= MAX_STEPS {
             return Some(PushError::Full);
         }
         if tick == 0 || tick < self.last || tick > MAX_TICKS {
@@ -271,7 +269,7 @@ impl Trace {
         if !self.config.is_processor(step.proc) {
             return Some(PushError::BadProc);
         }
-        if !comes_after_last(&self.steps, &self.ticks, tick, step.proc) {
+        if !comes_after_last(&self.placed, tick, step.proc) {
             return Some(PushError::ProcOrder);
         }
         match &step.act {
@@ -283,8 +281,7 @@ impl Trace {
                 }
             }
             Act::Receive { ids, .. } => ids_refusal(
-                &self.steps,
-                &self.ticks,
+                &self.placed,
                 &self.taken,
                 tick,
                 step.proc,

@@ -15,6 +15,8 @@ mod gates_by_hand;
 #[cfg(test)]
 mod long_stairs;
 #[cfg(test)]
+mod pages_by_hand;
+#[cfg(test)]
 mod plain_comparison;
 #[cfg(test)]
 mod pushes_by_hand;

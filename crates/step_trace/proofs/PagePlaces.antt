@@ -1,0 +1,99 @@
+-- Items of a list in pages, by their places.
+use Rattle.std.proofs.Common.{ℕ, ◌≡◌, ◌+◌, ◌-◌, ◌*◌, ◌/◌, ◌%◌, ◌<◌, ◌≤◌, List, [], ◌∷◌, ◌++◌, length, Some, refl, sym, ap, ◌∙◌, suc, zero, arith, append_assoc, length-append}
+use Rattle.std.specs.Prelude.{slice_get, All, None}
+use Rattle.std.specs.List.{flat_map, AllZip}
+use Rattle.std.proofs.lemmas.Option.{none-some, same_Some}
+use Rattle.std.proofs.lemmas.List.Concat.{flat_map-cons}
+use Rattle.std.proofs.lemmas.List.Elements.{All-head, All-tail, All-cons, length_all_zip}
+use Rattle.std.proofs.lemmas.Nat.{div-add-mod', mod_below}
+use Rattle.step_trace.specs.declared.paged_lists.TheConstants.{PAGE_LEN}
+use Rattle.step_trace.specs.Pages.{all_items, AreInPages}
+
+-- a place in the first of two lists, and one after it
+slice_get-left : {X : Type 0} (xs ys : List X) (k : ℕ) → k < length xs → slice_get (xs ++ ys) k ≡ slice_get xs k
+slice_get-left [] ys k l = absurd (omega (arith, l))
+slice_get-left (x ∷ xs) ys zero l = refl
+slice_get-left (x ∷ xs) ys (suc k) l = slice_get-left xs ys k (let m : suc k < suc (length xs) = l in omega (arith, m))
+
+slice_get-right : {X : Type 0} (xs ys : List X) (n k : ℕ) → n ≡ length xs → slice_get (xs ++ ys) (n + k) ≡ slice_get ys k
+slice_get-right [] ys n k e = let z : n + k ≡ k = omega (arith, e) in ap (slice_get ys) z
+slice_get-right (x ∷ xs) ys zero k e = absurd (let f : 0 ≡ suc (length xs) = e in omega (arith, f))
+slice_get-right (x ∷ xs) ys (suc n) k e = let z : suc n + k ≡ suc (n + k) = omega arith in rw z (slice_get-right xs ys n k (let f : suc n ≡ suc (length xs) = e in omega (arith, f)))
+
+-- where nothing stands, the list has ended
+past : {X : Type 0} (xs : List X) (i : ℕ) → slice_get xs i ≡ None → length xs ≤ i
+past [] i h = omega arith
+past (x ∷ xs) zero h = absurd (none-some x (sym h))
+past (x ∷ xs) (suc i) h = let l = past xs i h in let e : length (x ∷ xs) ≡ length xs + 1 = omega arith in omega (arith, l, e)
+
+module _ {P X : Type 0} (items : P → List X) where
+  -- full pages hold `PAGE_LEN` items each
+  pub length-pages : (pages : List P) → All (λ p. length (items p) ≡ PAGE_LEN) pages → length (flat_map items pages) ≡ length pages * PAGE_LEN
+  length-pages [] full = refl
+  length-pages (p ∷ pages) full =
+      let head = All-head (λ (q : P). length (items q) ≡ PAGE_LEN) p pages full in
+      let rest = length-pages pages (All-tail (λ (q : P). length (items q) ≡ PAGE_LEN) p pages full) in
+      let cut : length (flat_map items (p ∷ pages)) ≡ length (items p) + length (flat_map items pages) = ap length (flat_map-cons items p pages) ∙ length-append (items p) (flat_map items pages) in
+      let more : length (p ∷ pages) ≡ length pages + 1 = omega arith in
+      omega (arith, head, rest, cut, more)
+
+  -- so all are as many as the pages make, and those of the last one
+  pub length-all : (pages : List P) (last : List X) → All (λ p. length (items p) ≡ PAGE_LEN) pages → length (all_items items pages last) ≡ length pages * PAGE_LEN + length last
+  length-all pages last full = length-append (flat_map items pages) last ∙ ap (λ n. n + length last) (length-pages pages full)
+
+  -- place r of page q
+  at_page : (pages : List P) (last : List X) → All (λ p. length (items p) ≡ PAGE_LEN) pages → (q r : ℕ) (p : P) → r < PAGE_LEN → slice_get pages q ≡ Some p
+      → slice_get (all_items items pages last) (q * PAGE_LEN + r) ≡ slice_get (items p) r
+  at_page [] last full q r p low h = absurd (none-some p h)
+  at_page (x ∷ pages) last full zero r p low h =
+      let head = All-head (λ (q : P). length (items q) ≡ PAGE_LEN) x pages full in
+      let at : 0 * PAGE_LEN + r ≡ r = omega arith in
+      let whole : all_items items (x ∷ pages) last ≡ items x ++ all_items items pages last = ap (λ xs. xs ++ last) (flat_map-cons items x pages) ∙ append_assoc (items x) (flat_map items pages) last in
+      rw (at, whole) (slice_get-left (items x) (all_items items pages last) r (omega (arith, head, low)) ∙ ap (λ y. slice_get (items y) r) (same_Some x p h))
+  at_page (x ∷ pages) last full (suc q) r p low h =
+      let head = All-head (λ (q : P). length (items q) ≡ PAGE_LEN) x pages full in
+      let rest = All-tail (λ (q : P). length (items q) ≡ PAGE_LEN) x pages full in
+      let at : suc q * PAGE_LEN + r ≡ PAGE_LEN + (q * PAGE_LEN + r) = omega arith in
+      let whole : all_items items (x ∷ pages) last ≡ items x ++ all_items items pages last = ap (λ xs. xs ++ last) (flat_map-cons items x pages) ∙ append_assoc (items x) (flat_map items pages) last in
+      rw (at, whole) (slice_get-right (items x) (all_items items pages last) PAGE_LEN (q * PAGE_LEN + r) (sym head) ∙ at_page pages last rest q r p low h)
+
+  -- an item of a full page
+  pub in_page : (pages : List P) (last : List X) → AreInPages items pages last → (i : ℕ) (p : P) → slice_get pages (i / PAGE_LEN) ≡ Some p
+      → slice_get (all_items items pages last) i ≡ slice_get (items p) (i % PAGE_LEN)
+  in_page pages last a i p h = ap (slice_get (all_items items pages last)) (sym (div-add-mod' i PAGE_LEN)) ∙ at_page pages last a.full (i / PAGE_LEN) (i % PAGE_LEN) p (mod_below i PAGE_LEN (omega arith)) h
+
+  -- an item after the full pages
+  pub after_pages : (pages : List P) (last : List X) → AreInPages items pages last → (i : ℕ) → slice_get pages (i / PAGE_LEN) ≡ None
+      → slice_get (all_items items pages last) i ≡ slice_get last (i - length pages * PAGE_LEN)
+  after_pages pages last a i h =
+      let l : length pages ≤ i / PAGE_LEN = past pages (i / PAGE_LEN) h in
+      let m : i / PAGE_LEN * PAGE_LEN + i % PAGE_LEN ≡ i = div-add-mod' i PAGE_LEN in
+      let at : i ≡ length pages * PAGE_LEN + (i - length pages * PAGE_LEN) = omega (arith, l, m) in
+      ap (slice_get (all_items items pages last)) at ∙ slice_get-right (flat_map items pages) last (length pages * PAGE_LEN) (i - length pages * PAGE_LEN) (sym (length-pages pages a.full))
+
+  -- pages of the same items hold the same list
+  pub flat_map-same : (R : P → P → Type 0) → ((p q : P) → R p q → items q ≡ items p) → (pages copies : List P) → AllZip R pages copies → flat_map items copies ≡ flat_map items pages
+  flat_map-same R same [] [] z = refl
+  flat_map-same R same [] (q ∷ copies) z = absurd z
+  flat_map-same R same (p ∷ pages) [] z = absurd z
+  flat_map-same R same (p ∷ pages) (q ∷ copies) z = flat_map-cons items q copies ∙ ap (λ xs. xs ++ flat_map items copies) (same p q z.0) ∙ ap (λ xs. items p ++ xs) (flat_map-same R same pages copies z.1) ∙ sym (flat_map-cons items p pages)
+
+  -- and are full where those are
+  full-same : (R : P → P → Type 0) → ((p q : P) → R p q → items q ≡ items p) → (pages copies : List P) → AllZip R pages copies
+      → All (λ p. length (items p) ≡ PAGE_LEN) pages → All (λ p. length (items p) ≡ PAGE_LEN) copies
+  full-same R same [] [] z full = full
+  full-same R same [] (q ∷ copies) z full = absurd z
+  full-same R same (p ∷ pages) [] z full = absurd z
+  full-same R same (p ∷ pages) (q ∷ copies) z full =
+      let rest = full-same R same pages copies z.1 (All-tail (λ (q : P). length (items q) ≡ PAGE_LEN) p pages full) in
+      let head = All-head (λ (q : P). length (items q) ≡ PAGE_LEN) p pages full in
+      All-cons (λ (q : P). length (items q) ≡ PAGE_LEN) q copies (ap length (same p q z.0) ∙ head) rest
+
+  -- and so are such pages with a last page of the same length
+  pub AreInPages-copy : (R : P → P → Type 0) → ((p q : P) → R p q → items q ≡ items p) → (pages copies : List P) (last more : List X)
+      → AllZip R pages copies → length more ≡ length last → AreInPages items pages last → AreInPages items copies more
+  AreInPages-copy R same pages copies last more z e a = record {
+    full = full-same R same pages copies z a.full;
+    less = let b = a.less in omega (arith, b, e);
+    limit = let b = a.limit in let n = length_all_zip R pages copies z in rw (← n, e) b;
+  }

@@ -1,0 +1,149 @@
+//! Traces whose steps fill pages, or don't quite, or go over: of these copies share what is full, and it mustn't show.
+//! A page has 256 steps.
+
+use crate::traces::{empty_trace, step_of, trace_of};
+use std::alloc::Global;
+use std::test::Fail;
+use step_trace::{PushError, Trace};
+
+// Goes on to so many steps with Receives that take nothing, of 1 and 2 in turns.
+fn go_on(alloc: Global, trace: &mut Trace, count: u64) -> Result<(), Fail> {
+    for before in trace.len() as u64..count {
+        trace.push(step_of(alloc, before % 2 + 1, 0, &[])?)?;
+    }
+    Ok(())
+}
+
+// The silent alternation of so many steps.
+fn silent(alloc: Global, count: u64) -> Result<Trace, Fail> {
+    let mut trace = empty_trace(alloc, 2)?;
+    go_on(alloc, &mut trace, count)?;
+    Ok(trace)
+}
+
+// The same, but that the step after so many is a Send.
+fn with_a_send(alloc: Global, before: u64, count: u64) -> Result<Trace, Fail> {
+    let mut trace = silent(alloc, before)?;
+    trace.push(step_of(alloc, 1, 2, &[])?)?;
+    go_on(alloc, &mut trace, count)?;
+    Ok(trace)
+}
+
+// A trace of so many steps in which message 1 goes from 1 to 2, which takes it at once; then all is silent.
+fn delivered(alloc: Global, count: u64) -> Result<Trace, Fail> {
+    let mut trace = trace_of(alloc, 2, &[(1, 2, &[]), (2, 0, &[1])])?;
+    go_on(alloc, &mut trace, count)?;
+    Ok(trace)
+}
+
+fn are_equal(one: &Trace, other: &Trace) -> bool {
+    one.begins(other) && other.begins(one)
+}
+
+// Whether it is the silent alternation.
+fn is_silent(alloc: Global, trace: &Trace) -> Result<bool, Fail> {
+    let silent = silent(alloc, trace.len() as u64)?;
+    Ok(are_equal(trace, &silent))
+}
+
+// Whether message 1 is delivered at once in it, and then all is silent.
+fn is_delivered(alloc: Global, trace: &Trace) -> Result<bool, Fail> {
+    let delivered = delivered(alloc, trace.len() as u64)?;
+    Ok(are_equal(trace, &delivered))
+}
+
+// Whether the silent alternation is equal to its copy, and that to the one that is made anew.
+fn is_copied(alloc: Global, trace: &Trace) -> Result<bool, Fail> {
+    let copy = trace.copy(alloc)?;
+    Ok(are_equal(&copy, trace) && is_silent(alloc, &copy)?)
+}
+
+const LENGTHS: &[u64] = &[255, 256, 257, 512, 600];
+
+#[test]
+fn copies_of_prefixes(rt: HostRuntime) -> Result<(), Fail> {
+    let mut trace = empty_trace(rt.alloc(), 2)?;
+    for &count in LENGTHS {
+        go_on(rt.alloc(), &mut trace, count)?;
+        assert!(rt; is_copied(rt.alloc(), &trace)?, "{count}");
+    }
+    Ok(())
+}
+
+// Whether a trace of 600 steps that has a Send after so many differs from what was seen first at this number.
+fn differs_at(alloc: Global, before: u64, at: u64, seen: &Trace) -> Result<bool, Fail> {
+    let trace = with_a_send(alloc, before, 600)?;
+    Ok(trace.first_difference(seen) == at && seen.first_difference(&trace) == at)
+}
+
+const DIFFERENCES: &[(u64, u64)] = &[
+    (0, 1),
+    (254, 255),
+    (255, 256),
+    (256, 257),
+    (510, 511),
+    (511, 512),
+    (512, 513),
+    (599, 600),
+];
+
+#[test]
+fn differences_in_pages(rt: HostRuntime) -> Result<(), Fail> {
+    let seen = silent(rt.alloc(), 600)?;
+    for &(before, at) in DIFFERENCES {
+        assert!(rt; differs_at(rt.alloc(), before, at, &seen)?, "{at}");
+    }
+    Ok(())
+}
+
+// How many steps a trace has when it is copied, and how many it gets: one less than a page, a page, and one less
+// than two.
+const COPIED: &[(u64, u64)] = &[(255, 257), (256, 258), (511, 513)];
+
+// Whether a copy refuses the message that was taken before it was made, and stays as it was.
+fn knows_what_was_taken(alloc: Global, count: u64) -> Result<bool, Fail> {
+    let mut copy = delivered(alloc, count)?.copy(alloc)?;
+    let again = copy.push(step_of(alloc, 2, 0, &[1])?);
+    Ok(again == Err(PushError::Redelivered(1)) && is_delivered(alloc, &copy)?)
+}
+
+#[test]
+fn copies_know_what_was_taken(rt: HostRuntime) -> Result<(), Fail> {
+    for &(count, _) in COPIED {
+        assert!(rt; knows_what_was_taken(rt.alloc(), count)?, "{count}");
+    }
+    Ok(())
+}
+
+// Whether a copy is as it was where the trace goes on.
+fn stays(alloc: Global, count: u64, after: u64) -> Result<bool, Fail> {
+    let mut trace = delivered(alloc, count)?;
+    let copy = trace.copy(alloc)?;
+    go_on(alloc, &mut trace, after)?;
+    Ok(copy.len() as u64 == count && is_delivered(alloc, &copy)? && is_delivered(alloc, &trace)?)
+}
+
+#[test]
+fn copies_stay_as_they_were(rt: HostRuntime) -> Result<(), Fail> {
+    for &(count, after) in COPIED {
+        assert!(rt; stays(rt.alloc(), count, after)?, "{count}");
+    }
+    Ok(())
+}
+
+// Whether the trace goes on as if nothing were shared where its copy has another step.
+fn goes_on_alone(alloc: Global, count: u64, after: u64) -> Result<bool, Fail> {
+    let mut trace = silent(alloc, count)?;
+    let mut copy = trace.copy(alloc)?;
+    copy.push(step_of(alloc, 1, 2, &[])?)?;
+    go_on(alloc, &mut trace, after)?;
+    Ok(is_silent(alloc, &trace)? && trace.first_difference(&copy) == copy.len() as u64)
+}
+
+#[test]
+fn traces_go_on_alone(rt: HostRuntime) -> Result<(), Fail> {
+    for &(count, after) in COPIED {
+        assert!(rt; goes_on_alone(rt.alloc(), count, after)?, "{count}");
+    }
+    Ok(())
+}
