@@ -54,6 +54,12 @@ abbrev pub IsRecordRefusal : Identity → Turns → Move → RecordError → Typ
 IsRecordRefusal r s move record_error.ForeignSeat = Unit {0}
 IsRecordRefusal r s move (record_error.Step why) = (s.tag ≡ r.tag) × IsStepReason r s.proc move why
 
+-- some World of a recorder has so many steps
+pub record IsStepCount (r : Identity) (count : ℕ) : Type 0 where
+  pub steps : List Step
+  pub world : IsWorldOf r steps
+  pub count_is : count ≡ length steps
+
 -- a seat after a recorded step: one more thing is done, which is what a World of the recorder answers
 pub record IsRecorded (r : Identity) (move : Move) (old new : Turns) : Type 0 where
   pub done : Done

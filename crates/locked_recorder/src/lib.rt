@@ -12,6 +12,7 @@ mod recorders;
 mod recordings;
 mod seat_comparisons;
 mod seats;
+mod step_counts;
 mod views;
 
 pub use errors::{AuditError, DriveError, DriveStop, MineError, PrefixError, RecordError};
