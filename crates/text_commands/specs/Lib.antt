@@ -9,3 +9,5 @@ pub mod Replays
 pub mod Upgrades
 pub mod VerdictLines
 pub mod Checks
+pub mod Standings
+pub mod StandingLines

@@ -1,6 +1,6 @@
 //! The commands that make text of text, each from a reader to a writer: the report of a trace, its replay,
-//! its upgrade, and the check of a report; and the faults that end the program, their lines and their
-//! statuses. `specs/` has the definitions that the contracts cite.
+//! its upgrade, and the check of a report; the lines that tell of a run meanwhile; and the faults that end
+//! the program, their lines and their statuses. `specs/` has the definitions that the contracts cite.
 #![tactic(auto)]
 
 mod checks;
@@ -12,6 +12,8 @@ mod replay_texts;
 mod replays;
 mod reports;
 mod serving;
+mod standing_lines;
+mod standings;
 mod upgrades;
 mod verdict_lines;
 
@@ -20,7 +22,9 @@ pub use fault_lines::{fault_text, told_line};
 pub use faults::{Fault, status, unopened};
 pub use printing::{print, tell};
 pub use replays::run_replay;
-pub use reports::run_report;
+pub use reports::{run_report, test_set};
 pub use serving::{Answer, serve};
+pub use standing_lines::{tell_standing, tell_stop};
+pub use standings::{LeastBounds, RECENT_TICKS, Standing, standing_of};
 pub use upgrades::run_upgrade;
 pub use verdict_lines::{tell_verdict, verdict_status};

@@ -127,7 +127,7 @@ fn unanalysed(why: AnalyseError) -> Fault
 }
 
 /// Refuses a set that has a member above `n`, and no other.
-fn test_set(set: ProcSet, n: u64) -> Result<(), Fault>
+pub fn test_set(set: ProcSet, n: u64) -> Result<(), Fault>
     ensures { MatchResult result (λ _. IsWithin set n) (λ why. (why ≡ Fault.Set) × (¬ IsWithin set n)) }
 {
     if set.within(n) {
