@@ -33,11 +33,13 @@ one_number rows name least most v w a b =
 pub one_asked : (rows : List Row) (a b : Asked) → command_of a ≡ command_of b → AreRowsOf a rows → AreRowsOf b rows → a ≡ b
 one_asked rows (Report f l v) (Report g m w) e a b = cc (one_number rows _ _ _ v w a.workers_is b.workers_is)
 one_asked rows (Replay f) (Replay g) e a b = cc
-one_asked rows (Run n t vs p s) (Run m u ws q r) e a b = cc (
+one_asked rows (Run n t vs p s f) (Run m u ws q r g) e a b = cc (
   one_number rows _ _ _ n m a.nodes_is b.nodes_is,
   one_number rows _ _ _ t u a.faults_is b.faults_is,
   one_number rows _ _ _ p q a.patience_is b.patience_is,
   one_number rows _ _ _ s r a.steps_is b.steps_is,
+  a.follow_is,
+  b.follow_is,
 )
 one_asked rows (Upgrade f) (Upgrade g) e a b = cc
 one_asked rows (Check f c l) (Check g d m) e a b = cc
@@ -84,8 +86,8 @@ pub no_report : (rows : List Row) → ((file list : Text) (workers : ℕ) → ¬
 no_report rows none (Report f l w) h = none f l w (rows_below _ rows (Report f l w) h)
 no_report rows none a h = elsewhere _ rows a h refl
 
-pub no_run : (rows : List Row) → ((n t : ℕ) (values : Text) (patience steps : ℕ) → ¬ AreRunRows rows n t values patience steps) → NamesNoJob (Some (codes "run", rows))
-no_run rows none (Run n t vs p s) h = none n t vs p s (rows_below _ rows (Run n t vs p s) h)
+pub no_run : (rows : List Row) → ((n t : ℕ) (values : Text) (patience steps : ℕ) (follow : Option Text) → ¬ AreRunRows rows n t values patience steps follow) → NamesNoJob (Some (codes "run", rows))
+no_run rows none (Run n t vs p s f) h = none n t vs p s f (rows_below _ rows (Run n t vs p s f) h)
 no_run rows none a h = elsewhere _ rows a h refl
 
 pub no_check : (rows : List Row) → ((file certificate list : Text) → ¬ AreCheckRows rows file certificate list) → NamesNoJob (Some (codes "check", rows))

@@ -1,1 +1,2 @@
 pub mod EvenRuns
+pub mod ToldLines

@@ -1,2 +1,3 @@
+pub mod Followers
 pub mod LineFaults
 pub mod Runs

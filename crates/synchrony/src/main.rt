@@ -3,14 +3,17 @@
 //! checks a report by it; or makes such a run in threads, and prints its trace.
 #![tactic(auto)]
 
-ghost use Rattle.std.specs.Prelude.{◌≤◌};
+ghost use Rattle.std.specs.Prelude.{◌*◌, ◌≤◌};
 ghost use Rattle.chunk_join.specs.declared.analyses.TheConstants.{MAX_WORKERS};
+ghost use Rattle.step_trace.specs.declared.traces.TheConstants.{MAX_STEPS};
 
+mod followers;
 mod line_faults;
 #[cfg(test)]
 mod run_tests;
 mod runs;
 
+use crate::followers::follower_for;
 use crate::line_faults::refused_line;
 use crate::runs::run_nodes;
 use certificate_checker::Verdict;
@@ -21,7 +24,8 @@ use std::io::Read;
 use std::process::ExitCode;
 use std::sync::Wait;
 use std::thread::Threads;
-use step_trace::{OpenGate, ProcSet};
+use std::time::Clock;
+use step_trace::{Config, OpenGate, ProcSet};
 use text_commands::{
     Fault, print, run_check, run_replay, run_report, run_upgrade, status, tell, unopened,
     verdict_status,
@@ -41,7 +45,7 @@ fn main(rt: HostRuntime) -> ExitCode {
 
 /// Does what the words of the command line ask for, and gives the exit status. `threads` starts the threads of a
 /// run and of the workers of a report.
-fn run<R: Threads + Wait + Sync>(rt: &HostRuntime, threads: &R) -> Result<u8, Fault> {
+fn run<R: Threads + Wait + Clock + Sync>(rt: &HostRuntime, threads: &R) -> Result<u8, Fault> {
     let words = match env::args(rt) {
         Ok(words) => words.collect(rt.alloc())?,
         Err(error) => return Err(refused_line(refuse_words(rt.alloc(), error.kind())?)),
@@ -53,18 +57,8 @@ fn run<R: Threads + Wait + Sync>(rt: &HostRuntime, threads: &R) -> Result<u8, Fa
             config,
             patience,
             steps,
-        } => {
-            let mut output = Counting::new(rt.stdout());
-            run_nodes(
-                threads,
-                rt.alloc(),
-                &config,
-                patience,
-                steps,
-                &OpenGate,
-                &mut output,
-            )?;
-        }
+            follow,
+        } => run_of(rt, threads, &config, patience, steps, follow)?,
         Job::Upgrade { file } => upgrade(rt, file.as_str())?,
         Job::Check {
             file,
@@ -77,6 +71,34 @@ fn run<R: Threads + Wait + Sync>(rt: &HostRuntime, threads: &R) -> Result<u8, Fa
         Job::Help(text) => print(text.as_str(), &mut Counting::new(rt.stdout()))?,
     }
     Ok(0)
+}
+
+/// Prints the trace of a run of the nodes. Where a set is to be followed, tells of the run meanwhile.
+fn run_of<T: Threads + Wait + Clock + Sync>(
+    rt: &HostRuntime,
+    threads: &T,
+    config: &Config,
+    patience: u64,
+    steps: u64,
+    follow: Option<ProcSet>,
+) -> Result<(), Fault>
+    requires patience { 1 ≤ patience }
+    requires room { config.now.n * steps ≤ MAX_STEPS }
+{
+    let all = config.n() * steps;
+    let errors = Counting::new(rt.stderr());
+    let mut follower = follower_for(rt.alloc(), config, follow, all, errors)?;
+    let mut output = Counting::new(rt.stdout());
+    run_nodes(
+        threads,
+        rt.alloc(),
+        config,
+        patience,
+        steps,
+        &OpenGate,
+        &mut follower,
+        &mut output,
+    )
 }
 
 /// Opens a file to be read.

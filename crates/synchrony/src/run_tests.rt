@@ -1,16 +1,18 @@
 //! Runs in threads, gates that hold a thread back, and outputs that fail.
 
-ghost use Rattle.std.specs.Prelude.{◌*◌, ◌≤◌, length};
+ghost use Rattle.std.specs.Prelude.{◌≡◌, ◌*◌, ◌≤◌, IfSome, length};
 ghost use Rattle.step_trace.specs.declared.traces.TheConstants.{MAX_STEPS};
 
+use crate::followers::{Follower, follower_for};
 use crate::runs::run_nodes;
 use std::alloc::{AllocError, Global};
 use std::sync::Wait;
 use std::test::Fail;
 use std::thread::Threads;
+use std::time::Clock;
 use step_buffers::replay;
 use step_trace::meeting::MeetingGate;
-use step_trace::{Config, Gate, OpenGate};
+use step_trace::{Config, Gate, OpenGate, ProcSet};
 use text_commands::{Fault, run_replay, status};
 use trace_text::failing_devices::{FailingWriter, WriteFailure};
 use trace_text::{Counting, read_trace};
@@ -26,7 +28,7 @@ impl Gate for Holds {
 }
 
 /// Runs as many nodes as there are values, each of so many steps, where the first Receive of a round ends it.
-fn run_each<R: Threads + Wait + Sync, G: Gate>(
+fn run_each<R: Threads + Wait + Clock + Sync, G: Gate>(
     rt: &R,
     alloc: Global,
     values: &[u64],
@@ -48,12 +50,18 @@ fn run_each<R: Threads + Wait + Sync, G: Gate>(
         1,
         steps,
         gate,
+        &mut nobody(),
         &mut Counting::new(writer),
     )
 }
 
+/// No follower.
+fn nobody() -> Option<Follower<FailingWriter>> {
+    None
+}
+
 /// Two nodes of values 5 and 7, each of which makes four steps.
-fn run_two<R: Threads + Wait + Sync, G: Gate>(
+fn run_two<R: Threads + Wait + Clock + Sync, G: Gate>(
     rt: &R,
     alloc: Global,
     gate: &G,
@@ -140,5 +148,97 @@ fn an_output_takes_no_more(rt: HostRuntime) -> Result<(), Fail> {
         matches!(&ended, Err(Fault::Write(20)))
             && writer.taken() == "dls-trace,1,2,0\ninit".as_bytes()
     );
+    Ok(())
+}
+
+/// The configuration of two nodes of values 5 and 7.
+fn two_nodes(alloc: Global) -> Option<Config>
+    ensures { IfSome result (λ config. config.n ≡ 2) }
+{
+    let init = Vec::from_slice(alloc, &[5, 7]).ok()?;
+    Config::new(2, 0, init).ok()
+}
+
+/// Runs two nodes of so many steps each, followed for both, whose follower tells to `errors`.
+fn run_followed<R: Threads + Wait + Clock + Sync>(
+    rt: &R,
+    alloc: Global,
+    steps: u64,
+    errors: &mut FailingWriter,
+    writer: &mut FailingWriter,
+) -> Result<(), Fault>
+    requires { 2 * steps ≤ MAX_STEPS }
+{
+    let config = two_nodes(alloc).ok_or(Fault::Memory)?;
+    let both = ProcSet::empty().with(1).with(2);
+    let mut follower = follower_for(alloc, &config, Some(both), 2 * steps, Counting::new(errors))?;
+    run_nodes(
+        rt,
+        alloc,
+        &config,
+        1,
+        steps,
+        &OpenGate,
+        &mut follower,
+        &mut Counting::new(writer),
+    )
+}
+
+/// How many steps each node makes, and how the line begins that is told at the end.
+const FOLLOWED: &[(u64, &str)] = &[
+    (0, "synchrony: tick 0: no steps"),
+    (4, "synchrony: tick 8: delta "),
+    (3000, "synchrony: tick 6000: delta "),
+];
+
+/// The last line of a text, without its line feed.
+fn last_line(text: &[u8]) -> Option<&str> {
+    std::str::from_utf8(text).ok()?.lines().last()
+}
+
+#[test]
+fn a_follower_tells_of_the_whole_run_at_its_end(rt: HostRuntime) -> Result<(), Fail> {
+    let alloc = rt.alloc();
+    for &(steps, begins) in FOLLOWED {
+        let mut writer = FailingWriter::new(alloc, 1000, WriteFailure::Never);
+        let mut errors = FailingWriter::new(alloc, 1000, WriteFailure::Never);
+        let ended = run_followed(&rt, alloc, steps, &mut errors, &mut writer);
+        assert!(rt;
+            ended.is_ok() && steps_of(alloc, writer.taken()) == Some(2 * steps as usize),
+            "{steps}"
+        );
+        let told = last_line(errors.taken()).is_some_and(|line| line.starts_with(begins));
+        assert!(rt; told && errors.taken().ends_with(b"\n"), "{steps}");
+    }
+    Ok(())
+}
+
+#[test]
+fn a_run_goes_on_where_its_follower_cannot_tell(rt: HostRuntime) -> Result<(), Fail> {
+    let alloc = rt.alloc();
+    for failure in [WriteFailure::TakeNothingAfter(10), WriteFailure::Never] {
+        let mut writer = FailingWriter::new(alloc, 1000, WriteFailure::Never);
+        let mut errors = FailingWriter::new(alloc, 1, failure);
+        let ended = run_followed(&rt, alloc, 4, &mut errors, &mut writer);
+        assert!(rt; ended.is_ok() && steps_of(alloc, writer.taken()) == Some(8));
+        assert!(rt; errors.taken().starts_with(b"synchrony:"));
+    }
+    Ok(())
+}
+
+#[test]
+fn a_follower_of_a_stranger_is_refused(rt: HostRuntime) -> Result<(), Fail> {
+    let alloc = rt.alloc();
+    let config = two_nodes(alloc).ok_or("no configuration")?;
+    for (member, within) in [(2, true), (3, false)] {
+        let mut errors = FailingWriter::new(alloc, 10, WriteFailure::Never);
+        let set = ProcSet::empty().with(member);
+        let made = match follower_for(alloc, &config, Some(set), 0, Counting::new(&mut errors)) {
+            Ok(follower) => follower.is_some(),
+            Err(why) => status(&why) != 2,
+        };
+        assert!(rt; made == within, "{member}");
+        assert!(rt; errors.taken().is_empty(), "{member}");
+    }
     Ok(())
 }

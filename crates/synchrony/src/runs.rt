@@ -6,14 +6,18 @@ ghost use Rattle.step_trace.specs.declared.traces.TheConstants.{MAX_STEPS};
 ghost use Rattle.trace_text.specs.ByteLoops.{WasFaultless};
 ghost use Rattle.trace_text.specs.Faults.{inner_of, is_flushed};
 ghost use Rattle.text_commands.specs.Printing.{IsWriteFault};
+ghost use Rattle.synchrony.specs.Followers.{HasTold, IsLine};
 ghost use Rattle.synchrony.specs.Runs.{HaveDone, IsEvenRun, IsEvenRunText, IsFaultOfNodes, IsFaultOfThreads, IsUnwrittenRun, ending_of, gravity, fault_of_ending};
 
+use crate::followers::Follower;
 use locked_recorder::{AuditError, DriveError, DriveStop, RecordError, Recorder, Seat};
 use std::alloc::Global;
 use std::io::Write;
 use std::sync::Wait;
+use std::sync::atomic::{AtomicBool, Ordering};
 use std::thread;
-use std::thread::{JoinHandle, Threads};
+use std::thread::{JoinHandle, Threads, join_mut};
+use std::time::Clock;
 use step_buffers::{StepError, World};
 use step_trace::{Config, Gate};
 use text_commands::Fault;
@@ -34,19 +38,21 @@ enum Ending {
 
 /// Runs the nodes of a configuration, a thread for each, which makes so many steps; and writes the trace of all
 /// their steps. The `patience`-th Receive of a round ends the round. Each thread enters the gate before its
-/// first step. Nothing is written before all threads have ended.
+/// first step. Nothing is written before all threads have ended. A follower, if there is one, tells of the run
+/// meanwhile, and of the whole of it at its end; whatever becomes of that, the run is the same.
 ///
 /// Asks for a patience of at least 1, and for at most `MAX_STEPS` steps of all processors together. Waits for
 /// the threads. Refuses, in this order: Threads where a thread wasn't started or the gate held it back; Memory;
 /// NotARun(0) where a step is refused, or where what was done doesn't make up one run; Write with the number
 /// of bytes that went out before.
-pub fn run_nodes<R: Threads + Wait + Sync, W: Write, G: Gate>(
+pub fn run_nodes<R: Threads + Wait + Clock + Sync, W: Write, G: Gate, E: Write + Send>(
     rt: &R,
     alloc: Global,
     config: &Config,
     patience: u64,
     steps: u64,
     gate: &G,
+    follower: &mut Option<Follower<E>>,
     writer: &mut Counting<W>,
 ) -> Result<(), Fault>
     requires patient { 1 ≤ patience }
@@ -60,18 +66,22 @@ pub fn run_nodes<R: Threads + Wait + Sync, W: Write, G: Gate>(
         (IsUnwrittenRun config.now steps (W.contents (inner_of writer.old)) (W.contents (inner_of writer.new))) }
     ensures unwritten { IfErr result (IsWriteFault writer.old writer.new) }
 {
-    let world = world_made(rt, alloc, config, patience, steps, gate)?;
+    let world = world_made(rt, alloc, config, patience, steps, gate, follower)?;
+    if let Some(follower) = follower {
+        follower.tell(alloc, world.trace());
+    }
     Ok(write_trace(alloc, world.trace(), writer)?)
 }
 
 /// The World that the threads have moved.
-fn world_made<R: Threads + Wait + Sync, G: Gate>(
+fn world_made<R: Threads + Wait + Clock + Sync, G: Gate, E: Write + Send>(
     rt: &R,
     alloc: Global,
     config: &Config,
     patience: u64,
     steps: u64,
     gate: &G,
+    follower: &mut Option<Follower<E>>,
 ) -> Result<World, Fault>
     requires patient { 1 ≤ patience }
     requires room { config.now.n * steps ≤ MAX_STEPS }
@@ -80,8 +90,62 @@ fn world_made<R: Threads + Wait + Sync, G: Gate>(
 {
     let room = config.n() * steps;
     let (recorder, mut seats) = Recorder::new(alloc, config.copy(alloc)?, 0, room)?;
-    judged(drive_all(rt, alloc, &recorder, &mut seats, patience, steps, gate))?;
+    let ending = match follower {
+        Some(follower) => drive_followed(
+            rt, alloc, &recorder, &mut seats, patience, steps, gate, follower,
+        ),
+        None => drive_all(rt, alloc, &recorder, &mut seats, patience, steps, gate),
+    };
+    judged(ending)?;
     audited(alloc, recorder, &seats, steps)
+}
+
+/// Drives each seat in a thread of its own, while another thread follows; and tells the gravest ending of all.
+/// Where there is no thread for the follower, it has its turn when all have ended.
+fn drive_followed<R: Threads + Wait + Clock + Sync, G: Gate, E: Write + Send>(
+    rt: &R,
+    alloc: Global,
+    recorder: &Recorder,
+    seats: &mut [Seat],
+    patience: u64,
+    steps: u64,
+    gate: &G,
+    follower: &mut Follower<E>,
+) -> Ending
+    requires { 1 ≤ patience }
+    ensures set { follower.new.analyst.set ≡ follower.old.analyst.set }
+    ensures told { HasTold (IsLine recorder.now.config follower.old.analyst.set) (E.contents (inner_of follower.old.writer)) (E.contents (inner_of follower.new.writer)) }
+{
+    let ended = &AtomicBool::new(false);
+    let (_, ending) = join_mut(
+        rt,
+        &mut ||
+            ensures set { follower.exit.now.analyst.set ≡ follower.entry.now.analyst.set }
+            ensures told { HasTold (IsLine recorder.entry.now.config follower.entry.now.analyst.set) (E.contents (inner_of follower.entry.now.writer)) (E.contents (inner_of follower.exit.now.writer)) }
+        { follower.follow(rt, alloc, recorder, ended) },
+        &mut || -> Ending
+            requires { 1 ≤ patience }
+        { drive_to_end(rt, alloc, recorder, gate, patience, steps, ended, seats) },
+    );
+    ending
+}
+
+/// Drives each seat in a thread of its own, says when all have ended, and tells the gravest ending of all.
+fn drive_to_end<R: Threads + Wait + Sync, G: Gate>(
+    rt: &R,
+    alloc: Global,
+    recorder: &Recorder,
+    gate: &G,
+    patience: u64,
+    steps: u64,
+    ended: &AtomicBool,
+    seats: &mut [Seat],
+) -> Ending
+    requires { 1 ≤ patience }
+{
+    let ending = drive_all(rt, alloc, recorder, seats, patience, steps, gate);
+    ended.store(true, Ordering::SeqCst);
+    ending
 }
 
 /// Drives each seat in a thread of its own, and tells the gravest ending of all.

@@ -1,6 +1,6 @@
 //! The arguments that several commands take, and what the words of a command line say of them.
 
-ghost use Rattle.std.specs.Prelude.{◌≡◌, ◌≢◌, ◌↔◌, ℕ, List, IfOk, IfErr, IfSome, IfNone, IsTrue, codes};
+ghost use Rattle.std.specs.Prelude.{◌≡◌, ◌≢◌, ◌↔◌, ℕ, List, IfOk, IfErr, IfSome, IfNone, IsTrue, codes, option_map};
 ghost use Rattle.clap.specs.Words.{first_of, found_of, rows_of};
 ghost use Rattle.step_trace.specs.ProcessorLists.{IsSetIn};
 ghost use Rattle.command_line.specs.Arguments.{HasNumber, IsArgument, IsLineFault, IsListFault, correct_rule, file_rule};
@@ -37,6 +37,13 @@ pub fn correct_argument<'a>(alloc: Global) -> Arg<'a>
 pub fn text<'a>(found: &ArgMatches<'a>, name: &str) -> Option<&'a str>
     ensures some { IfSome result (λ text. first_of name.now (rows_of (found_of found.now)) ≡ Some text.now) }
     ensures none { IfNone result ((text : List ℕ) → first_of name.now (rows_of (found_of found.now)) ≢ Some text) }
+{
+    optional_text(found, name)
+}
+
+/// The text of this name, or none where the matches have none.
+pub fn optional_text<'a>(found: &ArgMatches<'a>, name: &str) -> Option<&'a str>
+    ensures { option_map (λ text. text.now) result ≡ first_of name.now (rows_of (found_of found.now)) }
 {
     found.get_str(name)
 }

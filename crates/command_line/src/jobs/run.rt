@@ -1,21 +1,21 @@
 //! The command `run`: its words and its help text, and the job that they give.
 
-ghost use Rattle.std.specs.Prelude.{◌≡◌, ◌↔◌, ◌*◌, ◌<◌, ℕ, List, None, IfOk, IfErr, IfSome, IsTrue, codes};
+ghost use Rattle.std.specs.Prelude.{◌≡◌, ◌↔◌, ◌*◌, ◌<◌, ◌≤◌, ℕ, List, Option, None, IfOk, IfErr, IfSome, IsTrue, codes, option_map};
 ghost use Rattle.clap.specs.Words.{found_of, rows_of};
 ghost use Rattle.step_trace.specs.declared.traces.TheConstants.{MAX_STEPS};
 ghost use Rattle.command_line.specs.Arguments.{IsArgument, IsCommand, number_rule, option_rule};
-ghost use Rattle.command_line.specs.Commands.{AreRunRows, run_app};
+ghost use Rattle.command_line.specs.Commands.{AreRunRows, follow_rule, plain_run_app, run_app};
 ghost use Rattle.command_line.specs.Jobs.{IsAnswerIn};
-ghost use Rattle.command_line.specs.RunJobs.{AreListed, IsConfigFault, IsConfigOf, IsRunFault, IsRunJob, TellsConfig};
+ghost use Rattle.command_line.specs.RunJobs.{AreListed, IsConfigFault, IsConfigOf, IsFollowFault, IsFollowed, IsLimitFault, IsRunFault, IsRunJob, TellsConfig};
 
 use crate::jobs::Job;
-use crate::jobs::arguments::{number, text, unknown};
+use crate::jobs::arguments::{number, optional_text, set_in, text, unknown};
 use crate::jobs::value_lists::read_values;
 use crate::line_errors::LineError;
 use clap::builder::ValueParser;
 use clap::{Arg, ArgAction, ArgMatches, Command};
 use std::alloc::{AllocError, Global};
-use step_trace::{Config, ConfigError, MAX_STEPS};
+use step_trace::{Config, ConfigError, MAX_STEPS, ProcSet};
 
 const NODES_HELP: &str = "The number of processors, from 2 to 64";
 
@@ -26,6 +26,8 @@ const VALUES_HELP: &str = "Their initial values, with one comma between each two
 const PATIENCE_HELP: &str = "Which Receive of a round ends it, from 1 to 1000000";
 
 const STEPS_HELP: &str = "The steps that each makes; N * S is at most 1000000";
+
+const FOLLOW_HELP: &str = "Tells of the bounds of these processors meanwhile: 1,2,5, or none";
 
 /// The greatest patience.
 const MAX_PATIENCE: u64 = 1_000_000;
@@ -43,11 +45,20 @@ struct RunWords<'a> {
     patience: u64,
     /// How many steps each processor makes.
     steps: u64,
+    /// The list of the processors for which the run is followed.
+    follow: Option<&'a str>,
 }
 
 /// The command `run`, as the command line's reader takes it.
 pub fn command<'a>(alloc: Global) -> Result<Command<'a>, AllocError>
     ensures { IfOk result (IsCommand run_app) }
+{
+    plain_command(alloc)?.arg(follow_argument(alloc))
+}
+
+/// The command with the options that it requires.
+fn plain_command<'a>(alloc: Global) -> Result<Command<'a>, AllocError>
+    ensures { IfOk result (IsCommand plain_run_app) }
 {
     Command::new(alloc, "run")
         .about("Runs the agreement algorithm and prints the trace of its steps")
@@ -57,6 +68,17 @@ pub fn command<'a>(alloc: Global) -> Result<Command<'a>, AllocError>
         .arg(option(alloc, "values", "V1,..,VN", VALUES_HELP))?
         .arg(number_option(alloc, "patience", "P", PATIENCE_HELP, 1, MAX_PATIENCE))?
         .arg(number_option(alloc, "steps", "S", STEPS_HELP, 0, MAX_STEPS as u64))
+}
+
+/// The option `--follow LIST`, which may be left out.
+fn follow_argument<'a>(alloc: Global) -> Arg<'a>
+    ensures { IsArgument follow_rule result }
+{
+    Arg::new(alloc, "follow")
+        .long("follow")
+        .value_name("LIST")
+        .help(FOLLOW_HELP)
+        .action(ArgAction::Set)
 }
 
 /// A required option `--NAME VALUE`, whose value is a number within these bounds.
@@ -87,9 +109,9 @@ fn option<'a>(alloc: Global, name: &'a str, value_name: &'a str, help: &'a str) 
 
 /// The job that the words after `run` ask for.
 ///
-/// Refuses words that aren't all there; a number of processors outside its limits; too many that may be
-/// faulty; values that aren't one for each processor; and more than `MAX_STEPS` steps of all processors
-/// together. Memory may come instead.
+/// Refuses words that aren't all there; a list of processors that isn't one; a number of processors outside
+/// its limits; too many that may be faulty; values that aren't one for each processor; and more than
+/// `MAX_STEPS` steps of all processors together. Memory may come instead.
 pub fn job(alloc: Global, found: &ArgMatches<'_>) -> Result<Job, LineError>
     ensures { IsAnswerIn (Some (codes "run", rows_of (found_of found.now))) result }
 {
@@ -101,8 +123,9 @@ pub fn job(alloc: Global, found: &ArgMatches<'_>) -> Result<Job, LineError>
 
 /// What the matches below `run` say, where they have all of it.
 fn words<'a>(found: &ArgMatches<'a>) -> Option<RunWords<'a>>
-    ensures some { IfSome result (λ w. AreRunRows (rows_of (found_of found.now)) w.nodes w.faults w.values.now w.patience w.steps) }
-    ensures none { result ≡ None → (n t : ℕ) (values : List ℕ) (patience steps : ℕ) → ¬ AreRunRows (rows_of (found_of found.now)) n t values patience steps }
+    ensures some { IfSome result (λ w. AreRunRows (rows_of (found_of found.now)) w.nodes w.faults w.values.now w.patience w.steps (option_map (λ list. list.now) w.follow)) }
+    ensures none { result ≡ None → (n t : ℕ) (values : List ℕ) (patience steps : ℕ) (follow : Option (List ℕ))
+        → ¬ AreRunRows (rows_of (found_of found.now)) n t values patience steps follow }
 {
     Some(RunWords {
         nodes: number(found, "nodes", 0, u64::MAX)?,
@@ -110,24 +133,51 @@ fn words<'a>(found: &ArgMatches<'a>) -> Option<RunWords<'a>>
         values: text(found, "values")?,
         patience: number(found, "patience", 1, MAX_PATIENCE)?,
         steps: number(found, "steps", 0, MAX_STEPS as u64)?,
+        follow: optional_text(found, "follow"),
     })
 }
 
 /// The job of a run with these words.
 fn run(alloc: Global, words: RunWords<'_>) -> Result<Job, LineError>
-    ensures job { IfOk result (IsRunJob words.entry.nodes words.entry.faults words.entry.values.now words.entry.patience words.entry.steps) }
-    ensures refused { IfErr result (IsRunFault words.entry.nodes words.entry.faults words.entry.values.now words.entry.steps) }
+    ensures job { IfOk result (IsRunJob words.entry.nodes words.entry.faults words.entry.values.now words.entry.patience words.entry.steps
+        (option_map (λ list. list.now) words.entry.follow)) }
+    ensures refused { IfErr result (IsRunFault words.entry.nodes words.entry.faults words.entry.values.now words.entry.steps
+        (option_map (λ list. list.now) words.entry.follow)) }
 {
-    let config = configuration(alloc, words.nodes, words.faults, words.values)?;
-    if is_too_long(words.nodes, words.steps) {
-        let text = String::from_str(alloc, "synchrony: too many steps")?;
-        return Err(LineError::Refused(text));
-    }
+    let follow = followed(alloc, words.follow)?;
+    let config = limited(alloc, words.nodes, words.faults, words.values, words.steps)?;
     Ok(Job::Run {
         config,
         patience: words.patience,
         steps: words.steps,
+        follow,
     })
+}
+
+/// The set of the processors for which a run is followed, where there is a list of them.
+fn followed(alloc: Global, list: Option<&str>) -> Result<Option<ProcSet>, LineError>
+    ensures set { IfOk result (IsFollowed (option_map (λ text. text.now) list.entry)) }
+    ensures refused { IfErr result (IsFollowFault (option_map (λ text. text.now) list.entry)) }
+{
+    match list {
+        Some(list) => Ok(Some(set_in(alloc, list)?)),
+        None => Ok(None),
+    }
+}
+
+/// The configuration of these numbers and of the values that a text lists, whose processors may make so many
+/// steps each.
+fn limited(alloc: Global, n: u64, t: u64, list: &str, steps: u64) -> Result<Config, LineError>
+    ensures config { IfOk result (IsConfigOf n t list.now) }
+    ensures room { IfOk result (λ c. c.n * steps ≤ MAX_STEPS) }
+    ensures refused { IfErr result (IsLimitFault n t list.now steps) }
+{
+    let config = configuration(alloc, n, t, list)?;
+    if is_too_long(n, steps) {
+        let text = String::from_str(alloc, "synchrony: too many steps")?;
+        return Err(LineError::Refused(text));
+    }
+    Ok(config)
 }
 
 /// The configuration of these numbers and of the values that a text lists.
@@ -183,6 +233,14 @@ round ends the round. Each makes S steps, in whatever order the threads run.
 The trace of all steps is printed as `report` and `replay` read it. The values
 are numbers of 64 bits.
 
+With --follow LIST, standard error tells meanwhile how synchronous the threads
+are so far, where the processors of LIST count as correct: in a line when at
+least a twentieth of all steps are new, and in one at the end. The line
+  synchrony: tick 9000: delta 5, phi 9 from tick 1; delta 2, phi 4 from tick 4000
+has the least bounds that hold from tick 1 to tick 9000, and those that hold
+from 5000 ticks before it, or from tick 1 where there are no more. What is
+printed, and the exit status, are as without it.
+
 Examples, at the top of the repository:
   ./synchrony run --nodes 3 --faults 1 --values 5,7,7 --patience 1 --steps 0
 prints
@@ -196,7 +254,8 @@ is, the more of each other's messages they hear in time:
 
 Exit status:
   0  the trace is printed, or this text
-  2  the command line is refused, or a number or a value in it
+  2  the command line is refused, or a number or a value in it; LIST is no list,
+     or it has a processor above N
   5  out of memory
   6  the output can't be written
   7  the threads' steps make no run, which is a fault of this program
