@@ -46,11 +46,7 @@ fn main(rt: HostRuntime) -> ExitCode {
 /// Does what the words of the command line ask for, and gives the exit status. `threads` starts the threads of a
 /// run and of the workers of a report.
 fn run<R: Threads + Wait + Clock + Sync>(rt: &HostRuntime, threads: &R) -> Result<u8, Fault> {
-    let words = match env::args(rt) {
-        Ok(words) => words.collect(rt.alloc())?,
-        Err(error) => return Err(refused_line(refuse_words(rt.alloc(), error.kind())?)),
-    };
-    match read_command(rt.alloc(), words).map_err(refused_line)? {
+    match read_command(rt.alloc(), words(rt)?).map_err(refused_line)? {
         Job::Report { file, set, workers } => report(rt, threads, file.as_str(), set, workers)?,
         Job::Replay { file } => replay(rt, file.as_str())?,
         Job::Run {
@@ -71,6 +67,22 @@ fn run<R: Threads + Wait + Clock + Sync>(rt: &HostRuntime, threads: &R) -> Resul
         Job::Help(text) => print(text.as_str(), &mut Counting::new(rt.stdout()))?,
     }
     Ok(0)
+}
+
+/// The words of the command line.
+fn words(rt: &HostRuntime) -> Result<Vec<String>, Fault> {
+    let given = match env::args(rt) {
+        Ok(given) => given,
+        Err(error) => return Err(refused_line(refuse_words(rt.alloc(), error.kind())?)),
+    };
+    // (`collect` would ask again for less where its growth is refused)
+    let mut words = Vec::new(rt.alloc());
+    for word in given {
+        if words.push(word).is_err() {
+            return Err(Fault::Memory);
+        }
+    }
+    Ok(words)
 }
 
 /// Prints the trace of a run of the nodes. Where a set is to be followed, tells of the run meanwhile.
