@@ -15,8 +15,8 @@ impl Trace {
         ensures placed { IfOk result (λ there. there ≡ placed_at self.now no) }
         ensures more { OnErr result (placed_at self.now no ≢ None) }
     {
-        match self.step(no) {
-            Some(step) => Ok(Some((self.tick(no), step.clone()?))),
+        match self.at(no) {
+            Some(placed) => Ok(Some((u64::from(placed.tick), placed.step.clone()?))),
             None => Ok(None),
         }
     }
@@ -43,10 +43,8 @@ impl Trace {
 fn is_same_at(one: &Trace, other: &Trace, no: u64) -> bool
     ensures { IsTrue result ↔ (placed_at one.now no ≡ placed_at other.now no) }
 {
-    match (one.step(no), other.step(no)) {
-        (Some(step), Some(other_step)) => {
-            step.is_same(other_step) && one.tick(no) == other.tick(no)
-        }
+    match (one.at(no), other.at(no)) {
+        (Some(here), Some(there)) => here.tick == there.tick && here.step.is_same(&there.step),
         (None, None) => true,
         _ => false,
     }

@@ -1,6 +1,7 @@
 //! The steps of a trace in the order of real time, each with its tick.
 
-ghost use Rattle.std.specs.Prelude.{◌≡◌, ◌++◌, ◌∷◌, [], ◌≤◌, ◌<◌, length, option_copied, OnOk, OnErr, IfOk, List};
+ghost use Rattle.std.specs.Prelude.{◌≡◌, ◌++◌, ◌∷◌, [], ◌≤◌, ◌<◌, length, option_copied, option_map, OnOk, OnErr, IfOk, List};
+ghost use Rattle.std.specs.Option.{option_map_or};
 ghost use Rattle.step_trace.specs.declared.traces.TheConstants.{MAX_STEPS};
 ghost use Rattle.step_trace.specs.declared.steps.Step.{Step};
 ghost use Rattle.step_trace.specs.Steps.{act_ids};
@@ -54,14 +55,22 @@ impl PlacedSteps {
         self.list.len()
     }
 
-    /// The step of this number, if there is one.
-    pub(crate) fn step(&self, no: u64) -> Option<&Step>
-        ensures { option_copied result ≡ step_at self.now.steps no }
+    /// The step of this number with its tick, if there is one.
+    pub(crate) fn placed(&self, no: u64) -> Option<&Placed>
+        ensures step { option_map (λ x. x.step) (option_copied result) ≡ step_at self.now.steps no }
+        ensures tick { option_map_or (λ x. x.tick) (option_copied result) 0 ≡ tick_at self.now.ticks no }
     {
         if no == 0 {
             return None;
         }
-        match self.list.get(no as usize - 1) {
+        self.list.get(no as usize - 1)
+    }
+
+    /// The step of this number, if there is one.
+    pub(crate) fn step(&self, no: u64) -> Option<&Step>
+        ensures { option_copied result ≡ step_at self.now.steps no }
+    {
+        match self.placed(no) {
             Some(placed) => Some(&placed.step),
             None => None,
         }
@@ -71,10 +80,7 @@ impl PlacedSteps {
     pub(crate) fn tick(&self, no: u64) -> u64
         ensures { result ≡ tick_at self.now.ticks no }
     {
-        if no == 0 {
-            return 0;
-        }
-        match self.list.get(no as usize - 1) {
+        match self.placed(no) {
             Some(placed) => u64::from(placed.tick),
             None => 0,
         }

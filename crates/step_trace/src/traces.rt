@@ -1,11 +1,11 @@
 //! Well-formed lists of steps under a configuration, each step in its tick.
 
-ghost use Rattle.std.specs.Prelude.{◌≡◌, [], ◌++◌, ◌∷◌, ◌≤◌, ◌<◌, length, option_copied, OnOk, OnErr, IfErr, IfOk, IsTrue, ◌↔◌, None, ◌+◌, ◌⊎◌};
+ghost use Rattle.std.specs.Prelude.{◌≡◌, [], ◌++◌, ◌∷◌, ◌≤◌, ◌<◌, length, option_copied, option_map, OnOk, OnErr, IfErr, IfOk, IsTrue, ◌↔◌, None, ◌+◌, ◌⊎◌};
 
 use crate::configurations::Config;
 use crate::delivery_index::append_flag;
 use crate::own_steps::own_steps;
-use crate::placed_steps::PlacedSteps;
+use crate::placed_steps::{Placed, PlacedSteps};
 use crate::push_refusals::ids_refusal;
 use crate::steps::{Act, Step};
 use crate::ticks::{BadTick, comes_after_last};
@@ -75,6 +75,7 @@ impl Model for Trace {
 impl Trace {
     ghost use Rattle.step_trace.specs.Traces.{step_at, IsWellFormed};
     ghost use Rattle.step_trace.specs.Ticks.{tick_of, IsTimed, IsTrace, IsOnePerTick, with_step, with_last};
+    ghost use Rattle.step_trace.specs.Differences.{placed_at};
     ghost use Rattle.step_trace.specs.Extensions.{Extends};
     ghost use Rattle.step_trace.specs.OwnSteps.{own_steps};
     ghost use Rattle.step_trace.specs.PushRefusals.{refusal, IsRefusal};
@@ -139,6 +140,13 @@ impl Trace {
         ensures sound { IsWellFormed self.now.config self.now.steps }
     {
         self.placed.step(no)
+    }
+
+    /// The step of this number with its tick, if there is one.
+    pub(crate) fn at(&self, no: u64) -> Option<&Placed>
+        ensures { option_map (λ x. (x.tick, x.step)) (option_copied result) ≡ placed_at self.now no }
+    {
+        self.placed.placed(no)
     }
 
     /// Whether it extends another trace: they have one configuration, the other's steps with their ticks
