@@ -1,5 +1,7 @@
 -- One tick back: the level of the tick from that of the next one, and the levels of all.
-use Rattle.std.proofs.Common.{ℕ, ◌≡◌, ◌+◌, ◌<◌, ◌≤◌, List, [], ◌∷◌, length, Some, None, arith}
+use Rattle.std.proofs.Common.{ℕ, ◌≡◌, ◌+◌, ◌-◌, ◌<◌, ◌≤◌, List, [], ◌∷◌, length, Bool, true, false, cond, Option, Some, None, refl, subst, arith}
+use Rattle.std.specs.Prelude.{nat_le}
+use Rattle.std.proofs.lemmas.Bool.{leb-true, leb-false}
 use Rattle.std.proofs.lemmas.Option.{slice_get_within}
 use Rattle.step_trace.specs.declared.rows.Gap.{Gap}
 use Rattle.step_trace.specs.Traces.{Recorded}
@@ -12,7 +14,7 @@ use Rattle.suffix_staircase.proofs.LevelBounds.{StandsBefore-itself, CanStandBef
 use Rattle.chunk_join.specs.declared.summaries.Message.{Message}
 use Rattle.chunk_join.specs.Summaries.{Summary}
 use Rattle.chunk_join.specs.Sufficient.{Suffices}
-use Rattle.chunk_join.specs.Finishes.{last_at, with_silence, SentFrom, BeginAfter, HasMissesFrom, IsGoneOver}
+use Rattle.chunk_join.specs.Finishes.{last_at, with_silence, SentFrom, BeginAfter, HasMissesFrom, IsGoneOver, IsQuietFrom}
 use Rattle.chunk_join.proofs.MessagesBack.{StandsBefore-through, HasMissesFrom-all, KnowsMisses-from_left}
 use Rattle.chunk_join.proofs.SilencesBack.{StandsBefore-with_silence, GapsLowered-with_silence}
 
@@ -90,6 +92,51 @@ IsTickBack-read part g m s n o old mid levels known read = record {
   lowered set t sound a =
       let gaps : KnowsGaps set t (g + 1) mid.phi mid.gap = (let p = read.phi in let q = read.gap in rw (p, q) (known.ticks.gaps set t sound a)) in
       GapsLowered-with_silence set t part a o g mid read.start positive read.silences_within read.silent read.begun gaps
+
+-- a silence that gives no longer gap leaves the level as it is
+with_silence-short : (level : Level) (g : ℕ) (o : Option Gap) → 1 ≤ level.phi → ((w : Gap) → o ≡ Some w → w.to + 1 < g + level.phi) → with_silence level g o ≡ level
+with_silence-short level g None positive h = refl
+with_silence-short level g (Some w) positive h = go (nat_le level.phi (w.to + 1 - g)) refl where
+  go : (b : Bool) → nat_le level.phi (w.to + 1 - g) ≡ b → cond b (record { delta = level.delta; miss = level.miss; phi = w.to + 1 - g + 1; gap = Some (record { proc = w.proc; from = g; to = w.to + 1 - 1 }) }) level ≡ level
+  go true e = absurd (let a = leb-true level.phi (w.to + 1 - g) e in let l = h w refl in omega (arith, a, l, positive))
+  go false e = refl
+
+-- with the gap that a silence has from a tick on, none from that tick on is longer
+short_after : (level : Level) (g : ℕ) (w : Gap) → w.to + 1 < g + (with_silence level g (Some w)).phi
+short_after level g w = go (nat_le level.phi (w.to + 1 - g)) refl where
+  go : (b : Bool) → nat_le level.phi (w.to + 1 - g) ≡ b → w.to + 1 < g + (cond b (record { delta = level.delta; miss = level.miss; phi = w.to + 1 - g + 1; gap = Some (record { proc = w.proc; from = g; to = w.to + 1 - 1 }) }) level).phi
+  go true e = omega arith
+  go false e = (let a = leb-false level.phi (w.to + 1 - g) e in omega (arith, a))
+
+-- so once a tick was gone over, it is quiet from it on
+pub IsQuietFrom-read : (part : Summary) (g m s : ℕ) (mid : Level) → 1 ≤ g → ((y : Message) → last_at part.sent m ≡ Some y → y.sent.tick < g) → ((w : Gap) → last_at part.silent s ≡ Some w → w.from ≤ g)
+    → IsQuietFrom part g m s (with_silence mid g (last_at part.silent s)).phi
+IsQuietFrom-read part g m s mid start earlier begun = record {
+  start = start;
+  message = earlier;
+  begun = begun;
+  short = λ w e. (rw e (short_after mid g w));
+}
+
+-- where it is quiet, the level of the next tick is that of the tick
+pub IsGoneOver-quiet : (part : Summary) (x low m s : ℕ) (level : Level) (levels : List Level) → low ≤ x → IsGoneOver part (x + 1) m s level levels → IsQuietFrom part low m s level.phi → IsGoneOver part x m s level (level ∷ levels)
+IsGoneOver-quiet part x low m s level levels above known quiet =
+    let start = quiet.start in
+    subst (λ (l : Level). IsGoneOver part x m s l (l ∷ levels))
+    (with_silence-short level x (last_at part.silent s) known.positive (λ w e. let a = quiet.short w e in omega (arith, a, above)))
+    (IsTickBack-read part x m s m s level level levels known (record {
+      start = omega (arith, start, above);
+      messages_within = known.messages_within;
+      silences_within = known.silences_within;
+      falling = StandsBefore-itself level;
+      phi = refl;
+      gap = refl;
+      sent = λ k y l h. (let a = known.sent k y l h in omega (arith, a));
+      earlier = λ y e. (let a = quiet.message y e in omega (arith, a, above));
+      misses = known.misses;
+      silent = λ k w l h. (let a = known.silent k w l h in omega (arith, a));
+      begun = λ w e. (let a = quiet.begun w e in omega (arith, a, above));
+    })).known
 
 -- From the first tick on they are the levels of the trace.
 pub AreLevels-gone_over : (part : Summary) (messages silences : ℕ) (level : Level) (levels : List Level) → IsGoneOver part 1 messages silences level levels → (set : ℕ) (t : Recorded) → IsTrace t → Suffices set t part → AreLevels set t levels

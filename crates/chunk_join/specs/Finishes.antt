@@ -76,6 +76,13 @@ pub record HasTicksFrom (part : Summary) (g : ℕ) (level : Level) (levels : Lis
   pub gaps : (set : ℕ) (trace : Recorded) → IsTrace trace → Suffices set trace part → KnowsGaps set trace g level.phi level.gap
   pub each : (set : ℕ) (trace : Recorded) → IsTrace trace → Suffices set trace part → AreLevelsFrom set trace g levels
 
+-- From tick g on, down to which this level goes, neither the messages nor the silences that are left give another.
+pub record IsQuietFrom (part : Summary) (g messages silences phi : ℕ) : Type 0 where
+  pub start : 1 ≤ g
+  pub message : (m : Message) → last_at part.sent messages ≡ Some m → m.sent.tick < g
+  pub begun : (w : Gap) → last_at part.silent silences ≡ Some w → w.from ≤ g
+  pub short : (w : Gap) → last_at part.silent silences ≡ Some w → w.to + 1 < g + phi
+
 -- what is known of a part whose ticks from g on were gone over, with so many messages and silences left
 pub record IsGoneOver (part : Summary) (g messages silences : ℕ) (level : Level) (levels : List Level) : Type 0 where
   pub count : length levels + g ≡ part.to + 1

@@ -12,7 +12,7 @@ ghost use Rattle.chunk_join.specs.declared.finishes.FinishError.TheVariants.{Not
 ghost use Rattle.chunk_join.specs.Summaries.{Whole, IsPiece};
 ghost use Rattle.chunk_join.specs.Sufficient.{Suffices};
 ghost use Rattle.chunk_join.specs.Prefixes.{prefix};
-ghost use Rattle.chunk_join.specs.Finishes.{BeginsWithFirst, last_at, missed, with_missed, with_silence, KeepsMisses};
+ghost use Rattle.chunk_join.specs.Finishes.{BeginsWithFirst, last_at, missed, with_missed, with_silence, KeepsMisses, IsGoneOver, IsQuietFrom};
 
 use crate::parts::Part;
 use crate::pieces::Piece;
@@ -72,13 +72,75 @@ pub(crate) fn stairs_of(alloc: Global, part: &Part) -> Result<Stairs, AllocError
     };
     let mut messages = part.sent.len();
     let mut silences = part.silent.len();
-    for g in (1..part.to + 1).rev() {
+    let mut next = part.to + 1;
+    while next > 1 {
+        let g = next - 1;
         messages = note_messages(&mut level, part, messages, g);
         silences = begun_by(&part.silent, silences, g);
         note_silence(&mut level, last_at(&part.silent, silences), g);
         builder.lower(level)?;
+        next = quiet_from(part, messages, silences, level.phi, g);
+        repeat_down(&mut builder, part, level, messages, silences, g, next)?;
     }
     Ok(builder.build())
+}
+
+/// The least tick from which on to tick `g` neither the messages nor the silences that are left give another level than
+/// that of `g`, which has this processor bound.
+fn quiet_from(part: &Part, messages: usize, silences: usize, phi: u64, g: u64) -> u64
+    requires messages { messages ≤ length part.now.sent }
+    requires silences { silences ≤ length part.now.silent }
+    requires end { (w : Gap) → last_at part.now.silent silences ≡ Some w → w.to ≤ MAX_TICKS }
+    requires here { IsQuietFrom part.now g messages silences phi }
+    ensures quiet { IsQuietFrom part.now result messages silences phi }
+    ensures high { result ≤ g }
+{
+    let after = after_last(&part.sent, messages, g);
+    match last_at(&part.silent, silences) {
+        Some(silence) => {
+            let short = (silence.to + 2).saturating_sub(phi);
+            after.max(silence.from).max(short)
+        }
+        None => after,
+    }
+}
+
+/// The tick after that of the last of the first `count` messages, which comes before tick `g`; 1 where there is none.
+fn after_last(sent: &[Message], count: usize, g: u64) -> u64
+    requires count { count ≤ length sent.now }
+    requires start { 1 ≤ g }
+    requires before { (m : Message) → last_at sent.now count ≡ Some m → m.sent.tick < g }
+    ensures low { 1 ≤ result }
+    ensures high { result ≤ g }
+    ensures after { (m : Message) → last_at sent.now count ≡ Some m → m.sent.tick < result }
+{
+    if count == 0 {
+        1
+    } else {
+        sent[count - 1].sent.tick + 1
+    }
+}
+
+/// Puts the level of tick `g` before the others for the ticks before it too, down to tick `low`.
+fn repeat_down(
+    builder: &mut StairBuilder,
+    part: &Part,
+    level: Level,
+    messages: usize,
+    silences: usize,
+    g: u64,
+    low: u64,
+) -> Result<(), AllocError>
+    requires order { low ≤ g }
+    requires quiet { IsQuietFrom part.now low messages silences level.phi }
+    requires known { IsGoneOver part.now g messages silences level builder.old }
+    requires end { part.now.to ≤ MAX_TICKS }
+    ensures { OnOk result (IsGoneOver part.now low messages silences level builder.new) }
+{
+    for _x in (low..g).rev() {
+        builder.lower(level)?;
+    }
+    Ok(())
 }
 
 /// Takes the misses of the messages of tick `g`, which are the last of the first `count`, into the level, and gives how

@@ -9,8 +9,8 @@ use Rattle.chunk_join.proofs.TicksBack.{IsGoneOver-none, IsTickBack, IsTickBack-
 use Rattle.chunk_join.proofs.finishes.stairs_of.Goals as goal
 use Rattle.chunk_join.proofs.finishes.stairs_of.Goals.{After-note_silence}
 
-pub loop-g-init : goal.loop-g-init
-loop-g-init c =
+pub loop-next-init : goal.loop-next-init
+loop-next-init c =
     let part = c.args.part.now in
     let end : c.part.inside.to ≡ part.to = ap (λ (s : Summary). s.to) c.part.view_is in
     let messages : c.len-messages.result ≡ length part.sent = search rules in
@@ -28,51 +28,59 @@ note_silence-requires-clause-end c = λ w e.
     omega (arith, high, end))
 
 -- one tick back
-back : (c : After-note_silence) → IsTickBack c.args.part.now (c.loop-g.g - 1) c.note_messages-messages.result c.begun_by-silences.result c.note_silence.new.level c.loop-g.builder
+back : (c : After-note_silence) → IsTickBack c.args.part.now (c.loop-next.next - 1) c.note_messages-messages.result c.begun_by-silences.result c.note_silence.new.level c.loop-next.builder
 back c =
     let part = c.args.part.now in
-    let g = c.loop-g.g - 1 in
-    let low = c.loop-g.invariant.low in
-    let test = c.loop-g-test.true in
-    let next : c.loop-g.g ≡ g + 1 = omega (arith, test) in
-    let known : IsGoneOver part (g + 1) c.loop-g.messages c.loop-g.silences c.loop-g.level c.loop-g.builder = rw next at c.loop-g.invariant.known in
+    let g = c.loop-next.next - 1 in
+    let low = c.loop-next.invariant.low in
+    let test = c.loop-next-test.true in
+    let next : c.loop-next.next ≡ g + 1 = omega (arith, test) in
+    let known : IsGoneOver part (g + 1) c.loop-next.messages c.loop-next.silences c.loop-next.level c.loop-next.builder = rw next at c.loop-next.invariant.known in
     let noted = c.note_messages-messages.ensures in
     let begun = c.begun_by-silences.ensures in
     let items : c.deref.result.now ≡ part.silent = search rules in
-    let again : c.deref-in-loop-g.result.now ≡ part.silent = search rules in
+    let again : c.deref-in-loop-next.result.now ≡ part.silent = search rules in
     let is : c.note_silence.new.level ≡ with_silence c.note_messages-messages.new.level g (last_at part.silent c.begun_by-silences.result) =
     c.note_silence.ensures ∙ ap (with_silence c.note_messages-messages.new.level g) (c.last_at.ensures ∙ ap (λ (xs : List Gap). last_at xs c.begun_by-silences.result) again) in
-    rw is (IsTickBack-read part g c.loop-g.messages c.loop-g.silences c.note_messages-messages.result c.begun_by-silences.result c.loop-g.level c.note_messages-messages.new.level c.loop-g.builder known (record {
+    rw is (IsTickBack-read part g c.loop-next.messages c.loop-next.silences c.note_messages-messages.result c.begun_by-silences.result c.loop-next.level c.note_messages-messages.new.level c.loop-next.builder known (record {
       start = omega (arith, test);
       messages_within = let a = noted.within in let b = known.messages_within in omega (arith, a, b);
       silences_within = let a = begun.within in let b = known.silences_within in omega (arith, a, b);
       falling = noted.falling;
       phi = noted.phi;
       gap = noted.gap;
-      sent = λ k m l h. elim (cases_lt k c.loop-g.messages) [
+      sent = λ k m l h. elim (cases_lt k c.loop-next.messages) [
         | inl below ↦ noted.later k m l below h
         | inr above ↦ (let a = known.sent k m (omega (arith, above)) h in omega (arith, a))
       ];
       earlier = noted.earlier;
       misses = noted.misses known.misses;
-      silent = λ k w l h. elim (cases_lt k c.loop-g.silences) [
+      silent = λ k w l h. elim (cases_lt k c.loop-next.silences) [
         | inl below ↦ begun.later k w l below (ap (λ (xs : List Gap). slice_get xs k) items ∙ h)
         | inr above ↦ (let a = known.silent k w (omega (arith, above)) h in omega (arith, a))
       ];
       begun = λ w h. begun.begun w (ap (λ (xs : List Gap). last_at xs c.begun_by-silences.result) items ∙ h);
     }))
 
-pub loop-g-preserved : goal.loop-g-preserved
-loop-g-preserved c =
-    let test = c.loop-g-test.true in
-    record {
-      low = omega (arith, test);
-      known = rw c.in_ok-lower.ensures.ok (back (goal.at.loop-g-preserved c).After-note_silence).known;
-    }
+pub quiet_from-next-requires-clause-end : goal.quiet_from-next-requires-clause-end
+quiet_from-next-requires-clause-end c = λ w e.
+    (let top : last_at c.part.inside.silent.items c.begun_by-silences.result ≡ Some w = search rules in
+    let high = (c.part.invariant.silent_inside w (last_at-Contains c.part.inside.silent.items c.begun_by-silences.result w top)).1 in
+    let end = c.part.invariant.end in
+    omega (arith, high, end))
+
+pub repeat_down-requires-clause-known : goal.repeat_down-requires-clause-known
+repeat_down-requires-clause-known c = rw c.in_ok-lower.ensures.ok (back (goal.at.repeat_down-requires-clause-known c).After-note_silence).known
+
+pub loop-next-preserved : goal.loop-next-preserved
+loop-next-preserved c = record {
+  low = c.quiet_from-next.ensures.quiet.start;
+  known = c.in_ok-repeat_down.ensures;
+}
 
 pub returns : goal.returns
 returns c = λ set t sound a.
-    (let low = c.loop-g.invariant.low in
-    let test = c.loop-g-test.false in
-    let first : c.loop-g.g ≡ 1 = omega (arith, low, test) in
-    rw c.build.ensures (AreLevels-gone_over c.args.part.now _ _ c.loop-g.level c.loop-g.builder (rw first at c.loop-g.invariant.known) set t sound a))
+    (let low = c.loop-next.invariant.low in
+    let test = c.loop-next-test.false in
+    let first : c.loop-next.next ≡ 1 = omega (arith, low, test) in
+    rw c.build.ensures (AreLevels-gone_over c.args.part.now _ _ c.loop-next.level c.loop-next.builder (rw first at c.loop-next.invariant.known) set t sound a))
