@@ -12,7 +12,7 @@ impl Recorder {
     /// Waits for the lock, and copies nothing under it: so it may be asked often, to learn whether a prefix is worth
     /// its copies.
     pub fn step_count<R: Wait>(&self, rt: &R) -> Option<u64>
-        ensures { IfSome result (λ count. IsStepCount self.now count) }
+        ensures count { IfSome result (λ count. IsStepCount self.now count) }
     {
         let world = self.world.lock(rt);
         if !is_world_of(&world, &self.config, self.limit) {

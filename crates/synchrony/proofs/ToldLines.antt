@@ -1,5 +1,5 @@
 -- What went out of a follower's lines, one after the other.
-use Rattle.std.proofs.Common.{◌≡◌, ℕ, List, [], ◌∷◌, ◌++◌, Option, Result, Ok, Err, OnOk, IfErr, inl, inr, refl, sym, subst, take, length, append-nil, arith}
+use Rattle.std.proofs.Common.{◌≡◌, ℕ, List, [], ◌∷◌, ◌++◌, Option, Result, Ok, Err, OnOk, IfErr, inl, inr, refl, sym, subst, take, length, append-nil, arith, Some, None, ◌∙◌}
 use Rattle.std.specs.Io.KnownBytes.{Appends}
 use Rattle.std.proofs.KnownBytes.{Appends-nil, Appends-trans}
 use Rattle.std.proofs.Math.Seq.{take-length}
@@ -13,7 +13,8 @@ use Rattle.trace_text.specs.Faults.{inner_of}
 use Rattle.text_commands.specs.declared.faults.Fault.{Fault}
 use Rattle.text_commands.specs.declared.faults.Fault.TheVariants as fault
 use Rattle.text_commands.specs.Printing.{IsUnprinted, IsUntold, IsWriteFault}
-use Rattle.synchrony.specs.Followers.{HasBegun, HasTold, IsLine, IsLineOf, IsPartOf}
+use Rattle.synchrony.specs.declared.followers.Follower.{Follower}
+use Rattle.synchrony.specs.Followers.{HasBegun, HasFollowed, HasTold, IsLine, IsLineOf, IsPartOf}
 
 -- nothing went out
 pub begun_nothing : (Line : List ℕ → Type 0) (line : List ℕ) (x : Option (List ℕ)) → Line line → HasBegun Line x x
@@ -66,3 +67,15 @@ told_more Line a b c p q = record {
 -- so for a set under two names
 pub told_on : (c : Setup) (set other : ℕ) (x y z : Option (List ℕ)) → other ≡ set → HasTold (IsLine c set) x y → HasTold (IsLine c other) y z → HasTold (IsLine c set) x z
 told_on c set other x y z same p q = told_more (IsLine c set) x y z p (subst (λ s. HasTold (IsLine c s) y z) same q)
+
+-- a follower that has told a line of a trace that a run has; one more after those before
+pub followed_one : {T : Type 0} (contents : T → Option (List ℕ)) (c : Setup) (trace : Recorded) (old new : Follower T) → IsRunOf c trace → new.analyst.set ≡ old.analyst.set
+    → HasBegun (IsLineOf old.analyst.set trace) (contents (inner_of old.writer)) (contents (inner_of new.writer)) → HasFollowed contents c (Some old) (Some new)
+followed_one contents c trace old new run same p = (same, told_one _ _ _ (begun_as _ _ _ _ (line_of_run c old.analyst.set trace run) p))
+
+pub followed_more : {T : Type 0} (contents : T → Option (List ℕ)) (c : Setup) (x y z : Option (Follower T)) → HasFollowed contents c x y → HasFollowed contents c y z → HasFollowed contents c x z
+followed_more contents c None None z p q = q
+followed_more contents c None (Some b) z p q = cc
+followed_more contents c (Some a) None z p q = absurd p
+followed_more contents c (Some a) (Some b) None p q = absurd q
+followed_more contents c (Some a) (Some b) (Some d) p q = (q.0 ∙ p.0, told_on c a.analyst.set b.analyst.set _ _ _ p.0 p.1 q.1)

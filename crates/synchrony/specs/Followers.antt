@@ -1,5 +1,5 @@
 -- What one who follows a run tells of it.
-use Rattle.std.specs.Prelude.{ℕ, ◌≡◌, ◌⊎◌, ◌*◌, ◌-◌, ◌<◌, ◌≤◌, List, All, Option, Some, flat_map, take}
+use Rattle.std.specs.Prelude.{ℕ, ◌≡◌, ◌⊎◌, ◌*◌, ◌-◌, ◌<◌, ◌≤◌, List, All, Option, Some, None, flat_map, take}
 use Rattle.std.specs.Io.KnownBytes.{Appends}
 use Rattle.step_trace.specs.Configurations.{Setup}
 use Rattle.step_trace.specs.Processors.{IsWithin}
@@ -10,6 +10,8 @@ use Rattle.text_commands.specs.declared.faults.Fault.TheVariants as fault
 use Rattle.text_commands.specs.declared.standings.Standing.{Standing}
 use Rattle.text_commands.specs.Standings.{IsStanding}
 use Rattle.text_commands.specs.StandingLines.{told_standing, told_stop}
+use Rattle.trace_text.specs.Faults.{inner_of}
+use Rattle.synchrony.specs.declared.followers.Follower.{Follower}
 use Rattle.synchrony.specs.declared.followers.TheConstants.{PORTIONS}
 
 -- The line tells how the trace stands for the set, by its least bounds.
@@ -51,6 +53,13 @@ pub record HasTold (Line : List ℕ → Type 0) (before after : Option (List ℕ
   pub parts : List (List ℕ)
   pub each : All (IsPartOf Line) parts
   pub out : Appends before after (flat_map (λ part. part) parts)
+
+-- whatever the follower told meanwhile, if there is one, are such lines of runs of the configuration, for its set
+abbrev pub HasFollowed : {T : Type 0} → (T → Option (List ℕ)) → Setup → Option (Follower T) → Option (Follower T) → Type 0
+HasFollowed contents c None new = new ≡ None
+HasFollowed contents c (Some old) None = ⊥
+HasFollowed contents c (Some old) (Some new) =
+    (new.analyst.set ≡ old.analyst.set) × HasTold (IsLine c old.analyst.set) (contents (inner_of old.writer)) (contents (inner_of new.writer))
 
 -- not all steps are made yet, but a portion of them since the last line
 abbrev pub IsDue : ℕ → ℕ → ℕ → Type 0

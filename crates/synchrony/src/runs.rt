@@ -3,10 +3,12 @@
 ghost use Rattle.std.specs.Prelude.{◌≡◌, ◌≢◌, ◌↔◌, ◌*◌, ◌≤◌, ℕ, List, Some, None, IfOk, IfErr, OnOk, MatchResult, IsTrue, length, ◌⊎◌};
 ghost use Rattle.std.specs.Io.KnownBytes.{Appends};
 ghost use Rattle.step_trace.specs.declared.traces.TheConstants.{MAX_STEPS};
+ghost use Rattle.step_trace.specs.Configurations.{Setup};
+ghost use Rattle.locked_recorder.specs.Prefixes.{IsRunOf};
 ghost use Rattle.trace_text.specs.ByteLoops.{WasFaultless};
 ghost use Rattle.trace_text.specs.Faults.{inner_of, is_flushed};
 ghost use Rattle.text_commands.specs.Printing.{IsWriteFault};
-ghost use Rattle.synchrony.specs.Followers.{HasTold, IsLine};
+ghost use Rattle.synchrony.specs.Followers.{HasFollowed, HasTold, IsLine};
 ghost use Rattle.synchrony.specs.Runs.{HaveDone, IsEvenRun, IsEvenRunText, IsFaultOfNodes, IsFaultOfThreads, IsUnwrittenRun, ending_of, gravity, fault_of_ending};
 
 use crate::followers::Follower;
@@ -65,12 +67,20 @@ pub fn run_nodes<R: Threads + Wait + Clock + Sync, W: Write, G: Gate, E: Write +
     ensures part { IfErr result
         (IsUnwrittenRun config.now steps (W.contents (inner_of writer.old)) (W.contents (inner_of writer.new))) }
     ensures unwritten { IfErr result (IsWriteFault writer.old writer.new) }
+    ensures followed { HasFollowed E.contents config.now follower.old follower.new }
 {
     let world = world_made(rt, alloc, config, patience, steps, gate, follower)?;
+    tell_whole(alloc, &world, follower);
+    Ok(write_trace(alloc, world.trace(), writer)?)
+}
+
+/// Tells of the whole of a run, where there is a follower.
+fn tell_whole<E: Write>(alloc: Global, world: &World, follower: &mut Option<Follower<E>>)
+    ensures { (c : Setup) → IsRunOf c world.now.trace → HasFollowed E.contents c follower.old follower.new }
+{
     if let Some(follower) = follower {
         follower.tell(alloc, world.trace());
     }
-    Ok(write_trace(alloc, world.trace(), writer)?)
 }
 
 /// The World that the threads have moved.
@@ -87,6 +97,7 @@ fn world_made<R: Threads + Wait + Clock + Sync, G: Gate, E: Write + Send>(
     requires room { config.now.n * steps ≤ MAX_STEPS }
     ensures run { IfOk result (λ world. IsEvenRun config.now steps world.trace) }
     ensures own { IfErr result IsFaultOfThreads }
+    ensures followed { HasFollowed E.contents config.now follower.old follower.new }
 {
     let room = config.n() * steps;
     let (recorder, mut seats) = Recorder::new(alloc, config.copy(alloc)?, 0, room)?;
