@@ -25,7 +25,7 @@ use Rattle.step_buffers.specs.Runs.{IsSend}
 use Rattle.step_buffers.proofs.StepPrefixes.{step_at-prefix, IsWellFormed-prefix}
 
 -- filters by tests that agree on the elements
-filter-agree : (f g : ℕ → Bool) (xs : List ℕ) → ((x : ℕ) → Contains xs x → f x ≡ g x) → filter f xs ≡ filter g xs
+pub filter-agree : (f g : ℕ → Bool) (xs : List ℕ) → ((x : ℕ) → Contains xs x → f x ≡ g x) → filter f xs ≡ filter g xs
 filter-agree f g [] same = refl
 filter-agree f g (x ∷ xs) same = rw (same x (Contains-head x xs), filter-agree f g xs (λ y d. same y (Contains-rest x y xs d))) refl
 
@@ -68,7 +68,7 @@ numbers-push steps x =
     let long : length (steps ++ x ∷ []) ≡ length steps + 1 = length-append steps (x ∷ []) in
     ap (range_with_len 1) long ∙ range_with_len-more 1 (length steps) (suc (length steps)) (omega arith)
 
-or_false : (b : Bool) → (b || false) ≡ b
+pub or_false : (b : Bool) → (b || false) ≡ b
 or_false true = refl
 or_false false = refl
 

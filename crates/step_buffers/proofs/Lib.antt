@@ -16,6 +16,7 @@ pub mod InboxSteps
 pub mod InboxSenders
 pub mod RisingIds
 pub mod TakenIds
+pub mod RemovedIds
 pub mod DestinationSearch
 mod CandidateDestinations
 pub mod BufferSteps

@@ -1,5 +1,5 @@
 -- What is kept of the processors, when one of them sends.
-use Rattle.std.proofs.Common.{ℕ, zero, suc, ◌≡◌, ◌≢◌, ◌+◌, ◌-◌, ◌<◌, ◌≤◌, ◌⊎◌, inl, inr, List, [], ◌∷◌, ◌++◌, length, get_or, Option, Some, Bool, true, false, ◌==◌, ◌&&◌, Vec, Global, refl, sym, ap, ◌∙◌, subst, arith}
+use Rattle.std.proofs.Common.{ℕ, zero, suc, ◌≡◌, ◌≢◌, ◌+◌, ◌-◌, ◌<◌, ◌≤◌, ◌⊎◌, inl, inr, List, [], ◌∷◌, ◌++◌, length, get_or, Option, Some, Bool, true, false, ◌==◌, ◌&&◌, refl, sym, ap, ◌∙◌, subst, arith}
 use Rattle.std.specs.Prelude.{slice_get, slice_set}
 use Rattle.std.proofs.lemmas.Option.{same_Some, none-some, slice_get_within, slice_get_read, get_or_from_slice_get}
 use Rattle.step_trace.specs.declared.traces.TheConstants.{MAX_STEPS}
@@ -20,6 +20,7 @@ use Rattle.step_buffers.specs.declared.inbox_entries.Inbox.{Inbox}
 use Rattle.step_buffers.specs.declared.processors.Processor.{Processor}
 use Rattle.step_buffers.specs.HeardTables.{act_ends, passed, is_sent_in}
 use Rattle.step_buffers.specs.Runs.{node_at, destinations, destination_after}
+use Rattle.step_buffers.specs.Queues.{Queue}
 use Rattle.step_buffers.specs.Buffers.{buffer}
 use Rattle.step_buffers.specs.Moves.{next_send}
 use Rattle.step_buffers.specs.Worlds.{IsDecidedSince, IsInbox, IsSaid, IsPlaceOf, IsProcessor, AreProcessors}
@@ -146,7 +147,7 @@ AreProcessors-set c steps kept i y are is = record {
 }
 
 -- the processors after a Send: the message is in the receiver's buffer, and its sender knows where it sent last
-pub AreProcessors-sent : (c : Setup) (steps : List Step) (p to : ℕ) (kept : List Processor) (receiver sender : Processor) (waiting : Vec ℕ Global) (said : Option Letter)
+pub AreProcessors-sent : (c : Setup) (steps : List Step) (p to : ℕ) (kept : List Processor) (receiver sender : Processor) (waiting : Queue) (said : Option Letter)
     → IsWellFormed c (steps ++ record { proc = p; act = Send to } ∷ []) → IsProc c p → IsProc c to → next_send c steps p ≡ Some to → AreProcessors c steps kept
     → slice_get kept (to - 1) ≡ Some receiver → waiting.items ≡ receiver.buffer.items ++ suc (length steps) ∷ []
     → slice_get (slice_set kept (to - 1) (record receiver { buffer = waiting })) (p - 1) ≡ Some sender
@@ -223,7 +224,7 @@ AreProcessors-sent c steps p to kept receiver sender waiting said w is dest due 
         }
 
 -- more room in a buffer
-pub AreProcessors-room : (c : Setup) (steps : List Step) (kept : List Processor) (i : ℕ) (z : Processor) (room : Vec ℕ Global) → AreProcessors c steps kept
+pub AreProcessors-room : (c : Setup) (steps : List Step) (kept : List Processor) (i : ℕ) (z : Processor) (room : Queue) → AreProcessors c steps kept
     → slice_get kept i ≡ Some z → room.items ≡ z.buffer.items → AreProcessors c steps (slice_set kept i (record z { buffer = room }))
 AreProcessors-room c steps kept i z room are at same =
     let is = are.each i z at in

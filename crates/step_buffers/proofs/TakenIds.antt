@@ -21,7 +21,7 @@ below-first ids s rise low = go (is_in ids s) refl
         absurd (omega arith)
 
 -- the elements of the front of a list that are below a bound
-front-below : (xs : List ℕ) (n bound s : ℕ) → n ≤ length xs → ((k : ℕ) → k < n → get_or xs k 0 < bound) → Contains (take n xs) s → s < bound
+pub front-below : (xs : List ℕ) (n bound s : ℕ) → n ≤ length xs → ((k : ℕ) → k < n → get_or xs k 0 < bound) → Contains (take n xs) s → s < bound
 front-below xs n bound s within below d =
     let short : length (take n xs) ≡ min n (length xs) = length-take n xs in
     let inside = d.1 in

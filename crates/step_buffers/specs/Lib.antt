@@ -2,6 +2,7 @@ pub mod HeardTables
 pub mod Runs
 pub mod Buffers
 pub mod Moves
+pub mod Queues
 pub mod Letters
 pub mod InboxRounds
 pub mod Inboxes

@@ -43,7 +43,7 @@ fn copied_processor(alloc: Global, processor: &Processor) -> Result<Processor, A
         last: processor.last,
         node: processor.node.copy(alloc)?,
         since: processor.since,
-        buffer: Vec::from_slice(alloc, &processor.buffer)?,
+        buffer: processor.buffer.copy(alloc)?,
         inbox: copied_inbox(alloc, &processor.inbox)?,
         said: processor.said.share()?,
     })

@@ -11,7 +11,6 @@ ghost use Rattle.step_buffers.specs.Inboxes.{kept_ids};
 use crate::letters::{Place, letter_at, round_of};
 use crate::processors::Processor;
 use crate::round_inboxes::keep_ahead;
-use crate::takes::take_out;
 
 /// Takes these messages out of the buffer, and puts those of this round and of later ones into the inbox, in
 /// which there is room.
@@ -30,7 +29,7 @@ pub(crate) fn take_in(receiver: &mut Processor, letters: &[Place], ids: &[u64], 
     ensures since { receiver.new.since ≡ receiver.old.since }
     ensures said { receiver.new.said ≡ receiver.old.said }
 {
-    take_out(&mut receiver.buffer, ids);
+    receiver.buffer.take_out(ids);
     keep_ahead(&mut receiver.inbox, letters, ids, round);
 }
 

@@ -12,11 +12,13 @@ mod letters;
 mod moves;
 mod processors;
 mod receives;
+mod removals;
 mod replays;
 mod round_inboxes;
 mod sends;
 mod steps;
 mod takes;
+mod waiting;
 mod worlds;
 
 pub use laws::{refusal_laws, run_laws};

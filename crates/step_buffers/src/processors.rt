@@ -12,6 +12,7 @@ ghost use Rattle.step_buffers.specs.Worlds.{IsProcessor, AreProcessors};
 use crate::inbox_entries::Inbox;
 use crate::letters::Place;
 use crate::round_inboxes::empty_inbox;
+use crate::waiting::Waiting;
 use lock_phases::{Node, owner, part_of, phase_of};
 use std::alloc::{AllocError, Global};
 use step_trace::{Config, Trace};
@@ -28,7 +29,7 @@ pub(crate) struct Processor {
     /// Since which round it has the decision that its node has; while it has none, since the first.
     pub since: u64,
     /// The ids of the messages that wait for it, rising.
-    pub buffer: Vec<u64>,
+    pub buffer: Waiting,
     /// The messages of its round and of later ones that it took.
     pub inbox: Inbox,
     /// What it said in its round, which it says to everybody to whom it sends in it; the place of no message where
@@ -112,7 +113,7 @@ pub(crate) fn opening_processors(
             last: 0,
             node: Node::new(alloc, *value)?,
             since: 1,
-            buffer: Vec::new(alloc),
+            buffer: Waiting::new(alloc),
             inbox: empty_inbox(alloc),
             said: Place::empty(),
         })?;

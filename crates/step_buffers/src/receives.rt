@@ -41,10 +41,10 @@ pub(crate) fn chosen(
     if is_early(trace, receiver, p, ends) {
         return Err(StepError::StillSending);
     }
-    if let Some(why) = take_refusal(&receiver.buffer, take) {
+    if let Some(why) = take_refusal(receiver.buffer.as_slice(), take) {
         return Err(why);
     }
-    let Ok(ids) = taken_ids(alloc, &receiver.buffer, take) else {
+    let Ok(ids) = taken_ids(alloc, receiver.buffer.as_slice(), take) else {
         return Err(StepError::Memory);
     };
     Ok(MessageIds::new(ids))

@@ -134,7 +134,7 @@ fn push_send(
     ensures processors { (c : Setup) (steps : List TraceStep) → AreProcessors c steps processors.old.items → AreProcessors c steps processors.new.items }
     ensures count { length processors.new.items ≡ length processors.old.items }
     ensures place { OnOk result (vec_len letters.new < vec_capacity letters.new) }
-    ensures room { OnOk result ((x : Processor) → slice_get processors.new.items (to - 1) ≡ Some x → vec_len x.buffer < vec_capacity x.buffer) }
+    ensures room { OnOk result ((x : Processor) → slice_get processors.new.items (to - 1) ≡ Some x → 0 < x.buffer.room) }
     ensures appended { OnOk result (trace.new.steps ≡ trace.old.steps ++ record { proc = p; act = Act.Send to } ∷ []) }
     ensures config { trace.new.config ≡ trace.old.config }
     ensures well_formed { OnOk result (IsWellFormed trace.old.config (trace.old.steps ++ record { proc = p; act = Act.Send to } ∷ [])) }
@@ -163,9 +163,9 @@ fn make_room(
     ensures processors { (c : Setup) (steps : List TraceStep) → AreProcessors c steps processors.old.items → AreProcessors c steps processors.new.items }
     ensures count { length processors.new.items ≡ length processors.old.items }
     ensures place { OnOk result (vec_len letters.new < vec_capacity letters.new) }
-    ensures room { OnOk result ((x : Processor) → slice_get processors.new.items (to - 1) ≡ Some x → vec_len x.buffer < vec_capacity x.buffer) }
+    ensures room { OnOk result ((x : Processor) → slice_get processors.new.items (to - 1) ≡ Some x → 0 < x.buffer.room) }
 {
     letters.reserve(1)?;
     let receiver = &mut processors[(to - 1) as usize];
-    receiver.buffer.reserve(1)
+    receiver.buffer.reserve()
 }

@@ -146,7 +146,7 @@ impl World {
         ensures value { result.now ≡ buffer self.now.trace.steps p }
         ensures rising { IsStrictlyIncreasing result.now }
     {
-        &self.processors[(p - 1) as usize].buffer
+        self.processors[(p - 1) as usize].buffer.as_slice()
     }
 
     /// Makes one step of processor `p`: it sends, or takes messages and, if the move says so, ends its round
@@ -154,10 +154,11 @@ impl World {
     ///
     /// Refuses in the order of `StepError`: Full, BadProc, NothingToSend, StillSending, IdsNotRising,
     /// NotInBuffer, Memory. Then everything is as it was. Takes memory for the step, for the message that it
-    /// sends or the ids that it takes, and for the node where its round ends. Takes time in these, in the
-    /// messages that wait for the processor where it takes any, and in those of its round that it took where
-    /// its round ends; not in the length of the trace, nor in what it took for later rounds, but for the
-    /// logarithm of their number for each message that goes among them or leaves them.
+    /// sends or the ids that it takes, and for the node where its round ends. Takes time in these, and
+    /// in the messages of its round that it took where its round ends; not in the length of the trace, nor in
+    /// what waits or was taken for later rounds, but for the logarithm of their number for each message that goes
+    /// among them or leaves them. Where some of the messages that it takes are neither among the first that wait
+    /// nor among the last, it goes over what lies between these, and moves what waits on their shorter side.
     pub fn step(&mut self, alloc: Global, p: u64, step: Move) -> Result<Done, StepError>
         ensures step { IfOk result (λ done. Some done.step ≡ step_of self.old.trace.config self.old.trace.steps p step.entry) }
         ensures made { IfOk result (λ done. self.new.trace.steps ≡ self.old.trace.steps ++ done.step ∷ []) }

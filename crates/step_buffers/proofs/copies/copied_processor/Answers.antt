@@ -1,4 +1,4 @@
-use Rattle.std.proofs.Common.{◌∙◌, refl}
+use Rattle.std.proofs.Common.{refl}
 use Rattle.step_buffers.proofs.CopiedProcessors.{IsProcessor-alike}
 use Rattle.step_buffers.proofs.copies.copied_processor.Goals as goal
 
@@ -9,7 +9,7 @@ returns c = λ config steps p is. IsProcessor-alike config steps p c.args.proces
       last = refl;
       node = c.in_ok-copy.ensures;
       since = refl;
-      buffer = c.in_ok-from_slice.ensures.items ∙ c.deref.ensures.value;
+      buffer = c.in_ok-copy-2.ensures.items;
       inbox = c.in_ok-copied_inbox.ensures.same;
       entries = c.in_ok-copied_inbox.ensures.entries;
       said = c.in_ok-share.ensures;

@@ -8,7 +8,7 @@ use Rattle.step_buffers.proofs.receives.chosen.Goals as goal
 
 pub take_refusal-requires : goal.take_refusal-requires
 take_refusal-requires c =
-    let waiting : c.deref.result.now ≡ buffer c.args.trace.now.steps c.args.p = c.deref.ensures.value ∙ c.requires.receiver.buffer in
+    let waiting : c.as_slice.result.now ≡ buffer c.args.trace.now.steps c.args.p = c.as_slice.ensures.value ∙ c.requires.receiver.buffer in
     rw waiting (buffer-rises c.args.trace.now.steps c.args.p)
 
 pub returns-in-Some-clause-refused : goal.returns-in-Some-clause-refused
@@ -16,7 +16,7 @@ returns-in-Some-clause-refused c =
     let config = c.args.trace.now.config in
     let steps = c.args.trace.now.steps in
     let p = c.args.p in
-    let waiting : c.deref.result.now ≡ buffer steps p = c.deref.ensures.value ∙ c.requires.receiver.buffer in
+    let waiting : c.as_slice.result.now ≡ buffer steps p = c.as_slice.ensures.value ∙ c.requires.receiver.buffer in
     let early : (c.args.ends && is_some (next_send config steps p)) ≡ false = sym c.is_early.ensures ∙ c.if-is_early.false in
     let some : take_refusal c.args.take (buffer steps p) ≡ Some c.in-Some.why = ap (take_refusal c.args.take) (sym waiting) ∙ sym c.take_refusal.ensures ∙ c.in-Some.is in
     rw (early, some) (IsStepRefusal-take c.args.take (buffer steps p) c.in-Some.why some)
@@ -26,20 +26,20 @@ returns-in_default-taken_ids-clause-refused c =
     let config = c.args.trace.now.config in
     let steps = c.args.trace.now.steps in
     let p = c.args.p in
-    let waiting : c.deref.result.now ≡ buffer steps p = c.deref.ensures.value ∙ c.requires.receiver.buffer in
+    let waiting : c.as_slice.result.now ≡ buffer steps p = c.as_slice.ensures.value ∙ c.requires.receiver.buffer in
     let early : (c.args.ends && is_some (next_send config steps p)) ≡ false = sym c.is_early.ensures ∙ c.if-is_early.false in
     let none : take_refusal c.args.take (buffer steps p) ≡ None = ap (take_refusal c.args.take) (sym waiting) ∙ sym c.take_refusal.ensures ∙ c.in_default.is in
     rw (early, none) refl
 
 pub returns-clause-taken : goal.returns-clause-taken
-returns-clause-taken c = c.new.ensures ∙ c.in-Ok.ensures ∙ ap (taken_ids c.args.take) (c.deref-2.ensures.value ∙ c.requires.receiver.buffer)
+returns-clause-taken c = c.new.ensures ∙ c.in-Ok.ensures ∙ ap (taken_ids c.args.take) (c.as_slice-2.ensures.value ∙ c.requires.receiver.buffer)
 
 pub returns-clause-ok : goal.returns-clause-ok
 returns-clause-ok c =
     let config = c.args.trace.now.config in
     let steps = c.args.trace.now.steps in
     let p = c.args.p in
-    let waiting : c.deref.result.now ≡ buffer steps p = c.deref.ensures.value ∙ c.requires.receiver.buffer in
+    let waiting : c.as_slice.result.now ≡ buffer steps p = c.as_slice.ensures.value ∙ c.requires.receiver.buffer in
     let early : (c.args.ends && is_some (next_send config steps p)) ≡ false = sym c.is_early.ensures ∙ c.if-is_early.false in
     let none : take_refusal c.args.take (buffer steps p) ≡ None = ap (take_refusal c.args.take) (sym waiting) ∙ sym c.take_refusal.ensures ∙ c.in_default.is in
     rw (early, none) refl

@@ -1,7 +1,7 @@
 use Rattle.std.proofs.Common.{ltb, ltb-true, arith, rules}
 use Rattle.std.proofs.lemmas.List.Sorted.{IsPartitionPoint-from_clause, IsPartitionedBy-ltb, IsNonDecreasingBy-from_default}
 use Rattle.step_buffers.proofs.RisingIds.{rising-nondecreasing}
-use Rattle.step_buffers.proofs.takes.count_below.Goals as goal
+use Rattle.step_buffers.proofs.removals.count_below.Goals as goal
 
 pub returns-clause-below : goal.returns-clause-below
 returns-clause-below c =
