@@ -1,8 +1,9 @@
 //! Who follows a run while its threads step, and tells how synchronous they are so far.
 
-ghost use Rattle.std.specs.Prelude.{◌≡◌, ◌↔◌, IfOk, IfErr, IfSome, OnOk, IsTrue, Some};
+ghost use Rattle.std.specs.Prelude.{◌≡◌, ◌⊎◌, ◌↔◌, IfOk, IfErr, IfSome, OnOk, IsTrue, Some};
 ghost use Rattle.std.specs.Io.KnownBytes.{Appends};
 ghost use Rattle.step_trace.specs.Processors.{IsWithin};
+ghost use Rattle.suffix_staircase.specs.Analysis.{AreLevels};
 ghost use Rattle.trace_text.specs.Faults.{inner_of};
 ghost use Rattle.text_commands.specs.Printing.{IsWriteFault};
 ghost use Rattle.text_commands.specs.Standings.{IsStanding};
@@ -18,6 +19,7 @@ use std::sync::atomic::{AtomicBool, Ordering};
 use std::thread;
 use std::time::{Clock, Duration};
 use step_trace::{Config, ProcSet, Trace};
+use suffix_staircase::Stairs;
 use text_commands::{Fault, standing_of, tell_standing, tell_stop, test_set};
 use trace_text::Counting;
 
@@ -160,12 +162,29 @@ impl<W: Write> Follower<W> {
         ensures told { HasBegun (IsLineOf self.old.analyst.set trace.now) (W.contents (inner_of self.old.writer)) (W.contents (inner_of self.new.writer)) }
         ensures cause { IfErr result (IsWriteFault self.old.writer self.new.writer) }
     {
-        let stairs = match self.analyst.feed(alloc, trace) {
-            Ok(stairs) => stairs,
-            Err(FeedError::NotAnExtension { .. }) => return Err(Fault::NotARun(0)),
-            Err(FeedError::Memory) => return Err(Fault::Memory),
-        };
+        let stairs = self.stairs(alloc, trace)?;
         tell_standing(alloc, standing_of(&stairs), &mut self.writer)
+    }
+
+    /// The stairs of a trace that extends those that were told of. Where it has all steps, no longer one will come, and it
+    /// is analysed from scratch: that is quicker where much is new, and whoever waits for the run waits for this.
+    ///
+    /// Refuses NotARun(0) where it doesn't extend them; Memory may come instead.
+    fn stairs(&mut self, alloc: Global, trace: &Trace) -> Result<Stairs, Fault>
+        ensures set { self.new.analyst.set ≡ self.old.analyst.set }
+        ensures writer { self.new.writer ≡ self.old.writer }
+        ensures stairs { IfOk result (AreLevels self.old.analyst.set trace.now) }
+        ensures refused { IfErr result (λ why. (why ≡ Fault.NotARun 0) ⊎ (why ≡ Fault.Memory)) }
+    {
+        let set = self.analyst.set();
+        if trace.len() as u64 == self.all && set.within(trace.config().n()) {
+            return Ok(Stairs::of_trace(alloc, trace, set)?);
+        }
+        match self.analyst.feed(alloc, trace) {
+            Ok(stairs) => Ok(stairs),
+            Err(FeedError::NotAnExtension { .. }) => Err(Fault::NotARun(0)),
+            Err(FeedError::Memory) => Err(Fault::Memory),
+        }
     }
 
     /// Tells that there is no memory, and then no more.
