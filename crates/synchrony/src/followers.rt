@@ -1,6 +1,6 @@
 //! Who follows a run while its threads step, and tells how synchronous they are so far.
 
-ghost use Rattle.std.specs.Prelude.{◌≡◌, ◌⊎◌, ◌↔◌, IfOk, IfErr, IfSome, OnOk, IsTrue, Some};
+ghost use Rattle.std.specs.Prelude.{◌≡◌, ◌⊎◌, ◌↔◌, ◌-◌, ◌*◌, ◌<◌, length, IfOk, IfErr, IfSome, OnOk, IsTrue, Some};
 ghost use Rattle.std.specs.Io.KnownBytes.{Appends};
 ghost use Rattle.step_trace.specs.Processors.{IsWithin};
 ghost use Rattle.suffix_staircase.specs.Analysis.{AreLevels};
@@ -26,6 +26,9 @@ use trace_text::Counting;
 /// Of a run whose steps are cut into so many equal portions, a line is due where one portion is new.
 const PORTIONS: u64 = 20;
 
+/// An analysis from scratch goes over so many steps while the analyst summarises one.
+const SUMMARISED: u64 = 40;
+
 /// How many milliseconds a follower sleeps before it asks again how many steps were made.
 const PAUSE: u64 = 1;
 
@@ -36,6 +39,8 @@ pub struct Follower<W> {
     // How many steps the run is to have, and how many it had when it was told of last.
     all: u64,
     told: u64,
+    // How many steps the trace had that the analyst was fed last.
+    fed: u64,
     // No more is told: there was no memory, or the writer failed.
     is_over: bool,
     writer: Counting<W>,
@@ -82,6 +87,7 @@ fn started<W: Write + Drop>(
         analyst: Analyst::new(alloc, config, set),
         all,
         told: 0,
+        fed: 0,
         is_over: false,
         writer,
     })
@@ -166,10 +172,10 @@ impl<W: Write> Follower<W> {
         tell_standing(alloc, standing_of(&stairs), &mut self.writer)
     }
 
-    /// The stairs of a trace that extends those that were told of. Where it has all steps, no longer one will come, and it
-    /// is analysed from scratch: that is quicker where much is new, and whoever waits for the run waits for this.
+    /// The stairs of a trace: where little of it is new, from what the analyst knows, and else from scratch, which is
+    /// quicker then.
     ///
-    /// Refuses NotARun(0) where it doesn't extend them; Memory may come instead.
+    /// Refuses NotARun(0) where it doesn't extend what the analyst was fed; Memory may come instead.
     fn stairs(&mut self, alloc: Global, trace: &Trace) -> Result<Stairs, Fault>
         ensures set { self.new.analyst.set ≡ self.old.analyst.set }
         ensures writer { self.new.writer ≡ self.old.writer }
@@ -177,14 +183,25 @@ impl<W: Write> Follower<W> {
         ensures refused { IfErr result (λ why. (why ≡ Fault.NotARun 0) ⊎ (why ≡ Fault.Memory)) }
     {
         let set = self.analyst.set();
-        if trace.len() as u64 == self.all && set.within(trace.config().n()) {
+        if self.is_mostly_new(trace) && set.within(trace.config().n()) {
             return Ok(Stairs::of_trace(alloc, trace, set)?);
         }
         match self.analyst.feed(alloc, trace) {
-            Ok(stairs) => Ok(stairs),
+            Ok(stairs) => {
+                self.fed = trace.len() as u64;
+                Ok(stairs)
+            }
             Err(FeedError::NotAnExtension { .. }) => Err(Fault::NotARun(0)),
             Err(FeedError::Memory) => Err(Fault::Memory),
         }
+    }
+
+    /// Whether more of a trace is new to the analyst than it is quick to summarise.
+    fn is_mostly_new(&self, trace: &Trace) -> bool
+        ensures { IsTrue result ↔ (length trace.now.steps < (length trace.now.steps - self.now.fed) * SUMMARISED) }
+    {
+        let count = trace.len() as u64;
+        count < count.saturating_sub(self.fed).saturating_mul(SUMMARISED)
     }
 
     /// Tells that there is no memory, and then no more.
