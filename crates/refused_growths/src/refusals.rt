@@ -1,0 +1,81 @@
+//! One growth that is refused, and the sweep over all of a call.
+
+use std::alloc::{AllocError, Global};
+use std::process::Abort;
+
+// The size that begins the messages to the refusing library, in bytes. `tests/refusing.c` has the same number.
+const MESSAGE: usize = 7_700_000;
+
+// The most growths of one call.
+const MOST: usize = 100_000;
+
+/// What came of a call.
+#[derive(Clone, Copy, Debug, PartialEq, Eq)]
+pub enum Outcome {
+    /// Nothing was refused, and it answered what it answers with ample memory.
+    Right,
+    /// A growth was refused, and it answered want of memory and nothing else; all that it was lent is as before, and
+    /// made again it answers right.
+    Refused,
+    /// It did anything else.
+    Wrong,
+}
+
+/// A call that is made with each of its growths refused in turn.
+pub trait Call {
+    /// Makes what the call is lent, lets `refusal` begin, makes the call, lets the refusal end, and judges the answer.
+    /// What it is lent is made anew each time: a call that was refused may keep the room that it got.
+    fn attempt(&mut self, alloc: Global, refusal: Refusal) -> Outcome;
+}
+
+/// One growth that is to be refused, by its number among those of the call, from 1.
+#[derive(Clone, Copy)]
+pub struct Refusal {
+    growth: usize,
+}
+
+impl Refusal {
+    /// From here on growths are counted, and the one of this number is refused.
+    pub fn begin(self, alloc: Global) {
+        let _ = is_refused(alloc, self.growth);
+    }
+
+    /// From here on none is refused. Says whether one was.
+    pub fn end(self, alloc: Global) -> bool {
+        is_refused(alloc, 0)
+    }
+}
+
+// Whether a message is refused.
+fn is_refused(alloc: Global, message: usize) -> bool {
+    let asked: Result<Vec<u8>, AllocError> = Vec::with_capacity(
+        alloc,
+        MESSAGE.saturating_add(message),
+    );
+    asked.is_err()
+}
+
+/// Judges an answer: `right` says that it is the one that ample memory gives, `refused` that it is want of memory,
+/// that nothing has changed, and that the call made again is right.
+pub fn judged(was_refused: bool, right: bool, refused: bool) -> Outcome {
+    if was_refused && refused && !right {
+        Outcome::Refused
+    } else if right && !was_refused {
+        Outcome::Right
+    } else {
+        Outcome::Wrong
+    }
+}
+
+/// Makes the call with each growth refused in turn, until none is; stops the test at a wrong outcome, and names the
+/// call and the growth.
+pub fn refused_in_turn<C: Call>(rt: &impl Abort, alloc: Global, name: &str, call: &mut C) {
+    for growth in 1..MOST {
+        let outcome = call.attempt(alloc, Refusal { growth });
+        assert!(rt; outcome != Outcome::Wrong, "{name}, growth {growth}");
+        if outcome == Outcome::Right {
+            return;
+        }
+    }
+    assert!(rt; false, "{name} has too many growths");
+}
