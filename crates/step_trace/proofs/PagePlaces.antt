@@ -1,13 +1,14 @@
 -- Items of a list in pages, by their places.
-use Rattle.std.proofs.Common.{ℕ, ◌≡◌, ◌+◌, ◌-◌, ◌*◌, ◌/◌, ◌%◌, ◌<◌, ◌≤◌, List, [], ◌∷◌, ◌++◌, length, Some, refl, sym, ap, ◌∙◌, suc, zero, arith, append_assoc, length-append}
+use Rattle.std.proofs.Common.{ℕ, ◌≡◌, ◌+◌, ◌-◌, ◌*◌, ◌/◌, ◌%◌, ◌<◌, ◌≤◌, List, [], ◌∷◌, ◌++◌, length, Some, refl, sym, ap, ◌∙◌, suc, zero, arith, append_assoc, length-append, Bool, true, false, nat_lt}
 use Rattle.std.specs.Prelude.{slice_get, All, None}
 use Rattle.std.specs.List.{flat_map, AllZip}
-use Rattle.std.proofs.lemmas.Option.{none-some, same_Some}
+use Rattle.std.proofs.lemmas.Option.{none-some, same_Some, slice_get_within}
 use Rattle.std.proofs.lemmas.List.Concat.{flat_map-cons}
 use Rattle.std.proofs.lemmas.List.Elements.{All-head, All-tail, All-cons, length_all_zip}
 use Rattle.std.proofs.lemmas.Nat.{div-add-mod', mod_below}
+use Rattle.std.proofs.lemmas.Bool.Decides.{nat_tests}
 use Rattle.step_trace.specs.declared.paged_lists.TheConstants.{PAGE_LEN}
-use Rattle.step_trace.specs.Pages.{all_items, AreInPages}
+use Rattle.step_trace.specs.Pages.{all_items, AreInPages, IsPage, BeginAlike}
 
 -- a place in the first of two lists, and one after it
 slice_get-left : {X : Type 0} (xs ys : List X) (k : ℕ) → k < length xs → slice_get (xs ++ ys) k ≡ slice_get xs k
@@ -57,6 +58,13 @@ module _ {P X : Type 0} (items : P → List X) where
       let whole : all_items items (x ∷ pages) last ≡ items x ++ all_items items pages last = ap (λ xs. xs ++ last) (flat_map-cons items x pages) ∙ append_assoc (items x) (flat_map items pages) last in
       rw (at, whole) (slice_get-right (items x) (all_items items pages last) PAGE_LEN (q * PAGE_LEN + r) (sym head) ∙ at_page pages last rest q r p low h)
 
+  -- a full page is that of its number
+  pub is_page : (pages : List P) (last : List X) → AreInPages items pages last → (q : ℕ) (p : P) → slice_get pages q ≡ Some p → IsPage (items p) (all_items items pages last) q
+  is_page pages last a q p h = record {
+    inside = let l : q < length pages = slice_get_within pages q p h in let n = length-all pages last a.full in omega (arith, l, n);
+    items = λ r l. sym (at_page pages last a.full q r p l h);
+  }
+
   -- an item of a full page
   pub in_page : (pages : List P) (last : List X) → AreInPages items pages last → (i : ℕ) (p : P) → slice_get pages (i / PAGE_LEN) ≡ Some p
       → slice_get (all_items items pages last) i ≡ slice_get (items p) (i % PAGE_LEN)
@@ -97,3 +105,15 @@ module _ {P X : Type 0} (items : P → List X) where
     less = let b = a.less in omega (arith, b, e);
     limit = let b = a.limit in let n = length_all_zip R pages copies z in rw (← n, e) b;
   }
+
+-- lists that begin alike, and have the same at the places of one page more, begin alike with it
+pub alike-with_page : {X : Type 0} (xs ys here there : List X) (q : ℕ) → BeginAlike xs ys (q * PAGE_LEN) → IsPage here xs q → IsPage there ys q → BeginAlike here there PAGE_LEN
+    → BeginAlike xs ys ((q + 1) * PAGE_LEN)
+alike-with_page xs ys here there q before one other same i l = go (nat_lt i (q * PAGE_LEN)) refl
+  where
+    go : (t : Bool) → nat_lt i (q * PAGE_LEN) ≡ t → slice_get xs i ≡ slice_get ys i
+    go true e = before i (grind (arith, nat_tests))
+    go false e =
+        let r : i - q * PAGE_LEN < PAGE_LEN = grind (arith, nat_tests) in
+        let at : q * PAGE_LEN + (i - q * PAGE_LEN) ≡ i = grind (arith, nat_tests) in
+        rw at at (sym (one.items (i - q * PAGE_LEN) r) ∙ same (i - q * PAGE_LEN) r ∙ other.items (i - q * PAGE_LEN) r)

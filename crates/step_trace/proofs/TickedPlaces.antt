@@ -1,5 +1,5 @@
 -- Steps with their ticks, by their numbers.
-use Rattle.std.proofs.Common.{ℕ, ◌≡◌, ◌+◌, ◌-◌, ◌<◌, List, [], ◌∷◌, length, Option, Some, None, get_or, refl, sym, ap, ◌∙◌, suc, zero, arith}
+use Rattle.std.proofs.Common.{ℕ, ◌≡◌, ◌+◌, ◌-◌, ◌<◌, ◌≤◌, List, [], ◌∷◌, length, Option, Some, None, get_or, refl, sym, ap, ◌∙◌, suc, zero, arith}
 use Rattle.std.specs.Prelude.{slice_get, slice_index_or, map, option_map}
 use Rattle.std.specs.Option.{option_map_or}
 use Rattle.std.proofs.lemmas.Option.{slice_get-map, slice_get_within, get_or_from_slice_get, none-some}
@@ -7,6 +7,7 @@ use Rattle.step_trace.specs.declared.steps.Step.{Step}
 use Rattle.step_trace.specs.declared.placed_steps.Placed.{Placed}
 use Rattle.step_trace.specs.Traces.{step_at}
 use Rattle.step_trace.specs.Ticks.{tick_at}
+use Rattle.step_trace.specs.Pages.{BeginAlike}
 use Rattle.step_trace.specs.PlacedSteps.{ticked}
 use Rattle.step_trace.proofs.TickPositions.{step_exists}
 
@@ -42,3 +43,19 @@ no_place steps i l h =
     let next : i + 1 ≡ suc i = omega arith in
     let x = step_exists steps i l in
     none-some x.0 (rw next at h ∙ x.1)
+
+-- the steps of lists that begin alike, by their numbers
+pub steps_alike : (one other : List Placed) (n : ℕ) → BeginAlike one other n → (no : ℕ) → no ≤ n → step_at (ticked one).steps no ≡ step_at (ticked other).steps no
+steps_alike one other n same zero l = refl
+steps_alike one other n same (suc k) l =
+    let back : suc k - 1 ≡ k = omega arith in
+    sym (step_at-ticked one (suc k) (slice_get one k) (omega arith) (rw back refl))
+    ∙ step_at-ticked other (suc k) (slice_get one k) (omega arith) (rw back (same k (omega (arith, l))))
+
+-- and their ticks
+pub ticks_alike : (one other : List Placed) (n : ℕ) → BeginAlike one other n → (no : ℕ) → no ≤ n → tick_at (ticked one).ticks no ≡ tick_at (ticked other).ticks no
+ticks_alike one other n same zero l = refl
+ticks_alike one other n same (suc k) l =
+    let back : suc k - 1 ≡ k = omega arith in
+    sym (tick_at-ticked one (suc k) (slice_get one k) (omega arith) (rw back refl))
+    ∙ tick_at-ticked other (suc k) (slice_get one k) (omega arith) (rw back (same k (omega (arith, l))))

@@ -1,5 +1,5 @@
 -- Lists in pages (own).
-use Rattle.std.specs.Prelude.{◌≡◌, ◌++◌, ◌+◌, ◌*◌, ◌≤◌, ◌<◌, List, length, All, Vec}
+use Rattle.std.specs.Prelude.{ℕ, ◌≡◌, ◌++◌, ◌+◌, ◌*◌, ◌≤◌, ◌<◌, List, length, All, Vec, slice_get}
 use Rattle.std.specs.List.{flat_map}
 use Rattle.std.specs.Arc.{arc_value}
 use Rattle.std.specs.declared.sync.Arc.{Arc}
@@ -19,3 +19,12 @@ pub record AreInPages {P X : Type 0} (items : P → List X) (pages : List P) (la
   pub full : All (λ p. length (items p) ≡ PAGE_LEN) pages
   pub less : length last < PAGE_LEN
   pub limit : length pages * PAGE_LEN + length last ≤ MAX_STEPS
+
+-- the full page of number q, from 0, of a list
+pub record IsPage {X : Type 0} (page xs : List X) (q : ℕ) : Type 0 where
+  pub inside : (q + 1) * PAGE_LEN ≤ length xs
+  pub items : (r : ℕ) → r < PAGE_LEN → slice_get page r ≡ slice_get xs (q * PAGE_LEN + r)
+
+-- two lists have the same at their first n places
+abbrev pub BeginAlike : {X : Type 0} → List X → List X → ℕ → Type 0
+BeginAlike xs ys n = (i : ℕ) → i < n → slice_get xs i ≡ slice_get ys i

@@ -3,6 +3,7 @@
 ghost use Rattle.std.specs.Prelude.{◌≡◌, ◌≢◌, ◌↔◌, ◌+◌, ◌<◌, ◌≤◌, ℕ, None, length, IsTrue, IfOk, OnErr};
 ghost use Rattle.step_trace.specs.Differences.{placed_at};
 
+use crate::placed_steps::are_same;
 use crate::steps::Step;
 use crate::traces::Trace;
 use std::alloc::AllocError;
@@ -30,7 +31,7 @@ impl Trace {
         ensures differs { result ≤ length seen.now.steps → placed_at self.now result ≢ placed_at seen.now result }
     {
         let end = seen.len() as u64 + 1;
-        for no in 1..end {
+        for no in self.same_pages(seen) + 1..end {
             if !is_same_at(self, seen, no) {
                 return no;
             }
@@ -43,9 +44,5 @@ impl Trace {
 fn is_same_at(one: &Trace, other: &Trace, no: u64) -> bool
     ensures { IsTrue result ↔ (placed_at one.now no ≡ placed_at other.now no) }
 {
-    match (one.at(no), other.at(no)) {
-        (Some(here), Some(there)) => here.tick == there.tick && here.step.is_same(&there.step),
-        (None, None) => true,
-        _ => false,
-    }
+    are_same(one.at(no), other.at(no))
 }

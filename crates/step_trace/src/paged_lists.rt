@@ -1,6 +1,7 @@
 //! Lists in pages, of which the full ones are shared by copies.
 
-ghost use Rattle.std.specs.Prelude.{◌≡◌, ◌++◌, ◌∷◌, [], ◌≤◌, ◌<◌, length, option_copied, ◌⊎◌, OnOk, OnErr, IfOk, slice_get, vec_len, vec_capacity};
+ghost use Rattle.std.specs.Prelude.{◌≡◌, ◌++◌, ◌∷◌, [], ◌≤◌, ◌<◌, length, option_copied, ◌⊎◌, OnOk, OnErr, IfOk, IfSome, slice_get, vec_len, vec_capacity};
+ghost use Rattle.step_trace.specs.Pages.{IsPage};
 ghost use Rattle.step_trace.specs.declared.paged_lists.TheConstants.{PAGE_LEN};
 ghost use Rattle.step_trace.specs.declared.traces.TheConstants.{MAX_STEPS};
 
@@ -61,6 +62,16 @@ impl<T: Drop> PagedList<T> {
         }
     }
 
+    /// The items of a full page, by its number from 0, if there are so many.
+    pub(crate) fn page(&self, q: usize) -> Option<&[T]>
+        ensures { IfSome result (λ page. IsPage page.now self.now q) }
+    {
+        match item_at(&self.pages, q) {
+            Some(page) => Some(page.as_slice()),
+            None => None,
+        }
+    }
+
     /// Appends an item, where the list has fewer than `MAX_STEPS`. A page that is full with it is shared from then on.
     ///
     /// Refuses only for want of memory, and then the item is gone.
@@ -104,7 +115,8 @@ impl<T: Clone + Drop> PagedList<T> {
     }
 }
 
-/// Makes room for one page more and for one item in the last. Refuses only where one of them has none.
+/// Makes room for one page more and for one item in the last, which gets room for a whole page at once where there
+/// are full ones before it. Refuses only where one of them has none.
 fn make_room<P, T>(pages: &mut Vec<P>, last: &mut Vec<T>) -> Result<(), AllocError>
     ensures pages { pages.new.items ≡ pages.old.items }
     ensures last { last.new.items ≡ last.old.items }
@@ -113,7 +125,11 @@ fn make_room<P, T>(pages: &mut Vec<P>, last: &mut Vec<T>) -> Result<(), AllocErr
     ensures more { OnErr result ((vec_capacity pages.old ≤ vec_len pages.old) ⊎ (vec_capacity last.old ≤ vec_len last.old)) }
 {
     pages.reserve(1)?;
-    last.reserve(1)
+    if pages.is_empty() || last.capacity() > 0 {
+        last.reserve(1)
+    } else {
+        last.reserve(PAGE_LEN)
+    }
 }
 
 /// The item at this place, if there is one.

@@ -1,14 +1,16 @@
 //! The steps of a trace in the order of real time, each with its tick.
 
-ghost use Rattle.std.specs.Prelude.{◌≡◌, ◌++◌, ◌∷◌, [], ◌≤◌, ◌<◌, length, option_copied, option_map, OnOk, OnErr, IfOk, List};
+ghost use Rattle.std.specs.Prelude.{◌≡◌, ◌++◌, ◌∷◌, [], ◌≤◌, ◌<◌, ◌↔◌, ℕ, length, option_copied, option_map, OnOk, OnErr, IfOk, IsTrue, List};
 ghost use Rattle.std.specs.Option.{option_map_or};
 ghost use Rattle.step_trace.specs.declared.traces.TheConstants.{MAX_STEPS};
 ghost use Rattle.step_trace.specs.declared.steps.Step.{Step};
 ghost use Rattle.step_trace.specs.Steps.{act_ids};
 ghost use Rattle.step_trace.specs.Traces.{step_at};
 ghost use Rattle.step_trace.specs.Ticks.{tick_at};
+ghost use Rattle.step_trace.specs.Pages.{BeginAlike};
+ghost use Rattle.step_trace.specs.declared.paged_lists.TheConstants.{PAGE_LEN};
 
-use crate::paged_lists::PagedList;
+use crate::paged_lists::{PAGE_LEN, PagedList};
 use crate::steps::Step;
 use std::alloc::{AllocError, Global};
 use std::marker::Model;
@@ -86,6 +88,16 @@ impl PlacedSteps {
         }
     }
 
+    /// How many steps, from the first on, another list has too, in the same ticks: those of the full pages before the
+    /// first page that is another one.
+    pub(crate) fn same_pages(&self, other: &PlacedSteps) -> usize
+        ensures inside { result ≤ length other.now.steps }
+        ensures steps { (k : ℕ) → k ≤ result → step_at self.now.steps k ≡ step_at other.now.steps k }
+        ensures ticks { (k : ℕ) → k ≤ result → tick_at self.now.ticks k ≡ tick_at other.now.ticks k }
+    {
+        same_pages(&self.list, &other.list)
+    }
+
     /// Appends a step, for which there is room, in this tick.
     ///
     /// Refuses only for want of memory, and then the step is gone.
@@ -114,5 +126,45 @@ impl PlacedSteps {
         Ok(PlacedSteps {
             list: self.list.copy()?,
         })
+    }
+}
+
+/// How many items of the first one's full pages the other has too, up to the first page that is another one.
+fn same_pages(one: &PagedList<Placed>, other: &PagedList<Placed>) -> usize
+    ensures inside { result ≤ length other.now }
+    ensures same { BeginAlike one.now other.now result }
+{
+    let pages = one.len() / PAGE_LEN;
+    for q in 0..pages {
+        let (Some(here), Some(there)) = (one.page(q), other.page(q)) else {
+            return q * PAGE_LEN;
+        };
+        if !is_same_page(here, there) {
+            return q * PAGE_LEN;
+        }
+    }
+    pages * PAGE_LEN
+}
+
+/// Whether two pages have the same at each place.
+fn is_same_page(one: &[Placed], other: &[Placed]) -> bool
+    ensures { IsTrue result → BeginAlike one.now other.now PAGE_LEN }
+{
+    for r in 0..PAGE_LEN {
+        if !are_same(one.get(r), other.get(r)) {
+            return false;
+        }
+    }
+    true
+}
+
+/// Whether there are the same: one step, in one tick; or both none.
+pub(crate) fn are_same(one: Option<&Placed>, other: Option<&Placed>) -> bool
+    ensures { IsTrue result ↔ (option_copied one.entry ≡ option_copied other.entry) }
+{
+    match (one, other) {
+        (Some(here), Some(there)) => here.tick == there.tick && here.step.is_same(&there.step),
+        (None, None) => true,
+        _ => false,
     }
 }

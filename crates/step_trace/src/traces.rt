@@ -1,6 +1,6 @@
 //! Well-formed lists of steps under a configuration, each step in its tick.
 
-ghost use Rattle.std.specs.Prelude.{◌≡◌, [], ◌++◌, ◌∷◌, ◌≤◌, ◌<◌, length, option_copied, option_map, OnOk, OnErr, IfErr, IfOk, IsTrue, ◌↔◌, None, ◌+◌, ◌⊎◌};
+ghost use Rattle.std.specs.Prelude.{◌≡◌, [], ◌++◌, ◌∷◌, ◌≤◌, ◌<◌, length, option_copied, option_map, OnOk, OnErr, IfErr, IfOk, IsTrue, ◌↔◌, None, ◌+◌, ◌⊎◌, ℕ};
 
 use crate::configurations::Config;
 use crate::delivery_index::append_flag;
@@ -147,6 +147,14 @@ impl Trace {
         ensures { option_map (λ x. (x.tick, x.step)) (option_copied result) ≡ placed_at self.now no }
     {
         self.placed.placed(no)
+    }
+
+    /// How many steps, from the first on, surely are those of another trace too, in the same ticks.
+    pub(crate) fn same_pages(&self, other: &Trace) -> u64
+        ensures inside { result ≤ length other.now.steps }
+        ensures same { (k : ℕ) → k < result + 1 → placed_at self.now k ≡ placed_at other.now k }
+    {
+        self.placed.same_pages(&other.placed) as u64
     }
 
     /// Whether it extends another trace: they have one configuration, the other's steps with their ticks
