@@ -30,6 +30,24 @@ fn drives<R: Wait>(
         .is_ok()
 }
 
+// Whether a view, and a seat that made all steps, are shown so many.
+fn is_shown<R: Wait>(
+    rt: &R,
+    alloc: Global,
+    recorder: &Recorder,
+    seat: &Seat,
+    steps: usize,
+) -> bool {
+    let mut view = recorder.view();
+    match (
+        recorder.prefix(rt, alloc, &mut view),
+        recorder.prefix_mine(rt, alloc, seat),
+    ) {
+        (Ok(prefix), Ok(mine)) => prefix.len() == steps && mine.len() == steps,
+        _ => false,
+    }
+}
+
 // Whether both audits find so many steps.
 fn is_audited_twice<R: Wait>(
     rt: &R,
@@ -64,6 +82,7 @@ fn a_million_steps_are_driven(rt: HostRuntime) -> Result<(), Fail> {
     let (recorder, mut seats) = opened(&rt, alloc, 1, 0, &[5, 7], 1_000_000)?;
     assert!(rt; !seats.is_empty());
     assert!(rt; drives(&rt, alloc, &recorder, &mut seats[0], 1_000_000));
+    assert!(rt; is_shown(&rt, alloc, &recorder, &seats[0], 1_000_000));
     assert!(rt; is_audited_twice(&rt, alloc, recorder, &seats, 1_000_000));
     Ok(())
 }
