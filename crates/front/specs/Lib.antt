@@ -2,3 +2,4 @@ pub mod Reports
 pub mod ReportTexts
 pub mod ReportRefusals
 pub mod ReportReading
+pub mod LongRefusals

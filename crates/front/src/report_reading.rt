@@ -9,6 +9,7 @@ ghost use Rattle.trace_text.specs.Faults.{inner_of, faults_of};
 ghost use Rattle.front.specs.ReportTexts.{StandsFor, IsRow64};
 ghost use Rattle.front.specs.ReportReading.{RefusedFor, IsDeviceRefusal, faults_after_report};
 ghost use Rattle.front.specs.ReportRefusals.{Gives, is_memory, next_rows, record_keeps, row_of, rows_at_end, rows_of_records, with_row};
+ghost use Rattle.front.specs.LongRefusals.{refuses_long};
 
 use crate::refusals::ReportError;
 use crate::row_records::{is_header, row_of};
@@ -115,6 +116,8 @@ impl TakeRecords for ReportRows {
     fn out_of_memory() -> ReportError {
         ReportError::Memory
     }
+
+    ghost long = { refuses_long };
 }
 
 /// Takes in the row of one more record.

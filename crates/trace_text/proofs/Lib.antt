@@ -3,6 +3,7 @@ pub mod Bytes
 pub mod KeptRecords
 pub mod LineLengths
 pub mod LinesRead
+pub mod LongRecords
 pub mod NumberLists
 pub mod Numbers
 pub mod PlainFields
@@ -13,6 +14,7 @@ pub mod StageInversions
 pub mod TakenIds
 pub mod TakenRecords
 pub mod TableReasons
+pub mod TextFronts
 pub mod TextLaws
 pub mod TraceRecords
 pub mod OnePerTick

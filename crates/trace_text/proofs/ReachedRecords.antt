@@ -104,7 +104,7 @@ next-begins s fields field [] = begins-cond (ends_at_end s) _ _ (λ _. refl) tt
 next-begins s fields field (c ∷ rest) = begins-cond (is_end (step default_config s c).1) _ _ (λ e. good-step s c e)
     (next-begins (step default_config s c).0 (fields_after (step default_config s c).1 fields field) (field_after (step default_config s c).1 c field) rest)
 
-some-begins : (o : Option Read) (p : Read) → o ≡ Some p → Begins o → IsStart p.1
+pub some-begins : (o : Option Read) (p : Read) → o ≡ Some p → Begins o → IsStart p.1
 some-begins o p e h = rw e at h
 
 -- the records that were reached, and no more, are those that so many reads give

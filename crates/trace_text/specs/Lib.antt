@@ -6,3 +6,5 @@ pub mod RecordWriting
 pub mod TextWriting
 pub mod TraceTexts
 pub mod TextRefusals
+pub mod RecordLimits
+pub mod LongRefusals

@@ -7,6 +7,7 @@ ghost use Rattle.step_trace.specs.Traces.{Recorded};
 ghost use Rattle.trace_text.specs.Records.{WantsOnlyWhere, field_of, records_of_text};
 ghost use Rattle.trace_text.specs.TraceTexts.{StandsFor, IsTextTrace};
 ghost use Rattle.trace_text.specs.TextRefusals.{IsFirstRefusal, Gives, LeadsTo, is_memory, trace_of_records, trace_at_end, next_stage, header_stage, init_stage, step_stage, step_of, act_of, ids_of, ended, end_stage, record_keeps, init_keeps, step_record_keeps, step_keeps, act_keeps, parts_of, begins_with_number};
+ghost use Rattle.trace_text.specs.LongRefusals.{refuses_long};
 ghost use Rattle.std.specs.Option.{ok_or};
 
 use crate::byte_loops::MAX_TEXT_BYTES;
@@ -106,6 +107,8 @@ impl TakeRecords for Stage {
     fn out_of_memory() -> TextError {
         TextError::Memory
     }
+
+    ghost long = { refuses_long };
 }
 
 /// Ends the trace, where one is being recorded.

@@ -5,7 +5,9 @@ ghost use Rattle.std.specs.Prelude.{◌≡◌, ℕ, List, Bool, Result, IsTrue, 
 ghost use Rattle.std.specs.Str.{bytes_eq};
 ghost use Rattle.csv.specs.Records.{fields_of};
 ghost use Rattle.trace_text.specs.Records.{ReachesUnless, WantsOnlyWhere, after_records, field_of, number_of, records_of_text};
+ghost use Rattle.trace_text.specs.RecordLimits.{RefusesLong};
 
+use crate::record_limits::readable_len;
 use csv::{ByteRecord, ErrorKind, ReaderBuilder};
 use std::alloc::Global;
 use step_trace::read_number;
@@ -33,15 +35,28 @@ pub trait TakeRecords {
     /// The refusal for want of memory.
     fn out_of_memory() -> Self::Error
         ensures { IsTrue (is_memory result) };
+
+    // a record of too many fields is refused as soon as it has them
+    ghost long: { RefusesLong next };
 }
 
 /// Takes in all records that csv reads from a text: those of its default reader, without a header
-/// row, of any length. The first record that is refused decides.
+/// row, of any length. The first record that is refused decides. Of a record of more than `MAX_FIELDS`
+/// fields no more is read than one field above these: so the records take no more memory than the text,
+/// but for some kilobytes.
 pub fn read_records<T: TakeRecords>(
     alloc: Global,
     text: &[u8],
     taker: &mut T,
 ) -> Result<(), T::Error>
+    ensures { ReachesUnless T.is_memory result taker.new
+        (after_records T.next taker.old (records_of_text text.now)) }
+{
+    read_front(alloc, &text[..readable_len(text)], taker)
+}
+
+/// Takes in all records of the front of a text that is read.
+fn read_front<T: TakeRecords>(alloc: Global, text: &[u8], taker: &mut T) -> Result<(), T::Error>
     ensures { ReachesUnless T.is_memory result taker.new
         (after_records T.next taker.old (records_of_text text.now)) }
 {

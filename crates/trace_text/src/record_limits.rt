@@ -1,0 +1,113 @@
+//! How much of a text is read: no further than a record of too many fields, which is refused as soon as it has
+//! them. csv keeps the end of each field of a record, so a longer one would take memory for nothing.
+
+ghost use Rattle.std.specs.Prelude.{◌≡◌, ◌≤◌, take, drop, length};
+ghost use Rattle.csv.specs.Machine.{step};
+ghost use Rattle.csv.specs.Reading.{default_config, strip_bom};
+ghost use Rattle.csv.specs.declared.parser.State.TheVariants as st;
+ghost use Rattle.trace_text.specs.RecordLimits.{count_after, front_from, state_of};
+
+use step_trace::MAX_PROCESSORS;
+
+/// The greatest number of fields of a record that may be accepted: a word, and a value for each processor.
+pub const MAX_FIELDS: usize = MAX_PROCESSORS as usize + 1;
+
+// csv's reader goes past it at the start of a text.
+const BYTE_ORDER_MARK: [u8; 3] = [0xEF, 0xBB, 0xBF];
+
+// Where csv's reader stands in a text.
+#[derive(Clone, Copy)]
+enum Place {
+    StartRecord,
+    StartField,
+    InField,
+    InQuotes,
+    // After a quote within quotes: it ends them, unless another quote follows.
+    AfterQuote,
+    // After a carriage return that ended a record.
+    AfterReturn,
+}
+
+// A place, and how many fields of its record are whole.
+#[derive(Clone, Copy)]
+struct Progress {
+    place: Place,
+    fields: usize,
+}
+
+impl Progress {
+    fn at(self, place: Place) -> Progress
+        ensures { result ≡ record self { place = place } }
+    {
+        Progress { place, ..self }
+    }
+}
+
+/// How many bytes of a text have to be read: those up to the end of the first field that is one too many in its
+/// record, or all.
+pub(crate) fn readable_len(text: &[u8]) -> usize
+    ensures within { result ≤ length text.now }
+    ensures front { strip_bom (take result text.now) ≡ front_from 0 st.StartRecord (strip_bom text.now) }
+{
+    let mark = mark_len(text);
+    mark + front_len(&text[mark..])
+}
+
+/// How many bytes a byte order mark takes at the start of a text.
+fn mark_len(text: &[u8]) -> usize
+    ensures within { result ≤ length text.now }
+    ensures rest { strip_bom text.now ≡ drop result text.now }
+{
+    if text.starts_with(&BYTE_ORDER_MARK) {
+        return BYTE_ORDER_MARK.len();
+    }
+    0
+}
+
+/// The same of a text after its byte order mark.
+fn front_len(text: &[u8]) -> usize
+    ensures within { result ≤ length text.now }
+    ensures front { take result text.now ≡ front_from 0 st.StartRecord text.now }
+{
+    let mut progress = Progress {
+        place: Place::StartRecord,
+        fields: 0,
+    };
+    for i in 0..text.len() {
+        progress = after(progress, text[i]);
+        if progress.fields > MAX_FIELDS {
+            return i + 1;
+        }
+    }
+    text.len()
+}
+
+/// What one more byte makes of the progress.
+fn after(progress: Progress, byte: u8) -> Progress
+    requires { progress.fields ≤ MAX_FIELDS }
+    ensures place { state_of result.place ≡ (step default_config (state_of progress.place) byte).0 }
+    ensures fields { result.fields ≡ count_after (step default_config (state_of progress.place) byte).1 progress.fields }
+{
+    match (progress.place, byte) {
+        (Place::StartRecord | Place::AfterReturn, b'\r' | b'\n') => progress.at(Place::StartRecord),
+        (Place::StartRecord | Place::AfterReturn | Place::StartField, b'"') => progress.at(
+            Place::InQuotes,
+        ),
+        (Place::InQuotes, b'"') => progress.at(Place::AfterQuote),
+        (Place::InQuotes, _) => progress,
+        (Place::AfterQuote, b'"') => progress.at(Place::InQuotes),
+        (_, b',') => Progress {
+            place: Place::StartField,
+            fields: progress.fields + 1,
+        },
+        (_, b'\r') => Progress {
+            place: Place::AfterReturn,
+            fields: 0,
+        },
+        (_, b'\n') => Progress {
+            place: Place::StartRecord,
+            fields: 0,
+        },
+        _ => progress.at(Place::InField),
+    }
+}
