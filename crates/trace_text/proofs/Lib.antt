@@ -1,5 +1,6 @@
 pub mod AcceptedRecords
 pub mod Bytes
+pub mod JudgedIds
 pub mod KeptRecords
 pub mod LineLengths
 pub mod LinesRead

@@ -8,3 +8,4 @@ pub mod TraceTexts
 pub mod TextRefusals
 pub mod RecordLimits
 pub mod LongRefusals
+pub mod JudgedIds

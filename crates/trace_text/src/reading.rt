@@ -6,14 +6,15 @@ ghost use Rattle.csv.specs.Records.{fields_of};
 ghost use Rattle.step_trace.specs.Traces.{Recorded};
 ghost use Rattle.trace_text.specs.Records.{WantsOnlyWhere, field_of, records_of_text};
 ghost use Rattle.trace_text.specs.TraceTexts.{StandsFor, IsTextTrace};
-ghost use Rattle.trace_text.specs.TextRefusals.{IsFirstRefusal, Gives, LeadsTo, is_memory, trace_of_records, trace_at_end, next_stage, header_stage, init_stage, step_stage, step_of, act_of, ids_of, ended, end_stage, record_keeps, init_keeps, step_record_keeps, step_keeps, act_keeps, parts_of, begins_with_number};
+ghost use Rattle.trace_text.specs.TextRefusals.{IsFirstRefusal, Gives, LeadsTo, is_memory, trace_of_records, trace_at_end, next_stage, header_stage, init_stage, step_stage, ids_of, ended, end_stage, record_keeps, init_keeps, step_record_keeps, step_keeps, act_keeps, parts_of, begins_with_number};
+ghost use Rattle.trace_text.specs.JudgedIds.{judged, judged_act_of, judged_step_of};
 ghost use Rattle.trace_text.specs.LongRefusals.{refuses_long};
 ghost use Rattle.std.specs.Option.{ok_or};
 
 use crate::byte_loops::MAX_TEXT_BYTES;
 use crate::records::{TakeRecords, field, field_is, field_is_number, number, read_records};
 use crate::refusals::TextError;
-use crate::step_records::{Operation, ids, operation_of, values};
+use crate::step_records::{Operation, judged_ids, operation_of, values};
 use crate::versions::{Version, proc_place, step_fields, step_tick, version_named};
 use csv::ByteRecord;
 use std::alloc::Global;
@@ -195,14 +196,14 @@ fn read_step(
     }
 }
 
-/// The step of a record that has its fields and its number, and its tick.
+/// The step of a record that has its fields and its number, with the ids by which it is judged, and its tick.
 fn step_of(
     alloc: Global,
     version: Version,
     no: u64,
     fields: &ByteRecord,
 ) -> Result<(u64, Step), TextError>
-    ensures step { Gives result (step_of version no (fields_of fields.now)) }
+    ensures step { Gives result (judged_step_of version no (fields_of fields.now)) }
     ensures more { WantsOnlyWhere is_memory result (step_keeps version no (fields_of fields.now)) }
 {
     let place = proc_place(version);
@@ -220,7 +221,7 @@ fn step_of(
 }
 
 fn act_of(alloc: Global, no: u64, operation: Operation, arg: &[u8]) -> Result<Act, TextError>
-    ensures act { Gives result (ok_or (act_of operation arg.now) (TextError.BadNumber no)) }
+    ensures act { Gives result (ok_or (judged_act_of operation arg.now) (TextError.BadNumber no)) }
     ensures more { WantsOnlyWhere is_memory result (act_keeps operation arg.now) }
 {
     match operation {
@@ -237,11 +238,11 @@ fn act_of(alloc: Global, no: u64, operation: Operation, arg: &[u8]) -> Result<Ac
 
 fn received(alloc: Global, no: u64, arg: &[u8], ends: bool) -> Result<Act, TextError>
     ensures act { Gives result
-        (ok_or (option_map (λ ids. Act.Receive ends ids) (ids_of arg.now))
+        (ok_or (option_map (λ ids. Act.Receive ends (judged ids)) (ids_of arg.now))
         (TextError.BadNumber no)) }
     ensures more { WantsOnlyWhere is_memory result (begins_with_number (parts_of arg.now)) }
 {
-    let Ok(ids) = ids(alloc, arg) else {
+    let Ok(ids) = judged_ids(alloc, arg) else {
         return Err(TextError::Memory);
     };
     let Some(ids) = ids else {
