@@ -1,17 +1,17 @@
 -- The records that csv reads from the front of a text up to a record of too many fields lead where those of the whole
 -- text lead, where such a record is refused whatever comes after them.
-use Rattle.std.proofs.Common.{◌≡◌, ◌≤◌, ◌<◌, ◌+◌, ℕ, zero, suc, List, [], ◌∷◌, ◌++◌, length, Option, Some, None, Bool, true, false, cond, Result, Ok, Err, refl, sym, ap, ◌∙◌, inl, inr, ◌⊎◌, ◌==◌, ◌||◌, arith, append_assoc, length-append}
+use Rattle.std.proofs.Common.{◌≡◌, ◌≤◌, ◌<◌, ◌+◌, ℕ, zero, suc, List, [], ◌∷◌, ◌++◌, length, Option, Some, None, Bool, true, false, cond, Result, Ok, Err, refl, sym, ap, ◌∙◌, inl, inr, ◌⊎◌, ◌==◌, ◌||◌, arith, append_assoc, length-append, take, take_all}
 use Rattle.std.specs.Prelude.{⊤, nat_lt}
 use native.Mathlib.Decide.{dec_lt}
 use Rattle.csv.specs.Machine.{Read, next_record, step, is_end, in_field, start_field, start_record, fields_after, field_after, ends_at_end, after_end}
-use Rattle.csv.specs.Reading.{default_config, records, records_from, records_next}
+use Rattle.csv.specs.Reading.{default_config, records, records_from, records_next, strip_bom}
 use Rattle.csv.specs.declared.parser.State.{State}
 use Rattle.csv.specs.declared.parser.State.TheVariants as st
 use Rattle.csv.specs.declared.parser.Action.{Action}
 use Rattle.csv.specs.declared.parser.Action.TheVariants as act
 use Rattle.csv.specs.declared.parser.Terminator.TheVariants as term
 use Rattle.trace_text.specs.declared.record_limits.TheConstants.{MAX_FIELDS}
-use Rattle.trace_text.specs.Records.{after_records, ◌>>=◌}
+use Rattle.trace_text.specs.Records.{after_records, records_of_text, ◌>>=◌}
 use Rattle.trace_text.specs.RecordLimits.{RefusesLong, count_after, front_from}
 use Rattle.trace_text.proofs.ReachedRecords.{IsStart, next-begins, next-less, some-begins}
 
@@ -200,7 +200,14 @@ leads-front next (suc n) (suc m) s xs law start less cut t =
     (next-alike 0 s [] [] xs refl (omega arith))
 
 -- The front of a text leads where the text leads.
-pub front-leads : {S E : Type 0} (next : S → List (List ℕ) → Result S E) (t : S) (xs ys : List ℕ) → RefusesLong next → ys ≡ front_from 0 st.StartRecord xs
+front-leads : {S E : Type 0} (next : S → List (List ℕ) → Result S E) (t : S) (xs ys : List ℕ) → RefusesLong next → ys ≡ front_from 0 st.StartRecord xs
     → after_records next t (records default_config ys) ≡ after_records next t (records default_config xs)
 front-leads next t xs ys law e =
     rw e (sym (leads-front next (length xs + 1) (length (front_from 0 st.StartRecord xs) + 1) st.StartRecord xs law refl (omega arith) (omega arith) t))
+
+-- So does all of it that is read.
+pub readable-leads : {S E : Type 0} (next : S → List (List ℕ) → Result S E) (t : S) (text : List ℕ) (n : ℕ) → RefusesLong next
+    → (n ≡ length text) ⊎ (strip_bom (take n text) ≡ front_from 0 st.StartRecord (strip_bom text))
+    → after_records next t (records_of_text (take n text)) ≡ after_records next t (records_of_text text)
+readable-leads next t text n law (inl all) = ap (λ xs. after_records next t (records_of_text xs)) (take_all n text (omega (arith, all)))
+readable-leads next t text n law (inr front) = front-leads next t (strip_bom text) _ law front

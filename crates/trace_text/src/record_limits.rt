@@ -1,16 +1,20 @@
-//! How much of a text is read: no further than a record of too many fields, which is refused as soon as it has
-//! them. csv keeps the end of each field of a record, so a longer one would take memory for nothing.
+//! How much of a text is read: no further than a record of far too many fields, which is refused as soon as it has
+//! too many. csv keeps the end of each field of a record, so a longer one would take memory for nothing.
 
-ghost use Rattle.std.specs.Prelude.{◌≡◌, ◌≤◌, take, drop, length};
+ghost use Rattle.std.specs.Prelude.{◌≡◌, ◌≤◌, ◌⊎◌, take, drop, length};
 ghost use Rattle.csv.specs.Machine.{step};
 ghost use Rattle.csv.specs.Reading.{default_config, strip_bom};
 ghost use Rattle.csv.specs.declared.parser.State.TheVariants as st;
 ghost use Rattle.trace_text.specs.RecordLimits.{count_after, front_from, state_of};
 
+use memchr::memchr;
 use step_trace::MAX_PROCESSORS;
 
 /// The greatest number of fields of a record that may be accepted: a word, and a value for each processor.
 pub const MAX_FIELDS: usize = MAX_PROCESSORS as usize + 1;
+
+// A record is short enough to be read where it ends within so many bytes, or within as many more.
+const PAGE_BYTES: usize = 65_536;
 
 // csv's reader goes past it at the start of a text.
 const BYTE_ORDER_MARK: [u8; 3] = [0xEF, 0xBB, 0xBF];
@@ -43,9 +47,31 @@ impl Progress {
     }
 }
 
-/// How many bytes of a text have to be read: those up to the end of the first field that is one too many in its
-/// record, or all.
+/// How many bytes of a text have to be read: all, or those up to the end of the first field that is one too many in its
+/// record. Most texts are seen at a glance to have no long record, and then it is all.
 pub(crate) fn readable_len(text: &[u8]) -> usize
+    ensures within { result ≤ length text.now }
+    ensures front { (result ≡ length text.now) ⊎ (strip_bom (take result text.now) ≡ front_from 0 st.StartRecord (strip_bom text.now)) }
+{
+    if may_have_long_records(text) {
+        limited_len(text)
+    } else {
+        text.len()
+    }
+}
+
+/// Whether a record may have far more fields than are accepted: each ends at a line feed, unless there are quotes, and
+/// a page without one may be part of a longer record.
+fn may_have_long_records(text: &[u8]) -> bool {
+    memchr(b'"', text).is_some() || text.chunks_exact(PAGE_BYTES).any(has_no_line_feed)
+}
+
+fn has_no_line_feed(page: &[u8]) -> bool {
+    memchr(b'\n', page).is_none()
+}
+
+/// How many bytes there are up to the end of the first field that is one too many in its record, or in all.
+fn limited_len(text: &[u8]) -> usize
     ensures within { result ≤ length text.now }
     ensures front { strip_bom (take result text.now) ≡ front_from 0 st.StartRecord (strip_bom text.now) }
 {

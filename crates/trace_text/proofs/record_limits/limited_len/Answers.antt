@@ -1,6 +1,6 @@
 use Rattle.std.proofs.Common.{◌∙◌, ◌-◌, length, drop, take_all, length-drop, arith}
 use Rattle.trace_text.proofs.TextFronts.{front-marked}
-use Rattle.trace_text.proofs.record_limits.readable_len.Goals as goal
+use Rattle.trace_text.proofs.record_limits.limited_len.Goals as goal
 
 pub returns-clause-front : goal.returns-clause-front
 returns-clause-front c =
