@@ -1,7 +1,6 @@
 //! One growth that is refused, and the sweep over all of a call.
 
 use std::alloc::{AllocError, Global};
-use std::process::Abort;
 
 // The size that begins the messages to the refusing library, in bytes. `tests/refusing.c` has the same number.
 const MESSAGE: usize = 7_700_000;
@@ -35,6 +34,11 @@ pub struct Refusal {
 }
 
 impl Refusal {
+    /// The refusal of the growth of this number.
+    pub fn of(growth: usize) -> Self {
+        Refusal { growth }
+    }
+
     /// From here on growths are counted, and the one of this number is refused.
     pub fn begin(self, alloc: Global) {
         let _ = is_refused(alloc, self.growth);
@@ -46,8 +50,8 @@ impl Refusal {
     }
 }
 
-// Whether a message is refused.
-fn is_refused(alloc: Global, message: usize) -> bool {
+/// Whether a message is refused.
+pub(crate) fn is_refused(alloc: Global, message: usize) -> bool {
     let asked: Result<Vec<u8>, AllocError> = Vec::with_capacity(
         alloc,
         MESSAGE.saturating_add(message),
@@ -67,15 +71,15 @@ pub fn judged(was_refused: bool, right: bool, refused: bool) -> Outcome {
     }
 }
 
-/// Makes the call with each growth refused in turn, until none is; stops the test at a wrong outcome, and names the
-/// call and the growth.
-pub fn refused_in_turn<C: Call>(rt: &impl Abort, alloc: Global, name: &str, call: &mut C) {
+/// Makes the call with each growth refused in turn, until none is. Gives the number of the first growth of which the
+/// outcome was wrong, if there was one.
+pub fn first_wrong<C: Call>(alloc: Global, call: &mut C) -> Option<usize> {
     for growth in 1..MOST {
-        let outcome = call.attempt(alloc, Refusal { growth });
-        assert!(rt; outcome != Outcome::Wrong, "{name}, growth {growth}");
-        if outcome == Outcome::Right {
-            return;
+        match call.attempt(alloc, Refusal { growth }) {
+            Outcome::Right => return None,
+            Outcome::Refused => {}
+            Outcome::Wrong => return Some(growth),
         }
     }
-    assert!(rt; false, "{name} has too many growths");
+    Some(MOST)
 }
