@@ -1,11 +1,27 @@
-//! Want of memory: each call is made again and again, with its first growth of memory refused, then its second,
-//! and so on. The refusals come from a library that `tests/memory` loads; without it each call is made once, with
-//! ample memory.
+//! Want of memory in traces, their texts and the analyser: each call is made again and again, with its first growth of
+//! memory refused, then its second, and so on. `tests/memory` runs these tests with a library that refuses; without it
+//! each call is made once, with ample memory.
 #![tactic(auto)]
 
 #[cfg(test)]
-mod pieces;
+mod builders;
+#[cfg(test)]
+mod feeds;
+#[cfg(test)]
+mod joins;
+#[cfg(test)]
+mod lent;
+#[cfg(test)]
+mod levels;
+#[cfg(test)]
+mod pushes;
+#[cfg(test)]
+mod stairs;
 #[cfg(test)]
 mod texts;
 #[cfg(test)]
 mod traces;
+#[cfg(test)]
+mod worked;
+#[cfg(test)]
+mod workers;

@@ -1,40 +1,121 @@
-//! Texts.
+//! Texts of a trace and of its report that are read and written.
 
-use refused_growths::{Call, Outcome, Refusal, judged, refused_in_turn};
-use crate::traces::is_same;
+use crate::lent::{TraceCall, first_wrong_of_worked};
+use crate::worked::{NEVER_DELIVERED, ROWS, is_same};
+use front::{ReportError, read_report, write_report};
 use std::alloc::{AllocError, Global};
+use std::test::Fail;
 use step_trace::Trace;
-use trace_text::{TextError, read_trace};
+use trace_text::failing_devices::{AfterBytes, FailingReader};
+use trace_text::{
+    Counting, TextError, WriteError, read_all, read_trace, trace_text_2_of, write_trace,
+    write_trace_2,
+};
 
-pub(crate) const NEVER_DELIVERED: &str =
-    "dls-trace,1,2,0\ninit,5,7\n1,1,S,2\n2,2,R,\n3,1,S,2\n4,2,R,3\n5,2,R,\nend,5\n";
+const NEVER_DELIVERED_2: &str = "dls-trace,2,2,0\ninit,5,7\n\
+    1,1,1,S,2\n2,2,2,R,\n3,3,1,S,2\n4,4,2,R,3\n5,5,2,R,\nend,5\n";
 
-pub(crate) fn read(alloc: Global, text: &str) -> Result<Trace, TextError> {
-    read_trace(alloc, text.as_bytes())
+const REPORT: &str = "gst,delta,phi,sent,missed,proc,from,to\n\
+    1,5,3,1,5,1,4,5\n2,1,3,,,1,4,5\n5,1,2,,,1,5,5\n";
+
+#[derive(Clone, Copy)]
+enum Passage {
+    ReadAll,
+    ReadTrace,
+    ReadReport,
+    TraceText2,
+    WriteTrace,
+    WriteTrace2,
+    WriteReport,
 }
 
-#[derive(Drop)]
-struct ReadTrace {
-    wanted: Trace,
-}
-
-impl Call for ReadTrace {
-    fn attempt(&mut self, alloc: Global, refusal: Refusal) -> Outcome {
-        refusal.begin(alloc);
-        let answer = read(alloc, NEVER_DELIVERED);
-        let was = refusal.end(alloc);
-        match answer {
-            Ok(trace) => judged(was, is_same(&trace, &self.wanted), false),
-            Err(why) => judged(was, false, matches!(why, TextError::Memory)),
+impl TraceCall for Passage {
+    fn is_right(self, alloc: Global, trace: &Trace) -> Result<bool, AllocError> {
+        match self {
+            Passage::ReadAll => is_read(alloc),
+            Passage::ReadTrace => is_trace_read(alloc, trace),
+            Passage::ReadReport => is_report_read(alloc),
+            Passage::TraceText2 => is_text_2(alloc, trace),
+            Passage::WriteTrace => is_written(alloc, self, trace, NEVER_DELIVERED),
+            Passage::WriteTrace2 => is_written(alloc, self, trace, NEVER_DELIVERED_2),
+            Passage::WriteReport => is_written(alloc, self, trace, REPORT),
         }
     }
 }
 
-#[test]
-fn traces_are_read(rt: HostRuntime) -> Result<(), AllocError> {
-    let Ok(wanted) = read(rt.alloc(), NEVER_DELIVERED) else {
-        return Err(AllocError);
+// Read in pieces, so that what was read grows again and again.
+fn is_read(alloc: Global) -> Result<bool, AllocError> {
+    let device = FailingReader::new(REPORT.as_bytes(), 7, AfterBytes::End);
+    match read_all(alloc, &mut Counting::new(device)) {
+        Ok(text) => Ok(text.as_slice() == REPORT.as_bytes()),
+        Err(TextError::Memory) => Err(AllocError),
+        Err(_) => Ok(false),
+    }
+}
+
+fn is_trace_read(alloc: Global, wanted: &Trace) -> Result<bool, AllocError> {
+    match read_trace(alloc, NEVER_DELIVERED.as_bytes()) {
+        Ok(trace) => Ok(is_same(&trace, wanted)),
+        Err(TextError::Memory) => Err(AllocError),
+        Err(_) => Ok(false),
+    }
+}
+
+fn is_report_read(alloc: Global) -> Result<bool, AllocError> {
+    match read_report(alloc, &mut Counting::new(REPORT.as_bytes())) {
+        Ok(rows) => Ok(rows.as_slice() == ROWS),
+        Err(ReportError::Memory) => Err(AllocError),
+        Err(_) => Ok(false),
+    }
+}
+
+fn is_text_2(alloc: Global, trace: &Trace) -> Result<bool, AllocError> {
+    Ok(trace_text_2_of(alloc, trace)?.as_slice() == NEVER_DELIVERED_2.as_bytes())
+}
+
+// Whether this text is written. Want of memory is answered only where nothing is; the writer has room for all, and takes
+// no memory.
+fn is_written(
+    alloc: Global,
+    passage: Passage,
+    trace: &Trace,
+    text: &str,
+) -> Result<bool, AllocError> {
+    let mut room = [0u8; 128];
+    let mut writer = Counting::new(room.as_mut_slice());
+    let answer = match passage {
+        Passage::WriteTrace => write_trace(alloc, trace, &mut writer),
+        Passage::WriteTrace2 => write_trace_2(alloc, trace, &mut writer),
+        _ => write_report(alloc, ROWS, &mut writer),
     };
-    refused_in_turn(&rt, rt.alloc(), "read_trace", &mut ReadTrace { wanted });
+    match answer {
+        Ok(()) => Ok(has_only(&room, text)),
+        Err(WriteError::Memory) if has_only(&room, "") => Err(AllocError),
+        Err(_) => Ok(false),
+    }
+}
+
+// Whether a room has this text and then no byte.
+fn has_only(room: &[u8], text: &str) -> bool {
+    match room.strip_prefix(text.as_bytes()) {
+        Some(rest) => rest.iter().all(|byte| *byte == 0),
+        None => false,
+    }
+}
+
+const PASSAGES: &[(&str, Passage)] = &[
+    ("read_all", Passage::ReadAll),
+    ("read_trace", Passage::ReadTrace),
+    ("read_report", Passage::ReadReport),
+    ("trace_text_2_of", Passage::TraceText2),
+    ("write_trace", Passage::WriteTrace),
+    ("write_trace_2", Passage::WriteTrace2),
+    ("write_report", Passage::WriteReport),
+];
+
+#[test]
+fn texts_are_read_and_written(rt: HostRuntime) -> Result<(), Fail> {
+    let wrong = first_wrong_of_worked(rt.alloc(), PASSAGES)?;
+    assert!(rt; wrong.is_none(), "{wrong:?}");
     Ok(())
 }

@@ -1,86 +1,152 @@
-//! Traces.
+//! Calls that look at a trace: copies of it and of its parts, its longest gaps, its report, and the check of that.
 
-use refused_growths::{Call, Outcome, Refusal, judged, refused_in_turn};
-use crate::texts::{NEVER_DELIVERED, read};
+use crate::lent::{TraceCall, first_wrong_of, first_wrong_of_worked};
+use crate::stairs::{is_part, is_reported};
+use crate::worked::{ROWS, both, is_same, silence};
+use bound_witness::gaps;
+use certificate_checker::{Verdict, check};
 use std::alloc::{AllocError, Global};
-use step_trace::{PushError, Step, Trace};
+use std::test::Fail;
+use step_trace::{Gap, Step, Trace};
 
-/// Whether two traces are one.
-pub(crate) fn is_same(one: &Trace, other: &Trace) -> bool {
-    one.begins(other) && other.begins(one)
+#[derive(Clone, Copy)]
+enum Look {
+    CopyOfConfig,
+    Copy,
+    OwnSteps,
+    Placed,
+    CopyOfStep,
+    Gaps,
+    Check,
+    Report,
+    Part,
 }
 
-// One more step, on a copy of a trace.
-#[derive(Drop)]
-struct Push {
-    trace: Trace,
-    no: u64,
-}
-
-impl Push {
-    fn step(&self) -> Result<Step, AllocError> {
-        match self.trace.step(self.no) {
-            Some(step) => step.clone(),
-            None => Err(AllocError),
-        }
-    }
-
-    fn pushed(&self, alloc: Global, refusal: Refusal) -> Result<Outcome, AllocError> {
-        let mut trace = self.trace.copy(alloc)?;
-        let step = self.step()?;
-        refusal.begin(alloc);
-        let answer = trace.push(step);
-        let was = refusal.end(alloc);
-        if answer.is_ok() {
-            return Ok(judged(
-                was,
-                trace.begins(&self.trace) && trace.len() == self.trace.len() + 1,
-                false,
-            ));
-        }
-        let same = answer == Err(PushError::Memory) && is_same(&trace, &self.trace);
-        let again = trace.push(self.step()?).is_ok();
-        Ok(judged(was, false, same && again))
-    }
-}
-
-impl Call for Push {
-    fn attempt(&mut self, alloc: Global, refusal: Refusal) -> Outcome {
-        self.pushed(alloc, refusal).unwrap_or(Outcome::Wrong)
-    }
-}
-
-#[derive(Drop)]
-struct Copy {
-    trace: Trace,
-}
-
-impl Call for Copy {
-    fn attempt(&mut self, alloc: Global, refusal: Refusal) -> Outcome {
-        refusal.begin(alloc);
-        let answer = self.trace.copy(alloc);
-        let was = refusal.end(alloc);
-        match answer {
-            Ok(copy) => judged(was, is_same(&copy, &self.trace), false),
-            Err(_) => judged(was, false, true),
+impl TraceCall for Look {
+    fn is_right(self, alloc: Global, trace: &Trace) -> Result<bool, AllocError> {
+        match self {
+            Look::CopyOfConfig => is_config_copied(alloc, trace),
+            Look::Copy => is_copied(alloc, trace),
+            Look::OwnSteps => are_own_steps(alloc, trace),
+            Look::Placed => is_placed(trace),
+            Look::CopyOfStep => is_step_copied(trace),
+            Look::Gaps => are_gaps(alloc, trace),
+            Look::Check => is_certified(alloc, trace),
+            Look::Report => is_reported(alloc, trace),
+            Look::Part => is_part(alloc, trace),
         }
     }
 }
+
+fn is_config_copied(alloc: Global, trace: &Trace) -> Result<bool, AllocError> {
+    Ok(trace.config().copy(alloc)?.is_same(trace.config()))
+}
+
+fn is_copied(alloc: Global, trace: &Trace) -> Result<bool, AllocError> {
+    Ok(is_same(&trace.copy(alloc)?, trace))
+}
+
+fn are_own_steps(alloc: Global, trace: &Trace) -> Result<bool, AllocError> {
+    Ok(are_steps(trace, &trace.restrict(alloc, 2)?, &[2, 4, 5]))
+}
+
+// Whether these are the steps of these numbers.
+fn are_steps(trace: &Trace, steps: &[(u64, Step)], numbers: &[u64]) -> bool {
+    for (i, (no, step)) in steps.iter().enumerate() {
+        let is_step = matches!(trace.step(*no), Some(there) if there.is_same(step));
+        if !is_step || numbers.get(i) != Some(no) {
+            return false;
+        }
+    }
+    steps.len() == numbers.len()
+}
+
+// Whether step 4 takes message 3 in tick 4.
+fn is_placed(trace: &Trace) -> Result<bool, AllocError> {
+    match trace.placed(4)? {
+        Some((tick, step)) => Ok(tick == 4 && step.act.ids() == [3].as_slice()),
+        None => Ok(false),
+    }
+}
+
+fn is_step_copied(trace: &Trace) -> Result<bool, AllocError> {
+    match trace.step(4) {
+        Some(step) => Ok(step.clone()?.is_same(step)),
+        None => Ok(false),
+    }
+}
+
+const GAPS: &[Gap] = &[
+    Gap {
+        proc: 1,
+        from: 2,
+        to: 2,
+    },
+    Gap {
+        proc: 1,
+        from: 4,
+        to: 5,
+    },
+    Gap {
+        proc: 2,
+        from: 1,
+        to: 1,
+    },
+    Gap {
+        proc: 2,
+        from: 3,
+        to: 3,
+    },
+];
+
+fn are_gaps(alloc: Global, trace: &Trace) -> Result<bool, AllocError> {
+    let set = both();
+    if !set.within(trace.config().n()) {
+        return Ok(false);
+    }
+    Ok(gaps(alloc, trace, set)?.as_slice() == GAPS)
+}
+
+fn is_certified(alloc: Global, trace: &Trace) -> Result<bool, AllocError> {
+    let set = both();
+    if !set.within(trace.config().n()) {
+        return Ok(false);
+    }
+    Ok(check(alloc, trace, set, ROWS)? == Verdict::Yes)
+}
+
+const LOOKS: &[(&str, Look)] = &[
+    ("Config::copy", Look::CopyOfConfig),
+    ("Trace::copy", Look::Copy),
+    ("Trace::restrict", Look::OwnSteps),
+    ("Trace::placed", Look::Placed),
+    ("Step::clone", Look::CopyOfStep),
+    ("gaps", Look::Gaps),
+    ("check", Look::Check),
+    ("Stairs::of_trace and front", Look::Report),
+    ("Piece::of and finish", Look::Part),
+];
 
 #[test]
-fn steps_are_pushed(rt: HostRuntime) -> Result<(), AllocError> {
-    let Ok(trace) = read(rt.alloc(), NEVER_DELIVERED) else {
-        return Err(AllocError);
-    };
-    refused_in_turn(&rt, rt.alloc(), "push", &mut Push { trace, no: 1 });
+fn looks_at_a_trace(rt: HostRuntime) -> Result<(), Fail> {
+    let wrong = first_wrong_of_worked(rt.alloc(), LOOKS)?;
+    assert!(rt; wrong.is_none(), "{wrong:?}");
     Ok(())
 }
 
+// The first growth of a copy of so many steps of which the outcome was wrong, if there was one.
+fn first_wrong_copy(alloc: Global, count: u64) -> Result<Option<(&'static str, usize)>, Fail> {
+    let trace = silence(alloc, count)?;
+    let before = silence(alloc, count)?;
+    Ok(first_wrong_of(alloc, &trace, &before, &[("Trace::copy", Look::Copy)]))
+}
+
+// A page has 256 steps.
 #[test]
-fn traces_are_copied(rt: HostRuntime) -> Result<(), AllocError> {
-    let Ok(trace) = read(rt.alloc(), NEVER_DELIVERED) else {
-        return Err(AllocError);
-    };
-    refused_in_turn(&rt, rt.alloc(), "copy", &mut Copy { trace });
+fn copies_of_pages(rt: HostRuntime) -> Result<(), Fail> {
+    for count in [255, 256, 257] {
+        let wrong = first_wrong_copy(rt.alloc(), count)?;
+        assert!(rt; wrong.is_none(), "{count} steps: {wrong:?}");
+    }
     Ok(())
 }

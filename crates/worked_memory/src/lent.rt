@@ -1,0 +1,61 @@
+//! Calls that are lent a trace, swept one after the other.
+
+use crate::worked::{NEVER_DELIVERED, is_same, trace_of};
+use refused_growths::{LentCall, first_wrong_lent};
+use std::alloc::{AllocError, Global};
+use std::test::Fail;
+use step_trace::Trace;
+
+/// A call that is lent a trace.
+pub(crate) trait TraceCall: Copy {
+    /// Whether its answer is the right one. Fails where the answer is want of memory.
+    fn is_right(self, alloc: Global, trace: &Trace) -> Result<bool, AllocError>;
+}
+
+// A call, the trace that it is lent, and one that was made as that.
+#[derive(Drop)]
+struct Lent<'a, C> {
+    call: C,
+    trace: &'a Trace,
+    before: &'a Trace,
+}
+
+impl<C: TraceCall> LentCall for Lent<'_, C> {
+    fn is_right(&self, alloc: Global) -> Result<bool, AllocError> {
+        self.call.is_right(alloc, self.trace)
+    }
+
+    fn is_as_before(&self) -> bool {
+        is_same(self.trace, self.before)
+    }
+}
+
+/// The first of these calls and of its growths of which the outcome was wrong, if there was one. The traces are equal.
+pub(crate) fn first_wrong_of<C: TraceCall>(
+    alloc: Global,
+    trace: &Trace,
+    before: &Trace,
+    calls: &[(&'static str, C)],
+) -> Option<(&'static str, usize)> {
+    for &(name, call) in calls {
+        let lent = Lent {
+            call,
+            trace,
+            before,
+        };
+        if let Some(growth) = first_wrong_lent(alloc, &lent) {
+            return Some((name, growth));
+        }
+    }
+    None
+}
+
+/// The same of calls that are lent never-delivered.
+pub(crate) fn first_wrong_of_worked<C: TraceCall>(
+    alloc: Global,
+    calls: &[(&'static str, C)],
+) -> Result<Option<(&'static str, usize)>, Fail> {
+    let trace = trace_of(alloc, NEVER_DELIVERED)?;
+    let before = trace_of(alloc, NEVER_DELIVERED)?;
+    Ok(first_wrong_of(alloc, &trace, &before, calls))
+}

@@ -1,0 +1,87 @@
+//! Steps that are pushed.
+
+use crate::worked::{is_same, receive, silence};
+use refused_growths::{Call, Outcome, Refusal, first_wrong, judged};
+use std::alloc::{AllocError, Global};
+use std::test::Fail;
+use step_trace::{PushError, Step, Trace};
+
+// Processor 2 takes message 1 in a tick after the last.
+#[derive(Drop)]
+struct Push {
+    trace: Trace,
+    tick: u64,
+}
+
+impl Push {
+    // The step is pushed by number where its tick is the next.
+    fn push(&self, trace: &mut Trace, step: Step) -> Result<(), PushError> {
+        if self.tick == self.trace.last_tick() + 1 {
+            trace.push(step)
+        } else {
+            trace.push_at(self.tick, step)
+        }
+    }
+
+    // Whether the trace has that step more.
+    fn is_pushed(&self, trace: &Trace) -> bool {
+        let no = self.trace.len() as u64 + 1;
+        let is_taken =
+            matches!(trace.step(no), Some(last) if last.proc == 2 && last.act.ids() == [1].as_slice());
+        let is_longer = trace.begins(&self.trace) && trace.len() as u64 == no;
+        is_taken && is_longer && trace.last_tick() == self.tick
+    }
+
+    // What comes of pushing the step, and of pushing it again where it was refused.
+    fn pushed(
+        &self,
+        alloc: Global,
+        refusal: Refusal,
+        mut trace: Trace,
+        (step, again): (Step, Step),
+    ) -> Outcome {
+        refusal.begin(alloc);
+        let answer = self.push(&mut trace, step);
+        let was_refused = refusal.end(alloc);
+        if answer.is_ok() {
+            return judged(was_refused, self.is_pushed(&trace), false);
+        }
+        let is_kept = answer == Err(PushError::Memory) && is_same(&trace, &self.trace);
+        let is_right = self.push(&mut trace, again).is_ok() && self.is_pushed(&trace);
+        judged(was_refused, false, is_kept && is_right)
+    }
+}
+
+fn two_steps(alloc: Global) -> Result<(Step, Step), AllocError> {
+    Ok((receive(alloc, 2, &[1])?, receive(alloc, 2, &[1])?))
+}
+
+impl Call for Push {
+    // On a copy, in which no list has room to spare.
+    fn attempt(&mut self, alloc: Global, refusal: Refusal) -> Outcome {
+        match (self.trace.copy(alloc), two_steps(alloc)) {
+            (Ok(trace), Ok(steps)) => self.pushed(alloc, refusal, trace, steps),
+            _ => Outcome::Wrong,
+        }
+    }
+}
+
+// After how many steps, and in which tick. The page of 256 steps is not yet full, filled, and full.
+const PUSHES: &[(u64, u64)] = &[
+    (1, 2),
+    (1, 4),
+    (254, 256),
+    (255, 256),
+    (255, 300),
+    (256, 257),
+];
+
+#[test]
+fn steps_are_pushed(rt: HostRuntime) -> Result<(), Fail> {
+    for &(count, tick) in PUSHES {
+        let trace = silence(rt.alloc(), count)?;
+        let wrong = first_wrong(rt.alloc(), &mut Push { trace, tick });
+        assert!(rt; wrong.is_none(), "after {count} steps: {wrong:?}");
+    }
+    Ok(())
+}
