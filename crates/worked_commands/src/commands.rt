@@ -20,21 +20,41 @@ pub(crate) enum Command<'a> {
     Check(&'a str, &'a str),
 }
 
-/// A trace text, and what comes after its bytes and after those of the certificate.
+/// How many bytes of a text are read, and what comes after them.
+#[derive(Clone, Copy, Debug)]
+pub(crate) struct Cut {
+    pub(crate) count: usize,
+    pub(crate) after: AfterBytes,
+}
+
+/// No cut: a text is read to its end.
+pub(crate) const WHOLE: Cut = Cut {
+    count: usize::MAX,
+    after: AfterBytes::End,
+};
+
+/// A trace text, and where it is cut and where the certificate is.
 #[derive(Clone, Copy, Debug)]
 pub(crate) struct Input<'a> {
     pub(crate) text: &'a str,
-    pub(crate) after: AfterBytes,
-    pub(crate) after_rows: AfterBytes,
+    pub(crate) cut: Cut,
+    pub(crate) cut_rows: Cut,
 }
 
-/// A text that is read to its end.
+/// A text that is read to its end, beside a certificate that is too.
 pub(crate) fn whole(text: &str) -> Input<'_> {
     Input {
         text,
-        after: AfterBytes::End,
-        after_rows: AfterBytes::End,
+        cut: WHOLE,
+        cut_rows: WHOLE,
     }
+}
+
+/// A reader of a text up to a cut, which gives 7 bytes at a time.
+fn reader_of(text: &str, cut: Cut) -> Counting<FailingReader<'_>> {
+    let bytes = text.as_bytes();
+    let first = bytes.get(..cut.count).unwrap_or(bytes);
+    Counting::new(FailingReader::new(first, 7, cut.after))
 }
 
 /// Runs a command, in reads of 7 bytes, and gives its status.
@@ -45,14 +65,13 @@ pub(crate) fn ended<T: Threads + Wait + Sync>(
     input: Input<'_>,
     writer: &mut FailingWriter,
 ) -> Result<u8, Fault> {
-    let mut trace = Counting::new(FailingReader::new(input.text.as_bytes(), 7, input.after));
+    let mut trace = reader_of(input.text, input.cut);
     match command {
         Command::Report(list) => reported(rt, alloc, input, list, 1, &OpenGate, writer)?,
         Command::Replay => run_replay(alloc, &mut trace, &mut Counting::new(writer))?,
         Command::Upgrade => run_upgrade(alloc, &mut trace, &mut Counting::new(writer))?,
         Command::Check(list, rows) => {
-            let rows = FailingReader::new(rows.as_bytes(), 7, input.after_rows);
-            let mut rows = Counting::new(rows);
+            let mut rows = reader_of(rows, input.cut_rows);
             let mut output = Counting::new(writer);
             let verdict = run_check(alloc, &mut trace, &mut rows, &mut output, listed(list)?)?;
             return Ok(verdict_status(verdict));
@@ -74,7 +93,7 @@ pub(crate) fn reported<T: Threads + Wait + Sync, G: Gate>(
     if workers < 1 || workers > MAX_WORKERS {
         return Err(Fault::Memory);
     }
-    let mut trace = Counting::new(FailingReader::new(input.text.as_bytes(), 7, input.after));
+    let mut trace = reader_of(input.text, input.cut);
     let mut output = Counting::new(writer);
     let set = listed(list)?;
     run_report(rt, alloc, &mut trace, &mut output, set, workers, gate)

@@ -4,6 +4,8 @@
 #[cfg(test)]
 mod commands;
 #[cfg(test)]
+mod failures;
+#[cfg(test)]
 mod told;
 #[cfg(test)]
 mod traces;

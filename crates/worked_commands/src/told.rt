@@ -1,16 +1,13 @@
-//! What each command answers, refuses and leaves half written, on worked texts and failing devices.
+//! What each command answers and refuses, on worked texts.
 
 use crate::commands::Command::{Check, Replay, Report, Upgrade};
-use crate::commands::{Command, Input, ended, has_refused, whole};
+use crate::commands::{Command, ended, has_refused, whole};
 use crate::traces::{
     DECIDES_SEVEN, DECIDES_SEVEN_REPLAY, ENDS_A_ROUND, NEVER_DELIVERED, NEVER_DELIVERED_REPORT,
     NO_STEPS, ONE_MISS, ONE_MISS_REPORT, ONE_MISS_UPGRADE, REDELIVERED, SAME_TICK, SENDS_TWICE,
 };
-use std::io::ErrorKind;
 use std::test::Fail;
-use text_commands::{Fault, status};
-use trace_text::failing_devices::AfterBytes::{End, Fail as Fails};
-use trace_text::failing_devices::{AfterBytes, FailingWriter, WriteFailure};
+use trace_text::failing_devices::{FailingWriter, WriteFailure};
 
 const NO_ROWS: &str = "gst,delta,phi,sent,missed,proc,from,to\n";
 
@@ -108,66 +105,5 @@ fn writes_nothing_on_a_refusal(rt: HostRuntime) -> Result<(), Fail> {
         let refused = has_refused(rt.alloc(), &ended, &writer, code, line)?;
         assert!(rt; refused, "{command:?} {line}");
     }
-    Ok(())
-}
-
-const FAILS: AfterBytes = Fails(ErrorKind::Other);
-
-const INTERRUPTED: AfterBytes = Fails(ErrorKind::Interrupted);
-
-/// A command, its trace text, and what comes after its bytes and after those of the certificate.
-const UNREAD: &[(Command, &str, AfterBytes, AfterBytes)] = &[
-    (Report("3"), ONE_MISS, FAILS, End),
-    (Report("3"), ONE_MISS, INTERRUPTED, End),
-    (Replay, DECIDES_SEVEN, FAILS, End),
-    (Upgrade, ONE_MISS, FAILS, End),
-    (Check("1,2", SMALL_PHI), NEVER_DELIVERED, FAILS, End),
-    (Check("1,2", SMALL_PHI), NEVER_DELIVERED, End, FAILS),
-];
-
-#[test]
-fn writes_nothing_after_a_failed_read(rt: HostRuntime) -> Result<(), Fail> {
-    for &(command, text, after, after_rows) in UNREAD {
-        let input = Input {
-            text,
-            after,
-            after_rows,
-        };
-        let mut writer = FailingWriter::new(rt.alloc(), 10, WriteFailure::Never);
-        let ended = ended(&rt, rt.alloc(), command, input, &mut writer);
-        let refused = has_refused(rt.alloc(), &ended, &writer, 6, "cannot read")?;
-        assert!(rt; refused, "{command:?} {after:?}");
-    }
-    Ok(())
-}
-
-/// A command, its trace text, what it would write, after how many bytes the writer fails, and after how many it
-/// takes nothing.
-const CUT: &[(Command, &str, &str, usize, usize)] = &[
-    (Report("1,2"), ONE_MISS, ONE_MISS_REPORT, 40, 82),
-    (Report("1,2"), ONE_MISS, ONE_MISS_REPORT, 0, 0),
-    (Replay, DECIDES_SEVEN, DECIDES_SEVEN_REPLAY, 25, 0),
-    (Upgrade, ONE_MISS, ONE_MISS_UPGRADE, 25, 0),
-    (Check("1,2", SMALL_PHI), NEVER_DELIVERED, PHI_FAILS, 12, 0),
-];
-
-/// Each of them refuses with Write(count), and just the first `count` bytes went out, all where the flush failed.
-#[test]
-fn says_how_much_it_wrote(rt: HostRuntime) -> Result<(), Fail> {
-    for &(command, text, wanted, fails, stalls) in CUT {
-        for (failure, count) in [
-            (WriteFailure::FailAfter(fails, ErrorKind::Other), fails),
-            (WriteFailure::TakeNothingAfter(stalls), stalls),
-            (WriteFailure::FailFlush(ErrorKind::Other), wanted.len()),
-        ] {
-            let mut writer = FailingWriter::new(rt.alloc(), 5, failure);
-            let ended = ended(&rt, rt.alloc(), command, whole(text), &mut writer);
-            let told = matches!(ended, Err(Fault::Write(written)) if written == count as u64);
-            let cut = writer.taken().len() == count
-                && wanted.as_bytes().starts_with(writer.taken());
-            assert!(rt; told && cut, "{command:?} {failure:?}");
-        }
-    }
-    assert!(rt; status(&Fault::Write(40)) == 6);
     Ok(())
 }
