@@ -41,9 +41,9 @@ pub trait TakeRecords {
 }
 
 /// Takes in all records that csv reads from a text: those of its default reader, without a header
-/// row, of any length. The first record that is refused decides. Of a record of more than `MAX_FIELDS`
-/// fields no more is read than one field above these: so the records take no more memory than the text,
-/// but for some kilobytes.
+/// row, of any length. The first record that is refused decides. Where a record may have far more fields
+/// than `MAX_FIELDS`, the text is read no further than one field above these: so the fields of a record
+/// take some megabytes at most, beside their text.
 pub fn read_records<T: TakeRecords>(
     alloc: Global,
     text: &[u8],
