@@ -1,0 +1,31 @@
+//! Want of memory in runs of Algorithm 1 (section 3 of Dwork, Lynch and Stockmeyer, "Consensus in the Presence of Partial
+//! Synchrony", 1988): each call of nodes, tables, Worlds and recorders is made again and again, with its first growth of
+//! memory refused, then its second, and so on.
+#![tactic(auto)]
+
+#[cfg(test)]
+mod audit_tests;
+#[cfg(test)]
+mod changes;
+#[cfg(test)]
+mod drive_tests;
+#[cfg(test)]
+mod node_tests;
+#[cfg(test)]
+mod prefix_tests;
+#[cfg(test)]
+mod record_tests;
+#[cfg(test)]
+mod recorders;
+#[cfg(test)]
+mod round_tests;
+#[cfg(test)]
+mod scripts;
+#[cfg(test)]
+mod step_tests;
+#[cfg(test)]
+mod value_tests;
+#[cfg(test)]
+mod world_tests;
+#[cfg(test)]
+mod worlds;
