@@ -2,7 +2,7 @@
 
 use crate::random_traces::{Draws, empty_trace_of_three, push_near, some_set};
 use crate::stair_levels::{has_levels, has_one_level, same_stairs};
-use crate::traces::{both, empty_trace, never_delivered, step_of, ticked, trace_of};
+use crate::traces::{both, empty_trace, step_of, ticked};
 use chunk_join::{Analyst, FeedError};
 use std::alloc::Global;
 use std::test::Fail;
@@ -66,75 +66,22 @@ fn differs(
     }
 }
 
-// The first steps of never-delivered.
-fn never_delivered_until(alloc: Global, count: u64) -> Result<Trace, Fail> {
-    let whole = never_delivered(alloc)?;
-    let mut trace = empty_trace(alloc, 2)?;
-    for before in 0..count {
-        let Some(step) = whole.step(before + 1) else {
-            return Err(Fail::new("no such step"));
-        };
-        trace.push(step.clone()?)?;
-    }
-    Ok(trace)
-}
-
-const ONE_MISS: &[(u64, u64, &[u64])] = &[(1, 2, &[]), (2, 0, &[]), (2, 0, &[1])];
-
-#[test]
-fn prefixes_are_followed(rt: HostRuntime) -> Result<(), Fail> {
-    let alloc = rt.alloc();
-    let mut analyst = new_analyst(alloc)?;
-    for count in [0, 2, 2, 5] {
-        let prefix = never_delivered_until(alloc, count)?;
-        assert!(rt; follows(alloc, &mut analyst, &prefix)?, "{count} steps");
-    }
-    let other = trace_of(alloc, 2, ONE_MISS)?;
-    assert!(rt; differs(alloc, &mut analyst, &other, 3, Some((3, 2, 0, &[1])))?);
-    Ok(())
-}
-
 // Of a trace of so many processors its steps, each with its tick before it, and its last tick.
 type Ticked = (u64, &'static [(u64, u64, u64, &'static [u64])], u64);
-
-// Processor 1 steps in tick 1, and there are three ticks.
-const SEEN: Ticked = (2, &[(1, 1, 0, &[])], 3);
-
-// What differs from that, where, and what stands there.
-const DIFFERENCES: &[(Ticked, u64, Found)] = &[
-    // Another configuration.
-    ((3, &[(1, 1, 0, &[])], 3), 0, None),
-    // Another step.
-    ((2, &[(1, 2, 0, &[])], 3), 1, Some((1, 2, 0, &[]))),
-    // Another tick.
-    ((2, &[(2, 1, 0, &[])], 3), 1, Some((2, 1, 0, &[]))),
-    // No step.
-    ((2, &[], 3), 1, None),
-    // All steps, and fewer ticks.
-    ((2, &[(1, 1, 0, &[])], 2), 2, None),
-    // All steps, and one more before the last tick.
-    (
-        (2, &[(1, 1, 0, &[]), (2, 2, 0, &[])], 3),
-        2,
-        Some((2, 2, 0, &[])),
-    ),
-];
 
 fn made((n, steps, last): Ticked, alloc: Global) -> Result<Trace, Fail> {
     ticked(alloc, n, steps, last)
 }
 
-#[test]
-fn first_differences(rt: HostRuntime) -> Result<(), Fail> {
-    let alloc = rt.alloc();
-    let mut analyst = new_analyst(alloc)?;
-    let seen = made(SEEN, alloc)?;
-    for &(trace, at, found) in DIFFERENCES {
-        assert!(rt; follows(alloc, &mut analyst, &seen)?, "before {at}");
-        let other = made(trace, alloc)?;
-        assert!(rt; differs(alloc, &mut analyst, &other, at, found)?, "at {at}");
-    }
-    Ok(())
+// What an analyst answers to a trace that it is fed.
+#[derive(Clone, Copy)]
+enum Answer {
+    // The stairs from scratch.
+    Stairs,
+    // Stairs of these levels.
+    Levels(&'static [[u64; 7]]),
+    // The first difference, and what stands there.
+    Differs(u64, Found),
 }
 
 // Whether the answer has these levels.
@@ -145,34 +92,130 @@ fn climbs(alloc: Global, analyst: &mut Analyst, trace: &Trace, levels: &[[u64; 7
     }
 }
 
+fn is_answered(
+    alloc: Global,
+    analyst: &mut Analyst,
+    fed: Ticked,
+    answer: Answer,
+) -> Result<bool, Fail> {
+    let trace = made(fed, alloc)?;
+    match answer {
+        Answer::Stairs => follows(alloc, analyst, &trace),
+        Answer::Levels(levels) => Ok(climbs(alloc, analyst, &trace, levels)),
+        Answer::Differs(at, found) => differs(alloc, analyst, &trace, at, found),
+    }
+}
+
+// The place of the first feed of a new analyst that is answered otherwise, if there is one.
+fn first_wrong(alloc: Global, feeds: &[(Ticked, Answer)]) -> Result<Option<usize>, Fail> {
+    let mut analyst = new_analyst(alloc)?;
+    for (place, &(fed, answer)) in feeds.iter().enumerate() {
+        if !is_answered(alloc, &mut analyst, fed, answer)? {
+            return Ok(Some(place));
+        }
+    }
+    Ok(None)
+}
+
+// Prefixes of never-delivered.
+const NO_STEPS: Ticked = (2, &[], 0);
+
+const TWO_STEPS: Ticked = (2, &[(1, 1, 2, &[]), (2, 2, 0, &[])], 2);
+
+const FIVE_STEPS: Ticked = (
+    2,
+    &[
+        (1, 1, 2, &[]),
+        (2, 2, 0, &[]),
+        (3, 1, 2, &[]),
+        (4, 2, 0, &[3]),
+        (5, 2, 0, &[]),
+    ],
+    5,
+);
+
+const ONE_MISS: Ticked = (2, &[(1, 1, 2, &[]), (2, 2, 0, &[]), (3, 2, 0, &[1])], 3);
+
+const PREFIXES: &[(Ticked, Answer)] = &[
+    (NO_STEPS, Answer::Stairs),
+    (TWO_STEPS, Answer::Stairs),
+    (TWO_STEPS, Answer::Stairs),
+    (FIVE_STEPS, Answer::Stairs),
+    (ONE_MISS, Answer::Differs(3, Some((3, 2, 0, &[1])))),
+];
+
+#[test]
+fn prefixes_are_followed(rt: HostRuntime) -> Result<(), Fail> {
+    let wrong = first_wrong(rt.alloc(), PREFIXES)?;
+    assert!(rt; wrong.is_none());
+    Ok(())
+}
+
+// Processor 1 steps in tick 1, and there are three ticks.
+const SEEN: Ticked = (2, &[(1, 1, 0, &[])], 3);
+
+// What differs from that, where, and what stands there.
+const DIFFERENCES: &[(Ticked, Answer)] = &[
+    (SEEN, Answer::Stairs),
+    // Another configuration.
+    ((3, &[(1, 1, 0, &[])], 3), Answer::Differs(0, None)),
+    (SEEN, Answer::Stairs),
+    // Another step.
+    (
+        (2, &[(1, 2, 0, &[])], 3),
+        Answer::Differs(1, Some((1, 2, 0, &[]))),
+    ),
+    (SEEN, Answer::Stairs),
+    // Another tick.
+    (
+        (2, &[(2, 1, 0, &[])], 3),
+        Answer::Differs(1, Some((2, 1, 0, &[]))),
+    ),
+    (SEEN, Answer::Stairs),
+    // No step.
+    ((2, &[], 3), Answer::Differs(1, None)),
+    (SEEN, Answer::Stairs),
+    // All steps, and fewer ticks.
+    ((2, &[(1, 1, 0, &[])], 2), Answer::Differs(2, None)),
+    (SEEN, Answer::Stairs),
+    // All steps, and one more before the last tick.
+    (
+        (2, &[(1, 1, 0, &[]), (2, 2, 0, &[])], 3),
+        Answer::Differs(2, Some((2, 2, 0, &[]))),
+    ),
+];
+
+#[test]
+fn first_differences(rt: HostRuntime) -> Result<(), Fail> {
+    let wrong = first_wrong(rt.alloc(), DIFFERENCES)?;
+    assert!(rt; wrong.is_none());
+    Ok(())
+}
+
 // Tick 3 is the last, and then processor 2 steps in it.
-const OPEN_TICK: &[(Ticked, [[u64; 7]; 3])] = &[
+const OPEN_TICK: &[(Ticked, Answer)] = &[
     (
         SEEN,
-        [
+        Answer::Levels(&[
             [1, 0, 0, 4, 2, 1, 3],
             [1, 0, 0, 3, 1, 2, 3],
             [1, 0, 0, 2, 1, 3, 3],
-        ],
+        ]),
     ),
     (
         (2, &[(1, 1, 0, &[]), (3, 2, 0, &[])], 3),
-        [
+        Answer::Levels(&[
             [1, 0, 0, 3, 1, 2, 3],
             [1, 0, 0, 3, 1, 2, 3],
             [1, 0, 0, 2, 1, 3, 3],
-        ],
+        ]),
     ),
 ];
 
 #[test]
 fn a_last_tick_stays_open(rt: HostRuntime) -> Result<(), Fail> {
-    let alloc = rt.alloc();
-    let mut analyst = new_analyst(alloc)?;
-    for (trace, levels) in OPEN_TICK {
-        let trace = made(*trace, alloc)?;
-        assert!(rt; climbs(alloc, &mut analyst, &trace, levels));
-    }
+    let wrong = first_wrong(rt.alloc(), OPEN_TICK)?;
+    assert!(rt; wrong.is_none());
     Ok(())
 }
 
@@ -224,14 +267,37 @@ fn pages_are_followed(rt: HostRuntime) -> Result<(), Fail> {
     Ok(())
 }
 
+// A growing trace, and the analyst who is fed it.
+#[derive(Drop)]
+struct Followed {
+    trace: Trace,
+    set: ProcSet,
+    analyst: Analyst,
+}
+
+impl Followed {
+    fn opened(alloc: Global, set: ProcSet) -> Result<Followed, Fail> {
+        let trace = empty_trace_of_three(alloc)?;
+        let config = trace.config().copy(alloc)?;
+        Ok(Followed {
+            trace,
+            set,
+            analyst: Analyst::new(alloc, config, set),
+        })
+    }
+
+    // Whether the analyst follows one more step.
+    fn goes_on(&mut self, alloc: Global, draws: &mut Draws) -> Result<bool, Fail> {
+        push_near(alloc, draws, &mut self.trace)?;
+        follows_for(alloc, &mut self.analyst, &self.trace, self.set)
+    }
+}
+
 // Whether an analyst follows one more trace from step to step.
 fn follows_some(alloc: Global, draws: &mut Draws) -> Result<bool, Fail> {
-    let mut trace = empty_trace_of_three(alloc)?;
-    let set = some_set(draws);
-    let mut analyst = Analyst::new(alloc, trace.config().copy(alloc)?, set);
+    let mut followed = Followed::opened(alloc, some_set(draws))?;
     for _ in 0..2 + draws.below(12) {
-        push_near(alloc, draws, &mut trace)?;
-        if !follows_for(alloc, &mut analyst, &trace, set)? {
+        if !followed.goes_on(alloc, draws)? {
             return Ok(false);
         }
     }
