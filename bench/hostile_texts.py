@@ -137,9 +137,9 @@ def filled(opening, piece, closing=b""):
 def rising_ids(file, size):
     """A Receive whose ids rise and fill the text."""
     file.write(OPENING + b"1,2,R,1")
-    left = size - 40
+    left = size - 60
     no = 2
-    while left > 0:
+    while left > 10:
         left -= file.write(b" %d" % no)
         no += 1
     file.write(b"\nend,1\n")
