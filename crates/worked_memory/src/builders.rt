@@ -4,7 +4,7 @@ ghost use Rattle.std.specs.Prelude.{◌≡◌, ◌∷◌, [], ◌<◌, length, N
 ghost use Rattle.step_trace.specs.declared.traces.TheConstants.{MAX_TICKS};
 ghost use Rattle.suffix_staircase.specs.Levels.{CanStandBefore};
 
-use crate::levels::has_levels;
+use crate::levels::{Levels, has_levels};
 use refused_growths::{Call, Outcome, Refusal, first_wrong, judged};
 use std::alloc::{AllocError, Global};
 use step_trace::Miss;
@@ -53,12 +53,12 @@ fn put_five(builder: &mut StairBuilder) -> Result<bool, AllocError>
     Ok(first | second | third | fourth | fifth)
 }
 
-const FIVE: &[[u64; 7]] = &[
-    [5, 1, 5, 1, 0, 0, 0],
-    [4, 1, 4, 1, 0, 0, 0],
-    [3, 1, 3, 1, 0, 0, 0],
-    [2, 1, 2, 1, 0, 0, 0],
-    [1, 1, 1, 1, 0, 0, 0],
+const FIVE: Levels = &[
+    (1, [5, 1, 5, 1, 0, 0, 0]),
+    (2, [4, 1, 4, 1, 0, 0, 0]),
+    (3, [3, 1, 3, 1, 0, 0, 0]),
+    (4, [2, 1, 2, 1, 0, 0, 0]),
+    (5, [1, 1, 1, 1, 0, 0, 0]),
 ];
 
 #[derive(Drop)]

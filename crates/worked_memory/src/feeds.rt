@@ -1,11 +1,10 @@
 //! Analysts that are fed.
 
-use crate::levels::{LEVELS, LEVELS_OF_TWO, has_levels};
+use crate::levels::{LEVELS, Levels, has_levels};
 use crate::worked::{NEVER_DELIVERED, both, trace_of};
 use chunk_join::{Analyst, FeedError};
 use refused_growths::{Call, Outcome, Refusal, first_wrong, judged};
 use std::alloc::{AllocError, Global};
-use std::test::Fail;
 use step_trace::Trace;
 
 // Whether the answer to a trace has these levels.
@@ -13,7 +12,7 @@ fn follows(
     alloc: Global,
     analyst: &mut Analyst,
     trace: &Trace,
-    levels: &[[u64; 7]],
+    levels: Levels,
 ) -> Result<bool, AllocError> {
     match analyst.feed(alloc, trace) {
         Ok(stairs) => Ok(has_levels(&stairs, levels)),
@@ -36,13 +35,15 @@ fn differs(alloc: Global, analyst: &mut Analyst, trace: &Trace) -> Result<bool, 
     }
 }
 
-// The first two steps of never-delivered, and then all five, or a trace that differs from the two.
+// The first two steps of never-delivered, and then a trace which extends them and has these levels, or differs from them.
 #[derive(Drop)]
 struct Feed {
     two: Trace,
     next: Trace,
-    is_longer: bool,
+    levels: Option<Levels>,
 }
+
+const LEVELS_OF_TWO: Levels = &[(1, [2, 1, 2, 2, 1, 2, 2]), (2, [1, 0, 0, 2, 1, 2, 2])];
 
 impl Feed {
     // Whether the answer to the first two is right.
@@ -52,10 +53,9 @@ impl Feed {
 
     // Whether the answer to what comes next is right.
     fn is_right(&self, alloc: Global, analyst: &mut Analyst) -> Result<bool, AllocError> {
-        if self.is_longer {
-            follows(alloc, analyst, &self.next, LEVELS)
-        } else {
-            differs(alloc, analyst, &self.next)
+        match self.levels {
+            Some(levels) => follows(alloc, analyst, &self.next, levels),
+            None => differs(alloc, analyst, &self.next),
         }
     }
 
@@ -83,25 +83,37 @@ impl Call for Feed {
 
 const FIRST_TWO: &str = "dls-trace,1,2,0\ninit,5,7\n1,1,S,2\n2,2,R,\nend,2\n";
 
+// Never-delivered with idle ticks after it.
+const IDLE: &str = "dls-trace,2,2,0\ninit,5,7\n\
+    1,1,1,S,2\n2,2,2,R,\n3,3,1,S,2\n4,4,2,R,3\n5,5,2,R,\nend,40\n";
+
+const IDLE_LEVELS: Levels = &[
+    (1, [5, 1, 5, 38, 1, 4, 40]),
+    (4, [1, 0, 0, 38, 1, 4, 40]),
+    (5, [1, 0, 0, 37, 1, 5, 40]),
+    (40, [1, 0, 0, 2, 1, 40, 40]),
+];
+
 const OTHER: &str = "dls-trace,1,2,0\ninit,5,7\n1,1,S,2\n2,2,R,1\nend,2\n";
 
+const FEEDS: &[(&str, Option<Levels>)] = &[
+    (NEVER_DELIVERED, Some(LEVELS)),
+    (IDLE, Some(IDLE_LEVELS)),
+    (OTHER, None),
+];
+
 // The first growth of which the outcome was wrong, if there was one.
-fn first_wrong_feed(alloc: Global, text: &str, is_longer: bool) -> Result<Option<usize>, Fail> {
-    let two = trace_of(alloc, FIRST_TWO)?;
-    let next = trace_of(alloc, text)?;
-    let mut feed = Feed {
-        two,
-        next,
-        is_longer,
-    };
-    Ok(first_wrong(alloc, &mut feed))
+fn first_wrong_feed(alloc: Global, text: &str, levels: Option<Levels>) -> Option<usize> {
+    match (trace_of(alloc, FIRST_TWO), trace_of(alloc, text)) {
+        (Ok(two), Ok(next)) => first_wrong(alloc, &mut Feed { two, next, levels }),
+        _ => Some(0),
+    }
 }
 
 #[test]
-fn analysts_are_fed(rt: HostRuntime) -> Result<(), Fail> {
-    for (text, is_longer) in [(NEVER_DELIVERED, true), (OTHER, false)] {
-        let wrong = first_wrong_feed(rt.alloc(), text, is_longer)?;
+fn analysts_are_fed(rt: HostRuntime) {
+    for &(text, levels) in FEEDS {
+        let wrong = first_wrong_feed(rt.alloc(), text, levels);
         assert!(rt; wrong.is_none(), "{text}: {wrong:?}");
     }
-    Ok(())
 }

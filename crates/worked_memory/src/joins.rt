@@ -5,7 +5,6 @@ use crate::worked::{NEVER_DELIVERED, both, trace_of};
 use chunk_join::{JoinRefused, Joined, Piece, Why, join_all};
 use refused_growths::{Call, Outcome, Refusal, first_wrong, judged};
 use std::alloc::{AllocError, Global};
-use std::test::Fail;
 use step_trace::Trace;
 
 /// The piece of these ticks, where the trace has them.
@@ -48,34 +47,31 @@ struct JoinAt {
     cut: u64,
 }
 
-impl JoinAt {
-    fn cut(&self, alloc: Global) -> Result<(Piece, Piece), AllocError> {
-        let after = self.cut.saturating_add(1);
-        let left = piece_of(alloc, &self.trace, 1, self.cut)?;
-        let right = piece_of(alloc, &self.trace, after, 5)?;
-        Ok((left, right))
-    }
-}
-
 impl Call for JoinAt {
     fn attempt(&mut self, alloc: Global, refusal: Refusal) -> Outcome {
-        match self.cut(alloc) {
-            Ok((left, right)) => joined(alloc, refusal, left, right),
-            Err(_) => Outcome::Wrong,
+        let left = piece_of(alloc, &self.trace, 1, self.cut);
+        let right = piece_of(alloc, &self.trace, self.cut.saturating_add(1), 5);
+        match (left, right) {
+            (Ok(left), Ok(right)) => joined(alloc, refusal, left, right),
+            _ => Outcome::Wrong,
         }
     }
 }
 
+// The first growth of which the outcome was wrong, if there was one.
+fn first_wrong_cut(alloc: Global, cut: u64) -> Option<usize> {
+    match trace_of(alloc, NEVER_DELIVERED) {
+        Ok(trace) => first_wrong(alloc, &mut JoinAt { trace, cut }),
+        Err(_) => Some(0),
+    }
+}
+
 #[test]
-fn two_are_joined(rt: HostRuntime) -> Result<(), Fail> {
-    let trace = trace_of(rt.alloc(), NEVER_DELIVERED)?;
-    let mut join = JoinAt { trace, cut: 0 };
+fn two_are_joined(rt: HostRuntime) {
     for cut in 0..6u64 {
-        join.cut = cut;
-        let wrong = first_wrong(rt.alloc(), &mut join);
+        let wrong = first_wrong_cut(rt.alloc(), cut);
         assert!(rt; wrong.is_none(), "cut after {cut}: {wrong:?}");
     }
-    Ok(())
 }
 
 // The piece of each tick.
@@ -128,10 +124,16 @@ impl Call for JoinEach {
     }
 }
 
+// The first growth of which the outcome was wrong, if there was one.
+fn first_wrong_of_five(alloc: Global) -> Option<usize> {
+    match trace_of(alloc, NEVER_DELIVERED) {
+        Ok(trace) => first_wrong(alloc, &mut JoinEach { trace }),
+        Err(_) => Some(0),
+    }
+}
+
 #[test]
-fn five_are_joined(rt: HostRuntime) -> Result<(), Fail> {
-    let trace = trace_of(rt.alloc(), NEVER_DELIVERED)?;
-    let wrong = first_wrong(rt.alloc(), &mut JoinEach { trace });
+fn five_are_joined(rt: HostRuntime) {
+    let wrong = first_wrong_of_five(rt.alloc());
     assert!(rt; wrong.is_none(), "{wrong:?}");
-    Ok(())
 }

@@ -3,7 +3,6 @@
 use crate::worked::{NEVER_DELIVERED, is_same, trace_of};
 use refused_growths::{LentCall, first_wrong_lent};
 use std::alloc::{AllocError, Global};
-use std::test::Fail;
 use step_trace::Trace;
 
 /// A call that is lent a trace.
@@ -12,7 +11,7 @@ pub(crate) trait TraceCall: Copy {
     fn is_right(self, alloc: Global, trace: &Trace) -> Result<bool, AllocError>;
 }
 
-// A call, the trace that it is lent, and one that was made as that.
+// A call, the trace that it is lent, and a copy of that from before.
 #[derive(Drop)]
 struct Lent<'a, C> {
     call: C,
@@ -30,8 +29,19 @@ impl<C: TraceCall> LentCall for Lent<'_, C> {
     }
 }
 
-/// The first of these calls and of its growths of which the outcome was wrong, if there was one. The traces are equal.
+/// The first of these calls and of its growths of which the outcome was wrong, if there was one.
 pub(crate) fn first_wrong_of<C: TraceCall>(
+    alloc: Global,
+    trace: &Trace,
+    calls: &[(&'static str, C)],
+) -> Option<(&'static str, usize)> {
+    match trace.copy(alloc) {
+        Ok(before) => first_wrong_beside(alloc, trace, &before, calls),
+        Err(_) => Some(("before all", 0)),
+    }
+}
+
+fn first_wrong_beside<C: TraceCall>(
     alloc: Global,
     trace: &Trace,
     before: &Trace,
@@ -54,8 +64,9 @@ pub(crate) fn first_wrong_of<C: TraceCall>(
 pub(crate) fn first_wrong_of_worked<C: TraceCall>(
     alloc: Global,
     calls: &[(&'static str, C)],
-) -> Result<Option<(&'static str, usize)>, Fail> {
-    let trace = trace_of(alloc, NEVER_DELIVERED)?;
-    let before = trace_of(alloc, NEVER_DELIVERED)?;
-    Ok(first_wrong_of(alloc, &trace, &before, calls))
+) -> Option<(&'static str, usize)> {
+    match trace_of(alloc, NEVER_DELIVERED) {
+        Ok(trace) => first_wrong_of(alloc, &trace, calls),
+        Err(_) => Some(("before all", 0)),
+    }
 }

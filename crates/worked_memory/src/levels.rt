@@ -1,19 +1,19 @@
-//! Stairs as plain numbers. A level is [delta, sent, missed, phi, proc, from, to], with 0 for none.
+//! Stairs as plain numbers: a tick and its level, which is [delta, sent, missed, phi, proc, from, to], with 0 for none.
 
 use step_trace::{Gap, Miss};
 use suffix_staircase::{Level, Stairs};
 
-/// The levels of never-delivered.
-pub(crate) const LEVELS: &[[u64; 7]] = &[
-    [5, 1, 5, 3, 1, 4, 5],
-    [1, 0, 0, 3, 1, 4, 5],
-    [1, 0, 0, 3, 1, 4, 5],
-    [1, 0, 0, 3, 1, 4, 5],
-    [1, 0, 0, 2, 1, 5, 5],
-];
+/// Levels of some ticks, of which the last one is the last tick.
+pub(crate) type Levels = &'static [(u64, [u64; 7])];
 
-/// The levels of its first two steps.
-pub(crate) const LEVELS_OF_TWO: &[[u64; 7]] = &[[2, 1, 2, 2, 1, 2, 2], [1, 0, 0, 2, 1, 2, 2]];
+/// The levels of never-delivered.
+pub(crate) const LEVELS: Levels = &[
+    (1, [5, 1, 5, 3, 1, 4, 5]),
+    (2, [1, 0, 0, 3, 1, 4, 5]),
+    (3, [1, 0, 0, 3, 1, 4, 5]),
+    (4, [1, 0, 0, 3, 1, 4, 5]),
+    (5, [1, 0, 0, 2, 1, 5, 5]),
+];
 
 /// The level that is so written.
 pub(crate) fn level_of(numbers: [u64; 7]) -> Level {
@@ -26,15 +26,14 @@ pub(crate) fn level_of(numbers: [u64; 7]) -> Level {
     }
 }
 
-/// Whether the stairs have exactly these levels.
-pub(crate) fn has_levels(stairs: &Stairs, levels: &[[u64; 7]]) -> bool {
-    if stairs.len() != levels.len() {
-        return false;
-    }
-    for i in 0..levels.len() {
-        if stairs.at(i as u64 + 1) != level_of(levels[i]) {
+/// Whether the stairs have these levels, and end with the last of them.
+pub(crate) fn has_levels(stairs: &Stairs, levels: Levels) -> bool {
+    let mut last = 0;
+    for &(g, numbers) in levels {
+        if g == 0 || g > stairs.len() as u64 || stairs.at(g) != level_of(numbers) {
             return false;
         }
+        last = g;
     }
-    true
+    stairs.len() as u64 == last
 }

@@ -2,8 +2,7 @@
 
 use crate::worked::{is_same, receive, silence};
 use refused_growths::{Call, Outcome, Refusal, first_wrong, judged};
-use std::alloc::{AllocError, Global};
-use std::test::Fail;
+use std::alloc::Global;
 use step_trace::{PushError, Step, Trace};
 
 // Processor 2 takes message 1 in a tick after the last.
@@ -32,35 +31,35 @@ impl Push {
         is_taken && is_longer && trace.last_tick() == self.tick
     }
 
-    // What comes of pushing the step, and of pushing it again where it was refused.
-    fn pushed(
-        &self,
-        alloc: Global,
-        refusal: Refusal,
-        mut trace: Trace,
-        (step, again): (Step, Step),
-    ) -> Outcome {
+    fn is_pushed_again(&self, alloc: Global, trace: &mut Trace) -> bool {
+        match receive(alloc, 2, &[1]) {
+            Ok(step) => self.push(trace, step).is_ok() && self.is_pushed(trace),
+            Err(_) => false,
+        }
+    }
+
+    // What comes of pushing the step.
+    fn pushed(&self, alloc: Global, refusal: Refusal, trace: &mut Trace, step: Step) -> Outcome {
         refusal.begin(alloc);
-        let answer = self.push(&mut trace, step);
+        let answer = self.push(trace, step);
         let was_refused = refusal.end(alloc);
         if answer.is_ok() {
-            return judged(was_refused, self.is_pushed(&trace), false);
+            return judged(was_refused, self.is_pushed(trace), false);
         }
-        let is_kept = answer == Err(PushError::Memory) && is_same(&trace, &self.trace);
-        let is_right = self.push(&mut trace, again).is_ok() && self.is_pushed(&trace);
-        judged(was_refused, false, is_kept && is_right)
+        let is_kept = answer == Err(PushError::Memory) && is_same(trace, &self.trace);
+        judged(
+            was_refused,
+            false,
+            is_kept && self.is_pushed_again(alloc, trace),
+        )
     }
-}
-
-fn two_steps(alloc: Global) -> Result<(Step, Step), AllocError> {
-    Ok((receive(alloc, 2, &[1])?, receive(alloc, 2, &[1])?))
 }
 
 impl Call for Push {
     // On a copy, in which no list has room to spare.
     fn attempt(&mut self, alloc: Global, refusal: Refusal) -> Outcome {
-        match (self.trace.copy(alloc), two_steps(alloc)) {
-            (Ok(trace), Ok(steps)) => self.pushed(alloc, refusal, trace, steps),
+        match (self.trace.copy(alloc), receive(alloc, 2, &[1])) {
+            (Ok(mut trace), Ok(step)) => self.pushed(alloc, refusal, &mut trace, step),
             _ => Outcome::Wrong,
         }
     }
@@ -76,12 +75,18 @@ const PUSHES: &[(u64, u64)] = &[
     (256, 257),
 ];
 
+// The first growth of which the outcome was wrong, if there was one.
+fn first_wrong_push(alloc: Global, count: u64, tick: u64) -> Option<usize> {
+    match silence(alloc, count) {
+        Some(trace) => first_wrong(alloc, &mut Push { trace, tick }),
+        None => Some(0),
+    }
+}
+
 #[test]
-fn steps_are_pushed(rt: HostRuntime) -> Result<(), Fail> {
+fn steps_are_pushed(rt: HostRuntime) {
     for &(count, tick) in PUSHES {
-        let trace = silence(rt.alloc(), count)?;
-        let wrong = first_wrong(rt.alloc(), &mut Push { trace, tick });
+        let wrong = first_wrong_push(rt.alloc(), count, tick);
         assert!(rt; wrong.is_none(), "after {count} steps: {wrong:?}");
     }
-    Ok(())
 }

@@ -6,7 +6,6 @@ use chunk_join::{AnalyseError, analyse};
 use refused_growths::{Outcome, Refusal, judged};
 use std::alloc::Global;
 use std::sync::Wait;
-use std::test::Fail;
 use std::thread::Threads;
 use step_trace::{OpenGate, Trace};
 
@@ -49,14 +48,12 @@ fn found<R: Threads + Wait + Sync>(
 const MOST_GROWTHS: usize = 1_000;
 
 // The first growth of which the outcome was wrong, if there was one.
-fn first_wrong<R: Threads + Wait + Sync>(
-    rt: &R,
-    alloc: Global,
-    trace: &Trace,
-    workers: u64,
-) -> Option<usize> {
+fn first_wrong<R: Threads + Wait + Sync>(rt: &R, alloc: Global, workers: u64) -> Option<usize> {
+    let Ok(trace) = trace_of(alloc, NEVER_DELIVERED) else {
+        return Some(0);
+    };
     for growth in 1..MOST_GROWTHS {
-        match found(rt, alloc, trace, workers, Refusal::of(growth)) {
+        match found(rt, alloc, &trace, workers, Refusal::of(growth)) {
             Outcome::Right => return None,
             Outcome::Refused => {}
             Outcome::Wrong => return Some(growth),
@@ -66,11 +63,9 @@ fn first_wrong<R: Threads + Wait + Sync>(
 }
 
 #[test]
-fn workers_find_stairs(rt: HostRuntime) -> Result<(), Fail> {
-    let trace = trace_of(rt.alloc(), NEVER_DELIVERED)?;
+fn workers_find_stairs(rt: HostRuntime) {
     for workers in [1, 3] {
-        let wrong = first_wrong(&rt, rt.alloc(), &trace, workers);
+        let wrong = first_wrong(&rt, rt.alloc(), workers);
         assert!(rt; wrong.is_none(), "{workers} workers: {wrong:?}");
     }
-    Ok(())
 }
