@@ -132,6 +132,7 @@ const BAD_HEADERS: &[&str] = &[
     "gst,delta,phi,sent,missed,proc,from\n",
     "gst,delta,phi,sent,missed,proc,from,to,\n",
     "gst,delta,phi,sent,missed,proc,to,from\n",
+    "gst,delta,phi,sent,missed,proc,from,to,,,,,,,,,,,,,,,,,,,,,,,,,,,,,,,,,,,,,,,,,,,,,,,,,,,,,,,,,,,,,,,,\n",
 ];
 
 #[test]
@@ -155,6 +156,10 @@ const RECORDS_OF_ROWS: &[(&str, &str)] = &[
     ("1,2,3,,,,\n", "BadFields(1)"),
     ("1,2,3,,,,,\n1,2,3,,,,,,\n", "BadFields(2)"),
     ("1,2,3,,,,,\n1,2,3,4,x,1,,\n", "BadNumber(2)"),
+    (
+        "1,2,3,,,,,\nx,,,,,,,,,,,,,,,,,,,,,,,,,,,,,,,,,,,,,,,,,,,,,,,,,,,,,,,,,,,,,,,,,,,,,,,,,,,,\nx\n",
+        "BadFields(2)",
+    ),
     (
         "\r\n0,0,18446744073709551615,2,1,99,7,3\r\n\"1\",2,3,,,,,",
         "2 rows",

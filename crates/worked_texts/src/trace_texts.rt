@@ -185,6 +185,142 @@ fn records_of_steps(rt: HostRuntime) -> Result<(), AllocError> {
     Ok(())
 }
 
+/// A text with this part so many times between a start and an end.
+fn repeated(
+    alloc: Global,
+    start: &str,
+    part: &str,
+    times: u64,
+    end: &str,
+) -> Result<String, AllocError> {
+    let mut text = String::from_str(alloc, start)?;
+    for _ in 0..times {
+        text.push_str(part)?;
+    }
+    text.push_str(end)?;
+    Ok(text)
+}
+
+const LONG_RECORDS: &[(&str, &str, u64, &str, &str)] = &[
+    // No record that is accepted has more than 65 fields.
+    ("", ",", 100, "", "BadHeader"),
+    (
+        "dls-trace,1,2,0",
+        ",",
+        65,
+        "\ninit,5,7\nend,0\n",
+        "BadHeader",
+    ),
+    ("dls-trace,1,64,0\ninit", ",7", 63, "\nend,0\n", "BadInit"),
+    ("dls-trace,1,64,0\ninit", ",7", 64, "\nend,0\n", "accepted"),
+    ("dls-trace,1,64,0\ninit", ",7", 65, "\nend,0\n", "BadInit"),
+    ("dls-trace,1,64,0\ninit", ",7", 66, "\nend,0\n", "BadInit"),
+    ("dls-trace,1,64,0\ninit", ",7", 67, ",x\nend,0\n", "BadInit"),
+    (
+        "dls-trace,1,2,0\ninit,5,7\n1,1,S,2",
+        ",",
+        65,
+        "\nend,1\n",
+        "BadFields(1)",
+    ),
+    (
+        "dls-trace,1,2,0\ninit,5,7\nend,0",
+        ",",
+        65,
+        "\n",
+        "BadFields(1)",
+    ),
+    (
+        "dls-trace,1,2,0\ninit,5,7\nend,0\nend",
+        ",",
+        65,
+        "\n",
+        "AfterEnd",
+    ),
+    // Fields count by record, and commas between quotes end none.
+    (
+        "dls-trace,1,2,0\ninit,5,7\n1,1,S,2\n",
+        "\r\n",
+        99,
+        "2,1,S,3\n",
+        "BadStep(2, BadDest)",
+    ),
+    (
+        "dls-trace,1,2,0\ninit,5,7\n1,1,X,\"",
+        ",",
+        99,
+        "\"\nend,1\n",
+        "BadOp(1)",
+    ),
+    (
+        "dls-trace,1,2,0\ninit,5,7\n1,1,X,\"\"\"",
+        ",\n",
+        99,
+        "\"\nend,1\n",
+        "BadOp(1)",
+    ),
+    (
+        "dls-trace,1,2,0\ninit,5,7\n1,1,S,\"\"",
+        "\",",
+        99,
+        "\nend,1\n",
+        "BadFields(1)",
+    ),
+    // A byte order mark before the header.
+    (
+        "\u{feff}dls-trace,1,2,0\ninit",
+        ",5",
+        2,
+        "\nend,0\n",
+        "accepted",
+    ),
+    (
+        "\u{feff}\"dls-trace\",1,64,0\ninit",
+        ",7",
+        66,
+        "\nend,0\n",
+        "BadInit",
+    ),
+    // Ids that don't rise, and the first reason among others.
+    (
+        "dls-trace,1,2,0\ninit,5,7\n1,1,R,1",
+        " 1",
+        99,
+        "\nend,1\n",
+        "BadStep(1, IdsNotRising)",
+    ),
+    (
+        "dls-trace,1,2,0\ninit,5,7\n1,1,R,1",
+        " 1",
+        99,
+        " x\nend,1\n",
+        "BadNumber(1)",
+    ),
+    (
+        "dls-trace,1,2,0\ninit,5,7\n1,3,R,1",
+        " 1",
+        99,
+        "\nend,1\n",
+        "BadStep(1, BadProc)",
+    ),
+    (
+        "dls-trace,1,2,0\ninit,5,7\n1,1,R,9 8",
+        " 9",
+        99,
+        "\nend,1\n",
+        "BadStep(1, IdsNotRising)",
+    ),
+];
+
+#[test]
+fn long_records(rt: HostRuntime) -> Result<(), AllocError> {
+    for &(start, part, times, end, wanted) in LONG_RECORDS {
+        let text = repeated(rt.alloc(), start, part, times, end)?;
+        assert!(rt; is_answer(rt.alloc(), text.as_bytes(), wanted)?, "{text}");
+    }
+    Ok(())
+}
+
 /// The answer for the first k bytes of one-miss.
 fn answer_of_cut(k: usize) -> &'static str {
     match k {
