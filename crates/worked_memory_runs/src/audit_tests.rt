@@ -2,7 +2,7 @@
 
 use crate::changes::{Answer, Change, Lent, first_wrong_change};
 use crate::recorders::{Bench, bench_before, steps_before};
-use crate::scripts::{SCRIPTS, Script};
+use crate::scripts::{NAMES, Script, script_of};
 use locked_recorder::{AuditError, MineError, Recorder, Seat, View};
 use refused_growths::{LentCall, first_wrong_lent};
 use std::alloc::{AllocError, Global};
@@ -88,7 +88,8 @@ fn is_swept<R: Wait>(rt: &R, alloc: Global, script: &Script, is_audit: bool) -> 
 
 #[test]
 fn looks_are_refused(rt: HostRuntime) {
-    for script in SCRIPTS {
+    for &name in NAMES {
+        let script = script_of(name);
         for is_audit in [false, true] {
             assert!(rt;
                 is_swept(&rt, rt.alloc(), script, is_audit),
@@ -163,7 +164,8 @@ impl Lent for Recorders {
 
 #[test]
 fn worlds_are_taken_out(rt: HostRuntime) {
-    for script in SCRIPTS {
+    for &name in NAMES {
+        let script = script_of(name);
         let wrong = first_wrong_change(rt.alloc(), &TakeOut { rt: &rt, script });
         assert_eq!(rt; wrong, None, "{}", script.name);
     }

@@ -2,7 +2,7 @@
 
 use crate::changes::{Answer, Change, Lent, first_wrong_change};
 use crate::recorders::{Bench, bench_before, seat_of, steps_before};
-use crate::scripts::{BUFFERS, DECIDES, END_ALL, Row, SEND, Script};
+use crate::scripts::{END_ALL, Name, Row, SEND, script_of};
 use locked_recorder::{DriveError, DriveStop, RecordError};
 use std::alloc::Global;
 use std::sync::Wait;
@@ -12,7 +12,7 @@ use step_trace::OpenGate;
 /// How many steps 1 makes in one go before the row of this index of a script, how many Receives end its rounds, and
 /// what comes of the last step.
 struct Driven {
-    script: &'static Script,
+    name: Name,
     index: usize,
     patience: u64,
     steps: usize,
@@ -22,7 +22,7 @@ struct Driven {
 const DRIVEN: &[Driven] = &[
     // 1 decides by what 2, which went alone, said in rounds 4, 8 and 9.
     Driven {
-        script: &BUFFERS,
+        name: Name::Buffers,
         index: 0,
         patience: 1,
         steps: 21,
@@ -30,14 +30,14 @@ const DRIVEN: &[Driven] = &[
     },
     // 1 goes alone after the three lists.
     Driven {
-        script: &DECIDES,
+        name: Name::Decides,
         index: 3,
         patience: 1,
         steps: 11,
         last: ((1, END_ALL), &[11], 5, None, &[]),
     },
     Driven {
-        script: &DECIDES,
+        name: Name::Decides,
         index: 3,
         patience: 2,
         steps: 12,
@@ -64,10 +64,11 @@ impl<'a, R: Wait> Change for Drive<'a, R> {
     type What = Drives<'a, R>;
 
     fn lent(&self, alloc: Global) -> Option<Drives<'a, R>> {
-        let bench = bench_before(self.rt, alloc, self.driven.script, self.driven.index)?;
+        let script = script_of(self.driven.name);
+        let bench = bench_before(self.rt, alloc, script, self.driven.index)?;
         Some(Drives {
             bench,
-            before: steps_before(self.driven.script, self.driven.index),
+            before: steps_before(script, self.driven.index),
             made: 0,
             driven: self.driven,
         })
@@ -132,6 +133,6 @@ impl<R: Wait> Lent for Drives<'_, R> {
 fn drives_are_refused(rt: HostRuntime) {
     for driven in DRIVEN {
         let wrong = first_wrong_change(rt.alloc(), &Drive { rt: &rt, driven });
-        assert_eq!(rt; wrong, None, "{}", driven.script.name);
+        assert_eq!(rt; wrong, None, "{} steps", driven.steps);
     }
 }

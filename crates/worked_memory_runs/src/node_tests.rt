@@ -1,7 +1,7 @@
 //! Calls of nodes, which are those of Worlds.
 
 use crate::changes::{Answer, Change, Lent, first_wrong_change};
-use crate::scripts::{BUFFERS, DECIDES, Script};
+use crate::scripts::{Name, script_of};
 use crate::worlds::{is_same_node, world_before};
 use lock_phases::{Body, Kind, Node};
 use refused_growths::{LentCall, first_wrong_lent};
@@ -72,7 +72,7 @@ const ASKED: &[Asked] = &[
 #[test]
 fn nodes_are_asked(rt: HostRuntime) {
     for &asked in ASKED {
-        let Some(world) = world_before(rt.alloc(), &DECIDES, 18) else {
+        let Some(world) = world_before(rt.alloc(), script_of(Name::Decides), 18) else {
             assert!(rt; false, "no World");
             return;
         };
@@ -132,7 +132,7 @@ impl Lent for Hears {
 
 /// A node of a script's World before the row of this index, that hears what another sends it.
 struct Computes {
-    script: &'static Script,
+    name: Name,
     index: usize,
     hearing: Hearing,
 }
@@ -161,7 +161,7 @@ impl Change for Computes {
     type What = Hears;
 
     fn lent(&self, alloc: Global) -> Option<Hears> {
-        let world = world_before(alloc, self.script, self.index)?;
+        let world = world_before(alloc, script_of(self.name), self.index)?;
         let me = self.hearing.0;
         Some(Hears {
             config: world.trace().config().copy(alloc).ok()?,
@@ -176,19 +176,19 @@ impl Change for Computes {
 const COMPUTED: &[Computes] = &[
     // A list with a new value.
     Computes {
-        script: &DECIDES,
+        name: Name::Decides,
         index: 3,
         hearing: (1, 2, 1, &[5, 7], &[], false),
     },
     // A lock, and a new value.
     Computes {
-        script: &DECIDES,
+        name: Name::Decides,
         index: 9,
         hearing: (2, 1, 2, &[5, 7], &[(7, 1)], true),
     },
     // No locks, and a new value.
     Computes {
-        script: &BUFFERS,
+        name: Name::Buffers,
         index: 8,
         hearing: (2, 1, 4, &[5, 7], &[], false),
     },

@@ -2,7 +2,7 @@
 
 use crate::changes::{Answer, Change, Lent, first_wrong_change};
 use crate::recorders::{Bench, bench_before};
-use crate::scripts::{DECIDES, MakeSteps, Step, WAIT};
+use crate::scripts::{MakeSteps, Name, Step, WAIT, script_of};
 use crate::worlds::is_same_trace;
 use locked_recorder::{PrefixError, View};
 use std::alloc::Global;
@@ -44,7 +44,7 @@ struct Shows<'a, R> {
 
 // A view that was shown this.
 fn view_of<R: Wait>(rt: &R, alloc: Global, seen: Seen) -> Option<View> {
-    let mut bench = bench_before(rt, alloc, &DECIDES, BEFORE)?;
+    let mut bench = bench_before(rt, alloc, script_of(Name::Decides), BEFORE)?;
     let mut view = bench.recorder.view();
     if seen == Seen::Nothing {
         return Some(view);
@@ -67,7 +67,7 @@ impl<'a, R: Wait> Change for Prefix<'a, R> {
     type What = Shows<'a, R>;
 
     fn lent(&self, alloc: Global) -> Option<Shows<'a, R>> {
-        let bench = bench_before(self.rt, alloc, &DECIDES, NOW)?;
+        let bench = bench_before(self.rt, alloc, script_of(Name::Decides), NOW)?;
         let view = view_of(self.rt, alloc, self.seen)?;
         let before = copied(alloc, &view);
         Some(Shows {

@@ -2,7 +2,7 @@
 
 use crate::changes::{Answer, Change, Lent, first_wrong_change};
 use crate::recorders::{Bench, bench_before, seat_of, steps_before};
-use crate::scripts::{Row, SCRIPTS, Script};
+use crate::scripts::{NAMES, Row, Script, script_of};
 use crate::worlds::is_done;
 use locked_recorder::{RecordError, Recorder, Seat};
 use std::alloc::Global;
@@ -114,7 +114,8 @@ fn first_wrong_row<R: Wait>(
 
 #[test]
 fn steps_of_seats_are_refused(rt: HostRuntime) {
-    for script in SCRIPTS {
+    for &name in NAMES {
+        let script = script_of(name);
         for is_by_seat in [false, true] {
             let wrong = first_wrong_row(&rt, rt.alloc(), script, is_by_seat);
             assert!(rt; wrong.is_none(), "{}: {wrong:?}", script.name);

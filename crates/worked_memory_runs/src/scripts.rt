@@ -120,8 +120,8 @@ const PAGED: &[Row] = &[
     ((1, SEND), &[1], 1, None, &[257]),
 ];
 
-/// Three processors that decide 7.
-pub const DECIDES: Script = Script {
+// Three processors that decide 7.
+static DECIDES: Script = Script {
     name: "decides",
     t: 1,
     init: &[5, 7, 7],
@@ -130,8 +130,8 @@ pub const DECIDES: Script = Script {
     rows: DECIDING,
 };
 
-/// Messages that are taken in any order, long before their round.
-pub const BUFFERS: Script = Script {
+// Messages that are taken in any order, long before their round.
+static BUFFERS: Script = Script {
     name: "buffers",
     t: 0,
     init: &[5, 7],
@@ -140,8 +140,8 @@ pub const BUFFERS: Script = Script {
     rows: BUFFERED,
 };
 
-/// A page of steps that becomes full.
-pub const PAGES: Script = Script {
+// A page of steps that becomes full.
+static PAGES: Script = Script {
     name: "pages",
     t: 0,
     init: &[5, 7],
@@ -150,7 +150,24 @@ pub const PAGES: Script = Script {
     rows: PAGED,
 };
 
-pub const SCRIPTS: &[Script] = &[DECIDES, BUFFERS, PAGES];
+/// The name of a script.
+#[derive(Clone, Copy)]
+pub enum Name {
+    Decides,
+    Buffers,
+    Pages,
+}
+
+pub const NAMES: &[Name] = &[Name::Decides, Name::Buffers, Name::Pages];
+
+/// The script of this name. (Its tables stand in this function alone: one that names them takes longer to prove.)
+pub fn script_of(name: Name) -> &'static Script {
+    match name {
+        Name::Decides => &DECIDES,
+        Name::Buffers => &BUFFERS,
+        Name::Pages => &PAGES,
+    }
+}
 
 /// What makes steps.
 pub trait MakeSteps {

@@ -1,7 +1,7 @@
 //! Steps of a World.
 
 use crate::changes::{Answer, Change, Lent, first_wrong_change};
-use crate::scripts::{Row, SCRIPTS, Script};
+use crate::scripts::{NAMES, Row, Script, script_of};
 use crate::worlds::{has_made, is_done, is_same_world, world_before};
 use std::alloc::Global;
 use step_buffers::{StepError, World};
@@ -99,7 +99,8 @@ fn first_wrong_row(
 
 #[test]
 fn steps_are_refused(rt: HostRuntime) {
-    for script in SCRIPTS {
+    for &name in NAMES {
+        let script = script_of(name);
         for (is_copy, is_told) in [(false, false), (false, true), (true, false), (true, true)] {
             let wrong = first_wrong_row(rt.alloc(), script, is_copy, is_told);
             assert!(rt; wrong.is_none(), "{}: {wrong:?}", script.name);

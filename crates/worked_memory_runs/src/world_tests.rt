@@ -1,6 +1,6 @@
 //! Copies of a World, and Worlds that are made again of its trace.
 
-use crate::scripts::{SCRIPTS, Script};
+use crate::scripts::{NAMES, Script, script_of};
 use crate::worlds::{is_same_trace, is_same_world, world_before};
 use refused_growths::{LentCall, first_wrong_lent};
 use std::alloc::{AllocError, Global};
@@ -79,7 +79,8 @@ fn is_swept<C: LentCall>(alloc: Global, call: Option<C>) -> bool {
 
 #[test]
 fn worlds_are_copied_and_made_again(rt: HostRuntime) {
-    for script in SCRIPTS {
+    for &name in NAMES {
+        let script = script_of(name);
         assert!(rt;
             is_swept(rt.alloc(), copies_of(rt.alloc(), script)),
             "{}",
