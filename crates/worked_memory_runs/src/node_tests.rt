@@ -7,7 +7,6 @@ use lock_phases::{Body, Kind, Node};
 use refused_growths::{LentCall, first_wrong_lent};
 use std::alloc::{AllocError, Global};
 use step_buffers::World;
-use step_trace::Config;
 
 /// What is asked of a node: a copy; or what it sends to 2 in a round, the values of a list, or locks.
 #[derive(Clone, Copy, Debug)]
@@ -85,11 +84,11 @@ fn nodes_are_asked(rt: HostRuntime) {
 /// then has, and whether it then owes an acknowledgement.
 type Hearing = (u64, u64, u64, &'static [u64], &'static [(u64, u64)], bool);
 
+/// A World with a copy of the node that hears this body in it.
 #[derive(Drop)]
 struct Hears {
-    config: Config,
+    world: World,
     node: Node,
-    before: Node,
     body: Body,
     hearing: Hearing,
 }
@@ -97,12 +96,13 @@ struct Hears {
 impl Hears {
     fn compute(&mut self, alloc: Global) -> Result<bool, AllocError> {
         let (me, sender, round, ..) = self.hearing;
-        if !self.config.is_processor(me) || !self.config.is_processor(sender) || round == 0 {
+        let config = self.world.trace().config();
+        if !config.is_processor(me) || !config.is_processor(sender) || round == 0 {
             return Ok(false);
         }
         let body = self.body.clone()?;
         self.node
-            .compute(alloc, &self.config, me, round, &[(sender, body)])?;
+            .compute(alloc, config, me, round, &[(sender, body)])?;
         Ok(true)
     }
 }
@@ -117,7 +117,9 @@ impl Lent for Hears {
     }
 
     fn is_as_before(&self, _alloc: Global) -> bool {
-        is_same_node(&self.node, &self.before)
+        let me = self.hearing.0;
+        self.world.trace().config().is_processor(me)
+            && is_same_node(&self.node, self.world.node(me))
     }
 
     fn is_made(&self, _alloc: Global) -> bool {
@@ -162,12 +164,12 @@ impl Change for Computes {
 
     fn lent(&self, alloc: Global) -> Option<Hears> {
         let world = world_before(alloc, script_of(self.name), self.index)?;
-        let me = self.hearing.0;
+        let node = node_of(alloc, &world, self.hearing.0)?;
+        let body = body_of(alloc, &world, self.hearing)?;
         Some(Hears {
-            config: world.trace().config().copy(alloc).ok()?,
-            node: node_of(alloc, &world, me)?,
-            before: node_of(alloc, &world, me)?,
-            body: body_of(alloc, &world, self.hearing)?,
+            world,
+            node,
+            body,
             hearing: self.hearing,
         })
     }

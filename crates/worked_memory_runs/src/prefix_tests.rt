@@ -42,20 +42,22 @@ struct Shows<'a, R> {
     seen: Seen,
 }
 
-// A view that was shown this.
-fn view_of<R: Wait>(rt: &R, alloc: Global, seen: Seen) -> Option<View> {
-    let mut bench = bench_before(rt, alloc, script_of(Name::Decides), BEFORE)?;
+// A view of a recorder that was shown nothing, or all that was done.
+fn shown<R: Wait>(bench: &Bench<'_, R>, alloc: Global, seen: Seen) -> Option<View> {
     let mut view = bench.recorder.view();
-    if seen == Seen::Nothing {
-        return Some(view);
-    }
-    if seen == Seen::Foreign && !bench.makes(alloc, FOREIGN) {
-        return None;
-    }
-    if bench.recorder.prefix(rt, alloc, &mut view).is_err() {
+    if seen != Seen::Nothing && bench.recorder.prefix(bench.rt, alloc, &mut view).is_err() {
         return None;
     }
     Some(view)
+}
+
+// A view that was shown this.
+fn view_of<R: Wait>(rt: &R, alloc: Global, seen: Seen) -> Option<View> {
+    let mut bench = bench_before(rt, alloc, script_of(Name::Decides), BEFORE)?;
+    if seen == Seen::Foreign && !bench.makes(alloc, FOREIGN) {
+        return None;
+    }
+    shown(&bench, alloc, seen)
 }
 
 // A copy of what a view was shown.
