@@ -1,6 +1,7 @@
 //! Values that are made of plain ones.
 
 use lock_phases::{LockPairs, Node, Values};
+use locked_recorder::Recorder;
 use refused_growths::{LentCall, first_wrong_lent};
 use round_model::Heard;
 use std::alloc::{AllocError, Global};
@@ -14,14 +15,24 @@ enum Made {
     LockPairs,
     Heard,
     World,
+    Recorder,
+}
+
+// The configuration of two processors, which is a right one.
+fn config(alloc: Global) -> Result<Config, AllocError> {
+    let init = Vec::from_slice(alloc, &[5, 7])?;
+    Config::new(2, 0, init).map_err(|_| AllocError)
+}
+
+// Whether a recorder of two seats is made.
+fn is_recorder_made(alloc: Global) -> Result<bool, AllocError> {
+    let (_, seats) = Recorder::new(alloc, config(alloc)?, 1, 1_000)?;
+    Ok(seats.len() == 2 && seats.iter().all(|seat| seat.done().is_empty()))
 }
 
 // Whether the World of two processors is made.
 fn is_world_made(alloc: Global) -> Result<bool, AllocError> {
-    let init = Vec::from_slice(alloc, &[5, 7])?;
-    let Ok(config) = Config::new(2, 0, init) else {
-        return Ok(false);
-    };
+    let config = config(alloc)?;
     let world = World::new(alloc, config, 1_000)?;
     Ok(world.trace().is_empty() && world.limit() == 1_000)
 }
@@ -43,6 +54,7 @@ impl LentCall for Made {
                 Ok(heard.n() == 3 && heard.rounds() == 8)
             }
             Made::World => is_world_made(alloc),
+            Made::Recorder => is_recorder_made(alloc),
         }
     }
 
@@ -57,6 +69,7 @@ const MADE: &[Made] = &[
     Made::LockPairs,
     Made::Heard,
     Made::World,
+    Made::Recorder,
 ];
 
 #[test]
