@@ -10,6 +10,8 @@ ghost use Rattle.step_trace.specs.declared.traces.TheConstants.{MAX_STEPS};
 mod followers;
 mod line_faults;
 #[cfg(test)]
+mod memory_tests;
+#[cfg(test)]
 mod run_tests;
 mod runs;
 

@@ -71,7 +71,7 @@ fn run_two<R: Threads + Wait + Clock + Sync, G: Gate>(
 }
 
 /// How many steps the run of a text has, if it is one.
-fn steps_of(alloc: Global, text: &[u8]) -> Option<usize> {
+pub(crate) fn steps_of(alloc: Global, text: &[u8]) -> Option<usize> {
     let trace = read_trace(alloc, text).ok()?;
     let world = replay(alloc, &trace).ok()?;
     Some(world.trace().len())
@@ -192,7 +192,7 @@ const FOLLOWED: &[(u64, &str)] = &[
 ];
 
 /// The last line of a text, without its line feed.
-fn last_line(text: &[u8]) -> Option<&str> {
+pub(crate) fn last_line(text: &[u8]) -> Option<&str> {
     std::str::from_utf8(text).ok()?.lines().last()
 }
 
