@@ -1,0 +1,156 @@
+//! The commands that make text of text.
+
+use chunk_join::MAX_WORKERS;
+use refused_growths::{Outcome, Refusal, judged};
+use std::alloc::{AllocError, Global};
+use std::sync::Wait;
+use std::thread::Threads;
+use step_trace::{OpenGate, ProcSet};
+use text_commands::{Fault, run_check, run_replay, run_report, run_upgrade};
+use trace_text::Counting;
+
+const NEVER_DELIVERED: &str =
+    "dls-trace,1,2,0\ninit,5,7\n1,1,S,2\n2,2,R,\n3,1,S,2\n4,2,R,3\n5,2,R,\nend,5\n";
+
+const NEVER_DELIVERED_REPORT: &str =
+    "gst,delta,phi,sent,missed,proc,from,to\n1,5,3,1,5,1,4,5\n2,1,3,,,1,4,5\n5,1,2,,,1,5,5\n";
+
+const SMALL_PHI: &str =
+    "gst,delta,phi,sent,missed,proc,from,to\n1,5,3,1,5,1,4,5\n2,1,3,,,1,4,5\n5,1,1,,,,,\n";
+
+const ONE_MISS: &str = "dls-trace,1,2,0\ninit,5,7\n1,1,S,2\n2,2,R,\n3,2,R,1\nend,3\n";
+
+const ONE_MISS_UPGRADE: &str = "dls-trace,2,2,0\ninit,5,7\n1,1,1,S,2\n2,2,2,R,\n3,3,2,R,1\nend,3\n";
+
+const DECIDES_SEVEN: &str = "dls-trace,1,3,1\ninit,5,7,7\n1,1,S,1\n2,2,S,1\n3,3,S,1\n\
+    4,1,E,1 2 3\n5,2,E,\n6,3,E,\n7,1,S,1\n8,1,S,2\n9,1,S,3\n10,1,E,7\n11,2,E,8\n12,3,E,9\n13,1,S,1\n\
+    14,2,S,1\n15,3,S,1\n16,1,E,13 14 15\n17,2,E,\n18,3,E,\nend,18\n";
+
+const DECIDES_SEVEN_REPLAY: &str = "proc,round,decision\n1,4,7\n2,4,\n3,4,\n";
+
+/// Room for more than any command writes here, so that an output never grows.
+const ROOM: usize = 1_000;
+
+/// More growths than any command makes here.
+const MOST_GROWTHS: usize = 1_000;
+
+/// A command, and what it is given beside its trace text. Processors 1 and 2 are correct.
+#[derive(Clone, Copy)]
+enum Command {
+    /// By so many workers.
+    Report(u64),
+    Replay,
+    Upgrade,
+    /// Of this certificate.
+    Check(&'static str),
+}
+
+/// A command with its trace text, and what it writes where memory is ample.
+#[derive(Clone, Copy)]
+struct Served {
+    command: Command,
+    text: &'static str,
+    wanted: &'static str,
+}
+
+fn ended<T: Threads + Wait + Sync>(
+    rt: &T,
+    alloc: Global,
+    served: Served,
+    output: &mut Vec<u8>,
+) -> Result<(), Fault> {
+    let both = ProcSet::empty().with(1).with(2);
+    let mut trace = Counting::new(served.text.as_bytes());
+    let mut output = Counting::new(output);
+    match served.command {
+        Command::Report(workers) => {
+            if workers < 1 || workers > MAX_WORKERS {
+                return Err(Fault::Set);
+            }
+            run_report(rt, alloc, &mut trace, &mut output, both, workers, &OpenGate)
+        }
+        Command::Replay => run_replay(alloc, &mut trace, &mut output),
+        Command::Upgrade => run_upgrade(alloc, &mut trace, &mut output),
+        Command::Check(rows) => {
+            let mut rows = Counting::new(rows.as_bytes());
+            let _verdict = run_check(alloc, &mut trace, &mut rows, &mut output, both)?;
+            Ok(())
+        }
+    }
+}
+
+/// Whether a command writes what it should. Fails where it ends with want of memory, or where it starts threads with
+/// one that wasn't started, which takes memory too.
+fn writes<T: Threads + Wait + Sync>(
+    rt: &T,
+    alloc: Global,
+    served: Served,
+    output: &mut Vec<u8>,
+) -> Result<bool, AllocError> {
+    match (ended(rt, alloc, served, output), served.command) {
+        (Ok(()), _) => Ok(output.as_slice() == served.wanted.as_bytes()),
+        (Err(Fault::Memory), _) | (Err(Fault::Threads), Command::Report(_)) => Err(AllocError),
+        (Err(_), _) => Ok(false),
+    }
+}
+
+fn attempt<T: Threads + Wait + Sync>(
+    rt: &T,
+    alloc: Global,
+    served: Served,
+    refusal: Refusal,
+) -> Outcome {
+    let Ok(mut output) = Vec::with_capacity(alloc, ROOM) else {
+        return Outcome::Wrong;
+    };
+    refusal.begin(alloc);
+    let answer = writes(rt, alloc, served, &mut output);
+    let was_refused = refusal.end(alloc);
+    let is_wanting = answer.is_err() && output.is_empty();
+    let again = is_wanting && writes(rt, alloc, served, &mut output) == Ok(true);
+    judged(was_refused, answer == Ok(true), again)
+}
+
+/// The first growth of which the outcome was wrong, if there was one. It is no `Call`, whose implementors can't start
+/// threads.
+fn first_wrong<T: Threads + Wait + Sync>(rt: &T, alloc: Global, served: Served) -> Option<usize> {
+    for growth in 1..MOST_GROWTHS {
+        match attempt(rt, alloc, served, Refusal::of(growth)) {
+            Outcome::Right => return None,
+            Outcome::Refused => {}
+            Outcome::Wrong => return Some(growth),
+        }
+    }
+    Some(MOST_GROWTHS)
+}
+
+/// Commands, their trace texts, and what they write.
+const SERVED: &[(Command, &str, &str)] = &[
+    (Command::Report(1), NEVER_DELIVERED, NEVER_DELIVERED_REPORT),
+    (Command::Report(3), NEVER_DELIVERED, NEVER_DELIVERED_REPORT),
+    (Command::Replay, DECIDES_SEVEN, DECIDES_SEVEN_REPLAY),
+    (Command::Upgrade, ONE_MISS, ONE_MISS_UPGRADE),
+    (
+        Command::Check(NEVER_DELIVERED_REPORT),
+        NEVER_DELIVERED,
+        "yes\n",
+    ),
+    (
+        Command::Check(SMALL_PHI),
+        NEVER_DELIVERED,
+        "no PhiFails 3 1 5 5\n",
+    ),
+];
+
+#[test]
+fn commands_want_memory(rt: HostRuntime) {
+    for &(command, text, wanted) in SERVED {
+        let served = Served {
+            command,
+            text,
+            wanted,
+        };
+        let wrong = first_wrong(&rt, rt.alloc(), served);
+        assert!(rt; wrong.is_none(), "{wanted}: growth {wrong:?}");
+    }
+}
