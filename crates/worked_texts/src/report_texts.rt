@@ -5,8 +5,8 @@ use std::alloc::{AllocError, Global};
 use std::io::ErrorKind;
 use std::test::Fail;
 use step_trace::{Gap, Miss, Row};
-use trace_text::failing_devices::{AfterBytes, FailingReader};
-use trace_text::{Counting, MAX_TEXT_BYTES};
+use trace_text::failing_devices::{AfterBytes, FailingReader, FailingWriter, WriteFailure};
+use trace_text::{Counting, MAX_TEXT_BYTES, WriteError};
 
 /// The report of a trace with one miss, 83 bytes.
 const ONE_MISS: &str =
@@ -230,6 +230,34 @@ fn readers_that_never_end(rt: HostRuntime) {
     let device = FailingReader::new(ONE_MISS.as_bytes(), 65_536, AfterBytes::Repeat(b'x'));
     let answer = read_report(rt.alloc(), &mut Counting::new(device));
     assert!(rt; matches!(&answer, Err(ReportError::TooLarge)));
+}
+
+/// Whether the report stops after `count` bytes, and those are on the device.
+fn stops_after(alloc: Global, failure: WriteFailure, count: usize) -> bool {
+    let mut device = FailingWriter::new(alloc, 7, failure);
+    let answer = write_report(alloc, &ONE_MISS_ROWS, &mut Counting::new(&mut device));
+    let is_refused = matches!(&answer, Err(WriteError::Write(written)) if *written == count as u64);
+    is_refused && Some(device.taken()) == ONE_MISS.as_bytes().get(..count)
+}
+
+#[test]
+fn writers_that_fail_or_stall(rt: HostRuntime) {
+    for count in 0..83 {
+        for failure in [
+            WriteFailure::FailAfter(count, ErrorKind::Other),
+            WriteFailure::FailAfter(count, ErrorKind::Interrupted),
+            WriteFailure::TakeNothingAfter(count),
+        ] {
+            assert!(rt; stops_after(rt.alloc(), failure, count), "{failure:?}");
+        }
+    }
+}
+
+#[test]
+fn writers_that_fail_at_the_flush(rt: HostRuntime) {
+    for kind in [ErrorKind::Other, ErrorKind::Interrupted] {
+        assert!(rt; stops_after(rt.alloc(), WriteFailure::FailFlush(kind), 83));
+    }
 }
 
 #[test]
