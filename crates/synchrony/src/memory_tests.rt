@@ -40,7 +40,32 @@ fn three_nodes(alloc: Global) -> Option<Config>
     Config::new(3, 1, init).ok()
 }
 
-/// Runs three nodes of 20 steps each, followed for the first two or not at all.
+/// Runs the three nodes, each of which makes 20 steps, followed for a set if there is one.
+fn run_three<R: Threads + Wait + Clock + Sync>(
+    rt: &R,
+    alloc: Global,
+    config: &Config,
+    follow: Option<ProcSet>,
+    errors: &mut Vec<u8>,
+    output: &mut Vec<u8>,
+) -> Result<(), Fault>
+    requires { config.now.n ≡ 3 }
+{
+    let mut follower = follower_for(alloc, config, follow, 60, Counting::new(errors))?;
+    let mut output = Counting::new(output);
+    run_nodes(
+        rt,
+        alloc,
+        config,
+        1,
+        20,
+        &OpenGate,
+        &mut follower,
+        &mut output,
+    )
+}
+
+/// How a run ends, followed for the first two nodes or not at all.
 fn run<R: Threads + Wait + Clock + Sync>(
     rt: &R,
     alloc: Global,
@@ -51,25 +76,8 @@ fn run<R: Threads + Wait + Clock + Sync>(
     let Some(config) = three_nodes(alloc) else {
         return Ending::Wanting;
     };
-    let follow = if is_followed {
-        Some(ProcSet::empty().with(1).with(2))
-    } else {
-        None
-    };
-    let Ok(mut follower) = follower_for(alloc, &config, follow, 60, Counting::new(errors)) else {
-        return Ending::Faulty;
-    };
-    let mut output = Counting::new(output);
-    match run_nodes(
-        rt,
-        alloc,
-        &config,
-        1,
-        20,
-        &OpenGate,
-        &mut follower,
-        &mut output,
-    ) {
+    let follow = is_followed.then_some(ProcSet::empty().with(1).with(2));
+    match run_three(rt, alloc, &config, follow, errors, output) {
         Ok(()) => Ending::Made,
         Err(Fault::Memory | Fault::Threads) => Ending::Wanting,
         Err(_) => Ending::Faulty,
