@@ -1,3 +1,4 @@
+pub mod ListEnds
 pub mod RowSearches
 pub mod ReasonOrder
 pub mod StepFacts
@@ -23,4 +24,5 @@ pub mod FrontRows
 pub mod Completeness
 pub mod Exactness
 pub mod OneVerdict
+pub mod ClaimVerdicts
 pub mod VerdictLaws

@@ -1,8 +1,8 @@
 -- Gaps by the next steps of processors, and the longest gap that begins in one tick.
-use Rattle.std.proofs.Common.{ℕ, ◌≡◌, ◌+◌, ◌-◌, ◌<◌, ◌≤◌, ◌⊎◌, inl, inr, List, [], ◌∷◌, ◌++◌, length, get_or, Some, IsTrue, refl, ap, sym, subst, ◌∙◌, suc, zero, arith}
+use Rattle.std.proofs.Common.{ℕ, ◌≡◌, ◌+◌, ◌-◌, ◌<◌, ◌≤◌, inl, inr, List, [], ◌∷◌, ◌++◌, length, get_or, Some, IsTrue, refl, ap, sym, subst, ◌∙◌, suc, zero, arith}
 use Rattle.std.specs.Prelude.{slice_get}
 use Rattle.std.proofs.lemmas.Bool.{cases_eq, cases_lt}
-use Rattle.std.proofs.lemmas.Option.{slice_get_read, none-some, same_Some}
+use Rattle.std.proofs.lemmas.Option.{slice_get_read}
 use Rattle.std.proofs.lemmas.List.{length-append}
 use Rattle.step_trace.specs.declared.rows.Gap.{Gap}
 use Rattle.step_trace.specs.Processors.{has_proc, IsWithin}
@@ -11,6 +11,7 @@ use Rattle.step_trace.specs.Witnesses.{IsGap}
 use Rattle.certificate_checker.specs.declared.silences.Silence.{Silence}
 use Rattle.certificate_checker.specs.Silences.{IsNextStep, IsSilence, AreSilences}
 use Rattle.certificate_checker.specs.LongestWitnesses.{HasNoGapAt, IsLongestGapAt}
+use Rattle.certificate_checker.proofs.ListEnds.{slice_get-push}
 
 -- the silence of a member, where it is read
 pub silence_of : (set : ℕ) (t : Recorded) (silences : List Silence) (p : ℕ) (s : Silence) → AreSilences set t silences → IsTrue (has_proc set p) → p ≤ t.config.n → s ≡ get_or silences p s → IsSilence t p s
@@ -20,18 +21,9 @@ silence_of set t silences p s k member within e = let long = k.long in k.each p 
 pub pushed_long : (list new : List Silence) (s : Silence) (p : ℕ) → new ≡ list ++ s ∷ [] → length list ≡ p → length new ≡ p + 1
 pushed_long list new s p e long = ap (λ (xs : List Silence). length xs) e ∙ length-append list (s ∷ []) ∙ ap (λ (n : ℕ). n + 1) long
 
-pushed_cases : (list : List Silence) (s x : Silence) (k : ℕ) → slice_get (list ++ s ∷ []) k ≡ Some x → (slice_get list k ≡ Some x) ⊎ ((k ≡ length list) × (s ≡ x))
-pushed_cases [] s x zero e = inr (refl, same_Some s x e)
-pushed_cases [] s x (suc k) e = absurd (none-some x e)
-pushed_cases (y ∷ list) s x zero e = inl e
-pushed_cases (y ∷ list) s x (suc k) e = elim (pushed_cases list s x k e) [
-  | inl h ↦ inl h
-  | inr h ↦ inr (ap (λ (n : ℕ). suc n) h.0, h.1)
-]
-
 pub pushed_each : (Holds : ℕ → Silence → Type 0) (list new : List Silence) (s : Silence) (p : ℕ) → new ≡ list ++ s ∷ [] → length list ≡ p → ((q : ℕ) (x : Silence) → slice_get list q ≡ Some x → Holds q x) → Holds p s
     → (q : ℕ) (x : Silence) → slice_get new q ≡ Some x → Holds q x
-pushed_each Holds list new s p e long each here q x h = elim (pushed_cases list s x q (subst (λ (xs : List Silence). slice_get xs q ≡ Some x) e h)) [
+pushed_each Holds list new s p e long each here q x h = elim (slice_get-push list s x q (subst (λ (xs : List Silence). slice_get xs q ≡ Some x) e h)) [
   | inl old ↦ each q x old
   | inr last ↦ subst (λ (m : ℕ). Holds m x) (sym (last.0 ∙ long)) (subst (λ (y : Silence). Holds p y) last.1 here)
 ]

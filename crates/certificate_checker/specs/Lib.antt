@@ -1,6 +1,7 @@
 pub mod Certificates
 pub mod Verdicts
 pub mod Searches
+pub mod Claims
 pub mod Receives
 pub mod Silences
 pub mod LongestWitnesses

@@ -4,6 +4,7 @@
 
 mod bounds;
 mod certificates;
+mod claims;
 mod closings;
 mod first_reasons;
 mod gaps;
@@ -17,6 +18,7 @@ mod verdicts;
 mod witnesses;
 
 pub use certificates::check;
+pub use claims::{ClaimedRows, RowList, check_claimed};
 pub use laws::certificate_laws;
 pub use step_trace::{Gap, Miss, Row};
 pub use verdicts::{Reason, Verdict};

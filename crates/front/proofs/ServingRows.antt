@@ -1,5 +1,5 @@
 -- The rows of a report serve every tick of the trace.
-use Rattle.std.proofs.Common.{ℕ, ◌≡◌, ◌+◌, ◌<◌, ◌≤◌, inl, inr, List, [], ◌∷◌, length, map, Contains, Option, Some, None, Bool, true, false, refl, sym, subst, ap, suc, zero, arith}
+use Rattle.std.proofs.Common.{ℕ, ◌≡◌, ◌+◌, ◌<◌, ◌≤◌, inl, inr, List, [], ◌∷◌, map, Contains, Option, Some, None, Bool, true, false, refl, sym, subst, ap, suc, zero, arith}
 use Rattle.std.specs.Prelude.{IsSomeAnd, nat_le, cond}
 use Rattle.std.specs.List.Sorted.{IsStrictlyIncreasing}
 use Rattle.std.proofs.lemmas.Bool.{cases_lt}

@@ -7,7 +7,7 @@ use Rattle.front.specs.declared.refusals.ReportError.TheVariants.{BadHeader, Bad
 use Rattle.front.specs.ReportRefusals.{next_rows}
 
 -- it hasn't the fields of a header or a row
-not_eight : (front more : List (List ℕ)) → MAX_FIELDS < length front → (length (front ++ more) == 8) ≡ false
+pub not_eight : (front more : List (List ℕ)) → MAX_FIELDS < length front → (length (front ++ more) == 8) ≡ false
 not_eight front more long =
     let larger : 8 < length (front ++ more) = omega (arith, long, length-append front more) in
     apart (length (front ++ more)) larger where

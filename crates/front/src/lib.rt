@@ -6,7 +6,7 @@ mod refusals;
 mod report_reading;
 mod report_texts;
 mod reports;
-mod row_records;
+pub mod row_records;
 
 pub use refusals::ReportError;
 pub use report_reading::read_report;

@@ -24,7 +24,7 @@ pub(crate) struct Entries {
 }
 
 /// Whether the record has the names of the fields.
-pub(crate) fn is_header(fields: &ByteRecord) -> bool
+pub fn is_header(fields: &ByteRecord) -> bool
     ensures { result ≡ is_header (fields_of fields.now) }
 {
     fields.len() == 8
@@ -39,7 +39,9 @@ pub(crate) fn is_header(fields: &ByteRecord) -> bool
 }
 
 /// The row of this number, from 1, that a record says.
-pub(crate) fn row_of(no: u64, fields: &ByteRecord) -> Result<Row, ReportError>
+///
+/// Refuses BadFields, BadNumber and HalfWitness with the number, in this order.
+pub fn row_of(no: u64, fields: &ByteRecord) -> Result<Row, ReportError>
     ensures row { result ≡ row_of no (fields_of fields.now) }
     ensures more { WantsOnlyWhere is_memory result false }
 {

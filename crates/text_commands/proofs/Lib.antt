@@ -1,3 +1,4 @@
 pub mod ServeFaults
 pub mod ReportFaults
+pub mod ClaimedTexts
 pub mod CheckFaults

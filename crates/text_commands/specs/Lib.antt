@@ -8,6 +8,7 @@ pub mod ReplayTexts
 pub mod Replays
 pub mod Upgrades
 pub mod VerdictLines
+pub mod CertificateTexts
 pub mod Checks
 pub mod Standings
 pub mod StandingLines

@@ -12,11 +12,11 @@ ghost use Rattle.text_commands.specs.Inputs.{IsReadFault};
 ghost use Rattle.text_commands.specs.Printing.{IsWriteFault};
 ghost use Rattle.text_commands.specs.Serving.{IsFaultOf, IsServeFault};
 
+use crate::certificate_texts::read_certificate;
 use crate::faults::Fault;
 use crate::reports::trace_within;
 use crate::verdict_lines::tell_verdict;
-use certificate_checker::{Verdict, check};
-use front::read_report;
+use certificate_checker::{Verdict, check_claimed};
 use std::alloc::Global;
 use std::io::{Read, Write};
 use step_trace::ProcSet;
@@ -75,6 +75,6 @@ fn verdict_on<S: Read>(
     ensures read { IfErr result (IsReadFault (faults_of certificate.old) (faults_of certificate.new)) }
 {
     let trace = trace_within(alloc, text, set)?;
-    let rows = read_report(alloc, certificate)?;
-    Ok(check(alloc, &trace, set, &rows)?)
+    let rows = read_certificate(alloc, certificate, trace.last_tick())?;
+    Ok(check_claimed(alloc, &trace, set, &rows)?)
 }

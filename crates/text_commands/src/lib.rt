@@ -3,6 +3,7 @@
 //! the program, their lines and their statuses. `specs/` has the definitions that the contracts cite.
 #![tactic(auto)]
 
+mod certificate_texts;
 mod checks;
 mod fault_lines;
 mod faults;

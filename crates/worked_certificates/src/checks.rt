@@ -1,7 +1,7 @@
 //! Checks of rows that are written as in a report: `gst,delta,phi,sent,missed,proc,from,to`, where 0 stands for a
 //! witness that isn't there.
 
-use certificate_checker::{Gap, Miss, Row, Verdict, check};
+use certificate_checker::{ClaimedRows, Gap, Miss, Row, Verdict, check, check_claimed};
 use std::alloc::Global;
 use std::test::Fail;
 use step_trace::{ProcSet, Trace};
@@ -26,7 +26,8 @@ pub(crate) fn row_of(fields: [u64; 8]) -> Row {
     }
 }
 
-/// Whether the check of these rows, where the processors of a list are correct, gives this verdict.
+/// Whether the check of these rows, at once and where they are claimed one after the other, gives this verdict where
+/// the processors of a list are correct.
 pub(crate) fn says(
     alloc: Global,
     trace: &Trace,
@@ -44,5 +45,24 @@ pub(crate) fn says(
     for fields in rows {
         list.push(row_of(*fields))?;
     }
-    Ok(check(alloc, trace, set, &list)? == verdict)
+    Ok(
+        check(alloc, trace, set, &list)? == verdict
+            && says_of_claimed(alloc, trace, set, rows, verdict)?,
+    )
+}
+
+// Whether this is the verdict on these rows where they are claimed one after the other.
+fn says_of_claimed(
+    alloc: Global,
+    trace: &Trace,
+    set: ProcSet,
+    rows: &[[u64; 8]],
+    verdict: Verdict,
+) -> Result<bool, Fail> {
+    let mut claimed = ClaimedRows::new(alloc);
+    for fields in rows {
+        claimed = claimed.with(trace.last_tick(), row_of(*fields))?;
+    }
+    let is_counted = claimed.count() == rows.len() as u64;
+    Ok(is_counted && check_claimed(alloc, trace, set, &claimed)? == verdict)
 }

@@ -51,12 +51,40 @@ fn refused_rows(rt: HostRuntime) -> Result<(), Fail> {
     Ok(())
 }
 
+const FAR: [u64; 8] = [1, TOP, TOP, 0, 0, 0, 0, 0];
+
+// The two ticks have rows beyond them; a row that doesn't rise decides even after these.
+const BEYOND: &[(&[[u64; 8]], Reason)] = &[
+    (&[FAR, [TOP, TOP, 1, 0, 0, 0, 0, 0]], Reason::BeyondEnd(2)),
+    (
+        &[FAR, [3, 1, 1, 0, 0, 0, 0, 0], [TOP, 1, 1, 0, 0, 0, 0, 0]],
+        Reason::BeyondEnd(2),
+    ),
+    (
+        &[FAR, [3, 1, 1, 0, 0, 0, 0, 0], [3, 1, 1, 0, 0, 0, 0, 0]],
+        Reason::NotRising(3),
+    ),
+    (
+        &[
+            FAR,
+            [3, 1, 1, 0, 0, 0, 0, 0],
+            [2, 1, 1, 0, 0, 0, 0, 0],
+            [1, 1, 1, 0, 0, 0, 0, 0],
+        ],
+        Reason::NotRising(3),
+    ),
+    (&[FAR, FAR, [3, 1, 1, 0, 0, 0, 0, 0]], Reason::NotRising(2)),
+];
+
 #[test]
-fn a_row_far_beyond_the_end(rt: HostRuntime) -> Result<(), Fail> {
+fn rows_beyond_the_end(rt: HostRuntime) -> Result<(), Fail> {
     let trace = trace_of(rt.alloc(), 2, &SELF_SEND)?;
-    let far = [[1, TOP, TOP, 0, 0, 0, 0, 0], [TOP, TOP, 1, 0, 0, 0, 0, 0]];
-    let beyond = Verdict::No(Reason::BeyondEnd(2));
-    assert!(rt; says(rt.alloc(), &trace, "1,2", &far, beyond)?);
+    for &(rows, why) in BEYOND {
+        assert!(rt;
+            says(rt.alloc(), &trace, "1,2", rows, Verdict::No(why))?,
+            "{why:?}"
+        );
+    }
     Ok(())
 }
 

@@ -1,0 +1,119 @@
+//! Reading of the text of a certificate, of which no more rows are kept than its trace has ticks.
+
+ghost use Rattle.std.specs.Prelude.{◌≡◌, OnOk, IfOk, IfErr, MatchResult, ◌+◌, Some, Ok, Err};
+ghost use Rattle.std.specs.Io.KnownBytes.{IsAtEnd};
+ghost use Rattle.csv.specs.Records.{fields_of};
+ghost use Rattle.certificate_checker.specs.Claims.{count_of};
+ghost use Rattle.trace_text.specs.Faults.{inner_of, faults_of};
+ghost use Rattle.trace_text.specs.Records.{ReachesUnless, WantsOnlyWhere, records_of_text};
+ghost use Rattle.front.specs.ReportReading.{RefusedFor, faults_after_report};
+ghost use Rattle.front.specs.ReportRefusals.{Gives, is_memory, row_of, rows_of_records};
+ghost use Rattle.text_commands.specs.CertificateTexts.{IsKeptOf, keeps_claimed, kept_at_end, kept_of, kept_with, next_claimed, refuses_long, row_keeps};
+
+use certificate_checker::ClaimedRows;
+use csv::ByteRecord;
+use front::ReportError;
+use front::row_records::{is_header, row_of};
+use std::alloc::Global;
+use std::io::Read;
+use trace_text::records::{TakeRecords, read_records};
+use trace_text::{Counting, TextError, read_all};
+
+// What the records of a certificate give so far.
+#[derive(Drop)]
+struct Certificate {
+    // The last tick of the trace of which it is claimed.
+    last: u64,
+    // None before the header.
+    rows: Option<ClaimedRows>,
+}
+
+/// What is kept of the rows of the certificate that the reader has left, claimed of a trace with this last tick.
+///
+/// Refuses as `read_report` does, in the order of `ReportError`.
+pub(crate) fn read_certificate<R: Read>(
+    alloc: Global,
+    reader: &mut Counting<R>,
+    last: u64,
+) -> Result<ClaimedRows, ReportError>
+    ensures kept { IfOk result (IsKeptOf last (R.remaining (inner_of reader.old))) }
+    ensures end { OnOk result (IsAtEnd (R.remaining (inner_of reader.new))) }
+    ensures faults { faults_of reader.new ≡ faults_after_report result (faults_of reader.old) }
+    ensures refused { IfErr result
+        (λ e. RefusedFor e (faults_of reader.old) (faults_of reader.new)
+        (R.remaining (inner_of reader.old))) }
+{
+    match read_all(alloc, reader) {
+        Ok(text) => claimed_in(alloc, &text, last),
+        Err(TextError::TooLarge) => Err(ReportError::TooLarge),
+        Err(TextError::Read) => Err(ReportError::Read),
+        Err(TextError::Memory) => Err(ReportError::Memory),
+        Err(_) => unreachable!(),
+    }
+}
+
+/// What is kept of the rows of a text.
+fn claimed_in(alloc: Global, text: &[u8], last: u64) -> Result<ClaimedRows, ReportError>
+    ensures { Gives (λ kept. kept) result (kept_of last (rows_of_records (records_of_text text.now))) }
+{
+    let mut certificate = Certificate { last, rows: None };
+    read_records(alloc, text, &mut certificate)?;
+    rows_at_end(certificate)
+}
+
+/// What the end of the text says.
+fn rows_at_end(certificate: Certificate) -> Result<ClaimedRows, ReportError>
+    ensures { MatchResult result (λ kept. kept_at_end certificate.rows ≡ Ok kept)
+        (λ e. kept_at_end certificate.rows ≡ Err e) }
+{
+    match certificate.rows {
+        Some(rows) => Ok(rows),
+        None => Err(ReportError::BadHeader),
+    }
+}
+
+impl TakeRecords for Certificate {
+    type Error = ReportError;
+
+    ghost next = { next_claimed };
+
+    ghost is_memory = { is_memory };
+
+    ghost keeps = { keeps_claimed };
+
+    fn take(&mut self, alloc: Global, fields: &ByteRecord) -> Result<(), ReportError> {
+        let rows = match self.rows.take() {
+            Some(rows) => with_record(rows, self.last, fields)?,
+            None => {
+                if !is_header(fields) {
+                    return Err(ReportError::BadHeader);
+                }
+                ClaimedRows::new(alloc)
+            }
+        };
+        self.rows = Some(rows);
+        Ok(())
+    }
+
+    fn out_of_memory() -> ReportError {
+        ReportError::Memory
+    }
+
+    ghost long = { refuses_long };
+}
+
+/// What is kept with the row of one more record.
+fn with_record(
+    rows: ClaimedRows,
+    last: u64,
+    fields: &ByteRecord,
+) -> Result<ClaimedRows, ReportError>
+    ensures row { Gives (λ more. more) result (kept_with last rows (row_of (count_of rows + 1) (fields_of fields.now))) }
+    ensures more { WantsOnlyWhere is_memory result (row_keeps (Some rows) (fields_of fields.now)) }
+{
+    let Some(no) = rows.count().checked_add(1) else {
+        return Err(ReportError::Memory);
+    };
+    let row = row_of(no, fields)?;
+    rows.with(last, row).map_err(|_| ReportError::Memory)
+}
