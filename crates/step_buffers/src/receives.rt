@@ -44,10 +44,10 @@ pub(crate) fn chosen(
     if let Some(why) = take_refusal(receiver.buffer.as_slice(), take) {
         return Err(why);
     }
-    let Ok(ids) = taken_ids(alloc, receiver.buffer.as_slice(), take) else {
-        return Err(StepError::Memory);
-    };
-    Ok(MessageIds::new(ids))
+    match taken_ids(alloc, receiver.buffer.as_slice(), take) {
+        Ok(ids) => Ok(ids),
+        Err(_) => Err(StepError::Memory),
+    }
 }
 
 /// Whether this would end the round of `p` before all its messages are out.

@@ -7,6 +7,7 @@ ghost use Rattle.step_buffers.specs.Moves.{is_in, taken_ids, take_refusal};
 
 use crate::moves::{StepError, Take};
 use std::alloc::{AllocError, Global};
+use step_trace::MessageIds;
 
 /// The first reason against taking these messages of a buffer, want of memory aside.
 pub(crate) fn take_refusal(buffer: &[u64], take: Take) -> Option<StepError>
@@ -25,7 +26,13 @@ pub(crate) fn take_refusal(buffer: &[u64], take: Take) -> Option<StepError>
 }
 
 /// The ids that a Take names of a buffer.
-pub(crate) fn taken_ids(alloc: Global, buffer: &[u64], take: Take) -> Result<Vec<u64>, AllocError>
+pub(crate) fn taken_ids(alloc: Global, buffer: &[u64], take: Take) -> Result<MessageIds, AllocError>
+    ensures { IfOk result (λ ids. ids ≡ taken_ids take.entry buffer.now) }
+{
+    MessageIds::new(alloc, taken_list(alloc, buffer, take)?)
+}
+
+fn taken_list(alloc: Global, buffer: &[u64], take: Take) -> Result<Vec<u64>, AllocError>
     ensures { IfOk result (λ ids. ids.items ≡ taken_ids take.entry buffer.now) }
 {
     match take {

@@ -1,7 +1,6 @@
 -- A trace that extends another, by the first of its further steps.
-use Rattle.std.proofs.Common.{◌↔◌, ℕ, ◌≡◌, ◌≢◌, ◌+◌, ◌<◌, ◌≤◌, ◌⊎◌, inl, inr, List, ◌++◌, length, Some, refl, sym, ap, ◌∙◌, subst, suc, arith}
+use Rattle.std.proofs.Common.{◌↔◌, ℕ, ◌≡◌, ◌≢◌, ◌+◌, ◌<◌, ◌≤◌, ◌⊎◌, inl, inr, List, length, Some, ap, ◌∙◌, suc, arith}
 use Rattle.std.proofs.lemmas.Grind.{common_steps}
-use Rattle.std.proofs.lemmas.Bool.{cases_eq}
 use Rattle.step_trace.specs.declared.steps.Step.{Step}
 use Rattle.step_trace.specs.Traces.{Recorded, step_at}
 use Rattle.step_trace.specs.Ticks.{tick_of, IsTimed}

@@ -1,16 +1,11 @@
 -- Steps with which a trace stays well formed in a tick: no reason stands against them.
-use Rattle.std.proofs.Common.{ℕ, ◌≡◌, ◌+◌, ◌<◌, ◌≤◌, ◌⊎◌, inl, inr, List, [], ◌∷◌, ◌++◌, length, Option, Some, None, Bool, true, false, not, refl, sym, ap, ◌∙◌, subst, suc, zero, get_or, arith}
-use Rattle.std.specs.Prelude.{Contains, nat_lt, nat_le, ◌&&◌, ◌==◌, find, cond}
-use Rattle.std.specs.Option.{option_map_or}
-use Rattle.std.proofs.lemmas.Bool.{cases_lt, cases_eq, and_parts}
+use Rattle.std.proofs.Common.{ℕ, ◌≡◌, ◌+◌, ◌<◌, ◌≤◌, ◌⊎◌, inl, inr, List, [], ◌∷◌, ◌++◌, length, Some, sym, ap, ◌∙◌, subst, suc, get_or, arith}
+use Rattle.std.specs.Prelude.{Contains}
+use Rattle.std.proofs.lemmas.Bool.{cases_eq}
 use Rattle.std.proofs.lemmas.Option.{slice_get-get_or}
 use Rattle.std.proofs.lemmas.Grind.{common_steps}
-use Rattle.std.proofs.lemmas.Bool.Decides.{nat_tests}
-use Rattle.step_trace.specs.declared.traces.TheConstants.{MAX_STEPS, MAX_TICKS}
-use Rattle.step_trace.specs.declared.steps.Act.{Act}
-use Rattle.step_trace.specs.declared.steps.Act.TheVariants.{Send, Receive}
+use Rattle.step_trace.specs.declared.traces.TheConstants.{MAX_TICKS}
 use Rattle.step_trace.specs.declared.steps.Step.{Step}
-use Rattle.step_trace.specs.Configurations.{IsProc, is_proc}
 use Rattle.step_trace.specs.Steps.{act_ids}
 use Rattle.step_trace.specs.Traces.{Recorded, step_at, TakesAt, IsWellFormed}
 use Rattle.step_trace.specs.Ticks.{tick_at, tick_of, ComesBefore, IsTimed, IsTrace, with_step, CanAppend}
@@ -18,7 +13,6 @@ use Rattle.step_trace.proofs.StepPositions.{step_at_within, step_at_last, step_a
 use Rattle.step_trace.proofs.TickPositions.{tick_at-push_old, tick_at-push_last}
 use Rattle.step_trace.proofs.FittingSteps.{Fits, Fits-from_well_formed}
 use Rattle.step_trace.proofs.Growth.{IsWellFormed-push, TakesAt-push_cases}
-use Rattle.step_trace.proofs.TickOrder.{ticks_rise}
 
 -- what a step has with which a trace stays well formed in this tick
 pub record FitsIn (trace : Recorded) (tick : ℕ) (x : Step) : Type 0 where

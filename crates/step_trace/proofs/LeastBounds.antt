@@ -1,5 +1,5 @@
 -- Least bounds from one real-time step and from an earlier one.
-use Rattle.std.proofs.Common.{ℕ, ◌≤◌, List}
+use Rattle.std.proofs.Common.{ℕ, ◌≤◌}
 use Rattle.step_trace.specs.Traces.{Recorded}
 use Rattle.step_trace.specs.Bounds.{DeltaHolds, PhiHolds, IsDelta, IsPhi}
 use Rattle.step_trace.proofs.BoundLaws.{DeltaHolds-later, PhiHolds-later}

@@ -1,8 +1,8 @@
 -- What a reason against a step in a tick says, and what a step has where none stands against it.
-use Rattle.std.proofs.Common.{ℕ, ◌≡◌, ◌≢◌, ◌+◌, ◌<◌, ◌≤◌, ◌⊎◌, inl, inr, List, [], ◌∷◌, ◌++◌, length, Option, Some, None, Bool, true, false, not, refl, sym, ap, ◌∙◌, subst, suc, zero, arith, eq-eqb}
+use Rattle.std.proofs.Common.{ℕ, ◌≡◌, ◌≢◌, ◌+◌, ◌<◌, ◌≤◌, ◌⊎◌, inl, inr, List, [], ◌∷◌, ◌++◌, length, Option, Some, None, Bool, true, false, not, refl, sym, ap, ◌∙◌, subst, suc, arith, eq-eqb}
 use Rattle.std.specs.Prelude.{Contains, All, Result, Ok, Err, OnOk, nat_lt, nat_le, ◌&&◌, ◌==◌, find, cond}
 use Rattle.std.specs.Option.{option_map_or}
-use Rattle.std.proofs.lemmas.Bool.{cases_lt, cases_eq, and_parts, eqb-true}
+use Rattle.std.proofs.lemmas.Bool.{cases_lt, cases_eq, and_parts}
 use Rattle.std.proofs.lemmas.Grind.{common_steps}
 use Rattle.std.proofs.lemmas.Bool.Decides.{nat_tests}
 use Rattle.std.proofs.lemmas.List.Elements.{All-contains, All-weaker, All-contains_itself}
@@ -13,7 +13,7 @@ use Rattle.step_trace.specs.declared.traces.PushError.TheVariants.{Full, BadTick
 use Rattle.step_trace.specs.declared.steps.Act.{Act}
 use Rattle.step_trace.specs.declared.steps.Act.TheVariants.{Send, Receive}
 use Rattle.step_trace.specs.declared.steps.Step.{Step}
-use Rattle.step_trace.specs.Configurations.{IsProc, is_proc}
+use Rattle.step_trace.specs.Configurations.{is_proc}
 use Rattle.step_trace.specs.Steps.{act_ids}
 use Rattle.step_trace.specs.Traces.{Recorded, step_at}
 use Rattle.step_trace.specs.Ticks.{tick_at, tick_of, IsTrace, IsOnePerTick, with_step, CanAppend}
@@ -21,7 +21,7 @@ use Rattle.step_trace.specs.PushRefusals.{is_taken, is_message, is_sent_to, is_r
 use Rattle.step_trace.specs.TickRefusals.{may_end_in, comes_after_last, is_sent_in, ids_refusal_in, act_refusal_in, refusal_in, next_refusal, IsJustifiedIn, NamesLeastIn}
 use Rattle.step_trace.proofs.StepPositions.{step_at_within}
 use Rattle.step_trace.proofs.TickPositions.{tick_at-push_old, tick_at-push_last, tick_of-limit}
-use Rattle.step_trace.proofs.FittingSteps.{true_if, is_proc-true, find-none, Fits, none_from_Fits}
+use Rattle.step_trace.proofs.FittingSteps.{find-none, none_from_Fits}
 use Rattle.step_trace.proofs.Refusals.{cond_none, first_id_none, find_all, Fits-from_none}
 use Rattle.step_trace.proofs.NamedReasons.{found, failing, passing}
 use Rattle.step_trace.proofs.FittingTicks.{FitsIn, FitsIn-from_append}

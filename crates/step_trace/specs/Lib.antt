@@ -1,6 +1,7 @@
 pub mod Processors
 pub mod ProcessorLists
 pub mod Configurations
+pub mod KeptIds
 pub mod Steps
 pub mod Traces
 pub mod Ticks

@@ -1,5 +1,5 @@
 -- The reasons against one more step in a tick, in their order.
-use Rattle.std.specs.Prelude.{ℕ, ◌≡◌, ◌+◌, List, length, Option, Some, None, Bool, true, ◌&&◌, ◌==◌, nat_lt, nat_le, not, find, if◌then◌else◌}
+use Rattle.std.specs.Prelude.{ℕ, ◌+◌, List, length, Option, Some, None, Bool, true, ◌&&◌, ◌==◌, nat_lt, nat_le, not, find, if◌then◌else◌}
 use Rattle.std.specs.Option.{option_map_or}
 use Rattle.step_trace.specs.declared.steps.Act.{Act}
 use Rattle.step_trace.specs.declared.steps.Act.TheVariants.{Send, Receive}

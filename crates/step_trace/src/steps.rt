@@ -1,51 +1,6 @@
 //! Atomic steps of processors.
 
-use std::alloc::AllocError;
-use std::marker::Model;
-
-/// The ids of the messages that a Receive takes. The id of a message is the number of its Send.
-#[derive(Debug, Drop)]
-pub struct MessageIds {
-    items: Vec<u64>,
-}
-
-impl Model for MessageIds {
-    ghost use Rattle.std.specs.Prelude.{ℕ, List};
-
-    ghost Value = { List ℕ };
-
-    ghost view = { λ a. a.items.items };
-}
-
-impl MessageIds {
-    ghost use Rattle.std.specs.Prelude.{◌≡◌};
-
-    /// The list of these ids, in this order.
-    pub fn new(items: Vec<u64>) -> Self
-        ensures { result ≡ items.items }
-    {
-        MessageIds { items }
-    }
-
-    /// The ids, in their order.
-    pub fn as_slice(&self) -> &[u64]
-        ensures { result.now ≡ self.now }
-    {
-        &self.items
-    }
-}
-
-impl Clone for MessageIds {
-    ghost use Rattle.std.specs.Prelude.{◌≡◌};
-
-    ghost is_clone = { λ a b. b ≡ a };
-
-    fn clone(&self) -> Result<Self, AllocError> {
-        Ok(MessageIds {
-            items: self.items.clone()?,
-        })
-    }
-}
+use crate::message_ids::MessageIds;
 
 /// What a processor does in an atomic step (section 2 of the 1988 paper).
 #[derive(Clone, Debug, Drop)]

@@ -248,10 +248,10 @@ fn received(alloc: Global, no: u64, arg: &[u8], ends: bool) -> Result<Act, TextE
     let Some(ids) = ids else {
         return Err(TextError::BadNumber(no));
     };
-    Ok(Act::Receive {
-        ids: MessageIds::new(ids),
-        ends,
-    })
+    match MessageIds::new(alloc, ids) {
+        Ok(ids) => Ok(Act::Receive { ends, ids }),
+        Err(_) => Err(TextError::Memory),
+    }
 }
 
 /// `end,L`

@@ -16,15 +16,9 @@ fn processor_of(no: u64) -> u64 {
 }
 
 // Pushes so many Receives of these processors that take nothing.
-fn push_turns(alloc: Global, trace: &mut Trace, count: u64) -> Result<(), PushError> {
+fn push_turns(alloc: Global, trace: &mut Trace, count: u64) -> Result<(), Fail> {
     for before in 0..count {
-        trace.push(Step {
-            proc: processor_of(before + 1),
-            act: Act::Receive {
-                ids: MessageIds::new(Vec::new(alloc)),
-                ends: false,
-            },
-        })?;
+        trace.push(step_of(alloc, processor_of(before + 1), 0, &[])?)?;
     }
     Ok(())
 }
@@ -34,7 +28,7 @@ fn greatest_trace(rt: HostRuntime) -> Result<(), Fail> {
     let mut trace = empty_trace(rt.alloc(), 2)?;
     push_turns(rt.alloc(), &mut trace, MAX_STEPS as u64)?;
     assert!(rt; trace.len() == MAX_STEPS);
-    let next = push_turns(rt.alloc(), &mut trace, 1);
+    let next = trace.push(step_of(rt.alloc(), 1, 0, &[])?);
     assert!(rt; next == Err(PushError::Full));
     Ok(())
 }
@@ -125,7 +119,7 @@ fn clones(alloc: Global, to: u64, ids: &[u64]) -> Result<bool, AllocError> {
 }
 
 fn clones_list(alloc: Global, ids: &[u64]) -> Result<bool, AllocError> {
-    let list = MessageIds::new(Vec::from_slice(alloc, ids)?);
+    let list = MessageIds::new(alloc, Vec::from_slice(alloc, ids)?)?;
     let copy = list.clone()?;
     Ok(copy.as_slice() == ids)
 }

@@ -62,14 +62,14 @@ pub(crate) fn some_act(
             to: draws.below_four().max(1),
         });
     }
-    let ids = MessageIds::new(some_ids(alloc, draws, trace, proc)?);
+    let ids = MessageIds::new(alloc, some_ids(alloc, draws, trace, proc)?)?;
     Ok(Act::Receive { ids, ends: false })
 }
 
 // Appends a step of this act, or where it is refused an empty Receive.
 fn push_or_receive(alloc: Global, trace: &mut Trace, proc: u64, act: Act) -> Result<(), Fail> {
     if trace.push(Step { proc, act }).is_err() {
-        let ids = MessageIds::new(Vec::new(alloc));
+        let ids = MessageIds::new(alloc, Vec::new(alloc))?;
         let act = Act::Receive { ids, ends: false };
         trace.push(Step { proc, act })?;
     }

@@ -9,7 +9,7 @@ use step_trace::{Act, Config, MessageIds, Step, Trace};
 pub(crate) fn step_of(alloc: Global, proc: u64, to: u64, ids: &[u64]) -> Result<Step, AllocError> {
     let act = if to == 0 {
         Act::Receive {
-            ids: MessageIds::new(Vec::from_slice(alloc, ids)?),
+            ids: MessageIds::new(alloc, Vec::from_slice(alloc, ids)?)?,
             ends: false,
         }
     } else {

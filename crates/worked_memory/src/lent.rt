@@ -1,6 +1,6 @@
 //! Calls that are lent a trace, swept one after the other.
 
-use crate::worked::{NEVER_DELIVERED, is_same, trace_of};
+use crate::worked::{is_same, trace_of};
 use refused_growths::{LentCall, first_wrong_lent};
 use std::alloc::{AllocError, Global};
 use step_trace::Trace;
@@ -60,12 +60,13 @@ fn first_wrong_beside<C: TraceCall>(
     None
 }
 
-/// The same of calls that are lent never-delivered.
-pub(crate) fn first_wrong_of_worked<C: TraceCall>(
+/// The same of calls that are lent the trace of a text.
+pub(crate) fn first_wrong_of_text<C: TraceCall>(
     alloc: Global,
+    text: &str,
     calls: &[(&'static str, C)],
 ) -> Option<(&'static str, usize)> {
-    match trace_of(alloc, NEVER_DELIVERED) {
+    match trace_of(alloc, text) {
         Ok(trace) => first_wrong_of(alloc, &trace, calls),
         Err(_) => Some(("before all", 0)),
     }

@@ -1,7 +1,7 @@
 //! Texts of a trace and of its report that are read and written.
 
-use crate::lent::{TraceCall, first_wrong_of_worked};
-use crate::worked::{NEVER_DELIVERED, ROWS, is_same};
+use crate::lent::{TraceCall, first_wrong_of_text};
+use crate::worked::{NEVER_DELIVERED, ROWS, TAKEN_TOGETHER, is_same};
 use front::{ReportError, read_report, write_report};
 use std::alloc::{AllocError, Global};
 use step_trace::Trace;
@@ -20,7 +20,7 @@ const REPORT: &str = "gst,delta,phi,sent,missed,proc,from,to\n\
 #[derive(Clone, Copy)]
 enum Passage {
     ReadAll,
-    ReadTrace,
+    ReadTrace(&'static str),
     ReadReport,
     TraceText2,
     WriteTrace,
@@ -32,7 +32,7 @@ impl TraceCall for Passage {
     fn is_right(self, alloc: Global, trace: &Trace) -> Result<bool, AllocError> {
         match self {
             Passage::ReadAll => is_read(alloc),
-            Passage::ReadTrace => is_trace_read(alloc, trace),
+            Passage::ReadTrace(text) => is_trace_read(alloc, text, trace),
             Passage::ReadReport => is_report_read(alloc),
             Passage::TraceText2 => is_text_2(alloc, trace),
             Passage::WriteTrace => is_written(alloc, self, trace, NEVER_DELIVERED),
@@ -52,8 +52,8 @@ fn is_read(alloc: Global) -> Result<bool, AllocError> {
     }
 }
 
-fn is_trace_read(alloc: Global, wanted: &Trace) -> Result<bool, AllocError> {
-    match read_trace(alloc, NEVER_DELIVERED.as_bytes()) {
+fn is_trace_read(alloc: Global, text: &str, wanted: &Trace) -> Result<bool, AllocError> {
+    match read_trace(alloc, text.as_bytes()) {
         Ok(trace) => Ok(is_same(&trace, wanted)),
         Err(TextError::Memory) => Err(AllocError),
         Err(_) => Ok(false),
@@ -104,7 +104,7 @@ fn has_only(room: &[u8], text: &str) -> bool {
 
 const PASSAGES: &[(&str, Passage)] = &[
     ("read_all", Passage::ReadAll),
-    ("read_trace", Passage::ReadTrace),
+    ("read_trace", Passage::ReadTrace(NEVER_DELIVERED)),
     ("read_report", Passage::ReadReport),
     ("trace_text_2_of", Passage::TraceText2),
     ("write_trace", Passage::WriteTrace),
@@ -114,6 +114,14 @@ const PASSAGES: &[(&str, Passage)] = &[
 
 #[test]
 fn texts_are_read_and_written(rt: HostRuntime) {
-    let wrong = first_wrong_of_worked(rt.alloc(), PASSAGES);
+    let wrong = first_wrong_of_text(rt.alloc(), NEVER_DELIVERED, PASSAGES);
+    assert!(rt; wrong.is_none(), "{wrong:?}");
+}
+
+const TOGETHER: &[(&str, Passage)] = &[("read_trace", Passage::ReadTrace(TAKEN_TOGETHER))];
+
+#[test]
+fn ids_taken_together_are_read(rt: HostRuntime) {
+    let wrong = first_wrong_of_text(rt.alloc(), TAKEN_TOGETHER, TOGETHER);
     assert!(rt; wrong.is_none(), "{wrong:?}");
 }

@@ -1,10 +1,10 @@
 //! Calls that look at a trace: copies of it and of its parts, its longest gaps, its report, and the check of that.
 
-use crate::lent::{TraceCall, first_wrong_of, first_wrong_of_worked};
+use crate::lent::{TraceCall, first_wrong_of, first_wrong_of_text};
 use crate::stairs::{is_part, is_reported};
-use crate::worked::{ROWS, both, is_same, silence};
+use crate::worked::{NEVER_DELIVERED, ROWS, TAKEN_TOGETHER, both, is_same, silence};
 use bound_witness::gaps;
-use certificate_checker::{Verdict, check};
+use certificate_checker::{ClaimedRows, Verdict, check, check_claimed};
 use std::alloc::{AllocError, Global};
 use step_trace::{Gap, Step, Trace};
 
@@ -17,6 +17,7 @@ enum Look {
     CopyOfStep,
     Gaps,
     Check,
+    CheckClaimed,
     Report,
     Part,
 }
@@ -31,6 +32,7 @@ impl TraceCall for Look {
             Look::CopyOfStep => is_step_copied(trace),
             Look::Gaps => are_gaps(alloc, trace),
             Look::Check => is_certified(alloc, trace),
+            Look::CheckClaimed => is_certified_as_claimed(alloc, trace),
             Look::Report => is_reported(alloc, trace),
             Look::Part => is_part(alloc, trace),
         }
@@ -60,16 +62,16 @@ fn are_steps(trace: &Trace, steps: &[(u64, Step)], numbers: &[u64]) -> bool {
     steps.len() == numbers.len()
 }
 
-// Whether step 4 takes message 3 in tick 4.
+// Whether step 3 takes messages 1 and 2 in tick 3.
 fn is_placed(trace: &Trace) -> Result<bool, AllocError> {
-    match trace.placed(4)? {
-        Some((tick, step)) => Ok(tick == 4 && step.act.ids() == [3].as_slice()),
+    match trace.placed(3)? {
+        Some((tick, step)) => Ok(tick == 3 && step.act.ids() == [1, 2].as_slice()),
         None => Ok(false),
     }
 }
 
 fn is_step_copied(trace: &Trace) -> Result<bool, AllocError> {
-    match trace.step(4) {
+    match trace.step(3) {
         Some(step) => Ok(step.clone()?.is_same(step)),
         None => Ok(false),
     }
@@ -114,21 +116,45 @@ fn is_certified(alloc: Global, trace: &Trace) -> Result<bool, AllocError> {
     Ok(check(alloc, trace, set, ROWS)? == Verdict::Yes)
 }
 
+// The same where the rows are claimed one after the other.
+fn is_certified_as_claimed(alloc: Global, trace: &Trace) -> Result<bool, AllocError> {
+    let set = both();
+    if !set.within(trace.config().n()) {
+        return Ok(false);
+    }
+    let mut claimed = ClaimedRows::new(alloc);
+    for row in ROWS {
+        claimed = claimed.with(trace.last_tick(), *row)?;
+    }
+    Ok(check_claimed(alloc, trace, set, &claimed)? == Verdict::Yes)
+}
+
 const LOOKS: &[(&str, Look)] = &[
     ("Config::copy", Look::CopyOfConfig),
     ("Trace::copy", Look::Copy),
     ("Trace::restrict", Look::OwnSteps),
-    ("Trace::placed", Look::Placed),
-    ("Step::clone", Look::CopyOfStep),
     ("gaps", Look::Gaps),
     ("check", Look::Check),
+    ("ClaimedRows::with and check_claimed", Look::CheckClaimed),
     ("Stairs::of_trace and front", Look::Report),
     ("Piece::of and finish", Look::Part),
 ];
 
 #[test]
 fn looks_at_a_trace(rt: HostRuntime) {
-    let wrong = first_wrong_of_worked(rt.alloc(), LOOKS);
+    let wrong = first_wrong_of_text(rt.alloc(), NEVER_DELIVERED, LOOKS);
+    assert!(rt; wrong.is_none(), "{wrong:?}");
+}
+
+// One id takes no memory of its own, so these look at a step that takes two.
+const STEP_LOOKS: &[(&str, Look)] = &[
+    ("Trace::placed", Look::Placed),
+    ("Step::clone", Look::CopyOfStep),
+];
+
+#[test]
+fn looks_at_a_step(rt: HostRuntime) {
+    let wrong = first_wrong_of_text(rt.alloc(), TAKEN_TOGETHER, STEP_LOOKS);
     assert!(rt; wrong.is_none(), "{wrong:?}");
 }
 

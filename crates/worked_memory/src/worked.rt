@@ -1,14 +1,18 @@
-//! The worked trace never-delivered, its report, and longer traces in which nothing is received.
+//! The worked traces, the report of never-delivered, and longer traces in which nothing is received.
 
 use std::alloc::{AllocError, Global};
 use step_trace::{Act, Gap, MessageIds, Miss, ProcSet, Row, Step, Trace};
 use trace_text::{TextError, read_trace};
 
-/// Message 1 goes from 1 to 2, which receives three times, but never that message.
+/// Never-delivered: message 1 goes from 1 to 2, which receives three times, but never that message.
 pub(crate) const NEVER_DELIVERED: &str =
     "dls-trace,1,2,0\ninit,5,7\n1,1,S,2\n2,2,R,\n3,1,S,2\n4,2,R,3\n5,2,R,\nend,5\n";
 
-/// The rows of its report.
+/// Processor 1 sends to 2 twice, which takes both messages together.
+pub(crate) const TAKEN_TOGETHER: &str =
+    "dls-trace,1,2,0\ninit,5,7\n1,1,S,2\n2,1,S,2\n3,2,R,1 2\nend,3\n";
+
+/// The rows of the report of never-delivered.
 pub(crate) const ROWS: &[Row] = &[
     Row {
         gst: 1,
@@ -52,7 +56,7 @@ pub(crate) fn trace_of(alloc: Global, text: &str) -> Result<Trace, TextError> {
 
 /// A Receive of processor `proc` that takes these ids.
 pub(crate) fn receive(alloc: Global, proc: u64, ids: &[u64]) -> Result<Step, AllocError> {
-    let ids = MessageIds::new(Vec::from_slice(alloc, ids)?);
+    let ids = MessageIds::new(alloc, Vec::from_slice(alloc, ids)?)?;
     let act = Act::Receive { ids, ends: false };
     Ok(Step { proc, act })
 }

@@ -55,7 +55,7 @@ fn some_act(alloc: Global, draws: &mut Draws, trace: &Trace, proc: u64) -> Resul
             to: 1 + draws.below(3),
         });
     }
-    let ids = MessageIds::new(some_ids(alloc, draws, trace, proc)?);
+    let ids = MessageIds::new(alloc, some_ids(alloc, draws, trace, proc)?)?;
     Ok(Act::Receive { ids, ends: false })
 }
 

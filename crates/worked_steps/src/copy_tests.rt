@@ -75,7 +75,7 @@ fn is_same_trace(one: &Trace, other: &Trace) -> bool {
 // The reason for which a copy of the trace refuses that 1 takes this message again.
 fn reason(alloc: Global, trace: &Trace, id: u64) -> Result<Option<PushError>, AllocError> {
     let mut copy = trace.copy(alloc)?;
-    let ids = MessageIds::new(vec![in alloc; id]?);
+    let ids = MessageIds::new(alloc, vec![in alloc; id]?)?;
     let step = Step {
         proc: 1,
         act: Act::Receive { ends: false, ids },

@@ -127,7 +127,7 @@ fn idle_run(rt: &impl Abort, alloc: Global, count: usize) -> Result<Trace, Fail>
         trace.push(Step {
             proc: 1,
             act: Act::Receive {
-                ids: MessageIds::new(Vec::new(alloc)),
+                ids: MessageIds::new(alloc, Vec::new(alloc))?,
                 ends: false,
             },
         })?;
@@ -184,7 +184,7 @@ fn shared_tick(rt: &impl Abort, alloc: Global) -> Result<Trace, Fail> {
     let mut trace = recorded(rt, alloc, 0, &[5, 7], &[])?;
     for p in 1..3 {
         let act = Act::Receive {
-            ids: MessageIds::new(Vec::new(alloc)),
+            ids: MessageIds::new(alloc, Vec::new(alloc))?,
             ends: false,
         };
         trace.push_at(3, Step { proc: p, act })?;

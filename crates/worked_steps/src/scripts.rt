@@ -89,7 +89,7 @@ pub fn records(
         } else {
             Act::Receive {
                 ends: *does == E,
-                ids: MessageIds::new(Vec::from_slice(alloc, &numbers[..*count])?),
+                ids: MessageIds::new(alloc, Vec::from_slice(alloc, &numbers[..*count])?)?,
             }
         };
         if trace.push(Step { proc: *p, act }).is_err() {

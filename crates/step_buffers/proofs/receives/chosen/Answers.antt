@@ -21,8 +21,8 @@ returns-in-Some-clause-refused c =
     let some : take_refusal c.args.take (buffer steps p) ≡ Some c.in-Some.why = ap (take_refusal c.args.take) (sym waiting) ∙ sym c.take_refusal.ensures ∙ c.in-Some.is in
     rw (early, some) (IsStepRefusal-take c.args.take (buffer steps p) c.in-Some.why some)
 
-pub returns-in_default-taken_ids-clause-refused : goal.returns-in_default-taken_ids-clause-refused
-returns-in_default-taken_ids-clause-refused c =
+pub returns-in-Err-clause-refused : goal.returns-in-Err-clause-refused
+returns-in-Err-clause-refused c =
     let config = c.args.trace.now.config in
     let steps = c.args.trace.now.steps in
     let p = c.args.p in
@@ -31,11 +31,11 @@ returns-in_default-taken_ids-clause-refused c =
     let none : take_refusal c.args.take (buffer steps p) ≡ None = ap (take_refusal c.args.take) (sym waiting) ∙ sym c.take_refusal.ensures ∙ c.in_default.is in
     rw (early, none) refl
 
-pub returns-clause-taken : goal.returns-clause-taken
-returns-clause-taken c = c.new.ensures ∙ c.in-Ok.ensures ∙ ap (taken_ids c.args.take) (c.as_slice-2.ensures.value ∙ c.requires.receiver.buffer)
+pub returns-in-Ok-clause-taken : goal.returns-in-Ok-clause-taken
+returns-in-Ok-clause-taken c = c.in-Ok.ensures ∙ ap (taken_ids c.args.take) (c.as_slice-2.ensures.value ∙ c.requires.receiver.buffer)
 
-pub returns-clause-ok : goal.returns-clause-ok
-returns-clause-ok c =
+pub returns-in-Ok-clause-ok : goal.returns-in-Ok-clause-ok
+returns-in-Ok-clause-ok c =
     let config = c.args.trace.now.config in
     let steps = c.args.trace.now.steps in
     let p = c.args.p in

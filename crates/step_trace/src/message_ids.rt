@@ -1,0 +1,71 @@
+//! The ids that a Receive takes.
+
+use std::alloc::{AllocError, Global};
+use std::marker::Model;
+
+/// The ids of the messages that a Receive takes. The id of a message is the number of its Send.
+#[derive(Debug, Drop)]
+pub struct MessageIds {
+    ids: Ids,
+}
+
+// Most Receives of a long trace take one message or none, and so no memory of their own; the list of the others is
+// boxed, so that a step is small.
+#[derive(Debug, Drop)]
+enum Ids {
+    Nothing,
+    One([u64; 1]),
+    Several(Box<Vec<u64>, Global>),
+}
+
+impl Model for MessageIds {
+    ghost use Rattle.std.specs.Prelude.{ℕ, List};
+    ghost use Rattle.step_trace.specs.KeptIds.{ids_in};
+
+    ghost Value = { List ℕ };
+
+    ghost view = { λ a. ids_in a.ids };
+}
+
+impl MessageIds {
+    ghost use Rattle.std.specs.Prelude.{◌≡◌, ◌<◌, IfOk, OnErr, length};
+
+    /// The list of these ids, in this order. It wants memory only where there is more than one.
+    pub fn new(alloc: Global, items: Vec<u64>) -> Result<Self, AllocError>
+        ensures ids { IfOk result (λ ids. ids ≡ items.items) }
+        ensures more { OnErr result (1 < length items.items) }
+    {
+        let ids = match items.len() {
+            0 => Ids::Nothing,
+            1 => Ids::One([items[0]]),
+            _ => Ids::Several(Box::new(alloc, items)?),
+        };
+        Ok(MessageIds { ids })
+    }
+
+    /// The ids, in their order.
+    pub fn as_slice(&self) -> &[u64]
+        ensures { result.now ≡ self.now }
+    {
+        match &self.ids {
+            Ids::Nothing => &[],
+            Ids::One(one) => one,
+            Ids::Several(items) => items.as_slice(),
+        }
+    }
+}
+
+impl Clone for MessageIds {
+    ghost use Rattle.std.specs.Prelude.{◌≡◌};
+
+    ghost is_clone = { λ a b. b ≡ a };
+
+    fn clone(&self) -> Result<Self, AllocError> {
+        let ids = match &self.ids {
+            Ids::Nothing => Ids::Nothing,
+            Ids::One(one) => Ids::One([one[0]]),
+            Ids::Several(items) => Ids::Several(items.clone()?),
+        };
+        Ok(MessageIds { ids })
+    }
+}
