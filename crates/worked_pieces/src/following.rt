@@ -66,11 +66,28 @@ fn differs(
     }
 }
 
-// Of a trace of so many processors its steps, each with its tick before it, and its last tick.
-type Ticked = (u64, &'static [(u64, u64, u64, &'static [u64])], u64);
+// A trace that an analyst is fed.
+#[derive(Clone, Copy)]
+enum Fed {
+    // Of so many processors, these steps, each with its tick before it, and this last tick.
+    Steps(u64, &'static [(u64, u64, u64, &'static [u64])], u64),
+    // So many steps, in which 1 and 2 take turns to receive nothing.
+    Silence(u64),
+}
 
-fn made((n, steps, last): Ticked, alloc: Global) -> Result<Trace, Fail> {
-    ticked(alloc, n, steps, last)
+fn made(fed: Fed, alloc: Global) -> Result<Trace, Fail> {
+    match fed {
+        Fed::Steps(n, steps, last) => ticked(alloc, n, steps, last),
+        Fed::Silence(count) => silent_alternation(alloc, count),
+    }
+}
+
+fn silent_alternation(alloc: Global, count: u64) -> Result<Trace, Fail> {
+    let mut trace = empty_trace(alloc, 2)?;
+    for before in 0..count {
+        trace.push(step_of(alloc, before % 2 + 1, 0, &[])?)?;
+    }
+    Ok(trace)
 }
 
 // What an analyst answers to a trace that it is fed.
@@ -80,6 +97,8 @@ enum Answer {
     Stairs,
     // Stairs of these levels.
     Levels(&'static [[u64; 7]]),
+    // Stairs of one level.
+    Level([u64; 7]),
     // The first difference, and what stands there.
     Differs(u64, Found),
 }
@@ -92,22 +111,31 @@ fn climbs(alloc: Global, analyst: &mut Analyst, trace: &Trace, levels: &[[u64; 7
     }
 }
 
+// Whether the answer has this level at each of so many ticks.
+fn is_level(alloc: Global, analyst: &mut Analyst, trace: &Trace, level: [u64; 7]) -> bool {
+    match analyst.feed(alloc, trace) {
+        Ok(stairs) => has_one_level(&stairs, trace.len(), level),
+        Err(_) => false,
+    }
+}
+
 fn is_answered(
     alloc: Global,
     analyst: &mut Analyst,
-    fed: Ticked,
+    fed: Fed,
     answer: Answer,
 ) -> Result<bool, Fail> {
     let trace = made(fed, alloc)?;
     match answer {
         Answer::Stairs => follows(alloc, analyst, &trace),
         Answer::Levels(levels) => Ok(climbs(alloc, analyst, &trace, levels)),
+        Answer::Level(level) => Ok(is_level(alloc, analyst, &trace, level)),
         Answer::Differs(at, found) => differs(alloc, analyst, &trace, at, found),
     }
 }
 
 // The place of the first feed of a new analyst that is answered otherwise, if there is one.
-fn first_wrong(alloc: Global, feeds: &[(Ticked, Answer)]) -> Result<Option<usize>, Fail> {
+fn first_wrong(alloc: Global, feeds: &[(Fed, Answer)]) -> Result<Option<usize>, Fail> {
     let mut analyst = new_analyst(alloc)?;
     for (place, &(fed, answer)) in feeds.iter().enumerate() {
         if !is_answered(alloc, &mut analyst, fed, answer)? {
@@ -118,11 +146,11 @@ fn first_wrong(alloc: Global, feeds: &[(Ticked, Answer)]) -> Result<Option<usize
 }
 
 // Prefixes of never-delivered.
-const NO_STEPS: Ticked = (2, &[], 0);
+const NO_STEPS: Fed = Fed::Steps(2, &[], 0);
 
-const TWO_STEPS: Ticked = (2, &[(1, 1, 2, &[]), (2, 2, 0, &[])], 2);
+const TWO_STEPS: Fed = Fed::Steps(2, &[(1, 1, 2, &[]), (2, 2, 0, &[])], 2);
 
-const FIVE_STEPS: Ticked = (
+const FIVE_STEPS: Fed = Fed::Steps(
     2,
     &[
         (1, 1, 2, &[]),
@@ -134,9 +162,9 @@ const FIVE_STEPS: Ticked = (
     5,
 );
 
-const ONE_MISS: Ticked = (2, &[(1, 1, 2, &[]), (2, 2, 0, &[]), (3, 2, 0, &[1])], 3);
+const ONE_MISS: Fed = Fed::Steps(2, &[(1, 1, 2, &[]), (2, 2, 0, &[]), (3, 2, 0, &[1])], 3);
 
-const PREFIXES: &[(Ticked, Answer)] = &[
+const PREFIXES: &[(Fed, Answer)] = &[
     (NO_STEPS, Answer::Stairs),
     (TWO_STEPS, Answer::Stairs),
     (TWO_STEPS, Answer::Stairs),
@@ -152,35 +180,41 @@ fn prefixes_are_followed(rt: HostRuntime) -> Result<(), Fail> {
 }
 
 // Processor 1 steps in tick 1, and there are three ticks.
-const SEEN: Ticked = (2, &[(1, 1, 0, &[])], 3);
+const SEEN: Fed = Fed::Steps(2, &[(1, 1, 0, &[])], 3);
 
 // What differs from that, where, and what stands there.
-const DIFFERENCES: &[(Ticked, Answer)] = &[
+const DIFFERENCES: &[(Fed, Answer)] = &[
     (SEEN, Answer::Stairs),
     // Another configuration.
-    ((3, &[(1, 1, 0, &[])], 3), Answer::Differs(0, None)),
+    (
+        Fed::Steps(3, &[(1, 1, 0, &[])], 3),
+        Answer::Differs(0, None),
+    ),
     (SEEN, Answer::Stairs),
     // Another step.
     (
-        (2, &[(1, 2, 0, &[])], 3),
+        Fed::Steps(2, &[(1, 2, 0, &[])], 3),
         Answer::Differs(1, Some((1, 2, 0, &[]))),
     ),
     (SEEN, Answer::Stairs),
     // Another tick.
     (
-        (2, &[(2, 1, 0, &[])], 3),
+        Fed::Steps(2, &[(2, 1, 0, &[])], 3),
         Answer::Differs(1, Some((2, 1, 0, &[]))),
     ),
     (SEEN, Answer::Stairs),
     // No step.
-    ((2, &[], 3), Answer::Differs(1, None)),
+    (Fed::Steps(2, &[], 3), Answer::Differs(1, None)),
     (SEEN, Answer::Stairs),
     // All steps, and fewer ticks.
-    ((2, &[(1, 1, 0, &[])], 2), Answer::Differs(2, None)),
+    (
+        Fed::Steps(2, &[(1, 1, 0, &[])], 2),
+        Answer::Differs(2, None),
+    ),
     (SEEN, Answer::Stairs),
     // All steps, and one more before the last tick.
     (
-        (2, &[(1, 1, 0, &[]), (2, 2, 0, &[])], 3),
+        Fed::Steps(2, &[(1, 1, 0, &[]), (2, 2, 0, &[])], 3),
         Answer::Differs(2, Some((2, 2, 0, &[]))),
     ),
 ];
@@ -193,7 +227,7 @@ fn first_differences(rt: HostRuntime) -> Result<(), Fail> {
 }
 
 // Tick 3 is the last, and then processor 2 steps in it.
-const OPEN_TICK: &[(Ticked, Answer)] = &[
+const OPEN_TICK: &[(Fed, Answer)] = &[
     (
         SEEN,
         Answer::Levels(&[
@@ -203,7 +237,7 @@ const OPEN_TICK: &[(Ticked, Answer)] = &[
         ]),
     ),
     (
-        (2, &[(1, 1, 0, &[]), (3, 2, 0, &[])], 3),
+        Fed::Steps(2, &[(1, 1, 0, &[]), (3, 2, 0, &[])], 3),
         Answer::Levels(&[
             [1, 0, 0, 3, 1, 2, 3],
             [1, 0, 0, 3, 1, 2, 3],
@@ -219,51 +253,27 @@ fn a_last_tick_stays_open(rt: HostRuntime) -> Result<(), Fail> {
     Ok(())
 }
 
-// So many steps, in which 1 and 2 take turns to receive nothing.
-fn silent_alternation(alloc: Global, count: u64) -> Result<Trace, Fail> {
-    let mut trace = empty_trace(alloc, 2)?;
-    for before in 0..count {
-        trace.push(step_of(alloc, before % 2 + 1, 0, &[])?)?;
-    }
-    Ok(trace)
-}
-
-// Whether the answer has this level at each of so many ticks.
-fn is_level(alloc: Global, analyst: &mut Analyst, trace: &Trace, level: [u64; 7]) -> bool {
-    match analyst.feed(alloc, trace) {
-        Ok(stairs) => has_one_level(&stairs, trace.len(), level),
-        Err(_) => false,
-    }
-}
-
-// The only level of so many steps: the last tick is the last in which a processor is silent.
-const ALTERNATIONS: &[(u64, [u64; 7])] = &[
-    (255, [1, 0, 0, 2, 2, 255, 255]),
-    (256, [1, 0, 0, 2, 1, 256, 256]),
-    (257, [1, 0, 0, 2, 2, 257, 257]),
-    (512, [1, 0, 0, 2, 1, 512, 512]),
-    (600, [1, 0, 0, 2, 1, 600, 600]),
+// Their only level: the last tick is the last in which a processor is silent. Fewer steps than before differ after
+// their last.
+const ALTERNATIONS: &[(Fed, Answer)] = &[
+    (Fed::Silence(255), Answer::Level([1, 0, 0, 2, 2, 255, 255])),
+    (Fed::Silence(255), Answer::Stairs),
+    (Fed::Silence(256), Answer::Level([1, 0, 0, 2, 1, 256, 256])),
+    (Fed::Silence(256), Answer::Stairs),
+    (Fed::Silence(257), Answer::Level([1, 0, 0, 2, 2, 257, 257])),
+    (Fed::Silence(257), Answer::Stairs),
+    (Fed::Silence(512), Answer::Level([1, 0, 0, 2, 1, 512, 512])),
+    (Fed::Silence(512), Answer::Stairs),
+    (Fed::Silence(600), Answer::Level([1, 0, 0, 2, 1, 600, 600])),
+    (Fed::Silence(600), Answer::Stairs),
+    (Fed::Silence(257), Answer::Differs(258, None)),
+    (Fed::Silence(600), Answer::Stairs),
 ];
 
 #[test]
 fn pages_are_followed(rt: HostRuntime) -> Result<(), Fail> {
-    let alloc = rt.alloc();
-    let mut analyst = new_analyst(alloc)?;
-    for &(count, level) in ALTERNATIONS {
-        let trace = silent_alternation(alloc, count)?;
-        assert!(rt;
-            is_level(alloc, &mut analyst, &trace, level),
-            "{count} steps"
-        );
-        assert!(rt;
-            follows(alloc, &mut analyst, &trace)?,
-            "{count} steps again"
-        );
-    }
-    let shorter = silent_alternation(alloc, 257)?;
-    assert!(rt; differs(alloc, &mut analyst, &shorter, 258, None)?);
-    let again = silent_alternation(alloc, 600)?;
-    assert!(rt; follows(alloc, &mut analyst, &again)?);
+    let wrong = first_wrong(rt.alloc(), ALTERNATIONS)?;
+    assert!(rt; wrong.is_none(), "{wrong:?}");
     Ok(())
 }
 

@@ -111,13 +111,21 @@ fn climbs_fed(
     }
 }
 
+// Whether an analyst who is fed the messages, and then that all were taken, finds the levels of both.
+fn follows_messages(alloc: Global, analyst: &mut Analyst, trace: &mut Trace) -> Result<bool, Fail> {
+    let is_sent = climbs_fed(alloc, analyst, trace, ALL_SENT);
+    take_all(alloc, trace, 500_000)?;
+    Ok(is_sent && climbs_fed(alloc, analyst, trace, BY_HALVES))
+}
+
+fn are_messages_followed(alloc: Global) -> Result<bool, Fail> {
+    let mut analyst = new_analyst(alloc)?;
+    follows_messages(alloc, &mut analyst, &mut sent(alloc, 500_000)?)
+}
+
 // All messages are open when the analyst is fed first.
 #[test]
 fn a_million_steps_are_followed(rt: HostRuntime) -> Result<(), Fail> {
-    let mut trace = sent(rt.alloc(), 500_000)?;
-    let mut analyst = new_analyst(rt.alloc())?;
-    assert!(rt; climbs_fed(rt.alloc(), &mut analyst, &trace, ALL_SENT));
-    take_all(rt.alloc(), &mut trace, 500_000)?;
-    assert!(rt; climbs_fed(rt.alloc(), &mut analyst, &trace, BY_HALVES));
+    assert!(rt; are_messages_followed(rt.alloc())?);
     Ok(())
 }

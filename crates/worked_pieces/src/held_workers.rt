@@ -6,8 +6,8 @@ use std::alloc::Global;
 use std::sync::Wait;
 use std::test::Fail;
 use std::thread::Threads;
+use step_trace::Gate;
 use step_trace::meeting::MeetingGate;
-use step_trace::{Gate, Trace};
 
 // A gate that holds one worker back.
 #[derive(Drop)]
@@ -19,19 +19,18 @@ impl Gate for GateShutTo {
     }
 }
 
-// Why a trace is not analysed.
+// Why never-delivered is not analysed.
 fn why<R: Threads + Wait + Sync, G: Gate>(
     rt: &R,
     alloc: Global,
-    trace: &Trace,
     workers: u64,
     gate: &G,
 ) -> Result<Option<AnalyseError>, Fail> {
-    let set = both();
+    let (trace, set) = (never_delivered(alloc)?, both());
     if !set.within(trace.config().n()) {
         return Err(Fail::new("a processor that the trace hasn't"));
     }
-    match analyse(rt, alloc, trace, set, workers, gate) {
+    match analyse(rt, alloc, &trace, set, workers, gate) {
         Ok(_) => Ok(None),
         Err(why) => Ok(Some(why)),
     }
@@ -39,9 +38,8 @@ fn why<R: Threads + Wait + Sync, G: Gate>(
 
 #[test]
 fn two_meet(rt: HostRuntime) -> Result<(), Fail> {
-    let trace = never_delivered(rt.alloc())?;
     let gate = MeetingGate::new();
-    assert!(rt; why(&rt, rt.alloc(), &trace, 2, &gate)? == None);
+    assert!(rt; why(&rt, rt.alloc(), 2, &gate)? == None);
     Ok(())
 }
 
@@ -58,9 +56,8 @@ const HELD: &[(u64, u64, Option<AnalyseError>)] = &[
 
 #[test]
 fn workers_held_back(rt: HostRuntime) -> Result<(), Fail> {
-    let trace = never_delivered(rt.alloc())?;
     for &(workers, held, told) in HELD {
-        let found = why(&rt, rt.alloc(), &trace, workers, &GateShutTo(held))?;
+        let found = why(&rt, rt.alloc(), workers, &GateShutTo(held))?;
         assert!(rt; found == told, "{held} of {workers}");
     }
     Ok(())

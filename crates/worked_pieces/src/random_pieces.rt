@@ -38,16 +38,21 @@ fn join_some(draws: &mut Draws, pieces: &mut Vec<Piece>) -> Result<(), Fail> {
     Ok(())
 }
 
-// Whether one more trace, cut and joined, has its stairs.
-fn agrees(alloc: Global, draws: &mut Draws) -> Result<bool, Fail> {
-    let trace = some_trace(alloc, draws)?;
+// Whether a trace that is cut and joined has its stairs.
+fn agrees_on(alloc: Global, draws: &mut Draws, trace: &Trace) -> Result<bool, Fail> {
     let set = some_set(draws);
-    let mut pieces = some_pieces(alloc, draws, &trace, set)?;
+    let mut pieces = some_pieces(alloc, draws, trace, set)?;
     join_some(draws, &mut pieces)?;
     match join_all(pieces) {
-        Ok(whole) => are_stairs_of(alloc, &whole, &trace, set),
+        Ok(whole) => are_stairs_of(alloc, &whole, trace, set),
         Err(_) => Ok(false),
     }
+}
+
+// The same of one more trace.
+fn agrees(alloc: Global, draws: &mut Draws) -> Result<bool, Fail> {
+    let trace = some_trace(alloc, draws)?;
+    agrees_on(alloc, draws, &trace)
 }
 
 #[test]

@@ -20,15 +20,19 @@ fn why(left: Piece, right: Piece) -> Option<Why> {
     }
 }
 
+// The piece of these ticks of that.
+fn piece_between(alloc: Global, set: ProcSet, from: u64, to: u64) -> Result<Piece, Fail> {
+    let trace = trace_of(alloc, 2, ONE_MISS)?;
+    piece_of(alloc, &trace, set, from, to)
+}
+
 // Why the piece of the first tick for 1 and 2, and that of the ticks from here to the last for a set, don't join.
 fn why_after_the_first(alloc: Global, list: &str, from: u64) -> Result<Option<Why>, Fail> {
     let Some(set) = ProcSet::parse_list(list) else {
         return Err(Fail::new("no list"));
     };
-    let trace = trace_of(alloc, 2, ONE_MISS)?;
-    let first = piece_of(alloc, &trace, both(), 1, 1)?;
-    let rest = piece_of(alloc, &trace, set, from, 3)?;
-    Ok(why(first, rest))
+    let first = piece_between(alloc, both(), 1, 1)?;
+    Ok(why(first, piece_between(alloc, set, from, 3)?))
 }
 
 // The set of the second piece, its first tick, and why the first isn't joined with it.
@@ -51,9 +55,7 @@ fn pieces_that_do_not_join(rt: HostRuntime) -> Result<(), Fail> {
 
 // Why the piece of the ticks from here to the last has no stairs.
 fn why_not_whole(alloc: Global, from: u64) -> Result<Option<FinishError>, Fail> {
-    let trace = trace_of(alloc, 2, ONE_MISS)?;
-    let rest = piece_of(alloc, &trace, both(), from, 3)?;
-    match rest.finish(alloc) {
+    match piece_between(alloc, both(), from, 3)?.finish(alloc) {
         Ok(_) => Ok(None),
         Err(why) => Ok(Some(why)),
     }
