@@ -41,28 +41,25 @@ pub(crate) fn says(
     if !set.within(trace.config().n()) {
         return Ok(false);
     }
+    let is_said = check(alloc, trace, set, &rows_of(alloc, rows)?)? == verdict;
+    let claimed = claimed_of(alloc, trace.last_tick(), rows)?;
+    let is_counted = claimed.count() == rows.len() as u64;
+    Ok(is_said && is_counted && check_claimed(alloc, trace, set, &claimed)? == verdict)
+}
+
+fn rows_of(alloc: Global, rows: &[[u64; 8]]) -> Result<Vec<Row>, Fail> {
     let mut list = Vec::new(alloc);
     for fields in rows {
         list.push(row_of(*fields))?;
     }
-    Ok(
-        check(alloc, trace, set, &list)? == verdict
-            && says_of_claimed(alloc, trace, set, rows, verdict)?,
-    )
+    Ok(list)
 }
 
-// Whether this is the verdict on these rows where they are claimed one after the other.
-fn says_of_claimed(
-    alloc: Global,
-    trace: &Trace,
-    set: ProcSet,
-    rows: &[[u64; 8]],
-    verdict: Verdict,
-) -> Result<bool, Fail> {
+// These rows, claimed one after the other of a trace with this last tick.
+fn claimed_of(alloc: Global, last: u64, rows: &[[u64; 8]]) -> Result<ClaimedRows, Fail> {
     let mut claimed = ClaimedRows::new(alloc);
     for fields in rows {
-        claimed = claimed.with(trace.last_tick(), row_of(*fields))?;
+        claimed = claimed.with(last, row_of(*fields))?;
     }
-    let is_counted = claimed.count() == rows.len() as u64;
-    Ok(is_counted && check_claimed(alloc, trace, set, &claimed)? == verdict)
+    Ok(claimed)
 }
