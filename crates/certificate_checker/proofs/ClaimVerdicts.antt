@@ -279,7 +279,7 @@ claimed-push last rows new = go (InOrder []) rows where
 begin_none : (set : ℕ) (t : Recorded) (rows : List Row) → 0 < length rows → BeginAtOne rows → IsFirstReason set t rows 1 2 None
 begin_none set t rows some begin = first_after set t rows 1 1 2 2 None refl (some_rows set t rows (λ e. omega (arith, e, some))) (none_in set t rows 2 (λ s. s.1 (begin s.0.row s.0.here)))
 
--- and rows that rise none of the first three reasons against them
+-- and rows that rise have none of the first three
 rise_none : (set : ℕ) (t : Recorded) (rows : List Row) → 0 < length rows → RiseFromOne rows → IsFirstReason set t rows 1 3 None
 rise_none set t rows some rise = first_after set t rows 1 2 3 3 None refl (begin_none set t rows some rise.begin) (none_in set t rows 3 rise.rising)
 

@@ -1,5 +1,5 @@
 -- What is kept of claimed rows: themselves while they are in order, else what settles the verdict (own).
-use Rattle.std.specs.Prelude.{ℕ, ◌+◌, ◌==◌, List, [], ◌∷◌, ◌++◌, length, nat_le, nat_lt, Bool, if◌then◌else◌}
+use Rattle.std.specs.Prelude.{ℕ, ◌+◌, ◌==◌, List, [], ◌∷◌, ◌++◌, length, nat_le, nat_lt, Bool, true, false, if◌then◌else◌}
 use Rattle.std.specs.Option.{option_map_or}
 use Rattle.step_trace.specs.declared.rows.Row.{Row}
 use Rattle.certificate_checker.specs.declared.claims.ClaimedRows.{ClaimedRows}
@@ -37,6 +37,12 @@ abbrev pub with_row : ℕ → ClaimedRows → Row → ClaimedRows
 with_row last (InOrder rows) row = next_in_order last rows row
 with_row last (Beyond first count gst) row = next_beyond first (count + 1) gst row
 with_row last (Refuted why count) row = Refuted why (count + 1)
+
+-- whether the rows themselves are kept
+abbrev pub is_in_order : ClaimedRows → Bool
+is_in_order (InOrder rows) = true
+is_in_order (Beyond first count gst) = false
+is_in_order (Refuted why count) = false
 
 -- and more rows, one after the other
 abbrev pub with_rows : ℕ → ClaimedRows → List Row → ClaimedRows

@@ -1,11 +1,11 @@
 //! The rows of a certificate as they are claimed one after the other: kept while they are in order.
 
-ghost use Rattle.std.specs.Prelude.{◌≡◌, ◌≤◌, ◌+◌, ◌<◌, [], ℕ, List, IfOk, OnErr, length};
+ghost use Rattle.std.specs.Prelude.{◌≡◌, ◌≤◌, ◌+◌, ◌^◌, ◌<◌, ◌⊎◌, [], true, ℕ, List, IfOk, OnErr, length};
 ghost use Rattle.step_trace.specs.declared.rows.Row.{Row};
 ghost use Rattle.step_trace.specs.Processors.{IsWithin};
 ghost use Rattle.certificate_checker.specs.declared.claims.ClaimedRows.TheVariants.{InOrder};
 ghost use Rattle.certificate_checker.specs.declared.verdicts.Reason.{Reason};
-ghost use Rattle.certificate_checker.specs.Claims.{claimed, count_of, last_gst, next_beyond, next_in_order, with_row};
+ghost use Rattle.certificate_checker.specs.Claims.{claimed, count_of, is_in_order, last_gst, next_beyond, next_in_order, with_row};
 ghost use Rattle.certificate_checker.specs.Verdicts.{IsVerdict, Stands, place_of};
 
 use crate::certificates::check;
@@ -84,9 +84,11 @@ impl ClaimedRows {
         }
     }
 
-    /// These rows and one more, claimed of a trace with this last tick. Only a row in order takes memory.
+    /// These rows and one more, claimed of a trace with this last tick. It fails only where the row is kept, or where
+    /// a `u64` has no number left for it.
     pub fn with(self, last: u64, row: Row) -> Result<Self, AllocError>
-        ensures { IfOk result (λ more. more ≡ with_row last self row) }
+        ensures rows { IfOk result (λ more. more ≡ with_row last self row) }
+        ensures more { OnErr result ((is_in_order (with_row last self row) ≡ true) ⊎ (2 ^ 64 ≤ count_of self + 1)) }
     {
         let count = self.count().checked_add(1).ok_or(AllocError)?;
         match self {
@@ -100,7 +102,8 @@ impl ClaimedRows {
 /// Rows in order and one more, of which this is the number.
 fn in_order_with(rows: RowList, count: u64, last: u64, row: Row) -> Result<ClaimedRows, AllocError>
     requires { count ≡ length rows + 1 }
-    ensures { IfOk result (λ more. more ≡ next_in_order last rows row) }
+    ensures rows { IfOk result (λ more. more ≡ next_in_order last rows row) }
+    ensures more { OnErr result (is_in_order (next_in_order last rows row) ≡ true) }
 {
     if count == 1 && row.gst != 1 {
         let why = Reason::FirstNotOne;
