@@ -12,7 +12,8 @@ pub mod TickPositions
 pub mod FittingTicks
 pub mod TickReasons
 pub mod PagePlaces
-pub mod TickedPlaces
+pub mod KeptTicks
+pub mod PlacedNumbers
 pub mod ExtendedTraces
 pub mod FirstDifferences
 pub mod SamePrefixes

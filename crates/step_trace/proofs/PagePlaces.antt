@@ -11,12 +11,12 @@ use Rattle.step_trace.specs.declared.paged_lists.TheConstants.{PAGE_LEN}
 use Rattle.step_trace.specs.Pages.{all_items, AreInPages, IsPage, BeginAlike}
 
 -- a place in the first of two lists, and one after it
-slice_get-left : {X : Type 0} (xs ys : List X) (k : ℕ) → k < length xs → slice_get (xs ++ ys) k ≡ slice_get xs k
+pub slice_get-left : {X : Type 0} (xs ys : List X) (k : ℕ) → k < length xs → slice_get (xs ++ ys) k ≡ slice_get xs k
 slice_get-left [] ys k l = absurd (omega (arith, l))
 slice_get-left (x ∷ xs) ys zero l = refl
 slice_get-left (x ∷ xs) ys (suc k) l = slice_get-left xs ys k (let m : suc k < suc (length xs) = l in omega (arith, m))
 
-slice_get-right : {X : Type 0} (xs ys : List X) (n k : ℕ) → n ≡ length xs → slice_get (xs ++ ys) (n + k) ≡ slice_get ys k
+pub slice_get-right : {X : Type 0} (xs ys : List X) (n k : ℕ) → n ≡ length xs → slice_get (xs ++ ys) (n + k) ≡ slice_get ys k
 slice_get-right [] ys n k e = let z : n + k ≡ k = omega (arith, e) in ap (slice_get ys) z
 slice_get-right (x ∷ xs) ys zero k e = absurd (let f : 0 ≡ suc (length xs) = e in omega (arith, f))
 slice_get-right (x ∷ xs) ys (suc n) k e = let z : suc n + k ≡ suc (n + k) = omega arith in rw z (slice_get-right xs ys n k (let f : suc n ≡ suc (length xs) = e in omega (arith, f)))

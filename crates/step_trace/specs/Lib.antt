@@ -12,6 +12,7 @@ pub mod PushRefusals
 pub mod TickRefusals
 pub mod PushErrorTexts
 pub mod Pages
+pub mod TickLists
 pub mod PlacedSteps
 pub mod DeliveryIndex
 pub mod Bounds

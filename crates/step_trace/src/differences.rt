@@ -3,7 +3,6 @@
 ghost use Rattle.std.specs.Prelude.{◌≡◌, ◌≢◌, ◌↔◌, ◌+◌, ◌<◌, ◌≤◌, ℕ, None, length, IsTrue, IfOk, OnErr};
 ghost use Rattle.step_trace.specs.Differences.{placed_at};
 
-use crate::placed_steps::are_same;
 use crate::steps::Step;
 use crate::traces::Trace;
 use std::alloc::AllocError;
@@ -16,8 +15,8 @@ impl Trace {
         ensures placed { IfOk result (λ there. there ≡ placed_at self.now no) }
         ensures more { OnErr result (placed_at self.now no ≢ None) }
     {
-        match self.at(no) {
-            Some(placed) => Ok(Some((u64::from(placed.tick), placed.step.clone()?))),
+        match self.step(no) {
+            Some(step) => Ok(Some((self.tick_at(no), step.clone()?))),
             None => Ok(None),
         }
     }
@@ -32,17 +31,10 @@ impl Trace {
     {
         let end = seen.len() as u64 + 1;
         for no in self.same_pages(seen) + 1..end {
-            if !is_same_at(self, seen, no) {
+            if !self.is_same_at(seen, no) {
                 return no;
             }
         }
         end
     }
-}
-
-/// Whether two traces have the same at this number: one step, in one tick; or both none.
-fn is_same_at(one: &Trace, other: &Trace, no: u64) -> bool
-    ensures { IsTrue result ↔ (placed_at one.now no ≡ placed_at other.now no) }
-{
-    are_same(one.at(no), other.at(no))
 }

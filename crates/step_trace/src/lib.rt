@@ -19,6 +19,7 @@ mod push_error_texts;
 mod push_refusals;
 mod rows;
 mod steps;
+mod tick_lists;
 mod ticks;
 mod traces;
 

@@ -133,7 +133,7 @@ fn make_room<P, T>(pages: &mut Vec<P>, last: &mut Vec<T>) -> Result<(), AllocErr
 }
 
 /// The item at this place, if there is one.
-fn item_at<T>(items: &[T], i: usize) -> Option<&T>
+pub(crate) fn item_at<T>(items: &[T], i: usize) -> Option<&T>
     ensures { option_copied result ≡ slice_get items.now i }
 {
     items.get(i)

@@ -7,35 +7,34 @@ ghost use Rattle.step_trace.specs.declared.steps.Step.{Step};
 ghost use Rattle.step_trace.specs.Steps.{act_ids};
 ghost use Rattle.step_trace.specs.Traces.{step_at};
 ghost use Rattle.step_trace.specs.Ticks.{tick_at};
+ghost use Rattle.step_trace.specs.PlacedSteps.{at_number};
 ghost use Rattle.step_trace.specs.Pages.{BeginAlike};
 ghost use Rattle.step_trace.specs.declared.paged_lists.TheConstants.{PAGE_LEN};
 
 use crate::paged_lists::{PAGE_LEN, PagedList};
 use crate::steps::Step;
+use crate::tick_lists::TickList;
 use std::alloc::{AllocError, Global};
 use std::marker::Model;
 
-/// A step and its tick.
-#[derive(Clone, Debug, Drop)]
-pub(crate) struct Placed {
-    pub(crate) step: Step,
-    pub(crate) tick: u32,
-}
-
-/// Steps, numbered from 1, with their ticks, in pages that copies share.
+/// Steps, numbered from 1, with their ticks; copies share the full pages of steps.
 #[derive(Debug, Drop)]
 pub(crate) struct PlacedSteps {
-    list: PagedList<Placed>,
+    steps: PagedList<Step>,
+    ticks: TickList,
 }
 
 impl Model for PlacedSteps {
+    ghost use Rattle.std.specs.Prelude.{◌≡◌, length};
     ghost use Rattle.step_trace.specs.PlacedSteps.{Ticked};
 
     ghost Value = { Ticked };
 
-    ghost use Rattle.step_trace.specs.PlacedSteps.{ticked};
+    ghost use Rattle.step_trace.specs.TickLists.{all_ticks};
 
-    ghost view = { λ a. ticked a.list };
+    ghost view = { λ a. record { steps = a.steps; ticks = all_ticks a.ticks } };
+
+    ghost invariant = { λ a. length (all_ticks a.ticks) ≡ length a.steps };
 }
 
 impl PlacedSteps {
@@ -44,7 +43,8 @@ impl PlacedSteps {
         ensures { result ≡ record { steps = []; ticks = [] } }
     {
         PlacedSteps {
-            list: PagedList::new(alloc),
+            steps: PagedList::new(alloc),
+            ticks: TickList::new(alloc),
         }
     }
 
@@ -54,48 +54,46 @@ impl PlacedSteps {
         ensures ticks { result ≡ length self.now.ticks }
         ensures limit { result ≤ MAX_STEPS }
     {
-        self.list.len()
-    }
-
-    /// The step of this number with its tick, if there is one.
-    pub(crate) fn placed(&self, no: u64) -> Option<&Placed>
-        ensures step { option_map (λ x. x.step) (option_copied result) ≡ step_at self.now.steps no }
-        ensures tick { option_map_or (λ x. x.tick) (option_copied result) 0 ≡ tick_at self.now.ticks no }
-    {
-        if no == 0 {
-            return None;
-        }
-        self.list.get(no as usize - 1)
+        self.steps.len()
     }
 
     /// The step of this number, if there is one.
     pub(crate) fn step(&self, no: u64) -> Option<&Step>
         ensures { option_copied result ≡ step_at self.now.steps no }
     {
-        match self.placed(no) {
-            Some(placed) => Some(&placed.step),
-            None => None,
+        if no == 0 {
+            return None;
         }
+        self.steps.get(no as usize - 1)
     }
 
     /// The tick of the step of this number; 0 where there is no such step.
     pub(crate) fn tick(&self, no: u64) -> u64
         ensures { result ≡ tick_at self.now.ticks no }
     {
-        match self.placed(no) {
-            Some(placed) => u64::from(placed.tick),
-            None => 0,
+        self.ticks.tick(no)
+    }
+
+    /// Whether another list has the same at this number: one step, in one tick; or both none.
+    pub(crate) fn is_same_at(&self, other: &PlacedSteps, no: u64) -> bool
+        ensures { IsTrue result ↔ (at_number self.now no ≡ at_number other.now no) }
+    {
+        match (self.step(no), other.step(no)) {
+            (Some(here), Some(there)) => self.tick(no) == other.tick(no) && here.is_same(there),
+            (None, None) => true,
+            _ => false,
         }
     }
 
-    /// How many steps, from the first on, another list has too, in the same ticks: those of the full pages before the
-    /// first page that is another one.
+    /// How many steps, from the first on, another list has too, in the same ticks: at most those of the full pages
+    /// before the first page that is another one.
     pub(crate) fn same_pages(&self, other: &PlacedSteps) -> usize
         ensures inside { result ≤ length other.now.steps }
         ensures steps { (k : ℕ) → k ≤ result → step_at self.now.steps k ≡ step_at other.now.steps k }
         ensures ticks { (k : ℕ) → k ≤ result → tick_at self.now.ticks k ≡ tick_at other.now.ticks k }
     {
-        same_pages(&self.list, &other.list)
+        let same = same_pages(&self.steps, &other.steps);
+        self.ticks.same_first(&other.ticks, same as u64) as usize
     }
 
     /// Appends a step, for which there is room, in this tick.
@@ -106,14 +104,17 @@ impl PlacedSteps {
         ensures ok { OnOk result (self.new ≡ record { steps = self.old.steps ++ step ∷ []; ticks = self.old.ticks ++ tick ∷ [] }) }
         ensures err { OnErr result (self.new ≡ self.old) }
     {
-        self.list.push(Placed { step, tick })
+        self.ticks.reserve(tick)?;
+        self.steps.push(step)?;
+        self.ticks.push_reserved(tick);
+        Ok(())
     }
 
     /// The ids that the last step takes; none where there is no step.
     pub(crate) fn last_ids(&self) -> &[u64]
         ensures { (steps : List Step) (x : Step) → self.now.steps ≡ steps ++ x ∷ [] → result.now ≡ act_ids x.act }
     {
-        match self.step(self.list.len() as u64) {
+        match self.step(self.steps.len() as u64) {
             Some(step) => step.act.ids(),
             None => &[],
         }
@@ -124,13 +125,14 @@ impl PlacedSteps {
         ensures { IfOk result (λ copy. copy ≡ self.now) }
     {
         Ok(PlacedSteps {
-            list: self.list.copy()?,
+            steps: self.steps.copy()?,
+            ticks: self.ticks.copy()?,
         })
     }
 }
 
 /// How many items of the first one's full pages the other has too, up to the first page that is another one.
-fn same_pages(one: &PagedList<Placed>, other: &PagedList<Placed>) -> usize
+fn same_pages(one: &PagedList<Step>, other: &PagedList<Step>) -> usize
     ensures inside { result ≤ length other.now }
     ensures same { BeginAlike one.now other.now result }
 {
@@ -147,7 +149,7 @@ fn same_pages(one: &PagedList<Placed>, other: &PagedList<Placed>) -> usize
 }
 
 /// Whether two pages have the same at each place.
-fn is_same_page(one: &[Placed], other: &[Placed]) -> bool
+fn is_same_page(one: &[Step], other: &[Step]) -> bool
     ensures { IsTrue result → BeginAlike one.now other.now PAGE_LEN }
 {
     for r in 0..PAGE_LEN {
@@ -158,12 +160,12 @@ fn is_same_page(one: &[Placed], other: &[Placed]) -> bool
     true
 }
 
-/// Whether there are the same: one step, in one tick; or both none.
-pub(crate) fn are_same(one: Option<&Placed>, other: Option<&Placed>) -> bool
+/// Whether there are the same: one step; or both none.
+fn are_same(one: Option<&Step>, other: Option<&Step>) -> bool
     ensures { IsTrue result ↔ (option_copied one.entry ≡ option_copied other.entry) }
 {
     match (one, other) {
-        (Some(here), Some(there)) => here.tick == there.tick && here.step.is_same(&there.step),
+        (Some(here), Some(there)) => here.is_same(there),
         (None, None) => true,
         _ => false,
     }

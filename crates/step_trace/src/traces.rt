@@ -5,7 +5,7 @@ ghost use Rattle.std.specs.Prelude.{◌≡◌, [], ◌++◌, ◌∷◌, ◌≤�
 use crate::configurations::Config;
 use crate::delivery_index::append_flag;
 use crate::own_steps::own_steps;
-use crate::placed_steps::{Placed, PlacedSteps};
+use crate::placed_steps::PlacedSteps;
 use crate::push_refusals::ids_refusal;
 use crate::steps::{Act, Step};
 use crate::ticks::{BadTick, comes_after_last};
@@ -142,11 +142,18 @@ impl Trace {
         self.placed.step(no)
     }
 
-    /// The step of this number with its tick, if there is one.
-    pub(crate) fn at(&self, no: u64) -> Option<&Placed>
-        ensures { option_map (λ x. (x.tick, x.step)) (option_copied result) ≡ placed_at self.now no }
+    /// The tick of the step of this number; 0 where there is no such step.
+    pub(crate) fn tick_at(&self, no: u64) -> u64
+        ensures { result ≡ tick_of self.now no }
     {
-        self.placed.placed(no)
+        self.placed.tick(no)
+    }
+
+    /// Whether another trace has the same at this number: one step, in one tick; or both none.
+    pub(crate) fn is_same_at(&self, other: &Trace, no: u64) -> bool
+        ensures { IsTrue result ↔ (placed_at self.now no ≡ placed_at other.now no) }
+    {
+        self.placed.is_same_at(&other.placed, no)
     }
 
     /// How many steps, from the first on, surely are those of another trace too, in the same ticks.
