@@ -1,10 +1,11 @@
 -- The ids that a Receive takes, as they are kept.
 use Rattle.std.specs.Prelude.{ℕ, List, []}
 use Rattle.step_trace.specs.declared.message_ids.Ids.{Ids}
-use Rattle.step_trace.specs.declared.message_ids.Ids.TheVariants.{Nothing, One, Several}
+use Rattle.step_trace.specs.declared.message_ids.Ids.TheVariants.{Nothing, One, Two, Several}
 
 -- all of them, in their order
 abbrev pub ids_in : Ids → List ℕ
 ids_in Nothing = []
 ids_in (One one) = one
+ids_in (Two two) = two.value
 ids_in (Several items) = items.value.items

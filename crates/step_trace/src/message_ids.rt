@@ -9,12 +9,13 @@ pub struct MessageIds {
     ids: Ids,
 }
 
-// Most Receives of a long trace take one message or none, and so no memory of their own; the list of the others is
-// boxed, so that a step is small.
+// Most Receives of a long trace take one message or none, and so no memory of their own; what others take is boxed, so
+// that a step is small, and two ids without the head of a list.
 #[derive(Debug, Drop)]
 enum Ids {
     Nothing,
     One([u64; 1]),
+    Two(Box<[u64; 2], Global>),
     Several(Box<Vec<u64>, Global>),
 }
 
@@ -38,6 +39,7 @@ impl MessageIds {
         let ids = match items.len() {
             0 => Ids::Nothing,
             1 => Ids::One([items[0]]),
+            2 => Ids::Two(Box::new(alloc, [items[0], items[1]])?),
             _ => Ids::Several(Box::new(alloc, items)?),
         };
         Ok(MessageIds { ids })
@@ -50,6 +52,7 @@ impl MessageIds {
         match &self.ids {
             Ids::Nothing => &[],
             Ids::One(one) => one,
+            Ids::Two(two) => &**two,
             Ids::Several(items) => items.as_slice(),
         }
     }
@@ -64,6 +67,7 @@ impl Clone for MessageIds {
         let ids = match &self.ids {
             Ids::Nothing => Ids::Nothing,
             Ids::One(one) => Ids::One([one[0]]),
+            Ids::Two(two) => Ids::Two(two.clone()?),
             Ids::Several(items) => Ids::Several(items.clone()?),
         };
         Ok(MessageIds { ids })
