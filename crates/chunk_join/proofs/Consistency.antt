@@ -1,13 +1,15 @@
--- What holds of the lists of every summary is kept as two are joined.
-use Rattle.std.proofs.Common.{ℕ, ◌≡◌, ◌+◌, ◌≤◌, inl, inr, List, map, filter, find, not, cond, ◌==◌, Bool, true, false, Option, Some, None, Contains, refl, sym, ap, subst, ◌∙◌, arith}
+-- What holds of the lists of every summary, and is kept as two are joined.
+use Rattle.std.proofs.Common.{ℕ, ◌≡◌, ◌+◌, ◌<◌, ◌≤◌, inl, inr, List, map, filter, find, not, cond, ◌==◌, Bool, true, false, Option, Some, None, Contains, refl, sym, ap, subst, ◌∙◌, arith}
 use Rattle.std.proofs.lemmas.Bool.{eqb-true}
 use Rattle.std.proofs.lemmas.List.Elements.{Contains-append_cases}
 use Rattle.step_trace.specs.declared.rows.Gap.{Gap}
+use Rattle.step_trace.specs.Traces.{Recorded}
+use Rattle.step_trace.specs.Ticks.{IsTimed}
 use Rattle.step_trace.proofs.ListMembers.{Contains-from_map, Contains-from_filter}
 use Rattle.chunk_join.specs.declared.joins.Why.TheVariants.{NotAdjacent, OtherSet}
 use Rattle.chunk_join.specs.declared.summaries.Place.{Place}
 use Rattle.chunk_join.specs.declared.summaries.Message.{Message}
-use Rattle.chunk_join.specs.Summaries.{Summary, IsConsistent, SentBefore, EndsBefore}
+use Rattle.chunk_join.specs.Summaries.{Summary, IsSummary, IsConsistent, SentBefore, EndsBefore}
 use Rattle.chunk_join.specs.Joins.{settle, stops, reach_back, from_seam, takes_of, meets, parts_refusal, joined_parts}
 use Rattle.chunk_join.specs.Laws.Listings.{Rises-append, Rises-map, Rises-filter}
 use Rattle.chunk_join.specs.Laws.SentMessages.{settled_sent}
@@ -88,3 +90,16 @@ seam_of l r h = go (l.to + 1 == r.from) refl h where
   go : (b : Bool) → (l.to + 1 == r.from) ≡ b → cond (not b) (Some NotAdjacent) (cond (l.set == r.set) None (Some OtherSet)) ≡ None → l.to + 1 ≡ r.from
   go true e n = eqb-true _ _ e
   go false e n = cc
+
+-- what holds of the lists of every summary holds of that of a part
+pub IsConsistent-summary : (set : ℕ) (t : Recorded) → IsTimed t → (i j : ℕ) (s : Summary) → i < j → j ≤ t.last → IsSummary set t i j s → IsConsistent s
+IsConsistent-summary set t time i j s low high a = record {
+  start = let f = a.from in omega (arith, f);
+  order = let f = a.from in let g = a.to in omega (arith, f, g, low);
+  end = let g = a.to in let e = time.end in omega (arith, g, e, high);
+  long = a.last.long;
+  sent_rising = a.sent.rising;
+  sent_inside = λ m k. (let o = a.sent.sound m k in let f = a.from in let g = a.to in let u = o.after in let v = o.until in (omega (arith, f, u), omega (arith, g, v)));
+  silent_rising = a.silent.rising;
+  silent_inside = λ w k. (let o = a.silent.sound w k in let f = a.from in let g = a.to in let u = o.after in let h = o.gap.order in let v = o.until in (omega (arith, f, u, h), omega (arith, g, v)));
+}

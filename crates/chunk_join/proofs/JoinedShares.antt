@@ -1,25 +1,26 @@
--- The pieces of the workers' shares, joined in their order.
+-- The digests of the workers' shares, joined in their order.
 use Rattle.std.proofs.Common.{ℕ, ◌≡◌, ◌+◌, ◌-◌, ◌/◌, ◌<◌, ◌⊎◌, inl, inr, List, [], ◌∷◌, ◌++◌, length, Some, None, Option, refl, sym, ap, subst, ◌∙◌, zero, suc, arith}
 use Rattle.std.specs.Prelude.{Result, Ok, Err, IfOk, slice_get}
 use Rattle.std.proofs.Math.Nat.{zero-div, zero-mul, mul-div_cancel_left}
 use Rattle.std.proofs.lemmas.Option.{none-some, same_Some}
 use Rattle.std.specs.declared.thread.PromisedHandle.{PromisedHandle}
 use Rattle.step_trace.specs.Traces.{Recorded}
-use Rattle.chunk_join.specs.declared.analyses.PieceOf.{PieceOf}
-use Rattle.chunk_join.specs.Summaries.{Summary, IsPiece}
-use Rattle.chunk_join.specs.Analyses.{ArePromised, IsPromised, IsPieceOf, cut}
+use Rattle.chunk_join.specs.declared.analyses.DigestOf.{DigestOf}
+use Rattle.chunk_join.specs.Summaries.{Summary}
+use Rattle.chunk_join.specs.Digests.{IsDigestOf}
+use Rattle.chunk_join.specs.Analyses.{ArePromised, IsPromised, IsDigestBetween, cut}
 
 -- a kept promise, in the terms of the trace and the workers
-share_piece : {E : Type 0} (p : PieceOf) (set : ℕ) (trace : Recorded) (workers n : ℕ) → IsPromised set trace workers (n + 1) p → (right : Result (Option Summary) E)
-    → IfOk right (IsPieceOf p.set p.trace.value (p.share.from - 1) p.share.to) → IfOk right (IsPieceOf set trace (cut trace.last workers n) (cut trace.last workers (n + 1)))
-share_piece p set trace workers n is right kept =
+share_digest : {E : Type 0} (p : DigestOf) (set : ℕ) (trace : Recorded) (workers n : ℕ) → IsPromised set trace workers (n + 1) p → (right : Result (Option Summary) E)
+    → IfOk right (IsDigestBetween p.set p.trace.value (p.share.from - 1) p.share.to) → IfOk right (IsDigestBetween set trace (cut trace.last workers n) (cut trace.last workers (n + 1)))
+share_digest p set trace workers n is right kept =
     let e : n + 1 - 1 ≡ n = omega arith in
     let from : p.share.from ≡ cut trace.last workers n + 1 = is.share.from ∙ ap (λ m. cut trace.last workers m + 1) e in
     let low : p.share.from - 1 ≡ cut trace.last workers n = omega (arith, from) in
-    let a = subst (λ s. IfOk right (IsPieceOf s p.trace.value (p.share.from - 1) p.share.to)) is.members kept in
-    let b = subst (λ t. IfOk right (IsPieceOf set t (p.share.from - 1) p.share.to)) is.trace_is a in
-    let c = subst (λ i. IfOk right (IsPieceOf set trace i p.share.to)) low b in
-    subst (λ j. IfOk right (IsPieceOf set trace (cut trace.last workers n) j)) is.share.to c
+    let a = subst (λ s. IfOk right (IsDigestBetween s p.trace.value (p.share.from - 1) p.share.to)) is.members kept in
+    let b = subst (λ t. IfOk right (IsDigestBetween set t (p.share.from - 1) p.share.to)) is.trace_is a in
+    let c = subst (λ i. IfOk right (IsDigestBetween set trace i p.share.to)) low b in
+    subst (λ j. IfOk right (IsDigestBetween set trace (cut trace.last workers n) j)) is.share.to c
 
 cut_zero : (ticks workers : ℕ) → 0 ≡ cut ticks workers 0
 cut_zero ticks workers = sym (ap (λ x. x / workers) (zero-mul ticks) ∙ zero-div workers)
@@ -38,16 +39,16 @@ slice_get-push (z ∷ xs) x y (suc k) h = elim (slice_get-push xs x y k h) [
 
 -- both as one
 after : {E : Type 0} (all right more : Result (Option Summary) E) (set : ℕ) (trace : Recorded) (i j k : ℕ)
-    → IfOk more (λ piece. (set : ℕ) (trace : Recorded) (i j k : ℕ) → IfOk all (IsPieceOf set trace i j) → IfOk right (IsPieceOf set trace j k) → IsPieceOf set trace i k piece)
-    → IfOk all (IsPieceOf set trace i j) → IfOk right (IsPieceOf set trace j k) → IfOk more (IsPieceOf set trace i k)
-after all right (Ok piece) set trace i j k both a b = both set trace i j k a b
+    → IfOk more (λ digest. (set : ℕ) (trace : Recorded) (i j k : ℕ) → IfOk all (IsDigestBetween set trace i j) → IfOk right (IsDigestBetween set trace j k) → IsDigestBetween set trace i k digest)
+    → IfOk all (IsDigestBetween set trace i j) → IfOk right (IsDigestBetween set trace j k) → IfOk more (IsDigestBetween set trace i k)
+after all right (Ok digest) set trace i j k both a b = both set trace i j k a b
 after all right (Err e) set trace i j k both a b = tt
 
 module _ {T : Type 0} where
   pub ArePromised-none : (set : ℕ) (trace : Recorded) (workers : ℕ) → ArePromised {T = T} set trace workers []
   ArePromised-none set trace workers = λ k thread h. absurd (none-some thread h)
 
-  pub ArePromised-push : (set : ℕ) (trace : Recorded) (workers : ℕ) (threads : List (PromisedHandle T PieceOf)) (thread : PromisedHandle T PieceOf) → ArePromised set trace workers threads
+  pub ArePromised-push : (set : ℕ) (trace : Recorded) (workers : ℕ) (threads : List (PromisedHandle T DigestOf)) (thread : PromisedHandle T DigestOf) → ArePromised set trace workers threads
       → IsPromised set trace workers (length threads + 1) thread.promise → ArePromised set trace workers (threads ++ thread ∷ [])
   ArePromised-push set trace workers threads thread are is = λ k other h. elim (slice_get-push threads thread other k h) [
     | inl old ↦ are k other old
@@ -56,48 +57,48 @@ module _ {T : Type 0} where
 
   module _ {E : Type 0} where
     -- Some of these threads were joined, and the rest are left.
-    pub record AreJoined (threads : List (PromisedHandle T PieceOf)) (all : Result (Option Summary) E) (rest : List (PromisedHandle T PieceOf)) : Type 0 where
+    pub record AreJoined (threads : List (PromisedHandle T DigestOf)) (all : Result (Option Summary) E) (rest : List (PromisedHandle T DigestOf)) : Type 0 where
       pub done : ℕ
       pub count : done + length rest ≡ length threads
       pub left : (k : ℕ) → slice_get rest k ≡ slice_get threads (done + k)
-      pub piece : (set : ℕ) (trace : Recorded) (workers : ℕ) → 0 < workers → ArePromised set trace workers threads → IfOk all (IsPieceOf set trace 0 (cut trace.last workers done))
+      pub digest : (set : ℕ) (trace : Recorded) (workers : ℕ) → 0 < workers → ArePromised set trace workers threads → IfOk all (IsDigestBetween set trace 0 (cut trace.last workers done))
 
-    pub AreJoined-none : (threads : List (PromisedHandle T PieceOf)) (unit : Option Summary) → unit ≡ None → AreJoined threads (Ok unit) threads
+    pub AreJoined-none : (threads : List (PromisedHandle T DigestOf)) (unit : Option Summary) → unit ≡ None → AreJoined threads (Ok unit) threads
     AreJoined-none threads unit e = record {
       done = 0;
       count = omega arith;
       left = λ k. ap (slice_get threads) (omega arith);
-      piece = λ set trace workers some are sound. subst (IsPiece (record { set = set; trace = trace; sound = sound }) 0 (cut trace.last workers 0)) (sym e) (cut_zero trace.last workers);
+      digest = λ set trace workers some are sound. subst (IsDigestOf (record { set = set; trace = trace; sound = sound }) 0 (cut trace.last workers 0)) (sym e) (cut_zero trace.last workers);
     }
 
-    pub AreJoined-more : (threads : List (PromisedHandle T PieceOf)) (all right more : Result (Option Summary) E) (thread : PromisedHandle T PieceOf) (rest : List (PromisedHandle T PieceOf))
+    pub AreJoined-more : (threads : List (PromisedHandle T DigestOf)) (all right more : Result (Option Summary) E) (thread : PromisedHandle T DigestOf) (rest : List (PromisedHandle T DigestOf))
         → AreJoined threads all (thread ∷ rest)
-        → IfOk right (IsPieceOf thread.promise.set thread.promise.trace.value (thread.promise.share.from - 1) thread.promise.share.to)
-        → IfOk more (λ piece. (set : ℕ) (trace : Recorded) (i j k : ℕ) → IfOk all (IsPieceOf set trace i j) → IfOk right (IsPieceOf set trace j k) → IsPieceOf set trace i k piece)
+        → IfOk right (IsDigestBetween thread.promise.set thread.promise.trace.value (thread.promise.share.from - 1) thread.promise.share.to)
+        → IfOk more (λ digest. (set : ℕ) (trace : Recorded) (i j k : ℕ) → IfOk all (IsDigestBetween set trace i j) → IfOk right (IsDigestBetween set trace j k) → IsDigestBetween set trace i k digest)
         → AreJoined threads more rest
     AreJoined-more threads all right more thread rest was kept both = record {
       done = was.done + 1;
       count = let c : was.done + suc (length rest) ≡ length threads = was.count in omega (arith, c);
       left = λ k. (let l : slice_get rest k ≡ slice_get threads (was.done + suc k) = was.left (suc k) in let e : was.done + suc k ≡ was.done + 1 + k = omega arith in l ∙ ap (slice_get threads) e);
-      piece = λ set trace workers some are. (
+      digest = λ set trace workers some are. (
           let e : was.done + 0 ≡ was.done = omega arith in
           let at : slice_get threads was.done ≡ Some thread = ap (slice_get threads) (sym e) ∙ sym (was.left 0) in
-          let own = share_piece thread.promise set trace workers was.done (are was.done thread at) right kept in
-          after all right more set trace 0 (cut trace.last workers was.done) (cut trace.last workers (was.done + 1)) both (was.piece set trace workers some are) own);
+          let own = share_digest thread.promise set trace workers was.done (are was.done thread at) right kept in
+          after all right more set trace 0 (cut trace.last workers was.done) (cut trace.last workers (was.done + 1)) both (was.digest set trace workers some are) own);
     }
 
-    pub AreJoined-all : (threads : List (PromisedHandle T PieceOf)) (all : Result (Option Summary) E) (rest : List (PromisedHandle T PieceOf)) → AreJoined threads all rest → length rest ≡ 0
-        → IfOk all (λ piece. (set : ℕ) (trace : Recorded) (workers : ℕ) → 0 < workers → ArePromised set trace workers threads → IsPieceOf set trace 0 (cut trace.last workers (length threads)) piece)
-    AreJoined-all threads (Ok piece) rest was none = λ set trace workers some are. (
+    pub AreJoined-all : (threads : List (PromisedHandle T DigestOf)) (all : Result (Option Summary) E) (rest : List (PromisedHandle T DigestOf)) → AreJoined threads all rest → length rest ≡ 0
+        → IfOk all (λ digest. (set : ℕ) (trace : Recorded) (workers : ℕ) → 0 < workers → ArePromised set trace workers threads → IsDigestBetween set trace 0 (cut trace.last workers (length threads)) digest)
+    AreJoined-all threads (Ok digest) rest was none = λ set trace workers some are. (
         let c = was.count in
         let e : was.done ≡ length threads = omega (arith, c, none) in
-        subst (λ n. IsPieceOf set trace 0 (cut trace.last workers n) piece) e (was.piece set trace workers some are))
+        subst (λ n. IsDigestBetween set trace 0 (cut trace.last workers n) digest) e (was.digest set trace workers some are))
     AreJoined-all threads (Err e) rest was none = tt
 
     -- the shares of all workers are all ticks
-    pub IsPieceOf-whole : (threads : List (PromisedHandle T PieceOf)) (all : Result (Option Summary) E) (set : ℕ) (trace : Recorded) (workers : ℕ) → 0 < workers → length threads ≡ workers → ArePromised set trace workers threads
-        → IfOk all (λ piece. (set : ℕ) (trace : Recorded) (workers : ℕ) → 0 < workers → ArePromised set trace workers threads → IsPieceOf set trace 0 (cut trace.last workers (length threads)) piece)
-        → IfOk all (IsPieceOf set trace 0 trace.last)
-    IsPieceOf-whole threads (Ok piece) set trace workers some count are joined =
-        subst (λ n. IsPieceOf set trace 0 n piece) (ap (cut trace.last workers) count ∙ cut_all trace.last workers some) (joined set trace workers some are)
-    IsPieceOf-whole threads (Err e) set trace workers some count are joined = tt
+    pub IsDigestBetween-whole : (threads : List (PromisedHandle T DigestOf)) (all : Result (Option Summary) E) (set : ℕ) (trace : Recorded) (workers : ℕ) → 0 < workers → length threads ≡ workers → ArePromised set trace workers threads
+        → IfOk all (λ digest. (set : ℕ) (trace : Recorded) (workers : ℕ) → 0 < workers → ArePromised set trace workers threads → IsDigestBetween set trace 0 (cut trace.last workers (length threads)) digest)
+        → IfOk all (IsDigestBetween set trace 0 trace.last)
+    IsDigestBetween-whole threads (Ok digest) set trace workers some count are joined =
+        subst (λ n. IsDigestBetween set trace 0 n digest) (ap (cut trace.last workers) count ∙ cut_all trace.last workers some) (joined set trace workers some are)
+    IsDigestBetween-whole threads (Err e) set trace workers some count are joined = tt

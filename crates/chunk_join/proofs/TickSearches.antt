@@ -1,14 +1,11 @@
 -- The steps of a tick, found by their numbers.
-use Rattle.std.proofs.Common.{ℕ, ◌≡◌, ◌≢◌, ◌+◌, ◌<◌, ◌≤◌, inl, inr, length, false, Some, None, IsTrue, suc, zero, sym, ap, subst, ◌∙◌, arith}
-use Rattle.std.proofs.lemmas.Bool.{cases_eq}
-use Rattle.step_trace.specs.declared.steps.Step.{Step}
-use Rattle.step_trace.specs.Processors.{has_proc}
+use Rattle.std.proofs.Common.{ℕ, ◌≡◌, ◌+◌, ◌<◌, ◌≤◌, inl, inr, length, None, suc, zero, sym, ap, ◌∙◌, arith}
+use Rattle.std.proofs.lemmas.Bool.{cases_eq, cases_lt}
 use Rattle.step_trace.specs.Traces.{Recorded, step_at}
 use Rattle.step_trace.specs.Ticks.{tick_of, IsTimed}
 use Rattle.step_trace.proofs.TickOrder.{ticks_rise}
 use Rattle.step_trace.proofs.TickPositions.{step_exists, tick_of-limit}
-use Rattle.suffix_staircase.proofs.ReceivesLowered.{same_step}
-use Rattle.chunk_join.specs.TickSteps.{AreStepsBefore, StepsAmong, AreStepping}
+use Rattle.chunk_join.specs.TickSteps.{AreStepsBefore, AreStepsOf}
 
 -- ticks don't fall as numbers rise
 pub tick_below : (t : Recorded) → IsTimed t → (j k : ℕ) → 1 ≤ j → j ≤ k → k ≤ length t.steps → tick_of t j ≤ tick_of t k
@@ -79,55 +76,6 @@ come_stop t time x n h s = record {
 pub come_end : (t : Recorded) (x n : ℕ) → length t.steps ≤ n → ComeBefore t x n → AreStepsBefore t x n
 come_end t x n h s = record { within = s.within; before = s.before; rest = λ k a b. absurd (omega (arith, a, b, h)) }
 
--- no processor has one of no steps
-pub stepping_start : (set : ℕ) (t : Recorded) (a n : ℕ) → ((p : ℕ) → has_proc n p ≡ false) → AreStepping set t.steps a a n
-stepping_start set t a n none = record {
-  sound = λ p m. absurd (let e = none p in cc);
-  complete = λ p m s. absurd (let l = s.after in let h = s.until in omega (arith, l, h));
-}
-
-among_more : (t : Recorded) (a b p : ℕ) → StepsAmong t.steps a b p → StepsAmong t.steps a (b + 1) p
-among_more t a b p s = record { no = s.no; after = s.after; until = let h = s.until in omega (arith, h); step = s.step }
-
--- one step more, of a member
-pub stepping_more : (set : ℕ) (t : Recorded) (a b n m : ℕ) (x : Step) → a ≤ b → step_at t.steps (b + 1) ≡ Some x → IsTrue (has_proc m x.proc) → ((q : ℕ) → q ≢ x.proc → has_proc m q ≡ has_proc n q)
-    → AreStepping set t.steps a b n → AreStepping set t.steps a (b + 1) m
-stepping_more set t a b n m x l step added others s = record {
-  sound = λ p k. elim (cases_eq p x.proc) [
-    | inl e ↦ record { no = b + 1; after = omega (arith, l); until = omega arith; step = (x.act, subst (λ q. step_at t.steps (b + 1) ≡ Some (record { proc = q; act = x.act })) (sym e) step) }
-    | inr d ↦ among_more t a b p (s.sound p (subst (λ v. IsTrue v) (others p d) k))
-  ];
-  complete = λ p k u. elim (cases_eq p x.proc) [
-    | inl e ↦ subst (λ q. IsTrue (has_proc m q)) (sym e) added
-    | inr d ↦ subst (λ v. IsTrue v) (sym (others p d)) (s.complete p k (record {
-      no = u.no;
-      after = u.after;
-      until = elim (cases_eq u.no (b + 1)) [
-        | inl e ↦ absurd (d (ap (λ (z : Step). z.proc) (same_step t.steps (b + 1) _ _ (subst (λ v. step_at t.steps v ≡ Some (record { proc = p; act = u.step.0 })) e u.step.1) step)))
-        | inr f ↦ (let h = u.until in omega (arith, h, f))
-      ];
-      step = u.step;
-    }))
-  ];
-}
-
--- one step more, of another processor
-pub stepping_same : (set : ℕ) (t : Recorded) (a b n : ℕ) (x : Step) → step_at t.steps (b + 1) ≡ Some x → has_proc set x.proc ≡ false → AreStepping set t.steps a b n → AreStepping set t.steps a (b + 1) n
-stepping_same set t a b n x step stranger s = record {
-  sound = λ p k. among_more t a b p (s.sound p k);
-  complete = λ p k u. s.complete p k (record {
-    no = u.no;
-    after = u.after;
-    until = elim (cases_eq u.no (b + 1)) [
-      | inl e ↦ absurd (
-          let same = ap (λ (z : Step). has_proc set z.proc) (same_step t.steps (b + 1) _ _ (subst (λ v. step_at t.steps v ≡ Some (record { proc = p; act = u.step.0 })) e u.step.1) step) in
-          cc)
-      | inr f ↦ (let h = u.until in omega (arith, h, f))
-    ];
-    step = u.step;
-  });
-}
-
 -- up to the number of steps each number has its step
 pub step_missing : (t : Recorded) (n : ℕ) → n < length t.steps → step_at t.steps (n + 1) ≡ None → ⊥
 step_missing t n l e =
@@ -143,3 +91,17 @@ all_steps t time x l = record {
   before = λ k a b. (let h = tick_of-limit t time k in omega (arith, h, l));
   rest = λ k a b. absurd (omega (arith, a, b));
 }
+
+-- the steps in between are in the tick
+pub steps_inside : (t : Recorded) (x a b k : ℕ) → AreStepsOf t x a b → a ≤ k → k < b → tick_of t (k + 1) ≡ x
+steps_inside t x a b k o l h =
+    let within = o.next.within in
+    let above = o.next.before (k + 1) (omega arith) (omega (arith, h)) in
+    let below = o.first.rest (k + 1) (omega (arith, l)) (omega (arith, h, within)) in
+    omega (arith, above, below)
+
+pub steps_order : (t : Recorded) (x a b : ℕ) → AreStepsOf t x a b → a ≤ b
+steps_order t x a b o = elim (cases_lt b a) [
+  | inl l ↦ absurd (let within = o.first.within in let above = o.next.rest a l within in let below = o.first.before a (omega (arith, l)) (omega arith) in omega (arith, above, below))
+  | inr n ↦ n
+]

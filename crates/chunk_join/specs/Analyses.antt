@@ -4,13 +4,14 @@ use Rattle.std.specs.declared.thread.PromisedHandle.{PromisedHandle}
 use Rattle.step_trace.specs.Traces.{Recorded}
 use Rattle.step_trace.specs.Ticks.{IsTrace}
 use Rattle.chunk_join.specs.declared.analyses.TheConstants.{MAX_WORKERS}
-use Rattle.chunk_join.specs.declared.analyses.PieceOf.{PieceOf}
+use Rattle.chunk_join.specs.declared.analyses.DigestOf.{DigestOf}
 use Rattle.chunk_join.specs.declared.analyses.Share.{Share}
 use Rattle.chunk_join.specs.declared.analyses.AnalyseError.{AnalyseError}
 use Rattle.chunk_join.specs.declared.analyses.AnalyseError.TheVariants as unanalysed
 use Rattle.chunk_join.specs.declared.analyses.Stop.{Stop}
 use Rattle.chunk_join.specs.declared.analyses.Stop.TheVariants as stopped
-use Rattle.chunk_join.specs.Summaries.{Summary, IsPiece}
+use Rattle.chunk_join.specs.Summaries.{Summary}
+use Rattle.chunk_join.specs.Digests.{IsDigestOf}
 
 -- there are no workers, or too many
 abbrev pub AreBadWorkers : ℕ → Type 0
@@ -20,24 +21,24 @@ AreBadWorkers workers = (workers ≡ 0) ⊎ (MAX_WORKERS < workers)
 abbrev pub cut : ℕ → ℕ → ℕ → ℕ
 cut ticks workers w = w * ticks / workers
 
--- the piece of this set and trace from cut i to cut j
-abbrev pub IsPieceOf : ℕ → Recorded → ℕ → ℕ → Option Summary → Type 0
-IsPieceOf set trace i j piece = (sound : IsTrace trace) → IsPiece (record { set = set; trace = trace; sound = sound }) i j piece
+-- the digest of this set and trace from cut i to cut j
+abbrev pub IsDigestBetween : ℕ → Recorded → ℕ → ℕ → Option Summary → Type 0
+IsDigestBetween set trace i j digest = (sound : IsTrace trace) → IsDigestOf (record { set = set; trace = trace; sound = sound }) i j digest
 
 -- the share of worker w, of so many ticks and workers: those from the one after the share before
 pub record IsShare (ticks workers w : ℕ) (share : Share) : Type 0 where
   pub from : share.from ≡ cut ticks workers (w - 1) + 1
   pub to : share.to ≡ cut ticks workers w
 
--- worker w promises the piece of its share
-pub record IsPromised (set : ℕ) (trace : Recorded) (workers w : ℕ) (promise : PieceOf) : Type 0 where
+-- worker w promises the digest of its share
+pub record IsPromised (set : ℕ) (trace : Recorded) (workers w : ℕ) (promise : DigestOf) : Type 0 where
   pub members : promise.set ≡ set
   pub trace_is : promise.trace.value ≡ trace
   pub share : IsShare trace.last workers w promise.share
 
--- these threads promise the pieces of the workers from the first on, in their order
-abbrev pub ArePromised : {T : Type 0} → ℕ → Recorded → ℕ → List (PromisedHandle T PieceOf) → Type 0
-ArePromised set trace workers threads = (k : ℕ) (thread : PromisedHandle _ PieceOf) → slice_get threads k ≡ Some thread → IsPromised set trace workers (k + 1) thread.promise
+-- these threads promise the digests of the workers from the first on, in their order
+abbrev pub ArePromised : {T : Type 0} → ℕ → Recorded → ℕ → List (PromisedHandle T DigestOf) → Type 0
+ArePromised set trace workers threads = (k : ℕ) (thread : PromisedHandle _ DigestOf) → slice_get threads k ≡ Some thread → IsPromised set trace workers (k + 1) thread.promise
 
 -- how grave a cause is: of several the gravest is told
 abbrev pub gravity : Stop → ℕ

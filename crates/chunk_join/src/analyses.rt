@@ -9,11 +9,11 @@ ghost use Rattle.suffix_staircase.specs.Analysis.{AreLevels};
 ghost use Rattle.chunk_join.specs.declared.analyses.Share.{Share};
 ghost use Rattle.chunk_join.specs.declared.analyses.AnalyseError.{AnalyseError};
 ghost use Rattle.chunk_join.specs.declared.analyses.Stop.{Stop};
-ghost use Rattle.chunk_join.specs.Analyses.{AreBadWorkers, ArePromised, IsPieceOf, IsShare, cut, error_of, gravity};
+ghost use Rattle.chunk_join.specs.Analyses.{AreBadWorkers, ArePromised, IsDigestBetween, IsShare, cut, error_of, gravity};
 
+use crate::digests::Digest;
 use crate::joins::Joined;
 use crate::lone_worker::stairs_by_one;
-use crate::pieces::Piece;
 use std::alloc::{AllocError, Global};
 use std::snapshot::Snapshot;
 use std::sync::Wait;
@@ -53,19 +53,19 @@ struct Share {
     to: u64,
 }
 
-/// What a worker promises: the piece of its share of a trace, if any.
+/// What a worker promises: the digest of its share of a trace, if any.
 #[derive(Drop)]
-struct PieceOf {
+struct DigestOf {
     set: ProcSet,
     trace: Snapshot<Trace>,
     share: Share,
 }
 
-impl Promise<Result<Piece, Stop>> for PieceOf {
+impl Promise<Result<Digest, Stop>> for DigestOf {
     ghost use Rattle.std.specs.Prelude.{◌-◌, IfOk};
-    ghost use Rattle.chunk_join.specs.Analyses.{IsPieceOf};
+    ghost use Rattle.chunk_join.specs.Analyses.{IsDigestBetween};
 
-    ghost kept_by = { λ promise result. IfOk result (λ piece. IsPieceOf promise.set promise.trace.value (promise.share.from - 1) promise.share.to piece) };
+    ghost kept_by = { λ promise result. IfOk result (λ digest. IsDigestBetween promise.set promise.trace.value (promise.share.from - 1) promise.share.to digest) };
 }
 
 /// The level of each tick of a trace, where the members of a set count as correct, found by so many workers. Each
@@ -96,7 +96,7 @@ pub fn analyse<R: Threads + Wait + Sync, G: Gate>(
         };
     }
     let ticks = ticks_of(trace);
-    match piece_of_all(rt, alloc, trace, ticks, &set, workers, gate) {
+    match digest_of_all(rt, alloc, trace, ticks, &set, workers, gate) {
         Ok(whole) => stairs_of_whole(alloc, trace, set, &whole),
         Err(stop) => Err(refused(stop)),
     }
@@ -113,14 +113,14 @@ fn ticks_of(trace: &Trace) -> u64
     trace.last_tick()
 }
 
-/// The stairs of the piece of all ticks.
+/// The stairs of the digest of all ticks.
 fn stairs_of_whole(
     alloc: Global,
     trace: &Trace,
     set: ProcSet,
-    whole: &Piece,
+    whole: &Digest,
 ) -> Result<Stairs, AnalyseError>
-    requires piece { IsPieceOf set trace.now 0 trace.now.last whole.now }
+    requires digest { IsDigestBetween set trace.now 0 trace.now.last whole.now }
     requires sound { IsTrace trace.now }
     ensures stairs { IfOk result (λ stairs. AreLevels set trace.now stairs) }
     ensures memory { IfErr result (λ why. why ≡ AnalyseError.Memory) }
@@ -132,8 +132,8 @@ fn stairs_of_whole(
     }
 }
 
-/// The piece of all ticks, from the workers.
-fn piece_of_all<R: Threads + Wait + Sync, G: Gate>(
+/// The digest of all ticks, from the workers.
+fn digest_of_all<R: Threads + Wait + Sync, G: Gate>(
     rt: &R,
     alloc: Global,
     trace: &Trace,
@@ -141,39 +141,39 @@ fn piece_of_all<R: Threads + Wait + Sync, G: Gate>(
     set: &ProcSet,
     workers: u64,
     gate: &G,
-) -> Result<Piece, Stop>
+) -> Result<Digest, Stop>
     requires some { 1 ≤ workers }
     requires few { workers ≤ MAX_WORKERS }
     requires ticks { ticks ≡ trace.now.last }
     requires limit { ticks ≤ MAX_TICKS }
-    ensures { IfOk result (λ piece. IsPieceOf set.now trace.now 0 trace.now.last piece) }
+    ensures { IfOk result (λ digest. IsDigestBetween set.now trace.now 0 trace.now.last digest) }
 {
     thread::scope(
         thread::scope_env(),
         rt,
-        |scope| -> Result<Piece, Stop>
+        |scope| -> Result<Digest, Stop>
             requires some { 1 ≤ workers }
             requires few { workers ≤ MAX_WORKERS }
             requires ticks { ticks ≡ trace.now.last }
             requires limit { ticks ≤ MAX_TICKS }
-            ensures { IfOk result (λ piece. IsPieceOf set.entry.now trace.entry.now 0 trace.entry.now.last piece) }
+            ensures { IfOk result (λ digest. IsDigestBetween set.entry.now trace.entry.now 0 trace.entry.now.last digest) }
         {
             let Ok(mut threads) = Vec::with_capacity(alloc, workers as usize) else {
                 return Err(Stop::Memory);
             };
             for worker in 1..workers + 1 {
                 let share = Share::of(ticks, worker, workers);
-                let promise = PieceOf {
+                let promise = DigestOf {
                     set: *set,
                     trace: Snapshot::of(trace),
                     share,
                 };
-                let work = move || -> Result<Piece, Stop>
+                let work = move || -> Result<Digest, Stop>
                     requires low { 1 ≤ share.from }
                     requires order { share.from ≤ share.to + 1 }
                     requires high { share.to ≤ trace.now.last }
-                    ensures { IfOk result (λ piece. IsPieceOf set.entry.now trace.entry.now (share.from - 1) share.to piece) }
-                { piece_of(alloc, trace, *set, share, gate, worker) };
+                    ensures { IfOk result (λ digest. IsDigestBetween set.entry.now trace.entry.now (share.from - 1) share.to digest) }
+                { digest_of(alloc, trace, *set, share, gate, worker) };
                 let Ok(thread) = scope.spawn_with(promise, work) else {
                     return Err(unstarted(joined(rt, threads)));
                 };
@@ -202,55 +202,55 @@ impl Share {
     }
 }
 
-/// The piece of a worker's share, once the gate lets it in.
-fn piece_of<G: Gate>(
+/// The digest of a worker's share, once the gate lets it in.
+fn digest_of<G: Gate>(
     alloc: Global,
     trace: &Trace,
     set: ProcSet,
     share: Share,
     gate: &G,
     worker: u64,
-) -> Result<Piece, Stop>
+) -> Result<Digest, Stop>
     requires low { 1 ≤ share.from }
     requires order { share.from ≤ share.to + 1 }
     requires high { share.to ≤ trace.now.last }
-    ensures { IfOk result (λ piece. IsPieceOf set trace.now (share.from - 1) share.to piece) }
+    ensures { IfOk result (λ digest. IsDigestBetween set trace.now (share.from - 1) share.to digest) }
 {
     if !gate.enter(worker) {
         return Err(Stop::Held);
     }
-    match Piece::of(alloc, trace, set, share.from, share.to) {
-        Ok(piece) => Ok(piece),
+    match Digest::of(alloc, trace, set, share.from, share.to) {
+        Ok(digest) => Ok(digest),
         Err(AllocError) => Err(Stop::Memory),
     }
 }
 
-/// The pieces of these threads joined in their order, once all have ended.
+/// The digests of these threads joined in their order, once all have ended.
 fn joined<R: Threads>(
     rt: &R,
-    threads: Vec<PromisedHandle<Result<Piece, Stop>, PieceOf>>,
-) -> Result<Piece, Stop>
-    ensures { IfOk result (λ piece. (set : ℕ) (trace : Recorded) (workers : ℕ) → 0 < workers → ArePromised set trace workers threads.items → IsPieceOf set trace 0 (cut trace.last workers (length threads.items)) piece) }
+    threads: Vec<PromisedHandle<Result<Digest, Stop>, DigestOf>>,
+) -> Result<Digest, Stop>
+    ensures { IfOk result (λ digest. (set : ℕ) (trace : Recorded) (workers : ℕ) → 0 < workers → ArePromised set trace workers threads.items → IsDigestBetween set trace 0 (cut trace.last workers (length threads.items)) digest) }
 {
-    let mut all = Ok(Piece::unit());
+    let mut all = Ok(Digest::unit());
     for thread in threads {
         all = both(all, thread.join(rt));
     }
     all
 }
 
-/// Two pieces joined, or the gravest reason against it.
-fn both(left: Result<Piece, Stop>, right: Result<Piece, Stop>) -> Result<Piece, Stop>
-    ensures piece { IfOk result (λ piece. (set : ℕ) (trace : Recorded) (i j k : ℕ) → IfOk left (IsPieceOf set trace i j) → IfOk right (IsPieceOf set trace j k) → IsPieceOf set trace i k piece) }
+/// Two digests joined, or the gravest reason against it.
+fn both(left: Result<Digest, Stop>, right: Result<Digest, Stop>) -> Result<Digest, Stop>
+    ensures digest { IfOk result (λ digest. (set : ℕ) (trace : Recorded) (i j k : ℕ) → IfOk left (IsDigestBetween set trace i j) → IfOk right (IsDigestBetween set trace j k) → IsDigestBetween set trace i k digest) }
     ensures left { IfErr result (λ stop. IfErr left (λ one. gravity one ≤ gravity stop)) }
     ensures right { IfErr result (λ stop. IfErr right (λ other. gravity other ≤ gravity stop)) }
 
-    // Where both are pieces, only memory for their join can be wanting.
+    // Where both are digests, only memory for their join can be wanting.
     ensures cause { IfErr result (λ stop. (left ≡ Err stop) ⊎ (right ≡ Err stop) ⊎ (stop ≡ Stop.Memory)) }
 {
     match (left, right) {
         (Ok(left), Ok(right)) => match left.join(right) {
-            Ok(piece) => Ok(piece),
+            Ok(digest) => Ok(digest),
             Err(_) => Err(Stop::Memory),
         },
         (Err(one), Err(other)) => Err(graver(one, other)),
@@ -259,7 +259,7 @@ fn both(left: Result<Piece, Stop>, right: Result<Piece, Stop>) -> Result<Piece, 
 }
 
 /// What is told where a thread couldn't be started, beside what the others ended with.
-fn unstarted(others: Result<Piece, Stop>) -> Stop
+fn unstarted(others: Result<Digest, Stop>) -> Stop
     ensures start { gravity Stop.Start ≤ gravity result }
     ensures others { IfErr others (λ stop. gravity stop ≤ gravity result) }
     ensures cause { (result ≡ Stop.Start) ⊎ (others ≡ Err result) }

@@ -5,12 +5,12 @@ ghost use Rattle.std.specs.Prelude.{◌≡◌, ◌≤◌, ℕ, Some, IfOk};
 ghost use Rattle.chunk_join.specs.Summaries.{Whole};
 ghost use Rattle.chunk_join.specs.Digests.{digest, IsDigestOf};
 
+use crate::block_parts::part_of_block;
 use crate::finishes::{FinishError, stairs_of};
 use crate::joins::{JoinRefused, Joined};
 use crate::message_digests::thin_messages;
 use crate::parts::{Part, join_parts};
 use crate::silence_digests::thin_silences;
-use crate::trace_parts::part_of_trace;
 use std::alloc::{AllocError, Global};
 use std::marker::Model;
 use step_trace::{ProcSet, Trace};
@@ -121,7 +121,7 @@ impl Digest {
         let mut next = from;
         while next <= to {
             let end = block_end(next, to);
-            let part = part_of_trace(alloc, trace, set, next, end)?;
+            let part = part_of_block(alloc, trace, set, next, end)?;
             whole = followed_by(whole, thin(part))?;
             next = end + 1;
         }

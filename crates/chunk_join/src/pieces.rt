@@ -1,8 +1,8 @@
 //! Pieces: what is known of a part of a trace, joined with what is known of the part that follows.
 
+use crate::block_parts::part_of_block;
 use crate::joins::{JoinRefused, Joined};
 use crate::parts::{Part, join_parts};
-use crate::trace_parts::part_of_trace;
 use std::alloc::{AllocError, Global};
 use std::marker::Model;
 use step_trace::{ProcSet, Trace};
@@ -102,7 +102,7 @@ impl Piece {
             return Ok(Piece::unit());
         }
         Ok(Piece {
-            part: Some(part_of_trace(alloc, trace, set, from, to)?),
+            part: Some(part_of_block(alloc, trace, set, from, to)?),
         })
     }
 }

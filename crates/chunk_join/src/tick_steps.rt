@@ -2,7 +2,7 @@
 
 ghost use Rattle.std.specs.Prelude.{◌+◌, ◌≤◌, length};
 ghost use Rattle.step_trace.specs.Ticks.{IsTrace};
-ghost use Rattle.chunk_join.specs.TickSteps.{AreStepsBefore, IsMessageAt, IsReceiverAt, AreStepping};
+ghost use Rattle.chunk_join.specs.TickSteps.{AreStepsBefore, IsMessageAt, IsReceiverAt};
 
 use step_trace::{Act, ProcSet, Trace};
 
@@ -78,21 +78,4 @@ pub(crate) fn receiver(trace: &Trace, set: ProcSet, no: u64) -> Option<u64>
         Act::Send { .. } => None,
         Act::Receive { .. } => Some(step.proc),
     }
-}
-
-/// The members that have one of the steps after number `before` up to number `end`.
-pub(crate) fn stepping(trace: &Trace, set: ProcSet, before: u64, end: u64) -> ProcSet
-    requires order { before ≤ end }
-    requires within { end ≤ length trace.now.steps }
-    ensures { AreStepping set trace.now.steps before end result }
-{
-    let mut stepping = ProcSet::empty();
-    for no in before..end {
-        if let Some(step) = trace.step(no + 1) {
-            if set.contains(step.proc) {
-                stepping = stepping.with(step.proc);
-            }
-        }
-    }
-    stepping
 }

@@ -29,8 +29,8 @@ fn sent(alloc: Global, count: u64) -> Result<Trace, Fail> {
     Ok(trace)
 }
 
-// So many messages go from 1 to 2, which then takes one after the other.
-fn sent_and_then_taken(alloc: Global, count: u64) -> Result<Trace, Fail> {
+/// So many messages go from 1 to 2, which then takes one after the other.
+pub(crate) fn sent_and_then_taken(alloc: Global, count: u64) -> Result<Trace, Fail> {
     let mut trace = sent(alloc, count)?;
     take_all(alloc, &mut trace, count)?;
     Ok(trace)

@@ -2,6 +2,7 @@
 
 ghost use Rattle.step_trace.specs.Processors.{IsWithin};
 
+use crate::full_size::sent_and_then_taken;
 use crate::random_traces::{Draws, some_set, some_trace};
 use crate::stair_levels::{has_levels, same_stairs};
 use crate::traces::{both, never_delivered, ticked};
@@ -54,6 +55,14 @@ fn all_find<R: Threads + Wait + Sync>(
 #[test]
 fn any_workers(rt: HostRuntime) -> Result<(), Fail> {
     let trace = never_delivered(rt.alloc())?;
+    assert!(rt; all_find(&rt, rt.alloc(), &trace, both())?);
+    Ok(())
+}
+
+// A worker goes by blocks of 4,096 ticks: here each message is taken three blocks after it was sent.
+#[test]
+fn ticks_of_many_blocks(rt: HostRuntime) -> Result<(), Fail> {
+    let trace = sent_and_then_taken(rt.alloc(), 12_288)?;
     assert!(rt; all_find(&rt, rt.alloc(), &trace, both())?);
     Ok(())
 }

@@ -20,7 +20,7 @@ use Rattle.chunk_join.specs.Laws.LastReceives.{IsLastReceive-after, IsLastReceiv
 use Rattle.chunk_join.specs.Laws.TakenIds.{before_take}
 
 -- one step is of one processor
-same_receiver : (t : Recorded) (x p q : ℕ) → IsReceiveOf t.steps x p → IsReceiveOf t.steps x q → p ≡ q
+pub same_receiver : (t : Recorded) (x p q : ℕ) → IsReceiveOf t.steps x p → IsReceiveOf t.steps x q → p ≡ q
 same_receiver t x p q a b = ap (λ (y : Step). y.proc) (same_step t.steps x _ _ a.step b.step)
 
 -- the take of a message of the left part, and the last miss before it
@@ -64,14 +64,14 @@ listed_take set t sound i s j r m x b sent takes late until =
       refl,
     )
 
-takes_of-true : (m : Message) (x : Take) → x.sent.no ≡ m.sent.no → x.sent.tick ≡ m.sent.tick → takes_of m x ≡ true
+pub takes_of-true : (m : Message) (x : Take) → x.sent.no ≡ m.sent.no → x.sent.tick ≡ m.sent.tick → takes_of m x ≡ true
 takes_of-true m x e f = grind (arith, e, f)
 
-takes_of-same : (m : Message) (x : Take) → takes_of m x ≡ true → x.sent.no ≡ m.sent.no
+pub takes_of-same : (m : Message) (x : Take) → takes_of m x ≡ true → x.sent.no ≡ m.sent.no
 takes_of-same m x e = eqb-true x.sent.no m.sent.no (and_parts (x.sent.no == m.sent.no) (x.sent.tick == m.sent.tick) e).0
 
 -- a message with another fate
-abbrev with_fate : Message → Fate → Message
+abbrev pub with_fate : Message → Fate → Message
 with_fate m f = record { sent = m.sent; to = m.to; fate = f }
 
 -- a message that the right part takes has that fate in both together

@@ -64,7 +64,7 @@ IsTake-right set t time i m j x late earlier k = let b = IsLastReceive-some t ti
   },
 )
 
-is_older-true : (from : ℕ) (x : Take) → x.sent.tick < from → is_older from x ≡ true
+pub is_older-true : (from : ℕ) (x : Take) → x.sent.tick < from → is_older from x ≡ true
 is_older-true from x h = grind arith
 
 -- the takes of both parts together

@@ -11,7 +11,7 @@ pub loop-thread-preserved : goal.loop-thread-preserved
 loop-thread-preserved g c =
     let e : c.loop-thread.thread-iterator.rest.items ≡ c.in-Some.thread ∷ c.next.new.self.rest.items = search rules in
     let was = subst (AreJoined c.args.threads.items c.loop-thread.all) e c.loop-thread.invariant in
-    AreJoined-more c.args.threads.items c.loop-thread.all c.join.result c.both-all.result c.in-Some.thread c.next.new.self.rest.items was c.join.ensures c.both-all.ensures.piece
+    AreJoined-more c.args.threads.items c.loop-thread.all c.join.result c.both-all.result c.in-Some.thread c.next.new.self.rest.items was c.join.ensures c.both-all.ensures.digest
 
 pub returns : goal.returns
 returns g c = AreJoined-all c.args.threads.items c.loop-thread.all c.loop-thread.thread-iterator.rest.items c.loop-thread.invariant (search rules)

@@ -5,4 +5,4 @@ pub returns-in-Ok-clause-stairs : goal.returns-in-Ok-clause-stairs
 returns-in-Ok-clause-stairs c =
     let sound = c.requires.sound in
     let whole : Whole = record { set = c.args.set; trace = c.args.trace.now; sound = sound } in
-    c.in-Ok.ensures.whole whole (c.requires.piece sound)
+    c.in-Ok.ensures.whole whole (c.requires.digest sound)
