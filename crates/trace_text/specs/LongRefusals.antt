@@ -18,7 +18,7 @@ use Rattle.trace_text.specs.Records.{◌>>=◌, field_of, number_of}
 use Rattle.trace_text.specs.RecordLimits.{RefusesLong}
 use Rattle.trace_text.specs.TextRefusals.{header_stage, init_stage, step_stage, end_stage, next_stage, numbers_of, step_fields, started, values_stage}
 
-apart : (a b : ℕ) → a < b → (b == a) ≡ false
+pub apart : (a b : ℕ) → a < b → (b == a) ≡ false
 apart a b h = grind arith
 
 bad_header : (fields : List (List ℕ)) → MAX_FIELDS < length fields → header_stage fields ≡ Err BadHeader
@@ -78,7 +78,7 @@ both false x y e h k = k
 bad_end : (v : Version) (t : Recorded) (fields : List (List ℕ)) → MAX_FIELDS < length fields → end_stage v t fields ≡ Err (BadFields (length t.steps + 1))
 bad_end v t fields long = let other : (length fields == 2) ≡ false = apart 2 (length fields) (omega (arith, long)) in rw other refl
 
-few_fields : (v : Version) → step_fields v ≤ 5
+pub few_fields : (v : Version) → step_fields v ≤ 5
 few_fields One = omega arith
 few_fields Two = omega arith
 
@@ -88,7 +88,7 @@ bad_step v t fields long = let other : (length fields == step_fields v) ≡ fals
 bad_record : (v : Version) (t : Recorded) (fields : List (List ℕ)) → MAX_FIELDS < length fields → next_stage (Recording v t) fields ≡ Err (BadFields (length t.steps + 1))
 bad_record v t fields long = both (bytes_eq (field_of fields 0) (codes "end")) (end_stage v t fields) (step_stage v t fields) _ (bad_end v t fields long) (bad_step v t fields long)
 
-longer : (front more : List (List ℕ)) → MAX_FIELDS < length front → MAX_FIELDS < length (front ++ more)
+pub longer : (front more : List (List ℕ)) → MAX_FIELDS < length front → MAX_FIELDS < length (front ++ more)
 longer front more long = omega (arith, long, length-append front more)
 
 pub refuses_long : RefusesLong next_stage

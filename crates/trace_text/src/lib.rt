@@ -6,13 +6,13 @@
 mod byte_loops;
 mod counting;
 pub mod failing_devices;
-mod reading;
+pub mod reading;
 mod record_limits;
 pub mod record_writing;
 pub mod records;
 mod refusals;
 mod step_records;
-mod versions;
+pub mod versions;
 mod writing;
 
 pub use byte_loops::{MAX_TEXT_BYTES, read_all, write_text};

@@ -21,16 +21,16 @@ use std::alloc::Global;
 use std::mem;
 use step_trace::{Act, Config, MAX_PROCESSORS, MIN_PROCESSORS, MessageIds, PushError, Step, Trace};
 
-// How far a text was read.
+/// How far a text was read.
 #[derive(Drop)]
-enum Stage {
-    // No record yet.
+pub enum Stage {
+    /// No record yet.
     Opening,
-    // The header: the version, how many processors there are, and how many may be faulty.
+    /// The header: the version, how many processors there are, and how many may be faulty.
     Sized { version: Version, n: u64, t: u64 },
-    // The initial values, and these steps.
+    /// The initial values, and these steps.
     Recording(Version, Trace),
-    // The whole trace.
+    /// The whole trace.
     Ended(Trace),
 }
 
@@ -67,7 +67,7 @@ fn read_whole(alloc: Global, text: &[u8]) -> Result<Trace, TextError>
 }
 
 /// What the end of the text says.
-fn trace_at_end(stage: Stage) -> Result<Trace, TextError>
+pub fn trace_at_end(stage: Stage) -> Result<Trace, TextError>
     ensures { result ≡ trace_at_end stage }
 {
     match stage {
@@ -197,7 +197,7 @@ fn read_step(
 }
 
 /// The step of a record that has its fields and its number, with the ids by which it is judged, and its tick.
-fn step_of(
+pub fn step_of(
     alloc: Global,
     version: Version,
     no: u64,

@@ -12,7 +12,7 @@ use step_trace::Trace;
 
 /// How a trace text tells the ticks of the steps.
 #[derive(Clone, Copy)]
-pub(crate) enum Version {
+pub enum Version {
     /// Not at all: each step is in the tick of its number.
     One,
     /// By a field of each step.
@@ -31,7 +31,7 @@ pub(crate) fn version_named(field: &[u8]) -> Option<Version>
 }
 
 /// How many fields a step has.
-pub(crate) fn step_fields(version: Version) -> usize
+pub fn step_fields(version: Version) -> usize
     ensures { result ≡ step_fields version }
 {
     match version {

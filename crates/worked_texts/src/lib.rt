@@ -9,6 +9,8 @@ mod counted_calls;
 #[cfg(test)]
 mod report_texts;
 #[cfg(test)]
+mod shared_texts;
+#[cfg(test)]
 mod trace_reports;
 #[cfg(test)]
 mod trace_texts;

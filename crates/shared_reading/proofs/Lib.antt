@@ -1,0 +1,4 @@
+pub mod Splits
+pub mod QuoteFree
+pub mod LinesTold
+pub mod PieceLemmas

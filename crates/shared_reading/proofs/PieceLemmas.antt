@@ -1,0 +1,100 @@
+-- A trace that takes the steps of a piece goes on where the piece ends.
+use Rattle.std.proofs.Common.{◌≡◌, ◌≤◌, ◌+◌, ◌-◌, ◌∙◌, ℕ, suc, List, [], ◌∷◌, ◌++◌, length, take, drop, Result, Ok, Err, Bool, true, false, refl, sym, ap, subst, arith, nat_eq, slice_index_or}
+use Rattle.std.specs.Prelude.{MatchBool, ⊤}
+use Rattle.std.proofs.lemmas.List.{drop-drop, take-append-drop}
+use Rattle.csv.specs.Reading.{strip_bom}
+use Rattle.step_trace.specs.declared.traces.TheConstants.{MAX_STEPS}
+use Rattle.step_trace.specs.Traces.{Recorded}
+use Rattle.trace_text.specs.declared.versions.Version.{Version}
+use Rattle.trace_text.specs.declared.reading.Stage.{Stage}
+use Rattle.trace_text.specs.declared.reading.Stage.TheVariants.{Recording}
+use Rattle.trace_text.specs.declared.refusals.TextError.{TextError}
+use Rattle.trace_text.specs.Records.{◌>>=◌, after_records, records_of_text}
+use Rattle.trace_text.specs.TextRefusals.{next_stage, is_memory}
+use Rattle.trace_text.proofs.TakenRecords.{after_records-append}
+use Rattle.shared_reading.specs.Seams.{has_quote, ends_line, IsSeam}
+use Rattle.shared_reading.proofs.QuoteFree.{seam}
+use Rattle.shared_reading.specs.declared.lines.Line.{Line}
+use Rattle.shared_reading.specs.Lines.{after_lines}
+use Rattle.shared_reading.specs.Pieces.{part, read_on, IsReadAlone, GoesOn}
+
+-- the last byte is a line feed
+pub ends_line-last : (xs : List ℕ) → nat_eq (slice_index_or xs (length xs - 1) 0) 10 ≡ true → ends_line xs ≡ true
+unfolding ends_line
+ends_line-last [] h = cc h
+ends_line-last (x ∷ []) h = h
+ends_line-last (x ∷ y ∷ r) h =
+    let e : suc (suc (length r)) - 1 ≡ suc (suc (length r) - 1) = omega arith in
+    ends_line-last (y ∷ r) (subst (λ k. nat_eq (slice_index_or (x ∷ y ∷ r) k 0) 10 ≡ true) e h)
+
+-- no byte order mark begins with another byte
+pub unmarked : (xs : List ℕ) → nat_eq (slice_index_or xs 0 0) 239 ≡ false → strip_bom xs ≡ xs
+unfolding strip_bom
+unmarked [] h = refl
+unmarked (x ∷ []) h = refl
+unmarked (x ∷ y ∷ []) h = refl
+unmarked (x ∷ y ∷ z ∷ r) h = rw h refl
+
+pub unmarked-none : (xs : List ℕ) → length xs ≡ 0 → strip_bom xs ≡ xs
+unfolding strip_bom
+unmarked-none [] h = refl
+unmarked-none (x ∷ xs) h = absurd (omega (arith, h))
+
+-- records after those of which one is refused make no difference
+append-stops : {S E : Type 0} (next : S → List (List ℕ) → Result S E) (a : S) (e : E) (xs ys : List (List (List ℕ))) → after_records next a xs ≡ Err e → after_records next a (xs ++ ys) ≡ Err e
+append-stops {S = S} next a e [] ys h = cc h
+append-stops {S = S} {E = E} next a e (x ∷ xs) ys h = go (λ s k. append-stops next s e xs ys k) (next a x) h where
+  go : ((s : S) → after_records next s xs ≡ Err e → after_records next s (xs ++ ys) ≡ Err e) → (r : Result S E) → r >>= (λ s. after_records next s xs) ≡ Err e → r >>= (λ s. after_records next s (xs ++ ys)) ≡ Err e
+  go more (Ok s) k = more s k
+  go more (Err f) k = k
+
+-- a text that is cut at a seam is read on from the seam
+pub read_on-ok : (s t : Stage) (a b : List ℕ) → IsSeam a b → read_on s a ≡ Ok t → read_on s (a ++ b) ≡ read_on t b
+read_on-ok s t a b seam h = rw seam (after_records-append next_stage s t (records_of_text a) (records_of_text b) h)
+
+pub read_on-err : (s : Stage) (e : TextError) (a b : List ℕ) → IsSeam a b → read_on s a ≡ Err e → read_on s (a ++ b) ≡ Err e
+read_on-err s e a b seam h = rw seam (append-stops next_stage s e (records_of_text a) (records_of_text b) h)
+
+-- a piece and the rest
+pub part-rest : (text : List ℕ) (from end : ℕ) → from ≤ end → drop from text ≡ part text from end ++ drop end text
+part-rest text from end order =
+    let e : from + (end - from) ≡ end = omega (arith, order) in
+    sym (take-append-drop (end - from) (drop from text)) ∙ ap (λ (xs : List ℕ). part text from end ++ xs) (drop-drop (end - from) from text ∙ ap (λ k. drop k text) e)
+
+piece-seam : (v : Version) (text : List ℕ) (from end : ℕ) (lines : List Line) → IsReadAlone v (part text from end) lines → strip_bom (drop end text) ≡ drop end text → IsSeam (part text from end) (drop end text)
+piece-seam v text from end lines alone mark = seam (part text from end) (drop end text) alone.quoteless alone.line mark
+
+-- the trace takes all steps of a piece
+pub piece-taken : (v : Version) (t u : Recorded) (text : List ℕ) (from end : ℕ) (lines : List Line) → from ≤ end → IsReadAlone v (part text from end) lines → strip_bom (drop end text) ≡ drop end text → length t.steps ≤ MAX_STEPS
+    → after_lines v t lines ≡ Ok (Recording v u) → read_on (Recording v t) (drop from text) ≡ read_on (Recording v u) (drop end text)
+piece-taken v t u text from end lines order alone mark short h =
+    ap (λ (xs : List ℕ). read_on (Recording v t) xs) (part-rest text from end order)
+    ∙ read_on-ok (Recording v t) (Recording v u) (part text from end) (drop end text) (piece-seam v text from end lines alone mark) (alone.leads t short ∙ h)
+
+unless : (b : Bool) (P Q : Type 0) → (P → Q) → MatchBool b ⊤ P → MatchBool b ⊤ Q
+unless true P Q f h = h
+unless false P Q f h = f h
+
+-- the trace refuses a step of a piece
+pub piece-refused : (v : Version) (t : Recorded) (text : List ℕ) (from end : ℕ) (lines : List Line) (e : TextError) → from ≤ end → IsReadAlone v (part text from end) lines → strip_bom (drop end text) ≡ drop end text
+    → length t.steps ≤ MAX_STEPS → MatchBool (is_memory e) ⊤ (after_lines v t lines ≡ Err e) → MatchBool (is_memory e) ⊤ (read_on (Recording v t) (drop from text) ≡ Err e)
+piece-refused v t text from end lines e order alone mark short = unless (is_memory e) _ _ (λ h.
+    ap (λ (xs : List ℕ). read_on (Recording v t) xs) (part-rest text from end order)
+    ∙ read_on-err (Recording v t) e (part text from end) (drop end text) (piece-seam v text from end lines alone mark) (alone.leads t short ∙ h))
+
+-- one reading after the other
+pub GoesOn-more : (a b c : Stage) (text : List ℕ) (from at : ℕ) (r : Result ℕ TextError) → GoesOn a b text from (Ok at) → GoesOn b c text at r → GoesOn a c text from r
+GoesOn-more a b c text from at (Ok end) h k = (k.0, h.1 ∙ k.1)
+GoesOn-more a b c text from at (Err e) h k = unless (is_memory e) _ _ (λ q. h.1 ∙ q) k
+
+-- the head of a text was read
+pub head-taken : (s t : Stage) (text : List ℕ) (end : ℕ) → has_quote (take end text) ≡ false → ends_line (take end text) ≡ true → strip_bom (drop end text) ≡ drop end text
+    → read_on s (take end text) ≡ Ok t → read_on s text ≡ read_on t (drop end text)
+head-taken s t text end quoteless line mark h =
+    ap (λ (xs : List ℕ). read_on s xs) (sym (take-append-drop end text)) ∙ read_on-ok s t (take end text) (drop end text) (seam (take end text) (drop end text) quoteless line mark) h
+
+-- the head of a text is refused
+pub head-refused : (s : Stage) (e : TextError) (text : List ℕ) (end : ℕ) → has_quote (take end text) ≡ false → ends_line (take end text) ≡ true → strip_bom (drop end text) ≡ drop end text
+    → MatchBool (is_memory e) ⊤ (read_on s (take end text) ≡ Err e) → MatchBool (is_memory e) ⊤ (read_on s text ≡ Err e)
+head-refused s e text end quoteless line mark = unless (is_memory e) _ _ (λ h.
+    ap (λ (xs : List ℕ). read_on s xs) (sym (take-append-drop end text)) ∙ read_on-err s e (take end text) (drop end text) (seam (take end text) (drop end text) quoteless line mark) h)

@@ -1,0 +1,4 @@
+pub mod Seams
+pub mod Lines
+pub mod LongLines
+pub mod Pieces

@@ -1,0 +1,63 @@
+-- Steps that were read without their trace, and a trace that takes them.
+use Rattle.std.specs.Prelude.{ℕ, ◌≡◌, ◌+◌, List, [], ◌∷◌, ◌++◌, length, Option, Some, None, Result, Ok, Err, ◌==◌, if◌then◌else◌, codes, ⊤}
+use Rattle.std.specs.Str.{bytes_eq}
+use Rattle.std.specs.Option.{ok_or}
+use Rattle.step_trace.specs.declared.traces.PushError.{PushError}
+use Rattle.step_trace.specs.Traces.{Recorded}
+use Rattle.step_trace.specs.Ticks.{with_step}
+use Rattle.step_trace.specs.TickRefusals.{refusal_in}
+use Rattle.trace_text.specs.declared.versions.Version.{Version}
+use Rattle.trace_text.specs.declared.reading.Stage.{Stage}
+use Rattle.trace_text.specs.declared.reading.Stage.TheVariants.{Recording}
+use Rattle.trace_text.specs.declared.refusals.TextError.{TextError}
+use Rattle.trace_text.specs.declared.refusals.TextError.TheVariants.{BadFields, WrongNumber, BadStep}
+use Rattle.trace_text.specs.Records.{◌>>=◌, field_of, number_of}
+use Rattle.trace_text.specs.TextRefusals.{step_fields, pushed}
+use Rattle.trace_text.specs.JudgedIds.{judged_step_of}
+use Rattle.shared_reading.specs.declared.lines.Line.{Line}
+
+-- the steps of a version's text that were read so far
+pub record Read : Type 0 where
+  pub version : Version
+  pub lines : List Line
+
+-- the step that a record tells, with its number and its tick, and with the ids by which it is judged; any refusal stands
+-- for: read it with the trace
+abbrev pub line_of : Version → List (List ℕ) → Result Line TextError
+line_of v fields =
+    if bytes_eq (field_of fields 0) (codes "end") then Err (BadFields 0)
+    else if length fields == step_fields v then
+    (ok_or (number_of (field_of fields 0)) (WrongNumber 0) >>= λ n. judged_step_of v n fields >>= λ x. Ok (record { no = n; tick = x.0; step = x.1 }))
+    else Err (BadFields 0)
+
+abbrev pub with_line : Read → Line → Read
+with_line r l = record { version = r.version; lines = r.lines ++ l ∷ [] }
+
+-- what one more record makes of what was read
+abbrev pub next_read : Read → List (List ℕ) → Result Read TextError
+next_read r fields = line_of r.version fields >>= λ l. Ok (with_line r l)
+
+-- where a step leads that the trace took, or the refusal of the step of this number
+abbrev pub accepted : {A : Type 0} → Option PushError → ℕ → Result A TextError → Result A TextError
+accepted None at r = r
+accepted (Some why) at r = Err (BadStep at why)
+
+-- where one step leads the trace, or its refusal
+abbrev pub line_stage : Version → Recorded → Line → Result Stage TextError
+line_stage v t l =
+    if l.no == length t.steps + 1 then pushed v t l.tick l.step (refusal_in t l.tick l.step)
+    else Err (WrongNumber (length t.steps + 1))
+
+-- where these steps lead, taken one after the other; the first that is refused decides
+unfoldable pub after_lines : Version → Recorded → List Line → Result Stage TextError
+after_lines v t [] = Ok (Recording v t)
+after_lines v t (l ∷ ls) =
+    if l.no == length t.steps + 1 then accepted (refusal_in t l.tick l.step) (length t.steps + 1) (after_lines v (with_step t l.tick l.step) ls)
+    else Err (WrongNumber (length t.steps + 1))
+
+-- these records tell these steps
+unfoldable pub TellLines : Version → List (List (List ℕ)) → List Line → Type 0
+TellLines v [] [] = ⊤
+TellLines v [] (l ∷ ls) = ⊥
+TellLines v (r ∷ rs) [] = ⊥
+TellLines v (r ∷ rs) (l ∷ ls) = (line_of v r ≡ Ok l) × TellLines v rs ls

@@ -1,0 +1,142 @@
+//! Pieces of a trace text that are read without what stands before them.
+
+ghost use Rattle.std.specs.Prelude.{◌≡◌, ◌≤◌, ℕ, length, drop, true, false, All};
+ghost use Rattle.csv.specs.Reading.{strip_bom};
+ghost use Rattle.shared_reading.specs.Seams.{has_quote, ends_line};
+ghost use Rattle.trace_text.specs.declared.reading.Stage.TheVariants.{Recording};
+ghost use Rattle.shared_reading.specs.Pieces.{GoesOn, IsPiece, IsFound};
+
+use crate::lines::{Line, Lines, push_lines};
+use std::alloc::Global;
+use step_trace::Trace;
+use trace_text::TextError;
+use trace_text::records::read_records;
+use trace_text::versions::Version;
+
+/// A piece of a text, from a place to its end, and what was read of it.
+#[derive(Drop)]
+pub(crate) struct Piece {
+    pub(crate) from: usize,
+    pub(crate) end: usize,
+    pub(crate) found: Found,
+}
+
+/// What a thread reads of a piece.
+#[derive(Drop)]
+pub(crate) enum Found {
+    /// Its records are these steps.
+    Steps(Vec<Line>),
+    /// It isn't steps alone, or its records can't be told without what stands before or after it.
+    Unusual,
+    /// There was no memory.
+    NoMemory,
+}
+
+impl Piece {
+    /// The piece of these bytes.
+    pub(crate) fn of(alloc: Global, version: Version, text: &[u8], from: usize, end: usize) -> Piece
+        requires order { from ≤ end }
+        requires within { end ≤ length text.now }
+        ensures { IsPiece version text.now result }
+    {
+        Piece {
+            from,
+            end,
+            found: found_in(alloc, version, &text[from..end]),
+        }
+    }
+}
+
+/// What these bytes tell by themselves.
+fn found_in(alloc: Global, version: Version, bytes: &[u8]) -> Found
+    ensures { IsFound version bytes.now result }
+{
+    if bytes.contains(&b'"') || !ends_line(bytes) {
+        return Found::Unusual;
+    }
+    let mut lines = Lines::new(alloc, version);
+    match read_records(alloc, bytes, &mut lines) {
+        Ok(()) => Found::Steps(lines.into_steps()),
+        Err(TextError::Memory) => Found::NoMemory,
+        Err(_) => Found::Unusual,
+    }
+}
+
+/// Whether the last byte is a line feed.
+pub(crate) fn ends_line(bytes: &[u8]) -> bool
+    ensures { result ≡ true → ends_line bytes.now ≡ true }
+{
+    if bytes.len() == 0 {
+        return false;
+    }
+    bytes[bytes.len() - 1] == 10
+}
+
+/// Whether the bytes may begin with a byte order mark.
+pub(crate) fn may_be_marked(bytes: &[u8]) -> bool
+    ensures { result ≡ false → strip_bom bytes.now ≡ bytes.now }
+{
+    if bytes.len() == 0 {
+        return false;
+    }
+    bytes[0] == 0xEF
+}
+
+/// The bytes from a place on.
+pub(crate) fn tail(text: &[u8], at: usize) -> &[u8]
+    requires { at ≤ length text.now }
+    ensures { result.now ≡ drop at text.now }
+{
+    &text[at..]
+}
+
+/// A trace takes the steps of these pieces, as far as each begins where the one before it ends. Tells
+/// the place up to which the text was read.
+pub(crate) fn take_pieces(
+    text: &[u8],
+    from: usize,
+    version: Version,
+    trace: &mut Trace,
+    pieces: Vec<Piece>,
+) -> Result<usize, TextError>
+    requires pieces { All (IsPiece version text.now) pieces.items }
+    requires within { from ≤ length text.now }
+    ensures { GoesOn (Recording version trace.old) (Recording version trace.new) text.now from result }
+{
+    let mut at = from;
+    for piece in pieces {
+        at = take_piece(text, at, version, trace, piece)?;
+    }
+    Ok(at)
+}
+
+/// A trace takes the steps of a piece, where it begins at this place.
+fn take_piece(
+    text: &[u8],
+    at: usize,
+    version: Version,
+    trace: &mut Trace,
+    piece: Piece,
+) -> Result<usize, TextError>
+    requires piece { IsPiece version text.now piece }
+    requires within { at ≤ length text.now }
+    ensures { GoesOn (Recording version trace.old) (Recording version trace.new) text.now at result }
+{
+    let Piece { from, end, found } = piece;
+    if from != at {
+        return Ok(at);
+    }
+    if may_be_marked(tail(text, end)) {
+        return Ok(at);
+    }
+    match found {
+        Found::Steps(lines) => {
+            // (a trace has no more steps than it may have)
+            let _steps = trace.len();
+            push_lines(version, trace, lines)?;
+            Ok(end)
+        }
+        Found::Unusual => Ok(at),
+        Found::NoMemory => Err(TextError::Memory),
+    }
+}

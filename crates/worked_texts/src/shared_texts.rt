@@ -1,0 +1,180 @@
+//! Texts that several threads read: each is told of as one thread that reads alone tells of it.
+
+use shared_reading::read_trace_by;
+use std::alloc::{AllocError, Global};
+use std::test::Fail;
+use std::thread::Threads;
+use step_trace::Trace;
+use trace_text::{TextError, read_trace};
+
+const STEPS: u64 = 2_000;
+
+const WORKERS: [u64; 6] = [0, 1, 2, 3, 7, 64];
+
+// A text of so many steps, in which 1 sends a message and 2 takes it, in turns.
+#[derive(Clone, Copy)]
+struct Row {
+    // What stands before it all.
+    start: &'static str,
+    // What stands in the place of the record of one step, by its number.
+    odd: (u64, &'static str),
+    // What stands after the steps.
+    end: &'static str,
+    told: &'static str,
+}
+
+// With which all is told.
+const USUAL: Row = Row {
+    start: "",
+    odd: (0, ""),
+    end: "end,2000\n",
+    told: "2000 steps",
+};
+
+const ROWS: &[Row] = &[
+    USUAL,
+    Row {
+        start: "\u{feff}",
+        ..USUAL
+    },
+    Row {
+        end: "end,2000",
+        ..USUAL
+    },
+    Row {
+        end: "",
+        told: "NoEnd",
+        ..USUAL
+    },
+    Row {
+        end: "end,1999\n",
+        told: "WrongEnd",
+        ..USUAL
+    },
+];
+
+// The record of a step, by its number, and what is told.
+const ODD: &[(u64, &str, &str)] = &[
+    (1_501, "1501,1,S,2\r\n\n\n", "2000 steps"),
+    (1_501, "\"1501\",1,S,2\n", "2000 steps"),
+    (3, "\"3\",1,S,2\n", "2000 steps"),
+    (1_501, "\u{feff}1501,1,S,2\n", "WrongNumber(1501)"),
+    (1_501, "1501,4,S,2\n", "BadStep(1501, BadProc)"),
+    (1_501, "1502,1,S,2\n", "WrongNumber(1501)"),
+    (1_501, "1501,1,S\n", "BadFields(1501)"),
+    (1_501, "1501,1,X,2\n", "BadOp(1501)"),
+    (1_501, "end,1500\n", "AfterEnd"),
+    (1_502, "1502,2,R,1499\n", "BadStep(1502, Redelivered(1499))"),
+    (
+        1_502,
+        "1502,2,R,1500\n",
+        "BadStep(1502, UnknownMessage(1500))",
+    ),
+    (1_502, "1502,2,R,1501 1501\n", "BadStep(1502, IdsNotRising)"),
+    (3, "3,1,S,9\n", "BadStep(3, BadDest)"),
+];
+
+fn with_odd(no: u64, record: &'static str, told: &'static str) -> Row {
+    Row {
+        odd: (no, record),
+        told,
+        ..USUAL
+    }
+}
+
+fn push_step(alloc: Global, text: &mut String, no: u64) -> Result<(), AllocError> {
+    let line = if no % 2 == 1 {
+        format!(in alloc; "{no},1,S,2\n")?
+    } else {
+        format!(in alloc; "{no},2,R,{}\n", no.saturating_sub(1))?
+    };
+    text.push_str(line.as_str())
+}
+
+fn text_of(alloc: Global, row: &Row) -> Result<String, AllocError> {
+    let mut text = format!(in alloc; "{}dls-trace,1,3,1\ninit,1,2,3\n", row.start)?;
+    for no in 1..STEPS + 1 {
+        if no == row.odd.0 {
+            text.push_str(row.odd.1)?;
+        } else {
+            push_step(alloc, &mut text, no)?;
+        }
+    }
+    text.push_str(row.end)?;
+    Ok(text)
+}
+
+// How many steps were read, or why the text is refused.
+fn told(alloc: Global, answer: Result<Trace, TextError>) -> Result<String, AllocError> {
+    match answer {
+        Ok(trace) => format!(in alloc; "{} steps", trace.len()),
+        Err(why) => format!(in alloc; "{why:?}"),
+    }
+}
+
+fn is_told<R: Threads + Sync>(
+    rt: &R,
+    alloc: Global,
+    text: &[u8],
+    workers: u64,
+    wanted: &str,
+) -> Result<bool, AllocError> {
+    let found = told(alloc, read_trace_by(rt, alloc, text, workers))?;
+    Ok(found.as_str() == wanted)
+}
+
+// The first number of workers that tells of a text otherwise, if there is one.
+fn first_wrong<R: Threads + Sync>(
+    rt: &R,
+    alloc: Global,
+    row: &Row,
+) -> Result<Option<u64>, AllocError> {
+    let text = text_of(alloc, row)?;
+    for workers in WORKERS {
+        if !is_told(rt, alloc, text.as_bytes(), workers, row.told)? {
+            return Ok(Some(workers));
+        }
+    }
+    Ok(None)
+}
+
+#[test]
+fn told_by_any_number_of_workers(rt: HostRuntime) -> Result<(), Fail> {
+    for row in ROWS {
+        let wrong = first_wrong(&rt, rt.alloc(), row)?;
+        assert!(rt; wrong.is_none(), "{}: {wrong:?}", row.told);
+    }
+    Ok(())
+}
+
+#[test]
+fn odd_records_in_pieces(rt: HostRuntime) -> Result<(), Fail> {
+    for &(no, record, told) in ODD {
+        let wrong = first_wrong(&rt, rt.alloc(), &with_odd(no, record, told))?;
+        assert!(rt; wrong.is_none(), "{record}: {wrong:?}");
+    }
+    Ok(())
+}
+
+// Whether so many workers read the trace that is read of a text by one.
+fn read_the_same<R: Threads + Sync>(rt: &R, alloc: Global, text: &[u8], trace: &Trace) -> bool {
+    for workers in WORKERS {
+        match read_trace_by(rt, alloc, text, workers) {
+            Ok(found) => {
+                if !found.begins(trace) || !trace.begins(&found) {
+                    return false;
+                }
+            }
+            Err(_) => return false,
+        }
+    }
+    true
+}
+
+#[test]
+fn the_trace_of_any_number_of_workers(rt: HostRuntime) -> Result<(), Fail> {
+    let text = text_of(rt.alloc(), &USUAL)?;
+    let trace = read_trace(rt.alloc(), text.as_bytes())?;
+    assert!(rt; read_the_same(&rt, rt.alloc(), text.as_bytes(), &trace));
+    Ok(())
+}
