@@ -35,10 +35,7 @@ pub(crate) fn sent_in(
     for no in before..end {
         if let Some(to) = destination(trace, set, no + 1) {
             sent.push(Message {
-                sent: Place {
-                    no: no + 1,
-                    tick: trace.tick(no + 1),
-                },
+                sent: Place::of(trace, no + 1),
                 to,
                 fate: fates[(no - before) as usize],
             })?;
@@ -70,10 +67,11 @@ fn note_fate(fates: &mut Vec<Fate>, take: Take, before: u64)
     ensures long { length fates.new.items ≡ length fates.old.items }
     ensures noted { (s : ℕ) → before < s → s - before - 1 < length fates.old.items → slice_index_or fates.new.items (s - before - 1) Open ≡ fate_after take s (slice_index_or fates.old.items (s - before - 1) Open) }
 {
-    if take.sent.no <= before {
+    let sent = u64::from(take.sent.no);
+    if sent <= before {
         return;
     }
-    let at = (take.sent.no - before - 1) as usize;
+    let at = (sent - before - 1) as usize;
     if at < fates.len() {
         let missed = after(take.sent, take.before);
         fates[at] = Fate::Taken { missed };
@@ -108,10 +106,7 @@ pub(crate) fn receives_in(
     let mut last = vec![in alloc; None; MAX_MEMBER as usize + 1]?;
     for no in before..end {
         if let Some(by) = receiver(trace, set, no + 1) {
-            let at = Place {
-                no: no + 1,
-                tick: trace.tick(no + 1),
-            };
+            let at = Place::of(trace, no + 1);
             let missed = last_of(&last, by);
             append_takes(&mut taken, trace, at, by, missed)?;
             last[by as usize] = Some(at);
@@ -130,7 +125,7 @@ fn append_takes(
 ) -> Result<(), AllocError>
     ensures { OnOk result (taken.new.items ≡ taken.old.items ++ map (take_of trace.now at by before) (ids_at trace.now.steps at.no)) }
 {
-    if let Some(step) = trace.step(at.no) {
+    if let Some(step) = trace.step(u64::from(at.no)) {
         append_ids(taken, trace, at, by, before, step.act.ids())?;
     }
     Ok(())
@@ -153,10 +148,7 @@ fn append_ids(
         taken.push(Take {
             at,
             by,
-            sent: Place {
-                no: *id,
-                tick: trace.tick(*id),
-            },
+            sent: Place::of(trace, *id),
             before,
         })?;
     }
@@ -167,5 +159,5 @@ fn append_ids(
 pub(crate) fn keep_older(taken: &mut Vec<Take>, from: u64)
     ensures { taken.new.items ≡ filter (is_older from) taken.old.items }
 {
-    taken.retain(|take| take.sent.tick < from);
+    taken.retain(|take| u64::from(take.sent.tick) < from);
 }

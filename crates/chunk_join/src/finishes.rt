@@ -117,7 +117,7 @@ fn after_last(sent: &[Message], count: usize, g: u64) -> u64
     if count == 0 {
         1
     } else {
-        sent[count - 1].sent.tick + 1
+        u64::from(sent[count - 1].sent.tick) + 1
     }
 }
 
@@ -157,7 +157,8 @@ fn note_messages(level: &mut Level, part: &Part, count: usize, g: u64) -> usize
 {
     for k in (0..count).rev() {
         let message = &part.sent[k];
-        if message.sent.tick < g {
+        let tick = u64::from(message.sent.tick);
+        if tick < g {
             return k + 1;
         }
         note_message(level, message, missed(&part.last, message), part.to);
@@ -181,10 +182,12 @@ fn note_message(level: &mut Level, message: &Message, missed: Option<Place>, end
     ensures { level.new ≡ with_missed end level.old message.now missed }
 {
     if let Some(place) = missed {
-        let long = place.tick.min(end).saturating_sub(message.sent.tick);
+        let long = u64::from(place.tick)
+            .min(end)
+            .saturating_sub(u64::from(message.sent.tick));
         let miss = Miss {
-            sent: message.sent.no,
-            missed: place.no,
+            sent: u64::from(message.sent.no),
+            missed: u64::from(place.no),
         };
         note_miss(level, miss, long);
     }

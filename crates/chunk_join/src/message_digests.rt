@@ -61,7 +61,7 @@ fn stays(longest: u64, message: &Message) -> bool
         Fate::Open => true,
         Fate::Taken {
             missed: Some(place),
-        } => longest < place.tick.saturating_sub(message.sent.tick),
+        } => longest < u64::from(place.tick.saturating_sub(message.sent.tick)),
         Fate::Taken { missed: None } => false,
     }
 }
@@ -74,7 +74,7 @@ fn long_of(message: &Message) -> u64
         Fate::Open => 0,
         Fate::Taken {
             missed: Some(place),
-        } => place.tick.saturating_sub(message.sent.tick),
+        } => u64::from(place.tick.saturating_sub(message.sent.tick)),
         Fate::Taken { missed: None } => 0,
     }
 }

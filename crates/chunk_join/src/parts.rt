@@ -132,7 +132,7 @@ fn append_older(taken: &mut Vec<Take>, from: u64, more: &[Take], last: &[Option<
     ensures { taken.new.items ≡ taken.old.items ++ map (reach_take last.now) (filter (is_older from) more.now) }
 {
     for take in more {
-        if take.sent.tick < from {
+        if u64::from(take.sent.tick) < from {
             let before = later_of(last_of(last, take.by), take.before);
             taken.push_reserved(Take { before, ..*take });
         }

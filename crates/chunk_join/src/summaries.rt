@@ -2,17 +2,35 @@
 //!
 //! Ticks are real-time steps. A number of a step goes with its tick, since the parts of a trace are compared by ticks.
 
-ghost use Rattle.std.specs.Prelude.{◌≡◌};
+ghost use Rattle.std.specs.Prelude.{◌≡◌, ◌≤◌, length};
+ghost use Rattle.step_trace.specs.Ticks.{tick_of};
 ghost use Rattle.chunk_join.specs.Summaries.{last_of};
 ghost use Rattle.chunk_join.specs.Joins.{later_of, after, comes_before};
 
-/// A step of a trace.
+use step_trace::Trace;
+
+/// A step of a trace. Numbers and ticks of a trace are below 2^32, and a long list of messages has many places.
 #[derive(Clone, Copy, Debug, PartialEq, Eq)]
 pub(crate) struct Place {
     /// Its number.
-    pub(crate) no: u64,
+    pub(crate) no: u32,
     /// Its tick.
-    pub(crate) tick: u64,
+    pub(crate) tick: u32,
+}
+
+impl Place {
+    /// The place of the step of this number.
+    pub(crate) fn of(trace: &Trace, no: u64) -> Place
+        requires low { 1 ≤ no }
+        requires high { no ≤ length trace.now.steps }
+        ensures { result ≡ record { no = no; tick = tick_of trace.now no } }
+    {
+        let _steps = trace.len();
+        Place {
+            no: no as u32,
+            tick: trace.tick(no) as u32,
+        }
+    }
 }
 
 /// What becomes of a message up to the end of a part.

@@ -8,8 +8,8 @@ use Rattle.chunk_join.specs.Finishes.{missed, with_missed, HasMissesFrom}
 use Rattle.chunk_join.proofs.MessagesBack.{StandsBefore-with_missed, StandsBefore-through, with_missed-phi, with_missed-gap, HasMissesFrom-back}
 use Rattle.chunk_join.proofs.finishes.note_messages.Goals as goal
 
-pub returns-then-message-g-clause-misses : goal.returns-then-message-g-clause-misses
-returns-then-message-g-clause-misses c =
+pub returns-then-tick-g-clause-misses : goal.returns-then-tick-g-clause-misses
+returns-then-tick-g-clause-misses c =
     let above = c.loop-k-test.true in
     let e : c.loop-k.k ≡ c.loop-k.k - 1 + 1 = omega (arith, above) in
     λ h. subst (λ n. HasMissesFrom c.args.part.now n c.loop-k.level) e (c.loop-k.invariant.misses h)
@@ -42,7 +42,7 @@ loop-k-preserved c =
         | inr first ↦ (
             let same : j ≡ k = omega (arith, first, low) in
             let one = ap (λ (x : Message). x.sent.tick) (same_Some _ _ (sym h ∙ ap (slice_get part.sent) same ∙ at)) in
-            let test = c.if-message-g.false in
+            let test = c.if-tick-g.false in
             omega (arith, one, test))
       ];
       misses = λ h. subst (HasMissesFrom part k) (sym is)
