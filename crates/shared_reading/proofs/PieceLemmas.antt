@@ -1,5 +1,5 @@
 -- A trace that takes the steps of a piece goes on where the piece ends.
-use Rattle.std.proofs.Common.{◌≡◌, ◌≤◌, ◌+◌, ◌-◌, ◌∙◌, ℕ, suc, List, [], ◌∷◌, ◌++◌, length, take, drop, Result, Ok, Err, Bool, true, false, refl, sym, ap, subst, arith, nat_eq, slice_index_or}
+use Rattle.std.proofs.Common.{◌≡◌, ◌≤◌, ◌+◌, ◌-◌, ◌∙◌, ℕ, suc, List, [], ◌∷◌, ◌++◌, length, drop, Result, Ok, Err, Bool, true, false, refl, sym, ap, subst, arith, nat_eq, slice_index_or}
 use Rattle.std.specs.Prelude.{MatchBool, ⊤}
 use Rattle.std.proofs.lemmas.List.{drop-drop, take-append-drop}
 use Rattle.csv.specs.Reading.{strip_bom}
@@ -61,40 +61,37 @@ part-rest text from end order =
     let e : from + (end - from) ≡ end = omega (arith, order) in
     sym (take-append-drop (end - from) (drop from text)) ∙ ap (λ (xs : List ℕ). part text from end ++ xs) (drop-drop (end - from) from text ∙ ap (λ k. drop k text) e)
 
-piece-seam : (v : Version) (text : List ℕ) (from end : ℕ) (lines : List Line) → IsReadAlone v (part text from end) lines → strip_bom (drop end text) ≡ drop end text → IsSeam (part text from end) (drop end text)
-piece-seam v text from end lines alone mark = seam (part text from end) (drop end text) alone.quoteless alone.line mark
+unless : (b : Bool) (P Q : Type 0) → (P → Q) → MatchBool b ⊤ P → MatchBool b ⊤ Q
+unless true P Q f h = h
+unless false P Q f h = f h
+
+-- a part of a text, which may be cut off behind it, was read
+pub part-read : (s t : Stage) (text : List ℕ) (from end : ℕ) → from ≤ end → has_quote (part text from end) ≡ false → ends_line (part text from end) ≡ true → strip_bom (drop end text) ≡ drop end text
+    → read_on s (part text from end) ≡ Ok t → read_on s (drop from text) ≡ read_on t (drop end text)
+part-read s t text from end order quoteless line mark h =
+    ap (λ (xs : List ℕ). read_on s xs) (part-rest text from end order)
+    ∙ read_on-ok s t (part text from end) (drop end text) (seam (part text from end) (drop end text) quoteless line mark) h
+
+-- such a part is refused
+pub part-refused : (s : Stage) (e : TextError) (text : List ℕ) (from end : ℕ) → from ≤ end → has_quote (part text from end) ≡ false → ends_line (part text from end) ≡ true → strip_bom (drop end text) ≡ drop end text
+    → MatchBool (is_memory e) ⊤ (read_on s (part text from end) ≡ Err e) → MatchBool (is_memory e) ⊤ (read_on s (drop from text) ≡ Err e)
+part-refused s e text from end order quoteless line mark = unless (is_memory e) _ _ (λ h.
+    ap (λ (xs : List ℕ). read_on s xs) (part-rest text from end order)
+    ∙ read_on-err s e (part text from end) (drop end text) (seam (part text from end) (drop end text) quoteless line mark) h)
 
 -- the trace takes all steps of a piece
 pub piece-taken : (v : Version) (t u : Recorded) (text : List ℕ) (from end : ℕ) (lines : List Line) → from ≤ end → IsReadAlone v (part text from end) lines → strip_bom (drop end text) ≡ drop end text → length t.steps ≤ MAX_STEPS
     → after_lines v t lines ≡ Ok (Recording v u) → read_on (Recording v t) (drop from text) ≡ read_on (Recording v u) (drop end text)
 piece-taken v t u text from end lines order alone mark short h =
-    ap (λ (xs : List ℕ). read_on (Recording v t) xs) (part-rest text from end order)
-    ∙ read_on-ok (Recording v t) (Recording v u) (part text from end) (drop end text) (piece-seam v text from end lines alone mark) (alone.leads t short ∙ h)
-
-unless : (b : Bool) (P Q : Type 0) → (P → Q) → MatchBool b ⊤ P → MatchBool b ⊤ Q
-unless true P Q f h = h
-unless false P Q f h = f h
+    part-read (Recording v t) (Recording v u) text from end order alone.quoteless alone.line mark (alone.leads t short ∙ h)
 
 -- the trace refuses a step of a piece
 pub piece-refused : (v : Version) (t : Recorded) (text : List ℕ) (from end : ℕ) (lines : List Line) (e : TextError) → from ≤ end → IsReadAlone v (part text from end) lines → strip_bom (drop end text) ≡ drop end text
     → length t.steps ≤ MAX_STEPS → MatchBool (is_memory e) ⊤ (after_lines v t lines ≡ Err e) → MatchBool (is_memory e) ⊤ (read_on (Recording v t) (drop from text) ≡ Err e)
-piece-refused v t text from end lines e order alone mark short = unless (is_memory e) _ _ (λ h.
-    ap (λ (xs : List ℕ). read_on (Recording v t) xs) (part-rest text from end order)
-    ∙ read_on-err (Recording v t) e (part text from end) (drop end text) (piece-seam v text from end lines alone mark) (alone.leads t short ∙ h))
+piece-refused v t text from end lines e order alone mark short h =
+    part-refused (Recording v t) e text from end order alone.quoteless alone.line mark (unless (is_memory e) _ _ (λ refused. alone.leads t short ∙ refused) h)
 
 -- one reading after the other
 pub GoesOn-more : (a b c : Stage) (text : List ℕ) (from at : ℕ) (r : Result ℕ TextError) → GoesOn a b text from (Ok at) → GoesOn b c text at r → GoesOn a c text from r
 GoesOn-more a b c text from at (Ok end) h k = (k.0, h.1 ∙ k.1)
 GoesOn-more a b c text from at (Err e) h k = unless (is_memory e) _ _ (λ q. h.1 ∙ q) k
-
--- the head of a text was read
-pub head-taken : (s t : Stage) (text : List ℕ) (end : ℕ) → has_quote (take end text) ≡ false → ends_line (take end text) ≡ true → strip_bom (drop end text) ≡ drop end text
-    → read_on s (take end text) ≡ Ok t → read_on s text ≡ read_on t (drop end text)
-head-taken s t text end quoteless line mark h =
-    ap (λ (xs : List ℕ). read_on s xs) (sym (take-append-drop end text)) ∙ read_on-ok s t (take end text) (drop end text) (seam (take end text) (drop end text) quoteless line mark) h
-
--- the head of a text is refused
-pub head-refused : (s : Stage) (e : TextError) (text : List ℕ) (end : ℕ) → has_quote (take end text) ≡ false → ends_line (take end text) ≡ true → strip_bom (drop end text) ≡ drop end text
-    → MatchBool (is_memory e) ⊤ (read_on s (take end text) ≡ Err e) → MatchBool (is_memory e) ⊤ (read_on s text ≡ Err e)
-head-refused s e text end quoteless line mark = unless (is_memory e) _ _ (λ h.
-    ap (λ (xs : List ℕ). read_on s xs) (sym (take-append-drop end text)) ∙ read_on-err s e (take end text) (drop end text) (seam (take end text) (drop end text) quoteless line mark) h)

@@ -5,5 +5,6 @@
 mod lines;
 mod pieces;
 mod reading;
+mod stretches;
 
 pub use reading::read_trace_by;

@@ -8,10 +8,11 @@ ghost use Rattle.trace_text.specs.TraceTexts.{StandsFor, IsTextTrace};
 ghost use Rattle.trace_text.specs.TextRefusals.{Gives, IsFirstRefusal, trace_of_records};
 ghost use Rattle.shared_reading.specs.Pieces.{GoesOn, IsPiece};
 
-use crate::pieces::{Found, Piece, ends_line, may_be_marked, tail, take_pieces};
+use crate::pieces::{Piece, ends_line, may_be_marked, tail, take_pieces};
+use crate::stretches::{Stretch, Stretches, line_start};
 use std::alloc::{AllocError, Global};
-use std::thread;
 use std::thread::Threads;
+use std::{mem, thread};
 use step_trace::Trace;
 use trace_text::reading::{Stage, trace_at_end};
 use trace_text::records::read_records;
@@ -20,9 +21,6 @@ use trace_text::{MAX_TEXT_BYTES, TextError};
 
 // The bytes that one thread reads before the others begin: the header and the initial values are among them.
 const HEAD_BYTES: usize = 4096;
-
-// The bytes that are left to one thread at the end: the record of the end is among them.
-const TAIL_BYTES: usize = 64;
 
 /// The trace that a text stands for, of which so many threads read parts. Answers as `read_trace` does,
 /// whatever their number, also where a thread can't be started.
@@ -79,115 +77,173 @@ fn read_shared<R: Threads + Sync>(
     if workers < 2 {
         return Ok(0);
     }
-    let at = read_head(alloc, text, stage)?;
-    match stage {
-        Stage::Recording(version, trace) => {
-            read_pieces(rt, alloc, text, at, *version, trace, workers)
-        }
-        _ => Ok(at),
-    }
+    let at = read_part(alloc, text, 0, line_start(text, HEAD_BYTES), stage)?;
+    let version = match stage {
+        Stage::Recording(version, _) => *version,
+        _ => return Ok(at),
+    };
+    read_stretches(rt, alloc, text, at, version, workers as usize, stage)
 }
 
-/// Reads the head, where it may be cut off.
-fn read_head(alloc: Global, text: &[u8], stage: &mut Stage) -> Result<usize, TextError>
-    ensures { GoesOn stage.old stage.new text.now 0 result }
-{
-    let end = line_start(text, HEAD_BYTES);
-    let head = &text[..end];
-    if head.contains(&b'"') {
-        return Ok(0);
-    }
-    if !ends_line(head) {
-        return Ok(0);
-    }
-    if may_be_marked(tail(text, end)) {
-        return Ok(0);
-    }
-    read_records(alloc, head, stage)?;
-    Ok(end)
-}
-
-/// A trace takes the steps of the pieces that so many threads read.
-fn read_pieces<R: Threads + Sync>(
-    rt: &R,
-    alloc: Global,
-    text: &[u8],
-    from: usize,
-    version: Version,
-    trace: &mut Trace,
-    workers: u64,
-) -> Result<usize, TextError>
-    requires { from ≤ length text.now }
-    ensures { GoesOn (Recording version trace.old) (Recording version trace.new) text.now from result }
-{
-    match pieces_of(rt, alloc, text, from, version, workers as usize) {
-        Ok(pieces) => take_pieces(text, from, version, trace, pieces),
-        Err(AllocError) => Err(TextError::Memory),
-    }
-}
-
-/// The pieces that so many threads read, in their order.
-fn pieces_of<R: Threads + Sync>(
+/// Reads on from a place, stretch by stretch.
+fn read_stretches<R: Threads + Sync>(
     rt: &R,
     alloc: Global,
     text: &[u8],
     from: usize,
     version: Version,
     workers: usize,
+    stage: &mut Stage,
+) -> Result<usize, TextError>
+    requires { from ≤ length text.now }
+    ensures { GoesOn stage.old stage.new text.now from result }
+{
+    let stretches = Stretches::of(text, from, workers);
+    let mut at = from;
+    let mut pieces = Vec::new(alloc);
+    for k in 0..stretches.count {
+        let stretch = stretches.stretch(k);
+        at = read_stretch(rt, alloc, text, at, version, &stretch, stage, &mut pieces)?;
+        if at != stretch.piece_start(text, 0) {
+            return Ok(at);
+        }
+    }
+    take_pieces_of(text, at, version, stage, pieces)
+}
+
+/// Other threads read the pieces of a stretch. Meanwhile this thread takes the pieces of the stretch before it, which are
+/// given, and reads its own share of the stretch. Leaves the pieces that were read.
+fn read_stretch<R: Threads + Sync>(
+    rt: &R,
+    alloc: Global,
+    text: &[u8],
+    at: usize,
+    version: Version,
+    stretch: &Stretch,
+    stage: &mut Stage,
+    pieces: &mut Vec<Piece>,
+) -> Result<usize, TextError>
+    requires within { at ≤ length text.now }
+    requires pieces { All (IsPiece version text.now) pieces.old.items }
+    ensures goes_on { GoesOn stage.old stage.new text.now at result }
+    ensures pieces { All (IsPiece version text.now) pieces.new.items }
+{
+    let before = mem::replace(pieces, Vec::new(alloc));
+    let own = mem::replace(stage, Stage::Opening);
+    let own_end = stretch.piece_start(text, 0);
+    let (read, (taken, reached)) = thread::join(
+        rt,
+        move || -> Result<Vec<Piece>, AllocError>
+            ensures { IfOk result (λ pieces. All (IsPiece version text.entry.now) pieces.items) }
+        { pieces_of(rt, alloc, text, version, stretch) },
+        move || -> (Result<usize, TextError>, Stage)
+            requires within { at ≤ length text.now }
+            requires own { own_end ≤ length text.now }
+            requires pieces { All (IsPiece version text.now) before.items }
+            ensures { GoesOn own result.1 text.entry.now at result.0 }
+        { take_and_read(alloc, text, at, version, own, before, own_end) },
+    );
+    *stage = reached;
+    let at = taken?;
+    match read {
+        Ok(read) => *pieces = read,
+        Err(AllocError) => return Err(TextError::Memory),
+    }
+    Ok(at)
+}
+
+/// Takes these pieces, and reads on up to a place. Gives back the stage that it was given.
+fn take_and_read(
+    alloc: Global,
+    text: &[u8],
+    at: usize,
+    version: Version,
+    mut stage: Stage,
+    pieces: Vec<Piece>,
+    end: usize,
+) -> (Result<usize, TextError>, Stage)
+    requires within { at ≤ length text.now }
+    requires end { end ≤ length text.now }
+    requires pieces { All (IsPiece version text.now) pieces.items }
+    ensures { GoesOn stage result.1 text.now at result.0 }
+{
+    let read = match take_pieces_of(text, at, version, &mut stage, pieces) {
+        Ok(at) => read_part(alloc, text, at, end.max(at), &mut stage),
+        Err(why) => Err(why),
+    };
+    (read, stage)
+}
+
+/// Reads from one place to another, where the text may be cut off there.
+fn read_part(
+    alloc: Global,
+    text: &[u8],
+    from: usize,
+    end: usize,
+    stage: &mut Stage,
+) -> Result<usize, TextError>
+    requires order { from ≤ end }
+    requires within { end ≤ length text.now }
+    ensures { GoesOn stage.old stage.new text.now from result }
+{
+    let part = &text[from..end];
+    if part.contains(&b'"') {
+        return Ok(from);
+    }
+    if !ends_line(part) {
+        return Ok(from);
+    }
+    if may_be_marked(tail(text, end)) {
+        return Ok(from);
+    }
+    read_records(alloc, part, stage)?;
+    Ok(end)
+}
+
+/// The pieces that the other threads read of a stretch, in their order.
+fn pieces_of<R: Threads + Sync>(
+    rt: &R,
+    alloc: Global,
+    text: &[u8],
+    version: Version,
+    stretch: &Stretch,
 ) -> Result<Vec<Piece>, AllocError>
     ensures { IfOk result (λ pieces. All (IsPiece version text.now) pieces.items) }
 {
-    if workers == 0 {
-        return Ok(Vec::new(alloc));
-    }
-    let share = text.len().saturating_sub(from).saturating_sub(TAIL_BYTES) / workers;
     thread::map_indices(
         rt,
         alloc,
-        workers,
-        &|worker| piece_of(alloc, version, text, from, share, worker),
+        stretch.others,
+        &|other| piece_of(alloc, version, text, stretch, other),
     )
 }
 
-/// The piece of a worker, from 0.
-fn piece_of(
-    alloc: Global,
-    version: Version,
-    text: &[u8],
-    from: usize,
-    share: usize,
-    worker: usize,
-) -> Piece
+/// The piece of this number, from 0.
+fn piece_of(alloc: Global, version: Version, text: &[u8], stretch: &Stretch, other: usize) -> Piece
     ensures { IsPiece version text.now result }
 {
-    let start = line_start(text, place(from, share, worker));
-    let end = line_start(text, place(from, share, worker.saturating_add(1)));
-    if end < start {
-        return Piece {
-            from: start,
-            end: start,
-            found: Found::Unusual,
-        };
-    }
-    Piece::of(alloc, version, text, start, end)
+    let from = stretch.piece_start(text, other);
+    let end = stretch.piece_start(text, other.saturating_add(1)).max(from);
+    Piece::of(alloc, version, text, from, end)
 }
 
-fn place(from: usize, share: usize, worker: usize) -> usize {
-    from.saturating_add(share.saturating_mul(worker))
-}
-
-/// The first place from this one on at which a line begins, or the end.
-fn line_start(text: &[u8], at: usize) -> usize
-    ensures { result ≤ length text.now }
+/// A trace that is being recorded takes the steps of the pieces, if they were read in its version.
+fn take_pieces_of(
+    text: &[u8],
+    at: usize,
+    version: Version,
+    stage: &mut Stage,
+    pieces: Vec<Piece>,
+) -> Result<usize, TextError>
+    requires pieces { All (IsPiece version text.now) pieces.items }
+    requires within { at ≤ length text.now }
+    ensures { GoesOn stage.old stage.new text.now at result }
 {
-    if at == 0 {
-        return 0;
-    }
-    if at > text.len() {
-        return text.len();
-    }
-    match tail(text, at - 1).iter().position(|byte| *byte == b'\n') {
-        Some(k) => at + k,
-        None => text.len(),
+    match (version, stage) {
+        (Version::One, Stage::Recording(Version::One, trace))
+        | (Version::Two, Stage::Recording(Version::Two, trace)) => {
+            take_pieces(text, at, version, trace, pieces)
+        }
+        _ => Ok(at),
     }
 }

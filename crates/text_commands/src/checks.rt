@@ -2,24 +2,27 @@
 
 ghost use Rattle.std.specs.Prelude.{◌≡◌, ◌≤◌, ℕ, List, OnOk, IfOk, IfErr, IfSome, IsTrue, length};
 ghost use Rattle.std.specs.Io.KnownBytes.{IsAtEnd, Appends};
+ghost use Rattle.step_trace.specs.Processors.{IsWithin};
 ghost use Rattle.step_trace.specs.declared.rows.Row.{Row};
 ghost use Rattle.trace_text.specs.ByteLoops.{WasFaultless};
 ghost use Rattle.trace_text.specs.Faults.{inner_of, faults_of, is_flushed};
 ghost use Rattle.trace_text.specs.declared.byte_loops.TheConstants.{MAX_TEXT_BYTES};
 ghost use Rattle.front.specs.ReportTexts.{StandsFor};
 ghost use Rattle.text_commands.specs.Checks.{IsEitherReadFault, IsFaultBefore, IsLineOn, IsUnchecked, IsVerdictOn, check_kinds, told_verdict};
-ghost use Rattle.text_commands.specs.Inputs.{IsReadFault};
+ghost use Rattle.text_commands.specs.Inputs.{IsReadFault, IsTextOf};
+ghost use Rattle.text_commands.specs.Reports.{IsTextFault};
 ghost use Rattle.text_commands.specs.Printing.{IsWriteFault};
 ghost use Rattle.text_commands.specs.Serving.{IsFaultOf, IsServeFault};
 
 use crate::certificate_texts::read_certificate;
 use crate::faults::Fault;
-use crate::reports::trace_within;
+use crate::inputs::trace_of;
+use crate::reports::test_set;
 use crate::verdict_lines::tell_verdict;
 use certificate_checker::{Verdict, check_claimed};
 use std::alloc::Global;
 use std::io::{Read, Write};
-use step_trace::ProcSet;
+use step_trace::{ProcSet, Trace};
 use trace_text::{Counting, read_all};
 
 /// Reads a trace text and then a certificate to their ends, checks the rows of the certificate against the
@@ -77,4 +80,17 @@ fn verdict_on<S: Read>(
     let trace = trace_within(alloc, text, set)?;
     let rows = read_certificate(alloc, certificate, trace.last_tick())?;
     Ok(check_claimed(alloc, &trace, set, &rows)?)
+}
+
+/// The trace that a text stands for, where no member of the set is above its processors.
+///
+/// Refuses, in this order: Trace with the first refusal of the text; Set. Memory may come instead.
+fn trace_within(alloc: Global, text: Vec<u8>, set: ProcSet) -> Result<Trace, Fault>
+    ensures read { IfOk result (λ t. IsTextOf text.items t) }
+    ensures within { IfOk result (λ t. IsWithin set t.config.n) }
+    ensures refused { IfErr result (IsTextFault set text.items) }
+{
+    let trace = trace_of(alloc, text)?;
+    test_set(set, trace.config().n())?;
+    Ok(trace)
 }

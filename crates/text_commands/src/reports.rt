@@ -7,13 +7,13 @@ ghost use Rattle.step_trace.specs.Processors.{IsWithin};
 ghost use Rattle.trace_text.specs.ByteLoops.{WasFaultless};
 ghost use Rattle.trace_text.specs.Faults.{inner_of, faults_of, is_flushed};
 ghost use Rattle.chunk_join.specs.declared.analyses.TheConstants.{MAX_WORKERS};
-ghost use Rattle.text_commands.specs.Inputs.{IsReadFault, IsTextOf};
+ghost use Rattle.text_commands.specs.Inputs.{IsReadFault};
 ghost use Rattle.text_commands.specs.Printing.{IsWriteFault};
-ghost use Rattle.text_commands.specs.Reports.{AreRowsOf, IsReportOf, IsFaultOfWorkers, IsTextFault, IsUnreported, TellsAnalysis, report_kinds};
+ghost use Rattle.text_commands.specs.Reports.{AreRowsOf, IsReportOf, IsFaultOfWorkers, IsUnreported, TellsAnalysis, report_kinds};
 ghost use Rattle.text_commands.specs.Serving.{IsFaultOf, IsServeFault};
 
 use crate::faults::Fault;
-use crate::inputs::trace_of;
+use crate::inputs::trace_by;
 use chunk_join::{AnalyseError, analyse};
 use front::{Report, front, write_report};
 use std::alloc::Global;
@@ -24,9 +24,9 @@ use step_trace::{Gate, ProcSet, Trace};
 use trace_text::{Counting, read_all};
 
 /// Reads a trace text to its end, and writes the report of its trace, for `set` as the correct
-/// processors. So many workers find the bounds, each in a thread of its own, which enters the gate
-/// before its work; whatever their number, the report is the same. Nothing is written before the whole
-/// report stands.
+/// processors. So many workers read the text, each a share of it, and find the bounds, each in a thread
+/// of its own, which enters the gate before that work; whatever their number, the report is the same.
+/// Nothing is written before the whole report stands.
 ///
 /// Asks for 1 to `MAX_WORKERS` workers, and waits for them. Refuses, in this order: Read, or Trace for
 /// a text that is too large; Trace for any other refusal of the text; Set where a member is above the
@@ -62,7 +62,7 @@ pub fn run_report<T: Threads + Wait + Sync, R: Read, W: Write, G: Gate>(
     Ok(write_report(alloc, report.rows(), writer)?)
 }
 
-/// The report of the trace that a text stands for.
+/// The report of the trace that a text stands for, which so many workers read and analyse.
 fn report_of<T: Threads + Wait + Sync, G: Gate>(
     rt: &T,
     alloc: Global,
@@ -76,21 +76,9 @@ fn report_of<T: Threads + Wait + Sync, G: Gate>(
     ensures report { IfOk result (λ r. AreRowsOf set text.items r.rows) }
     ensures refused { IfErr result (IsUnreported set text.items) }
 {
-    let trace = trace_within(alloc, text, set)?;
-    rows_of(rt, alloc, &trace, set, workers, gate)
-}
-
-/// The trace that a text stands for, where no member of the set is above its processors.
-///
-/// Refuses, in this order: Trace with the first refusal of the text; Set. Memory may come instead.
-pub fn trace_within(alloc: Global, text: Vec<u8>, set: ProcSet) -> Result<Trace, Fault>
-    ensures read { IfOk result (λ t. IsTextOf text.items t) }
-    ensures within { IfOk result (λ t. IsWithin set t.config.n) }
-    ensures refused { IfErr result (IsTextFault set text.items) }
-{
-    let trace = trace_of(alloc, text)?;
+    let trace = trace_by(rt, alloc, text, workers)?;
     test_set(set, trace.config().n())?;
-    Ok(trace)
+    rows_of(rt, alloc, &trace, set, workers, gate)
 }
 
 /// The report of a trace, whose bounds so many workers find.

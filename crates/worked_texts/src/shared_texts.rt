@@ -7,13 +7,12 @@ use std::thread::Threads;
 use step_trace::Trace;
 use trace_text::{TextError, read_trace};
 
-const STEPS: u64 = 2_000;
-
 const WORKERS: [u64; 6] = [0, 1, 2, 3, 7, 64];
 
-// A text of so many steps, in which 1 sends a message and 2 takes it, in turns.
+// A text in which 1 sends a message and 2 takes it, in turns.
 #[derive(Clone, Copy)]
 struct Row {
+    steps: u64,
     // What stands before it all.
     start: &'static str,
     // What stands in the place of the record of one step, by its number.
@@ -25,14 +24,38 @@ struct Row {
 
 // With which all is told.
 const USUAL: Row = Row {
+    steps: 2_000,
     start: "",
     odd: (0, ""),
     end: "end,2000\n",
     told: "2000 steps",
 };
 
+// Three megabytes, which are read in stretches.
+const LONG: Row = Row {
+    steps: 200_000,
+    end: "end,200000\n",
+    told: "200000 steps",
+    ..USUAL
+};
+
 const ROWS: &[Row] = &[
     USUAL,
+    LONG,
+    Row {
+        odd: (150_001, "\"150001\",1,S,2\n"),
+        ..LONG
+    },
+    Row {
+        odd: (150_001, "150001,4,S,2\n"),
+        told: "BadStep(150001, BadProc)",
+        ..LONG
+    },
+    Row {
+        odd: (150_002, "150002,2,R,149999\n"),
+        told: "BadStep(150002, Redelivered(149999))",
+        ..LONG
+    },
     Row {
         start: "\u{feff}",
         ..USUAL
@@ -72,6 +95,12 @@ const ODD: &[(u64, &str, &str)] = &[
     ),
     (1_502, "1502,2,R,1501 1501\n", "BadStep(1502, IdsNotRising)"),
     (3, "3,1,S,9\n", "BadStep(3, BadDest)"),
+    // (in the share of the thread that waits, where there are two or three)
+    (801, "801,1,S,2\r\n\n\n", "2000 steps"),
+    (801, "\"801\",1,S,2\n", "2000 steps"),
+    (801, "\u{feff}801,1,S,2\n", "WrongNumber(801)"),
+    (801, "801,4,S,2\n", "BadStep(801, BadProc)"),
+    (801, "end,800\n", "AfterEnd"),
 ];
 
 fn with_odd(no: u64, record: &'static str, told: &'static str) -> Row {
@@ -93,7 +122,7 @@ fn push_step(alloc: Global, text: &mut String, no: u64) -> Result<(), AllocError
 
 fn text_of(alloc: Global, row: &Row) -> Result<String, AllocError> {
     let mut text = format!(in alloc; "{}dls-trace,1,3,1\ninit,1,2,3\n", row.start)?;
-    for no in 1..STEPS + 1 {
+    for no in 1..row.steps + 1 {
         if no == row.odd.0 {
             text.push_str(row.odd.1)?;
         } else {
@@ -173,8 +202,10 @@ fn read_the_same<R: Threads + Sync>(rt: &R, alloc: Global, text: &[u8], trace: &
 
 #[test]
 fn the_trace_of_any_number_of_workers(rt: HostRuntime) -> Result<(), Fail> {
-    let text = text_of(rt.alloc(), &USUAL)?;
-    let trace = read_trace(rt.alloc(), text.as_bytes())?;
-    assert!(rt; read_the_same(&rt, rt.alloc(), text.as_bytes(), &trace));
+    for row in [USUAL, LONG] {
+        let text = text_of(rt.alloc(), &row)?;
+        let trace = read_trace(rt.alloc(), text.as_bytes())?;
+        assert!(rt; read_the_same(&rt, rt.alloc(), text.as_bytes(), &trace));
+    }
     Ok(())
 }

@@ -23,7 +23,7 @@ struct ReportWords<'a> {
     file: &'a str,
     /// The list of the correct processors.
     list: &'a str,
-    /// How many workers find the bounds.
+    /// How many workers read the trace and find the bounds.
     workers: u64,
 }
 
@@ -46,7 +46,7 @@ fn workers_argument<'a>(alloc: Global) -> Arg<'a>
     Arg::new(alloc, "workers")
         .long("workers")
         .value_name("W")
-        .help("How many threads analyse it, from 1 to 64")
+        .help("How many threads read and analyse it, from 1 to 64")
         .default_value("1")
         .value_parser(ValueParser::unsigned(1, MAX_WORKERS))
         .action(ArgAction::Set)

@@ -1,7 +1,7 @@
 use Rattle.std.proofs.Common.{rules}
 use Rattle.std.proofs.lemmas.Result.{err_from_is_err_and}
 use Rattle.text_commands.proofs.ReportFaults.{set_fault, trace_fault}
-use Rattle.text_commands.proofs.reports.trace_within.Goals as goal
+use Rattle.text_commands.proofs.checks.trace_within.Goals as goal
 
 pub returns-in_err-trace-clause-refused : goal.returns-in_err-trace-clause-refused
 returns-in_err-trace-clause-refused c =

@@ -1,0 +1,95 @@
+//! Where a trace text is cut, so that several threads read it.
+
+ghost use Rattle.std.specs.Prelude.{◌≤◌, length};
+
+use crate::pieces::tail;
+
+// The greatest number of bytes of a stretch. The steps of two stretches at most are kept beside the trace.
+const STRETCH_BYTES: usize = 1_048_576;
+
+// The bytes that are left to one thread at the end: the record of the end is among them.
+const TAIL_BYTES: usize = 64;
+
+/// The stretches of what a text has from a place on, for so many threads: all of so many bytes.
+#[derive(Clone, Copy)]
+pub(crate) struct Stretches {
+    from: usize,
+    workers: usize,
+    pub(crate) count: usize,
+    bytes: usize,
+}
+
+/// A stretch of a text: the share of the thread that takes the pieces, and behind it the pieces of the others, each from
+/// the beginning of a line to that of another.
+#[derive(Clone, Copy)]
+pub(crate) struct Stretch {
+    /// How many other threads read a piece.
+    pub(crate) others: usize,
+    // The place in whose line the first piece begins, and how many bytes lie between two such places.
+    first: usize,
+    piece: usize,
+}
+
+impl Stretches {
+    /// Those of what this text has from a place on.
+    pub(crate) fn of(text: &[u8], from: usize, workers: usize) -> Stretches {
+        let rest = text.len().saturating_sub(from).saturating_sub(TAIL_BYTES);
+        let count = (rest / STRETCH_BYTES).saturating_add(1);
+        Stretches {
+            from,
+            workers,
+            count,
+            bytes: rest.div_ceil(count),
+        }
+    }
+
+    /// The stretch of this number, from 0.
+    pub(crate) fn stretch(&self, k: usize) -> Stretch {
+        let own = self.own_bytes();
+        let others = self.workers.saturating_sub(1);
+        Stretch {
+            others,
+            first: self
+                .from
+                .saturating_add(k.saturating_mul(self.bytes))
+                .saturating_add(own),
+            // (what this leaves at the end is read by the thread that takes the pieces)
+            piece: self.bytes.saturating_sub(own) / others.max(1),
+        }
+    }
+
+    /// The bytes of the share of the thread that takes the pieces: such that it is done when the others are. To read a
+    /// step of its own takes it three times as long as to take one that another thread has read, and somewhat longer
+    /// than that thread takes to read it.
+    fn own_bytes(&self) -> usize {
+        match self.workers {
+            2 => self.bytes / 3,
+            3 => self.bytes / 13,
+            _ => 0,
+        }
+    }
+}
+
+impl Stretch {
+    /// Where the piece of this number begins, from 0, and what is before it ends.
+    pub(crate) fn piece_start(&self, text: &[u8], other: usize) -> usize
+        ensures { result ≤ length text.now }
+    {
+        let start = self.piece.saturating_mul(other);
+        line_start(text, self.first.saturating_add(start))
+    }
+}
+
+/// The first place from this one on at which a line begins; near the end, the first one there, or the end.
+pub(crate) fn line_start(text: &[u8], place: usize) -> usize
+    ensures { result ≤ length text.now }
+{
+    let at = place.min(text.len().saturating_sub(TAIL_BYTES));
+    if at == 0 {
+        return 0;
+    }
+    match tail(text, at - 1).iter().position(|byte| *byte == b'\n') {
+        Some(k) => at + k,
+        None => text.len(),
+    }
+}
