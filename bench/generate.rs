@@ -1,10 +1,10 @@
 //! Writes a trace text of a stated length to standard output: the same text for the same length and seed.
 //!
-//!     generate STEPS SEED [TICKS]
+//!     generate STEPS SEED [TICKS [PROCESSORS]]
 //!
-//! The trace is of version 1, or where a last tick is named, of version 2: then ticks hold steps of several
-//! processors, or none. There are 16 processors. 1 to 12 are meant as the correct ones; the others step seldom and lose a third of what
-//! is sent to them. In the first half of the trace some messages between the correct ones are lost and many are
+//! The trace is of version 1, or where a last tick above 0 is named, of version 2: then ticks hold steps of several
+//! processors, or none. There are 16 processors where no other number is named. The first three quarters are meant as
+//! the correct ones; the others step seldom and lose a third of what is sent to them. In the first half of the trace some messages between the correct ones are lost and many are
 //! late, and processors fall silent for long; later nothing is lost, and delays and silences shrink, so that the
 //! front has many rows of both bounds.
 
@@ -14,8 +14,7 @@ use std::env;
 use std::io::{self, BufWriter, Write};
 use std::process::ExitCode;
 
-const PROCESSORS: usize = 16;
-const CORRECT: usize = 12;
+const PROCESSORS: u64 = 16;
 
 /// SplitMix64.
 struct Chance(u64);
@@ -55,14 +54,19 @@ struct Network {
 }
 
 impl Network {
-    fn new(steps: u64, seed: u64, last_tick: u64) -> Network {
-        let processors = (0..PROCESSORS).map(|_| Processor::default()).collect();
+    fn new(steps: u64, seed: u64, last_tick: u64, processors: u64) -> Network {
+        let processors = (0..processors).map(|_| Processor::default()).collect();
         Network {
             chance: Chance(seed),
             steps,
             last_tick,
             processors,
         }
+    }
+
+    /// How many of the processors, which are the first, are meant as correct.
+    fn correct(&self) -> usize {
+        self.processors.len() * 3 / 4
     }
 
     /// How unsettled the network is in a tick, from 64 at the start down to 0 at the end.
@@ -76,13 +80,13 @@ impl Network {
     }
 
     fn is_asleep(&mut self, at: usize, tick: u64) -> bool {
-        self.processors[at].silent_until > tick || at >= CORRECT && !self.chance.once_in(4)
+        self.processors[at].silent_until > tick || at >= self.correct() && !self.chance.once_in(4)
     }
 
     /// The processor of the next step: one that is not silent, and seldom one of the faulty.
     fn stepping(&mut self, tick: u64) -> usize {
         loop {
-            let at = self.chance.below(PROCESSORS as u64) as usize;
+            let at = self.chance.below(self.processors.len() as u64) as usize;
             if !self.is_asleep(at, tick) {
                 return at;
             }
@@ -91,9 +95,9 @@ impl Network {
 
     /// Sends the message `no`, and returns its destination.
     fn send(&mut self, no: u64, tick: u64) -> usize {
-        let to = self.chance.below(PROCESSORS as u64) as usize;
+        let to = self.chance.below(self.processors.len() as u64) as usize;
         let unrest = self.unrest(tick);
-        let is_lost = match to < CORRECT {
+        let is_lost = match to < self.correct() {
             true => unrest >= 32 && self.chance.once_in(100),
             false => self.chance.once_in(3),
         };
@@ -157,9 +161,9 @@ impl Network {
     }
 
     fn write_head(&mut self, out: &mut impl Write, version: u64) -> io::Result<()> {
-        writeln!(out, "dls-trace,{version},{PROCESSORS},7")?;
+        writeln!(out, "dls-trace,{version},{},7", self.processors.len())?;
         write!(out, "init")?;
-        for _ in 0..PROCESSORS {
+        for _ in 0..self.processors.len() {
             write!(out, ",{}", self.chance.below(10))?;
         }
         writeln!(out)
@@ -184,8 +188,9 @@ impl Network {
         let mut left = self.steps;
         for tick in 1..=self.last_tick {
             let first = self.steps - left + 1;
-            for at in 0..PROCESSORS {
-                let places = (self.last_tick - tick) * PROCESSORS as u64 + (PROCESSORS - at) as u64;
+            let processors = self.processors.len();
+            for at in 0..processors {
+                let places = (self.last_tick - tick) * processors as u64 + (processors - at) as u64;
                 let is_asked = self.chance.below(places) < left;
                 if is_asked && (places <= left || !self.is_asleep(at, tick)) {
                     let no = self.steps - left + 1;
@@ -204,10 +209,17 @@ fn main() -> ExitCode {
     let words: Vec<Option<u64>> = env::args().skip(1).map(|word| word.parse().ok()).collect();
     let out = &mut BufWriter::new(io::stdout().lock());
     let written = match *words.as_slice() {
-        [Some(steps), Some(seed)] => Network::new(steps, seed, steps).write_numbers(out),
-        [Some(steps), Some(seed), Some(ticks)] => Network::new(steps, seed, ticks).write_ticks(out),
+        [Some(steps), Some(seed), ref rest @ ..] if rest.len() <= 2 && !rest.contains(&None) => {
+            let number = |at: usize, usual| rest.get(at).copied().flatten().unwrap_or(usual);
+            let (ticks, processors) = (number(0, 0), number(1, PROCESSORS));
+            if ticks == 0 {
+                Network::new(steps, seed, steps, processors).write_numbers(out)
+            } else {
+                Network::new(steps, seed, ticks, processors).write_ticks(out)
+            }
+        }
         _ => {
-            eprintln!("Usage: generate STEPS SEED [TICKS]");
+            eprintln!("Usage: generate STEPS SEED [TICKS [PROCESSORS]]");
             return ExitCode::from(2);
         }
     };
