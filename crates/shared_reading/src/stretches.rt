@@ -34,12 +34,12 @@ impl Stretches {
     /// Those of what this text has from a place on.
     pub(crate) fn of(text: &[u8], from: usize, workers: usize) -> Stretches {
         let rest = text.len().saturating_sub(from).saturating_sub(TAIL_BYTES);
-        let count = (rest / STRETCH_BYTES).saturating_add(1);
+        let count = rest.div_ceil(STRETCH_BYTES);
         Stretches {
             from,
             workers,
             count,
-            bytes: rest.div_ceil(count),
+            bytes: rest.div_ceil(count.max(1)),
         }
     }
 

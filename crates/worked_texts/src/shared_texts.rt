@@ -122,7 +122,7 @@ fn push_step(alloc: Global, text: &mut String, no: u64) -> Result<(), AllocError
 
 fn text_of(alloc: Global, row: &Row) -> Result<String, AllocError> {
     let mut text = format!(in alloc; "{}dls-trace,1,3,1\ninit,1,2,3\n", row.start)?;
-    for no in 1..row.steps + 1 {
+    for no in 1..=row.steps {
         if no == row.odd.0 {
             text.push_str(row.odd.1)?;
         } else {
