@@ -16,6 +16,8 @@ mod levels;
 #[cfg(test)]
 mod pushes;
 #[cfg(test)]
+mod readers;
+#[cfg(test)]
 mod stairs;
 #[cfg(test)]
 mod texts;
