@@ -1,0 +1,25 @@
+-- The names of messages in a field.
+use Rattle.std.proofs.Common.{◌≡◌, ℕ, ◌<◌, ◌==◌, arith, List, [], ◌∷◌, length, true, refl}
+use Rattle.std.specs.List.{list_all, slice_split}
+use Rattle.event_log.specs.Names.{are_message_names, is_message_name, parts_of}
+
+-- an empty field has none
+pub no-names : (field : List ℕ) → length field ≡ 0 → true ≡ are_message_names field
+unfolding are_message_names
+no-names [] e = refl
+no-names (b ∷ bs) e = absurd (omega (arith, e))
+
+-- another is split at its spaces
+pub are-split : (field : List ℕ) → 0 < length field → are_message_names field ≡ list_all is_message_name (slice_split (λ byte. byte == 32) field)
+unfolding are_message_names
+are-split [] lt = absurd (omega (arith, lt))
+are-split (b ∷ bs) lt = refl
+
+-- the same of the parts themselves
+pub parts-none : (field : List ℕ) → length field ≡ 0 → parts_of field ≡ []
+parts-none [] e = refl
+parts-none (b ∷ bs) e = absurd (omega (arith, e))
+
+pub parts-split : (field : List ℕ) → 0 < length field → parts_of field ≡ slice_split (λ byte. byte == 32) field
+parts-split [] lt = absurd (omega (arith, lt))
+parts-split (b ∷ bs) lt = refl

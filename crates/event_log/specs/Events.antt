@@ -1,0 +1,42 @@
+-- The events of a log, with numbers in place of names.
+use Rattle.std.specs.Prelude.{ℕ, ℤ, List, Option, map, position, slice_get}
+use Rattle.std.specs.Option.{option_and_then}
+use Rattle.std.specs.Str.{bytes_eq}
+use Rattle.event_log.specs.declared.events.Event.{Event}
+use Rattle.event_log.specs.declared.events.EventAct.{EventAct}
+use Rattle.event_log.specs.declared.events.EventAct.TheVariants as act
+use Rattle.event_log.specs.declared.naming.KeptEvent.{KeptEvent}
+use Rattle.event_log.specs.declared.naming.KeptAct.{KeptAct}
+use Rattle.event_log.specs.declared.naming.KeptAct.TheVariants as kept
+use Rattle.event_log.specs.Names.{parts_of}
+
+-- what an event does: it sends to a processor, or receives messages, each by the place of the event that sent it
+pub data SeenAct : Type 0 where
+  Sends : ℕ → SeenAct
+  Receives : List (Option ℕ) → SeenAct
+
+-- an event, with its lists plain
+pub record Seen : Type 0 where
+  pub time : ℤ
+  pub processor : ℕ
+  pub act : SeenAct
+
+abbrev pub seen_act : EventAct → SeenAct
+seen_act (act.Send to) = Sends to
+seen_act (act.Receive messages) = Receives messages.items
+
+-- what a contract sees of an event
+abbrev pub seen : Event → Seen
+seen event = record { time = event.time; processor = event.processor; act = seen_act event.act }
+
+-- the place of the event that sent a message, where one did
+abbrev pub place_of_send : List (List ℕ) → List ℕ → List ℕ → Option ℕ
+place_of_send messages sends name = option_and_then (λ i. slice_get sends i) (position (bytes_eq name) messages)
+
+abbrev pub resolved_act : List (List ℕ) → List ℕ → KeptAct → SeenAct
+resolved_act messages sends (kept.Send to) = Sends to
+resolved_act messages sends (kept.Receive names) = Receives (map (place_of_send messages sends) (parts_of names))
+
+-- an event with the places of the sends in place of the names of messages
+abbrev pub resolved : List (List ℕ) → List ℕ → KeptEvent → Seen
+resolved messages sends event = record { time = event.time; processor = event.processor; act = resolved_act messages sends event.act }

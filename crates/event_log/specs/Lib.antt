@@ -1,0 +1,10 @@
+pub mod Times
+pub mod Columns
+pub mod Names
+pub mod LogRecords
+pub mod Naming
+pub mod Reading
+pub mod Events
+pub mod Logs
+pub mod SoundLogs
+pub mod Stages

@@ -1,0 +1,85 @@
+-- What a record of a log says of an event, or the first reason for which it is refused.
+use Rattle.std.specs.Prelude.{ℕ, List, Option, Some, None, Result, Ok, Err, Bool, ◌&&◌, ◌==◌, codes, length, option_map, if◌then◌else◌}
+use Rattle.std.specs.Borrow.{Bor}
+use Rattle.std.specs.Option.{ok_or}
+use Rattle.std.specs.Str.{bytes_eq}
+use Rattle.trace_text.specs.Records.{◌>>=◌, field_of}
+use Rattle.event_log.specs.declared.columns.Columns.{Columns}
+use Rattle.event_log.specs.declared.records.Rules.{Rules}
+use Rattle.event_log.specs.declared.records.Told.{Told}
+use Rattle.event_log.specs.declared.records.Verb.{Verb}
+use Rattle.event_log.specs.declared.records.Verb.TheVariants as verb
+use Rattle.event_log.specs.declared.refusals.LogError.{LogError}
+use Rattle.event_log.specs.declared.refusals.LogError.TheVariants.{BadFields, BadTime, BadEvent, BadNode, BadMessage}
+use Rattle.event_log.specs.declared.times.Moment.{Moment}
+use Rattle.event_log.specs.declared.times.TimeKind.{TimeKind}
+use Rattle.event_log.specs.Names.{are_message_names, has_name, is_message_name, is_name}
+use Rattle.event_log.specs.Times.{moment_of, time_as}
+
+-- what a record says of an event
+pub record Said : Type 0 where
+  pub moment : Moment
+  pub verb : Verb
+  pub node : List ℕ
+  pub to : List ℕ
+  pub messages : List ℕ
+
+-- what a contract sees of what the code keeps of a record
+abbrev pub said : Told → Said
+said told = record { moment = told.moment; verb = told.verb; node = told.node.now; to = told.to.now; messages = told.messages.now }
+
+-- a time of the kind of the times, where it is settled
+abbrev pub moment_as : Option TimeKind → List ℕ → Option Moment
+moment_as None field = moment_of field
+moment_as (Some kind) field = option_map (λ time. record { kind = kind; time = time }) (time_as kind field)
+
+abbrev pub verb_of : List ℕ → Option Verb
+verb_of field =
+    if bytes_eq field (codes "send") then Some verb.Send
+    else if bytes_eq field (codes "receive") then Some verb.Receive
+    else None
+
+-- whether a node may be named: where the nodes are listed, it is one of them
+abbrev pub is_node : Option (Bor (List (List ℕ))) → List ℕ → Bool
+is_node None name = is_name name
+is_node (Some nodes) name = has_name nodes.now name
+
+abbrev pub are_nodes_by : Verb → Option (Bor (List (List ℕ))) → Said → Bool
+are_nodes_by verb.Send listed s = is_node listed s.node && is_node listed s.to
+are_nodes_by verb.Receive listed s = is_node listed s.node
+
+-- whether the nodes of an event may be named: its own, and the one that it sends to
+abbrev pub are_nodes : Option (Bor (List (List ℕ))) → Said → Bool
+are_nodes listed s = are_nodes_by s.verb listed s
+
+abbrev pub are_messages_by : Verb → List ℕ → Bool
+are_messages_by verb.Send field = is_message_name field
+are_messages_by verb.Receive field = are_message_names field
+
+-- a send names one message, a receive any number of them
+abbrev pub are_messages : Said → Bool
+are_messages s = are_messages_by s.verb s.messages
+
+-- what the fields of a record say, once its time and its event are known
+abbrev pub said_by : Columns → Moment → Verb → List (List ℕ) → Said
+said_by columns moment verb fields = record {
+  moment = moment;
+  verb = verb;
+  node = field_of fields columns.node;
+  to = field_of fields columns.to;
+  messages = field_of fields columns.message;
+}
+
+-- an event is accepted where its nodes may be named and its messages are names
+abbrev pub accepted : Option (Bor (List (List ℕ))) → ℕ → Said → Result Said LogError
+accepted listed number s =
+    if are_nodes listed s then (if are_messages s then Ok s else Err (BadMessage number))
+    else Err (BadNode number)
+
+-- what the record of a number says, or the first refusal: its fields, its time, its event, its nodes, its messages
+abbrev pub said_of : Rules → ℕ → List (List ℕ) → Result Said LogError
+said_of rules number fields =
+    if length fields == rules.columns.fields then
+    (ok_or (moment_as rules.kind (field_of fields rules.columns.time)) (BadTime number) >>= λ moment. ok_or (verb_of (field_of fields rules.columns.event)) (BadEvent number)
+    >>= λ verb. accepted rules.listed number (said_by rules.columns moment verb fields))
+    else Err (BadFields number)

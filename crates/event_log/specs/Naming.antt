@@ -1,0 +1,86 @@
+-- The names of a log's events, taken in one after the other.
+use Rattle.std.specs.Prelude.{ℕ, ◌≡◌, ◌+◌, List, [], ◌∷◌, ◌++◌, Result, Ok, Err, Bool, true, false, MatchBool, ⊤, length, nat_lt, if◌then◌else◌}
+use Rattle.std.specs.List.{position_or_len}
+use Rattle.std.specs.Str.{bytes_eq}
+use Rattle.trace_text.specs.Records.{◌>>=◌}
+use Rattle.event_log.specs.declared.naming.KeptEvent.{KeptEvent}
+use Rattle.event_log.specs.declared.naming.KeptAct.{KeptAct}
+use Rattle.event_log.specs.declared.naming.KeptAct.TheVariants.{Send, Receive}
+use Rattle.event_log.specs.declared.records.Verb.{Verb}
+use Rattle.event_log.specs.declared.records.Verb.TheVariants as verb
+use Rattle.event_log.specs.declared.refusals.LogError.{LogError}
+use Rattle.event_log.specs.declared.refusals.LogError.TheVariants.{TooManyNodes, SentBefore, Memory}
+use Rattle.event_log.specs.LogRecords.{Said}
+use Rattle.event_log.specs.Names.{has_name, with_name}
+
+-- the nodes in the order in which the events name them, the messages in the order of their sends, the places of these sends, and the events
+pub record Named : Type 0 where
+  pub nodes : List (List ℕ)
+  pub messages : List (List ℕ)
+  pub sends : List ℕ
+  pub events : List KeptEvent
+
+-- no events, and these nodes
+abbrev pub begun : List (List ℕ) → Named
+begun nodes = record { nodes = nodes; messages = []; sends = []; events = [] }
+
+-- the number of a node: one more than its place, or than that of the last node where it is new
+abbrev pub number_of : List (List ℕ) → List ℕ → ℕ
+number_of nodes name = position_or_len (bytes_eq name) nodes + 1
+
+abbrev pub nodes_after_by : Verb → List (List ℕ) → Said → List (List ℕ)
+nodes_after_by verb.Send nodes s = with_name (with_name nodes s.node) s.to
+nodes_after_by verb.Receive nodes s = with_name nodes s.node
+
+-- the nodes after an event: its own node, and then the one that it sends to
+abbrev pub nodes_after : List (List ℕ) → Said → List (List ℕ)
+nodes_after nodes s = nodes_after_by s.verb nodes s
+
+abbrev pub number_to_by : Verb → List (List ℕ) → Said → ℕ
+number_to_by verb.Send nodes s = number_of (with_name nodes s.node) s.to
+number_to_by verb.Receive nodes s = number_of nodes s.node
+
+-- the number of the node that a send is for, and of its own node in a receive
+abbrev pub number_to : List (List ℕ) → Said → ℕ
+number_to nodes s = number_to_by s.verb nodes s
+
+abbrev pub messages_after_by : Verb → List (List ℕ) → Said → List (List ℕ)
+messages_after_by verb.Send messages s = with_name messages s.messages
+messages_after_by verb.Receive messages s = messages
+
+-- the messages that were sent, after an event
+abbrev pub messages_after : List (List ℕ) → Said → List (List ℕ)
+messages_after messages s = messages_after_by s.verb messages s
+
+abbrev pub act_after_by : Verb → ℕ → ℕ → List (List ℕ) → Said → Result KeptAct LogError
+act_after_by verb.Send at to messages s = if has_name messages s.messages then Err (SentBefore at s.messages) else Ok (Send to)
+act_after_by verb.Receive at to messages s = Ok (Receive s.messages)
+
+-- what the event of a record does; a message is sent once
+abbrev pub act_after : ℕ → ℕ → List (List ℕ) → Said → Result KeptAct LogError
+act_after at to messages s = act_after_by s.verb at to messages s
+
+-- the places of the sends, after an event at this place
+abbrev pub sends_after : Verb → ℕ → List ℕ → List ℕ
+sends_after verb.Send place sends = sends ++ place ∷ []
+sends_after verb.Receive place sends = sends
+
+-- the names with those of the event at a place, from 0; its record is two after
+abbrev pub after_said : ℕ → Named → Said → Result Named LogError
+after_said place names s =
+    if nat_lt 64 (length (nodes_after names.nodes s)) then Err (TooManyNodes (place + 2))
+    else (act_after (place + 2) (number_to names.nodes s) names.messages s
+    >>= λ act. Ok (record {
+      nodes = nodes_after names.nodes s;
+      messages = messages_after names.messages s;
+      sends = sends_after s.verb place names.sends;
+      events = names.events ++ (record { time = s.moment.time; processor = number_of names.nodes s.node; act = act }) ∷ [];
+    }))
+
+abbrev pub is_memory : LogError → Bool
+is_memory Memory = true
+is_memory e = false
+
+-- the error is this one, unless it is one that may always come
+abbrev pub IsUnless : (LogError → Bool) → LogError → LogError → Type 0
+IsUnless may e due = MatchBool (may e) ⊤ (e ≡ due)

@@ -1,0 +1,139 @@
+//! The header of a log: which column is where.
+
+ghost use Rattle.std.specs.Prelude.{◌≡◌, ◌<◌, ◌≤◌, ◌+◌, ◌^◌, IfSome, find, length};
+ghost use Rattle.csv.specs.Records.{fields_of};
+ghost use Rattle.event_log.specs.Columns.{all_columns, columns_of, has_twice, lacks, name_of, place_from, place_in};
+
+use crate::refusals::LogError;
+use csv::ByteRecord;
+use std::fmt;
+use trace_text::records::field_is;
+
+/// A column that a log has.
+#[derive(Clone, Copy, Debug)]
+pub enum Column {
+    Time,
+    Node,
+    Event,
+    To,
+    Message,
+}
+
+/// The columns in the order in which they are looked for.
+const COLUMNS: [Column; 5] = [
+    Column::Time,
+    Column::Node,
+    Column::Event,
+    Column::To,
+    Column::Message,
+];
+
+/// The places of the columns in a record, and how many fields a record has.
+#[derive(Clone, Copy, Debug)]
+pub(crate) struct Columns {
+    pub(crate) time: usize,
+    pub(crate) node: usize,
+    pub(crate) event: usize,
+    pub(crate) to: usize,
+    pub(crate) message: usize,
+    pub(crate) fields: usize,
+}
+
+impl Column {
+    /// The column's name in the header.
+    pub fn name(self) -> &'static str
+        ensures { result.now ≡ name_of self }
+    {
+        match self {
+            Column::Time => "time",
+            Column::Node => "node",
+            Column::Event => "event",
+            Column::To => "to",
+            Column::Message => "message",
+        }
+    }
+}
+
+impl fmt::Display for Column {
+    fn fmt<W: fmt::Write>(&self, f: &mut fmt::Formatter<W>) -> fmt::Result {
+        f.write_str(self.name())
+    }
+}
+
+/// The columns of a header.
+///
+/// Refuses NoColumn with the first column that is lacking, and TwoColumns with the first that stands twice, in this
+/// order.
+pub(crate) fn columns_of(header: &ByteRecord) -> Result<Columns, LogError>
+    ensures { result ≡ columns_of (fields_of header.now) }
+{
+    if let Some(column) = first_lacking(header) {
+        return Err(LogError::NoColumn(column));
+    }
+    if let Some(column) = first_twice(header) {
+        return Err(LogError::TwoColumns(column));
+    }
+    Ok(Columns {
+        time: place_in(header, Column::Time).unwrap_or(0),
+        node: place_in(header, Column::Node).unwrap_or(0),
+        event: place_in(header, Column::Event).unwrap_or(0),
+        to: place_in(header, Column::To).unwrap_or(0),
+        message: place_in(header, Column::Message).unwrap_or(0),
+        fields: header.len(),
+    })
+}
+
+fn first_lacking(header: &ByteRecord) -> Option<Column>
+    ensures { result ≡ find (lacks (fields_of header.now)) all_columns }
+{
+    for column in COLUMNS {
+        if place_in(header, column).is_none() {
+            return Some(column);
+        }
+    }
+    None
+}
+
+fn first_twice(header: &ByteRecord) -> Option<Column>
+    ensures { result ≡ find (has_twice (fields_of header.now)) all_columns }
+{
+    for column in COLUMNS {
+        if stands_twice(header, column) {
+            return Some(column);
+        }
+    }
+    None
+}
+
+fn stands_twice(header: &ByteRecord, column: Column) -> bool
+    ensures { result ≡ has_twice (fields_of header.now) column }
+{
+    match place_in(header, column) {
+        Some(place) => place_from(header, column, place + 1).is_some(),
+        None => false,
+    }
+}
+
+/// The first place of a column.
+fn place_in(header: &ByteRecord, column: Column) -> Option<usize>
+    ensures place { result ≡ place_in (fields_of header.now) column }
+    ensures within { IfSome result (λ i. i < length (fields_of header.now)) }
+    ensures fits { IfSome result (λ i. i + 1 < 2 ^ 64) }
+{
+    place_from(header, column, 0)
+}
+
+/// The first place of a column from a place on.
+fn place_from(header: &ByteRecord, column: Column, start: usize) -> Option<usize>
+    requires { start ≤ length (fields_of header.now) }
+    ensures place { result ≡ place_from start (fields_of header.now) column }
+    ensures within { IfSome result (λ i. i < length (fields_of header.now)) }
+    ensures fits { IfSome result (λ i. i + 1 < 2 ^ 64) }
+{
+    for i in start..header.len() {
+        if field_is(header, i, column.name().as_bytes()) {
+            return Some(i);
+        }
+    }
+    None
+}

@@ -1,0 +1,64 @@
+//! The events of a log.
+
+ghost use Rattle.std.specs.Prelude.{IfOk};
+ghost use Rattle.trace_text.specs.Records.{GivesUnless};
+ghost use Rattle.event_log.specs.Logs.{events_in, seen_log};
+ghost use Rattle.event_log.specs.Naming.{is_memory};
+ghost use Rattle.event_log.specs.SoundLogs.{IsSound};
+ghost use Rattle.event_log.specs.Stages.{staged_log};
+
+use crate::events::Event;
+use crate::names::NameSet;
+use crate::reading::read_names;
+use crate::refusals::LogError;
+use crate::times::TimeKind;
+use std::alloc::Global;
+
+/// The events of a log, with numbers in place of names.
+#[derive(Drop)]
+pub struct NamedEvents {
+    /// What the times of the events are.
+    pub kind: TimeKind,
+    /// The nodes: a processor's number is its node's place and 1.
+    pub nodes: NameSet,
+    /// The events, in the order of the records.
+    pub events: Vec<Event>,
+}
+
+/// The events that a log records. Where nodes are `listed`, no others may be named; `nodes` are numbered before those that
+/// the log names: the listed ones, or none.
+///
+/// There are 2 to 64 nodes, and at least one event, at most `MAX_EVENTS`.
+///
+/// Refuses in the order of `LogError`. The first record that is refused for itself decides; where none is, the first whose
+/// names are refused.
+pub fn events_of_log(
+    alloc: Global,
+    text: &[u8],
+    listed: Option<&NameSet>,
+    nodes: NameSet,
+) -> Result<NamedEvents, LogError>
+    ensures exact { GivesUnless is_memory seen_log result (staged_log listed.entry nodes text.now) }
+    ensures sound { IfOk result (λ log. IsSound (seen_log log)) }
+{
+    read_log(alloc, text, listed, nodes)
+}
+
+fn read_log(
+    alloc: Global,
+    text: &[u8],
+    listed: Option<&NameSet>,
+    nodes: NameSet,
+) -> Result<NamedEvents, LogError>
+    ensures { GivesUnless is_memory seen_log result (events_in listed.entry nodes text.now) }
+{
+    let (kind, names) = read_names(alloc, text, listed, nodes)?;
+    match names.into_events(alloc) {
+        Ok((nodes, events)) => Ok(NamedEvents {
+            kind,
+            nodes,
+            events,
+        }),
+        Err(_) => Err(LogError::Memory),
+    }
+}

@@ -1,0 +1,166 @@
+//! The names of nodes and messages.
+
+ghost use Rattle.std.specs.Prelude.{◌≡◌, ◌<◌, ℕ, List, [], IfSome, IfOk, OnOk, OnErr, is_some, length, not, position};
+ghost use Rattle.std.specs.List.{list_any, position_or_len};
+ghost use Rattle.std.specs.Str.{bytes_eq};
+ghost use Rattle.event_log.specs.Names.{are_message_names, has_name, is_control, is_message_name, is_name, names_in, with_name};
+
+use crate::times::text_of;
+use indexmap::IndexSet;
+use std::alloc::{AllocError, Global};
+use std::fmt;
+use std::marker::Model;
+use std::str::from_utf8;
+
+/// A name, or several with one space between them.
+#[derive(Debug, Drop)]
+pub struct Name {
+    bytes: Vec<u8>,
+}
+
+impl Model for Name {
+    ghost Value = { List ℕ };
+
+    ghost view = { λ name. name.bytes.items };
+}
+
+impl Name {
+    /// A copy of these bytes.
+    pub(crate) fn new(alloc: Global, bytes: &[u8]) -> Result<Name, AllocError>
+        ensures { IfOk result (λ name. name ≡ bytes.now) }
+    {
+        let bytes = Vec::from_slice(alloc, bytes)?;
+        Ok(Name { bytes })
+    }
+
+    /// The name's bytes.
+    pub fn as_bytes(&self) -> &[u8]
+        ensures { result.now ≡ self.now }
+    {
+        self.bytes.as_slice()
+    }
+}
+
+impl fmt::Display for Name {
+    fn fmt<W: fmt::Write>(&self, f: &mut fmt::Formatter<W>) -> fmt::Result {
+        match from_utf8(self.as_bytes()) {
+            Ok(text) => f.write_str(text),
+            Err(_) => Err(fmt::Error),
+        }
+    }
+}
+
+/// Whether these bytes are a name: text that isn't empty, without control characters.
+#[tactic(auto, unfolding(crate::specs::Names::is_name))]
+pub(crate) fn is_name(name: &[u8]) -> bool
+    ensures { result ≡ is_name name.now }
+{
+    if name.len() == 0 {
+        return false;
+    }
+    if text_of(name).is_none() {
+        return false;
+    }
+    !has_control(name)
+}
+
+fn has_control(name: &[u8]) -> bool
+    ensures { result ≡ list_any is_control name.now }
+{
+    name.iter().any(|byte| *byte < 32 || *byte == 127)
+}
+
+/// Whether these bytes are the name of a message: one without a space.
+#[tactic(auto, unfolding(crate::specs::Names::is_message_name))]
+pub(crate) fn is_message_name(name: &[u8]) -> bool
+    ensures { result ≡ is_message_name name.now }
+{
+    if !is_name(name) {
+        return false;
+    }
+    !name.contains(&b' ')
+}
+
+/// Whether these bytes are names of messages with one space between them, possibly none.
+pub(crate) fn are_message_names(field: &[u8]) -> bool
+    ensures { result ≡ are_message_names field.now }
+{
+    if field.len() == 0 {
+        return true;
+    }
+    for name in field.split(|byte| *byte == b' ') {
+        if !is_message_name(name) {
+            return false;
+        }
+    }
+    true
+}
+
+/// Different names, in the order in which they came. A name's place is its position, from 0.
+#[derive(Drop)]
+pub struct NameSet {
+    names: IndexSet<Vec<u8>>,
+}
+
+impl Model for NameSet {
+    ghost Value = { List (List ℕ) };
+
+    ghost view = { λ set. names_in set.names };
+}
+
+impl NameSet {
+    /// No names.
+    #[tactic(auto, unfolding(crate::specs::Names::names_in))]
+    pub fn new(alloc: Global) -> NameSet
+        ensures { result ≡ [] }
+    {
+        NameSet {
+            names: IndexSet::new(alloc),
+        }
+    }
+
+    /// How many names there are.
+    pub fn len(&self) -> usize
+        ensures { result ≡ length self.now }
+    {
+        self.names.len()
+    }
+
+    /// The place of a name.
+    pub fn place_of(&self, name: &[u8]) -> Option<usize>
+        ensures place { result ≡ position (bytes_eq name.now) self.now }
+        ensures found { is_some result ≡ has_name self.now name.now }
+        ensures within { IfSome result (λ place. place < length self.now) }
+    {
+        self.names.get_index_of(name)
+    }
+
+    /// Puts a name last, unless it is there, and gives its place and whether it is new.
+    pub(crate) fn add(&mut self, alloc: Global, name: &[u8]) -> Result<(usize, bool), AllocError>
+        ensures names { OnOk result (self.new ≡ with_name self.old name.now) }
+        ensures place { IfOk result (λ r. r.0 ≡ position_or_len (bytes_eq name.now) self.old) }
+        ensures added { IfOk result (λ r. r.1 ≡ not (has_name self.old name.now)) }
+        ensures within { IfOk result (λ r. r.0 < length self.new) }
+        ensures kept { OnErr result (self.new ≡ self.old) }
+    {
+        if let Some(place) = self.place_of(name) {
+            return Ok((place, false));
+        }
+        let name = Vec::from_slice(alloc, name)?;
+        insert(&mut self.names, name)
+    }
+}
+
+/// Puts a name last, unless it is there, and gives its place and whether it is new.
+fn insert(names: &mut IndexSet<Vec<u8>>, name: Vec<u8>) -> Result<(usize, bool), AllocError>
+    ensures names { OnOk result (names_in names.new ≡ with_name (names_in names.old) name.items) }
+    ensures place { IfOk result (λ r. r.0 ≡ position_or_len (bytes_eq name.items) (names_in names.old)) }
+    ensures added { IfOk result (λ r. r.1 ≡ not (has_name (names_in names.old) name.items)) }
+    ensures within { IfOk result (λ r. r.0 < length (names_in names.new)) }
+    ensures kept { OnErr result (names_in names.new ≡ names_in names.old) }
+{
+    let Ok(added) = names.insert_full(name) else {
+        return Err(AllocError);
+    };
+    Ok(added)
+}

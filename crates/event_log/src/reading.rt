@@ -1,0 +1,152 @@
+//! The records of a log, taken in one after the other.
+
+ghost use Rattle.std.specs.Prelude.{◌≡◌, IfErr, IsTrue, OnOk};
+ghost use Rattle.csv.specs.Records.{fields_of};
+ghost use Rattle.trace_text.specs.Records.{GivesUnless, ReachesUnless, after_records, records_of_text};
+ghost use Rattle.event_log.specs.LogRecords.{said};
+ghost use Rattle.event_log.specs.Naming.{is_memory};
+ghost use Rattle.event_log.specs.Reading.{after_told, named_at_end, named_of, next_reading};
+
+use crate::columns::{Column, Columns, columns_of};
+use crate::names::NameSet;
+use crate::naming::Naming;
+use crate::records::{Rules, Told, told_of};
+use crate::refusals::LogError;
+use crate::times::TimeKind;
+use csv::{ByteRecord, ErrorKind, ReaderBuilder};
+use std::alloc::Global;
+use trace_text::MAX_TEXT_BYTES;
+
+/// The greatest number of events.
+pub const MAX_EVENTS: u32 = 1_000_000;
+
+/// How far a log was read.
+#[derive(Drop)]
+pub(crate) struct Reading<'a> {
+    /// Where the columns are, once the header was read.
+    columns: Option<Columns>,
+    /// The kind of the times, once a record has settled it.
+    kind: Option<TimeKind>,
+    /// The nodes that may be named, where they are listed.
+    listed: Option<&'a NameSet>,
+    /// How many events were read.
+    count: u32,
+    /// What the events name, or why their names are refused: that is told only where no later record is refused.
+    names: Result<Naming, LogError>,
+}
+
+/// The kind of a log's times, and its events with its nodes and messages, where those that `listed` has may be named, and `nodes` are numbered
+/// before all others.
+///
+/// Refuses in the order of `LogError`. Where a record is refused for itself, the first such record decides; else the first
+/// whose names are refused.
+pub(crate) fn read_names(
+    alloc: Global,
+    text: &[u8],
+    listed: Option<&NameSet>,
+    nodes: NameSet,
+) -> Result<(TimeKind, Naming), LogError>
+    ensures names { GivesUnless is_memory (λ x. x) result (named_of listed.entry nodes text.now) }
+{
+    if text.len() > MAX_TEXT_BYTES {
+        return Err(LogError::TooLarge);
+    }
+    let mut reading = Reading {
+        columns: None,
+        kind: None,
+        listed,
+        count: 0,
+        names: Ok(Naming::new(alloc, nodes)),
+    };
+    read_records(alloc, text, &mut reading)?;
+    names_at_end(reading)
+}
+
+/// What the end of the text says.
+fn names_at_end(reading: Reading<'_>) -> Result<(TimeKind, Naming), LogError>
+    ensures { result ≡ named_at_end reading.entry }
+{
+    if reading.columns.is_none() {
+        return Err(LogError::NoColumn(Column::Time));
+    }
+    let Some(kind) = reading.kind else {
+        return Err(LogError::NoEvents);
+    };
+    let names = reading.names?;
+    if names.node_count() < 2 {
+        return Err(LogError::TooFewNodes);
+    }
+    Ok((kind, names))
+}
+
+/// Takes in all records that csv reads from a text: those of its default reader, without a header row, of any length.
+/// The first record that is refused decides. A header may have any number of columns, so no record is too long.
+fn read_records(alloc: Global, text: &[u8], reading: &mut Reading<'_>) -> Result<(), LogError>
+    ensures { ReachesUnless is_memory result reading.new
+        (after_records next_reading reading.old (records_of_text text.now)) }
+{
+    let mut reader = ReaderBuilder::new()
+        .has_headers(false)
+        .flexible(true)
+        .from_reader(alloc, text);
+    let mut record = ByteRecord::new(alloc);
+    loop {
+        match reader.read_byte_record(&mut record) {
+            Ok(true) => reading.take(alloc, &record)?,
+            Ok(false) => return Ok(()),
+            Err(why) => match why.kind() {
+                ErrorKind::OutOfMemory | ErrorKind::Io(_) => return Err(LogError::Memory),
+                _ => unreachable!(),
+            },
+        }
+    }
+}
+
+impl<'a> Reading<'a> {
+    /// Takes in one more record: the header, or an event.
+    fn take(&mut self, alloc: Global, fields: &ByteRecord) -> Result<(), LogError>
+        ensures { ReachesUnless is_memory result self.new
+            (next_reading self.old (fields_of fields.now)) }
+    {
+        let Some(columns) = self.columns else {
+            self.columns = Some(columns_of(fields)?);
+            return Ok(());
+        };
+        if self.count >= MAX_EVENTS {
+            return Err(LogError::TooManyEvents);
+        }
+        let rules = Rules {
+            columns,
+            kind: self.kind,
+            listed: self.listed,
+        };
+        let told = told_of(&rules, u64::from(self.count) + 2, fields)?;
+        let place = self.count;
+        self.kind = Some(told.moment.kind);
+        self.count += 1;
+        take_names(alloc, &mut self.names, place, &told)
+    }
+}
+
+/// Takes in the names of the event at a place, unless those of an earlier one were refused.
+fn take_names(
+    alloc: Global,
+    names: &mut Result<Naming, LogError>,
+    place: u32,
+    told: &Told<'_>,
+) -> Result<(), LogError>
+    ensures names { OnOk result (names.new ≡ after_told place names.old (said told.now)) }
+    ensures memory { IfErr result (λ e. IsTrue (is_memory e)) }
+{
+    let Ok(naming) = names else {
+        return Ok(());
+    };
+    match naming.take(alloc, place, told) {
+        Ok(()) => Ok(()),
+        Err(LogError::Memory) => Err(LogError::Memory),
+        Err(why) => {
+            *names = Err(why);
+            Ok(())
+        }
+    }
+}

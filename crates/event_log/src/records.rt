@@ -1,0 +1,134 @@
+//! What a record of a log tells of an event.
+
+ghost use Rattle.std.specs.Prelude.{◌≡◌, Ok, Err, MatchResult};
+ghost use Rattle.csv.specs.Records.{fields_of};
+ghost use Rattle.event_log.specs.LogRecords.{are_messages, are_nodes, is_node, moment_as, said, said_by, said_of, verb_of};
+
+use crate::columns::Columns;
+use crate::names::{NameSet, are_message_names, is_message_name, is_name};
+use crate::refusals::LogError;
+use crate::times::{Moment, TimeKind, read_moment, time_as};
+use csv::ByteRecord;
+use trace_text::records::field;
+
+/// What happened, as the column `event` says it.
+#[derive(Clone, Copy)]
+pub(crate) enum Verb {
+    Send,
+    Receive,
+}
+
+/// What a record tells of an event, with the names as they stand in it.
+#[derive(Clone, Copy)]
+pub(crate) struct Told<'a> {
+    pub(crate) moment: Moment,
+    pub(crate) verb: Verb,
+    pub(crate) node: &'a [u8],
+    /// The node that a send is for. Not looked at in a receive.
+    pub(crate) to: &'a [u8],
+    /// The name of the message, or those of the messages with one space between them.
+    pub(crate) messages: &'a [u8],
+}
+
+/// By what the records of a log are judged.
+#[derive(Clone, Copy)]
+pub(crate) struct Rules<'a> {
+    pub(crate) columns: Columns,
+    /// The kind of the times, once a record has settled it.
+    pub(crate) kind: Option<TimeKind>,
+    /// The nodes that may be named, where they are listed.
+    pub(crate) listed: Option<&'a NameSet>,
+}
+
+/// What the record of this number tells, under these rules.
+///
+/// Refuses BadFields, BadTime, BadEvent, BadNode and BadMessage with the number, in this order.
+pub(crate) fn told_of<'a>(
+    rules: &Rules<'_>,
+    no: u64,
+    fields: &'a ByteRecord,
+) -> Result<Told<'a>, LogError>
+    ensures { MatchResult result
+        (λ told. said_of rules.now no (fields_of fields.now) ≡ Ok (said told))
+        (λ e. said_of rules.now no (fields_of fields.now) ≡ Err e) }
+{
+    let columns = rules.columns;
+    if fields.len() != columns.fields {
+        return Err(LogError::BadFields(no));
+    }
+    let Some(moment) = moment_as(rules.kind, field(fields, columns.time)) else {
+        return Err(LogError::BadTime(no));
+    };
+    let Some(verb) = verb_of(field(fields, columns.event)) else {
+        return Err(LogError::BadEvent(no));
+    };
+    let told = Told {
+        moment,
+        verb,
+        node: field(fields, columns.node),
+        to: field(fields, columns.to),
+        messages: field(fields, columns.message),
+    };
+    if !are_nodes(rules.listed, &told) {
+        return Err(LogError::BadNode(no));
+    }
+    if !are_messages(&told) {
+        return Err(LogError::BadMessage(no));
+    }
+    Ok(told)
+}
+
+/// The time that a field tells: of the kind of the times, where it is settled.
+fn moment_as(kind: Option<TimeKind>, field: &[u8]) -> Option<Moment>
+    ensures { result ≡ moment_as kind field.now }
+{
+    match kind {
+        None => read_moment(field),
+        Some(kind) => {
+            let time = time_as(kind, field)?;
+            Some(Moment { kind, time })
+        }
+    }
+}
+
+fn verb_of(field: &[u8]) -> Option<Verb>
+    ensures { result ≡ verb_of field.now }
+{
+    if field == b"send".as_slice() {
+        return Some(Verb::Send);
+    }
+    if field == b"receive".as_slice() {
+        return Some(Verb::Receive);
+    }
+    None
+}
+
+/// Whether the nodes of an event may be named.
+fn are_nodes(listed: Option<&NameSet>, told: &Told<'_>) -> bool
+    ensures { result ≡ are_nodes listed.entry (said told.now) }
+{
+    match told.verb {
+        Verb::Send => is_node(listed, told.node) && is_node(listed, told.to),
+        Verb::Receive => is_node(listed, told.node),
+    }
+}
+
+/// Whether a node may be named: where the nodes are listed, it is one of them.
+fn is_node(listed: Option<&NameSet>, name: &[u8]) -> bool
+    ensures { result ≡ is_node listed.entry name.now }
+{
+    match listed {
+        Some(nodes) => nodes.place_of(name).is_some(),
+        None => is_name(name),
+    }
+}
+
+/// Whether what an event names as its messages are names.
+fn are_messages(told: &Told<'_>) -> bool
+    ensures { result ≡ are_messages (said told.now) }
+{
+    match told.verb {
+        Verb::Send => is_message_name(told.messages),
+        Verb::Receive => are_message_names(told.messages),
+    }
+}

@@ -1,0 +1,79 @@
+//! The lanes of the processors, and the axis of the ticks below them. Lengths are tenths of a pixel.
+
+use crate::escapes::push_escaped;
+use crate::frames::{Frame, LANES_TOP};
+use crate::round_numbers::round_step;
+use crate::svg::put;
+use crate::windows::Window;
+use std::alloc::{AllocError, Global};
+use step_trace::ProcSet;
+
+/// Draws the heading, the lanes of processors 1 to `count` and the axis of the ticks.
+pub(crate) fn put_lanes(
+    alloc: Global,
+    out: &mut Vec<u8>,
+    frame: Frame,
+    window: Window,
+    count: u64,
+    set: ProcSet,
+    names: &[&str],
+) -> Result<(), AllocError> {
+    let (first, to, y) = (window.first, window.to, LANES_TOP - 160);
+    put(
+        out,
+        format!(in alloc;
+            "<text x=\"900\" y=\"{y}\" class=\"h\">Steps of the ticks {first} to {to}</text>\n"
+        )?,
+    )?;
+    for p in 1..count.min(64) + 1 {
+        put_lane(alloc, out, frame, p, set, names)?;
+    }
+    put_ticks(alloc, out, frame, window)
+}
+
+fn put_lane(
+    alloc: Global,
+    out: &mut Vec<u8>,
+    frame: Frame,
+    p: u64,
+    set: ProcSet,
+    names: &[&str],
+) -> Result<(), AllocError> {
+    let y = frame.y(p);
+    let class = if set.contains(p) { "i" } else { "o" };
+    put(
+        out,
+        format!(in alloc;
+            "<g class=\"{class}\"><path d=\"M900 {y}h10000\"/><text x=\"780\" y=\"{y}\" dy=\"40\">"
+        )?,
+    )?;
+    match names.get(p.saturating_sub(1) as usize) {
+        Some(name) => push_escaped(out, name.as_bytes())?,
+        None => put(out, format!(in alloc; "{p}")?)?,
+    }
+    put(out, format!(in alloc; "</text></g>\n")?)
+}
+
+// Round numbers of ticks.
+fn put_ticks(
+    alloc: Global,
+    out: &mut Vec<u8>,
+    frame: Frame,
+    window: Window,
+) -> Result<(), AllocError> {
+    let y = frame.lanes_end() + 180;
+    let step = round_step(frame.count(), 20).max(1);
+    let before = window.first.saturating_sub(1) / step;
+    for i in 1..22 {
+        let tick = before.saturating_add(i).saturating_mul(step);
+        if tick > window.to {
+            return Ok(());
+        }
+        let x = frame.middle(tick);
+        put(
+            out,
+            format!(in alloc; "<text x=\"{x}\" y=\"{y}\" class=\"n m\">{tick}</text>\n")?,
+        )?;
+    }
+    Ok(())
+}

@@ -1,0 +1,27 @@
+//! The picture of a run: which ticks, steps, messages, misses, gaps and corners it shows, and its text, as SVG.
+#![tactic(auto)]
+
+mod escapes;
+mod frames;
+mod gathering;
+mod lanes;
+mod legend;
+mod message_lines;
+mod messages;
+mod names;
+mod pictures;
+mod report_rows;
+mod round_numbers;
+mod staircase;
+mod step_marks;
+mod svg;
+mod takers;
+mod windows;
+mod witness_marks;
+
+pub use messages::Message;
+pub use names::{MAX_NAME_BYTES, NamesError, names_of};
+pub use pictures::{Picture, picture_of};
+pub use report_rows::COLUMNS;
+pub use svg::{MAX_LINES, MAX_WITNESSES, svg_text};
+pub use windows::{MAX_WINDOW, USUAL_TICKS, Window, WindowError, window_of};

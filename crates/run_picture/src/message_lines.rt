@@ -1,0 +1,89 @@
+//! Messages, as lines from their Sends to the Receives that take them. Lengths are tenths of a pixel.
+
+use crate::frames::Frame;
+use crate::messages::{Message, tick_at};
+use crate::svg::put;
+use std::alloc::{AllocError, Global};
+use step_trace::{Act, Trace};
+
+/// Draws a message that touches the window.
+pub(crate) fn put_message(
+    alloc: Global,
+    out: &mut Vec<u8>,
+    frame: Frame,
+    trace: &Trace,
+    message: &Message,
+) -> Result<(), AllocError> {
+    let Some(step) = trace.step(message.sent) else {
+        return Ok(());
+    };
+    let Act::Send { to } = &step.act else {
+        return Ok(());
+    };
+    let sent_in = tick_at(trace, message.sent);
+    let Some(taken) = message.taken else {
+        return put_lost(alloc, out, frame, sent_in, step.proc, *to);
+    };
+    let taken_in = tick_at(trace, taken);
+    if step.proc == *to {
+        return put_arc(alloc, out, frame, sent_in, taken_in, step.proc);
+    }
+    let line = frame.line(sent_in, step.proc, taken_in, *to);
+    let (x, y, x_end, y_end) = (line.x, line.y, line.x_end, line.y_end);
+    put(
+        out,
+        format!(in alloc; "<path class=\"l\" d=\"M{x} {y}L{x_end} {y_end}\"/>\n")?,
+    )
+}
+
+// A message that nobody takes: a short dashed end, towards the lane of its receiver.
+fn put_lost(
+    alloc: Global,
+    out: &mut Vec<u8>,
+    frame: Frame,
+    tick: u64,
+    processor: u64,
+    to: u64,
+) -> Result<(), AllocError> {
+    let (x, y) = (frame.middle(tick), frame.y(processor));
+    let across = frame.half() * 9 / 10;
+    let down = frame.half_lane() * 7 / 10;
+    let sign = if to < processor { "-" } else { "" };
+    put(
+        out,
+        format!(in alloc; "<path class=\"l d\" d=\"M{x} {y}l{across} {sign}{down}\"/>\n")?,
+    )
+}
+
+// A message to its own sender: up, along and down again, as far as it lies in the window.
+fn put_arc(
+    alloc: Global,
+    out: &mut Vec<u8>,
+    frame: Frame,
+    tick: u64,
+    end: u64,
+    processor: u64,
+) -> Result<(), AllocError> {
+    let line = frame.line(tick, processor, end, processor);
+    let (x, y, x_end) = (line.x, line.y.min(100_000), line.x_end.min(100_000));
+    let rise = frame.half_lane() * 7 / 10;
+    let half = frame.half();
+    let top = y.saturating_sub(rise);
+    if frame.shows(tick) {
+        put(
+            out,
+            format!(in alloc; "<path class=\"l\" d=\"M{x} {y}q0 -{rise} {half} -{rise}")?,
+        )?;
+    } else {
+        put(out, format!(in alloc; "<path class=\"l\" d=\"M{x} {top}")?)?;
+    }
+    if frame.shows(end) {
+        let along = x_end.saturating_sub(half);
+        put(
+            out,
+            format!(in alloc; "H{along}q{half} 0 {half} {rise}\"/>\n")?,
+        )
+    } else {
+        put(out, format!(in alloc; "H{x_end}\"/>\n")?)
+    }
+}

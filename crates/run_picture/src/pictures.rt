@@ -1,0 +1,131 @@
+//! The marks of a picture.
+
+ghost use Rattle.std.specs.Prelude.{◌≡◌, ◌<◌, ◌⊎◌, ℕ, length, IfOk, OnOk, OnErr};
+ghost use Rattle.step_trace.specs.Fronts.{IsReport};
+ghost use Rattle.step_trace.specs.Traces.{IsWellFormed};
+ghost use Rattle.run_picture.specs.Gathered.{gathered};
+ghost use Rattle.run_picture.specs.Marks.{ShowsExactly, ShowsMisses, ShowsGaps};
+ghost use Rattle.run_picture.specs.Pictures.{shown_step, shown_message, shown_miss, shown_gap, corner, Shows};
+
+use crate::gathering::push_some;
+use crate::messages::{self, Message};
+use crate::report_rows;
+use crate::takers::takers;
+use crate::windows::Window;
+use std::alloc::{AllocError, Global};
+use step_trace::{Row, Trace};
+
+/// What a picture shows: the numbers of the steps in its window, the messages that touch it, the rows
+/// whose misses and gaps do, and the rows at which the staircase has its corners.
+#[derive(Debug, Drop)]
+pub struct Picture {
+    pub window: Window,
+    pub steps: Vec<u64>,
+    pub messages: Vec<Message>,
+    pub misses: Vec<Row>,
+    pub gaps: Vec<Row>,
+    pub corners: Vec<Row>,
+}
+
+/// The picture of these ticks of a trace, with the rows of a report of it, in time that grows with the
+/// trace and the rows.
+///
+/// Refuses only for want of memory, and only where there is a step or a row.
+pub fn picture_of(
+    alloc: Global,
+    trace: &Trace,
+    rows: &[Row],
+    window: Window,
+) -> Result<Picture, AllocError>
+    ensures shows { IfOk result (λ p. Shows trace.now rows.now window p) }
+    ensures exact { IfOk result (λ p. ShowsExactly trace.now window p) }
+    ensures misses { IfOk result (λ p. ShowsMisses trace.now rows.now window p.misses.items) }
+    ensures gaps { IfOk result (λ p. (set : ℕ) → IsReport set trace.now rows.now → ShowsGaps rows.now window p.gaps.items) }
+    ensures more { OnErr result ((0 < length trace.now.steps) ⊎ (0 < length rows.now)) }
+{
+    Ok(Picture {
+        window,
+        steps: steps(alloc, trace, window)?,
+        messages: messages(alloc, trace, window)?,
+        misses: misses(alloc, trace, window, rows)?,
+        gaps: gaps(alloc, window, rows)?,
+        corners: corners(alloc, trace.last_tick(), rows)?,
+    })
+}
+
+fn steps(alloc: Global, trace: &Trace, window: Window) -> Result<Vec<u64>, AllocError>
+    ensures listed { IfOk result (λ steps. steps.items ≡ gathered (shown_step trace.now window) (length trace.now.steps)) }
+    ensures more { OnErr result (0 < length trace.now.steps) }
+{
+    let mut steps = Vec::new(alloc);
+    for i in 0..trace.len() {
+        push_some(
+            &mut steps,
+            messages::shown_step(trace, window, i as u64 + 1),
+        )?;
+    }
+    Ok(steps)
+}
+
+fn messages(alloc: Global, trace: &Trace, window: Window) -> Result<Vec<Message>, AllocError>
+    ensures listed { IfOk result (λ messages. messages.items ≡ gathered (shown_message trace.now window) (length trace.now.steps)) }
+    ensures more { OnErr result (0 < length trace.now.steps) }
+    ensures sound { OnOk result (IsWellFormed trace.now.config trace.now.steps) }
+{
+    if trace.len() == 0 {
+        return Ok(Vec::new(alloc));
+    }
+    let takers = takers(alloc, trace)?;
+    let mut messages = Vec::new(alloc);
+    for i in 0..trace.len() {
+        push_some(
+            &mut messages,
+            messages::shown_message(trace, &takers, window, i as u64 + 1),
+        )?;
+    }
+    Ok(messages)
+}
+
+fn misses(
+    alloc: Global,
+    trace: &Trace,
+    window: Window,
+    rows: &[Row],
+) -> Result<Vec<Row>, AllocError>
+    ensures listed { IfOk result (λ misses. misses.items ≡ gathered (shown_miss trace.now window rows.now) (length rows.now)) }
+    ensures more { OnErr result (0 < length rows.now) }
+{
+    let mut misses = Vec::new(alloc);
+    for i in 0..rows.len() {
+        push_some(
+            &mut misses,
+            report_rows::shown_miss(trace, window, rows, i as u64 + 1),
+        )?;
+    }
+    Ok(misses)
+}
+
+fn gaps(alloc: Global, window: Window, rows: &[Row]) -> Result<Vec<Row>, AllocError>
+    ensures listed { IfOk result (λ gaps. gaps.items ≡ gathered (shown_gap window rows.now) (length rows.now)) }
+    ensures more { OnErr result (0 < length rows.now) }
+{
+    let mut gaps = Vec::new(alloc);
+    for i in 0..rows.len() {
+        push_some(
+            &mut gaps,
+            report_rows::shown_gap(window, rows, i as u64 + 1),
+        )?;
+    }
+    Ok(gaps)
+}
+
+fn corners(alloc: Global, last: u64, rows: &[Row]) -> Result<Vec<Row>, AllocError>
+    ensures listed { IfOk result (λ corners. corners.items ≡ gathered (corner last rows.now) (length rows.now)) }
+    ensures more { OnErr result (0 < length rows.now) }
+{
+    let mut corners = Vec::new(alloc);
+    for i in 0..rows.len() {
+        push_some(&mut corners, report_rows::corner(last, rows, i as u64 + 1))?;
+    }
+    Ok(corners)
+}

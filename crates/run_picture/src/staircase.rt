@@ -1,0 +1,219 @@
+//! The staircase of both bounds over the whole trace. Lengths are tenths of a pixel.
+
+use crate::frames::{LEFT, WIDTH};
+use crate::pictures::Picture;
+use crate::round_numbers::round_step;
+use crate::svg::put;
+use std::alloc::{AllocError, Global};
+use step_trace::{MAX_TICKS, Row};
+
+const TOP: u64 = 500;
+
+const HEIGHT: u64 = 1_700;
+
+/// The scales of both axes: the last tick, and the greatest bound.
+#[derive(Clone, Copy)]
+struct Axes {
+    last: u64,
+    high: u64,
+}
+
+impl Axes {
+    // The left edge of a tick, or the right edge of all where the tick is after the last.
+    fn edge(self, tick: u64) -> u64 {
+        let last = self.last.clamp(1, MAX_TICKS);
+        LEFT + tick.saturating_sub(1).min(last) * WIDTH / last
+    }
+
+    // The middle of a tick.
+    fn middle(self, tick: u64) -> u64 {
+        let last = self.last.clamp(1, MAX_TICKS);
+        LEFT + (tick.clamp(1, last) * 2 - 1) * WIDTH / (last * 2)
+    }
+
+    // The height of a bound.
+    fn y(self, bound: u64) -> u64 {
+        let high = self.high.clamp(1, MAX_TICKS);
+        (TOP + HEIGHT).saturating_sub(bound.min(high) * HEIGHT / high)
+    }
+}
+
+/// The two bounds of a row.
+#[derive(Clone, Copy)]
+enum Bound {
+    Communication,
+    Processor,
+}
+
+impl Bound {
+    fn of(self, row: &Row) -> u64 {
+        match self {
+            Bound::Communication => row.delta,
+            Bound::Processor => row.phi,
+        }
+    }
+
+    fn colour(self) -> &'static str {
+        match self {
+            Bound::Communication => "#0072B2",
+            Bound::Processor => "#D55E00",
+        }
+    }
+
+    // How far its line lies below its height, so that equal bounds are both seen.
+    fn shift(self) -> u64 {
+        match self {
+            Bound::Communication => 0,
+            Bound::Processor => 20,
+        }
+    }
+}
+
+/// Draws the staircase of a picture of a trace with this last tick.
+pub(crate) fn put_staircase(
+    alloc: Global,
+    out: &mut Vec<u8>,
+    picture: &Picture,
+    last: u64,
+) -> Result<(), AllocError> {
+    let axes = Axes {
+        last,
+        high: greatest_bound(&picture.corners),
+    };
+    put_heading(alloc, out, picture)?;
+    put_shade(alloc, out, axes, picture)?;
+    put_bounds_axis(alloc, out, axes)?;
+    put_ticks_axis(alloc, out, axes)?;
+    put_line(alloc, out, axes, &picture.corners, Bound::Communication)?;
+    put_line(alloc, out, axes, &picture.corners, Bound::Processor)?;
+    put_titles(alloc, out, axes, &picture.corners)
+}
+
+fn greatest_bound(corners: &[Row]) -> u64 {
+    let mut high = 1;
+    for row in corners {
+        high = row.delta.max(row.phi).max(high);
+    }
+    high
+}
+
+fn put_heading(alloc: Global, out: &mut Vec<u8>, picture: &Picture) -> Result<(), AllocError> {
+    put(
+        out,
+        format!(in alloc;
+            "<text x=\"900\" y=\"300\" class=\"h\">Least bounds that hold from a tick to the end</text>\n"
+        )?,
+    )?;
+    let Some(row) = picture.corners.first() else {
+        return Ok(());
+    };
+    let (gst, delta, phi) = (row.gst, row.delta, row.phi);
+    put(
+        out,
+        format!(in alloc;
+            "<text x=\"10900\" y=\"300\" text-anchor=\"end\"><tspan class=\"delta\">Δ({gst}) = {delta}</tspan> in communication, <tspan class=\"phi\">Φ({gst}) = {phi}</tspan> of processors</text>\n"
+        )?,
+    )
+}
+
+// The ticks that are drawn below.
+fn put_shade(
+    alloc: Global,
+    out: &mut Vec<u8>,
+    axes: Axes,
+    picture: &Picture,
+) -> Result<(), AllocError> {
+    let (first, to) = (picture.window.first, picture.window.to);
+    let x = axes.edge(first);
+    let width = axes.edge(to.saturating_add(1)).saturating_sub(x);
+    put(
+        out,
+        format!(in alloc;
+            "<rect x=\"{x}\" y=\"500\" width=\"{width}\" height=\"1700\" fill=\"#f3f1e7\"/>\n"
+        )?,
+    )
+}
+
+fn put_bounds_axis(alloc: Global, out: &mut Vec<u8>, axes: Axes) -> Result<(), AllocError> {
+    let step = round_step(axes.high, 6);
+    for i in 0..7 {
+        let bound = step.saturating_mul(i);
+        if bound > axes.high {
+            return Ok(());
+        }
+        let y = axes.y(bound);
+        put(
+            out,
+            format!(in alloc;
+                "<path class=\"a\" d=\"M900 {y}h10000\"/><text x=\"820\" y=\"{y}\" dy=\"40\" class=\"n e\">{bound}</text>\n"
+            )?,
+        )?;
+    }
+    Ok(())
+}
+
+fn put_ticks_axis(alloc: Global, out: &mut Vec<u8>, axes: Axes) -> Result<(), AllocError> {
+    put(
+        out,
+        format!(in alloc; "<text x=\"820\" y=\"2380\" class=\"n e\">tick</text>\n")?,
+    )?;
+    let step = round_step(axes.last, 10);
+    for i in 1..11 {
+        let tick = step.saturating_mul(i);
+        if tick > axes.last {
+            return Ok(());
+        }
+        let x = axes.middle(tick);
+        put(
+            out,
+            format!(in alloc; "<text x=\"{x}\" y=\"2380\" class=\"n m\">{tick}</text>\n")?,
+        )?;
+    }
+    Ok(())
+}
+
+fn put_line(
+    alloc: Global,
+    out: &mut Vec<u8>,
+    axes: Axes,
+    corners: &[Row],
+    bound: Bound,
+) -> Result<(), AllocError> {
+    let Some(first) = corners.first() else {
+        return Ok(());
+    };
+    let y = axes.y(bound.of(first));
+    let (colour, shift) = (bound.colour(), bound.shift());
+    put(
+        out,
+        format!(in alloc;
+            "<path class=\"b\" stroke=\"{colour}\" transform=\"translate(0 {shift})\" d=\"M900 {y}"
+        )?,
+    )?;
+    for row in corners {
+        let (x, y) = (axes.edge(row.gst), axes.y(bound.of(row)));
+        put(out, format!(in alloc; "H{x}V{y}")?)?;
+    }
+    put(out, format!(in alloc; "H10900\"/>\n")?)
+}
+
+// What the bounds are from each corner on, for whoever points there.
+fn put_titles(
+    alloc: Global,
+    out: &mut Vec<u8>,
+    axes: Axes,
+    corners: &[Row],
+) -> Result<(), AllocError> {
+    put(out, format!(in alloc; "<g class=\"t\">\n")?)?;
+    for row in corners {
+        let x = axes.edge(row.gst);
+        let (gst, delta, phi) = (row.gst, row.delta, row.phi);
+        put(
+            out,
+            format!(in alloc;
+                "<path d=\"M{x} 500H10900V2200H{x}\"><title>from tick {gst} on: Δ = {delta}, Φ = {phi}</title></path>\n"
+            )?,
+        )?;
+    }
+    put(out, format!(in alloc; "</g>\n")?)
+}

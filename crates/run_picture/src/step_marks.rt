@@ -1,0 +1,118 @@
+//! Steps, as marks in the lanes of their processors. Lengths are tenths of a pixel.
+
+ghost use Rattle.std.specs.Prelude.{◌≤◌};
+
+use crate::frames::Frame;
+use crate::messages::tick_at;
+use crate::svg::put;
+use std::alloc::{AllocError, Global};
+use step_trace::{Act, Trace};
+
+/// How many ids the words of a Receive name.
+const NAMED_IDS: usize = 8;
+
+/// Draws the step of this number.
+pub(crate) fn put_step(
+    alloc: Global,
+    out: &mut Vec<u8>,
+    frame: Frame,
+    trace: &Trace,
+    no: u64,
+) -> Result<(), AllocError> {
+    let Some(step) = trace.step(no) else {
+        return Ok(());
+    };
+    let (tick, processor) = (tick_at(trace, no), step.proc);
+    let (x, y) = (frame.middle(tick), frame.y(processor));
+    match &step.act {
+        Act::Send { to } => {
+            let size = radius(frame);
+            put(
+                out,
+                format!(in alloc;
+                    "<circle cx=\"{x}\" cy=\"{y}\" r=\"{size}\"><title>step {no}, tick {tick}: processor {processor} sends message {no} to {to}</title></circle>\n"
+                )?,
+            )
+        }
+        Act::Receive { ends, ids } => {
+            put_square(alloc, out, frame, x, y, ids.as_slice().len() == 0)?;
+            put(
+                out,
+                format!(in alloc;
+                    "<title>step {no}, tick {tick}: processor {processor} receives "
+                )?,
+            )?;
+            put_ids(alloc, out, ids.as_slice())?;
+            put_end(alloc, out, frame, x, y, *ends)
+        }
+    }
+}
+
+// How far a mark goes from its middle.
+fn radius(frame: Frame) -> u64
+    ensures { result ≤ 60 }
+{
+    (frame.half() * 6 / 10).clamp(22, 60)
+}
+
+fn put_square(
+    alloc: Global,
+    out: &mut Vec<u8>,
+    frame: Frame,
+    x: u64,
+    y: u64,
+    is_empty: bool,
+) -> Result<(), AllocError> {
+    let size = radius(frame);
+    let (left, top, wide) = (x.saturating_sub(size), y.saturating_sub(size), size * 2);
+    let class = if is_empty { " class=\"z\"" } else { "" };
+    put(
+        out,
+        format!(in alloc;
+            "<rect x=\"{left}\" y=\"{top}\" width=\"{wide}\" height=\"{wide}\"{class}>"
+        )?,
+    )
+}
+
+// The first ids, and how many more there are.
+fn put_ids(alloc: Global, out: &mut Vec<u8>, ids: &[u64]) -> Result<(), AllocError> {
+    if ids.len() == 0 {
+        return put(out, format!(in alloc; "nothing")?);
+    }
+    let kind = if ids.len() == 1 {
+        "message"
+    } else {
+        "messages"
+    };
+    put(out, format!(in alloc; "{kind}")?)?;
+    for id in &ids[..ids.len().min(NAMED_IDS)] {
+        put(out, format!(in alloc; " {id}")?)?;
+    }
+    let more = ids.len().saturating_sub(NAMED_IDS);
+    if more > 0 {
+        put(out, format!(in alloc; " and {more} more")?)?;
+    }
+    Ok(())
+}
+
+// The end of the words and of the mark, with a bar beside it where the round ends.
+fn put_end(
+    alloc: Global,
+    out: &mut Vec<u8>,
+    frame: Frame,
+    x: u64,
+    y: u64,
+    ends: bool,
+) -> Result<(), AllocError> {
+    if !ends {
+        return put(out, format!(in alloc; "</title></rect>\n")?);
+    }
+    let far = radius(frame) + 25;
+    let (right, top, tall) = (x.min(100_000) + far, y.saturating_sub(far), far * 2);
+    put(
+        out,
+        format!(in alloc;
+            " and ends its round</title></rect><path class=\"r\" d=\"M{right} {top}v{tall}\"/>\n"
+        )?,
+    )
+}

@@ -1,0 +1,192 @@
+//! The text of a picture, as SVG. Lengths are tenths of a pixel.
+
+ghost use Rattle.std.specs.Prelude.{◌≡◌, ◌-◌, length, take, drop};
+
+use crate::frames::Frame;
+use crate::lanes::put_lanes;
+use crate::legend::{LEGEND, STYLE};
+use crate::message_lines::put_message;
+use crate::pictures::Picture;
+use crate::staircase::put_staircase;
+use crate::step_marks::put_step;
+use crate::witness_marks::{put_gap, put_miss};
+use std::alloc::{AllocError, Global};
+use step_trace::{ProcSet, Row, Trace};
+
+/// How many messages are written, the last by their Sends.
+pub const MAX_LINES: usize = 10_000;
+
+/// How many misses are written, and how many gaps: the first, of the greatest bounds.
+pub const MAX_WITNESSES: usize = 1_000;
+
+/// The SVG of a picture of this trace, in UTF-8: the staircase, and the steps of its ticks with their messages and the
+/// witnesses. The lanes of the set are in ink; `names` labels the lanes in their order, and numbers those that it
+/// has no name for.
+///
+/// Refuses only for want of memory.
+pub fn svg_text(
+    alloc: Global,
+    trace: &Trace,
+    picture: &Picture,
+    set: ProcSet,
+    names: &[&str],
+) -> Result<Vec<u8>, AllocError> {
+    let mut out = Vec::new(alloc);
+    let count = trace.config().n().min(64);
+    let frame = Frame::new(picture.window, count);
+    put_head(alloc, &mut out, frame)?;
+    let last = trace.last_tick();
+    if last == 0 {
+        out.extend_from_slice(
+            b"<text x=\"900\" y=\"300\" class=\"h\">The trace has no tick.</text>\n</svg>\n",
+        )?;
+        return Ok(out);
+    }
+    put_staircase(alloc, &mut out, picture, last)?;
+    put_lanes(alloc, &mut out, frame, picture.window, count, set, names)?;
+    put_marks(alloc, &mut out, frame, trace, picture)?;
+    put_foot(alloc, &mut out, frame, picture)?;
+    Ok(out)
+}
+
+/// Appends a text.
+pub(crate) fn put(out: &mut Vec<u8>, text: String) -> Result<(), AllocError> {
+    out.extend_from_slice(text.as_bytes())
+}
+
+fn put_head(alloc: Global, out: &mut Vec<u8>, frame: Frame) -> Result<(), AllocError> {
+    let height = frame.lanes_end() + 1_000;
+    put(
+        out,
+        format!(in alloc;
+            "<svg xmlns=\"http://www.w3.org/2000/svg\" viewBox=\"0 0 11200 {height}\" font-family=\"system-ui, sans-serif\" font-size=\"120\" fill=\"#1a1a1a\">\n{STYLE}<rect width=\"11200\" height=\"{height}\" fill=\"#fff\"/>\n"
+        )?,
+    )
+}
+
+// Gaps below messages, misses above them, and steps on top.
+fn put_marks(
+    alloc: Global,
+    out: &mut Vec<u8>,
+    frame: Frame,
+    trace: &Trace,
+    picture: &Picture,
+) -> Result<(), AllocError> {
+    put_gaps(alloc, out, frame, &picture.gaps)?;
+    for message in latest(&picture.messages, MAX_LINES) {
+        put_message(alloc, out, frame, trace, message)?;
+    }
+    put_misses(alloc, out, frame, trace, &picture.misses)?;
+    put_steps(alloc, out, frame, trace, &picture.steps)
+}
+
+fn put_gaps(
+    alloc: Global,
+    out: &mut Vec<u8>,
+    frame: Frame,
+    gaps: &[Row],
+) -> Result<(), AllocError> {
+    for row in earliest(gaps, MAX_WITNESSES) {
+        put_gap(alloc, out, frame, row)?;
+    }
+    Ok(())
+}
+
+fn put_misses(
+    alloc: Global,
+    out: &mut Vec<u8>,
+    frame: Frame,
+    trace: &Trace,
+    misses: &[Row],
+) -> Result<(), AllocError> {
+    for row in earliest(misses, MAX_WITNESSES) {
+        put_miss(alloc, out, frame, trace, row)?;
+    }
+    Ok(())
+}
+
+fn put_steps(
+    alloc: Global,
+    out: &mut Vec<u8>,
+    frame: Frame,
+    trace: &Trace,
+    steps: &[u64],
+) -> Result<(), AllocError> {
+    for no in steps {
+        put_step(alloc, out, frame, trace, *no)?;
+    }
+    Ok(())
+}
+
+// The last of these, so many at most.
+fn latest<T>(list: &[T], most: usize) -> &[T]
+    ensures { result.now ≡ drop (length list.now - most) list.now }
+{
+    &list[list.len().saturating_sub(most)..]
+}
+
+// The first of these, so many at most: in a report the witnesses of the greatest bounds.
+fn earliest(rows: &[Row], most: usize) -> &[Row]
+    ensures { result.now ≡ take most rows.now }
+{
+    &rows[..most.min(rows.len())]
+}
+
+// What the marks mean, and how many are left out.
+fn put_foot(
+    alloc: Global,
+    out: &mut Vec<u8>,
+    frame: Frame,
+    picture: &Picture,
+) -> Result<(), AllocError> {
+    let legend = frame.lanes_end() + 480;
+    put(
+        out,
+        format!(in alloc; "<g transform=\"translate(900 {legend})\" class=\"k\">\n{LEGEND}</g>\n")?,
+    )?;
+    let y = frame.lanes_end() + 860;
+    put_left_out(
+        alloc,
+        out,
+        (900, y),
+        picture.messages.len(),
+        MAX_LINES,
+        "earlier messages",
+    )?;
+    put_left_out(
+        alloc,
+        out,
+        (4_900, y),
+        picture.misses.len(),
+        MAX_WITNESSES,
+        "later misses",
+    )?;
+    put_left_out(
+        alloc,
+        out,
+        (7_900, y),
+        picture.gaps.len(),
+        MAX_WITNESSES,
+        "later gaps",
+    )?;
+    put(out, format!(in alloc; "</svg>\n")?)
+}
+
+fn put_left_out(
+    alloc: Global,
+    out: &mut Vec<u8>,
+    place: (u64, u64),
+    count: usize,
+    most: usize,
+    kind: &str,
+) -> Result<(), AllocError> {
+    let left_out = count.saturating_sub(most);
+    if left_out == 0 {
+        return Ok(());
+    }
+    let (x, y) = place;
+    put(
+        out,
+        format!(in alloc; "<text x=\"{x}\" y=\"{y}\">{left_out} {kind} are not drawn.</text>\n")?,
+    )
+}

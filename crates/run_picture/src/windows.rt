@@ -1,0 +1,60 @@
+//! The ticks that are drawn.
+
+ghost use Rattle.std.specs.Prelude.{◌≡◌, ◌<◌, ◌≤◌, ◌+◌, IfOk};
+ghost use Rattle.run_picture.specs.Windows.{touches, window_of};
+
+/// How many ticks are drawn where no last one is asked for.
+pub const USUAL_TICKS: u64 = 100;
+
+/// How many ticks may be drawn.
+pub const MAX_WINDOW: u64 = 1_000;
+
+/// The ticks from `first` to `to`.
+#[derive(Clone, Copy, Debug, PartialEq, Eq)]
+pub struct Window {
+    pub first: u64,
+    pub to: u64,
+}
+
+/// Why there is no such window, in the order in which the reasons are tested.
+#[derive(Clone, Copy, Debug, PartialEq, Eq)]
+pub enum WindowError {
+    /// The first tick is none of the trace.
+    BadFrom,
+    /// The last tick is before the first, or `MAX_WINDOW` ticks or more after it.
+    BadTo,
+}
+
+impl Window {
+    /// Whether what lasts from tick `a` to tick `b` touches the window.
+    pub fn touches(self, a: u64, b: u64) -> bool
+        ensures { result ≡ touches self a b }
+    {
+        a <= self.to && self.first <= b
+    }
+}
+
+/// The ticks that are asked for, of a trace with this last tick: from tick 1 where no first one is given, and
+/// `USUAL_TICKS` of them where no last one is. A last tick after that of the trace counts as that one. Of a trace
+/// with no tick there is the empty window before tick 1, whatever last tick is given.
+pub fn window_of(last: u64, from: Option<u64>, to: Option<u64>) -> Result<Window, WindowError>
+    ensures exact { result ≡ window_of last from to }
+    ensures end { IfOk result (λ w. w.to ≤ last) }
+    ensures length { IfOk result (λ w. w.to < w.first + MAX_WINDOW) }
+{
+    let first = from.unwrap_or(1);
+    if first < 1 || last.max(1) < first {
+        return Err(WindowError::BadFrom);
+    }
+    if last == 0 {
+        return Ok(Window { first, to: 0 });
+    }
+    let to = match to {
+        Some(to) => to.min(last),
+        None => last.min(first.saturating_add(USUAL_TICKS - 1)),
+    };
+    if to < first || to - first >= MAX_WINDOW {
+        return Err(WindowError::BadTo);
+    }
+    Ok(Window { first, to })
+}

@@ -1,0 +1,64 @@
+//! The misses and gaps of a report. Lengths are tenths of a pixel.
+
+use crate::frames::Frame;
+use crate::messages::tick_at;
+use crate::svg::put;
+use std::alloc::{AllocError, Global};
+use step_trace::{Row, Trace};
+
+/// Draws the miss of a row, from the Send to the Receive that it misses.
+pub(crate) fn put_miss(
+    alloc: Global,
+    out: &mut Vec<u8>,
+    frame: Frame,
+    trace: &Trace,
+    row: &Row,
+) -> Result<(), AllocError> {
+    let Some(miss) = row.miss else {
+        return Ok(());
+    };
+    let (sent, missed, gst, delta) = (miss.sent, miss.missed, row.gst, row.delta);
+    let line = frame.line(
+        tick_at(trace, sent),
+        processor_at(trace, sent),
+        tick_at(trace, missed),
+        processor_at(trace, missed),
+    );
+    let (x, y, x_end, y_end) = (line.x, line.y, line.x_end, line.y_end);
+    put(
+        out,
+        format!(in alloc;
+            "<path class=\"w\" d=\"M{x} {y}L{x_end} {y_end}\"><title>message {sent} was not yet received at step {missed}: Δ({gst}) = {delta}</title></path>\n"
+        )?,
+    )
+}
+
+// The processor of the step of this number; 0 where there is no such step.
+fn processor_at(trace: &Trace, no: u64) -> u64 {
+    match trace.step(no) {
+        Some(step) => step.proc,
+        None => 0,
+    }
+}
+
+/// Draws the gap of a row, as far as it lies in the window.
+pub(crate) fn put_gap(
+    alloc: Global,
+    out: &mut Vec<u8>,
+    frame: Frame,
+    row: &Row,
+) -> Result<(), AllocError> {
+    let Some(gap) = row.gap else {
+        return Ok(());
+    };
+    let x = frame.edge(gap.from);
+    let width = frame.edge(gap.to.saturating_add(1)).saturating_sub(x);
+    let y = frame.y(gap.proc).saturating_sub(90);
+    let (processor, from, to, gst, phi) = (gap.proc, gap.from, gap.to, row.gst, row.phi);
+    put(
+        out,
+        format!(in alloc;
+            "<rect class=\"g\" x=\"{x}\" y=\"{y}\" width=\"{width}\" height=\"180\" rx=\"40\"><title>processor {processor} takes no step from tick {from} to tick {to}: Φ({gst}) = {phi}</title></rect>\n"
+        )?,
+    )
+}

@@ -1,0 +1,12 @@
+pub mod TimeBounds
+pub mod Firsts
+pub mod Messages
+pub mod Moments
+pub mod EventReasons
+pub mod PassedEvents
+pub mod SortedEvents
+pub mod StepsSoFar
+pub mod FittingEvents
+pub mod FittingTraces
+pub mod WellFormedTraces
+pub mod TimedFitting

@@ -1,0 +1,5 @@
+pub mod Times
+pub mod Firsts
+pub mod Checks
+pub mod Orders
+pub mod TimedTraces

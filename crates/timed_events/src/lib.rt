@@ -1,0 +1,15 @@
+//! Events with times in place of ticks, as systems log them, and the trace in ticks that they make.
+#![tactic(auto)]
+
+mod checks;
+mod events;
+mod orders;
+mod steps;
+mod timed_traces;
+mod times;
+
+pub use checks::{are_meant, check_events};
+pub use events::{Clock, Event, EventAct, EventError, Hint};
+pub use orders::{numbers_of, order_of};
+pub use timed_traces::trace_in_time;
+pub use times::{Span, span_of, ticks_of};
