@@ -1,6 +1,6 @@
 -- What holds of each command: its words ask for one thing, what is asked for below it is what the line gives, and a
 -- plain line of it asks for that and has no fault.
-use Rattle.std.proofs.Common.{ℕ, ◌≡◌, ◌∙◌, inl, inr, ap, sym, subst, refl, false, List, [], ◌∷◌, Option, Some, Result, Ok, Err, IfOk, IfErr, codes, string_bytes, arith}
+use Rattle.std.proofs.Common.{ℕ, ◌≡◌, ◌∙◌, inl, inr, ap, sym, subst, refl, false, List, [], ◌∷◌, Option, Some, None, Result, Ok, Err, IfOk, IfErr, codes, string_bytes, arith}
 use Rattle.std.specs.Str.{bytes_eq}
 use Rattle.std.specs.Str.Parse.{digits_value, without_leading_plus}
 use Rattle.std.proofs.lemmas.Slice.Eq.{bytes_eq-Decides}
@@ -11,8 +11,8 @@ use Rattle.command_line.specs.declared.jobs.Job.TheVariants as job
 use Rattle.command_line.specs.declared.jobs.report.TheConstants.{MAX_WORKERS}
 use Rattle.command_line.specs.declared.line_errors.LineError.{LineError}
 use Rattle.command_line.specs.declared.line_errors.LineError.TheVariants as unread
-use Rattle.command_line.specs.Arguments.{HasNumber, IsLineFault, is_flag}
-use Rattle.command_line.specs.Commands.{AreCheckRows, AreReportRows, AreRowsOf, AreRunRows, Asked, Check, IsJobFor, IsRefusalFor, Replay, Report, Run, Upgrade, check_line, command_of, replay_line, report_line, upgrade_line}
+use Rattle.command_line.specs.Arguments.{HasNumber, HasOptionalNumber, IsLineFault, is_flag}
+use Rattle.command_line.specs.Commands.{AreCheckRows, AreDrawRows, AreReportRows, AreRowsOf, AreRunRows, Asked, Check, Draw, IsJobFor, IsRefusalFor, Replay, Report, Run, Upgrade, check_line, command_of, draw_line, replay_line, report_line, upgrade_line}
 use Rattle.command_line.specs.Jobs.{IsAnswerIn, IsJobIn, IsRefusalIn, Names, NamesNoJob}
 use Rattle.command_line.proofs.PlainWords.{IsPlain, after_value, after_word, at_end, plain_line, shape_of_command}
 
@@ -29,6 +29,12 @@ one_number rows name least most v w a b =
     let same = same_some a.text b.text (sym a.text_is ∙ b.text_is) in
     a.value_is ∙ ap (λ t. digits_value 10 (without_leading_plus t)) same ∙ sym b.value_is
 
+one_optional : (rows : List Row) (name : Text) (least most : ℕ) (v w : Option ℕ) → HasOptionalNumber rows name least most v → HasOptionalNumber rows name least most w → v ≡ w
+one_optional rows name least most None None a b = refl
+one_optional rows name least most None (Some w) a b = let has = b.text_is in cc
+one_optional rows name least most (Some v) None a b = let has = a.text_is in cc
+one_optional rows name least most (Some v) (Some w) a b = ap (λ n. Some n) (one_number rows name least most v w a b)
+
 -- the rows below one command ask for one thing
 pub one_asked : (rows : List Row) (a b : Asked) → command_of a ≡ command_of b → AreRowsOf a rows → AreRowsOf b rows → a ≡ b
 one_asked rows (Report f l v) (Report g m w) e a b = cc (one_number rows _ _ _ v w a.workers_is b.workers_is)
@@ -43,6 +49,7 @@ one_asked rows (Run n t vs p s f) (Run m u ws q r g) e a b = cc (
 )
 one_asked rows (Upgrade f) (Upgrade g) e a b = cc
 one_asked rows (Check f c l) (Check g d m) e a b = cc
+one_asked rows (Draw f l u v n) (Draw g m x y k) e a b = cc (one_optional rows _ _ _ u x a.from_is b.from_is, one_optional rows _ _ _ v y a.to_is b.to_is, a.names_is, b.names_is)
 one_asked rows a b e _ _ = absurd (apart (command_of a) (command_of b) e refl)
 
 -- what is asked for below a command gives what the line gives
@@ -94,6 +101,10 @@ pub no_check : (rows : List Row) → ((file certificate list : Text) → ¬ AreC
 no_check rows none (Check f c l) h = none f c l (rows_below _ rows (Check f c l) h)
 no_check rows none a h = elsewhere _ rows a h refl
 
+pub no_draw : (rows : List Row) → ((file list : Text) (from to : Option ℕ) (names : Option Text) → ¬ AreDrawRows rows file list from to names) → NamesNoJob (Some (codes "draw", rows))
+no_draw rows none (Draw f l u v n) h = none f l u v n (rows_below _ rows (Draw f l u v n) h)
+no_draw rows none a h = elsewhere _ rows a h refl
+
 -- one worker, where the rows have the text that stands for no other number
 one_worker : (rows : List Row) → first_of (codes "workers") rows ≡ Some (codes "1") → HasNumber rows (codes "workers") 1 MAX_WORKERS 1
 one_worker rows has =
@@ -123,3 +134,9 @@ plain_check name file certificate list plain_file plain_certificate plain_list =
     (after_value _ _ file _ _ plain_file refl refl refl refl (after_value _ _ certificate _ _ plain_certificate refl refl refl refl
     (after_word _ _ _ (codes "--correct") _ _ refl refl (after_value _ _ list _ _ plain_list refl refl refl refl (at_end _ _)))))
     refl (record { file_is = refl; certificate_is = refl; list_is = refl }) refl refl refl
+
+pub plain_draw : (name file list : Text) → is_flag file ≡ false → is_flag list ≡ false → IsPlain (draw_line name file list) (Draw file list None None None)
+unfolding clap_on_literals
+plain_draw name file list plain_file plain_list = plain_line (shape_of_command (codes "draw")) (file ∷ codes "--correct" ∷ list ∷ []) _ (Draw file list None None None) _
+    (after_value _ _ file _ _ plain_file refl refl refl refl (after_word _ _ _ (codes "--correct") _ _ refl refl (after_value _ _ list _ _ plain_list refl refl refl refl (at_end _ _))))
+    refl (record { file_is = refl; list_is = refl; from_is = refl; to_is = refl; names_is = refl }) refl refl refl

@@ -1,5 +1,5 @@
 -- The arguments that several commands take, what the words of a command line say of them, and why they are refused.
-use Rattle.std.specs.Prelude.{ℕ, ◌≡◌, ◌≢◌, ◌≤◌, Bool, false, true, ◌==◌, List, [], ◌∷◌, Some, codes, string_bytes, ⊤}
+use Rattle.std.specs.Prelude.{ℕ, ◌≡◌, ◌≢◌, ◌≤◌, Bool, false, true, ◌==◌, List, [], ◌∷◌, Option, Some, None, codes, string_bytes, ⊤}
 use Rattle.std.specs.Str.Parse.{IsNumeral, digits_value, without_leading_plus}
 use Rattle.clap.specs.Words.{App, Row, Rule, Text, app_of, first_of, new_rule, rule_of}
 use Rattle.clap.specs.declared.builder.Arg.{Arg}
@@ -45,6 +45,11 @@ pub record HasNumber (rows : List Row) (name : Text) (least most value : ℕ) : 
   pub value_is : value ≡ digits_value 10 (without_leading_plus text)
   pub low : least ≤ value
   pub high : value ≤ most
+
+-- they have such a number, or no word of this name
+abbrev pub HasOptionalNumber : List Row → Text → ℕ → ℕ → Option ℕ → Type 0
+HasOptionalNumber rows name least most None = first_of name rows ≡ None
+HasOptionalNumber rows name least most (Some value) = HasNumber rows name least most value
 
 -- the word begins with a hyphen and goes on
 abbrev pub is_flag : Text → Bool

@@ -1,8 +1,9 @@
 -- A trace that takes the steps of a piece goes on where the piece ends.
-use Rattle.std.proofs.Common.{◌≡◌, ◌≤◌, ◌+◌, ◌-◌, ◌∙◌, ℕ, suc, List, [], ◌∷◌, ◌++◌, length, drop, Result, Ok, Err, Bool, true, false, refl, sym, ap, subst, arith, nat_eq, slice_index_or}
+use Rattle.std.proofs.Common.{◌≡◌, ◌==◌, ◌≤◌, ◌+◌, ◌-◌, ◌∙◌, ℕ, suc, List, [], ◌∷◌, ◌++◌, length, drop, Option, Some, None, is_some, Result, Ok, Err, Bool, true, false, refl, sym, ap, subst, arith, nat_eq, slice_index_or}
 use Rattle.std.specs.Prelude.{MatchBool, ⊤}
 use Rattle.std.proofs.lemmas.List.{drop-drop, take-append-drop}
 use Rattle.csv.specs.Reading.{strip_bom}
+use Rattle.memchr.specs.Find.{IsFirstByte, Nowhere, Passes, is_byte}
 use Rattle.step_trace.specs.declared.traces.TheConstants.{MAX_STEPS}
 use Rattle.step_trace.specs.Traces.{Recorded}
 use Rattle.trace_text.specs.declared.versions.Version.{Version}
@@ -17,6 +18,20 @@ use Rattle.shared_reading.proofs.QuoteFree.{seam}
 use Rattle.shared_reading.specs.declared.lines.Line.{Line}
 use Rattle.shared_reading.specs.Lines.{after_lines}
 use Rattle.shared_reading.specs.Pieces.{part, read_on, IsReadAlone, GoesOn}
+
+not-yes : (b : Bool) → (b ≡ true → ⊥) → b ≡ false
+not-yes false h = refl
+not-yes true h = absurd (h refl)
+
+-- no byte is a quote
+quoteless : (xs : List ℕ) → Nowhere (Passes (is_byte 34) xs) 0 (length xs) → has_quote xs ≡ false
+quoteless [] h = refl
+quoteless (x ∷ xs) h = rw (not-yes (x == 34) (λ e. h 0 (omega arith) (omega arith) e), quoteless xs (λ k low high e. h (suc k) (omega arith) (omega (arith, high)) e)) refl
+
+-- the search for one found none
+pub quoteless-by : (xs : List ℕ) (place : Option ℕ) → IsFirstByte (is_byte 34) xs place → is_some place ≡ false → has_quote xs ≡ false
+quoteless-by xs None h e = quoteless xs h
+quoteless-by xs (Some k) h e = cc e
 
 -- the last byte is a line feed
 pub ends_line-last : (xs : List ℕ) → nat_eq (slice_index_or xs (length xs - 1) 0) 10 ≡ true → ends_line xs ≡ true

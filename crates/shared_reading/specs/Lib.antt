@@ -2,3 +2,4 @@ pub mod Seams
 pub mod Lines
 pub mod LongLines
 pub mod Pieces
+pub mod DeviceTexts

@@ -1,10 +1,12 @@
-//! A trace text that several threads read. One goes over the text from front to back; what the others read of it
-//! meanwhile, without what stands before, only shortens its way.
+//! A trace text that several threads read, and that is read from a device part by part. One thread goes over the text from
+//! front to back; what the others read of it meanwhile, without what stands before, only shortens its way.
 #![tactic(auto)]
 
+mod device_texts;
 mod lines;
 mod pieces;
 mod reading;
 mod stretches;
 
+pub use device_texts::read_trace_from;
 pub use reading::read_trace_by;

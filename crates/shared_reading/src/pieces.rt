@@ -7,6 +7,7 @@ ghost use Rattle.trace_text.specs.declared.reading.Stage.TheVariants.{Recording}
 ghost use Rattle.shared_reading.specs.Pieces.{GoesOn, IsPiece, IsFound};
 
 use crate::lines::{Line, Lines, push_lines};
+use memchr::memchr;
 use std::alloc::Global;
 use step_trace::Trace;
 use trace_text::TextError;
@@ -51,7 +52,7 @@ impl Piece {
 fn found_in(alloc: Global, version: Version, bytes: &[u8]) -> Found
     ensures { IsFound version bytes.now result }
 {
-    if bytes.contains(&b'"') || !ends_line(bytes) {
+    if has_quote(bytes) || !ends_line(bytes) {
         return Found::Unusual;
     }
     let mut lines = Lines::new(alloc, version);
@@ -60,6 +61,13 @@ fn found_in(alloc: Global, version: Version, bytes: &[u8]) -> Found
         Err(TextError::Memory) => Found::NoMemory,
         Err(_) => Found::Unusual,
     }
+}
+
+/// Whether there may be a quote.
+pub(crate) fn has_quote(bytes: &[u8]) -> bool
+    ensures { result ≡ false → has_quote bytes.now ≡ false }
+{
+    memchr(b'"', bytes).is_some()
 }
 
 /// Whether the last byte is a line feed.

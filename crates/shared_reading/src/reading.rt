@@ -5,10 +5,10 @@ ghost use Rattle.step_trace.specs.Traces.{Recorded};
 ghost use Rattle.trace_text.specs.declared.reading.Stage.TheVariants.{Recording};
 ghost use Rattle.trace_text.specs.Records.{records_of_text};
 ghost use Rattle.trace_text.specs.TraceTexts.{StandsFor, IsTextTrace};
-ghost use Rattle.trace_text.specs.TextRefusals.{Gives, IsFirstRefusal, trace_of_records};
-ghost use Rattle.shared_reading.specs.Pieces.{GoesOn, IsPiece};
+ghost use Rattle.trace_text.specs.TextRefusals.{Gives, IsFirstRefusal, LeadsTo, trace_of_records};
+ghost use Rattle.shared_reading.specs.Pieces.{GoesOn, IsPiece, read_on};
 
-use crate::pieces::{Piece, ends_line, may_be_marked, tail, take_pieces};
+use crate::pieces::{Piece, ends_line, has_quote, may_be_marked, tail, take_pieces};
 use crate::stretches::{Stretch, Stretches, line_start};
 use std::alloc::{AllocError, Global};
 use std::thread::Threads;
@@ -58,9 +58,22 @@ fn read_whole_by<R: Threads + Sync>(
     ensures { Gives result (trace_of_records (records_of_text text.now)) }
 {
     let mut stage = Stage::Opening;
-    let at = read_shared(rt, alloc, text, workers, &mut stage)?;
-    read_records(alloc, tail(text, at), &mut stage)?;
+    read_by(rt, alloc, text, workers, &mut stage)?;
     trace_at_end(stage)
+}
+
+/// Takes in all records of a text, of which so many threads read parts.
+pub(crate) fn read_by<R: Threads + Sync>(
+    rt: &R,
+    alloc: Global,
+    text: &[u8],
+    workers: u64,
+    stage: &mut Stage,
+) -> Result<(), TextError>
+    ensures { LeadsTo result stage.new (read_on stage.old text.now) }
+{
+    let at = read_shared(rt, alloc, text, workers, stage)?;
+    read_records(alloc, tail(text, at), stage)
 }
 
 /// Reads what several threads can read, and tells the place up to which the text was read.
@@ -187,7 +200,7 @@ fn read_part(
     ensures { GoesOn stage.old stage.new text.now from result }
 {
     let part = &text[from..end];
-    if part.contains(&b'"') {
+    if has_quote(part) {
         return Ok(from);
     }
     if !ends_line(part) {

@@ -1,6 +1,6 @@
 //! The program: reads a trace of Send and Receive steps, and prints the report of its bounds, for the
-//! processors that are named as correct, replays it as a run of the agreement algorithm, upgrades its text, or
-//! checks a report by it; or makes such a run in threads, and prints its trace.
+//! processors that are named as correct, replays it as a run of the agreement algorithm, upgrades its text, draws
+//! it, or checks a report by it; or makes such a run in threads, and prints its trace.
 #![tactic(auto)]
 
 ghost use Rattle.std.specs.Prelude.{◌*◌, ◌≤◌};
@@ -29,8 +29,8 @@ use std::thread::Threads;
 use std::time::Clock;
 use step_trace::{Config, OpenGate, ProcSet};
 use text_commands::{
-    Fault, print, run_check, run_replay, run_report, run_upgrade, status, tell, unopened,
-    verdict_status,
+    Drawing, Fault, print, run_check, run_draw, run_replay, run_report, run_upgrade, status, tell,
+    unopened, verdict_status,
 };
 use trace_text::Counting;
 
@@ -65,6 +65,21 @@ fn run<R: Threads + Wait + Clock + Sync>(rt: &HostRuntime, threads: &R) -> Resul
         } => {
             let verdict = check(rt, file.as_str(), certificate.as_str(), set)?;
             return Ok(verdict_status(verdict));
+        }
+        Job::Draw {
+            file,
+            set,
+            from,
+            to,
+            names,
+        } => {
+            let drawing = Drawing {
+                set,
+                from,
+                to,
+                names,
+            };
+            draw(rt, file.as_str(), &drawing)?;
         }
         Job::Help(text) => print(text.as_str(), &mut Counting::new(rt.stdout()))?,
     }
@@ -181,6 +196,21 @@ fn upgrade(rt: &HostRuntime, file: &str) -> Result<(), Fault> {
     }
     let opened = open(rt, file)?;
     run_upgrade(rt.alloc(), &mut Counting::new(opened), &mut output)
+}
+
+/// Prints the picture of the trace in a file.
+fn draw(rt: &HostRuntime, file: &str, drawing: &Drawing) -> Result<(), Fault> {
+    let mut output = Counting::new(rt.stdout());
+    if names_standard_input(file) {
+        return run_draw(
+            rt.alloc(),
+            drawing,
+            &mut Counting::new(rt.stdin()),
+            &mut output,
+        );
+    }
+    let opened = open(rt, file)?;
+    run_draw(rt.alloc(), drawing, &mut Counting::new(opened), &mut output)
 }
 
 /// Prints the verdict on the certificate in a file, for the trace in another. Both files are opened before one is

@@ -1,22 +1,31 @@
 -- The causes of the faults of a report.
-use Rattle.std.proofs.Common.{◌≡◌, ℕ, List, Option, IfSome, IsTrue, subst, sym, refl}
+use Rattle.std.proofs.Common.{subst, sym, ◌≡◌, ℕ, List, Option, Some, None, IfSome, IsTrue, refl}
 use Rattle.step_trace.specs.Processors.{IsWithin}
 use Rattle.step_trace.specs.Traces.{Recorded}
 use Rattle.trace_text.specs.declared.refusals.TextError.{TextError}
-use Rattle.trace_text.specs.ByteLoops.{ReadRefusedFor}
+use Rattle.trace_text.specs.declared.refusals.TextError.TheVariants as why
+use Rattle.shared_reading.specs.DeviceTexts.{IsRefusalOf, IsTraceRead}
 use Rattle.text_commands.specs.declared.faults.Fault.{Fault}
 use Rattle.text_commands.specs.declared.faults.Fault.TheVariants as fault
 use Rattle.text_commands.specs.Faults.{fault_of_text}
-use Rattle.text_commands.specs.Inputs.{IsTextOf, IsTraceFault, own_trace, too_large}
-use Rattle.text_commands.specs.Reports.{IsFaultOfWorkers, IsReportOf, IsTextFault, IsUnreported, report_kinds}
+use Rattle.text_commands.specs.Inputs.{IsTextOf, IsTraceFault, own_trace}
+use Rattle.text_commands.specs.Reports.{IsFaultFor, IsReportOf, IsTextFault, IsUnreported, report_kinds}
 use Rattle.text_commands.specs.Serving.{IsFaultOf, IsServeFault, Kinds}
-use Rattle.text_commands.proofs.ServeFaults.{unread}
 
--- the text isn't read
-pub unread_text : (set old new : ℕ) (before after known : Option (List ℕ)) (e : TextError) → ReadRefusedFor e old new known
+-- the text isn't read, or is refused
+unread_bytes : (set : ℕ) (before after : Option (List ℕ)) (text : List ℕ) (e : TextError) → IsRefusalOf e text → IsServeFault (IsReportOf set) (IsUnreported set) text before after (fault_of_text e)
+unread_bytes set before after text why.Read h = tt
+unread_bytes set before after text why.Memory h = tt
+unread_bytes set before after text e h = (h, λ r. cc, λ r. cc)
+
+pub unread_text : (set : ℕ) (before after known : Option (List ℕ)) (e : TextError) → IfSome known (IsRefusalOf e)
     → IfSome known (λ xs. IsServeFault (IsReportOf set) (IsUnreported set) xs before after (fault_of_text e))
-unread_text set old new before after known e h =
-    unread (λ xs w. IsServeFault (IsReportOf set) (IsUnreported set) xs before after w) old new known e (λ xs l. too_large xs l) (λ xs. tt) (λ xs. tt) h
+unread_text set before after None e h = tt
+unread_text set before after (Some xs) e h = unread_bytes set before after xs e h
+
+-- the trace of a text that was read is that of the text
+pub text_of : {known : Option (List ℕ)} {t : Recorded} → (r : IsTraceRead known t) → IsTextOf r.text t
+text_of r = record { trace = r.trace; stands = r.stands; size = r.size }
 
 -- a refusal of the text is one for any set
 pub trace_fault : (set : ℕ) (text : List ℕ) (w : Fault) → IsTraceFault text w → IsTextFault set text w
@@ -34,16 +43,12 @@ pub own_text : (k : Kinds) (set : ℕ) (text : List ℕ) (w : Fault) → IsTrue 
 own_text k set text fault.Set may h = may
 own_text k set text w may h = own_trace k text w h
 
--- a fault of the text is one where there is no report
-pub unreported_text : (set : ℕ) (text : List ℕ) (w : Fault) → IsTextFault set text w → IsUnreported set text w
-unreported_text set text fault.Threads h = absurd h
-unreported_text set text w h = h
-
--- so is one of the workers, where the trace was read and has the set's members
-pub unreported_work : (set : ℕ) (text : List ℕ) (t : Recorded) (w : Fault) → IsTextOf text t → IsWithin set t.config.n → IsFaultOfWorkers w → IsUnreported set text w
-unreported_work set text t fault.Memory read within h = tt
-unreported_work set text t fault.Threads read within h = record { trace = t; read = read; within = within }
-unreported_work set text t w read within h = absurd h
+-- a fault for the trace that a text stands for is one where there is no report of the text
+pub unreported : (set : ℕ) (text : List ℕ) (t : Recorded) (w : Fault) → IsTextOf text t → IsFaultFor set t w → IsUnreported set text w
+unreported set text t fault.Set read h = record { trace = t; read = read; outside = h }
+unreported set text t fault.Threads read h = record { trace = t; read = read; within = h }
+unreported set text t fault.Memory read h = tt
+unreported set text t w read h = absurd h
 
 pub own_unreported : (set : ℕ) (text : List ℕ) (w : Fault) → IsUnreported set text w → IsFaultOf report_kinds w
 own_unreported set text fault.Threads h = refl

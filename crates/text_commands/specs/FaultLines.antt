@@ -7,6 +7,8 @@ use Rattle.front.specs.declared.refusals.ReportError.{ReportError}
 use Rattle.front.specs.declared.refusals.ReportError.TheVariants as uncertified
 use Rattle.text_commands.specs.declared.faults.Fault.{Fault}
 use Rattle.text_commands.specs.declared.faults.Fault.TheVariants as fault
+use Rattle.text_commands.specs.declared.faults.PictureOption.{PictureOption}
+use Rattle.text_commands.specs.declared.faults.PictureOption.TheVariants as option
 
 -- a refusal of the step of this number
 abbrev pub at_step : ℕ → List ℕ → List ℕ
@@ -44,6 +46,12 @@ certificate_words (uncertified.BadNumber number) = in_row number (codes "bad num
 certificate_words (uncertified.HalfWitness number) = in_row number (codes "half a witness")
 certificate_words uncertified.Memory = codes "out of memory"
 
+-- an option of a picture, as the command line has it
+abbrev pub option_words : PictureOption → List ℕ
+option_words option.Names = codes "--names"
+option_words option.From = codes "--from"
+option_words option.To = codes "--to"
+
 -- the line of a fault; that of a refused command line is in its reader's words
 abbrev pub fault_line : Fault → List ℕ
 fault_line (fault.Command words) = string_bytes words
@@ -55,6 +63,7 @@ fault_line fault.Read = codes "synchrony: cannot read"
 fault_line (fault.Write written) = codes "synchrony: cannot write"
 fault_line (fault.NotARun number) = codes "synchrony: not a run: step " ++ decimal number
 fault_line fault.Threads = codes "synchrony: worker not started or held"
+fault_line (fault.Picture option) = codes "synchrony: bad " ++ option_words option
 
 -- the text with a line feed at its end, where it has none there
 abbrev pub ended_line : List ℕ → List ℕ

@@ -24,6 +24,7 @@ status_of fault.Read = 6
 status_of (fault.Write written) = 6
 status_of (fault.NotARun number) = 7
 status_of fault.Threads = 8
+status_of (fault.Picture option) = 2
 
 -- the fault that a refusal of a text is: want of memory and a failed read are faults of their own
 abbrev pub fault_of_text : TextError → Fault

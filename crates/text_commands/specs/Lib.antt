@@ -4,6 +4,7 @@ pub mod Printing
 pub mod Serving
 pub mod Inputs
 pub mod Reports
+pub mod Drawings
 pub mod ReplayTexts
 pub mod Replays
 pub mod Upgrades

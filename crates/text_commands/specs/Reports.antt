@@ -52,9 +52,15 @@ IsFaultOfWorkers fault.Memory = ⊤
 IsFaultOfWorkers fault.Threads = ⊤
 IsFaultOfWorkers _ = ⊥
 
+-- the same; or a member of the set, which the trace hasn't
+abbrev pub IsFaultFor : ℕ → Recorded → Fault → Type 0
+IsFaultFor set t fault.Set = ¬ IsWithin set t.config.n
+IsFaultFor set t fault.Threads = IsWithin set t.config.n
+IsFaultFor set t w = IsFaultOfWorkers w
+
 -- it may refuse a set, and a thread
 abbrev pub report_kinds : Kinds
-report_kinds = record { set = true; certificate = false; run = false; threads = true }
+report_kinds = record { set = true; certificate = false; run = false; threads = true; picture = false }
 
 -- The fault has its cause in the text: its first refusal, or a member of the set that its trace hasn't.
 abbrev pub IsTextFault : ℕ → List ℕ → Fault → Type 0

@@ -6,12 +6,14 @@ use Rattle.front.specs.declared.refusals.ReportError.TheVariants as uncertified
 use Rattle.text_commands.specs.declared.faults.Fault.{Fault}
 use Rattle.text_commands.specs.declared.faults.Fault.TheVariants as fault
 
--- For what a command may refuse, beside a trace text: a set, a certificate, a trace that is no run, and a thread.
+-- For what a command may refuse, beside a trace text: a set, a certificate, a trace that is no run, a thread, and an
+-- option of a picture.
 pub record Kinds : Type 0 where
   pub set : Bool
   pub certificate : Bool
   pub run : Bool
   pub threads : Bool
+  pub picture : Bool
 
 -- the fault is of these kinds, or of a trace text, of memory, of a reader or of a writer; want of memory and a failed
 -- read are faults of their own, and no refusals of a text
@@ -22,6 +24,7 @@ IsFaultOf k (fault.Trace reason) = (reason ≢ why.Read) × (reason ≢ why.Memo
 IsFaultOf k (fault.Certificate reason) = IsTrue k.certificate × (reason ≢ uncertified.Read) × (reason ≢ uncertified.Memory)
 IsFaultOf k (fault.NotARun number) = IsTrue k.run
 IsFaultOf k fault.Threads = IsTrue k.threads
+IsFaultOf k (fault.Picture option) = IsTrue k.picture
 IsFaultOf k _ = ⊤
 
 -- The fault has its cause: the command refuses the text for it; or a read failed; or the text has an answer, of

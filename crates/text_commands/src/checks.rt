@@ -85,7 +85,7 @@ fn verdict_on<S: Read>(
 /// The trace that a text stands for, where no member of the set is above its processors.
 ///
 /// Refuses, in this order: Trace with the first refusal of the text; Set. Memory may come instead.
-fn trace_within(alloc: Global, text: Vec<u8>, set: ProcSet) -> Result<Trace, Fault>
+pub(crate) fn trace_within(alloc: Global, text: Vec<u8>, set: ProcSet) -> Result<Trace, Fault>
     ensures read { IfOk result (λ t. IsTextOf text.items t) }
     ensures within { IfOk result (λ t. IsWithin set t.config.n) }
     ensures refused { IfErr result (IsTextFault set text.items) }

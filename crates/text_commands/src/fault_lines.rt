@@ -3,7 +3,7 @@
 ghost use Rattle.std.specs.Prelude.{◌≡◌, IfOk, string_bytes};
 ghost use Rattle.text_commands.specs.FaultLines.{fault_line, ended_line};
 
-use crate::faults::Fault;
+use crate::faults::{Fault, PictureOption};
 use front::ReportError;
 use std::alloc::{AllocError, Global};
 use std::fmt;
@@ -47,6 +47,23 @@ impl fmt::Display for Fault {
             Fault::Write(_) => f.write_str("synchrony: cannot write"),
             Fault::NotARun(no) => write!(f, "synchrony: not a run: step {no}"),
             Fault::Threads => f.write_str("synchrony: worker not started or held"),
+            Fault::Picture(option) => write!(f, "synchrony: bad {option}"),
+        }
+    }
+}
+
+/// The option, as the command line has it.
+impl fmt::Display for PictureOption {
+    ghost use Rattle.std.specs.Prelude.{Some};
+    ghost use Rattle.text_commands.specs.FaultLines.{option_words};
+
+    ghost output = { λ option. Some (option_words option) };
+
+    fn fmt<W: fmt::Write>(&self, f: &mut fmt::Formatter<W>) -> fmt::Result {
+        match self {
+            PictureOption::Names => f.write_str("--names"),
+            PictureOption::From => f.write_str("--from"),
+            PictureOption::To => f.write_str("--to"),
         }
     }
 }

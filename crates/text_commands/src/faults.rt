@@ -31,6 +31,19 @@ pub enum Fault {
     NotARun(u64),
     /// A thread wasn't started, or was held back.
     Threads,
+    /// There is no picture of the trace for what this option says.
+    Picture(PictureOption),
+}
+
+/// An option that a picture is asked for with.
+#[derive(Clone, Copy, Debug, PartialEq, Eq)]
+pub enum PictureOption {
+    /// The names of the processors.
+    Names,
+    /// The first tick to draw.
+    From,
+    /// The last tick to draw.
+    To,
 }
 
 impl std::error::Error for Fault {}
@@ -114,7 +127,7 @@ pub fn status(fault: &Fault) -> u8
     ensures { result ≡ status_of fault.now }
 {
     match fault {
-        Fault::Command(_) | Fault::Set => 2,
+        Fault::Command(_) | Fault::Set | Fault::Picture(_) => 2,
         Fault::Trace(_) => 3,
         Fault::Certificate(_) => 4,
         Fault::Memory => 5,

@@ -1,10 +1,11 @@
 //! The commands that make text of text, each from a reader to a writer: the report of a trace, its replay,
-//! its upgrade, and the check of a report; the lines that tell of a run meanwhile; and the faults that end
+//! its upgrade, its picture, and the check of a report; the lines that tell of a run meanwhile; and the faults that end
 //! the program, their lines and their statuses. `specs/` has the definitions that the contracts cite.
 #![tactic(auto)]
 
 mod certificate_texts;
 mod checks;
+mod drawings;
 mod fault_lines;
 mod faults;
 mod inputs;
@@ -19,8 +20,9 @@ mod upgrades;
 mod verdict_lines;
 
 pub use checks::run_check;
+pub use drawings::{Drawing, run_draw};
 pub use fault_lines::{fault_text, told_line};
-pub use faults::{Fault, status, unopened};
+pub use faults::{Fault, PictureOption, status, unopened};
 pub use printing::{print, tell};
 pub use replays::run_replay;
 pub use reports::{run_report, test_set};

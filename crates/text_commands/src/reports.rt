@@ -9,24 +9,24 @@ ghost use Rattle.trace_text.specs.Faults.{inner_of, faults_of, is_flushed};
 ghost use Rattle.chunk_join.specs.declared.analyses.TheConstants.{MAX_WORKERS};
 ghost use Rattle.text_commands.specs.Inputs.{IsReadFault};
 ghost use Rattle.text_commands.specs.Printing.{IsWriteFault};
-ghost use Rattle.text_commands.specs.Reports.{AreRowsOf, IsReportOf, IsFaultOfWorkers, IsUnreported, TellsAnalysis, report_kinds};
+ghost use Rattle.text_commands.specs.Reports.{IsReportOf, IsFaultFor, IsFaultOfWorkers, IsUnreported, TellsAnalysis, report_kinds};
 ghost use Rattle.text_commands.specs.Serving.{IsFaultOf, IsServeFault};
 
 use crate::faults::Fault;
-use crate::inputs::trace_by;
 use chunk_join::{AnalyseError, analyse};
 use front::{Report, front, write_report};
+use shared_reading::read_trace_from;
 use std::alloc::Global;
 use std::io::{Read, Write};
 use std::sync::Wait;
 use std::thread::Threads;
 use step_trace::{Gate, ProcSet, Trace};
-use trace_text::{Counting, read_all};
+use trace_text::Counting;
 
 /// Reads a trace text to its end, and writes the report of its trace, for `set` as the correct
 /// processors. So many workers read the text, each a share of it, and find the bounds, each in a thread
 /// of its own, which enters the gate before that work; whatever their number, the report is the same.
-/// Nothing is written before the whole report stands.
+/// What the trace has taken of a long text is let go of. Nothing is written before the whole report stands.
 ///
 /// Asks for 1 to `MAX_WORKERS` workers, and waits for them. Refuses, in this order: Read, or Trace for
 /// a text that is too large; Trace for any other refusal of the text; Set where a member is above the
@@ -57,26 +57,26 @@ pub fn run_report<T: Threads + Wait + Sync, R: Read, W: Write, G: Gate>(
     ensures read { IfErr result (IsReadFault (faults_of reader.old) (faults_of reader.new)) }
     ensures unwritten { IfErr result (IsWriteFault writer.old writer.new) }
 {
-    let text = read_all(alloc, reader)?;
-    let report = report_of(rt, alloc, text, set, workers, gate)?;
+    let trace = read_trace_from(rt, alloc, reader, workers)?;
+    let report = report_of(rt, alloc, trace, set, workers, gate)?;
     Ok(write_report(alloc, report.rows(), writer)?)
 }
 
-/// The report of the trace that a text stands for, which so many workers read and analyse.
+/// The report of a trace, for a set that is tested. It lets go of the trace.
 fn report_of<T: Threads + Wait + Sync, G: Gate>(
     rt: &T,
     alloc: Global,
-    text: Vec<u8>,
+    trace: Trace,
     set: ProcSet,
     workers: u64,
     gate: &G,
 ) -> Result<Report, Fault>
     requires some { 1 ≤ workers }
     requires few { workers ≤ MAX_WORKERS }
-    ensures report { IfOk result (λ r. AreRowsOf set text.items r.rows) }
-    ensures refused { IfErr result (IsUnreported set text.items) }
+    ensures within { OnOk result (IsWithin set trace.config.n) }
+    ensures report { IfOk result (λ r. IsReport set trace r.rows) }
+    ensures refused { IfErr result (IsFaultFor set trace) }
 {
-    let trace = trace_by(rt, alloc, text, workers)?;
     test_set(set, trace.config().n())?;
     rows_of(rt, alloc, &trace, set, workers, gate)
 }

@@ -112,10 +112,18 @@ at_end (Ended t) = good t
 of_whole : (records : List (List (List ℕ))) → IsOfRecords (trace_of_records records)
 of_whole records = then (after_records next_stage Opening records) _ (of_all Opening records) at_end
 
--- a reason that records don't give isn't the answer
+-- a reason that records don't give isn't the reason
+never-of : {A : Type 0} (table : Result A TextError) (e f : TextError) → IsOfRecords table → is_of_records f ≡ false → is_memory f ≡ false → MatchBool (is_memory e) ⊤ (table ≡ Err e) → e ≢ f
+never-of {A = A} table e f of other unless h same =
+    let g : MatchBool (is_memory f) ⊤ (table ≡ Err f) = rw same at h in
+    let given : table ≡ Err f = rw unless at g in
+    let reason : is_of_records f ≡ true = (rw given at of).reason in
+    cc (reason, other)
+
+-- nor is it the answer
 pub never-answered : (records : List (List (List ℕ))) (e f : TextError) → is_of_records f ≡ false → is_memory f ≡ false → MatchBool (is_memory e) ⊤ (trace_of_records records ≡ Err e) → e ≢ f
-never-answered records e f other unless h same =
-    let g : MatchBool (is_memory f) ⊤ (trace_of_records records ≡ Err f) = rw same at h in
-    let given : trace_of_records records ≡ Err f = rw unless at g in
-    let of : is_of_records f ≡ true = (rw given at (of_whole records)).reason in
-    cc (of, other)
+never-answered records e f other unless h = never-of (trace_of_records records) e f (of_whole records) other unless h
+
+-- nor do records lead to it
+pub never-reached : (s : Stage) (records : List (List (List ℕ))) (e f : TextError) → is_of_records f ≡ false → is_memory f ≡ false → MatchBool (is_memory e) ⊤ (after_records next_stage s records ≡ Err e) → e ≢ f
+never-reached s records e f other unless h = never-of (after_records next_stage s records) e f (of_all s records) other unless h

@@ -6,7 +6,7 @@ use std::alloc::{AllocError, Global};
 use std::sync::Wait;
 use std::thread::Threads;
 use step_trace::{OpenGate, ProcSet};
-use text_commands::{Fault, run_check, run_replay, run_report, run_upgrade};
+use text_commands::{Drawing, Fault, run_check, run_draw, run_replay, run_report, run_upgrade};
 use trace_text::Counting;
 
 const NEVER_DELIVERED: &str =
@@ -29,7 +29,7 @@ const DECIDES_SEVEN: &str = "dls-trace,1,3,1\ninit,5,7,7\n1,1,S,1\n2,2,S,1\n3,3,
 const DECIDES_SEVEN_REPLAY: &str = "proc,round,decision\n1,4,7\n2,4,\n3,4,\n";
 
 /// Room for more than any command writes here, so that an output never grows.
-const ROOM: usize = 1_000;
+const ROOM: usize = 20_000;
 
 /// More growths than any command makes here.
 const MOST_GROWTHS: usize = 1_000;
@@ -43,9 +43,10 @@ enum Command {
     Upgrade,
     /// Of this certificate.
     Check(&'static str),
+    Draw,
 }
 
-/// A command with its trace text, and what it writes where memory is ample.
+/// A command with its trace text, and what it writes where memory is ample: of a picture the end.
 #[derive(Clone, Copy)]
 struct Served {
     command: Command,
@@ -76,6 +77,15 @@ fn ended<T: Threads + Wait + Sync>(
             let _verdict = run_check(alloc, &mut trace, &mut rows, &mut output, both)?;
             Ok(())
         }
+        Command::Draw => {
+            let drawing = Drawing {
+                set: both,
+                from: None,
+                to: None,
+                names: None,
+            };
+            run_draw(alloc, &drawing, &mut trace, &mut output)
+        }
     }
 }
 
@@ -88,6 +98,7 @@ fn writes<T: Threads + Wait + Sync>(
     output: &mut Vec<u8>,
 ) -> Result<bool, AllocError> {
     match (ended(rt, alloc, served, output), served.command) {
+        (Ok(()), Command::Draw) => Ok(output.as_slice().ends_with(served.wanted.as_bytes())),
         (Ok(()), _) => Ok(output.as_slice() == served.wanted.as_bytes()),
         (Err(Fault::Memory), _) | (Err(Fault::Threads), Command::Report(_)) => Err(AllocError),
         (Err(_), _) => Ok(false),
@@ -130,6 +141,7 @@ const SERVED: &[(Command, &str, &str)] = &[
     (Command::Report(3), NEVER_DELIVERED, NEVER_DELIVERED_REPORT),
     (Command::Replay, DECIDES_SEVEN, DECIDES_SEVEN_REPLAY),
     (Command::Upgrade, ONE_MISS, ONE_MISS_UPGRADE),
+    (Command::Draw, ONE_MISS, "</svg>\n"),
     (
         Command::Check(NEVER_DELIVERED_REPORT),
         NEVER_DELIVERED,

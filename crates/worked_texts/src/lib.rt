@@ -7,6 +7,8 @@ mod byte_loops;
 #[cfg(test)]
 mod counted_calls;
 #[cfg(test)]
+mod device_texts;
+#[cfg(test)]
 mod report_texts;
 #[cfg(test)]
 mod shared_texts;

@@ -11,15 +11,15 @@ const WORKERS: [u64; 6] = [0, 1, 2, 3, 7, 64];
 
 // A text in which 1 sends a message and 2 takes it, in turns.
 #[derive(Clone, Copy)]
-struct Row {
-    steps: u64,
+pub(crate) struct Row {
+    pub(crate) steps: u64,
     // What stands before it all.
-    start: &'static str,
+    pub(crate) start: &'static str,
     // What stands in the place of the record of one step, by its number.
-    odd: (u64, &'static str),
+    pub(crate) odd: (u64, &'static str),
     // What stands after the steps.
-    end: &'static str,
-    told: &'static str,
+    pub(crate) end: &'static str,
+    pub(crate) told: &'static str,
 }
 
 // With which all is told.
@@ -32,7 +32,7 @@ const USUAL: Row = Row {
 };
 
 // Three megabytes, which are read in stretches.
-const LONG: Row = Row {
+pub(crate) const LONG: Row = Row {
     steps: 200_000,
     end: "end,200000\n",
     told: "200000 steps",
@@ -120,7 +120,7 @@ fn push_step(alloc: Global, text: &mut String, no: u64) -> Result<(), AllocError
     text.push_str(line.as_str())
 }
 
-fn text_of(alloc: Global, row: &Row) -> Result<String, AllocError> {
+pub(crate) fn text_of(alloc: Global, row: &Row) -> Result<String, AllocError> {
     let mut text = format!(in alloc; "{}dls-trace,1,3,1\ninit,1,2,3\n", row.start)?;
     for no in 1..=row.steps {
         if no == row.odd.0 {
@@ -134,7 +134,7 @@ fn text_of(alloc: Global, row: &Row) -> Result<String, AllocError> {
 }
 
 // How many steps were read, or why the text is refused.
-fn told(alloc: Global, answer: Result<Trace, TextError>) -> Result<String, AllocError> {
+pub(crate) fn told(alloc: Global, answer: Result<Trace, TextError>) -> Result<String, AllocError> {
     match answer {
         Ok(trace) => format!(in alloc; "{} steps", trace.len()),
         Err(why) => format!(in alloc; "{why:?}"),

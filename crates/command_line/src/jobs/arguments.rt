@@ -1,9 +1,9 @@
 //! The arguments that several commands take, and what the words of a command line say of them.
 
-ghost use Rattle.std.specs.Prelude.{◌≡◌, ◌≢◌, ◌↔◌, ℕ, List, IfOk, IfErr, IfSome, IfNone, IsTrue, codes, option_map};
+ghost use Rattle.std.specs.Prelude.{◌≡◌, ◌≢◌, ◌↔◌, ℕ, List, Option, IfOk, IfErr, IfSome, IfNone, IsTrue, codes, option_map};
 ghost use Rattle.clap.specs.Words.{first_of, found_of, rows_of};
 ghost use Rattle.step_trace.specs.ProcessorLists.{IsSetIn};
-ghost use Rattle.command_line.specs.Arguments.{HasNumber, IsArgument, IsLineFault, IsListFault, correct_rule, file_rule};
+ghost use Rattle.command_line.specs.Arguments.{HasNumber, HasOptionalNumber, IsArgument, IsLineFault, IsListFault, correct_rule, file_rule};
 
 use crate::line_errors::LineError;
 use clap::{Arg, ArgAction, ArgMatches};
@@ -61,6 +61,23 @@ pub fn number(found: &ArgMatches<'_>, name: &str, least: u64, most: u64) -> Opti
         return None;
     }
     Some(value)
+}
+
+/// The number of this name within these bounds, or none where the matches have no word of this name. None where they
+/// have another word of it.
+pub fn optional_number(
+    found: &ArgMatches<'_>,
+    name: &str,
+    least: u64,
+    most: u64,
+) -> Option<Option<u64>>
+    ensures some { IfSome result (HasOptionalNumber (rows_of (found_of found.now)) name.now least most) }
+    ensures none { IfNone result ((value : Option ℕ) → ¬ HasOptionalNumber (rows_of (found_of found.now)) name.now least most value) }
+{
+    match optional_text(found, name) {
+        Some(_) => Some(Some(number(found, name, least, most)?)),
+        None => Some(None),
+    }
 }
 
 /// The set that a list is.

@@ -1,4 +1,4 @@
-use Rattle.std.proofs.Common.{◌∙◌, ◌≡◌, sym, rules, true}
+use Rattle.std.proofs.Common.{◌≡◌, rules, true}
 use Rattle.trace_text.specs.Records.{records_of_text}
 use Rattle.shared_reading.proofs.LinesTold.{read-all}
 use Rattle.shared_reading.proofs.pieces.found_in.Goals as goal
@@ -8,7 +8,7 @@ returns-in-Ok c =
     let e = c.into_steps.ensures in
     let ends : c.ends_line.result ≡ true = search rules in
     record {
-      quoteless = sym c.contains.ensures.value ∙ c.if-contains.false;
+      quoteless = c.has_quote.ensures c.if-has_quote.false;
       line = c.ends_line.ensures ends;
       leads = λ t short. rw e (read-all c.args.version c.read_records.new.taker (records_of_text c.args.bytes.now) t (rw c.new-lines.ensures at c.in-Ok.ensures) short);
     }

@@ -1,4 +1,4 @@
-use Rattle.std.proofs.Common.{◌≡◌, ◌∙◌, drop, sym, true, false, rules}
+use Rattle.std.proofs.Common.{◌≡◌, drop, true, false, rules}
 use Rattle.std.proofs.lemmas.Result.{err_from_is_err_and}
 use Rattle.csv.specs.Reading.{strip_bom}
 use Rattle.shared_reading.specs.Seams.{has_quote, ends_line}
@@ -10,7 +10,7 @@ pub returns-in_err-read_records : goal.returns-in_err-read_records
 returns-in_err-read_records c =
     let text = c.args.text.now in
     let bytes = part text c.args.from c.args.end in
-    let quoteless : has_quote bytes ≡ false = sym c.contains.ensures.value ∙ c.if-contains.false in
+    let quoteless : has_quote bytes ≡ false = c.has_quote.ensures c.if-has_quote.false in
     let ends : c.ends_line.result ≡ true = search rules in
     let line : ends_line bytes ≡ true = c.ends_line.ensures ends in
     let mark : strip_bom (drop c.args.end text) ≡ drop c.args.end text = rw c.tail.ensures at c.may_be_marked.ensures c.if-may_be_marked.false in
@@ -21,7 +21,7 @@ pub returns : goal.returns
 returns c =
     let text = c.args.text.now in
     let bytes = part text c.args.from c.args.end in
-    let quoteless : has_quote bytes ≡ false = sym c.contains.ensures.value ∙ c.if-contains.false in
+    let quoteless : has_quote bytes ≡ false = c.has_quote.ensures c.if-has_quote.false in
     let ends : c.ends_line.result ≡ true = search rules in
     let line : ends_line bytes ≡ true = c.ends_line.ensures ends in
     let mark : strip_bom (drop c.args.end text) ≡ drop c.args.end text = rw c.tail.ensures at c.may_be_marked.ensures c.if-may_be_marked.false in (

@@ -1,0 +1,213 @@
+-- A text that is read part by part leads where it leads when it is read whole.
+use Rattle.std.proofs.Common.{◌≡◌, ◌≢◌, ◌≤◌, ◌<◌, ◌+◌, ◌∙◌, ℕ, List, [], ◌∷◌, ◌++◌, length, take, drop, Option, Some, None, IfSome, Result, Ok, Err, Bool, true, false, refl, sym, ap, subst, arith, nat_eq, not, slice_index_or, append_assoc, append-nil, length-append, take-append-drop}
+use Rattle.std.specs.Prelude.{IfErr, IfOk, OnOk, MatchBool, ⊤, nat_le}
+use Rattle.std.proofs.lemmas.Bool.Decides.{nat_tests}
+use Rattle.std.proofs.lemmas.List.{length-take-le}
+use Rattle.std.proofs.KnownBytes.{Consumes-nil, Consumes-trans, Consumes-whole}
+use Rattle.std.specs.Io.KnownBytes.{Consumes, IsAtEnd}
+use Rattle.csv.specs.Reading.{strip_bom}
+use Rattle.step_trace.specs.Traces.{Recorded}
+use Rattle.trace_text.specs.declared.byte_loops.TheConstants.{MAX_TEXT_BYTES}
+use Rattle.trace_text.specs.declared.reading.Stage.{Stage}
+use Rattle.trace_text.specs.declared.reading.Stage.TheVariants.{Opening}
+use Rattle.trace_text.specs.declared.refusals.TextError.{TextError}
+use Rattle.trace_text.specs.declared.refusals.TextError.TheVariants as why
+use Rattle.trace_text.specs.ByteLoops.{faults_after_reading}
+use Rattle.trace_text.specs.Records.{◌>>=◌, records_of_text}
+use Rattle.trace_text.specs.TextRefusals.{Gives, is_memory, trace_at_end, trace_of_records, trace_of_text}
+use Rattle.trace_text.proofs.TableReasons.{never-answered, never-reached}
+use Rattle.trace_text.proofs.TextLaws.{gives-sound, gives-stands}
+use Rattle.shared_reading.specs.Seams.{has_quote, ends_line}
+use Rattle.shared_reading.specs.Pieces.{read_on}
+use Rattle.shared_reading.specs.declared.device_texts.Progress.{Progress}
+use Rattle.shared_reading.specs.DeviceTexts.{IsReadTo, IsTaken, IsGiven, IsRefusalOf, IsRefused, IsReadOut, IsTraceRead, IsUnread, total_of}
+use Rattle.shared_reading.proofs.PieceLemmas.{unmarked, read_on-ok, read_on-err}
+use Rattle.shared_reading.proofs.QuoteFree.{seam}
+
+not-true : (b : Bool) → not b ≡ true → b ≡ false
+not-true false h = refl
+not-true true h = cc h
+
+-- what comes behind bytes doesn't make a mark of their beginning
+pub unmarked-before : (xs : List ℕ) → (length xs ≡ 0 → ⊥) → not (nat_eq (slice_index_or xs 0 0) 239) ≡ true → (more : List ℕ) → strip_bom (xs ++ more) ≡ xs ++ more
+unmarked-before [] some h more = absurd (some refl)
+unmarked-before (x ∷ xs) some h more = unmarked (x ∷ (xs ++ more)) (not-true _ h)
+
+-- a text, and what comes behind it, is its front, and then the rest with what comes behind it
+front-rest : (rest more : List ℕ) (cut : ℕ) → rest ++ more ≡ take cut rest ++ (drop cut rest ++ more)
+front-rest rest more cut = ap (λ xs. xs ++ more) (sym (take-append-drop cut rest)) ∙ append_assoc (take cut rest) (drop cut rest) more
+
+-- a front that may be cut off is taken
+pub front-taken : (s t : Stage) (rest : List ℕ) (cut : ℕ) → cut ≤ length rest → has_quote (take cut rest) ≡ false → ends_line (take cut rest) ≡ true
+    → ((more : List ℕ) → strip_bom (drop cut rest ++ more) ≡ drop cut rest ++ more) → read_on s (take cut rest) ≡ Ok t → IsTaken s t rest (Ok cut)
+front-taken s t rest cut within quoteless line unmarked h =
+    (within, λ more. ap (λ xs. read_on s xs) (front-rest rest more cut) ∙ read_on-ok s t (take cut rest) (drop cut rest ++ more) (seam (take cut rest) (drop cut rest ++ more) quoteless line (unmarked more)) h)
+
+unless : (m : Bool) (P Q : Type 0) → (P → Q) → MatchBool m ⊤ P → MatchBool m ⊤ Q
+unless true P Q f h = tt
+unless false P Q f h = f h
+
+-- or refused
+pub front-refused : (s t : Stage) (rest : List ℕ) (cut : ℕ) (e : TextError) → has_quote (take cut rest) ≡ false → ends_line (take cut rest) ≡ true
+    → ((more : List ℕ) → strip_bom (drop cut rest ++ more) ≡ drop cut rest ++ more) → MatchBool (is_memory e) ⊤ (read_on s (take cut rest) ≡ Err e) → IsTaken s t rest (Err e)
+front-refused s t rest cut e quoteless line unmarked = unless (is_memory e) _ _
+    (λ h more. ap (λ xs. read_on s xs) (front-rest rest more cut) ∙ read_on-err s e (take cut rest) (drop cut rest ++ more) (seam (take cut rest) (drop cut rest ++ more) quoteless line (unmarked more)) h)
+
+-- nothing was taken
+pub none-taken : (s : Stage) (rest : List ℕ) → IsTaken s s rest (Ok 0)
+none-taken s rest = (omega arith, λ more. refl)
+
+-- ---- how far a text was read
+
+-- nothing was read yet
+pub begins : (known : Option (List ℕ)) (p : Progress) → p.stage ≡ Opening → p.done ≡ 0 → p.rest.items ≡ [] → IsReadTo known known p
+begins known p opening none empty = record {
+  taken = [];
+  count = none;
+  read = rw empty (Consumes-nil known);
+  leads = λ more. rw opening refl;
+}
+
+-- more was read
+pub filled : (known left after : Option (List ℕ)) (p q : Progress) (bytes : List ℕ) → q.stage ≡ p.stage → q.done ≡ p.done → q.rest.items ≡ p.rest.items ++ bytes → Consumes left after bytes
+    → IsReadTo known left p → IsReadTo known after q
+filled known left after p q bytes stage done rest more h = record {
+  taken = h.taken;
+  count = done ∙ h.count;
+  read = subst (Consumes known after) (append_assoc h.taken p.rest.items bytes ∙ ap (λ xs. h.taken ++ xs) (sym rest)) (Consumes-trans known left after (h.taken ++ p.rest.items) bytes h.read more);
+  leads = λ next. rw (rest, stage, append_assoc p.rest.items bytes next) (h.leads (bytes ++ next));
+}
+
+-- the front of what was read was taken
+pub part-taken : (known left : Option (List ℕ)) (p q : Progress) (cut : ℕ) → q.done ≡ p.done + cut → q.rest.items ≡ drop cut p.rest.items → IsTaken p.stage q.stage p.rest.items (Ok cut)
+    → IsReadTo known left p → IsReadTo known left q
+part-taken known left p q cut done rest front h =
+    let whole : (h.taken ++ take cut p.rest.items) ++ q.rest.items ≡ h.taken ++ p.rest.items =
+    ap (λ xs. (h.taken ++ take cut p.rest.items) ++ xs) rest ∙ append_assoc h.taken (take cut p.rest.items) (drop cut p.rest.items) ∙ ap (λ xs. h.taken ++ xs) (take-append-drop cut p.rest.items) in
+    let behind : (more : List ℕ) → (h.taken ++ take cut p.rest.items) ++ (drop cut p.rest.items ++ more) ≡ h.taken ++ (p.rest.items ++ more) =
+    (λ more. append_assoc h.taken (take cut p.rest.items) (drop cut p.rest.items ++ more) ∙ ap (λ xs. h.taken ++ xs) (sym (front-rest p.rest.items more cut))) in
+    record {
+      taken = h.taken ++ take cut p.rest.items;
+      count = omega (arith, done, h.count, length-append h.taken (take cut p.rest.items), length-take-le cut p.rest.items front.0);
+      read = subst (Consumes known left) (sym whole) h.read;
+      leads = λ more. rw rest (ap (λ xs. read_on Opening xs) (behind more) ∙ h.leads more ∙ front.1 more);
+    }
+
+-- the reader brought too much
+too-large : (known left after : Option (List ℕ)) (taken bytes : List ℕ) (total : ℕ) → Consumes known left taken → Consumes left after bytes → total ≡ length taken → MAX_TEXT_BYTES < total + length bytes
+    → IfSome known (λ xs. MAX_TEXT_BYTES < length xs)
+too-large None left after taken bytes total h k t more = tt
+too-large (Some xs) None after taken bytes total h k t more = absurd h
+too-large (Some xs) (Some ys) None taken bytes total h k t more = absurd k
+too-large (Some xs) (Some ys) (Some zs) taken bytes total h k t more = omega (arith, t, more, simp length-append at (ap length h), simp length-append at (ap length k))
+
+pub unread : (known left after : Option (List ℕ)) (p : Progress) (total : ℕ) (e : TextError) → total ≡ total_of p → IsReadTo known left p → IsUnread total left after e → IsRefused known e
+unread known left after p total why.Read t h k = tt
+unread known left after p total why.TooLarge t h k =
+    too-large known left after (h.taken ++ p.rest.items) k.bytes total h.read k.read (omega (arith, t, h.count, p.rest.ok.0, length-append h.taken p.rest.items)) k.size
+unread known left after p total e t h k = absurd k
+
+-- records that give a refusal are a reason for it
+pub given-refused : (known : Option (List ℕ)) (e : TextError) → IsGiven known (Err e) → IsRefused known e
+given-refused known why.Read h = tt
+given-refused known why.Memory h = tt
+given-refused known why.TooLarge h = absurd (never-answered (records_of_text h.text) why.TooLarge why.TooLarge refl refl h.gives refl)
+given-refused known e h = h
+
+err-stays : (e : TextError) (r : Result Stage TextError) → r ≡ Err e → r >>= trace_at_end ≡ Err e
+err-stays e r h = rw h refl
+
+-- the front was refused, and the rest of the text is within the limit
+pub part-refused : (known left after : Option (List ℕ)) (p : Progress) (t : Stage) (total : ℕ) (e : TextError) → total ≡ total_of p → IsTaken p.stage t p.rest.items (Err e) → IsReadOut total left after
+    → IsReadTo known left p → IsRefused known e
+part-refused known left after p t total e same front out h =
+    let text : List ℕ = h.taken ++ (p.rest.items ++ out.bytes) in
+    let all : Consumes known after text = subst (Consumes known after) (append_assoc h.taken p.rest.items out.bytes) (Consumes-trans known left after (h.taken ++ p.rest.items) out.bytes h.read out.read) in
+    given-refused known e (record {
+      text = text;
+      is = Consumes-whole known after text (λ xs. text ≡ xs) all out.end refl;
+      size = omega (arith, same, out.size, h.count, p.rest.ok.0, length-append h.taken (p.rest.items ++ out.bytes), length-append p.rest.items out.bytes);
+      gives = unless (is_memory e) _ _ (λ refuses. err-stays e (read_on Opening text) (h.leads out.bytes ∙ refuses out.bytes)) front;
+    })
+
+-- the text ends
+pub ended : (known left : Option (List ℕ)) (p : Progress) (r : Result Recorded TextError) → IsAtEnd left → total_of p ≤ MAX_TEXT_BYTES → Gives r (read_on p.stage p.rest.items >>= trace_at_end)
+    → IsReadTo known left p → IsGiven known r
+ended known left p r end limit gives h =
+    let text : List ℕ = h.taken ++ p.rest.items in
+    let leads : read_on Opening text ≡ read_on p.stage p.rest.items = subst (λ xs. read_on Opening (h.taken ++ xs) ≡ read_on p.stage xs) (append-nil p.rest.items) (h.leads []) in
+    record {
+      text = text;
+      is = Consumes-whole known left text (λ xs. text ≡ xs) h.read end refl;
+      size = omega (arith, limit, h.count, p.rest.ok.0, length-append h.taken p.rest.items);
+      gives = rw leads gives;
+    }
+
+-- ---- refusals, and what is given
+
+-- what was read before a refusal for the reader counts
+pub unread-after : (before total : ℕ) (old mid new : Option (List ℕ)) (bytes : List ℕ) (e : TextError) → total ≡ before + length bytes → Consumes old mid bytes → IsUnread total mid new e → IsUnread before old new e
+unread-after before total old mid new bytes why.Read t h k = tt
+unread-after before total old mid new bytes why.TooLarge t h k = record {
+  bytes = bytes ++ k.bytes;
+  read = Consumes-trans old mid new bytes k.bytes h k.read;
+  size = omega (arith, t, k.size, length-append bytes k.bytes);
+}
+unread-after before total old mid new bytes e t h k = absurd k
+
+-- records never tell of a failed read
+pub no-fault : (s t : Stage) (rest : List ℕ) (e : TextError) → IsTaken s t rest (Err e) → e ≢ why.Read
+no-fault s t rest e front = never-reached s (records_of_text (rest ++ [])) e why.Read refl refl (unless (is_memory e) _ _ (λ refuses. refuses []) front)
+
+pub faults-kept : (A : Type 0) (e : TextError) (n : ℕ) → e ≢ why.Read → faults_after_reading {A = A} (Err e) n ≡ n
+faults-kept A why.Read n other = absurd (other refl)
+faults-kept A e n other = refl
+
+pub given-faults : (known : Option (List ℕ)) (r : Result Recorded TextError) (n : ℕ) → IsGiven known r → faults_after_reading r n ≡ n
+given-faults known (Ok t) n h = refl
+given-faults known (Err e) n h = faults-kept Recorded e n (never-answered (records_of_text h.text) e why.Read refl refl h.gives)
+
+-- what the rest gives
+pub gives-refusal : (e : TextError) (table : Result Stage TextError) → MatchBool (is_memory e) ⊤ (table ≡ Err e) → Gives (Err e) (table >>= trace_at_end)
+gives-refusal e table = unless (is_memory e) _ _ (err-stays e table)
+
+may-be : (m : Bool) (P : Type 0) → P → MatchBool m ⊤ P
+may-be true P h = tt
+may-be false P h = h
+
+gives-itself : (r : Result Recorded TextError) → Gives r r
+gives-itself (Ok t) = refl
+gives-itself (Err e) = may-be (is_memory e) _ refl
+
+pub gives-end : (s : Stage) (table : Result Stage TextError) → table ≡ Ok s → Gives (trace_at_end s) (table >>= trace_at_end)
+gives-end s table h = rw h (gives-itself (trace_at_end s))
+
+-- a trace that is given is that of the text
+pub given-read : (known : Option (List ℕ)) (r : Result Recorded TextError) → IsGiven known r → IfOk r (IsTraceRead known)
+given-read known (Ok t) h = record { text = h.text; is = h.is; trace = gives-sound h.text (Ok t) h.gives; stands = gives-stands h.text (Ok t) h.gives; size = h.size }
+given-read known (Err e) h = tt
+
+-- a refusal is the first of the table
+refuses-large : (text : List ℕ) → MAX_TEXT_BYTES < length text → trace_of_text text ≡ Err why.TooLarge
+refuses-large text h = let e : nat_le (length text) MAX_TEXT_BYTES ≡ false = grind (arith, nat_tests) in rw e refl
+
+refuses-records : (text given : List ℕ) (e : TextError) → given ≡ text → length given ≤ MAX_TEXT_BYTES → trace_of_records (records_of_text given) ≡ Err e → trace_of_text text ≡ Err e
+refuses-records text given e same short h =
+    let fits : nat_le (length given) MAX_TEXT_BYTES ≡ true = grind (arith, nat_tests) in
+    subst (λ xs. trace_of_text xs ≡ Err e) same (rw fits h)
+
+pub refused-known : (known : Option (List ℕ)) (e : TextError) → IsRefused known e → IfSome known (IsRefusalOf e)
+refused-known None e h = tt
+refused-known (Some text) why.Read h = tt
+refused-known (Some text) why.Memory h = tt
+refused-known (Some text) why.TooLarge h = refuses-large text h
+refused-known (Some text) e h = refuses-records text h.text e h.is h.size h.gives
+
+pub given-refusal : (known : Option (List ℕ)) (r : Result Recorded TextError) → IsGiven known r → IfErr r (λ e. IfSome known (IsRefusalOf e))
+given-refusal known (Ok t) h = tt
+given-refusal known (Err e) h = refused-known known e (given-refused known e h)
+
+-- what holds for any answer holds for an Ok
+pub on-ok : {A E : Type 0} (r : Result A E) (P : Type 0) → P → OnOk r P
+on-ok (Ok x) P h = h
+on-ok (Err e) P h = tt

@@ -1,0 +1,83 @@
+-- A trace text that is read from a device part by part.
+use Rattle.std.specs.Prelude.{ℕ, ◌≡◌, ◌≤◌, ◌<◌, ◌+◌, ◌++◌, List, length, drop, Result, Ok, Err, Option, IfSome, MatchBool, vec_len, ⊤}
+use Rattle.std.specs.Io.KnownBytes.{Consumes, IsAtEnd}
+use Rattle.step_trace.specs.Traces.{Recorded}
+use Rattle.trace_text.specs.declared.byte_loops.TheConstants.{MAX_TEXT_BYTES}
+use Rattle.trace_text.specs.declared.reading.Stage.{Stage}
+use Rattle.trace_text.specs.declared.reading.Stage.TheVariants.{Opening}
+use Rattle.trace_text.specs.declared.refusals.TextError.{TextError}
+use Rattle.trace_text.specs.declared.refusals.TextError.TheVariants as why
+use Rattle.trace_text.specs.Records.{records_of_text}
+use Rattle.trace_text.specs.TextRefusals.{Gives, is_memory, trace_of_records, trace_of_text}
+use Rattle.trace_text.specs.TraceTexts.{IsTextTrace, StandsFor}
+use Rattle.shared_reading.specs.Pieces.{read_on}
+use Rattle.shared_reading.specs.declared.device_texts.Progress.{Progress}
+
+-- the trace is that of a text within the limit, which is all that the reader had, where that is known
+pub record IsTraceRead (known : Option (List ℕ)) (t : Recorded) : Type 0 where
+  pub text : List ℕ
+  pub is : IfSome known (λ bytes. text ≡ bytes)
+  pub trace : IsTextTrace t
+  pub stands : StandsFor text t
+  pub size : length text ≤ MAX_TEXT_BYTES
+
+-- the refusal is the first of the table; a failed read and want of memory may come anywhere
+abbrev pub IsRefusalOf : TextError → List ℕ → Type 0
+IsRefusalOf why.Read text = ⊤
+IsRefusalOf why.Memory text = ⊤
+IsRefusalOf e text = trace_of_text text ≡ Err e
+
+-- the records of a text within the limit, which is all that the reader had, give this
+pub record IsGiven (known : Option (List ℕ)) (r : Result Recorded TextError) : Type 0 where
+  pub text : List ℕ
+  pub is : IfSome known (λ bytes. text ≡ bytes)
+  pub size : length text ≤ MAX_TEXT_BYTES
+  pub gives : Gives r (trace_of_records (records_of_text text))
+
+-- a refusal: for the reader, for memory, for more bytes than the limit, or for the records
+abbrev pub IsRefused : Option (List ℕ) → TextError → Type 0
+IsRefused known why.Read = ⊤
+IsRefused known why.Memory = ⊤
+IsRefused known why.TooLarge = IfSome known (λ bytes. MAX_TEXT_BYTES < length bytes)
+IsRefused known e = IsGiven known (Err e)
+
+-- how many bytes were read
+abbrev pub total_of : Progress → ℕ
+total_of p = p.done + vec_len p.rest
+
+-- Of the bytes that the reader had at first so many were taken, the rest was read and the others are left; and whatever
+-- comes after the rest, the records of all lead where those after the taken ones lead from the stage.
+pub record IsReadTo (known left : Option (List ℕ)) (p : Progress) : Type 0 where
+  pub taken : List ℕ
+  pub count : p.done ≡ length taken
+  pub read : Consumes known left (taken ++ p.rest.items)
+  pub leads : (more : List ℕ) → read_on Opening (taken ++ (p.rest.items ++ more)) ≡ read_on p.stage (p.rest.items ++ more)
+
+-- the front of the rest was taken: whatever comes behind, the records lead where those behind the front lead
+abbrev pub IsTaken : Stage → Stage → List ℕ → Result ℕ TextError → Type 0
+IsTaken old new rest (Ok cut) = (cut ≤ length rest) × ((more : List ℕ) → read_on old (rest ++ more) ≡ read_on new (drop cut rest ++ more))
+IsTaken old new rest (Err e) = MatchBool (is_memory e) ⊤ ((more : List ℕ) → read_on old (rest ++ more) ≡ Err e)
+
+-- reading goes on, or is refused
+abbrev pub GoesOnTo : {A : Type 0} → Option (List ℕ) → Option (List ℕ) → Progress → Result A TextError → Type 0
+GoesOnTo known left p (Ok x) = IsReadTo known left p
+GoesOnTo known left p (Err e) = IsRefused known e
+
+-- a reader brought more bytes than there may be
+pub record IsTooMuch (total : ℕ) (old new : Option (List ℕ)) : Type 0 where
+  pub bytes : List ℕ
+  pub read : Consumes old new bytes
+  pub size : MAX_TEXT_BYTES < total + length bytes
+
+-- a refusal for the reader
+abbrev pub IsUnread : ℕ → Option (List ℕ) → Option (List ℕ) → TextError → Type 0
+IsUnread total old new why.Read = ⊤
+IsUnread total old new why.TooLarge = IsTooMuch total old new
+IsUnread total old new e = ⊥
+
+-- a reader was read to its end, and brought no more bytes than there may be
+pub record IsReadOut (total : ℕ) (old new : Option (List ℕ)) : Type 0 where
+  pub bytes : List ℕ
+  pub read : Consumes old new bytes
+  pub end : IsAtEnd new
+  pub size : total + length bytes ≤ MAX_TEXT_BYTES

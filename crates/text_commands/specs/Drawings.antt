@@ -1,0 +1,106 @@
+-- What the program makes of a trace text in a picture (own).
+use Rattle.std.specs.Prelude.{ℕ, ◌≡◌, ◌<◌, List, length, Option, Some, None, Result, Ok, Err, String, string_bytes, true, false, refl, ⊤}
+use Rattle.step_trace.specs.declared.rows.Row.{Row}
+use Rattle.step_trace.specs.Processors.{IsWithin}
+use Rattle.step_trace.specs.Traces.{Recorded}
+use Rattle.step_trace.specs.Fronts.{IsReport}
+use Rattle.trace_text.specs.declared.byte_loops.TheConstants.{MAX_TEXT_BYTES}
+use Rattle.trace_text.specs.declared.refusals.TextError.TheVariants as why
+use Rattle.run_picture.specs.declared.pictures.Picture.{Picture}
+use Rattle.run_picture.specs.declared.windows.Window.{Window}
+use Rattle.run_picture.specs.declared.windows.WindowError.{WindowError}
+use Rattle.run_picture.specs.declared.windows.WindowError.TheVariants as no_window
+use Rattle.run_picture.specs.Marks.{ShowsExactly}
+use Rattle.run_picture.specs.Names.{AreNames, parts_of}
+use Rattle.run_picture.specs.Pictures.{Shows}
+use Rattle.run_picture.specs.Windows.{window_of}
+use Rattle.text_commands.specs.declared.drawings.Drawing.{Drawing}
+use Rattle.text_commands.specs.declared.faults.Fault.{Fault}
+use Rattle.text_commands.specs.declared.faults.Fault.TheVariants as fault
+use Rattle.text_commands.specs.declared.faults.PictureOption.{PictureOption}
+use Rattle.text_commands.specs.declared.faults.PictureOption.TheVariants as option
+use Rattle.text_commands.specs.Inputs.{IsTextOf, too_large}
+use Rattle.text_commands.specs.Reports.{IsTextFault}
+use Rattle.text_commands.specs.Serving.{IsFaultOf, Kinds}
+
+abbrev pub are_names_in : {B : Type 0} → Option (String B) → ℕ → Type 0
+are_names_in None count = ⊤
+are_names_in (Some list) count = AreNames count (parts_of (string_bytes list))
+
+-- the drawing lists no names, or as many as there are processors
+abbrev pub AreNamesFor : Drawing → ℕ → Type 0
+AreNamesFor d count = are_names_in d.names count
+
+-- the ticks that are asked for, of a trace with this last tick
+abbrev pub window_for : Drawing → ℕ → Result Window WindowError
+window_for d last = window_of last d.from d.to
+
+-- The drawing shows this trace: the marks of a window that is asked for, with the rows of the report.
+pub record IsDrawn (d : Drawing) (t : Recorded) : Type 0 where
+  pub named : AreNamesFor d t.config.n
+  pub window : Window
+  pub asked : window_for d t.last ≡ Ok window
+  pub rows : List Row
+  pub exact : IsReport d.set t rows
+  pub picture : Picture
+  pub shows : Shows t rows window picture
+  pub marks : ShowsExactly t window picture
+
+-- The first text stands for a trace that has all members of the set, and the second is a picture of it.
+pub record IsDrawingOf (d : Drawing) (text picture : List ℕ) : Type 0 where
+  pub trace : Recorded
+  pub read : IsTextOf text trace
+  pub within : IsWithin d.set trace.config.n
+  pub drawn : IsDrawn d trace
+
+-- the option that a window is refused for
+abbrev pub option_of : WindowError → PictureOption
+option_of no_window.BadFrom = option.From
+option_of no_window.BadTo = option.To
+
+-- a fault of the window: it is for the option
+abbrev pub IsWindowFault : Drawing → ℕ → Fault → Type 0
+IsWindowFault d last w = (e : WindowError) × (window_for d last ≡ Err e) × (w ≡ fault.Picture (option_of e))
+
+-- a fault of the names
+abbrev pub IsNamesFault : Drawing → ℕ → Fault → Type 0
+IsNamesFault d count (fault.Picture option.Names) = ¬ AreNamesFor d count
+IsNamesFault d count fault.Memory = ⊤
+IsNamesFault d count _ = ⊥
+
+-- why there is no picture of the trace: its names, or else its first tick, or its last one
+abbrev pub IsUndrawnFor : Drawing → Recorded → PictureOption → Type 0
+IsUndrawnFor d t option.Names = ¬ AreNamesFor d t.config.n
+IsUndrawnFor d t option.From = AreNamesFor d t.config.n × (window_for d t.last ≡ Err no_window.BadFrom)
+IsUndrawnFor d t option.To = AreNamesFor d t.config.n × (window_for d t.last ≡ Err no_window.BadTo)
+
+abbrev pub IsUndrawn : Drawing → Recorded → Fault → Type 0
+IsUndrawn d t (fault.Picture o) = IsUndrawnFor d t o
+IsUndrawn d t fault.Memory = ⊤
+IsUndrawn d t _ = ⊥
+
+-- The text stands for a trace that has all members of the set, and of which there is no picture for this option.
+pub record IsTraceUndrawn (d : Drawing) (text : List ℕ) (o : PictureOption) : Type 0 where
+  pub trace : Recorded
+  pub read : IsTextOf text trace
+  pub within : IsWithin d.set trace.config.n
+  pub undrawn : IsUndrawnFor d trace o
+
+-- The fault has its cause in the text: its first refusal, a member of the set that its trace hasn't, or an option.
+abbrev pub IsUndrawable : Drawing → List ℕ → Fault → Type 0
+IsUndrawable d text (fault.Picture o) = IsTraceUndrawn d text o
+IsUndrawable d text w = IsTextFault d.set text w
+
+-- it may refuse a set, and an option of a picture
+abbrev pub drawing_kinds : Kinds
+drawing_kinds = record { set = true; certificate = false; run = false; threads = false; picture = true }
+
+pub too_large_to_draw : (d : Drawing) (text : List ℕ) → MAX_TEXT_BYTES < length text → IsUndrawable d text (fault.Trace why.TooLarge)
+too_large_to_draw d text h = too_large text h
+
+pub own_undrawable : (d : Drawing) (text : List ℕ) (w : Fault) → IsUndrawable d text w → IsFaultOf drawing_kinds w
+own_undrawable d text (fault.Picture o) h = refl
+own_undrawable d text fault.Set h = refl
+own_undrawable d text (fault.Trace e) h = (h.1, h.2)
+own_undrawable d text fault.Memory h = tt
+own_undrawable d text w h = absurd h

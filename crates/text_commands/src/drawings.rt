@@ -1,0 +1,139 @@
+//! The picture of a run as SVG, from a reader to a writer.
+
+ghost use Rattle.std.specs.Prelude.{◌≡◌, ℕ, List, IfErr, IfOk, IfSome, IsTrue, MatchResult, OnOk};
+ghost use Rattle.std.specs.Io.KnownBytes.{Appends, IsAtEnd};
+ghost use Rattle.step_trace.specs.Fronts.{IsReport};
+ghost use Rattle.step_trace.specs.Processors.{IsWithin};
+ghost use Rattle.trace_text.specs.ByteLoops.{WasFaultless};
+ghost use Rattle.trace_text.specs.Faults.{faults_of, inner_of, is_flushed};
+ghost use Rattle.text_commands.specs.Drawings.{AreNamesFor, IsDrawingOf, IsDrawn, IsNamesFault, IsUndrawable, IsUndrawn, IsWindowFault, drawing_kinds, window_for};
+ghost use Rattle.text_commands.specs.Inputs.{IsReadFault};
+ghost use Rattle.text_commands.specs.Printing.{IsWriteFault};
+ghost use Rattle.text_commands.specs.Serving.{IsFaultOf, IsServeFault};
+
+use crate::checks::trace_within;
+use crate::faults::{Fault, PictureOption};
+use crate::serving::{Answer, serve};
+use front::{Report, front};
+use run_picture::{NamesError, Window, WindowError, names_of, picture_of, svg_text, window_of};
+use std::alloc::{AllocError, Global};
+use std::io::{Read, Write};
+use step_trace::{ProcSet, Trace};
+use suffix_staircase::Stairs;
+use trace_text::Counting;
+
+/// What a picture is asked for.
+#[derive(Debug, Drop)]
+pub struct Drawing {
+    /// The processors that are named as correct.
+    pub set: ProcSet,
+    /// The first tick to draw: 1 where there is none.
+    pub from: Option<u64>,
+    /// The last tick to draw: 99 ticks later, or the last of the trace, where there is none.
+    pub to: Option<u64>,
+    /// The names of the processors, with commas between them: their numbers where there are none.
+    pub names: Option<String>,
+}
+
+/// Reads a trace text to its end, and writes the picture of its trace as SVG: the bounds of every tick, for the
+/// drawing's set as the correct processors, and the steps, messages and witnesses of the drawing's ticks. Nothing is
+/// written before the whole picture stands.
+///
+/// Refuses, in this order: Read, or Trace for a text that is too large; Trace for any other refusal of the text; Set
+/// where a member is above the trace's number of processors; Picture for the names, the first tick and the last tick,
+/// in this order; Write with the number of bytes that went out before. Memory may come at any step before the first
+/// write.
+pub fn run_draw<R: Read, W: Write>(
+    alloc: Global,
+    drawing: &Drawing,
+    reader: &mut Counting<R>,
+    writer: &mut Counting<W>,
+) -> Result<(), Fault>
+    ensures end { OnOk result (IsAtEnd (R.remaining (inner_of reader.new))) }
+    ensures drawing { OnOk result ((text : List ℕ) × (picture : List ℕ)
+        × IfSome (R.remaining (inner_of reader.old)) (λ known. text ≡ known)
+        × IsDrawingOf drawing.now text picture
+        × Appends (W.contents (inner_of writer.old)) (W.contents (inner_of writer.new)) picture) }
+    ensures flushed { OnOk result (IsTrue (is_flushed writer.new)) }
+    ensures faultless { OnOk result ((faults_of reader.new ≡ faults_of reader.old) × WasFaultless writer.old writer.new) }
+    ensures refused { IfErr result (λ why. IfSome (R.remaining (inner_of reader.old)) (λ text.
+        IsServeFault (IsDrawingOf drawing.now) (IsUndrawable drawing.now) text (W.contents (inner_of writer.old)) (W.contents (inner_of writer.new)) why)) }
+    ensures own { IfErr result (IsFaultOf drawing_kinds) }
+    ensures read { IfErr result (IsReadFault (faults_of reader.old) (faults_of reader.new)) }
+    ensures unwritten { IfErr result (IsWriteFault writer.old writer.new) }
+{
+    serve(alloc, drawing, reader, writer)
+}
+
+impl Answer for Drawing {
+    ghost use Rattle.text_commands.specs.Drawings.{IsDrawingOf, IsUndrawable, drawing_kinds, own_undrawable, too_large_to_draw};
+
+    ghost Gives = { λ d. IsDrawingOf d };
+
+    ghost Refuses = { λ d. IsUndrawable d };
+
+    ghost kinds = { λ _. drawing_kinds };
+
+    fn answer(&self, alloc: Global, text: Vec<u8>) -> Result<Vec<u8>, Fault> {
+        let trace = trace_within(alloc, text, self.set)?;
+        drawn(alloc, &trace, self)
+    }
+
+    ghost too_large = { λ d text l. too_large_to_draw d text l };
+
+    ghost memory = { λ _ text. tt };
+
+    ghost own = { λ d text w h. own_undrawable d text w h };
+
+    ghost no_read = { λ _ text h. h };
+
+    ghost no_write = { λ _ text n h. h };
+}
+
+/// The picture of a trace.
+fn drawn(alloc: Global, trace: &Trace, drawing: &Drawing) -> Result<Vec<u8>, Fault>
+    requires within { IsWithin drawing.now.set trace.now.config.n }
+    ensures drawn { OnOk result (IsDrawn drawing.now trace.now) }
+    ensures refused { IfErr result (IsUndrawn drawing.now trace.now) }
+{
+    let names = names_for(alloc, drawing, trace.config().n())?;
+    let window = window_for(drawing, trace.last_tick())?;
+    let report = report_of(alloc, trace, drawing.set)?;
+    let picture = picture_of(alloc, trace, report.rows(), window)?;
+    Ok(svg_text(alloc, trace, &picture, drawing.set, &names)?)
+}
+
+/// The names of so many processors; none where none are listed.
+fn names_for(alloc: Global, drawing: &Drawing, count: u64) -> Result<Vec<&str>, Fault>
+    ensures fit { OnOk result (AreNamesFor drawing.now count) }
+    ensures refused { IfErr result (λ why. IsNamesFault drawing.now count why) }
+{
+    let Some(list) = &drawing.names else {
+        return Ok(Vec::new(alloc));
+    };
+    match names_of(alloc, list.as_str(), count) {
+        Ok(names) => Ok(names),
+        Err(NamesError::BadNames) => Err(Fault::Picture(PictureOption::Names)),
+        Err(NamesError::Memory) => Err(Fault::Memory),
+    }
+}
+
+/// The ticks to draw, of a trace with this last tick.
+fn window_for(drawing: &Drawing, last: u64) -> Result<Window, Fault>
+    ensures { MatchResult result (λ w. window_for drawing.now last ≡ Ok w) (IsWindowFault drawing.now last) }
+{
+    match window_of(last, drawing.from, drawing.to) {
+        Ok(window) => Ok(window),
+        Err(WindowError::BadFrom) => Err(Fault::Picture(PictureOption::From)),
+        Err(WindowError::BadTo) => Err(Fault::Picture(PictureOption::To)),
+    }
+}
+
+/// The report of a trace, by one backward pass.
+fn report_of(alloc: Global, trace: &Trace, set: ProcSet) -> Result<Report, AllocError>
+    requires within { IsWithin set trace.now.config.n }
+    ensures report { IfOk result (λ r. IsReport set trace.now r.rows) }
+{
+    let stairs = Stairs::of_trace(alloc, trace, set)?;
+    front(alloc, &stairs)
+}
