@@ -1,0 +1,373 @@
+#!/usr/bin/env python3
+"""What `synchrony import` says of a log, straight from the words of its format: slow, and sharing no line with the program.
+
+    bench/import_oracle.py import LOG [--nodes A,B,..] [--tick W] [--until X] [--spread]
+    bench/import_oracle.py --self-test
+
+The first answers as the program should: standard output, standard error and status. The second tries the texts of
+`import_times.py` and the logs of `import_rows.cases`, whose answers were worked out by hand, and ends with 'N passed, M
+failed'.
+"""
+import argparse
+import os
+import re
+import subprocess
+import sys
+from dataclasses import dataclass
+from typing import Optional
+
+sys.dont_write_bytecode = True
+import import_times
+from import_times import above_zero, number, stamp
+
+HERE = os.path.dirname(os.path.realpath(__file__))
+CASES = f"{HERE}/import_rows.cases"
+TEXT_LIMIT = 67_108_864
+EVENT_LIMIT = 1_000_000
+TICK_LIMIT = 1_000_000
+NODE_LIMIT = 64
+COLUMNS = (b"time", b"node", b"event", b"to", b"message")
+FEWER_TICKS = b"a greater --tick makes fewer"
+SHORTER_TICK = b"a shorter --tick sets them apart"
+SPREAD = b"--spread sets them apart"
+
+
+class Refused(Exception):
+    """A log, or a command line, that is refused: the status, and the lines that are told of it, in which names stand as
+    their bytes do."""
+
+    def __init__(self, status, *lines):
+        super().__init__(lines)
+        self.status, self.lines = status, lines
+
+
+def refuse_log(why, hint=None):
+    raise Refused(3, b"log: " + why, *([hint] if hint else []))
+
+
+def refuse_record(number_of_record, why, hint=None):
+    refuse_log(b"record %d: " % number_of_record + why, hint)
+
+
+@dataclass
+class Options:
+    """The words of the command line, None for what is left out."""
+
+    nodes: Optional[bytes] = None
+    tick: Optional[bytes] = None
+    until: Optional[bytes] = None
+    spread: bool = False
+
+
+@dataclass
+class Event:
+    record: int
+    time: int
+    node: bytes
+    # The receiver of a send, None in a receive.
+    to: Optional[bytes]
+    # The one that was sent, or those that were received.
+    messages: list
+    # Its tick, once it is known.
+    tick: int = 0
+
+
+# Records
+
+
+def records_of(text):
+    """The records that a reader of comma-separated fields finds: lines that are blank are none, and an open quote runs on."""
+    text = text[3:] if text.startswith(b"\xef\xbb\xbf") else text
+    if b'"' not in text:
+        # (the same, and much quicker)
+        return [line.split(b",") for line in re.split(rb"[\r\n]+", text) if line]
+    at, found = 0, []
+    while True:
+        while text[at : at + 1] in (b"\r", b"\n"):
+            at += 1
+        if at >= len(text):
+            return found
+        record = []
+        while True:
+            value, at = field_at(text, at)
+            record.append(value)
+            if text[at : at + 1] != b",":
+                break
+            at += 1
+        found.append(record)
+
+
+FIELD_END = re.compile(rb"[,\r\n]|\Z")
+
+
+def field_at(text, at):
+    """The field that begins at a place, and the place of what ends it. Only a quote that begins a field opens it."""
+    value = b""
+    if text[at : at + 1] == b'"':
+        at += 1
+        while True:
+            quote = text.find(b'"', at)
+            if quote < 0:
+                return value + text[at:], len(text)
+            value += text[at:quote]
+            at = quote + 1
+            if text[at : at + 1] != b'"':
+                break
+            value += b'"'
+            at += 1
+    end = FIELD_END.search(text, at).start()
+    return value + text[at:end], end
+
+
+def is_name(text):
+    try:
+        text.decode()
+    except UnicodeDecodeError:
+        return False
+    return text != b"" and all(it >= 32 and it != 127 for it in text)
+
+
+def is_message(text):
+    return is_name(text) and b" " not in text
+
+
+# The command line
+
+
+def read_options(options):
+    """The list of the nodes, the tick's length with whether it is a duration, and the end with whether it is a stamp."""
+    nodes = None
+    if options.nodes is not None:
+        nodes = options.nodes.split(b",")
+        if not 2 <= len(nodes) <= NODE_LIMIT or len({*nodes}) < len(nodes) or not all(map(is_name, nodes)):
+            raise Refused(2, b"bad --nodes")
+    width = (1, False)
+    if options.tick is not None:
+        plain, duration = number(options.tick), above_zero(options.tick)
+        width = (plain, False) if plain is not None else (duration, True)
+        if not width[0]:
+            raise Refused(2, b"bad --tick")
+    until = None
+    if options.until is not None:
+        plain, instant = number(options.until), stamp(options.until)
+        until = (plain, False) if plain is not None else (instant, True)
+        if until[0] is None:
+            raise Refused(2, b"bad --until")
+    return nodes, width, until
+
+
+# The stages, each over what those before it left
+
+
+def places_of(records):
+    """The places of the five columns."""
+    header = records[0] if records else []
+    for name in COLUMNS:
+        if name not in header:
+            refuse_log(b"no column " + name)
+    for name in COLUMNS:
+        if header.count(name) > 1:
+            refuse_log(b"two columns " + name)
+    return [header.index(it) for it in COLUMNS]
+
+
+def events_of(records, places, listed):
+    """The events, and whether their times are stamps."""
+    are_stamps, events = None, []
+    for no, record in enumerate(records[1:], 2):
+        if no == EVENT_LIMIT + 2:
+            refuse_log(b"too many events")
+        if len(record) != len(records[0]):
+            refuse_record(no, b"bad fields")
+        time, node, event, to, message = (record[it] for it in places)
+        if are_stamps is None:
+            are_stamps = number(time) is None
+        value = stamp(time) if are_stamps else number(time)
+        if value is None:
+            refuse_record(no, b"bad time")
+        if event not in (b"send", b"receive"):
+            refuse_record(no, b"bad event")
+        named = [node, to] if event == b"send" else [node]
+        if not all(is_name(it) and (listed is None or it in listed) for it in named):
+            refuse_record(no, b"bad node")
+        if event == b"send":
+            messages = [message]
+        else:
+            messages = message.split(b" ") if message else []
+        if not all(map(is_message, messages)):
+            refuse_record(no, b"bad message")
+        events.append(Event(no, value, node, to if event == b"send" else None, messages))
+    if not events:
+        refuse_log(b"no events")
+    return events, are_stamps
+
+
+def numbered(events, listed):
+    """The nodes in the order of their numbers, and the send of each message by its name."""
+    nodes, sends = [*listed] if listed else [], {}
+    for it in events:
+        for name in [it.node] if it.to is None else [it.node, it.to]:
+            if name not in nodes:
+                nodes.append(name)
+            if len(nodes) > NODE_LIMIT:
+                refuse_record(it.record, b"too many nodes")
+        if it.to is not None:
+            name = it.messages[0]
+            if name in sends:
+                refuse_record(it.record, b"message " + name + b" was sent before")
+            sends[name] = it
+    if len(nodes) < 2:
+        refuse_log(b"too few nodes")
+    return nodes, sends
+
+
+def last_tick_of(events, are_stamps, width, until):
+    """Gives each event the tick of its time, and returns the last tick by the times."""
+    if width[1] and not are_stamps:
+        raise Refused(2, b"--tick does not fit the times")
+    first, last = min(it.time for it in events), max(it.time for it in events)
+    if until is not None:
+        if until[1] != are_stamps or until[0] < last:
+            raise Refused(2, b"--until does not fit the times")
+        last = until[0]
+    for it in events:
+        it.tick = (it.time - first) // width[0] + 1
+    last_tick = (last - first) // width[0] + 1
+    if last_tick > TICK_LIMIT:
+        refuse_log(b"too many ticks", FEWER_TICKS)
+    return last_tick
+
+
+def test_steps(events, sends, spread):
+    """Refuses the first event that can't be a step where it stands."""
+    received, filled = set(), {}
+    for it in events:
+        for name in it.messages if it.to is None else []:
+            why, hint = fault_of(it, name, sends, received, spread)
+            if why:
+                refuse_record(it.record, b"message " + name + why, hint)
+            received.add(name)
+        before = filled.setdefault((it.node, it.tick), it)
+        if before is not it and not spread:
+            hint = SPREAD if before.time == it.time else SHORTER_TICK
+            refuse_record(it.record, b"a second event of %b in tick %d" % (it.node, it.tick), hint)
+
+
+def fault_of(receive, name, sends, received, spread):
+    """Why a message can't be received where it is, if so, and what helps."""
+    send = sends.get(name)
+    if send is None:
+        return b" was never sent", None
+    if send.to != receive.node:
+        return b" is for " + send.to, None
+    if name in received:
+        return b" was received before", None
+    is_after = (receive.time, receive.record) > (send.time, send.record)
+    if is_after if spread else receive.tick > send.tick:
+        return None, None
+    hint = None if spread or not is_after else SHORTER_TICK if receive.time > send.time else SPREAD
+    return b" is received no later than it was sent", hint
+
+
+def spread_out(events, sends):
+    """Puts events into later ticks, no later than needed, and returns how many went, and how far at most."""
+    far, busy = [], {}
+    for it in sorted(events, key=lambda it: (it.time, it.record)):
+        after = [busy.get(it.node, 0)]
+        if it.to is None:
+            after += [sends[name].tick for name in it.messages]
+        tick = max(it.tick, *(tick + 1 for tick in after))
+        far.append(tick - it.tick)
+        it.tick = busy[it.node] = tick
+    if max(it.tick for it in events) > TICK_LIMIT:
+        refuse_log(b"too many ticks", FEWER_TICKS)
+    return sum(it > 0 for it in far), max(far)
+
+
+def trace_of(events, nodes, sends, last_tick):
+    """The lines of the trace."""
+    place = {name: at for at, name in enumerate(nodes, 1)}
+    in_order = sorted(events, key=lambda it: (it.tick, place[it.node]))
+    number_of = {it.record: no for no, it in enumerate(in_order, 1)}
+    yield b"dls-trace,2,%d,0" % len(nodes)
+    yield b"init" + b",0" * len(nodes)
+    for no, it in enumerate(in_order, 1):
+        ids = sorted(number_of[sends[name].record] for name in it.messages) if it.to is None else []
+        act = b"R," + b" ".join(b"%d" % id for id in ids) if it.to is None else b"S,%d" % place[it.to]
+        yield b"%d,%d,%d,%b" % (no, it.tick, place[it.node], act)
+    yield b"end,%d" % last_tick
+
+
+def imported(log, options):
+    """The lines of standard output and of standard error for a log that is accepted; None is one that can't be read."""
+    listed, width, until = read_options(options)
+    if log is None:
+        raise Refused(6, b"cannot read")
+    if len(log) > TEXT_LIMIT:
+        refuse_log(b"text too large")
+    records = records_of(log)
+    events, are_stamps = events_of(records, places_of(records), listed)
+    nodes, sends = numbered(events, listed)
+    last_tick = last_tick_of(events, are_stamps, width, until)
+    test_steps(events, sends, options.spread)
+    told = [] if listed else [b"processor %d is %b" % (at, name) for at, name in enumerate(nodes, 1)]
+    if options.spread:
+        count, most = spread_out(events, sends)
+        told.append(b"%d of %d events moved, by at most %d ticks" % (count, len(events), most))
+        last_tick = max(last_tick, max(it.tick for it in events))
+    return trace_of(events, nodes, sends, last_tick), told
+
+
+def answer(log, options):
+    """The status, standard output and standard error."""
+    try:
+        status, (lines, told) = 0, imported(log, options)
+    except Refused as refusal:
+        status, lines, told = refusal.status, [], refusal.lines
+    return status, b"".join(it + b"\n" for it in lines), b"".join(b"synchrony: " + it + b"\n" for it in told)
+
+
+def read_log(path):
+    try:
+        if path == "-":
+            return sys.stdin.buffer.read()
+        with open(path, "rb") as opened:
+            return opened.read()
+    except OSError:
+        return None
+
+
+def self_test():
+    tried, wrong = import_times.failures()
+    for it in wrong:
+        print(f"FAILED {it}")
+    ran = subprocess.run([f"{HERE}/../tests/run", os.path.realpath(__file__), CASES], stdout=subprocess.PIPE, text=True)
+    *told, last = ran.stdout.splitlines()
+    print("\n".join(told), end="\n" if told else "")
+    passed, failed = map(int, re.fullmatch(r"(\d+) passed, (\d+) failed", last).groups())
+    print(f"{passed + tried - len(wrong)} passed, {failed + len(wrong)} failed")
+    return 1 if wrong or failed else 0
+
+
+def main():
+    words = argparse.ArgumentParser(description=__doc__.split("\n")[0])
+    words.add_argument("--self-test", action="store_true")
+    commands = words.add_subparsers()
+    command = commands.add_parser("import")
+    command.add_argument("log")
+    for name in ("--nodes", "--tick", "--until"):
+        command.add_argument(name, type=os.fsencode)
+    command.add_argument("--spread", action="store_true")
+    words = words.parse_args()
+    if words.self_test:
+        return self_test()
+    if not hasattr(words, "log"):
+        command.error("no command")
+    status, output, told = answer(read_log(words.log), Options(words.nodes, words.tick, words.until, words.spread))
+    sys.stderr.buffer.write(told)
+    sys.stdout.buffer.write(output)
+    return status
+
+
+if __name__ == "__main__":
+    sys.exit(main())
