@@ -10,3 +10,11 @@ pub mod FittingEvents
 pub mod FittingTraces
 pub mod WellFormedTraces
 pub mod TimedFitting
+pub mod EarlierEvents
+pub mod GreatestTicks
+pub mod TimeOrders
+pub mod SpreadSteps
+pub mod OrderedTimes
+pub mod RankedEvents
+pub mod MovedEvents
+pub mod SpreadTraces

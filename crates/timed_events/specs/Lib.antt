@@ -3,3 +3,4 @@ pub mod Firsts
 pub mod Checks
 pub mod Orders
 pub mod TimedTraces
+pub mod Spreads

@@ -1,6 +1,6 @@
 //! What makes events a trace, tested event by event.
 
-ghost use Rattle.std.specs.Prelude.{◌≡◌, ◌<◌, ◌≤◌, ◌+◌, ◌||◌, ℕ, None, Some, false, length, IfOk, OnOk, OnErr, MatchResult, IsTrue, IsSome, is_some, nat_eq, slice_get, slice_index_or, All};
+ghost use Rattle.std.specs.Prelude.{◌≡◌, ◌<◌, ◌≤◌, ◌+◌, ◌||◌, ◌↔◌, ℕ, None, Some, false, length, IfOk, OnOk, OnErr, MatchResult, IsTrue, IsSome, is_some, nat_eq, slice_get, slice_index_or, All};
 ghost use Rattle.std.specs.HashSet.{contains};
 ghost use Rattle.timed_events.specs.Checks.{is_for, received_before, messages_at, message_refusal, messages_refusal, late_hint, apart_hint, moment_at, earlier_at, second_refusal, events_refusal, AreOfProcessors, AreMeant, IsMeantAt, IsEventRefusal};
 
@@ -29,7 +29,7 @@ pub fn check_events(alloc: Global, events: &[Event], ticks: &[u32]) -> Result<()
 
 /// Whether each event is of one of `n` processors, and each Send goes to one of them.
 pub fn are_meant(events: &[Event], n: u64) -> bool
-    ensures { IsTrue result → AreMeant events.now n }
+    ensures { IsTrue result ↔ AreMeant events.now n }
 {
     for place in 0..events.len() {
         if !is_meant(events, place, n) {
@@ -42,7 +42,7 @@ pub fn are_meant(events: &[Event], n: u64) -> bool
 /// Whether the event at `place` is of one of `n` processors, and goes to one of them if it is a Send.
 fn is_meant(events: &[Event], place: usize, n: u64) -> bool
     requires { place < length events.now }
-    ensures { IsTrue result → IsMeantAt events.now n place }
+    ensures { IsTrue result ↔ IsMeantAt events.now n place }
 {
     let event = &events[place];
     if event.processor < 1 || n < event.processor {

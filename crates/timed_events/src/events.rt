@@ -44,8 +44,6 @@ pub struct Clock {
     pub width: u128,
     /// When the log ends, if not with its last event.
     pub until: Option<i128>,
-    /// Whether events may go to later ticks than those of their times.
-    pub spread: bool,
 }
 
 /// What would set two events in different ticks.

@@ -4,12 +4,16 @@
 mod checks;
 mod events;
 mod orders;
+mod spread_ticks;
+mod spread_traces;
 mod steps;
+mod time_orders;
 mod timed_traces;
 mod times;
 
 pub use checks::{are_meant, check_events};
 pub use events::{Clock, Event, EventAct, EventError, Hint};
 pub use orders::{numbers_of, order_of};
+pub use spread_traces::{Moved, TimedTrace, trace_of_events};
 pub use timed_traces::trace_in_time;
 pub use times::{Span, span_of, ticks_of};

@@ -54,13 +54,13 @@ fn sent_numbers(
 {
     let mut ids = Vec::with_capacity(alloc, messages.len())?;
     for message in messages {
-        ids.push(sent_number(*message, numbers))?;
+        ids.push(u64::from(sent_number(*message, numbers)))?;
     }
     Ok(ids)
 }
 
 /// The number of the Send of a message: 0 where there is none.
-fn sent_number(message: Option<u32>, numbers: &[u32]) -> u64
+pub(crate) fn sent_number(message: Option<u32>, numbers: &[u32]) -> u32
     ensures { result ≡ sent_number numbers.now message }
 {
     let Some(sent) = message else {
@@ -69,5 +69,5 @@ fn sent_number(message: Option<u32>, numbers: &[u32]) -> u64
     if sent as usize >= numbers.len() {
         return 0;
     }
-    u64::from(numbers[sent as usize])
+    numbers[sent as usize]
 }

@@ -3,7 +3,7 @@
 ghost use Rattle.std.specs.Prelude.{◌≡◌, ◌<◌, ◌≤◌, ◌-◌, None, length, take, MatchResult, IfOk, OnOk, ℕ, slice_index};
 ghost use Rattle.step_trace.specs.Traces.{Recorded};
 ghost use Rattle.timed_events.specs.Times.{time_ticks, last_tick};
-ghost use Rattle.timed_events.specs.Checks.{AreMeant, IsEventRefusal};
+ghost use Rattle.timed_events.specs.Checks.{events_refusal, AreMeant, IsEventRefusal};
 ghost use Rattle.timed_events.specs.TimedTraces.{IsAppended, HasSteps, IsTraceOf, AreFitting, setup_of, timed_refusal};
 
 use crate::checks::check_events;
@@ -14,12 +14,12 @@ use crate::times::{span_of, ticks_of};
 use std::alloc::Global;
 use step_trace::{Config, MAX_PROCESSORS, MAX_STEPS, MAX_TICKS, MIN_PROCESSORS, PushError, Trace};
 
-/// The trace of the events, each in the tick of its time, whether or not the clock says that they may be spread: of `n`
-/// processors of which none may be faulty, all with initial value 0. Its steps are in the order of their ticks, and in a
-/// tick of their processors; a message's id is the number of its Send.
+/// The trace of the events, each in the tick of its time: of `n` processors of which none may be faulty, all with initial
+/// value 0. Its steps are in the order of their ticks, and in a tick of their processors; a message's id is the number of
+/// its Send.
 ///
-/// Asks for 2 to 64 processors, at least one event and at most `MAX_STEPS`, each of one of the processors and to one of them, and ticks that have
-/// a length. Refuses in the order of `EventError`.
+/// Asks for 2 to 64 processors, at least one event and at most `MAX_STEPS`, each of one of the processors and to one of
+/// them, and ticks that have a length. Refuses in the order of `EventError`.
 pub fn trace_in_time(
     alloc: Global,
     n: u64,
@@ -38,10 +38,37 @@ pub fn trace_in_time(
     let span = span_of(events, clock)?;
     let ticks = ticks_of(alloc, events, clock, span.least)?;
     check_events(alloc, events, &ticks)?;
-    let order = order_of(alloc, events, &ticks)?;
+    trace_of_ticks(alloc, n, events, &ticks, span.last)
+}
+
+/// The trace of the events in these ticks, up to the tick `last`.
+///
+/// Asks for events that pass their tests, and for ticks up to a last one that a trace may have. Refuses only for want of
+/// memory.
+pub(crate) fn trace_of_ticks(
+    alloc: Global,
+    n: u64,
+    events: &[Event],
+    ticks: &[u32],
+    last: u64,
+) -> Result<Trace, EventError>
+    requires least { MIN_PROCESSORS ≤ n }
+    requires most { n ≤ MAX_PROCESSORS }
+    requires some { 0 < length events.now }
+    requires few { length events.now ≤ MAX_STEPS }
+    requires meant { AreMeant events.now n }
+    requires ticks { length ticks.now ≡ length events.now }
+    requires passed { events_refusal events.now ticks.now ≡ None }
+    requires first { (i : ℕ) → i < length events.now → 1 ≤ slice_index ticks.now i }
+    requires within { (i : ℕ) → i < length events.now → slice_index ticks.now i ≤ last }
+    requires last { last ≤ MAX_TICKS }
+    ensures trace { IfOk result (λ t. IsTraceOf n events.now ticks.now last t) }
+    ensures refused { MatchResult result (λ _. Unit {0}) (λ why. IsEventRefusal why None) }
+{
+    let order = order_of(alloc, events, ticks)?;
     let numbers = numbers_of(alloc, &order)?;
-    let mut trace = trace_of_steps(alloc, n, events, &ticks, &order, &numbers)?;
-    match trace.idle_to(span.last) {
+    let mut trace = trace_of_steps(alloc, n, events, ticks, &order, &numbers)?;
+    match trace.idle_to(last) {
         Ok(()) => Ok(trace),
         Err(_) => unreachable!(),
     }

@@ -2,4 +2,8 @@
 #![tactic(auto)]
 
 #[cfg(test)]
+mod lines;
+#[cfg(test)]
+mod spread_traces;
+#[cfg(test)]
 mod timed_traces;

@@ -1,0 +1,124 @@
+//! The trace of events that may go to later ticks than those of their times.
+
+ghost use Rattle.std.specs.Prelude.{◌≡◌, ◌<◌, ◌≤◌, fold, length, max, true, IfErr, IfOk};
+ghost use Rattle.timed_events.specs.Checks.{AreMeant};
+ghost use Rattle.timed_events.specs.Spreads.{moved_of, IsTimed, IsTimedRefusal};
+
+use crate::events::{Clock, Event, EventError};
+use crate::spread_ticks::spread_ticks;
+use crate::time_orders::checked_order;
+use crate::timed_traces::{trace_in_time, trace_of_ticks};
+use crate::times::{span_of, ticks_of};
+use std::alloc::Global;
+use step_trace::{MAX_PROCESSORS, MAX_STEPS, MAX_TICKS, MIN_PROCESSORS, Trace};
+
+/// How far events went from the ticks of their times.
+#[derive(Clone, Copy, Debug, PartialEq, Eq)]
+pub struct Moved {
+    /// How many events are in a later tick than that of their time.
+    pub events: u64,
+    /// By how many ticks at most.
+    pub ticks: u64,
+}
+
+/// A trace of events, and how far they went.
+#[derive(Drop)]
+pub struct TimedTrace {
+    pub trace: Trace,
+    pub moved: Moved,
+}
+
+/// The trace of the events: of `n` processors of which none may be faulty, all with initial value 0. Each event is in the
+/// tick of its time; or, where they may be `spread`, in the first tick from there on that is after those of its
+/// processor's earlier events and of the Sends of the messages that it received. The steps are in the order of their
+/// ticks, and in a tick of their processors; a message's id is the number of its Send.
+///
+/// Asks for 2 to 64 processors, at least one event and at most `MAX_STEPS`, each of one of the processors and to one of
+/// them, and ticks that have a length. Refuses in the order of `EventError`; where events may be spread, none is refused as
+/// a second one in its tick, and TooManyTicks comes last where an event came too far.
+pub fn trace_of_events(
+    alloc: Global,
+    n: u64,
+    events: &[Event],
+    clock: &Clock,
+    spread: bool,
+) -> Result<TimedTrace, EventError>
+    requires least { MIN_PROCESSORS ≤ n }
+    requires most { n ≤ MAX_PROCESSORS }
+    requires some { 0 < length events.now }
+    requires few { length events.now ≤ MAX_STEPS }
+    requires meant { AreMeant events.now n }
+    requires width { 0 < clock.now.width }
+    ensures trace { IfOk result (λ timed. IsTimed spread n events.now clock.now timed) }
+    ensures refused { IfErr result (λ why. IsTimedRefusal spread events.now clock.now why) }
+{
+    if spread {
+        return spread_trace(alloc, n, events, clock);
+    }
+    let trace = trace_in_time(alloc, n, events, clock)?;
+    let moved = Moved {
+        events: 0,
+        ticks: 0,
+    };
+    Ok(TimedTrace { trace, moved })
+}
+
+/// The trace of the events where they may be spread.
+fn spread_trace(
+    alloc: Global,
+    n: u64,
+    events: &[Event],
+    clock: &Clock,
+) -> Result<TimedTrace, EventError>
+    requires least { MIN_PROCESSORS ≤ n }
+    requires most { n ≤ MAX_PROCESSORS }
+    requires some { 0 < length events.now }
+    requires few { length events.now ≤ MAX_STEPS }
+    requires meant { AreMeant events.now n }
+    requires width { 0 < clock.now.width }
+    ensures trace { IfOk result (λ timed. IsTimed true n events.now clock.now timed) }
+    ensures refused { IfErr result (λ why. IsTimedRefusal true events.now clock.now why) }
+{
+    let span = span_of(events, clock)?;
+    let order = checked_order(alloc, events)?;
+    let own = ticks_of(alloc, events, clock, span.least)?;
+    let ticks = spread_ticks(alloc, events, &own, &order)?;
+    drop(order);
+    let last = last_of(span.last, &ticks);
+    if last > MAX_TICKS {
+        return Err(EventError::TooManyTicks);
+    }
+    let moved = moved_of(&own, &ticks);
+    drop(own);
+    let trace = trace_of_ticks(alloc, n, events, &ticks, last)?;
+    Ok(TimedTrace { trace, moved })
+}
+
+/// The greatest of the ticks, at least `last`.
+fn last_of(last: u64, ticks: &[u32]) -> u64
+    ensures { result ≡ fold max last ticks.now }
+{
+    let mut greatest = last;
+    for tick in ticks {
+        greatest = greatest.max(u64::from(*tick));
+    }
+    greatest
+}
+
+/// How far events went from their own ticks, those of their times.
+fn moved_of(own: &[u32], ticks: &[u32]) -> Moved
+    requires { length ticks.now ≡ length own.now }
+    ensures { result ≡ moved_of own.now ticks.now }
+{
+    let mut moved = Moved {
+        events: 0,
+        ticks: 0,
+    };
+    for k in 0..own.len() {
+        if own[k] < ticks[k] {
+            moved.events += 1;
+            moved.ticks = moved.ticks.max(u64::from(ticks[k] - own[k]));
+        }
+    }
+    moved
+}

@@ -1,0 +1,230 @@
+//! The traces of events that may go to later ticks than those of their times.
+
+use crate::lines::{Line, StepLine, TICKS_OF_ONE, TWO_NODES, TWO_NODES_STEPS, events_of, has_step};
+use std::alloc::Global;
+use std::test::Fail;
+use timed_events::{Clock, EventError, Hint, Moved, TimedTrace, are_meant, trace_of_events};
+
+const NO_END: Clock = Clock {
+    width: 1,
+    until: None,
+};
+
+/// Three nodes at one time: a sends to b and to c, who receive.
+const BROADCAST: &[Line] = &[
+    (10, 1, 2, &[]),
+    (10, 1, 3, &[]),
+    (10, 2, 0, &[Some(0)]),
+    (10, 3, 0, &[Some(1)]),
+];
+
+/// The same, with b's record first.
+const RECEIVED_FIRST: &[Line] = &[
+    (10, 2, 0, &[Some(1)]),
+    (10, 1, 2, &[]),
+    (10, 1, 3, &[]),
+    (10, 3, 0, &[Some(2)]),
+];
+
+/// Two events of one node in the last tick that a trace may have.
+const TWICE_AT_THE_END: &[Line] = &[(0, 1, 2, &[]), (999_999, 1, 2, &[]), (999_999, 1, 2, &[])];
+
+/// The trace of at most 9 events of 3 processors, or the first reason; Memory where nothing is promised.
+fn timed(
+    alloc: Global,
+    lines: &[Line],
+    clock: &Clock,
+    spread: bool,
+) -> Result<TimedTrace, EventError> {
+    let events = events_of(alloc, lines)?;
+    if !are_meant(&events, 3) || events.len() == 0 || events.len() > 9 || clock.width == 0 {
+        return Err(EventError::Memory);
+    }
+    trace_of_events(alloc, 3, &events, clock, spread)
+}
+
+/// Events with their clock, the steps of their trace, its last tick, and how far they moved.
+type Row = (&'static [Line], Clock, &'static [StepLine], u64, Moved);
+
+const STAYED: Moved = Moved {
+    events: 0,
+    ticks: 0,
+};
+
+const TRACES: &[Row] = &[
+    (TWO_NODES, TICKS_OF_ONE, TWO_NODES_STEPS, 7, STAYED),
+    (
+        BROADCAST,
+        NO_END,
+        &[
+            (1, 1, 1, 2, &[]),
+            (2, 2, 1, 3, &[]),
+            (3, 2, 2, 0, &[1]),
+            (4, 3, 3, 0, &[2]),
+        ],
+        3,
+        Moved {
+            events: 3,
+            ticks: 2,
+        },
+    ),
+    // In the order of their times, not of the file.
+    (
+        &[(12, 2, 0, &[Some(1)]), (10, 1, 2, &[]), (10, 1, 3, &[])],
+        NO_END,
+        &[(1, 1, 1, 2, &[]), (2, 2, 1, 3, &[]), (3, 3, 2, 0, &[1])],
+        3,
+        Moved {
+            events: 1,
+            ticks: 1,
+        },
+    ),
+    // A node's events push one another on.
+    (
+        &[
+            (10, 1, 2, &[]),
+            (10, 1, 2, &[]),
+            (11, 1, 2, &[]),
+            (15, 1, 2, &[]),
+        ],
+        NO_END,
+        &[
+            (1, 1, 1, 2, &[]),
+            (2, 2, 1, 2, &[]),
+            (3, 3, 1, 2, &[]),
+            (4, 6, 1, 2, &[]),
+        ],
+        6,
+        Moved {
+            events: 2,
+            ticks: 1,
+        },
+    ),
+    (
+        &[(0, 1, 2, &[]), (999_999, 1, 2, &[])],
+        NO_END,
+        &[(1, 1, 1, 2, &[]), (2, 1_000_000, 1, 2, &[])],
+        1_000_000,
+        STAYED,
+    ),
+];
+
+#[test]
+fn traces(rt: HostRuntime) -> Result<(), Fail> {
+    for (lines, clock, steps, last, moved) in TRACES {
+        let timed = timed(rt.alloc(), lines, clock, true).map_err(|_| "a trace is due")?;
+        assert_eq!(rt; timed.trace.len(), steps.len());
+        assert_eq!(rt; timed.trace.last_tick(), *last);
+        assert_eq!(rt; timed.moved, *moved);
+        for line in *steps {
+            assert!(rt; has_step(&timed.trace, line), "{line:?}");
+        }
+    }
+    Ok(())
+}
+
+#[test]
+fn without_spread(rt: HostRuntime) -> Result<(), Fail> {
+    let timed = timed(rt.alloc(), TWO_NODES, &TICKS_OF_ONE, false).map_err(|_| "a trace is due")?;
+    assert_eq!(rt; timed.trace.last_tick(), 7);
+    assert_eq!(rt; timed.moved, STAYED);
+    for line in TWO_NODES_STEPS {
+        assert!(rt; has_step(&timed.trace, line), "{line:?}");
+    }
+    Ok(())
+}
+
+/// The first reason, if there is one.
+fn reason(alloc: Global, lines: &[Line], clock: &Clock, spread: bool) -> Option<EventError> {
+    match timed(alloc, lines, clock, spread) {
+        Ok(_) => None,
+        Err(why) => Some(why),
+    }
+}
+
+const TOO_LATE: EventError = EventError::NotLater {
+    event: 0,
+    message: 0,
+    hint: None,
+};
+
+const REASONS: &[(&[Line], Clock, bool, EventError)] = &[
+    (
+        BROADCAST,
+        NO_END,
+        false,
+        EventError::SecondEvent {
+            event: 1,
+            tick: 1,
+            hint: Some(Hint::Spread),
+        },
+    ),
+    (RECEIVED_FIRST, NO_END, false, TOO_LATE),
+    (RECEIVED_FIRST, NO_END, true, TOO_LATE),
+    // Received before it was sent, by the clocks.
+    (
+        &[(10, 2, 0, &[Some(1)]), (11, 1, 2, &[])],
+        NO_END,
+        true,
+        TOO_LATE,
+    ),
+    (
+        &[(10, 1, 2, &[]), (10, 3, 0, &[Some(0)])],
+        NO_END,
+        true,
+        EventError::WrongReceiver {
+            event: 1,
+            message: 0,
+        },
+    ),
+    (
+        &[(10, 1, 2, &[]), (10, 2, 0, &[Some(0), None])],
+        NO_END,
+        true,
+        EventError::NeverSent {
+            event: 1,
+            message: 1,
+        },
+    ),
+    (
+        &[
+            (10, 1, 2, &[]),
+            (10, 2, 0, &[Some(0)]),
+            (11, 2, 0, &[Some(0)]),
+        ],
+        NO_END,
+        true,
+        EventError::ReceivedBefore {
+            event: 2,
+            message: 0,
+        },
+    ),
+    (
+        &[(17, 1, 2, &[])],
+        TICKS_OF_ONE,
+        true,
+        EventError::UntilTooEarly,
+    ),
+    (TWICE_AT_THE_END, NO_END, true, EventError::TooManyTicks),
+    (
+        &[(0, 1, 2, &[]), (999_999, 1, 2, &[])],
+        Clock {
+            width: 1,
+            until: Some(1_000_000),
+        },
+        true,
+        EventError::TooManyTicks,
+    ),
+];
+
+#[test]
+fn reasons(rt: HostRuntime) -> Result<(), Fail> {
+    for (lines, clock, spread, due) in REASONS {
+        let found = reason(rt.alloc(), lines, clock, *spread);
+        assert!(rt;
+            found == Some(*due),
+            "{lines:?}: {found:?} where {due:?} is due"
+        );
+    }
+    Ok(())
+}
