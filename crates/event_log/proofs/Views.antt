@@ -1,7 +1,7 @@
 -- A list of owned names and the list of their bytes.
 use Rattle.std.proofs.Common.{◌≡◌, ℕ, zero, suc, ◌+◌, ◌<◌, arith, length, get_or, Some, None, Bool, true, false, cond, List, [], ◌∷◌, ◌++◌, map, not, ap, refl}
 use Rattle.std.specs.Prelude.{◌||◌, ◌&&◌, nat_lt, if◌then◌else◌, position}
-use Rattle.std.specs.List.{list_all, list_any, position_or_len, prefix_len}
+use Rattle.std.specs.List.{AllZip, list_all, list_any, position_or_len, prefix_len}
 use Rattle.std.proofs.lemmas.List.{map-append, length-map}
 
 -- a test of the elements of a map
@@ -52,3 +52,10 @@ pub list_all-stops : {X : Type 0} (p : X → Bool) (xs : List X) (k : ℕ) (d : 
 list_all-stops p [] k d lt e = absurd (omega (arith, lt))
 list_all-stops p (x ∷ xs) zero d lt e = rw e refl
 list_all-stops p (x ∷ xs) (suc k) d lt e = stops-go (p x) (list_all p xs) (list_all-stops p xs k d (omega (arith, lt)) e)
+
+-- elements that are the same to a view, one by one
+pub map-same : {X Y : Type 0} (f : X → Y) (R : X → X → Type 0) → ((x y : X) → R x y → f y ≡ f x) → (xs ys : List X) → AllZip R xs ys → map f ys ≡ map f xs
+map-same f R same [] [] h = refl
+map-same f R same (x ∷ xs) (y ∷ ys) h = rw (same x y h.0, map-same f R same xs ys h.1) refl
+map-same f R same [] (y ∷ ys) h = absurd h
+map-same f R same (x ∷ xs) [] h = absurd h

@@ -2,9 +2,9 @@
 use Rattle.std.specs.Prelude.{ℕ, ℤ, List, Option, map, position, slice_get}
 use Rattle.std.specs.Option.{option_and_then}
 use Rattle.std.specs.Str.{bytes_eq}
-use Rattle.event_log.specs.declared.events.Event.{Event}
-use Rattle.event_log.specs.declared.events.EventAct.{EventAct}
-use Rattle.event_log.specs.declared.events.EventAct.TheVariants as act
+use Rattle.timed_events.specs.declared.events.Event.{Event}
+use Rattle.timed_events.specs.declared.events.EventAct.{EventAct}
+use Rattle.timed_events.specs.declared.events.EventAct.TheVariants as act
 use Rattle.event_log.specs.declared.naming.KeptEvent.{KeptEvent}
 use Rattle.event_log.specs.declared.naming.KeptAct.{KeptAct}
 use Rattle.event_log.specs.declared.naming.KeptAct.TheVariants as kept

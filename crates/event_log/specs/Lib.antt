@@ -1,5 +1,6 @@
 pub mod Times
 pub mod Columns
+pub mod RefusalTexts
 pub mod Names
 pub mod LogRecords
 pub mod Naming
@@ -8,3 +9,5 @@ pub mod Events
 pub mod Logs
 pub mod SoundLogs
 pub mod Stages
+pub mod Options
+pub mod Imports

@@ -55,6 +55,11 @@ impl Column {
 }
 
 impl fmt::Display for Column {
+    ghost use Rattle.std.specs.Prelude.{Some};
+    ghost use Rattle.event_log.specs.Columns.{name_of};
+
+    ghost output = { λ column. Some (name_of column) };
+
     fn fmt<W: fmt::Write>(&self, f: &mut fmt::Formatter<W>) -> fmt::Result {
         f.write_str(self.name())
     }
@@ -115,7 +120,7 @@ fn stands_twice(header: &ByteRecord, column: Column) -> bool
 }
 
 /// The first place of a column.
-fn place_in(header: &ByteRecord, column: Column) -> Option<usize>
+pub(crate) fn place_in(header: &ByteRecord, column: Column) -> Option<usize>
     ensures place { result ≡ place_in (fields_of header.now) column }
     ensures within { IfSome result (λ i. i < length (fields_of header.now)) }
     ensures fits { IfSome result (λ i. i + 1 < 2 ^ 64) }

@@ -7,26 +7,7 @@ ghost use Rattle.event_log.specs.Names.{parts_of};
 use crate::names::NameSet;
 use crate::naming::{KeptAct, KeptEvent};
 use std::alloc::{AllocError, Global};
-
-/// One event of a log: when it happened, to whom, and what. Its place among the events, from 0, is two less than the
-/// number of its record.
-#[derive(Debug, Drop)]
-pub struct Event {
-    pub time: i128,
-    /// The processor that sent or received, from 1.
-    pub processor: u64,
-    pub act: EventAct,
-}
-
-/// What happened.
-#[derive(Debug, Drop)]
-pub enum EventAct {
-    /// A message was sent to this processor.
-    Send { to: u64 },
-    /// These messages were received, possibly none: each is the place of the event that sent it, or nothing where no event
-    /// did.
-    Receive { messages: Vec<Option<u32>> },
-}
+use timed_events::{Event, EventAct};
 
 /// The events that were kept, with the places of the sends in place of the names of messages.
 pub(crate) fn events_of(

@@ -3,19 +3,25 @@
 #![tactic(auto)]
 
 mod columns;
+mod event_refusals;
 mod events;
+mod imports;
 mod logs;
+mod message_names;
 mod names;
 mod naming;
+mod options;
 mod reading;
 mod records;
+mod refusal_texts;
 mod refusals;
 mod times;
 
 pub use columns::Column;
-pub use events::{Event, EventAct};
+pub use imports::{Import, read_log};
 pub use logs::{NamedEvents, events_of_log};
 pub use names::{Name, NameSet};
+pub use options::{OptionError, Options, read_options};
 pub use reading::MAX_EVENTS;
 pub use refusals::LogError;
 pub use times::{Moment, TimeKind, Width, read_moment, read_width};

@@ -7,12 +7,12 @@ ghost use Rattle.event_log.specs.Naming.{is_memory};
 ghost use Rattle.event_log.specs.SoundLogs.{IsSound};
 ghost use Rattle.event_log.specs.Stages.{staged_log};
 
-use crate::events::Event;
 use crate::names::NameSet;
 use crate::reading::read_names;
 use crate::refusals::LogError;
 use crate::times::TimeKind;
 use std::alloc::Global;
+use timed_events::Event;
 
 /// The events of a log, with numbers in place of names.
 #[derive(Drop)]

@@ -1,6 +1,6 @@
 //! The names of nodes and messages.
 
-ghost use Rattle.std.specs.Prelude.{◌≡◌, ◌<◌, ℕ, List, [], IfSome, IfOk, OnOk, OnErr, is_some, length, not, position};
+ghost use Rattle.std.specs.Prelude.{◌≡◌, ◌<◌, ℕ, List, [], IfSome, IfOk, OnOk, OnErr, is_some, length, not, option_map, position, slice_get};
 ghost use Rattle.std.specs.List.{list_any, position_or_len};
 ghost use Rattle.std.specs.Str.{bytes_eq};
 ghost use Rattle.event_log.specs.Names.{are_message_names, has_name, is_control, is_message_name, is_name, names_in, with_name};
@@ -10,7 +10,6 @@ use indexmap::IndexSet;
 use std::alloc::{AllocError, Global};
 use std::fmt;
 use std::marker::Model;
-use std::str::from_utf8;
 
 /// A name, or several with one space between them.
 #[derive(Debug, Drop)]
@@ -26,7 +25,7 @@ impl Model for Name {
 
 impl Name {
     /// A copy of these bytes.
-    pub(crate) fn new(alloc: Global, bytes: &[u8]) -> Result<Name, AllocError>
+    pub fn new(alloc: Global, bytes: &[u8]) -> Result<Name, AllocError>
         ensures { IfOk result (λ name. name ≡ bytes.now) }
     {
         let bytes = Vec::from_slice(alloc, bytes)?;
@@ -42,10 +41,17 @@ impl Name {
 }
 
 impl fmt::Display for Name {
+    ghost use Rattle.std.specs.Prelude.{Some};
+    ghost use Rattle.event_log.specs.RefusalTexts.{printed};
+
+    ghost output = { λ name. Some (printed name) };
+
+    // (each name of a log is text)
+    #[tactic(auto, unfolding(crate::specs::RefusalTexts::printed))]
     fn fmt<W: fmt::Write>(&self, f: &mut fmt::Formatter<W>) -> fmt::Result {
-        match from_utf8(self.as_bytes()) {
-            Ok(text) => f.write_str(text),
-            Err(_) => Err(fmt::Error),
+        match text_of(self.as_bytes()) {
+            Some(text) => f.write_str(text),
+            None => f.write_str("?"),
         }
     }
 }
@@ -133,6 +139,24 @@ impl NameSet {
         ensures within { IfSome result (λ place. place < length self.now) }
     {
         self.names.get_index_of(name)
+    }
+
+    /// The name at a place.
+    pub fn name_at(&self, place: usize) -> Option<&[u8]>
+        ensures { option_map (λ name. name.now) result ≡ slice_get self.now place }
+    {
+        match self.names.get_index(place) {
+            Some(name) => Some(name.as_slice()),
+            None => None,
+        }
+    }
+
+    /// The same names in the same order.
+    pub(crate) fn copy(&self) -> Result<NameSet, AllocError>
+        ensures { IfOk result (λ set. set ≡ self.now) }
+    {
+        let names = self.names.clone()?;
+        Ok(NameSet { names })
     }
 
     /// Puts a name last, unless it is there, and gives its place and whether it is new.

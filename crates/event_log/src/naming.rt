@@ -7,12 +7,13 @@ ghost use Rattle.event_log.specs.Events.{resolved, seen};
 ghost use Rattle.event_log.specs.LogRecords.{said};
 ghost use Rattle.event_log.specs.Names.{with_name};
 
-use crate::events::{Event, events_of};
+use crate::events::events_of;
 use crate::names::{Name, NameSet};
 use crate::records::{Told, Verb};
 use crate::refusals::LogError;
 use std::alloc::{AllocError, Global};
 use std::marker::Model;
+use timed_events::Event;
 
 /// The greatest number of nodes.
 const MAX_NODES: usize = 64;

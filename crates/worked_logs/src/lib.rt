@@ -2,4 +2,10 @@
 #![tactic(auto)]
 
 #[cfg(test)]
+mod imported_logs;
+#[cfg(test)]
+mod log_options;
+#[cfg(test)]
+mod refused_imports;
+#[cfg(test)]
 mod refused_logs;

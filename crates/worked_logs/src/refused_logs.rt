@@ -1,7 +1,8 @@
 //! Logs that are refused, each with its line, and the events of two that aren't.
 
-use event_log::{Event, EventAct, NameSet, events_of_log};
+use event_log::{NameSet, events_of_log};
 use std::alloc::{AllocError, Global};
+use timed_events::{Event, EventAct};
 
 /// Logs by the reason for which they are refused; of two reasons the first decides.
 const REFUSED: &[(&str, &str)] = &[

@@ -1,0 +1,8 @@
+use Rattle.std.proofs.Common.{◌∙◌, sym}
+use Rattle.event_log.specs.Names.{has_name}
+use Rattle.event_log.proofs.ListedNodes.{not-true, with_name-new}
+use Rattle.event_log.proofs.options.list_node.Goals as goal
+
+pub returns-clause-nodes : goal.returns-clause-nodes
+returns-clause-nodes c =
+    c.in-Ok.ensures.names ∙ with_name-new c.args.nodes.now c.args.name.now (not-true (has_name c.args.nodes.now c.args.name.now) (sym c.in-Ok.ensures.added ∙ c.if-not-is_new.false))

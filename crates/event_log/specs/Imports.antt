@@ -1,0 +1,159 @@
+-- Logs read as traces.
+use Rattle.std.specs.Prelude.{ℕ, ◌≡◌, ◌+◌, ◌-◌, ◌⊎◌, List, [], map, length, Option, Some, None, Result, Ok, Err, option_map, nat_lt, if◌then◌else◌, slice_get, slice_index_or, unwrap_or, ℤ, MatchBool, ⊤}
+use Rattle.std.specs.Borrow.{Bor}
+use Rattle.std.specs.Option.{option_map_or}
+use Rattle.timed_events.specs.declared.events.Event.{Event}
+use Rattle.timed_events.specs.declared.events.EventAct.{EventAct}
+use Rattle.timed_events.specs.declared.events.EventAct.TheVariants as act
+use Rattle.timed_events.specs.declared.events.EventError.{EventError}
+use Rattle.timed_events.specs.declared.events.EventError.TheVariants as refused
+use Rattle.timed_events.specs.declared.events.Clock.{Clock}
+use Rattle.timed_events.specs.Checks.{processor_at, messages_at}
+use Rattle.timed_events.specs.Spreads.{IsTimed, IsTimedRefusal}
+use Rattle.trace_text.specs.Records.{◌>>=◌, records_of_text, field_of}
+use Rattle.event_log.specs.declared.columns.Column.TheVariants as column
+use Rattle.event_log.specs.declared.imports.Import.{Import}
+use Rattle.event_log.specs.declared.options.Options.{Options}
+use Rattle.event_log.specs.declared.refusals.LogError.{LogError}
+use Rattle.event_log.specs.declared.refusals.LogError.TheVariants.{TickUnfit, UntilUnfit, TooManyTicks, NeverSent, WrongReceiver, ReceivedBefore, NotLater, SecondEvent, Memory}
+use Rattle.event_log.specs.declared.times.Moment.{Moment}
+use Rattle.event_log.specs.declared.times.TimeKind.{TimeKind}
+use Rattle.event_log.specs.declared.times.TimeKind.TheVariants as kind
+use Rattle.event_log.specs.declared.times.Width.{Width}
+use Rattle.event_log.specs.declared.times.Width.TheVariants.{Units, Nanoseconds}
+use Rattle.event_log.specs.Columns.{place_in}
+use Rattle.event_log.specs.Events.{seen}
+use Rattle.event_log.specs.Logs.{SeenLog}
+use Rattle.event_log.specs.Names.{parts_of}
+use Rattle.event_log.specs.Naming.{is_memory}
+use Rattle.event_log.specs.Stages.{staged_log}
+
+-- a length above 0
+abbrev pub above_zero : ℕ → Result ℕ LogError
+above_zero n = if nat_lt 0 n then Ok n else Err TickUnfit
+
+-- a duration fits only time stamps
+abbrev pub duration_in : TimeKind → ℕ → Result ℕ LogError
+duration_in kind.Number n = Err TickUnfit
+duration_in kind.Stamp n = above_zero n
+
+-- the length of a tick in the unit of times of this kind; one of 0 fits no times
+abbrev pub width_in : TimeKind → Width → Result ℕ LogError
+width_in k (Units n) = above_zero n
+width_in k (Nanoseconds n) = duration_in k n
+
+abbrev pub time_by : TimeKind → TimeKind → ℤ → Result ℤ LogError
+time_by kind.Number kind.Number x = Ok x
+time_by kind.Stamp kind.Stamp x = Ok x
+time_by k other x = Err UntilUnfit
+
+-- a time, which has to be of this kind
+abbrev pub time_in : TimeKind → Moment → Result ℤ LogError
+time_in k m = time_by k m.kind m.time
+
+-- when a log with times of this kind ends, where that is told
+abbrev pub until_in : TimeKind → Option Moment → Result (Option ℤ) LogError
+until_in k None = Ok None
+until_in k (Some m) = time_in k m >>= λ x. Ok (Some x)
+
+-- the clock of a log with times of this kind
+abbrev pub clock_in : Options → TimeKind → Result Clock LogError
+clock_in o k = width_in k o.width >>= λ w. until_in k o.until >>= λ u. Ok (record { width = w; until = u })
+
+-- a record of a text, from 0 on, which is the header
+abbrev pub record_at : List ℕ → ℕ → List (List ℕ)
+record_at text i = slice_index_or (records_of_text text) i []
+
+-- the place of the column of messages
+abbrev pub message_place : List ℕ → ℕ
+message_place text = unwrap_or (place_in (record_at text 0) column.Message) 0
+
+-- the name of message k of the event at place i, as its record has it
+abbrev pub message_name : List ℕ → ℕ → ℕ → List ℕ
+message_name text i k = slice_index_or (parts_of (field_of (record_at text (i + 1)) (message_place text))) k []
+
+-- the name of a node, by its number
+abbrev pub node_name : List (List ℕ) → ℕ → List ℕ
+node_name nodes p = slice_index_or nodes (p - 1) []
+
+-- the processor to which an event sends; 0 in a receive
+abbrev pub sent_to : EventAct → ℕ
+sent_to (act.Send to) = to
+sent_to (act.Receive messages) = 0
+
+-- the same of the event at a place
+abbrev pub receiver_at : List Event → ℕ → ℕ
+receiver_at events s = option_map_or (λ e. sent_to e.act) (slice_get events s) 0
+
+-- the processor to which message k of the event at place i was sent
+abbrev pub receiver_of : List Event → ℕ → ℕ → ℕ
+receiver_of events i k = option_map_or (receiver_at events) (slice_index_or (messages_at events i) k None) 0
+
+-- the place of the event that a reason names; 0 where it names none
+abbrev pub event_place : EventError → ℕ
+event_place refused.UntilTooEarly = 0
+event_place refused.TooManyTicks = 0
+event_place (refused.NeverSent i k) = i
+event_place (refused.WrongReceiver i k) = i
+event_place (refused.ReceivedBefore i k) = i
+event_place (refused.NotLater i k hint) = i
+event_place (refused.SecondEvent i tick hint) = i
+event_place refused.Memory = 0
+
+-- the refusal of a log for a reason against its events; the record of the event at place i is number i + 2
+abbrev pub error_of : List ℕ → List (List ℕ) → List Event → EventError → LogError
+error_of text nodes events refused.UntilTooEarly = UntilUnfit
+error_of text nodes events refused.TooManyTicks = TooManyTicks
+error_of text nodes events (refused.NeverSent i k) = NeverSent (i + 2) (message_name text i k)
+error_of text nodes events (refused.WrongReceiver i k) = WrongReceiver (i + 2) (message_name text i k) (node_name nodes (receiver_of events i k))
+error_of text nodes events (refused.ReceivedBefore i k) = ReceivedBefore (i + 2) (message_name text i k)
+error_of text nodes events (refused.NotLater i k hint) = NotLater (i + 2) (message_name text i k) hint
+error_of text nodes events (refused.SecondEvent i tick hint) = SecondEvent (i + 2) (node_name nodes (processor_at events i)) tick hint
+error_of text nodes events refused.Memory = Memory
+
+-- the events that the records of a text tell, or why they tell none: where nodes are listed, these are numbered first
+pub record IsRead (o : Options) (text : List ℕ) (answer : Result SeenLog LogError) : Type 0 where
+  pub listed : Option (Bor (List (List ℕ)))
+  pub same : option_map (λ nodes. nodes.now) listed ≡ o.nodes
+  pub staged : staged_log listed (unwrap_or o.nodes []) text ≡ answer
+
+-- the events aren't told for this reason, or for want of memory
+abbrev pub IsReadRefusal : Options → List ℕ → LogError → Type 0
+IsReadRefusal o text why = MatchBool (is_memory why) ⊤ (IsRead o text (Err why))
+
+-- events and a clock, which a text and options tell
+pub record AreEventsOf (o : Options) (text : List ℕ) (log : SeenLog) (events : List Event) (clock : Clock) : Type 0 where
+  pub read : IsRead o text (Ok log)
+  pub same : map seen events ≡ log.events
+  pub fits : clock_in o log.kind ≡ Ok clock
+
+-- The trace is that of the events that the text tells, by the options; the nodes are the processors, in their order.
+pub record IsImportOf (o : Options) (text : List ℕ) (import : Import) : Type 0 where
+  pub log : SeenLog
+  pub events : List Event
+  pub clock : Clock
+  pub told : AreEventsOf o text log events clock
+  pub timed : IsTimed o.spread (length log.nodes) events clock (record { trace = import.trace; moved = import.moved })
+  pub nodes : import.nodes ≡ log.nodes
+
+-- the events are told, and an option doesn't fit their times
+pub record IsUnfit (o : Options) (text : List ℕ) (why : LogError) : Type 0 where
+  pub log : SeenLog
+  pub read : IsRead o text (Ok log)
+  pub unfit : clock_in o log.kind ≡ Err why
+
+-- the events are told, and they make no trace
+pub record IsUntimed (o : Options) (text : List ℕ) (why : LogError) : Type 0 where
+  pub log : SeenLog
+  pub events : List Event
+  pub clock : Clock
+  pub told : AreEventsOf o text log events clock
+  pub reason : EventError
+  pub untimed : IsTimedRefusal o.spread events clock reason
+  pub is : why ≡ error_of text log.nodes events reason
+
+-- why there is no trace: the first refusal of the text, or else of the options by its times, or else of its events; or
+-- want of memory
+abbrev pub IsLogRefusal : Options → List ℕ → LogError → Type 0
+IsLogRefusal o text Memory = ⊤
+IsLogRefusal o text why = IsRead o text (Err why) ⊎ (IsUnfit o text why ⊎ IsUntimed o text why)

@@ -1,0 +1,43 @@
+-- What is told of a refused log.
+use Rattle.std.specs.Prelude.{ℕ, List, ◌++◌, codes, decimal, unwrap_or}
+use Rattle.event_log.specs.declared.refusals.LogError.{LogError}
+use Rattle.event_log.specs.declared.refusals.LogError.TheVariants.{TooLarge, NoColumn, TwoColumns, TooManyEvents, BadFields, BadTime, BadEvent, BadNode, BadMessage, NoEvents, TooManyNodes, SentBefore, TooFewNodes, TickUnfit, UntilUnfit, TooManyTicks, NeverSent, WrongReceiver, ReceivedBefore, NotLater, SecondEvent, Memory}
+use Rattle.event_log.specs.Columns.{name_of}
+use Rattle.event_log.specs.Times.{text_of}
+
+-- a name as it is printed; each name of a log is text
+unfoldable pub printed : List ℕ → List ℕ
+printed name = unwrap_or (text_of name) (codes "?")
+
+-- a refusal of the record of this number
+abbrev pub in_record : ℕ → List ℕ → List ℕ
+in_record number words = codes "record " ++ (decimal number ++ (codes ": " ++ words))
+
+-- a refusal of a message of this record
+abbrev pub of_message : ℕ → List ℕ → List ℕ → List ℕ
+of_message number name words = codes "record " ++ (decimal number ++ (codes ": message " ++ (printed name ++ words)))
+
+-- the line of each refusal
+abbrev pub log_error_text : LogError → List ℕ
+log_error_text TooLarge = codes "text too large"
+log_error_text (NoColumn column) = codes "no column " ++ name_of column
+log_error_text (TwoColumns column) = codes "two columns " ++ name_of column
+log_error_text TooManyEvents = codes "too many events"
+log_error_text (BadFields number) = in_record number (codes "bad fields")
+log_error_text (BadTime number) = in_record number (codes "bad time")
+log_error_text (BadEvent number) = in_record number (codes "bad event")
+log_error_text (BadNode number) = in_record number (codes "bad node")
+log_error_text (BadMessage number) = in_record number (codes "bad message")
+log_error_text NoEvents = codes "no events"
+log_error_text (TooManyNodes number) = in_record number (codes "too many nodes")
+log_error_text (SentBefore number message) = of_message number message (codes " was sent before")
+log_error_text TooFewNodes = codes "too few nodes"
+log_error_text TickUnfit = codes "--tick does not fit the times"
+log_error_text UntilUnfit = codes "--until does not fit the times"
+log_error_text TooManyTicks = codes "too many ticks"
+log_error_text (NeverSent number message) = of_message number message (codes " was never sent")
+log_error_text (WrongReceiver number message node) = of_message number message (codes " is for " ++ printed node)
+log_error_text (ReceivedBefore number message) = of_message number message (codes " was received before")
+log_error_text (NotLater number message hint) = of_message number message (codes " is received no later than it was sent")
+log_error_text (SecondEvent number node tick hint) = codes "record " ++ (decimal number ++ (codes ": a second event of " ++ (printed node ++ (codes " in tick " ++ decimal tick))))
+log_error_text Memory = codes "out of memory"

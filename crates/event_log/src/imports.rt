@@ -1,0 +1,150 @@
+//! Logs read as traces.
+
+ghost use Rattle.std.specs.Prelude.{◌≡◌, ◌<◌, [], Ok, IfErr, IfOk, length, unwrap_or};
+ghost use Rattle.timed_events.specs.Spreads.{IsTimed, IsTimedRefusal};
+ghost use Rattle.event_log.specs.Imports.{IsImportOf, IsLogRefusal, IsRead, IsReadRefusal, above_zero, clock_in, event_place, until_in, width_in};
+ghost use Rattle.event_log.specs.Logs.{seen_log};
+ghost use Rattle.event_log.specs.SoundLogs.{IsSound};
+
+use crate::event_refusals::error_of;
+use crate::logs::{NamedEvents, events_of_log};
+use crate::names::NameSet;
+use crate::options::Options;
+use crate::reading::MAX_EVENTS;
+use crate::refusals::LogError;
+use crate::times::{Moment, TimeKind, Width};
+use std::alloc::{AllocError, Global};
+use step_trace::Trace;
+use timed_events::{Clock, EventError, Moved, TimedTrace, trace_of_events};
+
+/// A log read as a trace.
+#[derive(Drop)]
+pub struct Import {
+    /// The trace in ticks.
+    pub trace: Trace,
+    /// The nodes: a processor's number is its node's place and 1.
+    pub nodes: NameSet,
+    /// How far events went from the ticks of their times.
+    pub moved: Moved,
+}
+
+/// Reads a log as a trace: each event is one step, in the tick of its time or, where events may be spread, as little later
+/// as need be.
+///
+/// Refuses in the order of `LogError`.
+pub fn read_log(alloc: Global, text: &[u8], options: &Options) -> Result<Import, LogError>
+    ensures import { IfOk result (λ import. IsImportOf options.now text.now import) }
+    ensures refused { IfErr result (λ why. IsLogRefusal options.now text.now why) }
+{
+    let log = match events_by(alloc, text, options) {
+        Ok(log) => log,
+        Err(why) => return Err(why),
+    };
+    let clock = match clock_for(options, log.kind) {
+        Ok(clock) => clock,
+        Err(why) => return Err(why),
+    };
+    match trace_of_log(alloc, &log, &clock, options.spread) {
+        Ok(timed) => Ok(Import {
+            trace: timed.trace,
+            nodes: log.nodes,
+            moved: timed.moved,
+        }),
+        Err(why) => Err(error_of(alloc, text, &log.nodes, log.events.as_slice(), why)),
+    }
+}
+
+/// The events that a log records, whose nodes are the listed ones where nodes are listed.
+fn events_by(alloc: Global, text: &[u8], options: &Options) -> Result<NamedEvents, LogError>
+    ensures read { IfOk result (λ log. IsRead options.now text.now (Ok (seen_log log))) }
+    ensures sound { IfOk result (λ log. IsSound (seen_log log)) }
+    ensures refused { IfErr result (IsReadRefusal options.now text.now) }
+{
+    let Ok(nodes) = numbered_first(alloc, options) else {
+        return Err(LogError::Memory);
+    };
+    events_of_log(alloc, text, options.nodes.as_ref(), nodes)
+}
+
+/// The nodes that are numbered before those that the log names.
+fn numbered_first(alloc: Global, options: &Options) -> Result<NameSet, AllocError>
+    ensures { IfOk result (λ nodes. nodes ≡ unwrap_or options.now.nodes []) }
+{
+    match &options.nodes {
+        Some(nodes) => nodes.copy(),
+        None => Ok(NameSet::new(alloc)),
+    }
+}
+
+/// How the times of this kind become ticks.
+///
+/// Refuses TickUnfit and UntilUnfit, in this order.
+fn clock_for(options: &Options, kind: TimeKind) -> Result<Clock, LogError>
+    ensures clock { result ≡ clock_in options.now kind }
+    ensures width { IfOk result (λ clock. 0 < clock.width) }
+{
+    let width = width_for(kind, options.width)?;
+    let until = until_for(kind, options.until)?;
+    Ok(Clock { width, until })
+}
+
+/// The length of a tick in the unit of times of this kind.
+fn width_for(kind: TimeKind, width: Width) -> Result<u128, LogError>
+    ensures width { result ≡ width_in kind width }
+    ensures above { IfOk result (λ units. 0 < units) }
+{
+    match width {
+        Width::Units(units) => above_zero(u128::from(units)),
+        Width::Nanoseconds(nanoseconds) => match kind {
+            TimeKind::Number => Err(LogError::TickUnfit),
+            TimeKind::Stamp => above_zero(nanoseconds),
+        },
+    }
+}
+
+/// A length, which has to be above 0.
+fn above_zero(units: u128) -> Result<u128, LogError>
+    ensures is { result ≡ above_zero units }
+    ensures above { IfOk result (λ units. 0 < units) }
+{
+    if units == 0 {
+        return Err(LogError::TickUnfit);
+    }
+    Ok(units)
+}
+
+/// When a log with times of this kind ends, if that is told.
+fn until_for(kind: TimeKind, until: Option<Moment>) -> Result<Option<i128>, LogError>
+    ensures { result ≡ until_in kind until }
+{
+    let Some(moment) = until else {
+        return Ok(None);
+    };
+    match (kind, moment.kind) {
+        (TimeKind::Number, TimeKind::Number) => Ok(Some(moment.time)),
+        (TimeKind::Stamp, TimeKind::Stamp) => Ok(Some(moment.time)),
+        _ => Err(LogError::UntilUnfit),
+    }
+}
+
+/// The trace of the events of a log.
+fn trace_of_log(
+    alloc: Global,
+    log: &NamedEvents,
+    clock: &Clock,
+    spread: bool,
+) -> Result<TimedTrace, EventError>
+    requires sound { IsSound (seen_log log.now) }
+    requires width { 0 < clock.now.width }
+    ensures trace { IfOk result (λ timed. IsTimed spread (length log.now.nodes) log.now.events.items clock.now timed) }
+    ensures refused { IfErr result (λ why. IsTimedRefusal spread log.now.events.items clock.now why) }
+    ensures place { IfErr result (λ why. event_place why < MAX_EVENTS) }
+{
+    trace_of_events(
+        alloc,
+        log.nodes.len() as u64,
+        log.events.as_slice(),
+        clock,
+        spread,
+    )
+}

@@ -1,0 +1,147 @@
+//! How a log is read.
+
+ghost use Rattle.std.specs.Prelude.{◌≡◌, ◌∷◌, [], ◌++◌, IfErr, IfOk, IfSome, OnOk, option_map, true, false, None};
+ghost use Rattle.event_log.specs.Options.{AreNodes, AreNodesIn, AreOptions, HasBadNodes, HasBadTick, HasBadUntil, IsNodeFault, IsOptionFault, IsUntilIn, IsWidthIn, is_next_node, parts_between_commas};
+
+use crate::names::{NameSet, is_name};
+use crate::times::{Moment, Width, read_moment, read_width};
+use std::alloc::Global;
+
+/// The greatest number of nodes.
+const MAX_NODES: usize = 64;
+
+/// How a log is read.
+#[derive(Drop)]
+pub struct Options {
+    /// The nodes, in the order of their numbers; where they aren't listed, they are numbered as the log names them.
+    pub nodes: Option<NameSet>,
+    /// The length of a tick. One of 0 fits no times.
+    pub width: Width,
+    /// When the log ends, if not with its last event.
+    pub until: Option<Moment>,
+    /// Whether events may go to later ticks than those of their times.
+    pub spread: bool,
+}
+
+/// Why texts tell no options, in the order in which they are looked at.
+#[derive(Clone, Copy, Debug, PartialEq, Eq)]
+pub enum OptionError {
+    /// The nodes aren't 2 to 64 different names with one comma between each two.
+    Nodes,
+    /// The length of a tick is neither a number nor a duration, or isn't above 0.
+    Tick,
+    /// The end is neither a number nor a time stamp.
+    Until,
+    /// There was no memory.
+    Memory,
+}
+
+/// The options that texts tell: the nodes with one comma between each two; the length of a tick, which is 1 where it is left
+/// out; and when the log ends.
+///
+/// Refuses in the order of `OptionError`.
+pub fn read_options(
+    alloc: Global,
+    nodes: Option<&str>,
+    tick: Option<&str>,
+    until: Option<&str>,
+    spread: bool,
+) -> Result<Options, OptionError>
+    ensures options { IfOk result (λ o. AreOptions (option_map (λ t. t.now) nodes.entry) (option_map (λ t. t.now) tick.entry) (option_map (λ t. t.now) until.entry) spread o) }
+    ensures refused { IfErr result (λ why. IsOptionFault (option_map (λ t. t.now) nodes.entry) (option_map (λ t. t.now) tick.entry) (option_map (λ t. t.now) until.entry) why) }
+{
+    let nodes = match listed_nodes(alloc, nodes) {
+        Ok(nodes) => nodes,
+        Err(why) => return Err(why),
+    };
+    let Some(width) = told_width(tick) else {
+        return Err(OptionError::Tick);
+    };
+    let Some(until) = told_end(until) else {
+        return Err(OptionError::Until);
+    };
+    Ok(Options {
+        nodes,
+        width,
+        until,
+        spread,
+    })
+}
+
+/// The nodes that a text lists, if there is one.
+fn listed_nodes(alloc: Global, text: Option<&str>) -> Result<Option<NameSet>, OptionError>
+    ensures listed { IfOk result (λ nodes. AreNodesIn (option_map (λ t. t.now) text.entry) nodes) }
+    ensures refused { IfErr result (IsNodeFault (HasBadNodes (option_map (λ t. t.now) text.entry))) }
+{
+    let Some(text) = text else {
+        return Ok(None);
+    };
+    match node_list(alloc, text.as_bytes()) {
+        Ok(nodes) => Ok(Some(nodes)),
+        Err(why) => Err(why),
+    }
+}
+
+/// The length of a tick that a text tells; 1 where there is none.
+fn told_width(text: Option<&str>) -> Option<Width>
+    ensures width { IfSome result (IsWidthIn (option_map (λ t. t.now) text.entry)) }
+    ensures refused { result ≡ None → HasBadTick (option_map (λ t. t.now) text.entry) }
+{
+    match text {
+        Some(text) => read_width(text),
+        None => Some(Width::Units(1)),
+    }
+}
+
+/// The end of the log that a text tells, if there is one.
+fn told_end(text: Option<&str>) -> Option<Option<Moment>>
+    ensures end { IfSome result (IsUntilIn (option_map (λ t. t.now) text.entry)) }
+    ensures refused { result ≡ None → HasBadUntil (option_map (λ t. t.now) text.entry) }
+{
+    let Some(text) = text else {
+        return Some(None);
+    };
+    match read_moment(text.as_bytes()) {
+        Some(moment) => Some(Some(moment)),
+        None => None,
+    }
+}
+
+/// The nodes whose names are the parts of a text between its commas.
+fn node_list(alloc: Global, text: &[u8]) -> Result<NameSet, OptionError>
+    ensures listed { IfOk result (λ nodes. AreNodes (parts_between_commas text.now) × (nodes ≡ parts_between_commas text.now)) }
+    ensures refused { IfErr result (IsNodeFault (¬ AreNodes (parts_between_commas text.now))) }
+{
+    let mut nodes = NameSet::new(alloc);
+    for name in text.split(|byte| *byte == b',') {
+        match list_node(alloc, &mut nodes, name) {
+            Ok(()) => {}
+            Err(why) => return Err(why),
+        }
+    }
+    if nodes.len() < 2 {
+        return Err(OptionError::Nodes);
+    }
+    Ok(nodes)
+}
+
+/// Puts one more node last.
+fn list_node(alloc: Global, nodes: &mut NameSet, name: &[u8]) -> Result<(), OptionError>
+    ensures nodes { OnOk result (nodes.new ≡ nodes.old ++ name.now ∷ []) }
+    ensures next { OnOk result (is_next_node nodes.old name.now ≡ true) }
+    ensures refused { IfErr result (IsNodeFault (is_next_node nodes.old name.now ≡ false)) }
+{
+    if !is_name(name) {
+        return Err(OptionError::Nodes);
+    }
+    if nodes.len() >= MAX_NODES {
+        return Err(OptionError::Nodes);
+    }
+    let Ok((_, is_new)) = nodes.add(alloc, name) else {
+        return Err(OptionError::Memory);
+    };
+    if !is_new {
+        return Err(OptionError::Nodes);
+    }
+    Ok(())
+}

@@ -1,0 +1,269 @@
+//! The traces of logs.
+
+use event_log::{Import, LogError, OptionError, read_log, read_options};
+use std::alloc::Global;
+use step_trace::{Act, Trace};
+use timed_events::Hint;
+
+/// What is asked of a log: the nodes, the length of a tick, the end, and whether events may be spread.
+type Asked = (
+    Option<&'static str>,
+    Option<&'static str>,
+    Option<&'static str>,
+    bool,
+);
+
+/// A step in one line: its number, tick and processor, whom it sends to (0: it receives), and its ids.
+type StepLine = (u64, u64, u64, u64, &'static [u64]);
+
+/// Two nodes: b sends m2 to a, and a sends m1 to b.
+const TWO_NODES: &str =
+    "time,node,event,to,message\n10,b,send,a,m2\n10,a,send,b,m1\n13,a,receive,,m2\n13,b,receive,,\n15,b,receive,,m1\n";
+
+/// The same with other columns, line ends, quotes and records.
+const TWO_NODES_TURNED: &str =
+    "\u{FEFF}more,message,to,event,node,time\r\n\r\n1,m1,,receive,\"b\",15\r\n,m1,b,\"send\",a,10\r\n\
+    \"x,\ny\",m2,a,send,b,10\r\n,,,receive,b,13\r\n\r\n,m2,,receive,a,13";
+
+/// The same in time stamps: ten thousandths of a second after a second, and so on.
+const TWO_NODES_STAMPS: &str =
+    "time,node,event,to,message\n2026-11-22T10:00:01.010Z,b,send,a,m2\n2026-11-22T11:30:01.010+01:30,a,send,b,m1\n\
+    2026-11-22T10:00:01.013Z,a,receive,,m2\n2026-11-22T10:00:01.013Z,b,receive,,\n\
+    2026-11-22T11:30:01.015+01:30,b,receive,,m1\n";
+
+const TWO_NODES_STEPS: &[StepLine] = &[
+    (1, 1, 1, 2, &[]),
+    (2, 1, 2, 1, &[]),
+    (3, 4, 1, 0, &[2]),
+    (4, 4, 2, 0, &[]),
+    (5, 6, 2, 0, &[1]),
+];
+
+/// The same where b is processor 1.
+const TWO_NODES_STEPS_OF_B: &[StepLine] = &[
+    (1, 1, 1, 2, &[]),
+    (2, 1, 2, 1, &[]),
+    (3, 4, 1, 0, &[]),
+    (4, 4, 2, 0, &[1]),
+    (5, 6, 1, 0, &[2]),
+];
+
+const SPREAD: &str =
+    "time,node,event,to,message\n10,a,send,b,m1\n10,a,send,c,m2\n10,b,receive,,m1\n10,c,receive,,m2\n";
+
+const SPREAD_STEPS: &[StepLine] = &[
+    (1, 1, 1, 2, &[]),
+    (2, 2, 1, 3, &[]),
+    (3, 2, 2, 0, &[1]),
+    (4, 3, 3, 0, &[2]),
+];
+
+/// The records of a message's send and its receive the other way round.
+const TURNED_ROUND: &str = "time,node,event,to,message\n10,b,receive,,m1\n10,a,send,b,m1\n";
+
+/// A log, what is asked of it, how many nodes and steps, the last tick, how many events moved, and how far at most.
+type Imported = (&'static str, Asked, u64, &'static [StepLine], u64, u64, u64);
+
+const IMPORTED: &[Imported] = &[
+    (
+        TWO_NODES,
+        (Some("a,b"), None, Some("16"), false),
+        2,
+        TWO_NODES_STEPS,
+        7,
+        0,
+        0,
+    ),
+    (
+        TWO_NODES,
+        (None, None, Some("16"), false),
+        2,
+        TWO_NODES_STEPS_OF_B,
+        7,
+        0,
+        0,
+    ),
+    (
+        TWO_NODES_TURNED,
+        (Some("a,b"), Some("1"), Some("16"), false),
+        2,
+        TWO_NODES_STEPS,
+        7,
+        0,
+        0,
+    ),
+    (
+        TWO_NODES_STAMPS,
+        (
+            Some("a,b"),
+            Some("1ms"),
+            Some("2026-11-22T10:00:01.016Z"),
+            false,
+        ),
+        2,
+        TWO_NODES_STEPS,
+        7,
+        0,
+        0,
+    ),
+    // The same length in nanoseconds.
+    (
+        TWO_NODES_STAMPS,
+        (
+            Some("a,b"),
+            Some("1000000"),
+            Some("2026-11-22T10:00:01.016Z"),
+            false,
+        ),
+        2,
+        TWO_NODES_STEPS,
+        7,
+        0,
+        0,
+    ),
+    // A node without an event.
+    (
+        TWO_NODES,
+        (Some("a,b,c"), None, None, false),
+        3,
+        TWO_NODES_STEPS,
+        6,
+        0,
+        0,
+    ),
+    // The ends of 64 bits, and a node that is only sent to.
+    (
+        "time,node,event,to,message\n0,a,send,b,m\n18446744073709551615,a,receive,,\n",
+        (None, Some("18446744073709551615"), None, false),
+        2,
+        &[(1, 1, 1, 2, &[]), (2, 2, 1, 0, &[])],
+        2,
+        0,
+        0,
+    ),
+    // The last tick of all.
+    (
+        "time,node,event,to,message\n0,a,send,b,m\n999999,b,receive,,m\n",
+        (None, None, None, false),
+        2,
+        &[(1, 1, 1, 2, &[]), (2, 1_000_000, 2, 0, &[1])],
+        1_000_000,
+        0,
+        0,
+    ),
+];
+
+const IMPORTED_SPREAD: &[Imported] = &[
+    (SPREAD, (None, None, None, true), 3, SPREAD_STEPS, 3, 3, 2),
+    (
+        TWO_NODES,
+        (Some("a,b"), None, Some("16"), true),
+        2,
+        TWO_NODES_STEPS,
+        7,
+        0,
+        0,
+    ),
+];
+
+fn has_step(trace: &Trace, line: &StepLine) -> bool {
+    let &(no, tick, proc, to, ids) = line;
+    if no < 1 || trace.len() < no as usize || trace.tick(no) != tick {
+        return false;
+    }
+    match trace.step(no) {
+        Some(step) => {
+            step.proc == proc
+                && match &step.act {
+                    Act::Send { to: there } => *there == to,
+                    Act::Receive { ends, ids: taken } => {
+                        to == 0 && !*ends && taken.as_slice() == ids
+                    }
+                }
+        }
+        None => false,
+    }
+}
+
+/// The import of a log, or why it is refused.
+fn import(alloc: Global, text: &str, asked: &Asked) -> Result<Import, LogError> {
+    let &(nodes, tick, until, spread) = asked;
+    match read_options(alloc, nodes, tick, until, spread) {
+        Ok(options) => read_log(alloc, text.as_bytes(), &options),
+        Err(OptionError::Memory) => Err(LogError::Memory),
+        Err(_) => Err(LogError::TickUnfit),
+    }
+}
+
+/// Whether a log makes this trace.
+fn is_imported(alloc: Global, case: &Imported) -> bool {
+    let &(text, asked, nodes, steps, last, events, ticks) = case;
+    let Ok(import) = import(alloc, text, &asked) else {
+        return false;
+    };
+    for line in steps {
+        if !has_step(&import.trace, line) {
+            return false;
+        }
+    }
+    import.trace.len() == steps.len()
+        && import.trace.last_tick() == last
+        && import.trace.config().n() == nodes
+        && import.nodes.len() as u64 == nodes
+        && import.moved.events == events
+        && import.moved.ticks == ticks
+}
+
+#[test]
+fn imports(rt: HostRuntime) {
+    for case in IMPORTED {
+        assert!(rt; is_imported(rt.alloc(), case), "{case:?}");
+    }
+}
+
+#[test]
+fn spreads(rt: HostRuntime) {
+    for case in IMPORTED_SPREAD {
+        assert!(rt; is_imported(rt.alloc(), case), "{case:?}");
+    }
+}
+
+#[test]
+fn numbers_nodes(rt: HostRuntime) {
+    let is_first = match import(rt.alloc(), TWO_NODES, &(None, None, None, false)) {
+        Ok(import) => {
+            import.nodes.place_of(b"b") == Some(0) && import.nodes.place_of(b"a") == Some(1)
+        }
+        Err(_) => false,
+    };
+    assert!(rt; is_first);
+}
+
+/// What a refusal is about, so far as spreading goes: its record, and what would help.
+fn told(answer: &Result<Import, LogError>) -> Option<(u64, Option<Hint>)> {
+    match answer {
+        Err(LogError::NotLater(record, _, hint)) => Some((*record, *hint)),
+        Err(LogError::SecondEvent(record, _, _, hint)) => Some((*record, *hint)),
+        Err(LogError::TooManyTicks) => Some((0, None)),
+        _ => None,
+    }
+}
+
+#[test]
+fn refuses_what_spreading_mends(rt: HostRuntime) {
+    let still = (None, None, None, false);
+    let answer = import(rt.alloc(), SPREAD, &still);
+    assert_eq!(rt; told(&answer), Some((3, Some(Hint::Spread))));
+    let answer = import(rt.alloc(), TURNED_ROUND, &still);
+    assert_eq!(rt; told(&answer), Some((2, None)));
+}
+
+#[test]
+fn refuses_what_spreading_does_not_mend(rt: HostRuntime) {
+    let spread = (None, None, None, true);
+    let answer = import(rt.alloc(), TURNED_ROUND, &spread);
+    assert_eq!(rt; told(&answer), Some((2, None)));
+    let late = "time,node,event,to,message\n0,a,send,b,m\n999999,a,send,b,n\n999999,a,send,b,o\n";
+    let answer = import(rt.alloc(), late, &spread);
+    assert_eq!(rt; told(&answer), Some((0, None)));
+}

@@ -1,0 +1,150 @@
+//! Options as texts tell them.
+
+use event_log::{Moment, OptionError, Options, TimeKind, Width, read_options};
+use std::alloc::{AllocError, Global};
+
+/// Lists that aren't 2 to 64 different names.
+const BAD_NODES: &[&str] = &["", "a", "a,", ",a", "a,,b", "a,b,a", "a,b\t", "a,\u{7F}"];
+
+const BAD_TICKS: &[&str] = &[
+    "",
+    "0",
+    "007",
+    "+7",
+    "7.5",
+    "-7",
+    "18446744073709551616",
+    "-5ms",
+    "0s",
+    "5 parsecs",
+];
+
+const BAD_ENDS: &[&str] = &[
+    "",
+    "007",
+    "-1",
+    "7.5",
+    "18446744073709551616",
+    "2026-11-22",
+    "5ms",
+];
+
+/// The refusal of three texts, if they are refused.
+fn refusal(
+    alloc: Global,
+    nodes: Option<&str>,
+    tick: Option<&str>,
+    until: Option<&str>,
+) -> Option<OptionError> {
+    match read_options(alloc, nodes, tick, until, false) {
+        Ok(_) => None,
+        Err(why) => Some(why),
+    }
+}
+
+#[test]
+fn refuses_in_order(rt: HostRuntime) {
+    let alloc = rt.alloc();
+    for nodes in BAD_NODES {
+        let why = refusal(alloc, Some(nodes), Some("0"), Some("x"));
+        assert_eq!(rt; why, Some(OptionError::Nodes), "{nodes}");
+    }
+    for tick in BAD_TICKS {
+        let why = refusal(alloc, Some("a,b"), Some(tick), Some("x"));
+        assert_eq!(rt; why, Some(OptionError::Tick), "{tick}");
+    }
+    for until in BAD_ENDS {
+        let why = refusal(alloc, None, None, Some(until));
+        assert_eq!(rt; why, Some(OptionError::Until), "{until}");
+    }
+}
+
+/// So many names, with a comma between each two.
+fn long_list(alloc: Global, count: u64) -> Result<String, AllocError> {
+    let mut list = String::new(alloc);
+    for place in 0..count {
+        let comma = if place == 0 { "" } else { "," };
+        list.push_str(format!(in alloc; "{comma}n{place}")?.as_str())?;
+    }
+    Ok(list)
+}
+
+#[test]
+fn sixty_four_nodes(rt: HostRuntime) -> Result<(), AllocError> {
+    let alloc = rt.alloc();
+    let most = long_list(alloc, 64)?;
+    assert_eq!(rt; refusal(alloc, Some(most.as_str()), None, None), None);
+    let more = long_list(alloc, 65)?;
+    assert_eq!(rt;
+        refusal(alloc, Some(more.as_str()), None, None),
+        Some(OptionError::Nodes)
+    );
+    Ok(())
+}
+
+/// Whether the nodes are `b a` and the Greek letter pi, in this order.
+fn are_listed(options: &Options) -> bool {
+    match &options.nodes {
+        Some(nodes) => {
+            nodes.len() == 2
+                && nodes.name_at(0) == Some(b"b a".as_slice())
+                && nodes.name_at(1) == Some("π".as_bytes())
+                && nodes.name_at(2).is_none()
+        }
+        None => false,
+    }
+}
+
+fn is_in_units(width: Width, due: u64) -> bool {
+    match width {
+        Width::Units(units) => units == due,
+        Width::Nanoseconds(_) => false,
+    }
+}
+
+fn is_in_nanoseconds(width: Width, due: u128) -> bool {
+    match width {
+        Width::Units(_) => false,
+        Width::Nanoseconds(nanoseconds) => nanoseconds == due,
+    }
+}
+
+fn is_stamp(until: Option<Moment>, due: i128) -> bool {
+    match until {
+        Some(moment) => match moment.kind {
+            TimeKind::Stamp => moment.time == due,
+            TimeKind::Number => false,
+        },
+        None => false,
+    }
+}
+
+#[test]
+fn reads_all(rt: HostRuntime) {
+    let nodes = Some("b a,π");
+    let until = Some("1970-01-01T00:00:01.5Z");
+    let is_read = match read_options(rt.alloc(), nodes, Some("1m 30s"), until, true) {
+        Ok(options) => {
+            are_listed(&options)
+                && is_in_nanoseconds(options.width, 90_000_000_000)
+                && is_stamp(options.until, 1_500_000_000)
+                && options.spread
+        }
+        Err(_) => false,
+    };
+    assert!(rt; is_read);
+}
+
+#[test]
+fn leaves_out_all(rt: HostRuntime) {
+    let is_read = match read_options(rt.alloc(), None, None, None, false) {
+        Ok(options) => {
+            options.nodes.is_none()
+                && is_in_units(options.width, 1)
+                && options.until.is_none()
+                && !options.spread
+        }
+        Err(_) => false,
+    };
+    assert!(rt; is_read);
+}
