@@ -1,6 +1,6 @@
 -- What holds of each command: its words ask for one thing, what is asked for below it is what the line gives, and a
 -- plain line of it asks for that and has no fault.
-use Rattle.std.proofs.Common.{ℕ, ◌≡◌, ◌∙◌, inl, inr, ap, sym, subst, refl, false, List, [], ◌∷◌, Option, Some, None, Result, Ok, Err, IfOk, IfErr, codes, string_bytes, arith}
+use Rattle.std.proofs.Common.{ℕ, ◌≡◌, ◌∙◌, inl, inr, ap, sym, subst, refl, Bool, true, false, List, [], ◌∷◌, Option, Some, None, Result, Ok, Err, IfOk, IfErr, codes, string_bytes, arith}
 use Rattle.std.specs.Str.{bytes_eq}
 use Rattle.std.specs.Str.Parse.{digits_value, without_leading_plus}
 use Rattle.std.proofs.lemmas.Slice.Eq.{bytes_eq-Decides}
@@ -11,8 +11,8 @@ use Rattle.command_line.specs.declared.jobs.Job.TheVariants as job
 use Rattle.command_line.specs.declared.jobs.report.TheConstants.{MAX_WORKERS}
 use Rattle.command_line.specs.declared.line_errors.LineError.{LineError}
 use Rattle.command_line.specs.declared.line_errors.LineError.TheVariants as unread
-use Rattle.command_line.specs.Arguments.{HasNumber, HasOptionalNumber, IsLineFault, is_flag}
-use Rattle.command_line.specs.Commands.{AreCheckRows, AreDrawRows, AreReportRows, AreRowsOf, AreRunRows, Asked, Check, Draw, IsJobFor, IsRefusalFor, Replay, Report, Run, Upgrade, check_line, command_of, draw_line, replay_line, report_line, upgrade_line}
+use Rattle.command_line.specs.Arguments.{HasFlag, HasNumber, HasOptionalNumber, IsLineFault, is_flag}
+use Rattle.command_line.specs.Commands.{AreCheckRows, AreDrawRows, AreImportRows, AreReportRows, AreRowsOf, AreRunRows, Asked, Check, Draw, Import, IsJobFor, IsRefusalFor, Replay, Report, Run, Upgrade, check_line, command_of, draw_line, import_line, replay_line, report_line, upgrade_line}
 use Rattle.command_line.specs.Jobs.{IsAnswerIn, IsJobIn, IsRefusalIn, Names, NamesNoJob}
 use Rattle.command_line.proofs.PlainWords.{IsPlain, after_value, after_word, at_end, plain_line, shape_of_command}
 
@@ -35,6 +35,13 @@ one_optional rows name least most None (Some w) a b = let has = b.text_is in cc
 one_optional rows name least most (Some v) None a b = let has = a.text_is in cc
 one_optional rows name least most (Some v) (Some w) a b = ap (λ n. Some n) (one_number rows name least most v w a b)
 
+-- a flag was given or it wasn't
+one_flag : (rows : List Row) (name : Text) (v w : Bool) → HasFlag rows name v → HasFlag rows name w → v ≡ w
+one_flag rows name true true a b = refl
+one_flag rows name true false a b = absurd (apart (codes "true") (codes "false") (same_some _ _ (sym a ∙ b)) refl)
+one_flag rows name false true a b = absurd (apart (codes "true") (codes "false") (same_some _ _ (sym b ∙ a)) refl)
+one_flag rows name false false a b = refl
+
 -- the rows below one command ask for one thing
 pub one_asked : (rows : List Row) (a b : Asked) → command_of a ≡ command_of b → AreRowsOf a rows → AreRowsOf b rows → a ≡ b
 one_asked rows (Report f l v) (Report g m w) e a b = cc (one_number rows _ _ _ v w a.workers_is b.workers_is)
@@ -50,6 +57,7 @@ one_asked rows (Run n t vs p s f) (Run m u ws q r g) e a b = cc (
 one_asked rows (Upgrade f) (Upgrade g) e a b = cc
 one_asked rows (Check f c l) (Check g d m) e a b = cc
 one_asked rows (Draw f l u v n) (Draw g m x y k) e a b = cc (one_optional rows _ _ _ u x a.from_is b.from_is, one_optional rows _ _ _ v y a.to_is b.to_is, a.names_is, b.names_is)
+one_asked rows (Import l n t u s) (Import m o v w r) e a b = cc (one_flag rows _ s r a.spread_is b.spread_is, a.nodes_is, b.nodes_is, a.tick_is, b.tick_is, a.until_is, b.until_is)
 one_asked rows a b e _ _ = absurd (apart (command_of a) (command_of b) e refl)
 
 -- what is asked for below a command gives what the line gives
@@ -105,6 +113,11 @@ pub no_draw : (rows : List Row) → ((file list : Text) (from to : Option ℕ) (
 no_draw rows none (Draw f l u v n) h = none f l u v n (rows_below _ rows (Draw f l u v n) h)
 no_draw rows none a h = elsewhere _ rows a h refl
 
+pub no_import : (rows : List Row) → ((log : Text) (nodes tick until : Option Text) (spread : Bool) → ¬ AreImportRows rows log nodes tick until spread)
+    → NamesNoJob (Some (codes "import", rows))
+no_import rows none (Import l n t u s) h = none l n t u s (rows_below _ rows (Import l n t u s) h)
+no_import rows none a h = elsewhere _ rows a h refl
+
 -- one worker, where the rows have the text that stands for no other number
 one_worker : (rows : List Row) → first_of (codes "workers") rows ≡ Some (codes "1") → HasNumber rows (codes "workers") 1 MAX_WORKERS 1
 one_worker rows has =
@@ -140,3 +153,9 @@ unfolding clap_on_literals
 plain_draw name file list plain_file plain_list = plain_line (shape_of_command (codes "draw")) (file ∷ codes "--correct" ∷ list ∷ []) _ (Draw file list None None None) _
     (after_value _ _ file _ _ plain_file refl refl refl refl (after_word _ _ _ (codes "--correct") _ _ refl refl (after_value _ _ list _ _ plain_list refl refl refl refl (at_end _ _))))
     refl (record { file_is = refl; list_is = refl; from_is = refl; to_is = refl; names_is = refl }) refl refl refl
+
+pub plain_import : (name log : Text) → is_flag log ≡ false → IsPlain (import_line name log) (Import log None None None false)
+unfolding clap_on_literals
+plain_import name log plain_log = plain_line (shape_of_command (codes "import")) (log ∷ []) _ (Import log None None None false) _
+    (after_value _ _ log _ _ plain_log refl refl refl refl (at_end _ _))
+    refl (record { log_is = refl; nodes_is = refl; tick_is = refl; until_is = refl; spread_is = refl }) refl refl refl

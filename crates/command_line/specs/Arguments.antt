@@ -3,7 +3,7 @@ use Rattle.std.specs.Prelude.{ℕ, ◌≡◌, ◌≢◌, ◌≤◌, Bool, false,
 use Rattle.std.specs.Str.Parse.{IsNumeral, digits_value, without_leading_plus}
 use Rattle.clap.specs.Words.{App, Row, Rule, Text, app_of, first_of, new_rule, rule_of}
 use Rattle.clap.specs.declared.builder.Arg.{Arg}
-use Rattle.clap.specs.declared.builder.ArgAction.TheVariants.{Set}
+use Rattle.clap.specs.declared.builder.ArgAction.TheVariants.{Set, SetTrue}
 use Rattle.clap.specs.declared.builder.Command.{Command}
 use Rattle.clap.specs.declared.builder.Command.TheViews.{out-Command}
 use Rattle.clap.specs.declared.builder.value_parser.ValueParser.TheVariants as vp
@@ -33,6 +33,14 @@ option_rule name = record (new_rule name) { long = Some name; action = Some Set;
 abbrev pub number_rule : Text → ℕ → ℕ → Rule
 number_rule name least most = record (option_rule name) { parser = Some (vp.Unsigned least most) }
 
+-- --NAME VALUE, which may be left out
+abbrev pub optional_rule : Text → Rule
+optional_rule name = record (new_rule name) { long = Some name; action = Some Set; value_names = 1 }
+
+-- --NAME, which takes no value
+abbrev pub flag_rule : Text → Rule
+flag_rule name = record (new_rule name) { long = Some name; action = Some SetTrue }
+
 -- --correct LIST
 abbrev pub correct_rule : Rule
 correct_rule = option_rule (codes "correct")
@@ -50,6 +58,11 @@ pub record HasNumber (rows : List Row) (name : Text) (least most value : ℕ) : 
 abbrev pub HasOptionalNumber : List Row → Text → ℕ → ℕ → Option ℕ → Type 0
 HasOptionalNumber rows name least most None = first_of name rows ≡ None
 HasOptionalNumber rows name least most (Some value) = HasNumber rows name least most value
+
+-- they say of the flag of this name whether it was given
+abbrev pub HasFlag : List Row → Text → Bool → Type 0
+HasFlag rows name true = first_of name rows ≡ Some (codes "true")
+HasFlag rows name false = first_of name rows ≡ Some (codes "false")
 
 -- the word begins with a hyphen and goes on
 abbrev pub is_flag : Text → Bool

@@ -1,9 +1,9 @@
 //! The arguments that several commands take, and what the words of a command line say of them.
 
-ghost use Rattle.std.specs.Prelude.{◌≡◌, ◌≢◌, ◌↔◌, ℕ, List, Option, IfOk, IfErr, IfSome, IfNone, IsTrue, codes, option_map};
+ghost use Rattle.std.specs.Prelude.{◌≡◌, ◌≢◌, ◌↔◌, ℕ, List, Option, IfOk, IfErr, IfSome, IfNone, IsTrue, Bool, codes, option_map, string_bytes};
 ghost use Rattle.clap.specs.Words.{first_of, found_of, rows_of};
 ghost use Rattle.step_trace.specs.ProcessorLists.{IsSetIn};
-ghost use Rattle.command_line.specs.Arguments.{HasNumber, HasOptionalNumber, IsArgument, IsLineFault, IsListFault, correct_rule, file_rule};
+ghost use Rattle.command_line.specs.Arguments.{HasFlag, HasNumber, HasOptionalNumber, IsArgument, IsLineFault, IsListFault, correct_rule, file_rule};
 
 use crate::line_errors::LineError;
 use clap::{Arg, ArgAction, ArgMatches};
@@ -77,6 +77,28 @@ pub fn optional_number(
     match optional_text(found, name) {
         Some(_) => Some(Some(number(found, name, least, most)?)),
         None => Some(None),
+    }
+}
+
+/// Whether the flag of this name was given, where the matches say it.
+pub fn flag(found: &ArgMatches<'_>, name: &str) -> Option<bool>
+    ensures some { IfSome result (HasFlag (rows_of (found_of found.now)) name.now) }
+    ensures none { IfNone result ((value : Bool) → ¬ HasFlag (rows_of (found_of found.now)) name.now value) }
+{
+    match text(found, name)? {
+        "true" => Some(true),
+        "false" => Some(false),
+        _ => None,
+    }
+}
+
+/// A copy of a text, where there is one.
+pub fn kept(alloc: Global, text: Option<&str>) -> Result<Option<String>, AllocError>
+    ensures { IfOk result (λ kept. option_map string_bytes kept ≡ option_map (λ t. t.now) text.entry) }
+{
+    match text {
+        Some(text) => Ok(Some(String::from_str(alloc, text)?)),
+        None => Ok(None),
     }
 }
 

@@ -1,6 +1,6 @@
 //! The command `draw`: its words and its help text, and the job that they give.
 
-ghost use Rattle.std.specs.Prelude.{◌≡◌, List, ℕ, None, Option, IfOk, IfErr, IfSome, codes, option_map, string_bytes};
+ghost use Rattle.std.specs.Prelude.{◌≡◌, List, ℕ, None, Option, IfOk, IfErr, IfSome, codes, option_map};
 ghost use Rattle.clap.specs.Words.{found_of, rows_of};
 ghost use Rattle.command_line.specs.Arguments.{IsArgument, IsCommand, IsListFault};
 ghost use Rattle.command_line.specs.Commands.{AreDrawRows, IsDraw, draw_app, names_rule, tick_rule};
@@ -8,7 +8,7 @@ ghost use Rattle.command_line.specs.Jobs.{IsAnswerIn};
 
 use crate::jobs::Job;
 use crate::jobs::arguments::{
-    correct_argument, file_argument, optional_number, optional_text, set_in, text, unknown,
+    correct_argument, file_argument, kept, optional_number, optional_text, set_in, text, unknown,
 };
 use crate::line_errors::LineError;
 use clap::builder::ValueParser;
@@ -113,16 +113,6 @@ fn draw(alloc: Global, words: DrawWords<'_>) -> Result<Job, LineError>
         to: words.to,
         names,
     })
-}
-
-/// A copy of a text, where there is one.
-fn kept(alloc: Global, text: Option<&str>) -> Result<Option<String>, AllocError>
-    ensures { IfOk result (λ kept. option_map string_bytes kept ≡ option_map (λ t. t.now) text.entry) }
-{
-    match text {
-        Some(text) => Ok(Some(String::from_str(alloc, text)?)),
-        None => Ok(None),
-    }
 }
 
 /// What a picture shows.

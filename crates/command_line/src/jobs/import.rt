@@ -1,0 +1,182 @@
+//! The command `import`: its words and its help text, and the job that they give.
+
+ghost use Rattle.std.specs.Prelude.{◌≡◌, Bool, List, ℕ, None, Option, IfOk, IfErr, IfSome, codes, option_map};
+ghost use Rattle.clap.specs.Words.{found_of, rows_of};
+ghost use Rattle.command_line.specs.Arguments.{IsArgument, IsCommand, IsMemory, flag_rule, optional_rule};
+ghost use Rattle.command_line.specs.Commands.{AreImportRows, IsImport, import_app, log_rule};
+ghost use Rattle.command_line.specs.Jobs.{IsAnswerIn};
+
+use crate::jobs::Job;
+use crate::jobs::arguments::{flag, kept, optional_text, text, unknown};
+use crate::line_errors::LineError;
+use clap::{Arg, ArgAction, ArgMatches, Command};
+use std::alloc::{AllocError, Global};
+
+const NODES_HELP: &str = "The nodes in their order; LOG's where it is left out";
+
+const TICK_HELP: &str = "The length of a tick; 1 where it is left out";
+
+const UNTIL_HELP: &str = "When LOG ends; at its last event where it is left out";
+
+/// What the words after `import` say.
+#[derive(Clone, Copy)]
+struct ImportWords<'a> {
+    /// The path of the log's file.
+    log: &'a str,
+    /// The list of the nodes' names.
+    nodes: Option<&'a str>,
+    /// The length of a tick.
+    tick: Option<&'a str>,
+    /// When the log ends.
+    until: Option<&'a str>,
+    /// Whether events may go to later ticks.
+    spread: bool,
+}
+
+/// The command `import`, as the command line's reader takes it.
+pub fn command<'a>(alloc: Global) -> Result<Command<'a>, AllocError>
+    ensures { IfOk result (IsCommand import_app) }
+{
+    Command::new(alloc, "import")
+        .about("Makes a trace of a log with time stamps")
+        .after_help(help())
+        .arg(log_argument(alloc))?
+        .arg(text_option(alloc, "nodes", "A,B,C", NODES_HELP))?
+        .arg(text_option(alloc, "tick", "W", TICK_HELP))?
+        .arg(text_option(alloc, "until", "X", UNTIL_HELP))?
+        .arg(spread_argument(alloc))
+}
+
+/// The argument LOG.
+fn log_argument<'a>(alloc: Global) -> Arg<'a>
+    ensures { IsArgument log_rule result }
+{
+    Arg::new(alloc, "log")
+        .value_name("LOG")
+        .help("The log; - is standard input")
+        .required(true)
+        .action(ArgAction::Set)
+}
+
+/// An option `--NAME VALUE`, which may be left out.
+fn text_option<'a>(alloc: Global, name: &'a str, value: &'a str, help: &'a str) -> Arg<'a>
+    ensures { IsArgument (optional_rule name.entry.now) result }
+{
+    Arg::new(alloc, name)
+        .long(name)
+        .value_name(value)
+        .help(help)
+        .action(ArgAction::Set)
+}
+
+/// The flag --spread.
+fn spread_argument<'a>(alloc: Global) -> Arg<'a>
+    ensures { IsArgument (flag_rule (codes "spread")) result }
+{
+    Arg::new(alloc, "spread")
+        .long("spread")
+        .help("Moves events to later ticks, no later than needed")
+        .action(ArgAction::SetTrue)
+}
+
+/// The job that the words after `import` ask for. What the texts say is looked at elsewhere.
+///
+/// Refuses words that aren't all there. Memory may come instead.
+pub fn job(alloc: Global, found: &ArgMatches<'_>) -> Result<Job, LineError>
+    ensures { IsAnswerIn (Some (codes "import", rows_of (found_of found.now))) result }
+{
+    match words(found) {
+        Some(words) => import(alloc, words),
+        None => Err(unknown(alloc)?),
+    }
+}
+
+/// What the matches below `import` say, where they have all of it.
+fn words<'a>(found: &ArgMatches<'a>) -> Option<ImportWords<'a>>
+    ensures some { IfSome result (λ w. AreImportRows (rows_of (found_of found.now)) w.log.now (option_map (λ t. t.now) w.nodes) (option_map (λ t. t.now) w.tick) (option_map (λ t. t.now) w.until) w.spread) }
+    ensures none { result ≡ None → (log : List ℕ) (nodes tick until : Option (List ℕ)) (spread : Bool) → ¬ AreImportRows (rows_of (found_of found.now)) log nodes tick until spread }
+{
+    Some(ImportWords {
+        log: text(found, "log")?,
+        nodes: optional_text(found, "nodes"),
+        tick: optional_text(found, "tick"),
+        until: optional_text(found, "until"),
+        spread: flag(found, "spread")?,
+    })
+}
+
+/// The job of an import with these words. Memory is its only refusal.
+fn import(alloc: Global, words: ImportWords<'_>) -> Result<Job, LineError>
+    ensures job { IfOk result (IsImport words.entry.log.now (option_map (λ t. t.now) words.entry.nodes) (option_map (λ t. t.now) words.entry.tick) (option_map (λ t. t.now) words.entry.until) words.entry.spread) }
+    ensures refused { IfErr result IsMemory }
+{
+    let file = String::from_str(alloc, words.log)?;
+    let nodes = kept(alloc, words.nodes)?;
+    let tick = kept(alloc, words.tick)?;
+    let until = kept(alloc, words.until)?;
+    Ok(Job::Import {
+        file,
+        nodes,
+        tick,
+        until,
+        spread: words.spread,
+    })
+}
+
+/// What a log is, and how it becomes a trace.
+fn help() -> &'static str {
+    "\
+LOG is CSV. Its first record, the header, names the columns in any order, and
+each further record is an event. Columns other than these five are passed over.
+
+  time     when it happened
+  node     who sent, or who received
+  event    send or receive
+  to       in a send, who it is for; in a receive it isn't looked at
+  message  in a send, the name of the message; in a receive, the names of those
+           that it took, with one space between them, possibly none
+
+Times are numbers of 64 bits in any unit, or time stamps such as
+2026-11-22T10:00:00.250Z, which are counted in nanoseconds. What is printed is a
+trace in version 2, whose tick 1 begins at the least time.
+
+  --nodes A,B,C  2 to 64 different names, which are numbered from 1; some may
+                 have no event. Without it nodes are numbered in the order in
+                 which the log names them, and standard error tells the numbers
+  --tick W       a number above 0 in the unit of the times, which is the
+                 nanosecond for time stamps; or for these alone a duration above
+                 0, such as 5ms or 1m 30s
+  --until X      a time of the same kind, which no event is after: the last tick
+                 is that of X, and without it that of the greatest time
+  --spread       an event whose tick has an event of its node, or isn't after
+                 the send of a message that it took, goes to a later one, no
+                 later than needed; standard error tells how far events went
+
+A node takes at most one step in a tick, and a message is received in a later
+tick than it was sent: without --spread, events that aren't so are refused. With
+it a difference of two ticks, and so each bound, is off by no more ticks than
+the farthest event went.
+
+Receives of nothing matter. The communication bound is measured at the Receives
+of the receiver: a log that has only those that took something knows of none
+that came too early, and shows lower bounds than one that has every poll.
+
+Example, at the top of the repository:
+  ./synchrony import examples/heartbeats.log --tick 5 >heartbeats.trace
+tells on standard error
+  synchrony: processor 1 is a
+  synchrony: processor 2 is b
+  synchrony: processor 3 is d
+  synchrony: processor 4 is c
+
+Exit status:
+  0  the trace is printed, or this text
+  2  the command line is refused; --nodes isn't 2 to 64 different names; --tick
+     is neither a number nor a duration above 0, or is a duration where the
+     times are numbers; --until is neither a number nor a time stamp, isn't of
+     the kind of the times, or is before an event
+  3  the log is refused; the fault names the record, and the header is record 1
+  5  out of memory
+  6  LOG can't be opened or read, or the output can't be written
+A fault is told on standard error. Nothing is printed before it stands whole."
+}
