@@ -1,6 +1,6 @@
 //! The program: reads a trace of Send and Receive steps, and prints the report of its bounds, for the
 //! processors that are named as correct, replays it as a run of the agreement algorithm, upgrades its text, draws
-//! it, or checks a report by it; or makes such a run in threads, and prints its trace.
+//! it, or checks a report by it; reads a log as such a trace; or makes such a run in threads, and prints its trace.
 #![tactic(auto)]
 
 ghost use Rattle.std.specs.Prelude.{◌*◌, ◌≤◌};
@@ -20,6 +20,7 @@ use crate::line_faults::refused_line;
 use crate::runs::run_nodes;
 use certificate_checker::Verdict;
 use command_line::{Job, names_standard_input, read_command, refuse_words};
+use event_log::Options;
 use std::env;
 use std::fs::File;
 use std::io::Read;
@@ -29,8 +30,8 @@ use std::thread::Threads;
 use std::time::Clock;
 use step_trace::{Config, OpenGate, ProcSet};
 use text_commands::{
-    Drawing, Fault, print, run_check, run_draw, run_replay, run_report, run_upgrade, status, tell,
-    unopened, verdict_status,
+    Drawing, Fault, import_options, print, run_check, run_draw, run_import, run_replay, run_report,
+    run_upgrade, status, tell, unopened, verdict_status,
 };
 use trace_text::Counting;
 
@@ -80,6 +81,22 @@ fn run<R: Threads + Wait + Clock + Sync>(rt: &HostRuntime, threads: &R) -> Resul
                 names,
             };
             draw(rt, file.as_str(), &drawing)?;
+        }
+        Job::Import {
+            file,
+            nodes,
+            tick,
+            until,
+            spread,
+        } => {
+            let options = import_options(
+                rt.alloc(),
+                text_in(&nodes),
+                text_in(&tick),
+                text_in(&until),
+                spread,
+            )?;
+            import(rt, file.as_str(), &options)?;
         }
         Job::Help(text) => print(text.as_str(), &mut Counting::new(rt.stdout()))?,
     }
@@ -211,6 +228,37 @@ fn draw(rt: &HostRuntime, file: &str, drawing: &Drawing) -> Result<(), Fault> {
     }
     let opened = open(rt, file)?;
     run_draw(rt.alloc(), drawing, &mut Counting::new(opened), &mut output)
+}
+
+/// The text, where there is one.
+fn text_in(text: &Option<String>) -> Option<&str> {
+    match text {
+        Some(text) => Some(text.as_str()),
+        None => None,
+    }
+}
+
+/// Prints the trace of the log in a file, and tells on standard error how it was read.
+fn import(rt: &HostRuntime, file: &str, options: &Options) -> Result<(), Fault> {
+    let mut output = Counting::new(rt.stdout());
+    let mut notes = Counting::new(rt.stderr());
+    if names_standard_input(file) {
+        return run_import(
+            rt.alloc(),
+            options,
+            &mut Counting::new(rt.stdin()),
+            &mut output,
+            &mut notes,
+        );
+    }
+    let opened = open(rt, file)?;
+    run_import(
+        rt.alloc(),
+        options,
+        &mut Counting::new(opened),
+        &mut output,
+        &mut notes,
+    )
 }
 
 /// Prints the verdict on the certificate in a file, for the trace in another. Both files are opened before one is

@@ -2,3 +2,4 @@ pub mod ServeFaults
 pub mod ReportFaults
 pub mod ClaimedTexts
 pub mod CheckFaults
+pub mod ImportFaults

@@ -44,7 +44,7 @@ pub record IsLineOn (set : ℕ) (certificate text line : List ℕ) : Type 0 wher
 
 -- it may refuse a set, and a certificate
 abbrev pub check_kinds : Kinds
-check_kinds = record { set = true; certificate = true; run = false; threads = false; picture = false }
+check_kinds = record { set = true; certificate = true; run = false; threads = false; picture = false; log = false }
 
 -- the fault is one of these, and nothing was to be written yet
 abbrev pub IsFaultBefore : Fault → Type 0

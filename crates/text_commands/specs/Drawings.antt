@@ -1,5 +1,5 @@
 -- What the program makes of a trace text in a picture (own).
-use Rattle.std.specs.Prelude.{ℕ, ◌≡◌, ◌<◌, List, length, Option, Some, None, Result, Ok, Err, String, string_bytes, true, false, refl, ⊤}
+use Rattle.std.specs.Prelude.{ℕ, ◌≡◌, ◌<◌, List, [], length, Option, Some, None, Result, Ok, Err, String, string_bytes, true, false, refl, ⊤}
 use Rattle.step_trace.specs.declared.rows.Row.{Row}
 use Rattle.step_trace.specs.Processors.{IsWithin}
 use Rattle.step_trace.specs.Traces.{Recorded}
@@ -10,7 +10,7 @@ use Rattle.run_picture.specs.declared.pictures.Picture.{Picture}
 use Rattle.run_picture.specs.declared.windows.Window.{Window}
 use Rattle.run_picture.specs.declared.windows.WindowError.{WindowError}
 use Rattle.run_picture.specs.declared.windows.WindowError.TheVariants as no_window
-use Rattle.run_picture.specs.Marks.{ShowsExactly}
+use Rattle.run_picture.specs.Marks.{ShowsExactly, ShowsMisses, ShowsGaps}
 use Rattle.run_picture.specs.Names.{AreNames, parts_of}
 use Rattle.run_picture.specs.Pictures.{Shows}
 use Rattle.run_picture.specs.Windows.{window_of}
@@ -27,6 +27,11 @@ abbrev pub are_names_in : {B : Type 0} → Option (String B) → ℕ → Type 0
 are_names_in None count = ⊤
 are_names_in (Some list) count = AreNames count (parts_of (string_bytes list))
 
+-- the names that are listed; none where no list is there
+abbrev pub names_of_list : {B : Type 0} → Option (String B) → List (List ℕ)
+names_of_list None = []
+names_of_list (Some list) = parts_of (string_bytes list)
+
 -- the drawing lists no names, or as many as there are processors
 abbrev pub AreNamesFor : Drawing → ℕ → Type 0
 AreNamesFor d count = are_names_in d.names count
@@ -35,23 +40,30 @@ AreNamesFor d count = are_names_in d.names count
 abbrev pub window_for : Drawing → ℕ → Result Window WindowError
 window_for d last = window_of last d.from d.to
 
--- The drawing shows this trace: the marks of a window that is asked for, with the rows of the report.
-pub record IsDrawn (d : Drawing) (t : Recorded) : Type 0 where
+-- a window of the trace is asked for, and as many names as there are processors, or none
+pub record IsDrawable (d : Drawing) (t : Recorded) : Type 0 where
   pub named : AreNamesFor d t.config.n
+  pub window : Window
+  pub asked : window_for d t.last ≡ Ok window
+
+-- The picture has the marks of the window that is asked for, with the rows of the trace's report.
+pub record IsPictureFor (d : Drawing) (t : Recorded) (picture : Picture) : Type 0 where
   pub window : Window
   pub asked : window_for d t.last ≡ Ok window
   pub rows : List Row
   pub exact : IsReport d.set t rows
-  pub picture : Picture
   pub shows : Shows t rows window picture
   pub marks : ShowsExactly t window picture
+  pub misses : ShowsMisses t rows window picture.misses.items
+  pub gaps : ShowsGaps rows window picture.gaps.items
 
--- The first text stands for a trace that has all members of the set, and the second is a picture of it.
+-- The text stands for a trace that has all members of the set, and that can be drawn as asked. Nothing is said of the
+-- second text: what a mark looks like is only tested.
 pub record IsDrawingOf (d : Drawing) (text picture : List ℕ) : Type 0 where
   pub trace : Recorded
   pub read : IsTextOf text trace
   pub within : IsWithin d.set trace.config.n
-  pub drawn : IsDrawn d trace
+  pub drawable : IsDrawable d trace
 
 -- the option that a window is refused for
 abbrev pub option_of : WindowError → PictureOption
@@ -61,6 +73,13 @@ option_of no_window.BadTo = option.To
 -- a fault of the window: it is for the option
 abbrev pub IsWindowFault : Drawing → ℕ → Fault → Type 0
 IsWindowFault d last w = (e : WindowError) × (window_for d last ≡ Err e) × (w ≡ fault.Picture (option_of e))
+
+-- why there are no marks: the window, or want of memory
+abbrev pub IsMarksFault : Drawing → ℕ → Fault → Type 0
+IsMarksFault d last (fault.Picture option.From) = window_for d last ≡ Err no_window.BadFrom
+IsMarksFault d last (fault.Picture option.To) = window_for d last ≡ Err no_window.BadTo
+IsMarksFault d last fault.Memory = ⊤
+IsMarksFault d last _ = ⊥
 
 -- a fault of the names
 abbrev pub IsNamesFault : Drawing → ℕ → Fault → Type 0
@@ -93,7 +112,7 @@ IsUndrawable d text w = IsTextFault d.set text w
 
 -- it may refuse a set, and an option of a picture
 abbrev pub drawing_kinds : Kinds
-drawing_kinds = record { set = true; certificate = false; run = false; threads = false; picture = true }
+drawing_kinds = record { set = true; certificate = false; run = false; threads = false; picture = true; log = false }
 
 pub too_large_to_draw : (d : Drawing) (text : List ℕ) → MAX_TEXT_BYTES < length text → IsUndrawable d text (fault.Trace why.TooLarge)
 too_large_to_draw d text h = too_large text h

@@ -5,10 +5,14 @@ use Rattle.trace_text.specs.declared.refusals.TextError.{TextError}
 use Rattle.trace_text.specs.declared.refusals.TextError.TheVariants as why
 use Rattle.front.specs.declared.refusals.ReportError.{ReportError}
 use Rattle.front.specs.declared.refusals.ReportError.TheVariants as uncertified
+use Rattle.event_log.specs.RefusalTexts.{log_error_text}
 use Rattle.text_commands.specs.declared.faults.Fault.{Fault}
 use Rattle.text_commands.specs.declared.faults.Fault.TheVariants as fault
 use Rattle.text_commands.specs.declared.faults.PictureOption.{PictureOption}
 use Rattle.text_commands.specs.declared.faults.PictureOption.TheVariants as option
+use Rattle.text_commands.specs.declared.faults.ImportOption.{ImportOption}
+use Rattle.text_commands.specs.declared.faults.ImportOption.TheVariants as import_option
+use Rattle.text_commands.specs.ImportLines.{help_line, log_lead}
 
 -- a refusal of the step of this number
 abbrev pub at_step : ℕ → List ℕ → List ℕ
@@ -52,7 +56,14 @@ option_words option.Names = codes "--names"
 option_words option.From = codes "--from"
 option_words option.To = codes "--to"
 
--- the line of a fault; that of a refused command line is in its reader's words
+-- an option of a log, likewise
+abbrev pub import_option_words : ImportOption → List ℕ
+import_option_words import_option.Nodes = codes "--nodes"
+import_option_words import_option.Tick = codes "--tick"
+import_option_words import_option.Until = codes "--until"
+
+-- the line of a fault; that of a refused command line is in its reader's words, and that of a refused log may have one
+-- more line, of what helps
 abbrev pub fault_line : Fault → List ℕ
 fault_line (fault.Command words) = string_bytes words
 fault_line fault.Set = codes "synchrony: no such processor in --correct"
@@ -64,6 +75,8 @@ fault_line (fault.Write written) = codes "synchrony: cannot write"
 fault_line (fault.NotARun number) = codes "synchrony: not a run: step " ++ decimal number
 fault_line fault.Threads = codes "synchrony: worker not started or held"
 fault_line (fault.Picture option) = codes "synchrony: bad " ++ option_words option
+fault_line (fault.Log reason) = codes "synchrony: " ++ (log_lead reason ++ (log_error_text reason ++ help_line reason))
+fault_line (fault.Import option) = codes "synchrony: bad " ++ import_option_words option
 
 -- the text with a line feed at its end, where it has none there
 abbrev pub ended_line : List ℕ → List ℕ

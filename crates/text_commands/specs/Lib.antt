@@ -1,4 +1,5 @@
 pub mod Faults
+pub mod ImportLines
 pub mod FaultLines
 pub mod Printing
 pub mod Serving
@@ -13,3 +14,4 @@ pub mod CertificateTexts
 pub mod Checks
 pub mod Standings
 pub mod StandingLines
+pub mod Imports

@@ -3,17 +3,19 @@ use Rattle.std.specs.Prelude.{ℕ, ◌≢◌, ◌≤◌, List, length, take, Opt
 use Rattle.std.specs.Io.KnownBytes.{Appends}
 use Rattle.trace_text.specs.declared.refusals.TextError.TheVariants as why
 use Rattle.front.specs.declared.refusals.ReportError.TheVariants as uncertified
+use Rattle.event_log.specs.declared.refusals.LogError.TheVariants as no_log
 use Rattle.text_commands.specs.declared.faults.Fault.{Fault}
 use Rattle.text_commands.specs.declared.faults.Fault.TheVariants as fault
 
--- For what a command may refuse, beside a trace text: a set, a certificate, a trace that is no run, a thread, and an
--- option of a picture.
+-- For what a command may refuse, beside a trace text: a set, a certificate, a trace that is no run, a thread, an
+-- option of a picture, and a log.
 pub record Kinds : Type 0 where
   pub set : Bool
   pub certificate : Bool
   pub run : Bool
   pub threads : Bool
   pub picture : Bool
+  pub log : Bool
 
 -- the fault is of these kinds, or of a trace text, of memory, of a reader or of a writer; want of memory and a failed
 -- read are faults of their own, and no refusals of a text
@@ -25,6 +27,8 @@ IsFaultOf k (fault.Certificate reason) = IsTrue k.certificate × (reason ≢ unc
 IsFaultOf k (fault.NotARun number) = IsTrue k.run
 IsFaultOf k fault.Threads = IsTrue k.threads
 IsFaultOf k (fault.Picture option) = IsTrue k.picture
+IsFaultOf k (fault.Log reason) = IsTrue k.log × (reason ≢ no_log.Memory)
+IsFaultOf k (fault.Import option) = ⊥
 IsFaultOf k _ = ⊤
 
 -- The fault has its cause: the command refuses the text for it; or a read failed; or the text has an answer, of

@@ -1,12 +1,12 @@
 //! The picture of a run as SVG, from a reader to a writer.
 
-ghost use Rattle.std.specs.Prelude.{◌≡◌, ℕ, List, IfErr, IfOk, IfSome, IsTrue, MatchResult, OnOk};
+ghost use Rattle.std.specs.Prelude.{◌≡◌, ℕ, List, IfErr, IfOk, IfSome, IsTrue, MatchResult, OnOk, map};
 ghost use Rattle.std.specs.Io.KnownBytes.{Appends, IsAtEnd};
 ghost use Rattle.step_trace.specs.Fronts.{IsReport};
 ghost use Rattle.step_trace.specs.Processors.{IsWithin};
 ghost use Rattle.trace_text.specs.ByteLoops.{WasFaultless};
 ghost use Rattle.trace_text.specs.Faults.{faults_of, inner_of, is_flushed};
-ghost use Rattle.text_commands.specs.Drawings.{AreNamesFor, IsDrawingOf, IsDrawn, IsNamesFault, IsUndrawable, IsUndrawn, IsWindowFault, drawing_kinds, window_for};
+ghost use Rattle.text_commands.specs.Drawings.{AreNamesFor, IsDrawable, IsDrawingOf, IsMarksFault, IsNamesFault, IsPictureFor, IsUndrawable, IsUndrawn, IsWindowFault, drawing_kinds, names_of_list, window_for};
 ghost use Rattle.text_commands.specs.Inputs.{IsReadFault};
 ghost use Rattle.text_commands.specs.Printing.{IsWriteFault};
 ghost use Rattle.text_commands.specs.Serving.{IsFaultOf, IsServeFault};
@@ -15,7 +15,9 @@ use crate::checks::trace_within;
 use crate::faults::{Fault, PictureOption};
 use crate::serving::{Answer, serve};
 use front::{Report, front};
-use run_picture::{NamesError, Window, WindowError, names_of, picture_of, svg_text, window_of};
+use run_picture::{
+    NamesError, Picture, Window, WindowError, names_of, picture_of, svg_text, window_of,
+};
 use std::alloc::{AllocError, Global};
 use std::io::{Read, Write};
 use step_trace::{ProcSet, Trace};
@@ -90,22 +92,32 @@ impl Answer for Drawing {
     ghost no_write = { λ _ text n h. h };
 }
 
-/// The picture of a trace.
+/// The picture of a trace, as SVG.
 fn drawn(alloc: Global, trace: &Trace, drawing: &Drawing) -> Result<Vec<u8>, Fault>
     requires within { IsWithin drawing.now.set trace.now.config.n }
-    ensures drawn { OnOk result (IsDrawn drawing.now trace.now) }
+    ensures drawable { OnOk result (IsDrawable drawing.now trace.now) }
     ensures refused { IfErr result (IsUndrawn drawing.now trace.now) }
 {
     let names = names_for(alloc, drawing, trace.config().n())?;
+    let picture = marks_for(alloc, trace, drawing)?;
+    Ok(svg_text(alloc, trace, &picture, drawing.set, &names)?)
+}
+
+/// The marks of the ticks that are asked for, with the rows of the trace's report.
+fn marks_for(alloc: Global, trace: &Trace, drawing: &Drawing) -> Result<Picture, Fault>
+    requires within { IsWithin drawing.now.set trace.now.config.n }
+    ensures marks { IfOk result (λ picture. IsPictureFor drawing.now trace.now picture) }
+    ensures refused { IfErr result (IsMarksFault drawing.now trace.now.last) }
+{
     let window = window_for(drawing, trace.last_tick())?;
     let report = report_of(alloc, trace, drawing.set)?;
-    let picture = picture_of(alloc, trace, report.rows(), window)?;
-    Ok(svg_text(alloc, trace, &picture, drawing.set, &names)?)
+    Ok(picture_of(alloc, trace, report.rows(), window)?)
 }
 
 /// The names of so many processors; none where none are listed.
 fn names_for(alloc: Global, drawing: &Drawing, count: u64) -> Result<Vec<&str>, Fault>
     ensures fit { OnOk result (AreNamesFor drawing.now count) }
+    ensures names { IfOk result (λ names. map (λ name. name.now) names.items ≡ names_of_list drawing.now.names) }
     ensures refused { IfErr result (λ why. IsNamesFault drawing.now count why) }
 {
     let Some(list) = &drawing.names else {

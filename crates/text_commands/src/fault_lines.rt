@@ -3,14 +3,15 @@
 ghost use Rattle.std.specs.Prelude.{◌≡◌, IfOk, string_bytes};
 ghost use Rattle.text_commands.specs.FaultLines.{fault_line, ended_line};
 
-use crate::faults::{Fault, PictureOption};
+use crate::faults::{Fault, ImportOption, PictureOption};
+use crate::import_lines::{HelpLine, LogLead};
 use front::ReportError;
 use std::alloc::{AllocError, Global};
 use std::fmt;
 use trace_text::TextError;
 
-/// The line of a fault without its line feed, or the words of the command line's reader, which end
-/// in one.
+/// The line of a fault without its line feed, with one more line where something helps; or the words of the command
+/// line's reader, which end in one.
 pub fn fault_text(alloc: Global, fault: &Fault) -> Result<String, AllocError>
     ensures { IfOk result (λ text. string_bytes text ≡ fault_line fault.now) }
 {
@@ -48,6 +49,8 @@ impl fmt::Display for Fault {
             Fault::NotARun(no) => write!(f, "synchrony: not a run: step {no}"),
             Fault::Threads => f.write_str("synchrony: worker not started or held"),
             Fault::Picture(option) => write!(f, "synchrony: bad {option}"),
+            Fault::Log(why) => write!(f, "synchrony: {}{why}{}", LogLead(why), HelpLine(why)),
+            Fault::Import(option) => write!(f, "synchrony: bad {option}"),
         }
     }
 }
@@ -64,6 +67,22 @@ impl fmt::Display for PictureOption {
             PictureOption::Names => f.write_str("--names"),
             PictureOption::From => f.write_str("--from"),
             PictureOption::To => f.write_str("--to"),
+        }
+    }
+}
+
+/// The option, as the command line has it.
+impl fmt::Display for ImportOption {
+    ghost use Rattle.std.specs.Prelude.{Some};
+    ghost use Rattle.text_commands.specs.FaultLines.{import_option_words};
+
+    ghost output = { λ option. Some (import_option_words option) };
+
+    fn fmt<W: fmt::Write>(&self, f: &mut fmt::Formatter<W>) -> fmt::Result {
+        match self {
+            ImportOption::Nodes => f.write_str("--nodes"),
+            ImportOption::Tick => f.write_str("--tick"),
+            ImportOption::Until => f.write_str("--until"),
         }
     }
 }

@@ -4,6 +4,7 @@ ghost use Rattle.std.specs.Prelude.{◌≡◌};
 ghost use Rattle.std.specs.IoError.{error_kind};
 ghost use Rattle.text_commands.specs.Faults.{status_of, fault_of_opening};
 
+use event_log::{LogError, OptionError};
 use front::ReportError;
 use std::alloc::AllocError;
 use std::io;
@@ -33,6 +34,10 @@ pub enum Fault {
     Threads,
     /// There is no picture of the trace for what this option says.
     Picture(PictureOption),
+    /// The log is refused, or an option doesn't fit its times. `Memory` is a fault of its own.
+    Log(LogError),
+    /// What this option says tells no way to read a log.
+    Import(ImportOption),
 }
 
 /// An option that a picture is asked for with.
@@ -44,6 +49,17 @@ pub enum PictureOption {
     From,
     /// The last tick to draw.
     To,
+}
+
+/// An option by which a log is read.
+#[derive(Clone, Copy, Debug, PartialEq, Eq)]
+pub enum ImportOption {
+    /// The nodes.
+    Nodes,
+    /// The length of a tick.
+    Tick,
+    /// When the log ends.
+    Until,
 }
 
 impl std::error::Error for Fault {}
@@ -99,6 +115,34 @@ impl From<ReplayError> for Fault {
     }
 }
 
+impl From<LogError> for Fault {
+    ghost use Rattle.text_commands.specs.Faults.{fault_of_log};
+
+    ghost from_gives = { λ why made. made ≡ fault_of_log why };
+
+    fn from(why: LogError) -> Fault {
+        match why {
+            LogError::Memory => Fault::Memory,
+            why => Fault::Log(why),
+        }
+    }
+}
+
+impl From<OptionError> for Fault {
+    ghost use Rattle.text_commands.specs.Faults.{fault_of_options};
+
+    ghost from_gives = { λ why made. made ≡ fault_of_options why };
+
+    fn from(why: OptionError) -> Fault {
+        match why {
+            OptionError::Nodes => Fault::Import(ImportOption::Nodes),
+            OptionError::Tick => Fault::Import(ImportOption::Tick),
+            OptionError::Until => Fault::Import(ImportOption::Until),
+            OptionError::Memory => Fault::Memory,
+        }
+    }
+}
+
 impl From<WriteError> for Fault {
     ghost use Rattle.text_commands.specs.Faults.{fault_of_write};
 
@@ -127,8 +171,9 @@ pub fn status(fault: &Fault) -> u8
     ensures { result ≡ status_of fault.now }
 {
     match fault {
-        Fault::Command(_) | Fault::Set | Fault::Picture(_) => 2,
-        Fault::Trace(_) => 3,
+        Fault::Command(_) | Fault::Set | Fault::Picture(_) | Fault::Import(_) => 2,
+        Fault::Log(LogError::TickUnfit | LogError::UntilUnfit) => 2,
+        Fault::Trace(_) | Fault::Log(_) => 3,
         Fault::Certificate(_) => 4,
         Fault::Memory => 5,
         Fault::Read | Fault::Write(_) => 6,

@@ -1,6 +1,6 @@
 //! The commands that make text of text, each from a reader to a writer: the report of a trace, its replay,
-//! its upgrade, its picture, and the check of a report; the lines that tell of a run meanwhile; and the faults that end
-//! the program, their lines and their statuses. `specs/` has the definitions that the contracts cite.
+//! its upgrade, its picture, and the check of a report; the trace of a log; the lines that tell of a run meanwhile; and
+//! the faults that end the program, their lines and their statuses. `specs/` has the definitions that the contracts cite.
 #![tactic(auto)]
 
 mod certificate_texts;
@@ -8,6 +8,8 @@ mod checks;
 mod drawings;
 mod fault_lines;
 mod faults;
+mod import_lines;
+mod imports;
 mod inputs;
 mod printing;
 mod replay_texts;
@@ -22,7 +24,8 @@ mod verdict_lines;
 pub use checks::run_check;
 pub use drawings::{Drawing, run_draw};
 pub use fault_lines::{fault_text, told_line};
-pub use faults::{Fault, PictureOption, status, unopened};
+pub use faults::{Fault, ImportOption, PictureOption, status, unopened};
+pub use imports::{import_options, run_import};
 pub use printing::{print, tell};
 pub use replays::run_replay;
 pub use reports::{run_report, test_set};

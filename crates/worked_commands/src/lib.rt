@@ -6,6 +6,12 @@ mod commands;
 #[cfg(test)]
 mod failures;
 #[cfg(test)]
+mod imported;
+#[cfg(test)]
+mod imports;
+#[cfg(test)]
+mod log_lines;
+#[cfg(test)]
 mod told;
 #[cfg(test)]
 mod traces;

@@ -13,6 +13,8 @@ enum Given {
     Run,
     Upgrade,
     Check,
+    Draw,
+    Import,
     /// A text that begins so.
     Text(&'static str),
     /// A refusal in words that begin so.
@@ -44,7 +46,9 @@ fn is_job(job: &Job, given: Given) -> bool {
         | (Job::Replay { .. }, Given::Replay)
         | (Job::Run { .. }, Given::Run)
         | (Job::Upgrade { .. }, Given::Upgrade)
-        | (Job::Check { .. }, Given::Check) => true,
+        | (Job::Check { .. }, Given::Check)
+        | (Job::Draw { .. }, Given::Draw)
+        | (Job::Import { .. }, Given::Import) => true,
         _ => false,
     }
 }
@@ -143,6 +147,33 @@ const LINES: &[(&[&str], Given)] = &[
             "1,2",
         ],
         Given::Run,
+    ),
+    (
+        &[
+            "synchrony",
+            "draw",
+            "a",
+            "--correct",
+            "1",
+            "--to",
+            "7",
+            "--names",
+            "a,b",
+        ],
+        Given::Draw,
+    ),
+    (
+        &[
+            "synchrony",
+            "import",
+            "a",
+            "--nodes",
+            "a,b",
+            "--tick",
+            "5ms",
+            "--spread",
+        ],
+        Given::Import,
     ),
     (
         &["synchrony", "--help"],

@@ -6,7 +6,10 @@ use std::alloc::{AllocError, Global};
 use std::sync::Wait;
 use std::thread::Threads;
 use step_trace::{OpenGate, ProcSet};
-use text_commands::{Drawing, Fault, run_check, run_draw, run_replay, run_report, run_upgrade};
+use text_commands::{
+    Drawing, Fault, import_options, run_check, run_draw, run_import, run_replay, run_report,
+    run_upgrade,
+};
 use trace_text::Counting;
 
 const NEVER_DELIVERED: &str =
@@ -28,6 +31,18 @@ const DECIDES_SEVEN: &str = "dls-trace,1,3,1\ninit,5,7,7\n1,1,S,1\n2,2,S,1\n3,3,
 
 const DECIDES_SEVEN_REPLAY: &str = "proc,round,decision\n1,4,7\n2,4,\n3,4,\n";
 
+/// A log of two nodes, of which b is named first.
+const TWO_NODES: &str =
+    "time,node,event,to,message\n10,b,send,a,m2\n10,a,send,b,m1\n13,a,receive,,m2\n\
+    13,b,receive,,\n15,b,receive,,m1\n";
+
+const TWO_NODES_IMPORT: &str =
+    "dls-trace,2,2,0\ninit,0,0\n1,1,1,S,2\n2,1,2,S,1\n3,4,1,R,\n4,4,2,R,1\n\
+    5,6,1,R,2\nend,6\n";
+
+/// A log whose record 3 receives a message that no record sent.
+const NEVER_SENT: &str = "time,node,event,to,message\n10,a,send,b,m1\n13,b,receive,,m9\n";
+
 /// Room for more than any command writes here, so that an output never grows.
 const ROOM: usize = 20_000;
 
@@ -44,9 +59,11 @@ enum Command {
     /// Of this certificate.
     Check(&'static str),
     Draw,
+    /// Of a log, which tells its nodes; with events that may be spread, or without.
+    Import(bool),
 }
 
-/// A command with its trace text, and what it writes where memory is ample: of a picture the end.
+/// A command with its text, and what it writes where memory is ample: of a picture the end, of a refused log nothing.
 #[derive(Clone, Copy)]
 struct Served {
     command: Command,
@@ -86,6 +103,12 @@ fn ended<T: Threads + Wait + Sync>(
             };
             run_draw(alloc, &drawing, &mut trace, &mut output)
         }
+        Command::Import(spread) => {
+            let options = import_options(alloc, None, Some("1"), Some("15"), spread)?;
+            let mut notes = Vec::with_capacity(alloc, ROOM)?;
+            let mut notes = Counting::new(&mut notes);
+            run_import(alloc, &options, &mut trace, &mut output, &mut notes)
+        }
     }
 }
 
@@ -101,6 +124,7 @@ fn writes<T: Threads + Wait + Sync>(
         (Ok(()), Command::Draw) => Ok(output.as_slice().ends_with(served.wanted.as_bytes())),
         (Ok(()), _) => Ok(output.as_slice() == served.wanted.as_bytes()),
         (Err(Fault::Memory), _) | (Err(Fault::Threads), Command::Report(_)) => Err(AllocError),
+        (Err(Fault::Log(_)), Command::Import(_)) => Ok(served.wanted.is_empty()),
         (Err(_), _) => Ok(false),
     }
 }
@@ -142,6 +166,9 @@ const SERVED: &[(Command, &str, &str)] = &[
     (Command::Replay, DECIDES_SEVEN, DECIDES_SEVEN_REPLAY),
     (Command::Upgrade, ONE_MISS, ONE_MISS_UPGRADE),
     (Command::Draw, ONE_MISS, "</svg>\n"),
+    (Command::Import(false), TWO_NODES, TWO_NODES_IMPORT),
+    (Command::Import(true), TWO_NODES, TWO_NODES_IMPORT),
+    (Command::Import(false), NEVER_SENT, ""),
     (
         Command::Check(NEVER_DELIVERED_REPORT),
         NEVER_DELIVERED,

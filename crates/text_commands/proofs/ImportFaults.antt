@@ -1,0 +1,46 @@
+-- The causes of the faults of an import.
+use Rattle.std.proofs.Common.{◌≡◌, ◌<◌, ℕ, List, length, Option, Some, None, Bor, IfSome, inl, refl, false, arith, subst}
+use Rattle.std.specs.Prelude.{nat_le, option_map}
+use Rattle.std.proofs.lemmas.Bool.Decides.{nat_tests}
+use Rattle.trace_text.specs.declared.byte_loops.TheConstants.{MAX_TEXT_BYTES}
+use Rattle.trace_text.specs.declared.refusals.WriteError.{WriteError}
+use Rattle.trace_text.specs.declared.refusals.WriteError.TheVariants as unwritten
+use Rattle.trace_text.specs.ByteLoops.{WroteFront}
+use Rattle.event_log.specs.declared.options.Options.{Options}
+use Rattle.event_log.specs.declared.refusals.LogError.TheVariants as no_log
+use Rattle.text_commands.specs.declared.faults.Fault.{Fault}
+use Rattle.text_commands.specs.declared.faults.Fault.TheVariants as fault
+use Rattle.text_commands.specs.Faults.{fault_of_write}
+use Rattle.text_commands.specs.Imports.{IsImportTold, IsUnimported, IsUnreadLog}
+use Rattle.text_commands.specs.Printing.{IsUntold}
+use Rattle.text_commands.specs.Serving.{IsServeFault}
+
+-- listed nodes, as they are lent
+lent : (nodes : Option (List (List ℕ))) → (lent : Option (Bor (List (List ℕ)))) × (option_map (λ n. n.now) lent ≡ nodes)
+lent None = (None, refl)
+lent (Some nodes) = (Some (record { ref_ptr = (0, 0); now = nodes }), refl)
+
+-- a log that is too large is refused for that
+too_large_log : (o : Options) (text : List ℕ) → MAX_TEXT_BYTES < length text → IsUnimported o text (fault.Log no_log.TooLarge)
+too_large_log o text h =
+    let e : nat_le (length text) MAX_TEXT_BYTES ≡ false = grind (arith, nat_tests) in
+    let listed = lent o.nodes in
+    (inl (record { listed = listed.0; same = listed.1; staged = rw e refl }), λ r. cc)
+
+-- a log isn't read to its end
+pub unread_log : (o : Options) (Told : List ℕ → Type 0) (before after known : Option (List ℕ)) (w : Fault) → IsUnreadLog known w
+    → IfSome known (λ text. IsServeFault (IsImportTold o Told) (IsUnimported o) text before after w)
+unread_log o Told before after None w h = tt
+unread_log o Told before after (Some text) (fault.Log no_log.TooLarge) h = too_large_log o text h
+unread_log o Told before after (Some text) fault.Read h = tt
+unread_log o Told before after (Some text) fault.Memory h = tt
+unread_log o Told before after (Some text) w h = absurd h
+
+-- what holds of a text holds of the notes that it is
+pub now_told : (o : Options) (Told : List ℕ → Type 0) (notes text out : List ℕ) → IsImportTold o (λ n. notes ≡ n) text out → Told notes → IsImportTold o Told text out
+now_told o Told notes text out t h = record { import = t.import; exact = t.exact; written = t.written; told = subst Told t.told h }
+
+-- what a text's writer answers is what is told of a text
+pub front : (e : WriteError) (out : List ℕ) (before after : Option (List ℕ)) → WroteFront e out before after → IsUntold (fault_of_write e) out before after
+front (unwritten.Write n) out before after h = h
+front unwritten.Memory out before after h = absurd h

@@ -1,0 +1,58 @@
+-- What is told of a log beside its trace: the lines of a refusal, and the notes on a trace.
+use Rattle.std.specs.Prelude.{ℕ, List, [], ◌∷◌, ◌++◌, length, codes, decimal, Bool, true, false, Option, Some, None}
+use Rattle.std.specs.List.{flat_map, range_with_len}
+use Rattle.timed_events.specs.declared.events.Hint.{Hint}
+use Rattle.timed_events.specs.declared.events.Hint.TheVariants.{ShorterTick, Spread}
+use Rattle.timed_events.specs.declared.spread_traces.Moved.{Moved}
+use Rattle.event_log.specs.declared.imports.Import.{Import}
+use Rattle.event_log.specs.declared.options.Options.{Options}
+use Rattle.event_log.specs.declared.refusals.LogError.{LogError}
+use Rattle.event_log.specs.declared.refusals.LogError.TheVariants.{TickUnfit, UntilUnfit, TooManyTicks, NotLater, SecondEvent}
+use Rattle.event_log.specs.Imports.{node_name}
+use Rattle.event_log.specs.RefusalTexts.{printed}
+
+-- what stands before the reason of a refused log: nothing where it begins with an option that doesn't fit
+abbrev pub log_lead : LogError → List ℕ
+log_lead TickUnfit = []
+log_lead UntilUnfit = []
+log_lead why = codes "log: "
+
+-- a line of what helps, with the line feed before it
+abbrev pub hint_line : Option Hint → List ℕ
+hint_line None = []
+hint_line (Some ShorterTick) = 10 ∷ codes "synchrony: a shorter --tick sets them apart"
+hint_line (Some Spread) = 10 ∷ codes "synchrony: --spread sets them apart"
+
+-- the same for a refused log; nothing where nothing helps
+abbrev pub help_line : LogError → List ℕ
+help_line TooManyTicks = 10 ∷ codes "synchrony: a greater --tick makes fewer"
+help_line (NotLater number message hint) = hint_line hint
+help_line (SecondEvent number node tick hint) = hint_line hint
+help_line why = []
+
+-- the line that tells which node the processor of this number is
+abbrev pub node_line : ℕ → List ℕ → List ℕ
+node_line number name = codes "synchrony: processor " ++ (decimal number ++ (codes " is " ++ (printed name ++ 10 ∷ [])))
+
+-- the lines of so many processors, from the first on
+abbrev pub node_lines : List (List ℕ) → ℕ → List ℕ
+node_lines nodes count = flat_map (λ p. node_line p (node_name nodes p)) (range_with_len 1 count)
+
+-- the line that tells how far so many events went
+abbrev pub moved_line : ℕ → Moved → List ℕ
+moved_line count moved =
+    codes "synchrony: " ++ (decimal moved.events ++ (codes " of " ++ (decimal count ++ (codes " events moved, by at most " ++ (decimal moved.ticks ++ (codes " ticks" ++ 10 ∷ []))))))
+
+-- the nodes are told where they weren't listed
+abbrev pub node_notes : Option (List (List ℕ)) → List (List ℕ) → List ℕ
+node_notes None nodes = node_lines nodes (length nodes)
+node_notes (Some listed) nodes = []
+
+-- how far events went is told where they might
+abbrev pub moved_notes : Bool → ℕ → Moved → List ℕ
+moved_notes true count moved = moved_line count moved
+moved_notes false count moved = []
+
+-- what is told of a log that was read as a trace
+abbrev pub notes_of : Options → Import → List ℕ
+notes_of o import = node_notes o.nodes import.nodes ++ moved_notes o.spread (length import.trace.steps) import.moved

@@ -1,0 +1,68 @@
+-- What the program makes of a log in an import.
+use Rattle.std.specs.Prelude.{ℕ, ◌≡◌, ◌≢◌, ◌<◌, ◌⊎◌, List, length, Option, IfSome, IsTrue, true, false, ⊤}
+use Rattle.trace_text.specs.declared.byte_loops.TheConstants.{MAX_TEXT_BYTES}
+use Rattle.trace_text.specs.declared.counting.Counting.{Counting}
+use Rattle.trace_text.specs.declared.refusals.WriteError.{WriteError}
+use Rattle.trace_text.specs.ByteLoops.{MetOneFault, WroteFront}
+use Rattle.trace_text.specs.Faults.{inner_of, is_flushed}
+use Rattle.trace_text.specs.TextWriting.{Wrote}
+use Rattle.trace_text.specs.TraceTexts.{trace_text_2}
+use Rattle.event_log.specs.declared.imports.Import.{Import}
+use Rattle.event_log.specs.declared.options.OptionError.TheVariants as no_options
+use Rattle.event_log.specs.declared.options.Options.{Options}
+use Rattle.event_log.specs.declared.refusals.LogError.TheVariants as no_log
+use Rattle.event_log.specs.Imports.{IsImportOf, IsLogRefusal}
+use Rattle.event_log.specs.Options.{IsOptionFault}
+use Rattle.text_commands.specs.declared.faults.Fault.{Fault}
+use Rattle.text_commands.specs.declared.faults.Fault.TheVariants as fault
+use Rattle.text_commands.specs.declared.faults.ImportOption.TheVariants as option
+use Rattle.text_commands.specs.ImportLines.{notes_of}
+use Rattle.text_commands.specs.Serving.{IsFaultOf, Kinds}
+
+-- why three texts tell no options: the first of them that is bad; or want of memory
+abbrev pub IsImportOptionFault : Option (List ℕ) → Option (List ℕ) → Option (List ℕ) → Fault → Type 0
+IsImportOptionFault nodes tick until (fault.Import option.Nodes) = IsOptionFault nodes tick until no_options.Nodes
+IsImportOptionFault nodes tick until (fault.Import option.Tick) = IsOptionFault nodes tick until no_options.Tick
+IsImportOptionFault nodes tick until (fault.Import option.Until) = IsOptionFault nodes tick until no_options.Until
+IsImportOptionFault nodes tick until fault.Memory = ⊤
+IsImportOptionFault nodes tick until _ = ⊥
+
+-- The first text is a log that is read as a trace, by these options, and the second is the text of that trace in version
+-- 2; and `Told` holds of the notes on it.
+pub record IsImportTold (o : Options) (Told : List ℕ → Type 0) (text out : List ℕ) : Type 0 where
+  pub import : Import
+  pub exact : IsImportOf o text import
+  pub written : out ≡ trace_text_2 import.trace
+  pub told : Told (notes_of o import)
+
+-- a text went out whole, and was flushed; or the writer met a fault, after so many of its first bytes
+abbrev pub WentOut : {T : Type 0} → (T → Option (List ℕ)) → Counting T → Counting T → List ℕ → Type 0
+WentOut taken old new text = (Wrote taken old new text × IsTrue (is_flushed new))
+    ⊎ ((e : WriteError) × WroteFront e text (taken (inner_of old)) (taken (inner_of new)) × MetOneFault old new)
+
+-- The fault has its cause in the log: its first refusal; or it is want of memory, which is a fault of its own.
+abbrev pub IsUnimported : Options → List ℕ → Fault → Type 0
+IsUnimported o text (fault.Log reason) = IsLogRefusal o text reason × (reason ≢ no_log.Memory)
+IsUnimported o text fault.Memory = ⊤
+IsUnimported o text _ = ⊥
+
+-- a log isn't read to its end: it is too large, a read failed, or there was no memory
+abbrev pub IsUnreadLog : Option (List ℕ) → Fault → Type 0
+IsUnreadLog known (fault.Log no_log.TooLarge) = IfSome known (λ text. MAX_TEXT_BYTES < length text)
+IsUnreadLog known fault.Read = ⊤
+IsUnreadLog known fault.Memory = ⊤
+IsUnreadLog known _ = ⊥
+
+-- it may refuse a log
+abbrev pub import_kinds : Kinds
+import_kinds = record { set = false; certificate = false; run = false; threads = false; picture = false; log = true }
+
+-- the fault is one of these, and no refusal of a trace text
+abbrev pub IsFaultOfImport : Fault → Type 0
+IsFaultOfImport (fault.Trace reason) = ⊥
+IsFaultOfImport w = IsFaultOf import_kinds w
+
+-- nothing was told but before a failed write
+abbrev pub IsQuietFault : {T : Type 0} → Counting T → Counting T → Fault → Type 0
+IsQuietFault old new (fault.Write n) = ⊤
+IsQuietFault old new _ = new ≡ old

@@ -1,0 +1,124 @@
+//! The trace of a log, from a reader to a writer.
+
+ghost use Rattle.std.specs.Prelude.{◌≡◌, ◌≤◌, ℕ, List, OnOk, IfOk, IfErr, IfSome, IsTrue, length, option_map, string_bytes, vec_len};
+ghost use Rattle.std.specs.Io.KnownBytes.{IsAtEnd, Appends};
+ghost use Rattle.trace_text.specs.ByteLoops.{WasFaultless};
+ghost use Rattle.trace_text.specs.Faults.{inner_of, faults_of, is_flushed};
+ghost use Rattle.event_log.specs.Imports.{IsImportOf};
+ghost use Rattle.event_log.specs.Options.{AreOptions};
+ghost use Rattle.text_commands.specs.Imports.{IsFaultOfImport, IsImportOptionFault, IsImportTold, IsQuietFault, IsUnimported, IsUnreadLog, WentOut};
+ghost use Rattle.text_commands.specs.Inputs.{IsReadFault};
+ghost use Rattle.text_commands.specs.Printing.{IsWriteFault};
+ghost use Rattle.text_commands.specs.Serving.{IsServeFault};
+
+use crate::faults::Fault;
+use crate::import_lines::notes_text;
+use event_log::{Import, LogError, Options, read_log, read_options};
+use std::alloc::Global;
+use std::io::{Read, Write};
+use trace_text::{Counting, TextError, read_all, trace_text_2_of, write_text};
+
+/// How a log is read, as texts tell it: the nodes, with one comma between each two; the length of a tick, which is 1 where
+/// it is left out; and when the log ends.
+///
+/// Refuses Import for the first of the three that tells nothing, in this order, and Memory.
+pub fn import_options(
+    alloc: Global,
+    nodes: Option<&str>,
+    tick: Option<&str>,
+    until: Option<&str>,
+    spread: bool,
+) -> Result<Options, Fault>
+    ensures options { IfOk result (λ o. AreOptions (option_map (λ t. t.now) nodes.entry) (option_map (λ t. t.now) tick.entry) (option_map (λ t. t.now) until.entry) spread o) }
+    ensures refused { IfErr result (IsImportOptionFault (option_map (λ t. t.now) nodes.entry) (option_map (λ t. t.now) tick.entry) (option_map (λ t. t.now) until.entry)) }
+{
+    Ok(read_options(alloc, nodes, tick, until, spread)?)
+}
+
+/// Reads a log to its end, tells the notes on it, and writes the text of its trace in version 2. The notes are which
+/// processor each node is, where the nodes aren't listed, and how far events went, where they may be spread. Nothing is told or
+/// written before both texts stand; that the notes can't be told stops nothing.
+///
+/// Refuses, in this order: Read, or Log for a text that is too large; Log for any other refusal of the log; Write with the
+/// number of bytes of the trace's text that went out before. Memory may come at any step before the notes are told.
+pub fn run_import<R: Read, W: Write, N: Write>(
+    alloc: Global,
+    options: &Options,
+    reader: &mut Counting<R>,
+    writer: &mut Counting<W>,
+    notes: &mut Counting<N>,
+) -> Result<(), Fault>
+    ensures end { OnOk result (IsAtEnd (R.remaining (inner_of reader.new))) }
+    ensures import { OnOk result ((text : List ℕ) × (out : List ℕ)
+        × IfSome (R.remaining (inner_of reader.old)) (λ known. text ≡ known)
+        × IsImportTold options.now (WentOut N.contents notes.old notes.new) text out
+        × Appends (W.contents (inner_of writer.old)) (W.contents (inner_of writer.new)) out) }
+    ensures flushed { OnOk result (IsTrue (is_flushed writer.new)) }
+    ensures faultless { OnOk result ((faults_of reader.new ≡ faults_of reader.old) × WasFaultless writer.old writer.new) }
+    ensures refused { IfErr result (λ why. IfSome (R.remaining (inner_of reader.old)) (λ text.
+        IsServeFault (IsImportTold options.now (WentOut N.contents notes.old notes.new)) (IsUnimported options.now) text
+        (W.contents (inner_of writer.old)) (W.contents (inner_of writer.new)) why)) }
+    ensures own { IfErr result IsFaultOfImport }
+    ensures read { IfErr result (IsReadFault (faults_of reader.old) (faults_of reader.new)) }
+    ensures unwritten { IfErr result (IsWriteFault writer.old writer.new) }
+    ensures quiet { IfErr result (IsQuietFault notes.old notes.new) }
+{
+    let text = log_text(alloc, reader)?;
+    let texts = texts_of(alloc, text, options)?;
+    tell_notes(texts.notes.as_str(), notes);
+    Ok(write_text(&texts.trace, writer)?)
+}
+
+/// All bytes of a log.
+fn log_text<R: Read>(alloc: Global, reader: &mut Counting<R>) -> Result<Vec<u8>, Fault>
+    ensures text { IfOk result (λ text. IfSome (R.remaining (inner_of reader.old)) (λ known. text.items ≡ known)) }
+    ensures end { OnOk result (IsAtEnd (R.remaining (inner_of reader.new))) }
+    ensures faultless { OnOk result (faults_of reader.new ≡ faults_of reader.old) }
+    ensures refused { IfErr result (IsUnreadLog (R.remaining (inner_of reader.old))) }
+    ensures read { IfErr result (IsReadFault (faults_of reader.old) (faults_of reader.new)) }
+{
+    match read_all(alloc, reader) {
+        Ok(text) => Ok(text),
+        Err(TextError::TooLarge) => Err(Fault::Log(LogError::TooLarge)),
+        Err(TextError::Read) => Err(Fault::Read),
+        Err(_) => Err(Fault::Memory),
+    }
+}
+
+/// What is made of a log.
+#[derive(Drop)]
+struct ImportTexts {
+    /// The text of its trace.
+    trace: Vec<u8>,
+    /// The notes on it.
+    notes: String,
+}
+
+/// The texts that are made of a log. It lets go of the log before it makes them.
+fn texts_of(alloc: Global, text: Vec<u8>, options: &Options) -> Result<ImportTexts, Fault>
+    ensures texts { IfOk result (λ texts. IsImportTold options.now (λ notes. string_bytes texts.notes ≡ notes) text.items texts.trace.items) }
+    ensures refused { IfErr result (IsUnimported options.now text.items) }
+{
+    let import = import_of(alloc, text, options)?;
+    let notes = notes_text(alloc, options, &import)?;
+    let trace = trace_text_2_of(alloc, &import.trace)?;
+    Ok(ImportTexts { trace, notes })
+}
+
+/// A log read as a trace. It lets go of the text, which takes much memory for a long log.
+fn import_of(alloc: Global, text: Vec<u8>, options: &Options) -> Result<Import, Fault>
+    ensures import { IfOk result (λ import. IsImportOf options.now text.items import) }
+    ensures refused { IfErr result (IsUnimported options.now text.items) }
+{
+    Ok(read_log(alloc, &text, options)?)
+}
+
+/// Tells the notes on a log, if it can.
+fn tell_notes<N: Write>(text: &str, notes: &mut Counting<N>)
+    ensures { WentOut N.contents notes.old notes.new text.now }
+{
+    match write_text(text.as_bytes(), notes) {
+        Ok(()) => {}
+        Err(_) => {}
+    }
+}

@@ -1,0 +1,249 @@
+//! What an import of a log writes and tells, on worked logs.
+
+use event_log::Options;
+use std::alloc::{AllocError, Global};
+use std::io::ErrorKind;
+use std::test::Fail;
+use text_commands::{Fault, fault_text, import_options, run_import, status};
+use trace_text::Counting;
+use trace_text::failing_devices::{AfterBytes, FailingReader, FailingWriter, WriteFailure};
+
+/// A log, and the options that are told with it.
+#[derive(Clone, Copy, Debug)]
+struct Given {
+    log: &'static str,
+    nodes: Option<&'static str>,
+    tick: Option<&'static str>,
+    until: Option<&'static str>,
+    spread: bool,
+}
+
+const TWO_NODES: &str =
+    "time,node,event,to,message\n10,b,send,a,m2\n10,a,send,b,m1\n13,a,receive,,m2\n\
+    13,b,receive,,\n15,b,receive,,m1\n";
+
+const LISTED: Given = Given {
+    log: TWO_NODES,
+    nodes: Some("a,b"),
+    tick: None,
+    until: Some("16"),
+    spread: false,
+};
+
+const LISTED_TRACE: &str = "dls-trace,2,2,0\ninit,0,0\n1,1,1,S,2\n2,1,2,S,1\n3,4,1,R,2\n4,4,2,R,\n\
+    5,6,2,R,1\nend,7\n";
+
+const UNLISTED: Given = Given {
+    log: TWO_NODES,
+    nodes: None,
+    tick: None,
+    until: Some("16"),
+    spread: false,
+};
+
+const UNLISTED_TRACE: &str =
+    "dls-trace,2,2,0\ninit,0,0\n1,1,1,S,2\n2,1,2,S,1\n3,4,1,R,\n4,4,2,R,1\n\
+    5,6,1,R,2\nend,7\n";
+
+const UNLISTED_NOTES: &str = "synchrony: processor 1 is b\nsynchrony: processor 2 is a\n";
+
+const UNMOVED: Given = Given {
+    log: TWO_NODES,
+    nodes: Some("a,b"),
+    tick: None,
+    until: Some("16"),
+    spread: true,
+};
+
+const BROADCAST: &str =
+    "time,node,event,to,message\n10,a,send,b,m1\n10,a,send,c,m2\n10,b,receive,,m1\n\
+    10,c,receive,,m2\n";
+
+const SPREAD: Given = Given {
+    log: BROADCAST,
+    nodes: None,
+    tick: None,
+    until: None,
+    spread: true,
+};
+
+const SPREAD_TRACE: &str =
+    "dls-trace,2,3,0\ninit,0,0,0\n1,1,1,S,2\n2,2,1,S,3\n3,2,2,R,1\n4,3,3,R,2\nend,3\n";
+
+const SPREAD_NOTES: &str =
+    "synchrony: processor 1 is a\nsynchrony: processor 2 is b\nsynchrony: processor 3 is c\n\
+    synchrony: 3 of 4 events moved, by at most 2 ticks\n";
+
+/// Logs, what is written of them, and what is told.
+const IMPORTED: &[(Given, &str, &str)] = &[
+    (LISTED, LISTED_TRACE, ""),
+    (UNLISTED, UNLISTED_TRACE, UNLISTED_NOTES),
+    (
+        UNMOVED,
+        LISTED_TRACE,
+        "synchrony: 0 of 5 events moved, by at most 0 ticks\n",
+    ),
+    (SPREAD, SPREAD_TRACE, SPREAD_NOTES),
+];
+
+fn options_of(alloc: Global, given: Given) -> Result<Options, Fault> {
+    import_options(alloc, given.nodes, given.tick, given.until, given.spread)
+}
+
+/// Imports a log to two devices.
+fn imported(
+    alloc: Global,
+    given: Given,
+    writer: &mut FailingWriter,
+    notes: &mut FailingWriter,
+) -> Result<(), Fault> {
+    let options = options_of(alloc, given)?;
+    let device = FailingReader::new(given.log.as_bytes(), 7, AfterBytes::End);
+    let mut reader = Counting::new(device);
+    run_import(
+        alloc,
+        &options,
+        &mut reader,
+        &mut Counting::new(writer),
+        &mut Counting::new(notes),
+    )
+}
+
+#[test]
+fn logs_are_imported(rt: HostRuntime) -> Result<(), Fail> {
+    for &(given, trace, told) in IMPORTED {
+        let mut writer = FailingWriter::new(rt.alloc(), 10, WriteFailure::Never);
+        let mut notes = FailingWriter::new(rt.alloc(), 10, WriteFailure::Never);
+        let ended = imported(rt.alloc(), given, &mut writer, &mut notes);
+        assert!(rt; ended.is_ok(), "{given:?}");
+        assert!(rt; writer.taken() == trace.as_bytes(), "{given:?}");
+        assert!(rt; notes.taken() == told.as_bytes(), "{given:?}");
+    }
+    Ok(())
+}
+
+/// Logs or options that are refused, the status and the line.
+const REFUSED: &[(Given, u8, &str)] = &[
+    (
+        Given {
+            spread: false,
+            ..SPREAD
+        },
+        3,
+        "synchrony: log: record 3: a second event of a in tick 1\nsynchrony: --spread sets them apart",
+    ),
+    (
+        Given {
+            tick: Some("5"),
+            ..LISTED
+        },
+        3,
+        "synchrony: log: record 4: message m2 is received no later than it was sent\n\
+        synchrony: a shorter --tick sets them apart",
+    ),
+    (
+        Given {
+            tick: Some("5ms"),
+            ..LISTED
+        },
+        2,
+        "synchrony: --tick does not fit the times",
+    ),
+    (
+        Given {
+            until: Some("14"),
+            ..LISTED
+        },
+        2,
+        "synchrony: --until does not fit the times",
+    ),
+    (
+        Given {
+            until: Some("1000010"),
+            ..LISTED
+        },
+        3,
+        "synchrony: log: too many ticks\nsynchrony: a greater --tick makes fewer",
+    ),
+    (
+        Given {
+            nodes: Some("a,b,a"),
+            ..LISTED
+        },
+        2,
+        "synchrony: bad --nodes",
+    ),
+    (
+        Given {
+            tick: Some("0"),
+            until: Some("x"),
+            ..LISTED
+        },
+        2,
+        "synchrony: bad --tick",
+    ),
+    (
+        Given {
+            until: Some("x"),
+            ..LISTED
+        },
+        2,
+        "synchrony: bad --until",
+    ),
+];
+
+/// Whether an import was refused with this status and this line.
+fn is_refused(
+    alloc: Global,
+    ended: &Result<(), Fault>,
+    code: u8,
+    line: &str,
+) -> Result<bool, AllocError> {
+    let Err(fault) = ended else {
+        return Ok(false);
+    };
+    let text = fault_text(alloc, fault)?;
+    Ok(status(fault) == code && text.as_str() == line)
+}
+
+#[test]
+fn nothing_is_told_of_a_refused_log(rt: HostRuntime) -> Result<(), Fail> {
+    for &(given, code, line) in REFUSED {
+        let mut writer = FailingWriter::new(rt.alloc(), 10, WriteFailure::Never);
+        let mut notes = FailingWriter::new(rt.alloc(), 10, WriteFailure::Never);
+        let ended = imported(rt.alloc(), given, &mut writer, &mut notes);
+        let refused = is_refused(rt.alloc(), &ended, code, line)?;
+        assert!(rt; refused, "{line}");
+        assert!(rt; writer.writes() == 0 && notes.writes() == 0, "{line}");
+    }
+    Ok(())
+}
+
+#[test]
+fn untold_notes_stop_nothing(rt: HostRuntime) -> Result<(), Fail> {
+    for count in 0..SPREAD_NOTES.len() {
+        let failure = WriteFailure::FailAfter(count, ErrorKind::BrokenPipe);
+        let mut writer = FailingWriter::new(rt.alloc(), 10, WriteFailure::Never);
+        let mut notes = FailingWriter::new(rt.alloc(), 10, failure);
+        let ended = imported(rt.alloc(), SPREAD, &mut writer, &mut notes);
+        let whole = ended.is_ok() && writer.taken() == SPREAD_TRACE.as_bytes();
+        assert!(rt; whole && notes.taken().len() == count, "{count}");
+    }
+    Ok(())
+}
+
+#[test]
+fn a_failed_write_comes_after_the_notes(rt: HostRuntime) -> Result<(), Fail> {
+    for count in 0..SPREAD_TRACE.len() {
+        let failure = WriteFailure::FailAfter(count, ErrorKind::Other);
+        let mut writer = FailingWriter::new(rt.alloc(), 10, failure);
+        let mut notes = FailingWriter::new(rt.alloc(), 10, WriteFailure::Never);
+        let ended = imported(rt.alloc(), SPREAD, &mut writer, &mut notes);
+        let stopped = matches!(ended, Err(Fault::Write(written)) if written == count as u64);
+        assert!(rt;
+            stopped && notes.taken() == SPREAD_NOTES.as_bytes(),
+            "{count}"
+        );
+    }
+    Ok(())
+}
