@@ -5,10 +5,11 @@
     bench/import_oracle.py --self-test
 
 The first answers as the program should: standard output, standard error and status. The second tries the texts of
-`import_times.py` and the logs of `import_rows.cases`, whose answers were worked out by hand, and ends with 'N passed, M
+`import_times.py` and the logs of `tests/cases/import*.cases`, whose answers were worked out by hand, and ends with 'N passed, M
 failed'.
 """
 import argparse
+import glob
 import os
 import re
 import subprocess
@@ -21,7 +22,7 @@ import import_times
 from import_times import above_zero, number, stamp
 
 HERE = os.path.dirname(os.path.realpath(__file__))
-CASES = f"{HERE}/import_rows.cases"
+CASES = sorted(glob.glob(f"{HERE}/../tests/cases/import*.cases"))
 TEXT_LIMIT = 67_108_864
 EVENT_LIMIT = 1_000_000
 TICK_LIMIT = 1_000_000
@@ -341,7 +342,7 @@ def self_test():
     tried, wrong = import_times.failures()
     for it in wrong:
         print(f"FAILED {it}")
-    ran = subprocess.run([f"{HERE}/../tests/run", os.path.realpath(__file__), CASES], stdout=subprocess.PIPE, text=True)
+    ran = subprocess.run([f"{HERE}/../tests/run", os.path.realpath(__file__), *CASES], stdout=subprocess.PIPE, text=True)
     *told, last = ran.stdout.splitlines()
     print("\n".join(told), end="\n" if told else "")
     passed, failed = map(int, re.fullmatch(r"(\d+) passed, (\d+) failed", last).groups())
