@@ -38,7 +38,7 @@ unread_log o Told before after (Some text) w h = absurd h
 
 -- what holds of a text holds of the notes that it is
 pub now_told : (o : Options) (Told : List ℕ → Type 0) (notes text out : List ℕ) → IsImportTold o (λ n. notes ≡ n) text out → Told notes → IsImportTold o Told text out
-now_told o Told notes text out t h = record { import = t.import; exact = t.exact; written = t.written; told = subst Told t.told h }
+now_told o Told notes text out t h = record { import = t.import; exact = t.exact; written = t.written; stands = t.stands; told = subst Told t.told h }
 
 -- what a text's writer answers is what is told of a text
 pub front : (e : WriteError) (out : List ℕ) (before after : Option (List ℕ)) → WroteFront e out before after → IsUntold (fault_of_write e) out before after

@@ -3,3 +3,4 @@ pub mod ReportFaults
 pub mod ClaimedTexts
 pub mod CheckFaults
 pub mod ImportFaults
+pub mod ReadBack

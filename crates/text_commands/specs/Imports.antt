@@ -17,6 +17,7 @@ use Rattle.text_commands.specs.declared.faults.Fault.{Fault}
 use Rattle.text_commands.specs.declared.faults.Fault.TheVariants as fault
 use Rattle.text_commands.specs.declared.faults.ImportOption.TheVariants as option
 use Rattle.text_commands.specs.ImportLines.{notes_of}
+use Rattle.text_commands.specs.Inputs.{IsTextOf}
 use Rattle.text_commands.specs.Serving.{IsFaultOf, Kinds}
 
 -- why three texts tell no options: the first of them that is bad; or want of memory
@@ -28,11 +29,12 @@ IsImportOptionFault nodes tick until fault.Memory = ⊤
 IsImportOptionFault nodes tick until _ = ⊥
 
 -- The first text is a log that is read as a trace, by these options, and the second is the text of that trace in version
--- 2; and `Told` holds of the notes on it.
+-- 2, which is read back as that trace; and `Told` holds of the notes on it.
 pub record IsImportTold (o : Options) (Told : List ℕ → Type 0) (text out : List ℕ) : Type 0 where
   pub import : Import
   pub exact : IsImportOf o text import
   pub written : out ≡ trace_text_2 import.trace
+  pub stands : IsTextOf out import.trace
   pub told : Told (notes_of o import)
 
 -- a text went out whole, and was flushed; or the writer met a fault, after so many of its first bytes

@@ -5,11 +5,12 @@ use Rattle.trace_text.specs.TraceTexts.{trace_text_2}
 use Rattle.text_commands.specs.Inputs.{IsTextOf}
 use Rattle.text_commands.specs.Serving.{Kinds}
 
--- The first text stands for a trace, and the second is the text of that trace in version 2.
+-- The first text stands for a trace, and the second is the text of that trace in version 2, which is read back as it.
 pub record IsUpgradeOf (text upgrade : List ℕ) : Type 0 where
   pub trace : Recorded
   pub read : IsTextOf text trace
   pub written : upgrade ≡ trace_text_2 trace
+  pub stands : IsTextOf upgrade trace
 
 -- it refuses nothing beside a trace text
 abbrev pub upgrade_kinds : Kinds

@@ -13,10 +13,11 @@ ghost use Rattle.text_commands.specs.Serving.{IsServeFault};
 
 use crate::faults::Fault;
 use crate::import_lines::notes_text;
+use crate::upgrades::text_2_of;
 use event_log::{Import, LogError, Options, read_log, read_options};
 use std::alloc::Global;
 use std::io::{Read, Write};
-use trace_text::{Counting, TextError, read_all, trace_text_2_of, write_text};
+use trace_text::{Counting, TextError, read_all, write_text};
 
 /// How a log is read, as texts tell it: the nodes, with one comma between each two; the length of a tick, which is 1 where
 /// it is left out; and when the log ends.
@@ -101,7 +102,7 @@ fn texts_of(alloc: Global, text: Vec<u8>, options: &Options) -> Result<ImportTex
 {
     let import = import_of(alloc, text, options)?;
     let notes = notes_text(alloc, options, &import)?;
-    let trace = trace_text_2_of(alloc, &import.trace)?;
+    let trace = text_2_of(alloc, &import.trace)?;
     Ok(ImportTexts { trace, notes })
 }
 

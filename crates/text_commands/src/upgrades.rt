@@ -1,10 +1,12 @@
 //! The upgrade of a trace text to version 2, from a reader to a writer.
 
-ghost use Rattle.std.specs.Prelude.{◌≡◌, ℕ, List, OnOk, IfErr, IfSome, IsTrue};
+ghost use Rattle.std.specs.Prelude.{◌≡◌, ℕ, List, OnOk, IfOk, IfErr, IfSome, IsTrue};
 ghost use Rattle.std.specs.Io.KnownBytes.{IsAtEnd, Appends};
 ghost use Rattle.trace_text.specs.ByteLoops.{WasFaultless};
 ghost use Rattle.trace_text.specs.Faults.{inner_of, faults_of, is_flushed};
-ghost use Rattle.text_commands.specs.Inputs.{IsReadFault, IsTraceFault};
+ghost use Rattle.trace_text.specs.TraceTexts.{trace_text_2};
+ghost use Rattle.text_commands.specs.declared.faults.Fault.TheVariants as fault;
+ghost use Rattle.text_commands.specs.Inputs.{IsReadFault, IsTextOf, IsTraceFault};
 ghost use Rattle.text_commands.specs.Printing.{IsWriteFault};
 ghost use Rattle.text_commands.specs.Serving.{IsFaultOf, IsServeFault};
 ghost use Rattle.text_commands.specs.Upgrades.{IsUpgradeOf, upgrade_kinds};
@@ -14,6 +16,7 @@ use crate::inputs::trace_of;
 use crate::serving::{Answer, serve};
 use std::alloc::Global;
 use std::io::{Read, Write};
+use step_trace::Trace;
 use trace_text::{Counting, trace_text_2_of};
 
 /// Reads a trace text of either version to its end, and writes the version 2 text of its trace. Nothing is
@@ -43,6 +46,15 @@ pub fn run_upgrade<R: Read, W: Write>(
     serve(alloc, &Upgrade, reader, writer)
 }
 
+/// The text of a trace in version 2, which is read back as that trace.
+pub(crate) fn text_2_of(alloc: Global, trace: &Trace) -> Result<Vec<u8>, Fault>
+    ensures text { IfOk result (λ text. text.items ≡ trace_text_2 trace.now) }
+    ensures stands { IfOk result (λ text. IsTextOf text.items trace.now) }
+    ensures refused { IfErr result (λ why. why ≡ fault.Memory) }
+{
+    Ok(trace_text_2_of(alloc, trace)?)
+}
+
 /// The command `upgrade`.
 #[derive(Clone, Copy)]
 struct Upgrade;
@@ -59,7 +71,7 @@ impl Answer for Upgrade {
 
     fn answer(&self, alloc: Global, text: Vec<u8>) -> Result<Vec<u8>, Fault> {
         let trace = trace_of(alloc, text)?;
-        Ok(trace_text_2_of(alloc, &trace)?)
+        text_2_of(alloc, &trace)
     }
 
     ghost too_large = { λ _ text l. too_large text l };
