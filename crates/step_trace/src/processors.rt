@@ -33,6 +33,13 @@ impl ProcSet {
         ProcSet { mask: 0 }
     }
 
+    /// The set whose members are the bits of a mask: processor p is one where bit p - 1 is set.
+    pub fn of_mask(mask: u64) -> Self
+        ensures { result ≡ mask }
+    {
+        ProcSet { mask }
+    }
+
     /// The set with one more processor.
     pub fn with(self, p: u64) -> Self
         requires low { 1 ≤ p }
