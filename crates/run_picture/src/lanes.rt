@@ -1,5 +1,7 @@
 //! The lanes of the processors, and the axis of the ticks below them. Lengths are tenths of a pixel.
 
+ghost use Rattle.std.specs.Prelude.{◌≤◌};
+
 use crate::escapes::push_escaped;
 use crate::frames::{Frame, LANES_TOP};
 use crate::round_numbers::round_step;
@@ -29,6 +31,18 @@ pub(crate) fn put_lanes(
         put_lane(alloc, out, frame, p, set, names)?;
     }
     put_ticks(alloc, out, frame, window)
+}
+
+/// How far the longest name reaches beyond the usual left edge.
+pub(crate) fn overhang(names: &[&str]) -> u64
+    ensures { result ≤ 4_320 }
+{
+    let mut longest = 0;
+    for name in names {
+        longest = name.len().max(longest);
+    }
+    // (a letter is some 8 pixels wide, and 10 of them fit beside the lanes)
+    longest.clamp(10, 64).saturating_sub(10) as u64 * 80
 }
 
 fn put_lane(

@@ -1,9 +1,9 @@
 //! The text of a picture, as SVG. Lengths are tenths of a pixel.
 
-ghost use Rattle.std.specs.Prelude.{◌≡◌, ◌-◌, length, take, drop};
+ghost use Rattle.std.specs.Prelude.{◌≡◌, ◌-◌, ◌≤◌, length, take, drop};
 
 use crate::frames::Frame;
-use crate::lanes::put_lanes;
+use crate::lanes::{overhang, put_lanes};
 use crate::legend::{LEGEND, STYLE};
 use crate::message_lines::put_message;
 use crate::pictures::Picture;
@@ -34,7 +34,7 @@ pub fn svg_text(
     let mut out = Vec::new(alloc);
     let count = trace.config().n().min(64);
     let frame = Frame::new(picture.window, count);
-    put_head(alloc, &mut out, frame)?;
+    put_head(alloc, &mut out, frame, overhang(names))?;
     let last = trace.last_tick();
     if last == 0 {
         out.extend_from_slice(
@@ -54,12 +54,26 @@ pub(crate) fn put(out: &mut Vec<u8>, text: String) -> Result<(), AllocError> {
     out.extend_from_slice(text.as_bytes())
 }
 
-fn put_head(alloc: Global, out: &mut Vec<u8>, frame: Frame) -> Result<(), AllocError> {
+// The page is wider by what names reach beyond its left edge.
+fn put_head(
+    alloc: Global,
+    out: &mut Vec<u8>,
+    frame: Frame,
+    overhang: u64,
+) -> Result<(), AllocError>
+    requires { overhang ≤ 4_320 }
+{
     let height = frame.lanes_end() + 1_000;
+    let width = overhang + 11_200;
+    let (minus, edge) = if overhang == 0 {
+        ("", String::new(alloc))
+    } else {
+        ("-", format!(in alloc; " x=\"-{overhang}\"")?)
+    };
     put(
         out,
         format!(in alloc;
-            "<svg xmlns=\"http://www.w3.org/2000/svg\" viewBox=\"0 0 11200 {height}\" font-family=\"system-ui, sans-serif\" font-size=\"120\" fill=\"#1a1a1a\">\n{STYLE}<rect width=\"11200\" height=\"{height}\" fill=\"#fff\"/>\n"
+            "<svg xmlns=\"http://www.w3.org/2000/svg\" viewBox=\"{minus}{overhang} 0 {width} {height}\" font-family=\"system-ui, sans-serif\" font-size=\"120\" fill=\"#1a1a1a\">\n{STYLE}<rect{edge} width=\"{width}\" height=\"{height}\" fill=\"#fff\"/>\n"
         )?,
     )
 }
