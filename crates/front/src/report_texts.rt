@@ -43,7 +43,7 @@ pub fn write_report<W: Write>(
 }
 
 /// The text of a report of these rows.
-pub(crate) fn report_text_of(alloc: Global, rows: &[Row]) -> Result<Vec<u8>, AllocError>
+pub fn report_text_of(alloc: Global, rows: &[Row]) -> Result<Vec<u8>, AllocError>
     ensures { IfOk result (λ v. v.items ≡ report_text rows.now) }
 {
     let mut writer = record_writer(alloc);
