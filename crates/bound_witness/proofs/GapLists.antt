@@ -83,19 +83,6 @@ ListsGapsBy-pass set trace p ws n = ListsGapsBy-next set trace p 0 ws (λ w i q.
 pub ListsGapsBy-end : (set : ℕ) (trace : Recorded) (p k : ℕ) (ws : List Gap) → trace.last < k → ListsGapsBy set trace p k ws → ListsGapsBy set trace (p + 1) 0 ws
 ListsGapsBy-end set trace p k ws l = ListsGapsBy-next set trace p k ws (λ w i q. let a = i.order in let b = i.inside in omega arith)
 
--- no processor is before the first
-pub ListsGapsBy-none : (set : ℕ) (trace : Recorded) → ListsGapsBy set trace 1 0 []
-ListsGapsBy-none set trace = record {
-  listed = λ w. (
-    λ h. absurd (let l : h.0 < 0 = h.1 in omega arith),
-    λ h. absurd (elim h.1 [
-      | inl a ↦ (let z : w.proc ≡ 0 = omega arith in let m = subst (λ k. has_proc set k ≡ true) z h.0.gap.member in cc)
-      | inr a ↦ (let s = h.0.gap.start in let z : w.from ≤ 0 = a.1 in omega arith)
-    ]),
-  );
-  ordered = λ i j d a b. absurd (let l : j < 0 = b in omega arith);
-}
-
 -- the list of all members has each longest gap
 pub ListsGapsBy-all : (set : ℕ) (trace : Recorded) (n : ℕ) (ws : List Gap) → IsWithin set n → ListsGapsBy set trace (n + 1) 0 ws → (w : Gap) → Contains ws w ↔ IsLongestGap set trace w
 ListsGapsBy-all set trace n ws within l w = (λ h. ((l.listed w).0 h).0, λ g. (l.listed w).1 (g, inl (let p = within w.proc g.gap.member in omega arith)))

@@ -1,5 +1,5 @@
 -- The gap of one length that a search has found so far, and the named gap at its end.
-use Rattle.std.proofs.Common.{ℕ, ◌≡◌, ◌≢◌, ◌+◌, ◌-◌, ◌<◌, ◌≤◌, inl, inr, Option, Some, None, true, false, arith, subst, sym}
+use Rattle.std.proofs.Common.{ℕ, ◌≡◌, ◌≢◌, ◌+◌, ◌-◌, ◌<◌, ◌≤◌, inl, inr, Option, Some, None, false, arith, subst, sym}
 use Rattle.std.proofs.lemmas.Bool.{cases_lt, cases_eq}
 use Rattle.std.specs.Prelude.{MatchOption, is_some}
 use Rattle.step_trace.specs.declared.rows.Gap.{Gap}
@@ -87,8 +87,3 @@ NamesGap-found set trace g f (Some w) h k n =
 pub all_step : (set : ℕ) (trace : Recorded) (x f : ℕ) (o : Option ℕ) → is_some o ≡ false → MatchOption o (AllStepWithin set trace x f) (IsFirstSilent set trace x f) → AllStepWithin set trace x f
 all_step set trace x f None e h = h
 all_step set trace x f (Some p) e h = cc
-
--- where a member is silent, not all of them take a step
-pub one_silent : (set : ℕ) (trace : Recorded) (x f : ℕ) (o : Option ℕ) → is_some o ≡ true → MatchOption o (AllStepWithin set trace x f) (IsFirstSilent set trace x f) → ¬ AllStepWithin set trace x f
-one_silent set trace x f None e h = cc
-one_silent set trace x f (Some p) e h = λ a. h.silent (a.each p h.member)

@@ -1,5 +1,5 @@
 -- The longest miss from one message more on.
-use Rattle.std.proofs.Common.{ℕ, length, ◌≡◌, ◌+◌, ◌-◌, ◌<◌, ◌≤◌, inl, inr, Option, Some, None, Bool, true, false, cond, refl, ap, sym, ◌∙◌, arith}
+use Rattle.std.proofs.Common.{ℕ, ◌≡◌, ◌+◌, ◌-◌, ◌<◌, ◌≤◌, inl, inr, Option, Some, None, Bool, true, false, cond, refl, ap, sym, ◌∙◌, arith}
 use Rattle.std.specs.Prelude.{MatchOption, nat_lt, IfSome}
 use Rattle.std.proofs.lemmas.Bool.{cases_eq, ltb-true, ltb-false}
 use Rattle.step_trace.specs.declared.rows.Miss.{Miss}
@@ -73,10 +73,6 @@ KnowsMissesAfter-earlier set t s (Some v) (Some w) low here later = go (nat_lt (
       let b = later.miss.late in
       let c = here.miss.late in
       omega (arith, long, most, at, same, a, b, c)) later
-
--- after the last step there is no miss
-pub KnowsMissesAfter-after_all : (set : ℕ) (t : Recorded) → HasNoMissAfter set t (length t.steps)
-KnowsMissesAfter-after_all set t o i f = let sent = step_at_within t.steps o.sent _ i.message.sent in omega (arith, sent, f)
 
 -- the misses that are found have a length
 pub span_of_last : (set : ℕ) (t : Recorded) (s : ℕ) (o : Option Miss) → MatchOption o (HasNoMiss set t s) (IsLastMiss set t s) → IfSome o (HasSpan t)

@@ -15,7 +15,7 @@ use Rattle.certificate_checker.specs.Verdicts.{Stands}
 use Rattle.certificate_checker.specs.Searches.{AreInOrder}
 use Rattle.certificate_checker.specs.Closings.{AreClosings}
 use Rattle.certificate_checker.specs.LongestWitnesses.{HasNoGapAt, IsLongestGapAt}
-use Rattle.certificate_checker.specs.LongestSilences.{IsAhead, IsLongestSilence, IsTooShort}
+use Rattle.certificate_checker.specs.LongestSilences.{IsLongestSilence, IsTooShort}
 use Rattle.certificate_checker.proofs.RowSearches.{no_row, row_at_within, row_at_next, row_at_same}
 
 -- a row that is too short has a number from 1 on
@@ -52,10 +52,6 @@ too_short_not closings rows i s longest not v h =
     let short = h.short in
     let late = not (omega (arith, most, some)) in
     omega (arith, most, some, short, late, bound)
-
--- a closing is no earlier than its tick
-pub IsAhead-closings : (set : ℕ) (t : Recorded) (closings : List ℕ) → AreClosings set t closings → IsAhead closings
-IsAhead-closings set t closings c x l = let long = c.long in (c.each x (omega (arith, l, long))).from
 
 -- in a tick that isn't closed by itself a gap begins that ends before the tick that closes it
 gap_of_closing : (set : ℕ) (t : Recorded) (closings : List ℕ) (x : ℕ) → AreClosings set t closings → 1 ≤ x → x ≤ t.last → x < slice_index closings x

@@ -7,7 +7,7 @@ use Rattle.step_trace.specs.declared.rows.Row.{Row}
 use Rattle.step_trace.specs.Traces.{Recorded}
 use Rattle.certificate_checker.specs.declared.verdicts.Reason.{Reason}
 use Rattle.certificate_checker.specs.declared.verdicts.Reason.TheVariants.{NoRows, FirstNotOne, NotRising, BeyondEnd, NotNonIncreasing, SameAsBefore, BadMiss, BadGap, DeltaFails, PhiFails}
-use Rattle.certificate_checker.specs.declared.verdicts.Verdict.TheVariants.{Yes, No}
+use Rattle.certificate_checker.specs.declared.verdicts.Verdict.TheVariants.{No}
 use Rattle.certificate_checker.specs.Certificates.{row_at}
 use Rattle.certificate_checker.specs.Verdicts.{Stands, place_of, row_of, IsVerdict}
 use Rattle.certificate_checker.specs.Searches.{IsFirstReason, AreInOrder}
@@ -40,22 +40,6 @@ place_low (BadMiss k) = omega arith
 place_low (BadGap k) = omega arith
 place_low (DeltaFails k x) = omega arith
 place_low (PhiFails k x) = omega arith
-
-place_high : (w : Reason) → place_of w ≤ 10
-place_high NoRows = omega arith
-place_high FirstNotOne = omega arith
-place_high (NotRising k) = omega arith
-place_high (BeyondEnd k) = omega arith
-place_high (NotNonIncreasing k) = omega arith
-place_high (SameAsBefore k) = omega arith
-place_high (BadMiss k) = omega arith
-place_high (BadGap k) = omega arith
-place_high (DeltaFails k x) = omega arith
-place_high (PhiFails k x) = omega arith
-
--- the first of all kinds is the verdict
-pub verdict_none : (set : ℕ) (t : Recorded) (rows : List Row) → IsFirstReason set t rows 1 10 None → IsVerdict set t rows Yes
-verdict_none set t rows h w s = h w (place_low w) (place_high w) s
 
 pub verdict_some : (set : ℕ) (t : Recorded) (rows : List Row) (high : ℕ) (w : Reason) → IsFirstReason set t rows 1 high (Some w) → IsVerdict set t rows (No w)
 verdict_some set t rows high w h = (h.0, λ o s. h.1 o (place_low o) s)
@@ -162,16 +146,3 @@ some_rows set t rows some = none_in set t rows 1 (λ s. some (ap (λ (list : Lis
 pub first_is_one : (set : ℕ) (t : Recorded) (rows : List Row) → (length rows ≡ 0 → ⊥) → (get_or rows 0 no_row).gst ≡ 1 → IsFirstReason set t rows 1 2 None
 first_is_one set t rows some one = first_after set t rows 1 1 2 2 None refl (some_rows set t rows some)
     (none_in set t rows 2 (λ s. s.1 (ap (λ (r : Row). r.gst) (row_at_same rows 0 s.0.row no_row s.0.here) ∙ one)))
-
--- where there are no rows, no other reason than that stands
-pub no_rows_left : (set : ℕ) (t : Recorded) (rows : List Row) → length rows ≡ 0 → IsFirstReason set t rows 1 6 None → IsVerdict set t rows Yes
-no_rows_left set t rows e none NoRows s = none NoRows (omega arith) (omega arith) s
-no_rows_left set t rows e none FirstNotOne s = none FirstNotOne (omega arith) (omega arith) s
-no_rows_left set t rows e none (NotRising k) s = none (NotRising k) (omega arith) (omega arith) s
-no_rows_left set t rows e none (BeyondEnd k) s = none (BeyondEnd k) (omega arith) (omega arith) s
-no_rows_left set t rows e none (NotNonIncreasing k) s = none (NotNonIncreasing k) (omega arith) (omega arith) s
-no_rows_left set t rows e none (SameAsBefore k) s = none (SameAsBefore k) (omega arith) (omega arith) s
-no_rows_left set t rows e none (BadMiss k) s = let w = row_at_within rows k s.0.row s.0.here in omega (arith, w, e)
-no_rows_left set t rows e none (BadGap k) s = let w = row_at_within rows k s.0.row s.0.here in omega (arith, w, e)
-no_rows_left set t rows e none (DeltaFails k x) s = let w = row_at_within rows k s.0.row s.0.here in omega (arith, w, e)
-no_rows_left set t rows e none (PhiFails k x) s = let w = row_at_within rows k s.0.row s.0.here in omega (arith, w, e)

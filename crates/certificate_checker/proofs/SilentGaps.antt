@@ -5,12 +5,11 @@ use Rattle.std.proofs.lemmas.Bool.{cases_eq, cases_lt}
 use Rattle.std.proofs.lemmas.Option.{slice_get_read}
 use Rattle.std.proofs.lemmas.List.{length-append}
 use Rattle.step_trace.specs.declared.rows.Gap.{Gap}
-use Rattle.step_trace.specs.Processors.{has_proc, IsWithin}
+use Rattle.step_trace.specs.Processors.{has_proc}
 use Rattle.step_trace.specs.Traces.{Recorded}
 use Rattle.step_trace.specs.Witnesses.{IsGap}
 use Rattle.certificate_checker.specs.declared.silences.Silence.{Silence}
 use Rattle.certificate_checker.specs.Silences.{IsNextStep, IsSilence, AreSilences}
-use Rattle.certificate_checker.specs.LongestWitnesses.{HasNoGapAt, IsLongestGapAt}
 use Rattle.certificate_checker.proofs.ListEnds.{slice_get-push}
 
 -- the silence of a member, where it is read
@@ -60,17 +59,6 @@ pub record KnowsLongest (set : ℕ) (t : Recorded) (x p proc end : ℕ) : Type 0
   pub shorter : (o : Gap) → IsGap set t o → o.from ≡ x → o.proc < p → o.to < end
   pub least : (o : Gap) → IsGap set t o → o.from ≡ x → o.proc < proc → o.to + 1 < end
 
--- before the first member
-pub KnowsLongest-none : (set : ℕ) (t : Recorded) (x : ℕ) → x ≤ t.last → KnowsLongest set t x 1 0 x
-KnowsLongest-none set t x high = record {
-  within = omega arith;
-  inside = omega (arith, high);
-  alone = λ _. refl;
-  found = λ l. absurd (omega (arith, l));
-  shorter = λ o g e l. absurd (let low = member_low set o.proc g.member in omega (arith, low, l));
-  least = λ o g e l. absurd (omega (arith, l));
-}
-
 -- a gap of p that begins in x ends before its next step
 own_end : (set : ℕ) (t : Recorded) (x p next : ℕ) (o : Gap) → IsNextStep t p x next → IsGap set t o → o.from ≡ x → o.proc ≡ p → o.to < next
 own_end set t x p next o n g from proc = gap_ends set t o next (subst (λ (q : ℕ). IsNextStep t q o.from next) (sym proc) (subst (λ (y : ℕ). IsNextStep t p y next) (sym from) n)) g
@@ -119,24 +107,3 @@ KnowsLongest-taken set t x p proc end next n member low later k =
       ];
       least = λ o g e l. (let short = k.shorter o g e l in omega (arith, short, later));
     }
-
--- after the last member: nobody is silent in x
-pub HasNoGapAt-from_known : (set : ℕ) (t : Recorded) (x p end : ℕ) → IsWithin set t.config.n → t.config.n < p → KnowsLongest set t x p 0 end → HasNoGapAt set t x
-HasNoGapAt-from_known set t x p end within all k o g e =
-    let short = k.shorter o g e (let high = within o.proc g.member in omega (arith, high, all)) in
-    let none = k.alone refl in
-    let order = g.order in
-    omega (arith, short, none, order, e)
-
--- or the longest gap is known
-pub IsLongestGapAt-from_known : (set : ℕ) (t : Recorded) (x p proc end : ℕ) → IsWithin set t.config.n → t.config.n < p → 0 < proc → KnowsLongest set t x p proc end
-    → IsLongestGapAt set t x (record { proc = proc; from = x; to = end - 1 })
-IsLongestGapAt-from_known set t x p proc end within all some k = record {
-  gap = (k.found some).0;
-  from = refl;
-  longest = λ o g e. (let short = k.shorter o g e (let high = within o.proc g.member in omega (arith, high, all)) in omega (arith, short));
-  least = λ o g e same. elim (cases_lt o.proc proc) [
-    | inl l ↦ absurd (let short = k.least o g e l in let later = (k.found some).1 in omega (arith, short, same, later))
-    | inr l ↦ l
-  ];
-}

@@ -20,7 +20,7 @@ use Rattle.chunk_join.specs.declared.summaries.Message.{Message}
 use Rattle.chunk_join.specs.Summaries.{IsListing, IsLastReceive, AreLastReceives, SentBefore, last_of}
 use Rattle.chunk_join.specs.TickSteps.{AreStepsBefore}
 use Rattle.chunk_join.specs.BlockSteps.{IsOpenBy, AreFated, fated, IsLastBy, AreLastBy}
-use Rattle.chunk_join.proofs.ListingGrowth.{IsListing-none, IsListing-same, IsListing-push}
+use Rattle.chunk_join.proofs.ListingGrowth.{IsListing-same, IsListing-push}
 use Rattle.chunk_join.proofs.LastEntries.{member_high, length-none, last_of-replicate, last_of-set}
 
 -- a step of the first ones is in an early tick, and one that isn't, isn't
@@ -36,14 +36,6 @@ step_first t x a k s o e l = elim (cases_lt a k) [
 -- the next step of a block is after its first cut
 pub step_after : (t : Recorded) (from a k : ℕ) → 1 ≤ from → AreStepsBefore t from a → a ≤ k → k < length t.steps → from - 1 < tick_of t (k + 1)
 step_after t from a k low o l h = let r = o.rest (k + 1) (omega (arith, l)) (omega (arith, h)) in omega (arith, r, low)
-
--- before the block's first step nothing is known
-pub opens_none : (set : ℕ) (t : Recorded) (from a : ℕ) → 1 ≤ from → AreStepsBefore t from a → IsListing SentBefore (IsOpenBy set t (from - 1) a) []
-opens_none set t from a low o = IsListing-none SentBefore (IsOpenBy set t (from - 1) a) (λ m i. (
-    let early = step_early t from a m.sent.no _ o i.message.sent i.until in
-    let place = i.place in
-    let after = i.after in
-    omega (arith, early, place, after)))
 
 -- a Send between members adds its message
 pub opens_more : (t : Recorded) → IsTimed t → (set i k b : ℕ) (sent : List Message) → i < tick_of t (k + 1) → IsMessage set t.steps (k + 1) b

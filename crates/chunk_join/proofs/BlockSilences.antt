@@ -1,8 +1,8 @@
 -- The silences of a block: those that its steps end, tick by tick, and those that last up to its end.
-use Rattle.std.proofs.Common.{ℕ, ◌≡◌, ◌≢◌, ◌+◌, ◌-◌, ◌<◌, ◌≤◌, ◌⊎◌, ◌++◌, inl, inr, List, [], ◌∷◌, length, get_or, replicate, Some, IsTrue, refl, sym, ap, subst, ◌∙◌, arith}
+use Rattle.std.proofs.Common.{ℕ, ◌≡◌, ◌≢◌, ◌+◌, ◌-◌, ◌<◌, ◌≤◌, ◌⊎◌, ◌++◌, inl, inr, List, [], ◌∷◌, length, get_or, Some, IsTrue, refl, sym, ap, subst, ◌∙◌, arith}
 use Rattle.std.proofs.Common.{set as set_at}
 use Rattle.std.proofs.lemmas.Bool.{cases_eq, cases_lt}
-use Rattle.std.proofs.lemmas.List.{get_or-set_same, get_or-set_other, get_or-replicate}
+use Rattle.std.proofs.lemmas.List.{get_or-set_same, get_or-set_other}
 use Rattle.step_trace.specs.declared.processors.TheConstants.{MAX_MEMBER}
 use Rattle.step_trace.specs.declared.steps.Step.{Step}
 use Rattle.step_trace.specs.declared.rows.Gap.{Gap}
@@ -16,7 +16,7 @@ use Rattle.suffix_staircase.proofs.ReceivesLowered.{same_step}
 use Rattle.chunk_join.specs.Summaries.{IsListing, IsLongest, EndsBefore}
 use Rattle.chunk_join.specs.TickSteps.{AreStepsBefore}
 use Rattle.chunk_join.specs.BlockSteps.{IsDone, StepsDone, IsBegun, IsEnded, AreEnded, IsLongestFrom}
-use Rattle.chunk_join.proofs.ListingGrowth.{IsListing-none, IsListing-same, IsListing-push}
+use Rattle.chunk_join.proofs.ListingGrowth.{IsListing-same, IsListing-push}
 use Rattle.chunk_join.proofs.BlockMessages.{step_early}
 use Rattle.chunk_join.proofs.LastEntries.{member_low, member_high}
 
@@ -72,29 +72,6 @@ ended_after set t i x a silent begun o e = ended_alike set t i x a (x + 1) (leng
       | inr e ↦ absurd (let w = (step_at_within t.steps k _ s.1).1 in let n = e.1 in omega (arith, w, n))
     ])
     silent begun e
-
--- at the block's beginning nothing ended
-pub ended_none : (set : ℕ) (t : Recorded) (from : ℕ) (begun : List ℕ) → 1 ≤ from → begun ≡ replicate (MAX_MEMBER + 1) from → AreEnded set t (from - 1) from (length t.steps) [] begun
-ended_none set t from begun low e = record {
-  ended = IsListing-none EndsBefore (IsEnded set t (from - 1) from (length t.steps)) (λ w h.
-      let after = h.after in
-      let order = h.gap.order in
-      let tick = h.right.tick in
-      elim h.right.done [
-        | inl l ↦ omega (arith, after, order, tick, l)
-        | inr l ↦ (let w = (step_at_within t.steps h.right.place _ h.right.step.1).1 in let n = l.1 in omega (arith, w, n))
-      ]);
-  next = λ p m. subst (λ v. IsBegun t (from - 1) from (length t.steps) p v) (sym (here p m)) (record {
-    low = omega (arith, low);
-    left = inl (omega (arith, low));
-    quiet = λ k s d. elim d [
-      | inl l ↦ l
-      | inr l ↦ absurd (let w = (step_at_within t.steps k _ s.1).1 in let n = l.1 in omega (arith, w, n))
-    ];
-  });
-} where
-  here : (p : ℕ) → IsTrue (has_proc set p) → get_or begun p 0 ≡ from
-  here p m = ap (λ xs. get_or xs p 0) e ∙ get_or-replicate (MAX_MEMBER + 1) p from 0 (let h = member_high set p m in omega (arith, h))
 
 -- a silence of p that ends where all steps of p that are done are earlier begins where p's next one does
 begin_one : (t : Recorded) (set i x n p v : ℕ) (w : Gap) → IsBegun t i x n p v → ((k : ℕ) → IsStepOf t.steps k p → IsDone t x n k → tick_of t k < x) → ((k : ℕ) → IsStepOf t.steps k p → tick_of t k < x → IsDone t x n k)

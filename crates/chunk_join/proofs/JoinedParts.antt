@@ -38,25 +38,8 @@ Memory-all IsPart empty refusal joined laws why whole i k (x ∷ xs) a (inl here
 Memory-all IsPart empty refusal joined laws why whole i k (x ∷ xs) a (inr later) =
     Memory-after IsPart empty refusal joined laws why whole i (a.0) k x xs (a.1) (a.2) (subst (λ y. RefusesAfter refusal joined why y xs) (laws.left_unit x) (later.1))
 
--- parts join alike in any order of joins
-pub joined-assoc : {M W : Type 0} (IsPart : W → ℕ → ℕ → M → Type 0) (empty : M) (refusal : M → M → Option Why) (joined : M → M → M) → JoinedLaws IsPart empty refusal joined
-    → (whole : W) (i j k l : ℕ) (x y z : M) → IsPart whole i j x → IsPart whole j k y → IsPart whole k l z → joined (joined x y) z ≡ joined x (joined y z)
-joined-assoc IsPart empty refusal joined laws whole i j k l x y z a b c =
-    laws.one whole i l (joined (joined x y) z) (joined x (joined y z)) (laws.part whole i k l (joined x y) z (laws.part whole i j k x y a b) c) (laws.part whole i j l x (joined y z) a (laws.part whole j k l y z b c))
-
 -- joining what is left to what was joined so far is joining all of them
 pub record StandsFor {M : Type 0} (refusal : M → M → Option Why) (joined : M → M → M) (start : M) (xs : List M) (all : M) (rest : List M) : Type 0 where
   pub value : join_after joined all rest ≡ join_after joined start xs
   pub fits : FitAfter refusal joined all rest → FitAfter refusal joined start xs
   pub refuses : (why : Why) → RefusesAfter refusal joined why all rest → RefusesAfter refusal joined why start xs
-
-pub StandsFor-start : {M : Type 0} (refusal : M → M → Option Why) (joined : M → M → M) (start : M) (xs : List M) → StandsFor refusal joined start xs start xs
-StandsFor-start refusal joined start xs = record { value = refl; fits = λ h. h; refuses = λ why h. h }
-
-pub StandsFor-more : {M : Type 0} (refusal : M → M → Option Why) (joined : M → M → M) (start : M) (xs : List M) (all x more : M) (rest : List M)
-    → StandsFor refusal joined start xs all (x ∷ rest) → refusal all x ≡ None → more ≡ joined all x → StandsFor refusal joined start xs more rest
-StandsFor-more refusal joined start xs all x more rest s ok e = subst (λ y. StandsFor refusal joined start xs y rest) (sym e) (record {
-  value = s.value;
-  fits = λ h. s.fits (ok, h);
-  refuses = λ why h. s.refuses why (inr (ok, h));
-})

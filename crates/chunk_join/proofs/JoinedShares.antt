@@ -45,9 +45,6 @@ after all right (Ok digest) set trace i j k both a b = both set trace i j k a b
 after all right (Err e) set trace i j k both a b = tt
 
 module _ {T : Type 0} where
-  pub ArePromised-none : (set : ℕ) (trace : Recorded) (workers : ℕ) → ArePromised {T = T} set trace workers []
-  ArePromised-none set trace workers = λ k thread h. absurd (none-some thread h)
-
   pub ArePromised-push : (set : ℕ) (trace : Recorded) (workers : ℕ) (threads : List (PromisedHandle T DigestOf)) (thread : PromisedHandle T DigestOf) → ArePromised set trace workers threads
       → IsPromised set trace workers (length threads + 1) thread.promise → ArePromised set trace workers (threads ++ thread ∷ [])
   ArePromised-push set trace workers threads thread are is = λ k other h. elim (slice_get-push threads thread other k h) [

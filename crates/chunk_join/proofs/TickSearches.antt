@@ -1,7 +1,7 @@
 -- The steps of a tick, found by their numbers.
-use Rattle.std.proofs.Common.{ℕ, ◌≡◌, ◌+◌, ◌<◌, ◌≤◌, inl, inr, length, None, suc, zero, sym, ap, ◌∙◌, arith}
-use Rattle.std.proofs.lemmas.Bool.{cases_eq, cases_lt}
-use Rattle.step_trace.specs.Traces.{Recorded, step_at}
+use Rattle.std.proofs.Common.{ℕ, ◌≡◌, ◌+◌, ◌<◌, ◌≤◌, inl, inr, length, suc, zero, arith}
+use Rattle.std.proofs.lemmas.Bool.{cases_lt}
+use Rattle.step_trace.specs.Traces.{Recorded}
 use Rattle.step_trace.specs.Ticks.{tick_of, IsTimed}
 use Rattle.step_trace.proofs.TickOrder.{ticks_rise}
 use Rattle.step_trace.proofs.TickPositions.{step_exists, tick_of-limit}
@@ -23,9 +23,6 @@ pub record IsSearched (t : Recorded) (x low high : ℕ) : Type 0 where
   pub before : (k : ℕ) → 1 ≤ k → k ≤ low → tick_of t k < x
   pub rest : (k : ℕ) → high < k → k ≤ length t.steps → x ≤ tick_of t k
 
-pub searched_start : (t : Recorded) (x : ℕ) → IsSearched t x 0 (length t.steps)
-searched_start t x = record { order = omega arith; within = omega arith; before = λ k a b. absurd (omega (arith, a, b)); rest = λ k a b. absurd (omega (arith, a, b)) }
-
 pub searched_up : (t : Recorded) → IsTimed t → (x low high middle : ℕ) → middle < high → tick_of t (middle + 1) < x → IsSearched t x low high → IsSearched t x (middle + 1) high
 searched_up t time x low high middle h l s = record {
   order = omega (arith, h);
@@ -42,29 +39,10 @@ searched_down t time x low high middle o h l s = record {
   rest = λ k a b. (let r = tick_below t time (middle + 1) k (omega arith) (omega (arith, a)) b in omega (arith, r, l));
 }
 
-pub searched_end : (t : Recorded) (x low high : ℕ) → high ≤ low → IsSearched t x low high → AreStepsBefore t x low
-searched_end t x low high e s = record {
-  within = let o = s.order in let w = s.within in omega (arith, o, w);
-  before = s.before;
-  rest = λ k a b. s.rest k (omega (arith, a, e)) b;
-}
-
 -- the steps up to this number come before tick x
 pub record ComeBefore (t : Recorded) (x n : ℕ) : Type 0 where
   pub within : n ≤ length t.steps
   pub before : (k : ℕ) → 1 ≤ k → k ≤ n → tick_of t k < x
-
-pub come_start : (t : Recorded) (x n : ℕ) → AreStepsBefore t x n → ComeBefore t (x + 1) n
-come_start t x n s = record { within = s.within; before = λ k a b. (let l = s.before k a b in omega (arith, l)) }
-
-pub come_more : (t : Recorded) (x n : ℕ) → n < length t.steps → tick_of t (n + 1) ≤ x → ComeBefore t (x + 1) n → ComeBefore t (x + 1) (n + 1)
-come_more t x n l h s = record {
-  within = omega (arith, l);
-  before = λ k a b. elim (cases_eq k (n + 1)) [
-    | inl e ↦ (let f = ap (tick_of t) e in omega (arith, f, h))
-    | inr d ↦ s.before k a (omega (arith, b, d))
-  ];
-}
 
 pub come_stop : (t : Recorded) → IsTimed t → (x n : ℕ) → x < tick_of t (n + 1) → ComeBefore t (x + 1) n → AreStepsBefore t (x + 1) n
 come_stop t time x n h s = record {
@@ -72,17 +50,6 @@ come_stop t time x n h s = record {
   before = s.before;
   rest = λ k a b. (let r = tick_below t time (n + 1) k (omega arith) (omega (arith, a)) b in omega (arith, r, h));
 }
-
-pub come_end : (t : Recorded) (x n : ℕ) → length t.steps ≤ n → ComeBefore t x n → AreStepsBefore t x n
-come_end t x n h s = record { within = s.within; before = s.before; rest = λ k a b. absurd (omega (arith, a, b, h)) }
-
--- up to the number of steps each number has its step
-pub step_missing : (t : Recorded) (n : ℕ) → n < length t.steps → step_at t.steps (n + 1) ≡ None → ⊥
-step_missing t n l e =
-    let x = step_exists t.steps n l in
-    let next : n + 1 ≡ suc n = omega arith in
-    let f = sym x.1 ∙ ap (step_at t.steps) (sym next) ∙ e in
-    cc
 
 -- up to the last tick come all steps
 pub all_steps : (t : Recorded) → IsTimed t → (x : ℕ) → t.last ≤ x → AreStepsBefore t (x + 1) (length t.steps)

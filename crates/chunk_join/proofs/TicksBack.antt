@@ -1,7 +1,7 @@
 -- One tick back: the level of the tick from that of the next one, and the levels of all.
 use Rattle.std.proofs.Common.{ℕ, ◌≡◌, ◌+◌, ◌-◌, ◌<◌, ◌≤◌, List, [], ◌∷◌, length, Bool, true, false, cond, Option, Some, None, refl, subst, arith}
 use Rattle.std.specs.Prelude.{nat_le}
-use Rattle.std.proofs.lemmas.Bool.{leb-true, leb-false}
+use Rattle.std.proofs.lemmas.Bool.{leb-true}
 use Rattle.std.proofs.lemmas.Option.{slice_get_within}
 use Rattle.step_trace.specs.declared.rows.Gap.{Gap}
 use Rattle.step_trace.specs.Traces.{Recorded}
@@ -100,23 +100,6 @@ with_silence-short level g (Some w) positive h = go (nat_le level.phi (w.to + 1 
   go : (b : Bool) → nat_le level.phi (w.to + 1 - g) ≡ b → cond b (record { delta = level.delta; miss = level.miss; phi = w.to + 1 - g + 1; gap = Some (record { proc = w.proc; from = g; to = w.to + 1 - 1 }) }) level ≡ level
   go true e = absurd (let a = leb-true level.phi (w.to + 1 - g) e in let l = h w refl in omega (arith, a, l, positive))
   go false e = refl
-
--- with the gap that a silence has from a tick on, none from that tick on is longer
-short_after : (level : Level) (g : ℕ) (w : Gap) → w.to + 1 < g + (with_silence level g (Some w)).phi
-short_after level g w = go (nat_le level.phi (w.to + 1 - g)) refl where
-  go : (b : Bool) → nat_le level.phi (w.to + 1 - g) ≡ b → w.to + 1 < g + (cond b (record { delta = level.delta; miss = level.miss; phi = w.to + 1 - g + 1; gap = Some (record { proc = w.proc; from = g; to = w.to + 1 - 1 }) }) level).phi
-  go true e = omega arith
-  go false e = (let a = leb-false level.phi (w.to + 1 - g) e in omega (arith, a))
-
--- so once a tick was gone over, it is quiet from it on
-pub IsQuietFrom-read : (part : Summary) (g m s : ℕ) (mid : Level) → 1 ≤ g → ((y : Message) → last_at part.sent m ≡ Some y → y.sent.tick < g) → ((w : Gap) → last_at part.silent s ≡ Some w → w.from ≤ g)
-    → IsQuietFrom part g m s (with_silence mid g (last_at part.silent s)).phi
-IsQuietFrom-read part g m s mid start earlier begun = record {
-  start = start;
-  message = earlier;
-  begun = begun;
-  short = λ w e. (rw e (short_after mid g w));
-}
 
 -- where it is quiet, the level of the next tick is that of the tick
 pub IsGoneOver-quiet : (part : Summary) (x low m s : ℕ) (level : Level) (levels : List Level) → low ≤ x → IsGoneOver part (x + 1) m s level levels → IsQuietFrom part low m s level.phi → IsGoneOver part x m s level (level ∷ levels)

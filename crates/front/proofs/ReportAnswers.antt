@@ -1,5 +1,5 @@
 -- What the answer for the records of a text says of the text.
-use Rattle.std.proofs.Common.{ℕ, ◌≡◌, ◌+◌, ◌<◌, ◌≤◌, ◌==◌, ◌∙◌, List, [], ◌∷◌, length, Option, Some, None, Result, Ok, Err, Bool, true, false, cond, All, IfOk, IfErr, IfSome, MatchResult, MatchBool, refl, sym, ap, subst, arith}
+use Rattle.std.proofs.Common.{ℕ, ◌≡◌, ◌+◌, ◌≤◌, ◌==◌, ◌∙◌, List, [], ◌∷◌, length, Option, Some, None, Result, Ok, Err, Bool, true, false, cond, All, IfOk, IfErr, IfSome, MatchResult, MatchBool, refl, sym, ap, subst, arith}
 use Rattle.std.specs.Prelude.{⊤, nat_le}
 use Rattle.std.proofs.lemmas.Bool.Decides.{nat_tests}
 use Rattle.std.specs.Option.{ok_or}
@@ -97,11 +97,6 @@ complete-from {A = A} items r (Some t) text h k = λ rows small stands.
 -- a text that isn't too large has the rows of its records
 small-rows : (text : List ℕ) → length text ≤ MAX_TEXT_BYTES → rows_of_text text ≡ rows_of_records (records_of_text text)
 small-rows text l = let small : nat_le (length text) MAX_TEXT_BYTES ≡ true = grind (arith, nat_tests) in rw small refl
-
--- a text that is too large is refused for it
-pub large-from : (known : Option (List ℕ)) → IfSome known (λ xs. MAX_TEXT_BYTES < length xs) → IfSome known (λ t. rows_of_text t ≡ Err why.TooLarge)
-large-from None l = tt
-large-from (Some t) l = let large : nat_le (length t) MAX_TEXT_BYTES ≡ false = grind (arith, nat_tests) in rw large refl
 
 -- a refusal is the first of the text, or want of memory
 pub refused-from : {A : Type 0} (items : A → List Row) (r : Result A ReportError) (known : Option (List ℕ)) (text : List ℕ) (old new : ℕ)

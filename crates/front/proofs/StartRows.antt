@@ -16,10 +16,7 @@ use Rattle.suffix_staircase.specs.Levels.{IsStart, AreStarts, same_bounds}
 use Rattle.suffix_staircase.specs.Analysis.{IsLevelAt, AreLevels}
 use Rattle.front.specs.Reports.{level_of, AreRowsAt}
 use Rattle.step_trace.proofs.FrontCriterion.{IsDelta-on_front, IsPhi-on_front, on_front-changes, IsOnFront-from_change}
-use Rattle.step_trace.proofs.ListMembers.{Contains-nil, Contains-from_map, Contains-map}
-
-pub AreRowsAt-none : (levels : List Level) (numbers : List ℕ) → AreRowsAt levels (take 0 numbers) []
-AreRowsAt-none levels numbers = record { begin = refl; each = λ r c. absurd (Contains-nil r c) }
+use Rattle.step_trace.proofs.ListMembers.{Contains-from_map, Contains-map}
 
 -- the rows of one start more
 pub AreRowsAt-push : (levels : List Level) (numbers : List ℕ) (k : ℕ) (rows : List Row) (r : Row) → AreRowsAt levels (take k numbers) rows

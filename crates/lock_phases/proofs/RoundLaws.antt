@@ -1,5 +1,5 @@
 -- From round to round, and the node functions by the part of the round.
-use Rattle.std.proofs.Common.{ℕ, ◌≡◌, ◌+◌, ◌*◌, ◌<◌, ◌≤◌, ◌⊎◌, inl, inr, zero, suc, List, ap, arith}
+use Rattle.std.proofs.Common.{ℕ, ◌≡◌, ◌≤◌, ◌⊎◌, inl, inr, zero, suc, List, ap, arith}
 use Rattle.std.specs.Prelude.{option_map}
 use Rattle.step_trace.specs.Configurations.{Setup}
 use Rattle.lock_phases.specs.Rounds.{phase_of, part_of, owner, Part, Listing, Locking, Acknowledging, Releasing, part_at}
@@ -7,10 +7,6 @@ use Rattle.lock_phases.specs.Nodes.{State}
 use Rattle.lock_phases.specs.Messages.{Message}
 use Rattle.lock_phases.specs.Values.{take_in}
 use Rattle.lock_phases.specs.NodeFunctions.{kind_sent, out, next_in, next}
-
--- a round is this part of this phase
-pub round_is : (round : ℕ) → 1 ≤ round → round + 4 ≡ 4 * phase_of round + part_of round
-round_is round l = omega arith
 
 -- the parts count from 1
 pub part_of-low : (round : ℕ) → 1 ≤ part_of round
@@ -30,22 +26,6 @@ part_of-cases round = go (part_of round) (part_of-low round) (part_of-high round
     go (suc (suc zero)) l h = inr (inl (omega arith))
     go (suc (suc (suc zero))) l h = inr (inr (inl (omega arith)))
     go (suc (suc (suc (suc p)))) l h = inr (inr (inr (omega arith)))
-
--- the next round is the next part of the phase, or the first part of the next phase
-pub part_of-next : (round : ℕ) → 1 ≤ round → part_of round < 4 → (part_of (round + 1) ≡ part_of round + 1) × (phase_of (round + 1) ≡ phase_of round)
-part_of-next round l h = (omega arith, omega arith)
-
--- after a lock-release round the next phase begins
-pub phase_of-next : (round : ℕ) → 1 ≤ round → part_of round ≡ 4 → (part_of (round + 1) ≡ 1) × (phase_of (round + 1) ≡ phase_of round + 1)
-phase_of-next round l h = (omega arith, omega arith)
-
--- an owner is a processor
-pub owner-low : (n phase : ℕ) → 1 ≤ owner n phase
-owner-low n phase = omega arith
-
--- of n
-pub owner-high : (n phase : ℕ) → 1 ≤ n → owner n phase ≤ n
-owner-high n phase l = omega arith
 
 -- the first part is the listing round
 pub part_at-listing : (round : ℕ) → part_of round ≡ 1 → part_at (part_of round) ≡ Listing

@@ -1,9 +1,8 @@
 -- Seats in the order of their processors.
-use Rattle.std.proofs.Common.{ℕ, suc, ◌≡◌, ◌+◌, ◌<◌, List, [], ◌∷◌, length, get_or, map, Bool, true, false, ◌==◌, refl, sym, ap, ◌∙◌, arith}
+use Rattle.std.proofs.Common.{ℕ, suc, ◌≡◌, ◌+◌, ◌<◌, List, [], ◌∷◌, length, get_or, map, refl, sym, ap, ◌∙◌, arith}
 use Rattle.std.specs.List.{range_with_len}
 use Rattle.std.proofs.lemmas.List.FromFn.{length-range_with_len, get_or-range_with_len}
-use Rattle.std.proofs.lemmas.Bool.Decides.{nat_tests}
-use Rattle.std.proofs.lemmas.List.{length-map, get_or-map, get_or_default}
+use Rattle.std.proofs.lemmas.List.{length-map, get_or-map}
 use Rattle.step_trace.specs.Configurations.{Setup}
 use Rattle.locked_recorder.specs.Seats.{Turns}
 use Rattle.locked_recorder.specs.Audits.{AreInOrder}
@@ -34,13 +33,3 @@ place-in_order c seats i d e inside =
     let count = length-in_order c seats e in
     let at : get_or (range_with_len 1 c.n) i d.proc ≡ 1 + i = get_or-range_with_len 1 c.n i d.proc (omega arith) in
     sym (get_or-map (λ (s : Turns). s.proc) seats i d d.proc inside) ∙ ap (λ xs. get_or xs i d.proc) e ∙ at ∙ omega arith
-
--- one place more
-pub AreFirst-more : (k : ℕ) (seats : List Turns) (x : Turns) → AreFirst k seats → x ≡ get_or seats k x → k < length seats → x.proc ≡ k + 1 → AreFirst (k + 1) seats
-AreFirst-more k seats x first is inside own i d l = go (i == k) refl
-  where
-    go : (t : Bool) → (i == k) ≡ t → (get_or seats i d).proc ≡ i + 1
-    go true e =
-        let same : i ≡ k = grind (arith, nat_tests) in
-        rw same (ap (λ (s : Turns). s.proc) (get_or_default seats k d x inside ∙ sym is) ∙ own)
-    go false e = let other : (i ≡ k → ⊥) = grind (arith, nat_tests) in first i d (omega arith)

@@ -53,10 +53,6 @@ pub front-refused : (s t : Stage) (rest : List ℕ) (cut : ℕ) (e : TextError) 
 front-refused s t rest cut e quoteless line unmarked = unless (is_memory e) _ _
     (λ h more. ap (λ xs. read_on s xs) (front-rest rest more cut) ∙ read_on-err s e (take cut rest) (drop cut rest ++ more) (seam (take cut rest) (drop cut rest ++ more) quoteless line (unmarked more)) h)
 
--- nothing was taken
-pub none-taken : (s : Stage) (rest : List ℕ) → IsTaken s s rest (Ok 0)
-none-taken s rest = (omega arith, λ more. refl)
-
 -- ---- how far a text was read
 
 -- nothing was read yet
@@ -66,16 +62,6 @@ begins known p opening none empty = record {
   count = none;
   read = rw empty (Consumes-nil known);
   leads = λ more. rw opening refl;
-}
-
--- more was read
-pub filled : (known left after : Option (List ℕ)) (p q : Progress) (bytes : List ℕ) → q.stage ≡ p.stage → q.done ≡ p.done → q.rest.items ≡ p.rest.items ++ bytes → Consumes left after bytes
-    → IsReadTo known left p → IsReadTo known after q
-filled known left after p q bytes stage done rest more h = record {
-  taken = h.taken;
-  count = done ∙ h.count;
-  read = subst (Consumes known after) (append_assoc h.taken p.rest.items bytes ∙ ap (λ xs. h.taken ++ xs) (sym rest)) (Consumes-trans known left after (h.taken ++ p.rest.items) bytes h.read more);
-  leads = λ next. rw (rest, stage, append_assoc p.rest.items bytes next) (h.leads (bytes ++ next));
 }
 
 -- the front of what was read was taken

@@ -16,12 +16,6 @@ step_at-end all steps x e =
     let long : length all ≡ suc (length steps) = ap length e ∙ length_push steps x ∙ (let f : length steps + 1 ≡ suc (length steps) = omega arith in f) in
     rw (long, e) (step_at_last steps x)
 
--- a Receive is due where it ends no round too early
-pub IsDue-receive : (next : Option ℕ) (ends : Bool) (ids : List ℕ) → (ends && is_some next) ≡ false → IsDue next (Receive ends ids)
-IsDue-receive next false ids h = tt
-IsDue-receive None true ids h = refl
-IsDue-receive (Some to) true ids h = cc
-
 -- and ends none too early where it is due
 pub not_early-from_due : (next : Option ℕ) (ends : Bool) (ids : List ℕ) → IsDue next (Receive ends ids) → (ends && is_some next) ≡ false
 not_early-from_due next false ids due = refl

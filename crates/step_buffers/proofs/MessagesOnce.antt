@@ -1,13 +1,11 @@
 -- The messages of a run: each has a body, and of a round no receiver is sent two by one sender.
-use Rattle.std.proofs.Common.{ℕ, ◌≡◌, ◌+◌, ◌<◌, List, Some, true, refl, subst, arith}
+use Rattle.std.proofs.Common.{ℕ, ◌≡◌, ◌+◌, ◌<◌, List, Some, refl, subst, arith}
 use Rattle.std.specs.Prelude.{slice_get, is_some}
-use Rattle.std.proofs.lemmas.Option.{slice_get_within, get_or_from_slice_get}
 use Rattle.std.proofs.lemmas.List.Kept.{IsStrictlyIncreasing-filter}
 use Rattle.step_trace.specs.declared.steps.Act.TheVariants.{Send}
 use Rattle.step_trace.specs.declared.steps.Step.{Step}
 use Rattle.step_trace.specs.Configurations.{Setup}
 use Rattle.step_trace.proofs.StepPositions.{step_at_within}
-use Rattle.step_trace.proofs.ListMembers.{Contains-from_filter}
 use Rattle.lock_phases.specs.NodeFunctions.{out}
 use Rattle.round_model.specs.RoundStates.{processors, state_after}
 use Rattle.round_model.proofs.RisingLists.{rising-apart}
@@ -16,17 +14,6 @@ use Rattle.step_buffers.specs.HeardTables.{passed, before, round_at, heard_table
 use Rattle.step_buffers.specs.Runs.{node_before, destinations, sent_before, next_destination, IsSend, IsRun}
 use Rattle.step_buffers.proofs.HeardSenders.{is_sent_in-from_send}
 use Rattle.step_buffers.proofs.SentCounts.{sent_before-grows}
-
--- a message has a body: what its sender's node has to send
-pub body-sent : (c : Setup) (steps : List Step) (q to s : ℕ) → IsRun c steps → IsSend steps q to s
-    → is_some (out c (node_before c steps q s) q (round_at steps q s) to) ≡ true
-unfolding next_destination
-body-sent c steps q to s run h =
-    let due : List ℕ = destinations c (node_before c steps q s) q (round_at steps q s) in
-    let n : ℕ = sent_before steps q (round_at steps q s) s in
-    let at : slice_get due n ≡ Some to = run.each s (record { proc = q; act = Send to }) h in
-    (Contains-from_filter (λ to. is_some (out c (node_before c steps q s) q (round_at steps q s) to)) (processors c) to
-    (n, slice_get_within due n to at, get_or_from_slice_get due n to to at)).1
 
 -- no two messages of one round of q go to one receiver
 pub messages-once : (c : Setup) (steps : List Step) (q to s k : ℕ) → IsRun c steps → IsSend steps q to s → IsSend steps q to k

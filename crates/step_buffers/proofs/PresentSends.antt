@@ -37,10 +37,6 @@ round_at-now steps x p =
     ap (λ k. round_at (steps ++ x ∷ []) p k) e
     ∙ ap (λ xs. passed xs p + 1) (before-prefix steps (x ∷ []) (length steps + 1) (omega arith) ∙ before-now steps)
 
--- before the first step
-pub sent_now-opening : (p : ℕ) → sent_now [] p ≡ 0
-sent_now-opening p = refl
-
 -- a Send counts
 pub sent_now-send : (steps : List Step) (p to : ℕ) → sent_now (steps ++ record { proc = p; act = Send to } ∷ []) p ≡ sent_now steps p + 1
 sent_now-send steps p to =

@@ -1,12 +1,11 @@
 -- Ids that are taken out of a buffer: nothing below the first of them changes.
-use Rattle.std.proofs.Common.{ℕ, ◌≡◌, ◌<◌, ◌≤◌, List, [], ◌∷◌, ◌++◌, length, filter, get_or, take, drop, min, Bool, true, false, not, refl, sym, ap, ◌∙◌, arith}
+use Rattle.std.proofs.Common.{ℕ, ◌≡◌, ◌<◌, ◌≤◌, List, ◌++◌, length, filter, get_or, take, drop, min, Bool, true, false, not, refl, sym, ap, ◌∙◌, arith}
 use Rattle.std.specs.Prelude.{Contains}
 use Rattle.std.specs.List.Sorted.{IsStrictlyIncreasing}
 use Rattle.std.proofs.lemmas.List.{length-take, get_or-take, get_or_default, take-append-drop}
-use Rattle.step_trace.proofs.ListMembers.{Contains-head, Contains-rest}
 use Rattle.step_buffers.specs.Moves.{is_in}
 use Rattle.step_buffers.proofs.BufferSteps.{filter-all, filter-append}
-use Rattle.step_buffers.proofs.RisingIds.{rising-nondecreasing, is_in-member, Contains-from_is_in}
+use Rattle.step_buffers.proofs.RisingIds.{rising-nondecreasing, Contains-from_is_in}
 
 -- what is less than the first of rising ids is none of them
 below-first : (ids : List ℕ) (s : ℕ) → IsStrictlyIncreasing ids → s < get_or ids 0 0 → not (is_in ids s) ≡ true
@@ -38,11 +37,3 @@ left-of_buffer ids xs n bound rise first within below =
     ap (filter f) (sym (take-append-drop n xs))
     ∙ filter-append f (take n xs) (drop n xs)
     ∙ ap (λ ys. ys ++ filter f (drop n xs)) (filter-all f (take n xs) (λ s d. below-first ids s rise (let low = front-below xs n bound s within below d in omega arith)))
-
-filter-none : (f : ℕ → Bool) (xs : List ℕ) → ((x : ℕ) → Contains xs x → f x ≡ false) → filter f xs ≡ []
-filter-none f [] drops = refl
-filter-none f (x ∷ xs) drops = rw (drops x (Contains-head x xs)) (filter-none f xs (λ y d. drops y (Contains-rest x y xs d)))
-
--- nothing of the ids themselves is left
-pub left-of_ids : (ids : List ℕ) → filter (λ s. not (is_in ids s)) ids ≡ []
-left-of_ids ids = filter-none (λ s. not (is_in ids s)) ids (λ s d. rw (is_in-member ids s d) refl)

@@ -9,7 +9,7 @@ use Rattle.step_trace.specs.declared.rows.Gap.{Gap}
 use Rattle.step_trace.specs.Steps.{act_dest}
 use Rattle.step_trace.specs.Traces.{Recorded}
 use Rattle.step_trace.specs.Ticks.{tick_of, IsTimed}
-use Rattle.step_trace.specs.Bounds.{IsMessage, DeltaHolds, StepsWithin, PhiHolds, IsLeastBound}
+use Rattle.step_trace.specs.Bounds.{IsMessage, DeltaHolds, PhiHolds, IsLeastBound}
 use Rattle.step_trace.specs.Witnesses.{MissRefutes, GapRefutes, IsNamedMiss, IsNamedGap, NamesMiss, NamesGap}
 use Rattle.step_trace.proofs.TickOrder.{one_in_tick}
 
@@ -20,22 +20,6 @@ DeltaHolds-later set trace g h d l b = record { each = λ s m. b.each s (omega a
 -- and so does a processor bound
 pub PhiHolds-later : (set : ℕ) (trace : Recorded) (g h f : ℕ) → g ≤ h → PhiHolds set trace g f → PhiHolds set trace h f
 PhiHolds-later set trace g h f l b = record { each = λ x m. b.each x (omega arith) }
-
--- a larger bound holds where a smaller one does
-pub DeltaHolds-larger : (set : ℕ) (trace : Recorded) (g d e : ℕ) → d ≤ e → DeltaHolds set trace g d → DeltaHolds set trace g e
-DeltaHolds-larger set trace g d e l h = record {
-  each = λ s m. record { on_time = λ r b v w f. (h.each s m).on_time r b v w (omega arith) };
-}
-
--- who takes a step in one of some ticks takes one in one of more ticks
-pub StepsWithin-larger : (trace : Recorded) (p x f e : ℕ) → f ≤ e → StepsWithin trace p x f → StepsWithin trace p x e
-StepsWithin-larger trace p x f e l w = let u = w.until in record { tick = w.tick; from = w.from; until = omega arith; step = w.step }
-
--- a larger processor bound holds where a smaller one does
-pub PhiHolds-larger : (set : ℕ) (trace : Recorded) (g f e : ℕ) → f ≤ e → PhiHolds set trace g f → PhiHolds set trace g e
-PhiHolds-larger set trace g f e l h = record {
-  each = λ x m k p q. StepsWithin-larger trace p x f e l (h.each x m (omega arith) p q);
-}
 
 -- past the last tick each communication bound holds
 pub DeltaHolds-past_end : (set : ℕ) (trace : Recorded) (g d : ℕ) → IsTimed trace → trace.last < d → DeltaHolds set trace g d
@@ -75,14 +59,6 @@ GapRefutes-sound set trace g f w r h =
     let s = h.each w.from r.from (omega arith) w.proc r.gap.member in
     let u = s.until in
     r.gap.silent s.tick s.from (omega arith) s.step
-
--- a witness refutes each smaller bound, from each tick up to its own beginning
-pub MissRefutes-smaller : (set : ℕ) (trace : Recorded) (g h d e : ℕ) (m : Miss) → h ≤ tick_of trace m.sent → e ≤ d → MissRefutes set trace g d m → MissRefutes set trace h e m
-MissRefutes-smaller set trace g h d e m l k r = let q = r.long in record { miss = r.miss; from = l; long = omega arith }
-
--- and so does a gap
-pub GapRefutes-smaller : (set : ℕ) (trace : Recorded) (g h f e : ℕ) (w : Gap) → h ≤ w.from → e ≤ f → GapRefutes set trace g f w → GapRefutes set trace h e w
-GapRefutes-smaller set trace g h f e w l k r = let q = r.long in record { gap = r.gap; from = l; long = omega arith }
 
 -- a named witness refutes each bound below its own
 pub IsNamedMiss-refutes : (set : ℕ) (trace : Recorded) (g d e : ℕ) (m : Miss) → e < d → IsNamedMiss set trace g d m → MissRefutes set trace g e m
@@ -145,14 +121,6 @@ IsNamedGap-steady set trace g h f v w l a b =
     let less : v.proc ≤ w.proc = a.least w b.gap (omega arith) b.long in
     let more : w.proc ≤ v.proc = b.least v a.gap (omega arith) a.long in
     Gap-same w v (omega arith) (omega arith) (omega arith)
-
--- a bound has one named witness
-pub IsNamedMiss-unique : (set : ℕ) (trace : Recorded) (g d : ℕ) (m o : Miss) → IsTimed trace → IsNamedMiss set trace g d m → IsNamedMiss set trace g d o → o ≡ m
-IsNamedMiss-unique set trace g d m o time = IsNamedMiss-steady set trace g g d m o time (omega arith)
-
--- and one named gap
-pub IsNamedGap-unique : (set : ℕ) (trace : Recorded) (g f : ℕ) (v w : Gap) → IsNamedGap set trace g f v → IsNamedGap set trace g f w → w ≡ v
-IsNamedGap-unique set trace g f v w = IsNamedGap-steady set trace g g f v w (omega arith)
 
 -- where the bound from g is the bound from a later h too, so is the witness beside it
 pub NamesMiss-steady : (set : ℕ) (trace : Recorded) (g h d : ℕ) (m o : Option Miss) → IsTimed trace → g ≤ h → NamesMiss set trace g d m → NamesMiss set trace h d o → o ≡ m

@@ -97,7 +97,3 @@ act_refusal-none c steps p (Receive ends ids) dest rising sent fresh =
 -- no reason stands against a step that fits
 pub none_from_Fits : (c : Setup) (steps : List Step) (x : Step) → Fits c steps x → refusal c steps x ≡ None
 none_from_Fits c steps x f = rw (true_if (length steps) MAX_STEPS f.room, is_proc-true c x.proc f.proc) (act_refusal-none c steps x.proc x.act f.dest f.rising f.sent f.fresh)
-
--- no reason stands against the last step of a well-formed list
-pub none_from_well_formed : (c : Setup) (steps : List Step) (x : Step) → IsWellFormed c (steps ++ x ∷ []) → refusal c steps x ≡ None
-none_from_well_formed c steps x w = none_from_Fits c steps x (Fits-from_well_formed c steps x w)

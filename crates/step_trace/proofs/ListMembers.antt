@@ -1,12 +1,9 @@
 -- Members of lists, and of lists of numbers that rise.
-use Rattle.std.proofs.Common.{ℕ, ◌≡◌, ◌+◌, ◌<◌, ◌⊎◌, inl, inr, Bool, true, false, cond, List, [], ◌∷◌, ◌++◌, length, map, filter, get_or, Contains, Some, refl, sym, ap, ◌∙◌, subst, suc, zero, arith, length-append, true≢false}
+use Rattle.std.proofs.Common.{ℕ, ◌≡◌, ◌+◌, ◌<◌, ◌⊎◌, inl, inr, Bool, true, false, cond, List, [], ◌∷◌, length, map, filter, Contains, Some, refl, sym, ap, ◌∙◌, subst, suc, zero, arith, true≢false}
 use Rattle.std.specs.Prelude.{slice_get, slice_index_or}
 use Rattle.std.specs.List.{list_any}
 use Rattle.std.specs.List.Sorted.{IsStrictlyIncreasing}
-use Rattle.std.proofs.lemmas.Bool.{cases_lt}
 use Rattle.std.proofs.lemmas.Option.{slice_get_within, get_or_from_slice_get}
-use Rattle.std.proofs.lemmas.List.{get_or_append_left, get_or_push}
-use Rattle.std.proofs.lemmas.List.Elements.{Contains-get_or}
 use Rattle.std.proofs.lemmas.List.Folds.{Any-from_list_any, list_any-from_Any}
 
 -- the first element
@@ -76,17 +73,6 @@ list_any-found p xs e = let a = Any-from_list_any p xs e in (a.1, (a.0, a.2, a.3
 -- a test finds an element that passes
 pub list_any-at : {X : Type 0} (p : X → Bool) (xs : List X) (x : X) → Contains xs x → p x ≡ true → list_any p xs ≡ true
 list_any-at p xs x c t = list_any-from_Any p xs (c.0, x, c.1, c.2, t)
-
--- numbers that rise, and one above them all
-pub rising-push : (ns : List ℕ) (n : ℕ) → IsStrictlyIncreasing ns → ((m : ℕ) → Contains ns m → m < n) → IsStrictlyIncreasing (ns ++ n ∷ [])
-rising-push ns n rising below = λ k inside.
-    let size = length-append ns (n ∷ []) in
-    elim (cases_lt (k + 1) (length ns)) [
-      | inl l ↦ rw (get_or_append_left ns (n ∷ []) 0 k (omega arith), get_or_append_left ns (n ∷ []) 0 (k + 1) l) (rising k l)
-      | inr m ↦ (
-          let last : length ns ≡ k + 1 = omega arith in
-          rw (get_or_append_left ns (n ∷ []) 0 k (omega arith), get_or_push ns n 0 (k + 1) last) (below (get_or ns k 0) (Contains-get_or ns k 0 (omega arith))))
-    ]
 
 pub rising-tail : (n : ℕ) (ns : List ℕ) → IsStrictlyIncreasing (n ∷ ns) → IsStrictlyIncreasing ns
 rising-tail n ns rising = λ k inside. let e : suc k + 1 ≡ suc (k + 1) = omega arith in rw e at (rising (suc k) (omega arith))

@@ -1,19 +1,16 @@
 -- What a reason against a step names.
-use Rattle.std.proofs.Common.{ℕ, ◌≡◌, ◌≢◌, ◌<◌, inl, inr, List, [], ◌∷◌, ◌++◌, length, Option, Some, None, Bool, true, false, not, refl, sym, ◌∙◌, subst, suc, arith}
+use Rattle.std.proofs.Common.{ℕ, ◌≡◌, ◌≢◌, ◌<◌, inl, inr, List, [], ◌∷◌, Option, Some, None, Bool, true, false, not, refl, subst, suc, arith}
 use Rattle.std.specs.Prelude.{Contains, nat_lt, find, cond}
 use Rattle.std.proofs.lemmas.Option.{same_Some, none-some}
 use Rattle.std.proofs.lemmas.Bool.{and_parts, not-true, not-false, not_from_true, not_from_false}
 use Rattle.std.proofs.lemmas.Bool.Decides.{nat_tests}
-use Rattle.step_trace.specs.declared.traces.TheConstants.{MAX_STEPS}
 use Rattle.step_trace.specs.declared.traces.PushError.{PushError}
-use Rattle.step_trace.specs.declared.traces.PushError.TheVariants.{Full, BadTick, BadProc, ProcOrder, BadDest, IdsNotRising, UnknownMessage, NotAddressed, SameTick, Redelivered, Memory}
+use Rattle.step_trace.specs.declared.traces.PushError.TheVariants.{BadDest, IdsNotRising, UnknownMessage, NotAddressed, Redelivered, Memory}
 use Rattle.step_trace.specs.declared.steps.Act.{Act}
 use Rattle.step_trace.specs.declared.steps.Act.TheVariants.{Send, Receive}
 use Rattle.step_trace.specs.declared.steps.Step.{Step}
 use Rattle.step_trace.specs.Configurations.{Setup, is_proc}
-use Rattle.step_trace.specs.Traces.{IsWellFormed}
-use Rattle.step_trace.specs.PushRefusals.{is_taken, is_message, is_sent_to, is_rising, is_rising_from, refusal, act_refusal, first_id, IsLeastFailing, NamesLeast, IsJustified}
-use Rattle.step_trace.proofs.FittingSteps.{none_from_well_formed}
+use Rattle.step_trace.specs.PushRefusals.{is_taken, is_message, is_sent_to, is_rising, is_rising_from, act_refusal, first_id, IsLeastFailing, NamesLeast}
 use Rattle.step_trace.proofs.ListMembers.{Contains-cons_cases}
 
 -- a reason is never want of memory, and the id that it names is the least of its kind
@@ -95,30 +92,3 @@ act-named c steps p (Send to) e h = go (is_proc c to) h where
   go : (b : Bool) → cond b None (Some BadDest) ≡ Some e → IsNamed steps (record { proc = p; act = Send to }) e
   go true f = absurd (none-some e f)
   go false f = subst (λ (z : PushError). IsNamed steps (record { proc = p; act = Send to }) z) (same_Some BadDest e f) (record { reason = λ q. cc; least = tt })
-
--- and against a step
-pub refusal-named : (c : Setup) (steps : List Step) (x : Step) (e : PushError) → refusal c steps x ≡ Some e → IsNamed steps x e
-refusal-named c steps x e h = full (nat_lt (length steps) MAX_STEPS) h where
-  proc : (b : Bool) → cond b (act_refusal c steps x.proc x.act) (Some BadProc) ≡ Some e → IsNamed steps x e
-  proc true f = act-named c steps x.proc x.act e f
-  proc false f = subst (λ (z : PushError). IsNamed steps x z) (same_Some BadProc e f) (record { reason = λ q. cc; least = tt })
-
-  full : (b : Bool) → cond b (cond (is_proc c x.proc) (act_refusal c steps x.proc x.act) (Some BadProc)) (Some Full) ≡ Some e → IsNamed steps x e
-  full true f = proc (is_proc c x.proc) f
-  full false f = subst (λ (z : PushError). IsNamed steps x z) (same_Some Full e f) (record { reason = λ q. cc; least = tt })
-
--- a reason stands only where the list of steps isn't well formed with the step
-pub refusal-justified : (c : Setup) (steps : List Step) (x : Step) (e : PushError) → refusal c steps x ≡ Some e → IsJustified c steps x e
-refusal-justified c steps x e h = go e (λ w. none-some e (sym (none_from_well_formed c steps x w) ∙ h)) (refusal-named c steps x e h).reason where
-  go : (e : PushError) → (IsWellFormed c (steps ++ x ∷ []) → ⊥) → e ≢ Memory → IsJustified c steps x e
-  go Memory n m = absurd (m refl)
-  go Full n m = n
-  go BadProc n m = n
-  go BadDest n m = n
-  go IdsNotRising n m = n
-  go (UnknownMessage s) n m = n
-  go (NotAddressed s) n m = n
-  go (Redelivered s) n m = n
-  go BadTick n m = n
-  go ProcOrder n m = n
-  go (SameTick s) n m = n

@@ -14,7 +14,7 @@ use Rattle.step_trace.specs.declared.steps.Step.{Step}
 use Rattle.step_trace.specs.Configurations.{Setup, IsProc, is_proc}
 use Rattle.step_trace.specs.Steps.{act_ids, act_dest, act_sends_to}
 use Rattle.step_trace.specs.Traces.{step_at, IsSentTo}
-use Rattle.step_trace.specs.PushRefusals.{is_taken, is_message, is_sent_to, is_rising, is_rising_from, refusal, ids_refusal, act_refusal, first_id}
+use Rattle.step_trace.specs.PushRefusals.{is_taken, is_message, is_sent_to, is_rising, is_rising_from, refusal, act_refusal, first_id}
 use Rattle.step_trace.proofs.StepPositions.{step_at_within}
 use Rattle.step_trace.proofs.FittingSteps.{Fits}
 
@@ -100,12 +100,6 @@ Fits-from_none c steps x h =
       sent = a.2;
       fresh = a.3;
     }
-
--- the refusal of a Receive, by any test that tells the taken messages
-pub refusal_receive : (c : Setup) (steps : List Step) (x : Step) (ids : List ℕ) (ends : Bool) (t : ℕ → Bool) → length steps < MAX_STEPS → is_proc c x.proc ≡ true → x.act ≡ Receive ends ids → ((s : ℕ) → t s ≡ is_taken steps s) → ids_refusal steps t x.proc ids ≡ refusal c steps x
-refusal_receive c steps x ids ends t l p e h =
-    let q : nat_lt (length steps) MAX_STEPS ≡ true = grind (arith, nat_tests) in
-    rw (q, p, e) (ap (λ (u : ℕ → Bool). ids_refusal steps u x.proc ids) (λ i s. h s i))
 
 -- the ids of a step that is not refused name messages
 pub known_from_none : (c : Setup) (steps : List Step) (x : Step) → refusal c steps x ≡ None → All (λ s. (0 < s) × (s ≤ length steps)) (act_ids x.act)

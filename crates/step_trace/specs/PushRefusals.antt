@@ -1,5 +1,5 @@
 -- The reasons against one more step, in their order.
-use Rattle.std.specs.Prelude.{ℕ, ◌≡◌, ◌<◌, List, [], ◌∷◌, ◌++◌, length, Option, Some, None, Bool, true, false, ◌&&◌, Contains, nat_lt, not, find, if◌then◌else◌}
+use Rattle.std.specs.Prelude.{ℕ, ◌≡◌, ◌<◌, List, [], ◌∷◌, length, Option, Some, None, Bool, true, false, ◌&&◌, Contains, nat_lt, not, find, if◌then◌else◌}
 use Rattle.std.specs.List.{list_any}
 use Rattle.std.specs.Option.{option_map_or}
 use Rattle.step_trace.specs.declared.steps.Act.{Act}
@@ -10,7 +10,7 @@ use Rattle.step_trace.specs.declared.traces.PushError.{PushError}
 use Rattle.step_trace.specs.declared.traces.PushError.TheVariants.{Full, BadProc, BadDest, IdsNotRising, UnknownMessage, NotAddressed, Redelivered, Memory}
 use Rattle.step_trace.specs.Configurations.{Setup, is_proc}
 use Rattle.step_trace.specs.Steps.{act_ids, act_sends_to, act_sends, act_takes}
-use Rattle.step_trace.specs.Traces.{step_at, IsWellFormed}
+use Rattle.step_trace.specs.Traces.{step_at}
 
 -- whether some step takes message s
 abbrev pub is_taken : List Step → ℕ → Bool
@@ -75,8 +75,3 @@ NamesLeast steps x (UnknownMessage s) = IsLeastFailing (is_message steps) (act_i
 NamesLeast steps x (NotAddressed s) = IsLeastFailing (λ i. is_sent_to steps i x.proc) (act_ids x.act) s
 NamesLeast steps x (Redelivered s) = IsLeastFailing (λ i. not (is_taken steps i)) (act_ids x.act) s
 NamesLeast steps x e = Unit {0}
-
--- the answer is no reason exactly where the list of steps stays well formed with the step
-abbrev pub IsJustified : Setup → List Step → Step → PushError → Type 0
-IsJustified c steps x Memory = IsWellFormed c (steps ++ x ∷ [])
-IsJustified c steps x e = IsWellFormed c (steps ++ x ∷ []) → ⊥

@@ -46,10 +46,6 @@ line_of_run c set trace run line (inr stop) = inr stop
 pub begun_as : (Line Other : List ℕ → Type 0) (a b : Option (List ℕ)) → ((line : List ℕ) → Line line → Other line) → HasBegun Line a b → HasBegun Other a b
 begun_as Line Other a b h p = record { line = p.line; line_is = h p.line p.line_is; count = p.count; out = p.out }
 
--- no line, one more, and lines after lines
-pub told_nothing : (Line : List ℕ → Type 0) (x : Option (List ℕ)) → HasTold Line x x
-told_nothing Line x = record { parts = []; each = λ i d within. absurd (omega (arith, within)); out = Appends-nil x }
-
 pub told_one : (Line : List ℕ → Type 0) (a b : Option (List ℕ)) → HasBegun Line a b → HasTold Line a b
 told_one Line a b p = record {
   parts = take p.count p.line ∷ [];

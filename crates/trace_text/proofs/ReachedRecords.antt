@@ -1,6 +1,6 @@
 -- The records that csv reads one after the other are a front of all the records of the text, and at
 -- the end of the text they are all of them.
-use Rattle.std.proofs.Common.{◌≡◌, ◌≤◌, ◌<◌, ◌+◌, ℕ, zero, suc, List, [], ◌∷◌, ◌++◌, length, Option, Some, None, Bool, true, false, cond, refl, subst, inl, inr, ◌⊎◌, ◌==◌, ◌||◌, arith}
+use Rattle.std.proofs.Common.{◌≡◌, ◌≤◌, ◌<◌, ◌+◌, ℕ, zero, suc, List, [], ◌∷◌, ◌++◌, length, Option, Some, None, Bool, true, false, cond, refl, subst, ◌==◌, ◌||◌, arith}
 use Rattle.csv.specs.Machine.{Read, next_record, step, is_end, in_field, start_field, start_record, fields_after, field_after, ends_at_end, after_end}
 use Rattle.csv.specs.Reading.{AreRecords, Reached, default_config, records, records_from, records_next}
 use Rattle.csv.specs.declared.parser.State.{State}
@@ -13,11 +13,6 @@ use Rattle.csv.specs.declared.parser.Terminator.TheVariants as term
 -- where a record may begin
 abbrev pub IsStart : State → Type 0
 IsStart s = ends_at_end s ≡ false
-
--- which way a test went
-pub chosen : {A : Type 0} (b : Bool) (x y z : A) → cond b x y ≡ z → ((b ≡ true) × (x ≡ z)) ⊎ ((b ≡ false) × (y ≡ z))
-chosen true x y z e = inl (refl, e)
-chosen false x y z e = inr (refl, e)
 
 -- the bytes after a record
 abbrev pub left_of : Option Read → List ℕ

@@ -33,9 +33,6 @@ use Rattle.trace_text.proofs.Numbers.{own, number_of-decimal, bytes_eq-same, byt
 use Rattle.trace_text.proofs.NumberLists.{numbers_of-decimals, ids_of-joined}
 use Rattle.trace_text.proofs.Prefixes.{so_far, IsTrace-front, CanAppend-next, with_next, place-value}
 
-test_lt : (n m : ℕ) → n < m → nat_lt n m ≡ true
-test_lt n m h = grind (arith, nat_tests)
-
 test_not_lt : (n m : ℕ) → m ≤ n → nat_lt n m ≡ false
 test_not_lt n m h = grind (arith, nat_tests)
 
