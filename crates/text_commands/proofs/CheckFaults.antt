@@ -13,7 +13,9 @@ use Rattle.front.specs.declared.refusals.ReportError.TheVariants as uncertified
 use Rattle.front.specs.ReportTexts.{StandsFor}
 use Rattle.text_commands.specs.declared.faults.Fault.{Fault}
 use Rattle.text_commands.specs.declared.faults.Fault.TheVariants as fault
-use Rattle.text_commands.specs.Checks.{IsFaultBefore, IsLineOn, IsUnchecked, IsVerdictOn, check_kinds, told_verdict}
+use Rattle.text_report.specs.Checks.{IsLineOn, IsVerdictOn}
+use Rattle.text_report.specs.VerdictLines.{told_verdict}
+use Rattle.text_commands.specs.Checks.{IsFaultBefore, IsUnchecked, check_kinds}
 use Rattle.text_commands.specs.Faults.{fault_of_certificate, fault_of_text}
 use Rattle.text_commands.specs.Inputs.{too_large}
 use Rattle.text_commands.specs.Printing.{IsUntold, IsWriteFault}

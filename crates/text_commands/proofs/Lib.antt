@@ -1,6 +1,5 @@
 pub mod ServeFaults
 pub mod ReportFaults
-pub mod ClaimedTexts
 pub mod CheckFaults
 pub mod ImportFaults
 pub mod ReadBack

@@ -8,8 +8,10 @@ use Rattle.shared_reading.specs.DeviceTexts.{IsRefusalOf, IsTraceRead}
 use Rattle.text_commands.specs.declared.faults.Fault.{Fault}
 use Rattle.text_commands.specs.declared.faults.Fault.TheVariants as fault
 use Rattle.text_commands.specs.Faults.{fault_of_text}
-use Rattle.text_commands.specs.Inputs.{IsTextOf, IsTraceFault, own_trace}
-use Rattle.text_commands.specs.Reports.{IsFaultFor, IsReportOf, IsTextFault, IsUnreported, report_kinds}
+use Rattle.text_commands.specs.Inputs.{IsTraceFault, own_trace}
+use Rattle.text_commands.specs.Reports.{IsFaultFor, IsTextFault, IsUnreported, report_kinds}
+use Rattle.text_report.specs.Reports.{IsReportOf}
+use Rattle.text_report.specs.Texts.{IsTextOf}
 use Rattle.text_commands.specs.Serving.{IsFaultOf, IsServeFault, Kinds}
 
 -- the text isn't read, or is refused

@@ -19,7 +19,8 @@ use Rattle.text_commands.specs.declared.faults.Fault.{Fault}
 use Rattle.text_commands.specs.declared.faults.Fault.TheVariants as fault
 use Rattle.text_commands.specs.declared.faults.PictureOption.{PictureOption}
 use Rattle.text_commands.specs.declared.faults.PictureOption.TheVariants as option
-use Rattle.text_commands.specs.Inputs.{IsTextOf, too_large}
+use Rattle.text_commands.specs.Inputs.{too_large}
+use Rattle.text_report.specs.Texts.{IsTextOf}
 use Rattle.text_commands.specs.Reports.{IsTextFault}
 use Rattle.text_commands.specs.Serving.{IsFaultOf, Kinds}
 

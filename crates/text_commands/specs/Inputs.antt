@@ -1,27 +1,19 @@
--- What the program reads: the trace that a text stands for, and why there is none.
-use Rattle.std.specs.Prelude.{ℕ, ◌≡◌, ◌≢◌, ◌<◌, ◌≤◌, List, length, nat_le, ⊤}
+-- Why the program reads no trace.
+use Rattle.std.specs.Prelude.{ℕ, ◌≡◌, ◌<◌, List, length, nat_le, ⊤}
 use Rattle.std.proofs.Common.{refl, false, arith}
 use Rattle.std.proofs.lemmas.Bool.Decides.{nat_tests}
-use Rattle.step_trace.specs.Traces.{Recorded}
 use Rattle.trace_text.specs.declared.byte_loops.TheConstants.{MAX_TEXT_BYTES}
 use Rattle.trace_text.specs.declared.refusals.TextError.TheVariants as why
 use Rattle.trace_text.specs.Faults.{Rose}
-use Rattle.trace_text.specs.TraceTexts.{IsTextTrace, StandsFor}
-use Rattle.trace_text.specs.TextRefusals.{IsFirstRefusal}
+use Rattle.text_report.specs.Texts.{IsRefusedFor}
 use Rattle.text_commands.specs.declared.faults.Fault.{Fault}
 use Rattle.text_commands.specs.declared.faults.Fault.TheVariants as fault
 use Rattle.text_commands.specs.Serving.{IsFaultOf, Kinds}
 
--- The text stands for this trace, and isn't too large.
-pub record IsTextOf (text : List ℕ) (t : Recorded) : Type 0 where
-  pub trace : IsTextTrace t
-  pub stands : StandsFor text t
-  pub size : length text ≤ MAX_TEXT_BYTES
-
 -- The fault is the first refusal of the text; want of memory and a failed read are faults of their own, and
 -- no refusals of it.
 abbrev pub IsTraceFault : List ℕ → Fault → Type 0
-IsTraceFault text (fault.Trace reason) = IsFirstRefusal text reason × (reason ≢ why.Read) × (reason ≢ why.Memory)
+IsTraceFault text (fault.Trace reason) = IsRefusedFor text reason
 IsTraceFault text fault.Memory = ⊤
 IsTraceFault text _ = ⊥
 

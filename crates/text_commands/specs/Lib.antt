@@ -9,8 +9,6 @@ pub mod Drawings
 pub mod ReplayTexts
 pub mod Replays
 pub mod Upgrades
-pub mod VerdictLines
-pub mod CertificateTexts
 pub mod Checks
 pub mod Standings
 pub mod StandingLines

@@ -7,7 +7,8 @@ use Rattle.step_buffers.specs.Runs.{IsRun}
 use Rattle.step_buffers.specs.Replays.{IsFirstOff}
 use Rattle.text_commands.specs.declared.faults.Fault.{Fault}
 use Rattle.text_commands.specs.declared.faults.Fault.TheVariants as fault
-use Rattle.text_commands.specs.Inputs.{IsTextOf, IsTraceFault, own_trace}
+use Rattle.text_commands.specs.Inputs.{IsTraceFault, own_trace}
+use Rattle.text_report.specs.Texts.{IsTextOf}
 use Rattle.text_commands.specs.ReplayTexts.{replay_text}
 use Rattle.text_commands.specs.Serving.{IsFaultOf, Kinds}
 

@@ -1,42 +1,14 @@
--- What the program makes of a trace text in a report.
+-- Why the program makes no report of a trace text.
 use Rattle.std.specs.Prelude.{ℕ, ◌≡◌, List, true, false, ⊤}
-use Rattle.step_trace.specs.declared.rows.Row.{Row}
 use Rattle.step_trace.specs.Processors.{IsWithin}
 use Rattle.step_trace.specs.Traces.{Recorded}
-use Rattle.step_trace.specs.Fronts.{IsReport}
 use Rattle.chunk_join.specs.declared.analyses.AnalyseError.{AnalyseError}
 use Rattle.chunk_join.specs.declared.analyses.AnalyseError.TheVariants as unanalysed
-use Rattle.front.specs.ReportTexts.{report_text}
+use Rattle.text_report.specs.Texts.{IsSetInside, IsSetOutside}
 use Rattle.text_commands.specs.declared.faults.Fault.{Fault}
 use Rattle.text_commands.specs.declared.faults.Fault.TheVariants as fault
-use Rattle.text_commands.specs.Inputs.{IsTextOf, IsTraceFault}
+use Rattle.text_commands.specs.Inputs.{IsTraceFault}
 use Rattle.text_commands.specs.Serving.{Kinds}
-
--- The text stands for a trace, and these rows are its report: the front of the triples that the trace
--- leaves possible for this set of correct processors, each with its named evidence.
-pub record AreRowsOf (set : ℕ) (text : List ℕ) (rows : List Row) : Type 0 where
-  pub trace : Recorded
-  pub read : IsTextOf text trace
-  pub within : IsWithin set trace.config.n
-  pub exact : IsReport set trace rows
-
--- The second text is the text of the report of what the first one stands for.
-pub record IsReportOf (set : ℕ) (text report : List ℕ) : Type 0 where
-  pub rows : List Row
-  pub exact : AreRowsOf set text rows
-  pub written : report ≡ report_text rows
-
--- The set has a member that the trace of the text hasn't.
-pub record IsSetOutside (set : ℕ) (text : List ℕ) : Type 0 where
-  pub trace : Recorded
-  pub read : IsTextOf text trace
-  pub outside : ¬ IsWithin set trace.config.n
-
--- The text stands for a trace, which has all members of the set.
-pub record IsSetInside (set : ℕ) (text : List ℕ) : Type 0 where
-  pub trace : Recorded
-  pub read : IsTextOf text trace
-  pub within : IsWithin set trace.config.n
 
 -- the fault that a trace which wasn't analysed is: of threads, where a worker was held back or couldn't be started;
 -- the number of workers is never refused

@@ -8,13 +8,15 @@ ghost use Rattle.trace_text.specs.ByteLoops.{WasFaultless};
 ghost use Rattle.trace_text.specs.Faults.{inner_of, faults_of, is_flushed};
 ghost use Rattle.trace_text.specs.declared.byte_loops.TheConstants.{MAX_TEXT_BYTES};
 ghost use Rattle.front.specs.ReportTexts.{StandsFor};
-ghost use Rattle.text_commands.specs.Checks.{IsEitherReadFault, IsFaultBefore, IsLineOn, IsUnchecked, IsVerdictOn, check_kinds, told_verdict};
-ghost use Rattle.text_commands.specs.Inputs.{IsReadFault, IsTextOf};
+ghost use Rattle.text_commands.specs.Checks.{IsEitherReadFault, IsFaultBefore, IsUnchecked, check_kinds};
+ghost use Rattle.text_commands.specs.Inputs.{IsReadFault};
 ghost use Rattle.text_commands.specs.Reports.{IsTextFault};
 ghost use Rattle.text_commands.specs.Printing.{IsWriteFault};
 ghost use Rattle.text_commands.specs.Serving.{IsFaultOf, IsServeFault};
+ghost use Rattle.text_report.specs.Checks.{IsLineOn, IsVerdictOn};
+ghost use Rattle.text_report.specs.Texts.{IsTextOf};
+ghost use Rattle.text_report.specs.VerdictLines.{told_verdict};
 
-use crate::certificate_texts::read_certificate;
 use crate::faults::Fault;
 use crate::inputs::trace_of;
 use crate::reports::test_set;
@@ -23,6 +25,7 @@ use certificate_checker::{Verdict, check_claimed};
 use std::alloc::Global;
 use std::io::{Read, Write};
 use step_trace::{ProcSet, Trace};
+use text_report::read_certificate;
 use trace_text::{Counting, read_all};
 
 /// Reads a trace text and then a certificate to their ends, checks the rows of the certificate against the

@@ -5,10 +5,9 @@ ghost use Rattle.text_commands.specs.FaultLines.{fault_line, ended_line};
 
 use crate::faults::{Fault, ImportOption, PictureOption};
 use crate::import_lines::{HelpLine, LogLead};
-use front::ReportError;
 use std::alloc::{AllocError, Global};
 use std::fmt;
-use trace_text::TextError;
+use text_report::{CertificateWords, TraceWords};
 
 /// The line of a fault without its line feed, with one more line where something helps; or the words of the command
 /// line's reader, which end in one.
@@ -83,60 +82,6 @@ impl fmt::Display for ImportOption {
             ImportOption::Nodes => f.write_str("--nodes"),
             ImportOption::Tick => f.write_str("--tick"),
             ImportOption::Until => f.write_str("--until"),
-        }
-    }
-}
-
-/// What is told of a refused trace text.
-#[derive(Clone, Copy)]
-struct TraceWords<'a>(&'a TextError);
-
-impl fmt::Display for TraceWords<'_> {
-    ghost use Rattle.std.specs.Prelude.{Some};
-    ghost use Rattle.text_commands.specs.FaultLines.{trace_words};
-
-    ghost output = { λ words. Some (trace_words words.0.now) };
-
-    fn fmt<W: fmt::Write>(&self, f: &mut fmt::Formatter<W>) -> fmt::Result {
-        match self.0 {
-            TextError::TooLarge => f.write_str("text too large"),
-            TextError::Read => f.write_str("cannot read"),
-            TextError::BadHeader => f.write_str("bad header"),
-            TextError::BadVersion => f.write_str("bad version"),
-            TextError::BadSize => f.write_str("bad size"),
-            TextError::BadInit => f.write_str("bad init"),
-            TextError::BadFields(no) => write!(f, "step {no}: bad fields"),
-            TextError::WrongNumber(no) => write!(f, "step {no}: wrong number"),
-            TextError::BadOp(no) => write!(f, "step {no}: bad operation"),
-            TextError::BadNumber(no) => write!(f, "step {no}: bad number"),
-            TextError::BadStep(no, why) => write!(f, "step {no}: {why}"),
-            TextError::NoEnd => f.write_str("no end"),
-            TextError::WrongEnd => f.write_str("wrong end"),
-            TextError::AfterEnd => f.write_str("text after end"),
-            TextError::Memory => f.write_str("out of memory"),
-        }
-    }
-}
-
-/// What is told of a refused certificate.
-#[derive(Clone, Copy)]
-struct CertificateWords<'a>(&'a ReportError);
-
-impl fmt::Display for CertificateWords<'_> {
-    ghost use Rattle.std.specs.Prelude.{Some};
-    ghost use Rattle.text_commands.specs.FaultLines.{certificate_words};
-
-    ghost output = { λ words. Some (certificate_words words.0.now) };
-
-    fn fmt<W: fmt::Write>(&self, f: &mut fmt::Formatter<W>) -> fmt::Result {
-        match self.0 {
-            ReportError::TooLarge => f.write_str("text too large"),
-            ReportError::Read => f.write_str("cannot read"),
-            ReportError::BadHeader => f.write_str("bad header"),
-            ReportError::BadFields(row) => write!(f, "row {row}: bad fields"),
-            ReportError::BadNumber(row) => write!(f, "row {row}: bad number"),
-            ReportError::HalfWitness(row) => write!(f, "row {row}: half a witness"),
-            ReportError::Memory => f.write_str("out of memory"),
         }
     }
 }

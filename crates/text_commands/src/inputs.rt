@@ -1,7 +1,8 @@
 //! The trace that a text stands for, for the commands that read one.
 
 ghost use Rattle.std.specs.Prelude.{IfOk, IfErr};
-ghost use Rattle.text_commands.specs.Inputs.{IsTextOf, IsTraceFault};
+ghost use Rattle.text_commands.specs.Inputs.{IsTraceFault};
+ghost use Rattle.text_report.specs.Texts.{IsTextOf};
 
 use crate::faults::Fault;
 use std::alloc::Global;

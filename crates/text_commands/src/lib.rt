@@ -3,7 +3,6 @@
 //! the faults that end the program, their lines and their statuses. `specs/` has the definitions that the contracts cite.
 #![tactic(auto)]
 
-mod certificate_texts;
 mod checks;
 mod drawings;
 mod fault_lines;
@@ -32,5 +31,6 @@ pub use reports::{run_report, test_set};
 pub use serving::{Answer, serve};
 pub use standing_lines::{tell_standing, tell_stop};
 pub use standings::{LeastBounds, RECENT_TICKS, Standing, standing_of};
+pub use text_report::verdict_status;
 pub use upgrades::run_upgrade;
-pub use verdict_lines::{tell_verdict, verdict_status};
+pub use verdict_lines::tell_verdict;

@@ -9,8 +9,9 @@ ghost use Rattle.trace_text.specs.Faults.{inner_of, faults_of, is_flushed};
 ghost use Rattle.chunk_join.specs.declared.analyses.TheConstants.{MAX_WORKERS};
 ghost use Rattle.text_commands.specs.Inputs.{IsReadFault};
 ghost use Rattle.text_commands.specs.Printing.{IsWriteFault};
-ghost use Rattle.text_commands.specs.Reports.{IsReportOf, IsFaultFor, IsFaultOfWorkers, IsUnreported, TellsAnalysis, report_kinds};
+ghost use Rattle.text_commands.specs.Reports.{IsFaultFor, IsFaultOfWorkers, IsUnreported, TellsAnalysis, report_kinds};
 ghost use Rattle.text_commands.specs.Serving.{IsFaultOf, IsServeFault};
+ghost use Rattle.text_report.specs.Reports.{IsReportOf};
 
 use crate::faults::Fault;
 use chunk_join::{AnalyseError, analyse};

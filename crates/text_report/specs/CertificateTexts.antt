@@ -1,5 +1,5 @@
 -- What is kept of the text of a certificate, record by record, for a trace with this last tick.
-use Rattle.std.specs.Prelude.{ℕ, ◌≡◌, ◌<◌, ◌≤◌, ◌+◌, ◌^◌, List, [], ◌++◌, length, Option, Some, None, IfSome, Result, Ok, Err, Bool, false, ◌||◌, nat_le, if◌then◌else◌, is_ok}
+use Rattle.std.specs.Prelude.{ℕ, ◌≡◌, ◌<◌, ◌≤◌, ◌+◌, ◌^◌, List, [], ◌++◌, length, Option, Some, None, IfSome, Result, Ok, Err, Bool, false, ◌||◌, nat_le, if◌then◌else◌, is_ok, ⊤}
 use Rattle.std.proofs.Common.{refl}
 use Rattle.step_trace.specs.declared.rows.Row.{Row}
 use Rattle.trace_text.specs.declared.byte_loops.TheConstants.{MAX_TEXT_BYTES}
@@ -7,14 +7,15 @@ use Rattle.trace_text.specs.declared.record_limits.TheConstants.{MAX_FIELDS}
 use Rattle.trace_text.specs.RecordLimits.{RefusesLong}
 use Rattle.trace_text.specs.Records.{◌>>=◌}
 use Rattle.front.specs.declared.refusals.ReportError.{ReportError}
+use Rattle.front.specs.declared.refusals.ReportError.TheVariants as why
 use Rattle.front.specs.declared.refusals.ReportError.TheVariants.{BadHeader, BadFields}
-use Rattle.front.specs.ReportRefusals.{is_header, row_of}
+use Rattle.front.specs.ReportRefusals.{is_header, row_of, rows_of_text}
 use Rattle.front.specs.ReportTexts.{StandsFor}
 use Rattle.front.specs.LongRefusals.{not_eight}
 use Rattle.certificate_checker.specs.declared.claims.ClaimedRows.{ClaimedRows}
 use Rattle.certificate_checker.specs.declared.claims.ClaimedRows.TheVariants.{InOrder}
 use Rattle.certificate_checker.specs.Claims.{claimed, count_of, with_row}
-use Rattle.text_commands.specs.declared.certificate_texts.Certificate.{Certificate}
+use Rattle.text_report.specs.declared.certificate_texts.Certificate.{Certificate}
 
 -- what is kept with the row of one more record
 abbrev pub kept_with : ℕ → ClaimedRows → Result Row ReportError → Result ClaimedRows ReportError
@@ -54,6 +55,12 @@ refuses_long c front long = let h = after-long c.last c.rows front long in (h.0,
 abbrev pub kept_of : ℕ → Result (List Row) ReportError → Result ClaimedRows ReportError
 kept_of last (Ok rows) = Ok (claimed last rows)
 kept_of last (Err e) = Err e
+
+-- the first refusal of the certificate's text, or want of memory
+abbrev pub IsRefusalOf : List ℕ → ReportError → Type 0
+IsRefusalOf text why.Read = ⊥
+IsRefusalOf text why.Memory = ⊤
+IsRefusalOf text e = rows_of_text text ≡ Err e
 
 -- The text of a certificate stands for rows, of which this is kept.
 pub record IsKeptOf (last : ℕ) (text : Option (List ℕ)) (kept : ClaimedRows) : Type 0 where

@@ -8,7 +8,7 @@ ghost use Rattle.trace_text.specs.Faults.{inner_of, faults_of};
 ghost use Rattle.trace_text.specs.Records.{ReachesUnless, WantsOnlyWhere, records_of_text};
 ghost use Rattle.front.specs.ReportReading.{RefusedFor, faults_after_report};
 ghost use Rattle.front.specs.ReportRefusals.{Gives, is_memory, row_of, rows_of_records};
-ghost use Rattle.text_commands.specs.CertificateTexts.{IsKeptOf, keeps_claimed, kept_at_end, kept_of, kept_with, next_claimed, refuses_long, row_keeps};
+ghost use Rattle.text_report.specs.CertificateTexts.{IsKeptOf, IsRefusalOf, keeps_claimed, kept_at_end, kept_of, kept_with, next_claimed, refuses_long, row_keeps};
 
 use certificate_checker::ClaimedRows;
 use csv::ByteRecord;
@@ -17,7 +17,7 @@ use front::row_records::{is_header, row_of};
 use std::alloc::Global;
 use std::io::Read;
 use trace_text::records::{TakeRecords, read_records};
-use trace_text::{Counting, TextError, read_all};
+use trace_text::{Counting, MAX_TEXT_BYTES, TextError, read_all};
 
 // What the records of a certificate give so far.
 #[derive(Drop)]
@@ -31,7 +31,7 @@ struct Certificate {
 /// What is kept of the rows of the certificate that the reader has left, claimed of a trace with this last tick.
 ///
 /// Refuses as `read_report` does, in the order of `ReportError`.
-pub(crate) fn read_certificate<R: Read>(
+pub fn read_certificate<R: Read>(
     alloc: Global,
     reader: &mut Counting<R>,
     last: u64,
@@ -50,6 +50,23 @@ pub(crate) fn read_certificate<R: Read>(
         Err(TextError::Memory) => Err(ReportError::Memory),
         Err(_) => unreachable!(),
     }
+}
+
+/// What is kept of the rows of a certificate's text, claimed of a trace with this last tick.
+///
+/// Refuses in the order of `ReportError`; `Read` is never answered.
+pub fn certificate_of_text(
+    alloc: Global,
+    text: &[u8],
+    last: u64,
+) -> Result<ClaimedRows, ReportError>
+    ensures kept { IfOk result (IsKeptOf last (Some text.now)) }
+    ensures refused { IfErr result (IsRefusalOf text.now) }
+{
+    if text.len() > MAX_TEXT_BYTES {
+        return Err(ReportError::TooLarge);
+    }
+    claimed_in(alloc, text, last)
 }
 
 /// What is kept of the rows of a text.

@@ -1,20 +1,21 @@
 -- What is kept of the rows of a certificate's text is kept of the rows that the text stands for.
-use Rattle.std.proofs.Common.{ℕ, ◌≡◌, ◌+◌, ◌≤◌, ◌∙◌, List, [], ◌∷◌, length, Option, Some, None, Result, Ok, Err, Bool, true, false, cond, IfOk, IfErr, IfSome, MatchResult, MatchBool, option_map, refl, sym, ap, subst}
+use Rattle.std.proofs.Common.{ℕ, ◌≡◌, ◌+◌, ◌≤◌, ◌∙◌, List, [], ◌∷◌, length, Option, Some, None, Result, Ok, Err, Bool, true, false, cond, IfOk, IfErr, IfSome, MatchResult, MatchBool, option_map, refl, sym, ap, subst, inl, inr, arith}
 use Rattle.std.specs.Prelude.{⊤}
 use Rattle.step_trace.specs.declared.rows.Row.{Row}
 use Rattle.trace_text.specs.declared.byte_loops.TheConstants.{MAX_TEXT_BYTES}
+use Rattle.trace_text.specs.Faults.{Rose}
 use Rattle.trace_text.specs.Records.{◌>>=◌, after_records}
 use Rattle.front.specs.declared.refusals.ReportError.{ReportError}
 use Rattle.front.specs.declared.refusals.ReportError.TheVariants as why
-use Rattle.front.specs.ReportReading.{faults_after_report}
+use Rattle.front.specs.ReportReading.{RefusedFor, faults_after_report}
 use Rattle.front.specs.ReportRefusals.{Gives, is_header, is_memory, next_rows, row_of, rows_at_end, rows_of_records, with_row}
 use Rattle.front.specs.ReportTexts.{StandsFor}
 use Rattle.certificate_checker.specs.declared.claims.ClaimedRows.{ClaimedRows}
 use Rattle.certificate_checker.specs.declared.claims.ClaimedRows.TheVariants.{InOrder}
 use Rattle.certificate_checker.specs.Claims.{claimed}
 use Rattle.certificate_checker.proofs.ClaimVerdicts.{claimed-count, claimed-push}
-use Rattle.text_commands.specs.declared.certificate_texts.Certificate.{Certificate}
-use Rattle.text_commands.specs.CertificateTexts.{IsKeptOf, kept_at_end, kept_of, kept_with, next_claimed}
+use Rattle.text_report.specs.declared.certificate_texts.Certificate.{Certificate}
+use Rattle.text_report.specs.CertificateTexts.{IsKeptOf, IsRefusalOf, kept_at_end, kept_of, kept_with, next_claimed}
 
 -- what is kept of rows, None before the header
 abbrev of_rows : ℕ → Option (List Row) → Certificate
@@ -107,3 +108,17 @@ kept-faultless last r (Err why.BadHeader) n same h = subst (λ (x : Result Claim
 kept-faultless last r (Err (why.BadFields at)) n same h = subst (λ (x : Result ClaimedRows ReportError). faults_after_report x n ≡ n) same h
 kept-faultless last r (Err (why.BadNumber at)) n same h = subst (λ (x : Result ClaimedRows ReportError). faults_after_report x n ≡ n) same h
 kept-faultless last r (Err (why.HalfWitness at)) n same h = subst (λ (x : Result ClaimedRows ReportError). faults_after_report x n ≡ n) same h
+
+-- what is read of no device is refused for no fault of one
+never-rose : Rose 0 0 → ⊥
+never-rose (inl h) = omega (arith, h)
+never-rose (inr h) = omega (arith, h)
+
+unfaulted-for : (text : List ℕ) (e : ReportError) → RefusedFor e 0 0 (Some text) → IsRefusalOf text e
+unfaulted-for text why.Read h = absurd (never-rose h)
+unfaulted-for text why.Memory h = tt
+unfaulted-for text e h = h
+
+pub unfaulted : (text : List ℕ) (r : Result ClaimedRows ReportError) → IfErr r (λ e. RefusedFor e 0 0 (Some text)) → IfErr r (IsRefusalOf text)
+unfaulted text (Ok kept) h = tt
+unfaulted text (Err e) h = unfaulted-for text e h

@@ -1,5 +1,5 @@
 -- The line in which a verdict is told (docs/FORMATS.md), without its line feed, and its exit status.
-use Rattle.std.specs.Prelude.{ℕ, List, ◌++◌, codes, decimal}
+use Rattle.std.specs.Prelude.{ℕ, List, [], ◌∷◌, ◌++◌, codes, decimal}
 use Rattle.step_trace.specs.declared.rows.Gap.{Gap}
 use Rattle.step_trace.specs.declared.rows.Miss.{Miss}
 use Rattle.certificate_checker.specs.declared.verdicts.Reason.{Reason}
@@ -35,6 +35,10 @@ reason_words (reason.PhiFails row w) = at_row (codes "PhiFails") row ++ (codes "
 abbrev pub verdict_line : Verdict → List ℕ
 verdict_line verdict.Yes = codes "yes"
 verdict_line (verdict.No why) = codes "no " ++ reason_words why
+
+-- the line of the verdict, with its line feed
+abbrev pub told_verdict : Verdict → List ℕ
+told_verdict v = verdict_line v ++ 10 ∷ []
 
 -- the exit status of a verdict
 abbrev pub status_of_verdict : Verdict → ℕ

@@ -1,0 +1,31 @@
+-- What a trace text stands for, and why it stands for nothing, or not for what a set is of.
+use Rattle.std.specs.Prelude.{ℕ, ◌≢◌, ◌≤◌, List, length}
+use Rattle.step_trace.specs.Processors.{IsWithin}
+use Rattle.step_trace.specs.Traces.{Recorded}
+use Rattle.trace_text.specs.declared.byte_loops.TheConstants.{MAX_TEXT_BYTES}
+use Rattle.trace_text.specs.declared.refusals.TextError.{TextError}
+use Rattle.trace_text.specs.declared.refusals.TextError.TheVariants as why
+use Rattle.trace_text.specs.TraceTexts.{IsTextTrace, StandsFor}
+use Rattle.trace_text.specs.TextRefusals.{IsFirstRefusal}
+
+-- The text stands for this trace, and isn't too large.
+pub record IsTextOf (text : List ℕ) (t : Recorded) : Type 0 where
+  pub trace : IsTextTrace t
+  pub stands : StandsFor text t
+  pub size : length text ≤ MAX_TEXT_BYTES
+
+-- the first refusal of the text; want of memory and a failed read are none
+abbrev pub IsRefusedFor : List ℕ → TextError → Type 0
+IsRefusedFor text reason = IsFirstRefusal text reason × (reason ≢ why.Read) × (reason ≢ why.Memory)
+
+-- The set has a member that the trace of the text hasn't.
+pub record IsSetOutside (set : ℕ) (text : List ℕ) : Type 0 where
+  pub trace : Recorded
+  pub read : IsTextOf text trace
+  pub outside : ¬ IsWithin set trace.config.n
+
+-- The text stands for a trace, which has all members of the set.
+pub record IsSetInside (set : ℕ) (text : List ℕ) : Type 0 where
+  pub trace : Recorded
+  pub read : IsTextOf text trace
+  pub within : IsWithin set trace.config.n

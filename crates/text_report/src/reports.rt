@@ -1,0 +1,84 @@
+//! The report of a trace text.
+
+ghost use Rattle.std.specs.Prelude.{◌≡◌, IfOk, IfErr};
+ghost use Rattle.step_trace.specs.Fronts.{IsReport};
+ghost use Rattle.step_trace.specs.Processors.{IsWithin};
+ghost use Rattle.text_report.specs.Reports.{IsReportOf, IsUnread, IsUnreported};
+ghost use Rattle.text_report.specs.Texts.{IsTextOf};
+
+use front::{Report, front, report_text_of};
+use std::alloc::{AllocError, Global};
+use step_trace::{ProcSet, Trace};
+use suffix_staircase::Stairs;
+use trace_text::{TextError, read_trace};
+
+/// Why a trace text has no report.
+#[derive(Debug, Drop)]
+pub enum Unreported {
+    /// The text is refused. `Read` is never the reason, and `Memory` is a case of its own.
+    Trace(TextError),
+    /// The set has a member that the trace hasn't.
+    Set,
+    /// There was no memory.
+    Memory,
+}
+
+/// The text of the report of the trace that a text stands for, with the members of `set` as the correct processors.
+///
+/// Refuses, in this order: Trace with the first refusal of the text; Set where a member is above the trace's number of
+/// processors. Memory may come instead.
+pub fn report_of_text(alloc: Global, text: &[u8], set: ProcSet) -> Result<Vec<u8>, Unreported>
+    ensures report { IfOk result (λ report. IsReportOf set text.now report.items) }
+    ensures refused { IfErr result (IsUnreported set text.now) }
+{
+    let trace = trace_within(alloc, text, set)?;
+    let report = report_of(alloc, &trace, set)?;
+    match report_text_of(alloc, report.rows()) {
+        Ok(text) => Ok(text),
+        Err(AllocError) => Err(Unreported::Memory),
+    }
+}
+
+/// The trace that a text stands for, where no member of the set is above its processors.
+///
+/// Refuses, in this order: Trace with the first refusal of the text; Set. Memory may come instead.
+pub(crate) fn trace_within(alloc: Global, text: &[u8], set: ProcSet) -> Result<Trace, Unreported>
+    ensures read { IfOk result (λ t. IsTextOf text.now t) }
+    ensures within { IfOk result (λ t. IsWithin set t.config.n) }
+    ensures refused { IfErr result (IsUnreported set text.now) }
+{
+    let trace = trace_of(alloc, text)?;
+    if !set.within(trace.config().n()) {
+        return Err(Unreported::Set);
+    }
+    Ok(trace)
+}
+
+/// The trace that a text stands for.
+///
+/// Refuses Trace with the first refusal of the text, and Memory.
+fn trace_of(alloc: Global, text: &[u8]) -> Result<Trace, Unreported>
+    ensures read { IfOk result (λ t. IsTextOf text.now t) }
+    ensures refused { IfErr result (IsUnread text.now) }
+{
+    match read_trace(alloc, text) {
+        Ok(trace) => Ok(trace),
+        Err(TextError::Memory) => Err(Unreported::Memory),
+        Err(why) => Err(Unreported::Trace(why)),
+    }
+}
+
+/// The report of a trace.
+fn report_of(alloc: Global, trace: &Trace, set: ProcSet) -> Result<Report, Unreported>
+    requires { IsWithin set trace.now.config.n }
+    ensures report { IfOk result (λ r. IsReport set trace.now r.rows) }
+    ensures memory { IfErr result (λ why. why ≡ Unreported.Memory) }
+{
+    let Ok(stairs) = Stairs::of_trace(alloc, trace, set) else {
+        return Err(Unreported::Memory);
+    };
+    match front(alloc, &stairs) {
+        Ok(report) => Ok(report),
+        Err(AllocError) => Err(Unreported::Memory),
+    }
+}
