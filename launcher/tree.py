@@ -12,10 +12,20 @@ PARTS = ("src", "specs", "proofs")
 MEMORY = 7 << 29
 
 
+def name_in(line):
+    """The crate that a line of crates.txt is about, which may say beside the name that it is a static library; or None."""
+    return next(iter(line.partition("#")[0].partition(":")[0].split()), None)
+
+
+def is_static(line):
+    """Whether the line says so."""
+    return "staticlib" in line.partition("#")[0].partition(":")[0].split()[1:]
+
+
 def read_crates(top):
     """The crates of crates.txt, each with those of them that it stands on. The toolchain's libraries are left out."""
-    lines = (it.partition("#")[0].partition(":") for it in (top / "crates.txt").read_text().splitlines())
-    listed = {name.split()[0]: re.split(r"[\s,]+", below) for name, _, below in lines if name.strip()}
+    lines = (top / "crates.txt").read_text().splitlines()
+    listed = {name_in(it): re.split(r"[\s,]+", it.partition("#")[0].partition(":")[2]) for it in lines if name_in(it)}
     return {name: [it for it in below if it in listed] for name, below in listed.items()}
 
 

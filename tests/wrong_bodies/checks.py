@@ -159,10 +159,12 @@ class Workshop:
     def words(self, name, jobs):
         """The words by which rt has a crate checked over its libraries and over the work kept in out/."""
         kit, top = self.toolchain, self.checkout if self.of_gate else self.top
-        lines = (it.partition("#")[0].partition(":") for it in (self.top / "crates.txt").read_text().splitlines())
-        named = next(below.replace(",", " ").split() for it, _, below in lines if it.split()[:1] == [name])
+        line = next(it for it in (self.top / "crates.txt").read_text().splitlines() if tree.name_in(it) == name)
+        named = line.partition("#")[0].partition(":")[2].replace(",", " ").split()
         root = "src/main.rt" if (self.folder(name) / "src/main.rt").is_file() else "src/lib.rt"
         words = [str(kit / "bin/rattle"), "check", "--crate-name", name, root, "-L", f"dependency={kit}/rlibs"]
+        if tree.is_static(line):
+            words += ["--crate-type", "staticlib"]
         for it in ["std", *[it for it in named if it not in self.crates]]:
             words += ["--extern", f"{it}={kit}/rlibs/{it}.rlib"]
         for it in self.crates[name]:

@@ -1,0 +1,6 @@
+-- What stands in the room that a caller brings.
+use Rattle.std.specs.Prelude.{ℕ, List, ◌++◌, length, take, drop}
+
+-- the room with these bytes in place of its first ones, as far as they fit
+abbrev pub over : List ℕ → List ℕ → List ℕ
+over bytes room = take (length room) bytes ++ drop (length bytes) room

@@ -1,0 +1,93 @@
+//! The verdict on the text of a certificate, for a caller that brings the room.
+
+ghost use Rattle.std.specs.Prelude.{◌≡◌, ◌≢◌, ◌<◌, ◌≤◌, length};
+ghost use Rattle.c_report.specs.Answers.{IsCertificateRefused, IsJudged, IsLineTooLong, IsToldOf, IsTraceRefused};
+ghost use Rattle.text_report.specs.RefusalWords as told;
+ghost use Rattle.text_report.specs.Texts.{IsSetOutside};
+ghost use Rattle.text_report.specs.VerdictLines.{status_of_verdict, told_verdict};
+
+use crate::answers::{BAD_CERTIFICATE, BAD_SET, BAD_TRACE, NO, NO_MEMORY, NO_ROOM, YES};
+use crate::reports::tell_trace;
+use crate::rooms::{put, put_whole};
+use certificate_checker::Verdict;
+use front::ReportError;
+use std::alloc::{AllocError, Global};
+use step_trace::ProcSet;
+use text_report::{Unchecked, certificate_words, verdict_of_text, verdict_status, verdict_text};
+
+/// Checks a certificate against a trace text: `YES` where its rows are the trace's report, `NO` where they aren't. The
+/// line of the verdict, with its line feed, is written over the first bytes of `out`, and its length in bytes into
+/// `size`. Processor p counts as correct where bit p - 1 of `correct` is set. What stands behind the line in `out` is as
+/// before.
+///
+/// Refuses, in this order: `BAD_TRACE` for a text that stands for no trace; `BAD_SET` where a member of the set is above
+/// the trace's number of processors; `BAD_CERTIFICATE` for a certificate that stands for no rows; `NO_ROOM` where the
+/// line is longer than `out`, and then its length stands in `size`. With a text that is refused, the words for its
+/// first refusal stand in `out` as far as they fit, and their whole length in `size`. `NO_MEMORY` may come instead of
+/// any. What isn't said to be written is as before.
+#[unsafe(no_mangle)]
+pub extern "C" fn synchrony_check(
+    alloc: Global,
+    correct: u64,
+    text: &[u8],
+    certificate: &[u8],
+    out: &mut [u8],
+    size: &mut usize,
+) -> u32
+    ensures yes { result ≡ YES → IsJudged correct text.now certificate.now out.old out.new size.new result }
+    ensures no { result ≡ NO → IsJudged correct text.now certificate.now out.old out.new size.new result }
+    ensures no_room { result ≡ NO_ROOM → IsLineTooLong correct text.now certificate.now (length out.old) size.new }
+    ensures bad_set { result ≡ BAD_SET → IsSetOutside correct text.now }
+    ensures bad_trace { result ≡ BAD_TRACE → IsTraceRefused text.now out.old out.new size.new }
+    ensures bad_certificate { result ≡ BAD_CERTIFICATE → IsCertificateRefused correct text.now certificate.now out.old out.new size.new }
+    ensures memory { result ≢ YES → result ≢ NO → result ≢ NO_ROOM → result ≢ BAD_SET → result ≢ BAD_TRACE → result ≢ BAD_CERTIFICATE → result ≡ NO_MEMORY }
+    ensures kept { result ≢ YES → result ≢ NO → result ≢ BAD_TRACE → result ≢ BAD_CERTIFICATE → out.new ≡ out.old }
+    ensures no_size { result ≢ YES → result ≢ NO → result ≢ NO_ROOM → result ≢ BAD_TRACE → result ≢ BAD_CERTIFICATE → size.new ≡ size.old }
+{
+    match verdict_of_text(alloc, text, certificate, ProcSet::of_mask(correct)) {
+        Ok(verdict) => tell_verdict(alloc, verdict, out, size),
+        Err(Unchecked::Trace(why)) => tell_trace(alloc, &why, out, size),
+        Err(Unchecked::Set) => BAD_SET,
+        Err(Unchecked::Certificate(why)) => tell_certificate(alloc, &why, out, size),
+        Err(Unchecked::Memory) => NO_MEMORY,
+    }
+}
+
+/// Tells a verdict.
+fn tell_verdict(alloc: Global, verdict: Verdict, out: &mut [u8], size: &mut usize) -> u32
+    ensures told { result ≢ NO_ROOM → result ≢ NO_MEMORY → IsToldOf (told_verdict verdict) out.old out.new size.new }
+    ensures fits { result ≢ NO_ROOM → result ≢ NO_MEMORY → length (told_verdict verdict) ≤ length out.old }
+    ensures status { result ≢ NO_ROOM → result ≢ NO_MEMORY → result ≡ status_of_verdict verdict }
+    ensures more { result ≡ NO_ROOM → length out.old < length (told_verdict verdict) }
+    ensures sized { result ≡ NO_ROOM → size.new ≡ length (told_verdict verdict) }
+    ensures kept { result ≡ NO_ROOM → out.new ≡ out.old }
+    ensures nothing { result ≡ NO_MEMORY → out.new ≡ out.old }
+    ensures no_size { result ≡ NO_MEMORY → size.new ≡ size.old }
+{
+    match verdict_text(alloc, verdict) {
+        Ok(line) => {
+            if put_whole(line.as_bytes(), out, size) {
+                u32::from(verdict_status(verdict))
+            } else {
+                NO_ROOM
+            }
+        }
+        Err(AllocError) => NO_MEMORY,
+    }
+}
+
+/// Tells why a certificate is refused.
+fn tell_certificate(alloc: Global, why: &ReportError, out: &mut [u8], size: &mut usize) -> u32
+    ensures told { result ≡ BAD_CERTIFICATE → IsToldOf (told.certificate_words why.now) out.old out.new size.new }
+    ensures memory { result ≢ BAD_CERTIFICATE → result ≡ NO_MEMORY }
+    ensures kept { result ≢ BAD_CERTIFICATE → out.new ≡ out.old }
+    ensures no_size { result ≢ BAD_CERTIFICATE → size.new ≡ size.old }
+{
+    match certificate_words(alloc, why) {
+        Ok(words) => {
+            put(words.as_bytes(), out, size);
+            BAD_CERTIFICATE
+        }
+        Err(AllocError) => NO_MEMORY,
+    }
+}

@@ -1,0 +1,66 @@
+//! The report of a trace text, for a caller that brings the room.
+
+ghost use Rattle.std.specs.Prelude.{◌≡◌, ◌≢◌, length};
+ghost use Rattle.c_report.specs.Answers.{IsReported, IsToldOf, IsTooLong, IsTraceRefused};
+ghost use Rattle.text_report.specs.RefusalWords as told;
+ghost use Rattle.text_report.specs.Texts.{IsSetOutside};
+
+use crate::answers::{BAD_SET, BAD_TRACE, DONE, NO_MEMORY, NO_ROOM};
+use crate::rooms::{put, put_whole};
+use std::alloc::{AllocError, Global};
+use step_trace::ProcSet;
+use text_report::{Unreported, report_of_text, trace_words};
+use trace_text::TextError;
+
+/// Writes the report of a trace text over the first bytes of `out`, and its length in bytes into `size`. Processor p
+/// counts as correct where bit p - 1 of `correct` is set. What stands behind the report in `out` is as before.
+///
+/// Refuses, in this order: `BAD_TRACE` for a text that stands for no trace, and then the words for its first refusal
+/// stand in `out` as far as they fit, and their whole length in `size`; `BAD_SET` where a member of the set is above the
+/// trace's number of processors; `NO_ROOM` where the report is longer than `out`, and then its length stands in `size`.
+/// `NO_MEMORY` may come instead of any. What isn't said to be written is as before.
+#[unsafe(no_mangle)]
+pub extern "C" fn synchrony_report(
+    alloc: Global,
+    correct: u64,
+    text: &[u8],
+    out: &mut [u8],
+    size: &mut usize,
+) -> u32
+    ensures done { result ≡ DONE → IsReported correct text.now out.old out.new size.new }
+    ensures no_room { result ≡ NO_ROOM → IsTooLong correct text.now (length out.old) size.new }
+    ensures bad_set { result ≡ BAD_SET → IsSetOutside correct text.now }
+    ensures bad_trace { result ≡ BAD_TRACE → IsTraceRefused text.now out.old out.new size.new }
+    ensures memory { result ≢ DONE → result ≢ NO_ROOM → result ≢ BAD_SET → result ≢ BAD_TRACE → result ≡ NO_MEMORY }
+    ensures kept { result ≢ DONE → result ≢ BAD_TRACE → out.new ≡ out.old }
+    ensures no_size { result ≢ DONE → result ≢ NO_ROOM → result ≢ BAD_TRACE → size.new ≡ size.old }
+{
+    match report_of_text(alloc, text, ProcSet::of_mask(correct)) {
+        Ok(report) => {
+            if put_whole(&report, out, size) {
+                DONE
+            } else {
+                NO_ROOM
+            }
+        }
+        Err(Unreported::Trace(why)) => tell_trace(alloc, &why, out, size),
+        Err(Unreported::Set) => BAD_SET,
+        Err(Unreported::Memory) => NO_MEMORY,
+    }
+}
+
+/// Tells why a trace text is refused.
+pub(crate) fn tell_trace(alloc: Global, why: &TextError, out: &mut [u8], size: &mut usize) -> u32
+    ensures told { result ≡ BAD_TRACE → IsToldOf (told.trace_words why.now) out.old out.new size.new }
+    ensures memory { result ≢ BAD_TRACE → result ≡ NO_MEMORY }
+    ensures kept { result ≢ BAD_TRACE → out.new ≡ out.old }
+    ensures no_size { result ≢ BAD_TRACE → size.new ≡ size.old }
+{
+    match trace_words(alloc, why) {
+        Ok(words) => {
+            put(words.as_bytes(), out, size);
+            BAD_TRACE
+        }
+        Err(AllocError) => NO_MEMORY,
+    }
+}

@@ -1,0 +1,61 @@
+//! Calls as a caller from C makes them. `tests/library` calls the built archive, from C and from others.
+
+use crate::{BAD_SET, BAD_TRACE, DONE, NO, NO_ROOM, YES, synchrony_check, synchrony_report};
+use std::test::Fail;
+
+const ONE_MISS: &[u8] = b"dls-trace,1,2,0\ninit,5,7\n1,1,S,2\n2,2,R,\n3,2,R,1\nend,3\n";
+
+const ITS_REPORT: &[u8] =
+    b"gst,delta,phi,sent,missed,proc,from,to\n1,2,3,1,2,1,2,3\n2,1,3,,,1,2,3\n3,1,2,,,1,3,3\n";
+
+/// A text and a set, how much room there is, and what is answered: its number, and what stands in the room.
+const REPORTS: &[(u64, &[u8], usize, u32, &[u8])] = &[
+    (3, ONE_MISS, 85, DONE, ITS_REPORT),
+    (3, ONE_MISS, 84, NO_ROOM, b""),
+    (7, ONE_MISS, 85, BAD_SET, b""),
+    (1 << 63, ONE_MISS, 85, BAD_SET, b""),
+    (7, b"dls-trace", 85, BAD_TRACE, b"bad header"),
+    (3, b"dls-trace", 3, BAD_TRACE, b"bad"),
+];
+
+#[test]
+fn reports_are_answered(rt: HostRuntime) -> Result<(), Fail> {
+    for &(correct, text, room, number, words) in REPORTS {
+        let mut out = vec![in rt.alloc(); 7u8; room]?;
+        let mut size = 0;
+        assert_eq!(rt;
+            synchrony_report(rt.alloc(), correct, text, &mut out, &mut size),
+            number
+        );
+        assert!(rt; &out[..words.len()] == words);
+        assert!(rt; out[words.len()..].iter().all(|byte| *byte == 7));
+    }
+    Ok(())
+}
+
+/// A certificate of it, how much room there is, and what is answered likewise.
+const CHECKS: &[(&[u8], usize, u32, &[u8])] = &[
+    (ITS_REPORT, 4, YES, b"yes\n"),
+    (ITS_REPORT, 3, NO_ROOM, b""),
+    (
+        b"gst,delta,phi,sent,missed,proc,from,to\n",
+        20,
+        NO,
+        b"no NoRows\n",
+    ),
+];
+
+#[test]
+fn certificates_are_checked(rt: HostRuntime) -> Result<(), Fail> {
+    for &(certificate, room, number, words) in CHECKS {
+        let mut out = vec![in rt.alloc(); 7u8; room]?;
+        let mut size = 0;
+        assert_eq!(rt;
+            synchrony_check(rt.alloc(), 3, ONE_MISS, certificate, &mut out, &mut size),
+            number
+        );
+        assert!(rt; &out[..words.len()] == words);
+        assert!(rt; out[words.len()..].iter().all(|byte| *byte == 7));
+    }
+    Ok(())
+}
