@@ -13,11 +13,11 @@ use Rattle.event_log.specs.declared.options.Options.{Options}
 use Rattle.event_log.specs.declared.refusals.LogError.TheVariants as no_log
 use Rattle.event_log.specs.Imports.{IsImportOf, IsLogRefusal}
 use Rattle.event_log.specs.Options.{IsOptionFault}
+use Rattle.text_report.specs.Texts.{IsTextOf}
 use Rattle.text_commands.specs.declared.faults.Fault.{Fault}
 use Rattle.text_commands.specs.declared.faults.Fault.TheVariants as fault
 use Rattle.text_commands.specs.declared.faults.ImportOption.TheVariants as option
 use Rattle.text_commands.specs.ImportLines.{notes_of}
-use Rattle.text_commands.specs.Inputs.{IsTextOf}
 use Rattle.text_commands.specs.Serving.{IsFaultOf, Kinds}
 
 -- why three texts tell no options: the first of them that is bad; or want of memory

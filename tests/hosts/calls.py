@@ -1,0 +1,36 @@
+"""calls.py report CORRECT <TRACE
+calls.py check CORRECT CERTIFICATE <TRACE
+
+Says and ends as the program does.
+"""
+
+import sys
+from pathlib import Path
+
+sys.dont_write_bytecode = True
+sys.path.insert(0, str(Path(__file__).resolve().parents[2] / "bindings"))
+import synchrony
+
+SAID = {synchrony.TraceRefused: ("trace: ", 3), synchrony.CertificateRefused: ("certificate: ", 4)}
+
+
+def main(command, correct, *certificate):
+    trace, correct = sys.stdin.buffer.read(), [int(it) for it in correct.split(",")]
+    try:
+        if command == "report":
+            sys.stdout.buffer.write(synchrony.report_text(trace, correct))
+            return 0
+        verdict = synchrony.check(trace, Path(certificate[0]).read_bytes(), correct)
+        print(verdict)
+        return int(verdict != "yes")
+    except synchrony.SetRefused:
+        print("synchrony: no such processor in --correct", file=sys.stderr)
+        return 2
+    except synchrony.Refused as why:
+        lead, status = SAID[type(why)]
+        print(f"synchrony: {lead}{why}", file=sys.stderr)
+        return status
+
+
+if __name__ == "__main__":
+    sys.exit(main(*sys.argv[1:]))
