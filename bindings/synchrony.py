@@ -58,7 +58,7 @@ def report(trace: bytes, correct: Iterable[int]) -> list[Row]:
 
 def report_text(trace: bytes, correct: Iterable[int]) -> bytes:
     """The same as a CSV with a header, byte for byte what the program prints."""
-    answer, out = _with_room(1 << 20, lambda *room: _library().synchrony_report(_set_of(correct), trace, len(trace), *room))
+    answer, out = _with_room(_room_for(trace), lambda *room: _library().synchrony_report(_set_of(correct), trace, len(trace), *room))
     _refuse(answer, out)
     return out
 
@@ -92,6 +92,11 @@ def _refuse(answer, out):
     assert answer == 0, answer
 
 
+def _room_for(trace):
+    """Room for nearly every report of a text, since a call in too little room is made twice."""
+    return min(1 << 20, 4096 + 4 * len(trace))
+
+
 def _with_room(room, call):
     """What a call answers and writes, in as much room as it asks for."""
     while True:
@@ -99,7 +104,7 @@ def _with_room(room, call):
         answer = call(out, room, ctypes.byref(size))
         # (the words of a refusal may be cut off too)
         if size.value <= room:
-            return answer, out.raw[: size.value]
+            return answer, ctypes.string_at(out, size.value)
         room = size.value
 
 

@@ -55,7 +55,9 @@ pub fn set_of(processors: &[u32]) -> u64 {
 /// The report of a trace text, with the processors of the set `correct` as the correct ones: a CSV with a header.
 pub fn report(text: &[u8], correct: u64) -> Result<Vec<u8>, Refusal> {
     // (SAFETY: the slices are apart, and `out` is borrowed by nobody else)
-    let (answer, out) = with_room(1 << 20, |out, size| unsafe {
+    // (this is room for nearly every report, since a call in too little room is made twice)
+    let room = (1 << 20).min(4096 + 4 * text.len());
+    let (answer, out) = with_room(room, |out, size| unsafe {
         synchrony_report(correct, text.as_ptr(), text.len(), out.as_mut_ptr(), out.len(), size)
     });
     match answer {

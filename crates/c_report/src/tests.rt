@@ -10,11 +10,11 @@ const ITS_REPORT: &[u8] =
 
 /// A text and a set, how much room there is, and what is answered: its number, and what stands in the room.
 const REPORTS: &[(u64, &[u8], usize, u32, &[u8])] = &[
-    (3, ONE_MISS, 85, DONE, ITS_REPORT),
-    (3, ONE_MISS, 84, NO_ROOM, b""),
-    (7, ONE_MISS, 85, BAD_SET, b""),
-    (1 << 63, ONE_MISS, 85, BAD_SET, b""),
-    (7, b"dls-trace", 85, BAD_TRACE, b"bad header"),
+    (3, ONE_MISS, 83, DONE, ITS_REPORT),
+    (3, ONE_MISS, 82, NO_ROOM, b""),
+    (7, ONE_MISS, 83, BAD_SET, b""),
+    (1 << 63, ONE_MISS, 83, BAD_SET, b""),
+    (7, b"dls-trace", 83, BAD_TRACE, b"bad header"),
     (3, b"dls-trace", 3, BAD_TRACE, b"bad"),
 ];
 
