@@ -56,7 +56,7 @@ class Function:
         return self.path() if self.path() in names else same[0] if len(same) == 1 else None
 
 
-HEAD = re.compile(r"(?P<pub>pub(?P<part>\([^)]*\))? )?(?P<words>(?:const |unsafe |async )*)fn (?P<name>\w+)")
+HEAD = re.compile(r"""(?P<pub>pub(?P<part>\([^)]*\))? )?(?P<words>(?:const |unsafe |async |extern "[^"]*" )*)fn (?P<name>\w+)""")
 MODULE = re.compile(r"(?:pub(?:\([^)]*\))? )?mod (?P<name>\w+) \{$")
 IMPL = re.compile(r"(?:unsafe )?impl(?:<.*?>)? (?:(?P<trait>[\w:]+(?:<.*>)?) for )?(?P<type>[\w:]+)")
 CYCLE = re.compile(r"#\[cycle\((\w+)\)\]")
