@@ -55,12 +55,7 @@ pub(crate) fn put(out: &mut Vec<u8>, text: String) -> Result<(), AllocError> {
 }
 
 // The page is wider by what names reach beyond its left edge.
-fn put_head(
-    alloc: Global,
-    out: &mut Vec<u8>,
-    frame: Frame,
-    overhang: u64,
-) -> Result<(), AllocError>
+fn put_head(alloc: Global, out: &mut Vec<u8>, frame: Frame, overhang: u64) -> Result<(), AllocError>
     requires { overhang ≤ 4_320 }
 {
     let height = frame.lanes_end() + 1_000;
