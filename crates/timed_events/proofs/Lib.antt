@@ -18,3 +18,7 @@ pub mod OrderedTimes
 pub mod RankedEvents
 pub mod MovedEvents
 pub mod SpreadTraces
+pub mod SortedOnce
+pub mod OneOrder
+pub mod OneTrace
+pub mod OneSpread

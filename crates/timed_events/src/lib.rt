@@ -3,6 +3,7 @@
 
 mod checks;
 mod events;
+mod laws;
 mod orders;
 mod spread_ticks;
 mod spread_traces;
@@ -13,6 +14,7 @@ mod times;
 
 pub use checks::{are_meant, check_events};
 pub use events::{Clock, Event, EventAct, EventError, Hint};
+pub use laws::trace_laws;
 pub use orders::{numbers_of, order_of};
 pub use spread_traces::{Moved, TimedTrace, trace_of_events};
 pub use timed_traces::trace_in_time;
