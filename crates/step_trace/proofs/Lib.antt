@@ -17,6 +17,7 @@ pub mod PlacedNumbers
 pub mod ExtendedTraces
 pub mod FirstDifferences
 pub mod SamePrefixes
+pub mod TraceFronts
 pub mod BoundLaws
 pub mod BoundDecisions
 pub mod ListMembers

@@ -7,6 +7,7 @@ pub mod Traces
 pub mod Ticks
 pub mod Extensions
 pub mod Differences
+pub mod Cuts
 pub mod OwnSteps
 pub mod PushRefusals
 pub mod TickRefusals

@@ -4,6 +4,7 @@
 #![tactic(auto)]
 
 mod configurations;
+mod cuts;
 mod delivery_index;
 mod differences;
 mod gates;
