@@ -44,7 +44,11 @@ one_flag rows name false false a b = refl
 
 -- the rows below one command ask for one thing
 pub one_asked : (rows : List Row) (a b : Asked) → command_of a ≡ command_of b → AreRowsOf a rows → AreRowsOf b rows → a ≡ b
-one_asked rows (Report f l v) (Report g m w) e a b = cc (one_number rows _ _ _ v w a.workers_is b.workers_is)
+one_asked rows (Report f l v u t) (Report g m w x y) e a b = cc (
+  one_number rows _ _ _ v w a.workers_is b.workers_is,
+  one_optional rows _ _ _ u x a.until_is b.until_is,
+  one_optional rows _ _ _ t y a.at_is b.at_is,
+)
 one_asked rows (Replay f) (Replay g) e a b = cc
 one_asked rows (Run n t vs p s f) (Run m u ws q r g) e a b = cc (
   one_number rows _ _ _ n m a.nodes_is b.nodes_is,
@@ -97,8 +101,9 @@ pub nothing_named : (sub : Option (Text × List Row)) (w : LineError) → NamesN
 nothing_named sub (unread.Refused text) none h = inr none
 nothing_named sub unread.Memory none h = absurd h
 
-pub no_report : (rows : List Row) → ((file list : Text) (workers : ℕ) → ¬ AreReportRows rows file list workers) → NamesNoJob (Some (codes "report", rows))
-no_report rows none (Report f l w) h = none f l w (rows_below _ rows (Report f l w) h)
+pub no_report : (rows : List Row) → ((file list : Text) (workers : ℕ) (until at : Option ℕ) → ¬ AreReportRows rows file list workers until at)
+    → NamesNoJob (Some (codes "report", rows))
+no_report rows none (Report f l w u t) h = none f l w u t (rows_below _ rows (Report f l w u t) h)
 no_report rows none a h = elsewhere _ rows a h refl
 
 pub no_run : (rows : List Row) → ((n t : ℕ) (values : Text) (patience steps : ℕ) (follow : Option Text) → ¬ AreRunRows rows n t values patience steps follow) → NamesNoJob (Some (codes "run", rows))
@@ -123,11 +128,11 @@ one_worker : (rows : List Row) → first_of (codes "workers") rows ≡ Some (cod
 one_worker rows has =
     record { text = codes "1"; text_is = has; numeral = (omega arith, (omega arith, tt)); value_is = refl; low = omega arith; high = omega arith }
 
-pub plain_report : (name file list : Text) → is_flag file ≡ false → is_flag list ≡ false → IsPlain (report_line name file list) (Report file list 1)
+pub plain_report : (name file list : Text) → is_flag file ≡ false → is_flag list ≡ false → IsPlain (report_line name file list) (Report file list 1 None None)
 unfolding clap_on_literals
-plain_report name file list plain_file plain_list = plain_line (shape_of_command (codes "report")) (file ∷ codes "--correct" ∷ list ∷ []) _ (Report file list 1) _
+plain_report name file list plain_file plain_list = plain_line (shape_of_command (codes "report")) (file ∷ codes "--correct" ∷ list ∷ []) _ (Report file list 1 None None) _
     (after_value _ _ file _ _ plain_file refl refl refl refl (after_word _ _ _ (codes "--correct") _ _ refl refl (after_value _ _ list _ _ plain_list refl refl refl refl (at_end _ _))))
-    refl (record { file_is = refl; list_is = refl; workers_is = one_worker _ refl }) refl refl refl
+    refl (record { file_is = refl; list_is = refl; workers_is = one_worker _ refl; until_is = refl; at_is = refl }) refl refl refl
 
 pub plain_replay : (name file : Text) → is_flag file ≡ false → IsPlain (replay_line name file) (Replay file)
 unfolding clap_on_literals

@@ -1,5 +1,5 @@
 -- The arguments that several commands take, what the words of a command line say of them, and why they are refused.
-use Rattle.std.specs.Prelude.{ℕ, ◌≡◌, ◌≢◌, ◌≤◌, Bool, false, true, ◌==◌, List, [], ◌∷◌, Option, Some, None, codes, string_bytes, ⊤}
+use Rattle.std.specs.Prelude.{ℕ, ◌≡◌, ◌≢◌, ◌≤◌, ◌-◌, ◌^◌, Bool, false, true, ◌==◌, List, [], ◌∷◌, Option, Some, None, codes, string_bytes, ⊤}
 use Rattle.std.specs.Str.Parse.{IsNumeral, digits_value, without_leading_plus}
 use Rattle.clap.specs.Words.{App, Row, Rule, Text, app_of, first_of, new_rule, rule_of}
 use Rattle.clap.specs.declared.builder.Arg.{Arg}
@@ -36,6 +36,10 @@ number_rule name least most = record (option_rule name) { parser = Some (vp.Unsi
 -- --NAME VALUE, which may be left out
 abbrev pub optional_rule : Text → Rule
 optional_rule name = record (new_rule name) { long = Some name; action = Some Set; value_names = 1 }
+
+-- --NAME TICK, which may be left out
+abbrev pub tick_rule : Text → Rule
+tick_rule name = record (optional_rule name) { parser = Some (vp.Unsigned 0 (2 ^ 64 - 1)) }
 
 -- --NAME, which takes no value
 abbrev pub flag_rule : Text → Rule

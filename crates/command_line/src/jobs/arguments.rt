@@ -3,9 +3,10 @@
 ghost use Rattle.std.specs.Prelude.{◌≡◌, ◌≢◌, ◌↔◌, ℕ, List, Option, IfOk, IfErr, IfSome, IfNone, IsTrue, Bool, codes, option_map, string_bytes};
 ghost use Rattle.clap.specs.Words.{first_of, found_of, rows_of};
 ghost use Rattle.step_trace.specs.ProcessorLists.{IsSetIn};
-ghost use Rattle.command_line.specs.Arguments.{HasFlag, HasNumber, HasOptionalNumber, IsArgument, IsLineFault, IsListFault, correct_rule, file_rule};
+ghost use Rattle.command_line.specs.Arguments.{HasFlag, HasNumber, HasOptionalNumber, IsArgument, IsLineFault, IsListFault, correct_rule, file_rule, tick_rule};
 
 use crate::line_errors::LineError;
+use clap::builder::ValueParser;
 use clap::{Arg, ArgAction, ArgMatches};
 use std::alloc::{AllocError, Global};
 use step_trace::ProcSet;
@@ -30,6 +31,18 @@ pub fn correct_argument<'a>(alloc: Global) -> Arg<'a>
         .value_name("LIST")
         .help("The correct processors, from 1 to 64: 1,2,5, or none")
         .required(true)
+        .action(ArgAction::Set)
+}
+
+/// An option `--NAME TICK`, which may be left out.
+pub fn tick_argument<'a>(alloc: Global, name: &'a str, help: &'a str) -> Arg<'a>
+    ensures { IsArgument (tick_rule name.entry.now) result }
+{
+    Arg::new(alloc, name)
+        .long(name)
+        .value_name("TICK")
+        .help(help)
+        .value_parser(ValueParser::unsigned(0, u64::MAX))
         .action(ArgAction::Set)
 }
 

@@ -3,15 +3,15 @@
 ghost use Rattle.std.specs.Prelude.{◌≡◌, List, ℕ, None, Option, IfOk, IfErr, IfSome, codes, option_map};
 ghost use Rattle.clap.specs.Words.{found_of, rows_of};
 ghost use Rattle.command_line.specs.Arguments.{IsArgument, IsCommand, IsListFault};
-ghost use Rattle.command_line.specs.Commands.{AreDrawRows, IsDraw, draw_app, names_rule, tick_rule};
+ghost use Rattle.command_line.specs.Commands.{AreDrawRows, IsDraw, draw_app, names_rule};
 ghost use Rattle.command_line.specs.Jobs.{IsAnswerIn};
 
 use crate::jobs::Job;
 use crate::jobs::arguments::{
-    correct_argument, file_argument, kept, optional_number, optional_text, set_in, text, unknown,
+    correct_argument, file_argument, kept, optional_number, optional_text, set_in, text,
+    tick_argument, unknown,
 };
 use crate::line_errors::LineError;
-use clap::builder::ValueParser;
 use clap::{Arg, ArgAction, ArgMatches, Command};
 use std::alloc::{AllocError, Global};
 
@@ -47,18 +47,6 @@ pub fn command<'a>(alloc: Global) -> Result<Command<'a>, AllocError>
         .arg(tick_argument(alloc, "from", FROM_HELP))?
         .arg(tick_argument(alloc, "to", TO_HELP))?
         .arg(names_argument(alloc))
-}
-
-/// An option `--NAME TICK`, which may be left out.
-fn tick_argument<'a>(alloc: Global, name: &'a str, help: &'a str) -> Arg<'a>
-    ensures { IsArgument (tick_rule name.entry.now) result }
-{
-    Arg::new(alloc, name)
-        .long(name)
-        .value_name("TICK")
-        .help(help)
-        .value_parser(ValueParser::unsigned(0, u64::MAX))
-        .action(ArgAction::Set)
 }
 
 /// The option `--names A,B,C`, which may be left out.

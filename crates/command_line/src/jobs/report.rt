@@ -1,13 +1,15 @@
 //! The command `report`: its words and its help text, and the job that they give.
 
-ghost use Rattle.std.specs.Prelude.{◌≡◌, List, ℕ, None, IfOk, IfErr, IfSome, codes};
+ghost use Rattle.std.specs.Prelude.{◌≡◌, List, ℕ, None, Option, IfOk, IfErr, IfSome, codes};
 ghost use Rattle.clap.specs.Words.{found_of, rows_of};
 ghost use Rattle.command_line.specs.Arguments.{IsArgument, IsCommand, IsListFault};
-ghost use Rattle.command_line.specs.Commands.{AreReportRows, IsReport, report_app, workers_rule};
+ghost use Rattle.command_line.specs.Commands.{AreReportRows, IsReportFor, report_app, workers_rule};
 ghost use Rattle.command_line.specs.Jobs.{IsAnswerIn};
 
 use crate::jobs::Job;
-use crate::jobs::arguments::{correct_argument, file_argument, number, set_in, text, unknown};
+use crate::jobs::arguments::{
+    correct_argument, file_argument, number, optional_number, set_in, text, tick_argument, unknown,
+};
 use crate::line_errors::LineError;
 use clap::builder::ValueParser;
 use clap::{Arg, ArgAction, ArgMatches, Command};
@@ -15,6 +17,12 @@ use std::alloc::{AllocError, Global};
 
 /// The greatest number of workers that a command line may ask for.
 pub const MAX_WORKERS: u64 = 64;
+
+const UNTIL_HELP: &str =
+    "Reports the trace up to this tick, as if it had ended there; all of it where it is left out";
+
+const AT_HELP: &str =
+    "Prints only the row that serves this tick, below the header; all rows where it is left out";
 
 /// What the words after `report` say.
 #[derive(Clone, Copy)]
@@ -25,6 +33,10 @@ struct ReportWords<'a> {
     list: &'a str,
     /// How many workers read the trace and find the bounds.
     workers: u64,
+    /// The tick up to which the trace is reported.
+    until: Option<u64>,
+    /// The tick whose row is printed.
+    at: Option<u64>,
 }
 
 /// The command `report`, as the command line's reader takes it.
@@ -36,7 +48,9 @@ pub fn command<'a>(alloc: Global) -> Result<Command<'a>, AllocError>
         .after_help(help())
         .arg(file_argument(alloc))?
         .arg(correct_argument(alloc))?
-        .arg(workers_argument(alloc))
+        .arg(workers_argument(alloc))?
+        .arg(tick_argument(alloc, "until", UNTIL_HELP))?
+        .arg(tick_argument(alloc, "at", AT_HELP))
 }
 
 /// The option --workers W.
@@ -66,27 +80,37 @@ pub fn job(alloc: Global, found: &ArgMatches<'_>) -> Result<Job, LineError>
 
 /// What the matches below `report` say, where they have all of it.
 fn words<'a>(found: &ArgMatches<'a>) -> Option<ReportWords<'a>>
-    ensures some { IfSome result (λ w. AreReportRows (rows_of (found_of found.now)) w.file.now w.list.now w.workers) }
-    ensures none { result ≡ None → (file list : List ℕ) (workers : ℕ) → ¬ AreReportRows (rows_of (found_of found.now)) file list workers }
+    ensures some { IfSome result (λ w. AreReportRows (rows_of (found_of found.now)) w.file.now w.list.now w.workers w.until w.at) }
+    ensures none { result ≡ None → (file list : List ℕ) (workers : ℕ) (until at : Option ℕ) → ¬ AreReportRows (rows_of (found_of found.now)) file list workers until at }
 {
     Some(ReportWords {
         file: text(found, "file")?,
         list: text(found, "correct")?,
         workers: number(found, "workers", 1, MAX_WORKERS)?,
+        until: optional_number(found, "until", 0, u64::MAX)?,
+        at: optional_number(found, "at", 0, u64::MAX)?,
     })
 }
 
-/// The job of a report with these words.
+/// The job of a report with these words: of the whole report where they have no tick, else of a part of it.
 fn report(alloc: Global, words: ReportWords<'_>) -> Result<Job, LineError>
-    ensures job { IfOk result (IsReport words.entry.file.now words.entry.list.now words.entry.workers) }
+    ensures job { IfOk result (IsReportFor words.entry.file.now words.entry.list.now words.entry.workers words.entry.until words.entry.at) }
     ensures refused { IfErr result (IsListFault words.entry.list.now) }
 {
     let set = set_in(alloc, words.list)?;
     let file = String::from_str(alloc, words.file)?;
-    Ok(Job::Report {
-        file,
-        set,
-        workers: words.workers,
+    Ok(match (words.until, words.at) {
+        (None, None) => Job::Report {
+            file,
+            set,
+            workers: words.workers,
+        },
+        (until, at) => Job::ReportPart {
+            file,
+            set,
+            until,
+            at,
+        },
     })
 }
 
@@ -127,10 +151,20 @@ tick 3 on phi 2.
 The ticks are shared out evenly among the W threads: each summarises its share,
 and the summaries are joined. The report is the same for each W, byte for byte.
 
+--until TICK reports the trace as if it had ended at that tick, without the steps
+after it. A run that stops is silent from then on, so the last ticks of a trace
+show a phi that nobody should rely on. --at TICK prints the header and the one
+row that serves that tick, which begins at it or before. With both, it is a row
+of the report up to the first tick. Then one thread reads the trace and analyses
+it, whatever W is.
+  ./synchrony report examples/one-miss.trace --correct 1,2 --at 2
+prints the header and the row 2,1,3,,,1,2,3.
+
 Exit status:
   0  the report is printed, or this text
   2  the command line is refused, LIST is no list, or it has a processor above
-     the trace's number of processors
+     the trace's number of processors; the tick of --until is none of the trace,
+     or that of --at none of the ticks that are reported
   3  the trace is refused
   5  out of memory
   6  FILE can't be opened or read, or the output can't be written

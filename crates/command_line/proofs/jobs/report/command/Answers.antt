@@ -10,4 +10,6 @@ returns c =
     let opening : IsCommand (new_app (codes "report")) c.after_help.result = search rules in
     let first = one_argument _ _ _ _ _ opening c.file_argument.ensures c.in_ok-arg.ensures in
     let second = one_argument _ _ _ _ _ first c.correct_argument.ensures c.in_ok-arg-2.ensures in
-    IfOk-weaker c.arg-3.result _ _ (λ r h. one_argument _ _ _ _ _ second c.workers_argument.ensures h) c.arg-3.ensures
+    let third = one_argument _ _ _ _ _ second c.workers_argument.ensures c.in_ok-arg-3.ensures in
+    let fourth = one_argument _ _ _ _ _ third c.tick_argument.ensures c.in_ok-arg-4.ensures in
+    IfOk-weaker c.arg-5.result _ _ (λ r h. one_argument _ _ _ _ _ fourth c.tick_argument-2.ensures h) c.arg-5.ensures
