@@ -9,7 +9,7 @@ use Rattle.text_commands.specs.Serving.{IsFaultOf, Kinds}
 
 -- it may refuse a set, and a certificate
 abbrev pub check_kinds : Kinds
-check_kinds = record { set = true; certificate = true; run = false; threads = false; picture = false; log = false }
+check_kinds = record { set = true; certificate = true; run = false; threads = false; picture = false; part = false; log = false }
 
 -- the fault is one of these, and nothing was to be written yet
 abbrev pub IsFaultBefore : Fault → Type 0

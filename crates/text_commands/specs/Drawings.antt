@@ -113,7 +113,7 @@ IsUndrawable d text w = IsTextFault d.set text w
 
 -- it may refuse a set, and an option of a picture
 abbrev pub drawing_kinds : Kinds
-drawing_kinds = record { set = true; certificate = false; run = false; threads = false; picture = true; log = false }
+drawing_kinds = record { set = true; certificate = false; run = false; threads = false; picture = true; part = false; log = false }
 
 pub too_large_to_draw : (d : Drawing) (text : List ℕ) → MAX_TEXT_BYTES < length text → IsUndrawable d text (fault.Trace why.TooLarge)
 too_large_to_draw d text h = too_large text h

@@ -6,6 +6,8 @@ use Rattle.text_commands.specs.declared.faults.Fault.{Fault}
 use Rattle.text_commands.specs.declared.faults.Fault.TheVariants as fault
 use Rattle.text_commands.specs.declared.faults.PictureOption.{PictureOption}
 use Rattle.text_commands.specs.declared.faults.PictureOption.TheVariants as option
+use Rattle.text_commands.specs.declared.faults.ReportOption.{ReportOption}
+use Rattle.text_commands.specs.declared.faults.ReportOption.TheVariants as report_option
 use Rattle.text_commands.specs.declared.faults.ImportOption.{ImportOption}
 use Rattle.text_commands.specs.declared.faults.ImportOption.TheVariants as import_option
 use Rattle.text_commands.specs.ImportLines.{help_line, log_lead}
@@ -15,6 +17,11 @@ abbrev pub option_words : PictureOption → List ℕ
 option_words option.Names = codes "--names"
 option_words option.From = codes "--from"
 option_words option.To = codes "--to"
+
+-- an option of a part of a report, likewise
+abbrev pub report_option_words : ReportOption → List ℕ
+report_option_words report_option.Until = codes "--until"
+report_option_words report_option.At = codes "--at"
 
 -- an option of a log, likewise
 abbrev pub import_option_words : ImportOption → List ℕ
@@ -35,6 +42,7 @@ fault_line (fault.Write written) = codes "synchrony: cannot write"
 fault_line (fault.NotARun number) = codes "synchrony: not a run: step " ++ decimal number
 fault_line fault.Threads = codes "synchrony: worker not started or held"
 fault_line (fault.Picture option) = codes "synchrony: bad " ++ option_words option
+fault_line (fault.Report option) = codes "synchrony: bad " ++ report_option_words option
 fault_line (fault.Log reason) = codes "synchrony: " ++ (log_lead reason ++ (log_error_text reason ++ help_line reason))
 fault_line (fault.Import option) = codes "synchrony: bad " ++ import_option_words option
 

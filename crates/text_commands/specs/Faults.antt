@@ -36,6 +36,7 @@ status_of (fault.Write written) = 6
 status_of (fault.NotARun number) = 7
 status_of fault.Threads = 8
 status_of (fault.Picture option) = 2
+status_of (fault.Report option) = 2
 status_of (fault.Log e) = status_of_log e
 status_of (fault.Import option) = 2
 

@@ -57,7 +57,7 @@ IsUnreadLog known _ = ⊥
 
 -- it may refuse a log
 abbrev pub import_kinds : Kinds
-import_kinds = record { set = false; certificate = false; run = false; threads = false; picture = false; log = true }
+import_kinds = record { set = false; certificate = false; run = false; threads = false; picture = false; part = false; log = true }
 
 -- the fault is one of these, and no refusal of a trace text
 abbrev pub IsFaultOfImport : Fault → Type 0

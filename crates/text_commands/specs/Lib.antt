@@ -5,6 +5,7 @@ pub mod Printing
 pub mod Serving
 pub mod Inputs
 pub mod Reports
+pub mod ReportParts
 pub mod Drawings
 pub mod ReplayTexts
 pub mod Replays

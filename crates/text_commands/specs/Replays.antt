@@ -34,7 +34,7 @@ pub record IsTextOffRun (text : List ℕ) (number : ℕ) : Type 0 where
 
 -- it may refuse a trace that is no run
 abbrev pub replay_kinds : Kinds
-replay_kinds = record { set = false; certificate = false; run = true; threads = false; picture = false; log = false }
+replay_kinds = record { set = false; certificate = false; run = true; threads = false; picture = false; part = false; log = false }
 
 -- The fault has its cause in the text: its first refusal, or a first step that is none of a run.
 abbrev pub IsUnreplayed : List ℕ → Fault → Type 0

@@ -32,7 +32,7 @@ IsFaultFor set t w = IsFaultOfWorkers w
 
 -- it may refuse a set, and a thread
 abbrev pub report_kinds : Kinds
-report_kinds = record { set = true; certificate = false; run = false; threads = true; picture = false; log = false }
+report_kinds = record { set = true; certificate = false; run = false; threads = true; picture = false; part = false; log = false }
 
 -- The fault has its cause in the text: its first refusal, or a member of the set that its trace hasn't.
 abbrev pub IsTextFault : ℕ → List ℕ → Fault → Type 0

@@ -8,13 +8,14 @@ use Rattle.text_commands.specs.declared.faults.Fault.{Fault}
 use Rattle.text_commands.specs.declared.faults.Fault.TheVariants as fault
 
 -- For what a command may refuse, beside a trace text: a set, a certificate, a trace that is no run, a thread, an
--- option of a picture, and a log.
+-- option of a picture, a tick of a part of a report, and a log.
 pub record Kinds : Type 0 where
   pub set : Bool
   pub certificate : Bool
   pub run : Bool
   pub threads : Bool
   pub picture : Bool
+  pub part : Bool
   pub log : Bool
 
 -- the fault is of these kinds, or of a trace text, of memory, of a reader or of a writer; want of memory and a failed
@@ -27,6 +28,7 @@ IsFaultOf k (fault.Certificate reason) = IsTrue k.certificate × (reason ≢ unc
 IsFaultOf k (fault.NotARun number) = IsTrue k.run
 IsFaultOf k fault.Threads = IsTrue k.threads
 IsFaultOf k (fault.Picture option) = IsTrue k.picture
+IsFaultOf k (fault.Report option) = IsTrue k.part
 IsFaultOf k (fault.Log reason) = IsTrue k.log × (reason ≢ no_log.Memory)
 IsFaultOf k (fault.Import option) = ⊥
 IsFaultOf k _ = ⊤

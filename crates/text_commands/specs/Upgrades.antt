@@ -14,4 +14,4 @@ pub record IsUpgradeOf (text upgrade : List ℕ) : Type 0 where
 
 -- it refuses nothing beside a trace text
 abbrev pub upgrade_kinds : Kinds
-upgrade_kinds = record { set = false; certificate = false; run = false; threads = false; picture = false; log = false }
+upgrade_kinds = record { set = false; certificate = false; run = false; threads = false; picture = false; part = false; log = false }

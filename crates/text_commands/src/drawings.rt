@@ -2,7 +2,6 @@
 
 ghost use Rattle.std.specs.Prelude.{◌≡◌, ℕ, List, IfErr, IfOk, IfSome, IsTrue, MatchResult, OnOk, map};
 ghost use Rattle.std.specs.Io.KnownBytes.{Appends, IsAtEnd};
-ghost use Rattle.step_trace.specs.Fronts.{IsReport};
 ghost use Rattle.step_trace.specs.Processors.{IsWithin};
 ghost use Rattle.trace_text.specs.ByteLoops.{WasFaultless};
 ghost use Rattle.trace_text.specs.Faults.{faults_of, inner_of, is_flushed};
@@ -13,15 +12,14 @@ ghost use Rattle.text_commands.specs.Serving.{IsFaultOf, IsServeFault};
 
 use crate::checks::trace_within;
 use crate::faults::{Fault, PictureOption};
+use crate::report_parts::report_of;
 use crate::serving::{Answer, serve};
-use front::{Report, front};
 use run_picture::{
     NamesError, Picture, Window, WindowError, names_of, picture_of, svg_text, window_of,
 };
-use std::alloc::{AllocError, Global};
+use std::alloc::Global;
 use std::io::{Read, Write};
 use step_trace::{ProcSet, Trace};
-use suffix_staircase::Stairs;
 use trace_text::Counting;
 
 /// What a picture is asked for.
@@ -139,13 +137,4 @@ fn window_for(drawing: &Drawing, last: u64) -> Result<Window, Fault>
         Err(WindowError::BadFrom) => Err(Fault::Picture(PictureOption::From)),
         Err(WindowError::BadTo) => Err(Fault::Picture(PictureOption::To)),
     }
-}
-
-/// The report of a trace, by one backward pass.
-fn report_of(alloc: Global, trace: &Trace, set: ProcSet) -> Result<Report, AllocError>
-    requires within { IsWithin set trace.now.config.n }
-    ensures report { IfOk result (λ r. IsReport set trace.now r.rows) }
-{
-    let stairs = Stairs::of_trace(alloc, trace, set)?;
-    front(alloc, &stairs)
 }

@@ -3,7 +3,7 @@
 ghost use Rattle.std.specs.Prelude.{◌≡◌, IfOk, string_bytes};
 ghost use Rattle.text_commands.specs.FaultLines.{fault_line, ended_line};
 
-use crate::faults::{Fault, ImportOption, PictureOption};
+use crate::faults::{Fault, ImportOption, PictureOption, ReportOption};
 use crate::import_lines::{HelpLine, LogLead};
 use std::alloc::{AllocError, Global};
 use std::fmt;
@@ -48,6 +48,7 @@ impl fmt::Display for Fault {
             Fault::NotARun(no) => write!(f, "synchrony: not a run: step {no}"),
             Fault::Threads => f.write_str("synchrony: worker not started or held"),
             Fault::Picture(option) => write!(f, "synchrony: bad {option}"),
+            Fault::Report(option) => write!(f, "synchrony: bad {option}"),
             Fault::Log(why) => write!(f, "synchrony: {}{why}{}", LogLead(why), HelpLine(why)),
             Fault::Import(option) => write!(f, "synchrony: bad {option}"),
         }
@@ -66,6 +67,21 @@ impl fmt::Display for PictureOption {
             PictureOption::Names => f.write_str("--names"),
             PictureOption::From => f.write_str("--from"),
             PictureOption::To => f.write_str("--to"),
+        }
+    }
+}
+
+/// The option, as the command line has it.
+impl fmt::Display for ReportOption {
+    ghost use Rattle.std.specs.Prelude.{Some};
+    ghost use Rattle.text_commands.specs.FaultLines.{report_option_words};
+
+    ghost output = { λ option. Some (report_option_words option) };
+
+    fn fmt<W: fmt::Write>(&self, f: &mut fmt::Formatter<W>) -> fmt::Result {
+        match self {
+            ReportOption::Until => f.write_str("--until"),
+            ReportOption::At => f.write_str("--at"),
         }
     }
 }

@@ -34,6 +34,8 @@ pub enum Fault {
     Threads,
     /// There is no picture of the trace for what this option says.
     Picture(PictureOption),
+    /// The trace hasn't the tick that this option says.
+    Report(ReportOption),
     /// The log is refused, or an option doesn't fit its times. `Memory` is a fault of its own.
     Log(LogError),
     /// What this option says tells no way to read a log.
@@ -49,6 +51,15 @@ pub enum PictureOption {
     From,
     /// The last tick to draw.
     To,
+}
+
+/// An option that a part of a report is asked for with.
+#[derive(Clone, Copy, Debug, PartialEq, Eq)]
+pub enum ReportOption {
+    /// The tick up to which the trace is reported.
+    Until,
+    /// The tick whose row is printed.
+    At,
 }
 
 /// An option by which a log is read.
@@ -171,7 +182,8 @@ pub fn status(fault: &Fault) -> u8
     ensures { result ≡ status_of fault.now }
 {
     match fault {
-        Fault::Command(_) | Fault::Set | Fault::Picture(_) | Fault::Import(_) => 2,
+        Fault::Command(_) | Fault::Set => 2,
+        Fault::Picture(_) | Fault::Report(_) | Fault::Import(_) => 2,
         Fault::Log(LogError::TickUnfit | LogError::UntilUnfit) => 2,
         Fault::Trace(_) | Fault::Log(_) => 3,
         Fault::Certificate(_) => 4,
