@@ -2,7 +2,7 @@
 //! version 2, straight from the definitions: every number is tried in turn, so it is cubic in the steps and worse, and
 //! shares no line with the other programs. `bench/compare` and `tests/` take their answers from it.
 //!
-//!     oracle [--limit N] report FILE --correct LIST
+//!     oracle [--limit N] report FILE --correct LIST [--until TICK] [--at TICK]
 //!     oracle [--limit N] check FILE CERT --correct LIST
 //!     oracle [--limit N] replay FILE
 //!     oracle [--limit N] upgrade FILE
@@ -65,7 +65,7 @@ fn main() {
         ref words => (PROCESSOR_LIMIT, words),
     };
     match *words {
-        ["report", file, "--correct", list] => report(limit, file, list),
+        ["report", file, "--correct", list, ref ticks @ ..] => report(limit, file, list, part_of(ticks)),
         ["check", file, certificate, "--correct", list] => check(limit, file, certificate, list),
         ["replay", file] => replay(&trace_of(open(file), limit)),
         ["upgrade", file] => upgrade(&trace_of(open(file), limit)),
@@ -73,12 +73,56 @@ fn main() {
     }
 }
 
-fn report(limit: u64, file: &str, list: &str) {
+/// What of a report is asked for: the report of the trace up to a tick, and the row that serves a tick.
+struct Part {
+    until: Option<u64>,
+    at: Option<u64>,
+}
+
+fn part_of(words: &[&str]) -> Part {
+    let (until, words) = tick_of("--until", words);
+    let (at, words) = tick_of("--at", words);
+    if !words.is_empty() {
+        fault("bad command line", 2);
+    }
+    Part { until, at }
+}
+
+/// The tick of this option, where the words begin with it, and the words after it.
+fn tick_of<'a, 'b>(option: &str, words: &'a [&'b str]) -> (Option<u64>, &'a [&'b str]) {
+    match words {
+        [name, tick, rest @ ..] if *name == option => (Some(tick.parse().expect("a tick")), rest),
+        _ => (None, words),
+    }
+}
+
+/// Makes of a trace the one that ended at this tick.
+fn cut(trace: &mut Trace, tick: u64) {
+    trace.steps.retain(|step| step.tick <= tick);
+    trace.last_tick = tick;
+}
+
+fn report(limit: u64, file: &str, list: &str, part: Part) {
     let correct = read_list(list).unwrap_or_else(|| fault("bad --correct", 2));
-    let trace = trace_of(open(file), limit);
+    let mut trace = trace_of(open(file), limit);
+    test_set(&trace, &correct);
+    if let Some(tick) = part.until {
+        if tick < 1 || trace.last_tick < tick {
+            fault("bad --until", 2);
+        }
+        cut(&mut trace, tick);
+    }
+    if part.at.is_some_and(|tick| tick < 1 || trace.last_tick < tick) {
+        fault("bad --at", 2);
+    }
     let definitions = definitions(&trace, &correct);
+    let mut rows = definitions.front();
+    if let Some(tick) = part.at {
+        rows.retain(|(gst, _, _)| *gst <= tick.into());
+        rows = rows.into_iter().max().into_iter().collect();
+    }
     println!("gst,delta,phi,sent,missed,proc,from,to");
-    for (gst, delta, phi) in definitions.front() {
+    for (gst, delta, phi) in rows {
         let miss = definitions
             .named_miss(gst, delta)
             .map_or(",".into(), |Miss { sent, missed }| {
@@ -149,13 +193,17 @@ fn upgrade(trace: &Trace) {
 
 /// The definitions for a trace and a set within it.
 fn definitions<'a>(trace: &'a Trace, correct: &'a [Processor]) -> Definitions<'a> {
-    if correct.iter().any(|it| *it > trace.processors) {
-        fault("no such processor in --correct", 2);
-    }
+    test_set(trace, correct);
     if trace.last_tick > PATIENCE {
         fault("too many ticks for the oracle", 90);
     }
     Definitions { trace, correct }
+}
+
+fn test_set(trace: &Trace, correct: &[Processor]) {
+    if correct.iter().any(|it| *it > trace.processors) {
+        fault("no such processor in --correct", 2);
+    }
 }
 
 fn trace_of(file: Box<dyn Read>, limit: u64) -> Trace {

@@ -6,7 +6,8 @@ use std::sync::Wait;
 use std::thread::Threads;
 use step_trace::{Gate, OpenGate, ProcSet};
 use text_commands::{
-    Fault, fault_text, run_check, run_replay, run_report, run_upgrade, status, verdict_status,
+    Fault, ReportPart, fault_text, run_check, run_replay, run_report, run_report_part, run_upgrade,
+    status, verdict_status,
 };
 use trace_text::Counting;
 use trace_text::failing_devices::{AfterBytes, FailingReader, FailingWriter};
@@ -15,6 +16,8 @@ use trace_text::failing_devices::{AfterBytes, FailingReader, FailingWriter};
 #[derive(Clone, Copy, Debug)]
 pub(crate) enum Command<'a> {
     Report(&'a str),
+    /// With the tick up to which the trace is reported, and the tick whose row is printed.
+    Part(&'a str, Option<u64>, Option<u64>),
     Replay,
     Upgrade,
     Check(&'a str, &'a str),
@@ -68,6 +71,14 @@ pub(crate) fn ended<T: Threads + Wait + Sync>(
     let mut trace = reader_of(input.text, input.cut);
     match command {
         Command::Report(list) => reported(rt, alloc, input, list, 1, &OpenGate, writer)?,
+        Command::Part(list, until, at) => {
+            let part = ReportPart {
+                set: listed(list)?,
+                until,
+                at,
+            };
+            run_report_part(alloc, &part, &mut trace, &mut Counting::new(writer))?;
+        }
         Command::Replay => run_replay(alloc, &mut trace, &mut Counting::new(writer))?,
         Command::Upgrade => run_upgrade(alloc, &mut trace, &mut Counting::new(writer))?,
         Command::Check(list, rows) => {

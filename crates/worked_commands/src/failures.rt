@@ -1,6 +1,6 @@
 //! What each command refuses, and leaves half written, where a device fails after each number of bytes.
 
-use crate::commands::Command::{Check, Replay, Report, Upgrade};
+use crate::commands::Command::{Check, Part, Replay, Report, Upgrade};
 use crate::commands::{Command, Cut, Input, WHOLE, ended, has_refused, whole};
 use crate::traces::{
     DECIDES_SEVEN, DECIDES_SEVEN_REPLAY, NEVER_DELIVERED, NEVER_DELIVERED_REPORT, ONE_MISS,
@@ -54,6 +54,7 @@ fn refuses<T: Threads + Wait + Sync>(
 /// Commands, their trace texts, which of their texts is cut, and how many bytes that has.
 const READ: &[(Command, &str, Text, usize)] = &[
     (Report("1,2"), ONE_MISS, Text::Trace, 54),
+    (Part("1,2", Some(2), None), ONE_MISS, Text::Trace, 54),
     (Replay, ONE_MISS, Text::Trace, 54),
     (Upgrade, ONE_MISS, Text::Trace, 54),
     (
@@ -88,6 +89,12 @@ fn nothing_is_written_after_a_failed_read(rt: HostRuntime) -> Result<(), Fail> {
 /// Commands, which of their texts never ends, their status, and what their line tells of it.
 const ENDLESS: &[(Command, Text, u8, &str)] = &[
     (Report("1,2"), Text::Trace, 3, "trace: text too large"),
+    (
+        Part("1,2", None, Some(2)),
+        Text::Trace,
+        3,
+        "trace: text too large",
+    ),
     (Replay, Text::Trace, 3, "trace: text too large"),
     (Upgrade, Text::Trace, 3, "trace: text too large"),
     (
@@ -121,6 +128,7 @@ fn endless_texts_are_refused(rt: HostRuntime) -> Result<(), Fail> {
 /// Commands, their trace texts, and what they write where the device doesn't fail.
 const WRITTEN: &[(Command, &str, &str)] = &[
     (Report("1,2"), ONE_MISS, ONE_MISS_REPORT),
+    (Part("1,2", Some(3), None), ONE_MISS, ONE_MISS_REPORT),
     (Replay, DECIDES_SEVEN, DECIDES_SEVEN_REPLAY),
     (Upgrade, ONE_MISS, ONE_MISS_UPGRADE),
     (

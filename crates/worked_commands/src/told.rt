@@ -1,6 +1,6 @@
 //! What each command answers and refuses, on worked texts.
 
-use crate::commands::Command::{Check, Replay, Report, Upgrade};
+use crate::commands::Command::{Check, Part, Replay, Report, Upgrade};
 use crate::commands::{Command, ended, has_refused, whole};
 use crate::traces::{
     DECIDES_SEVEN, DECIDES_SEVEN_REPLAY, ENDS_A_ROUND, NEVER_DELIVERED, NEVER_DELIVERED_REPORT,
@@ -10,6 +10,13 @@ use std::test::Fail;
 use trace_text::failing_devices::{FailingWriter, WriteFailure};
 
 const NO_ROWS: &str = "gst,delta,phi,sent,missed,proc,from,to\n";
+
+const UNTIL_THREE: &str =
+    "gst,delta,phi,sent,missed,proc,from,to\n1,2,2,1,2,2,3,3\n2,1,2,,,2,3,3\n";
+
+const UNTIL_THREE_AT_TWO: &str = "gst,delta,phi,sent,missed,proc,from,to\n2,1,2,,,2,3,3\n";
+
+const AT_FOUR: &str = "gst,delta,phi,sent,missed,proc,from,to\n2,1,3,,,1,4,5\n";
 
 const FOR_TWO: &str = "gst,delta,phi,sent,missed,proc,from,to\n1,1,2,,,2,1,1\n2,1,1,,,,,\n";
 
@@ -36,6 +43,26 @@ const TOLD: &[(Command, &str, u8, &str)] = &[
     (Report("1,2"), NEVER_DELIVERED, 0, NEVER_DELIVERED_REPORT),
     (Report("2"), ONE_MISS, 0, FOR_TWO),
     (Report("none"), ONE_MISS, 0, FOR_NOBODY),
+    (
+        Part("1,2", None, None),
+        NEVER_DELIVERED,
+        0,
+        NEVER_DELIVERED_REPORT,
+    ),
+    (
+        Part("1,2", Some(5), None),
+        NEVER_DELIVERED,
+        0,
+        NEVER_DELIVERED_REPORT,
+    ),
+    (Part("1,2", Some(3), None), NEVER_DELIVERED, 0, UNTIL_THREE),
+    (Part("1,2", None, Some(4)), NEVER_DELIVERED, 0, AT_FOUR),
+    (
+        Part("1,2", Some(3), Some(3)),
+        NEVER_DELIVERED,
+        0,
+        UNTIL_THREE_AT_TWO,
+    ),
     (Replay, DECIDES_SEVEN, 0, DECIDES_SEVEN_REPLAY),
     (Replay, NO_STEPS, 0, "proc,round,decision\n1,1,\n2,1,\n"),
     (Upgrade, ONE_MISS, 0, ONE_MISS_UPGRADE),
@@ -86,6 +113,15 @@ const HALF_WITNESS: &str = "certificate: row 1: half a witness";
 const REFUSED: &[(Command, &str, u8, &str)] = &[
     (Report("3"), REDELIVERED, 3, RECEIVED),
     (Report("3"), ONE_MISS, 2, NO_PROCESSOR),
+    (Part("3", Some(0), None), REDELIVERED, 3, RECEIVED),
+    (Part("3", Some(0), None), ONE_MISS, 2, NO_PROCESSOR),
+    (Part("1", Some(0), Some(0)), ONE_MISS, 2, "bad --until"),
+    (Part("1", Some(4), Some(9)), ONE_MISS, 2, "bad --until"),
+    (Part("1", Some(2), Some(3)), ONE_MISS, 2, "bad --at"),
+    (Part("1", None, Some(4)), ONE_MISS, 2, "bad --at"),
+    (Part("1", None, Some(0)), ONE_MISS, 2, "bad --at"),
+    (Part("1", Some(1), None), NO_STEPS, 2, "bad --until"),
+    (Part("1", None, Some(1)), NO_STEPS, 2, "bad --at"),
     (Replay, ONE_MISS, 7, "not a run: step 1"),
     (Replay, SENDS_TWICE, 7, "not a run: step 3"),
     (Replay, REDELIVERED, 3, RECEIVED),

@@ -7,8 +7,8 @@ use std::sync::Wait;
 use std::thread::Threads;
 use step_trace::{OpenGate, ProcSet};
 use text_commands::{
-    Drawing, Fault, import_options, run_check, run_draw, run_import, run_replay, run_report,
-    run_upgrade,
+    Drawing, Fault, ReportPart, import_options, run_check, run_draw, run_import, run_replay,
+    run_report, run_report_part, run_upgrade,
 };
 use trace_text::Counting;
 
@@ -17,6 +17,8 @@ const NEVER_DELIVERED: &str =
 
 const NEVER_DELIVERED_REPORT: &str =
     "gst,delta,phi,sent,missed,proc,from,to\n1,5,3,1,5,1,4,5\n2,1,3,,,1,4,5\n5,1,2,,,1,5,5\n";
+
+const UNTIL_THREE_AT_TWO: &str = "gst,delta,phi,sent,missed,proc,from,to\n2,1,2,,,2,3,3\n";
 
 const SMALL_PHI: &str =
     "gst,delta,phi,sent,missed,proc,from,to\n1,5,3,1,5,1,4,5\n2,1,3,,,1,4,5\n5,1,1,,,,,\n";
@@ -54,6 +56,8 @@ const MOST_GROWTHS: usize = 1_000;
 enum Command {
     /// By so many workers.
     Report(u64),
+    /// Up to a tick, and the row of a tick.
+    Part(u64, u64),
     Replay,
     Upgrade,
     /// Of this certificate.
@@ -86,6 +90,14 @@ fn ended<T: Threads + Wait + Sync>(
                 return Err(Fault::Set);
             }
             run_report(rt, alloc, &mut trace, &mut output, both, workers, &OpenGate)
+        }
+        Command::Part(until, at) => {
+            let part = ReportPart {
+                set: both,
+                until: Some(until),
+                at: Some(at),
+            };
+            run_report_part(alloc, &part, &mut trace, &mut output)
         }
         Command::Replay => run_replay(alloc, &mut trace, &mut output),
         Command::Upgrade => run_upgrade(alloc, &mut trace, &mut output),
@@ -163,6 +175,7 @@ fn first_wrong<T: Threads + Wait + Sync>(rt: &T, alloc: Global, served: Served) 
 const SERVED: &[(Command, &str, &str)] = &[
     (Command::Report(1), NEVER_DELIVERED, NEVER_DELIVERED_REPORT),
     (Command::Report(3), NEVER_DELIVERED, NEVER_DELIVERED_REPORT),
+    (Command::Part(3, 2), NEVER_DELIVERED, UNTIL_THREE_AT_TWO),
     (Command::Replay, DECIDES_SEVEN, DECIDES_SEVEN_REPLAY),
     (Command::Upgrade, ONE_MISS, ONE_MISS_UPGRADE),
     (Command::Draw, ONE_MISS, "</svg>\n"),

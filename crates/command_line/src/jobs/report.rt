@@ -18,11 +18,9 @@ use std::alloc::{AllocError, Global};
 /// The greatest number of workers that a command line may ask for.
 pub const MAX_WORKERS: u64 = 64;
 
-const UNTIL_HELP: &str =
-    "Reports the trace up to this tick, as if it had ended there; all of it where it is left out";
+const UNTIL_HELP: &str = "Reports the trace as if it had ended at this tick";
 
-const AT_HELP: &str =
-    "Prints only the row that serves this tick, below the header; all rows where it is left out";
+const AT_HELP: &str = "Prints only the row that serves this tick";
 
 /// What the words after `report` say.
 #[derive(Clone, Copy)]
