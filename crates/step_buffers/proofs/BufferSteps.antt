@@ -4,24 +4,27 @@ use Rattle.std.specs.Prelude.{Contains}
 use Rattle.std.specs.Option.{option_map_or}
 use Rattle.std.specs.List.{list_any, range_with_len}
 use Rattle.std.specs.List.Sorted.{IsStrictlyIncreasing}
+use Rattle.std.proofs.Math.Bool.{and-true, or-false}
 use Rattle.std.proofs.lemmas.Bool.{eqb-true, ne_eqb}
 use Rattle.std.proofs.lemmas.Option.{same_Some}
-use Rattle.std.proofs.lemmas.List.{length-append}
+use Rattle.std.proofs.lemmas.List.{length-append, append-nil}
+use Rattle.std.proofs.lemmas.List.Elements.{filter-append}
 use Rattle.std.proofs.lemmas.List.Folds.{list_any-append}
 use Rattle.std.proofs.lemmas.List.Kept.{IsStrictlyIncreasing-filter}
 use Rattle.step_trace.specs.declared.steps.Act.{Act}
 use Rattle.step_trace.specs.declared.steps.Act.TheVariants.{Send, Receive}
 use Rattle.step_trace.specs.declared.steps.Step.{Step}
 use Rattle.step_trace.specs.Configurations.{Setup}
-use Rattle.step_trace.specs.Steps.{act_ids, act_dest, act_takes, act_sends_to}
+use Rattle.step_trace.specs.Steps.{act_dest, act_takes, act_sends_to}
 use Rattle.step_trace.specs.Traces.{step_at, IsWellFormed}
 use Rattle.step_trace.specs.PushRefusals.{is_sent_to, is_taken}
 use Rattle.step_trace.proofs.StepPositions.{step_at_within, step_at_last, taken_at-from_is_taken}
-use Rattle.step_trace.proofs.ListMembers.{Contains-from_filter, Contains-rest, Contains-head, list_any-found, list_any-at}
+use Rattle.step_trace.proofs.ListMembers.{Contains-from_filter, Contains-rest, Contains-head, list_any-found}
 use Rattle.round_model.proofs.ProcessorRanges.{range_with_len-more, IsStrictlyIncreasing-range_with_len, All-range_with_len}
 use Rattle.step_buffers.specs.HeardTables.{numbers}
 use Rattle.step_buffers.specs.Buffers.{waits_for, buffer}
 use Rattle.step_buffers.specs.Runs.{IsSend}
+use Rattle.step_buffers.specs.NextSteps.{sending, receiving}
 use Rattle.step_buffers.proofs.StepPrefixes.{step_at-prefix, IsWellFormed-prefix}
 
 -- filters by tests that agree on the elements
@@ -45,15 +48,6 @@ filter-twice f g (x ∷ xs) = go (f x) (g x) refl (filter-twice f g xs)
     go true false e rest = rw e rest
     go false b e rest = rest
 
-pub filter-append : (f : ℕ → Bool) (xs ys : List ℕ) → filter f (xs ++ ys) ≡ filter f xs ++ filter f ys
-filter-append f [] ys = refl
-filter-append f (x ∷ xs) ys = go (f x) (filter-append f xs ys)
-  where
-    go : (b : Bool) → filter f (xs ++ ys) ≡ filter f xs ++ filter f ys
-        → cond b (x ∷ filter f (xs ++ ys)) (filter f (xs ++ ys)) ≡ cond b (x ∷ filter f xs) (filter f xs) ++ filter f ys
-    go true rest = ap (λ zs. x ∷ zs) rest
-    go false rest = rest
-
 -- the numbers of the steps, from 1 on
 pub Contains-from_numbers : (steps : List Step) (s : ℕ) → Contains (numbers steps) s → (1 ≤ s) × (s ≤ length steps)
 Contains-from_numbers steps s d =
@@ -68,13 +62,9 @@ numbers-push steps x =
     let long : length (steps ++ x ∷ []) ≡ length steps + 1 = length-append steps (x ∷ []) in
     ap (range_with_len 1) long ∙ range_with_len-more 1 (length steps) (suc (length steps)) (omega arith)
 
-pub or_false : (b : Bool) → (b || false) ≡ b
-or_false true = refl
-or_false false = refl
-
 -- a message is taken by the steps so far or by the next one
 pub is_taken-push : (steps : List Step) (x : Step) (s : ℕ) → is_taken (steps ++ x ∷ []) s ≡ (is_taken steps s || act_takes x.act s)
-is_taken-push steps x s = list_any-append (λ y. act_takes y.act s) steps (x ∷ []) ∙ ap (λ b. is_taken steps s || b) (or_false (act_takes x.act s))
+is_taken-push steps x s = list_any-append (λ y. act_takes y.act s) steps (x ∷ []) ∙ ap (λ b. is_taken steps s || b) (or-false (act_takes x.act s))
 
 -- no later number is taken
 not_taken-later : (c : Setup) (steps : List Step) (s : ℕ) → IsWellFormed c steps → length steps < s → is_taken steps s ≡ false
@@ -103,12 +93,8 @@ waits_for-new : (c : Setup) (steps : List Step) (x : Step) (p : ℕ) → IsWellF
 waits_for-new c steps x p w =
     rw (step_at_last steps x, is_taken-push steps x (suc (length steps)), not_taken-later c steps (suc (length steps)) w (omega arith)) (go x.act)
   where
-    and_true : (b : Bool) → (b && true) ≡ b
-    and_true true = refl
-    and_true false = refl
-
     go : (a : Act) → (act_sends_to a p && not (act_takes a (suc (length steps)))) ≡ act_sends_to a p
-    go (Send to) = and_true (to == p)
+    go (Send to) = and-true (to == p)
     go (Receive ends ids) = refl
 
 -- what a buffer becomes
@@ -126,26 +112,22 @@ buffer-push c steps x p w =
 
 -- a message to p
 pub buffer-sent_to : (c : Setup) (steps : List Step) (p to : ℕ) → IsWellFormed c steps
-    → buffer (steps ++ record { proc = p; act = Send to } ∷ []) to ≡ buffer steps to ++ suc (length steps) ∷ []
+    → buffer (steps ++ sending p to ∷ []) to ≡ buffer steps to ++ suc (length steps) ∷ []
 buffer-sent_to c steps p to w =
-    buffer-push c steps (record { proc = p; act = Send to }) to w
+    buffer-push c steps (sending p to) to w
     ∙ rw (eq-eqb to to refl, filter-all (λ s. not false) (buffer steps to) (λ s d. refl)) refl
-
-append_nil : (xs : List ℕ) → xs ++ [] ≡ xs
-append_nil [] = refl
-append_nil (x ∷ xs) = ap (λ ys. x ∷ ys) (append_nil xs)
 
 -- a message to another
 pub buffer-sent_elsewhere : (c : Setup) (steps : List Step) (p to q : ℕ) → IsWellFormed c steps → to ≢ q
-    → buffer (steps ++ record { proc = p; act = Send to } ∷ []) q ≡ buffer steps q
+    → buffer (steps ++ sending p to ∷ []) q ≡ buffer steps q
 buffer-sent_elsewhere c steps p to q w other =
-    buffer-push c steps (record { proc = p; act = Send to }) q w
-    ∙ rw (ne_eqb to q other, filter-all (λ s. not false) (buffer steps q) (λ s d. refl)) (append_nil (buffer steps q))
+    buffer-push c steps (sending p to) q w
+    ∙ rw (ne_eqb to q other, filter-all (λ s. not false) (buffer steps q) (λ s d. refl)) (append-nil (buffer steps q))
 
 -- a Receive
 pub buffer-received : (c : Setup) (steps : List Step) (p q : ℕ) (ends : Bool) (ids : List ℕ) → IsWellFormed c steps
-    → buffer (steps ++ record { proc = p; act = Receive ends ids } ∷ []) q ≡ filter (λ s. not (list_any (λ i. i == s) ids)) (buffer steps q)
-buffer-received c steps p q ends ids w = buffer-push c steps (record { proc = p; act = Receive ends ids }) q w ∙ append_nil (filter (λ s. not (list_any (λ i. i == s) ids)) (buffer steps q))
+    → buffer (steps ++ receiving p ends ids ∷ []) q ≡ filter (λ s. not (list_any (λ i. i == s) ids)) (buffer steps q)
+buffer-received c steps p q ends ids w = buffer-push c steps (receiving p ends ids) q w ∙ append-nil (filter (λ s. not (list_any (λ i. i == s) ids)) (buffer steps q))
 
 -- what waits was sent to its processor and was not taken
 pub record IsWaiting (steps : List Step) (p s : ℕ) : Type 0 where
@@ -170,16 +152,16 @@ IsWaiting-from_buffer steps p s d = go (is_sent_to steps s p) (is_taken steps s)
     go false b e f h = cc
 
 -- what a Receive of another takes doesn't wait for p
-pub buffer-received_elsewhere : (c : Setup) (steps : List Step) (p q : ℕ) (ends : Bool) (ids : List ℕ) → IsWellFormed c (steps ++ record { proc = p; act = Receive ends ids } ∷ []) → p ≢ q
-    → buffer (steps ++ record { proc = p; act = Receive ends ids } ∷ []) q ≡ buffer steps q
+pub buffer-received_elsewhere : (c : Setup) (steps : List Step) (p q : ℕ) (ends : Bool) (ids : List ℕ) → IsWellFormed c (steps ++ receiving p ends ids ∷ []) → p ≢ q
+    → buffer (steps ++ receiving p ends ids ∷ []) q ≡ buffer steps q
 buffer-received_elsewhere c steps p q ends ids w other =
-    buffer-received c steps p q ends ids (IsWellFormed-prefix c steps (record { proc = p; act = Receive ends ids } ∷ []) w)
+    buffer-received c steps p q ends ids (IsWellFormed-prefix c steps (receiving p ends ids ∷ []) w)
     ∙ filter-all (λ s. not (list_any (λ i. i == s) ids)) (buffer steps q) (λ s d. go s d (list_any (λ i. i == s) ids) refl)
   where
     go : (s : ℕ) → Contains (buffer steps q) s → (b : Bool) → list_any (λ i. i == s) ids ≡ b → not b ≡ true
     go s d false e = refl
     go s d true e =
-        let x : Step = record { proc = p; act = Receive ends ids } in
+        let x : Step = receiving p ends ids in
         let waits = IsWaiting-from_buffer steps q s d in
         let r = list_any-found (λ i. i == s) ids e in
         let taken : Contains ids s = subst (Contains ids) (eqb-true r.0 s r.2) r.1 in
@@ -193,6 +175,3 @@ buffer-received_elsewhere c steps p q ends ids w other =
 -- a buffer rises
 pub buffer-rises : (steps : List Step) (p : ℕ) → IsStrictlyIncreasing (buffer steps p)
 buffer-rises steps p = IsStrictlyIncreasing-filter (λ s. waits_for steps p s) (numbers steps) (IsStrictlyIncreasing-range_with_len 1 (length steps))
-
-pub act_takes-from_ids : (a : Act) (s : ℕ) → Contains (act_ids a) s → act_takes a s ≡ true
-act_takes-from_ids a s d = list_any-at (λ i. i == s) (act_ids a) s d (eq-eqb s s refl)

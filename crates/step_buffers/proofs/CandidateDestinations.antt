@@ -2,7 +2,7 @@
 -- nor any after it where it isn't.
 use Rattle.std.proofs.Common.{ℕ, ◌≡◌, ◌≢◌, ◌⊎◌, inl, inr, Bool, true, false, cond, eqb, ◌&&◌, Some, None, refl, sym, ap, ◌∙◌, subst, eq-eqb}
 use Rattle.std.specs.Prelude.{is_some, option_map}
-use Rattle.std.proofs.lemmas.Bool.{eqb-true, false≢true}
+use Rattle.std.proofs.lemmas.Bool.{eqb-true, ne_eqb, false≢true}
 use Rattle.step_trace.specs.Configurations.{Setup}
 use Rattle.lock_phases.specs.declared.bodies.Kind.TheVariants.{Ack}
 use Rattle.lock_phases.specs.Rounds.{phase_of, part_of, owner, Listing, Locking, Acknowledging, Releasing}
@@ -10,13 +10,6 @@ use Rattle.lock_phases.specs.Nodes.{State}
 use Rattle.lock_phases.specs.NodeFunctions.{out}
 use Rattle.lock_phases.specs.Hearing.{with_proper}
 use Rattle.lock_phases.proofs.RoundLaws.{part_of-cases, part_at-listing, part_at-locking, part_at-acknowledging, part_at-releasing, out-in}
-
-ne_eqb : (a b : ℕ) → a ≢ b → eqb a b ≡ false
-ne_eqb a b other = go (eqb a b) refl
-  where
-    go : (t : Bool) → eqb a b ≡ t → eqb a b ≡ false
-    go true e = absurd (other (eqb-true a b e))
-    go false e = e
 
 -- in the rounds of lists and of acknowledgements nobody but the owner is sent anything
 pub sent-to_owner : (c : Setup) (s : State) (me round to : ℕ) → (part_of round ≡ 1) ⊎ (part_of round ≡ 3) → to ≢ owner c.n (phase_of round)

@@ -25,14 +25,9 @@ pub record IsAlike (x y : Processor) : Type 0 where
 
 pub IsProcessor-alike : (c : Setup) (steps : List Step) (p : ℕ) (x y : Processor) → IsAlike x y → IsProcessor c steps p x → IsProcessor c steps p y
 IsProcessor-alike c steps p x y like is = record {
-  round = like.round ∙ is.round;
-  node = like.node ∙ is.node;
-  decided = rw (like.node, like.since) is.decided;
-  last = rw like.last is.last;
-  next = rw (like.round, like.last, like.node) is.next;
+  stands = rw (like.round, like.last, like.node, like.since, like.said) is.stands;
   buffer = like.buffer ∙ is.buffer;
-  inbox = IsInbox-moved steps p x.inbox y.inbox like.inbox like.entries is.inbox;
-  said = rw (like.round, like.node, like.said) is.said;
+  inbox = rw like.round (IsInbox-moved steps p x.round _ _ _ _ like.inbox like.entries is.inbox);
 }
 
 -- the second serves for the traces and processors that the first serves for

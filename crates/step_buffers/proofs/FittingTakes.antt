@@ -1,25 +1,24 @@
 -- What a Receive takes out of a buffer, where nothing is against it: ids that rise, of messages that wait.
-use Rattle.std.proofs.Common.{ℕ, zero, suc, ◌≡◌, ◌+◌, ◌<◌, List, [], ◌∷◌, length, get_or, take, min, Option, Some, None, Bool, true, false, not, cond, ◌&&◌, ◌⊎◌, inl, inr, refl, sym, subst, arith}
-use Rattle.std.specs.Prelude.{Contains, find, nat_lt, option_map}
+use Rattle.std.proofs.Common.{ℕ, zero, suc, ◌≡◌, ◌+◌, ◌<◌, List, [], ◌∷◌, length, take, Option, Some, None, Bool, true, false, not, cond, ◌&&◌, ◌⊎◌, inl, inr, refl, subst, arith}
+use Rattle.std.specs.Prelude.{Contains, find, nat_lt, is_some, option_map}
 use Rattle.std.specs.List.Sorted.{IsStrictlyIncreasing}
 use Rattle.std.proofs.lemmas.Bool.{ltb-true}
 use Rattle.std.proofs.lemmas.Option.{none-some}
-use Rattle.std.proofs.lemmas.List.{length-take, get_or-take}
-use Rattle.lock_phases.proofs.Membership.{Contains-cons_cases}
 use Rattle.step_trace.specs.declared.traces.TheConstants.{MAX_STEPS}
 use Rattle.step_trace.specs.declared.steps.Act.TheVariants.{Receive}
 use Rattle.step_trace.specs.declared.steps.Step.{Step}
 use Rattle.step_trace.specs.Configurations.{Setup, IsProc}
 use Rattle.step_trace.specs.PushRefusals.{is_rising, is_rising_from, refusal}
 use Rattle.step_trace.proofs.FittingSteps.{none_from_Fits}
-use Rattle.step_trace.proofs.ListMembers.{Contains-nil, Contains-head, Contains-rest}
+use Rattle.step_trace.proofs.ListMembers.{Contains-nil, Contains-head, Contains-rest, Contains-cons_cases}
 use Rattle.step_buffers.specs.declared.moves.StepError.{StepError}
 use Rattle.step_buffers.specs.declared.moves.StepError.TheVariants.{Full, BadProc, NothingToSend, StillSending, IdsNotRising, NotInBuffer, Memory}
 use Rattle.step_buffers.specs.declared.moves.Take.{Take}
 use Rattle.step_buffers.specs.declared.moves.Take.TheVariants.{All, Nothing, Oldest, These}
+use Rattle.step_buffers.specs.Runs.{IsDue}
 use Rattle.step_buffers.specs.Buffers.{buffer}
 use Rattle.step_buffers.specs.Moves.{is_in, taken_ids, take_refusal, IsStepRefusal}
-use Rattle.step_buffers.proofs.RisingIds.{Contains-from_is_in}
+use Rattle.step_buffers.proofs.RisingIds.{rising-take, Contains-from_is_in}
 use Rattle.step_buffers.proofs.BufferSteps.{buffer-rises, IsWaiting-from_buffer}
 
 -- ids that rise by the test rise
@@ -39,21 +38,12 @@ rising-from_list : (xs : List ℕ) → is_rising xs ≡ true → IsStrictlyIncre
 rising-from_list [] h = λ k l. absurd (omega arith)
 rising-from_list (x ∷ xs) h = rising-from_test x xs h
 
--- the first ones of rising ids rise
-rising-take : (n : ℕ) (xs : List ℕ) → IsStrictlyIncreasing xs → IsStrictlyIncreasing (take n xs)
-rising-take n xs rise k l =
-    let short : length (take n xs) ≡ min n (length xs) = length-take n xs in
-    let a : get_or (take n xs) k 0 ≡ get_or xs k 0 = get_or-take n xs k 0 (omega arith) in
-    let b : get_or (take n xs) (k + 1) 0 ≡ get_or xs (k + 1) 0 = get_or-take n xs (k + 1) 0 (omega arith) in
-    let r = rise k (omega arith) in
-    omega arith
-
 -- the first ones are among all
 Contains-take : (n : ℕ) (xs : List ℕ) (s : ℕ) → Contains (take n xs) s → Contains xs s
 Contains-take zero xs s d = absurd (Contains-nil s d)
 Contains-take (suc n) [] s d = d
 Contains-take (suc n) (x ∷ xs) s d = elim (Contains-cons_cases x s (take n xs) d) [
-  | inl e ↦ subst (Contains (x ∷ xs)) (sym e) (Contains-head x xs)
+  | inl e ↦ subst (Contains (x ∷ xs)) e (Contains-head x xs)
   | inr e ↦ Contains-rest x s xs (Contains-take n xs s e)
 ]
 
@@ -62,10 +52,10 @@ none_missing : (waiting ids : List ℕ) (s : ℕ) → find (λ i. not (is_in wai
 none_missing waiting [] s h d = absurd (Contains-nil s d)
 none_missing waiting (x ∷ ids) s h d = go (is_in waiting x) refl h (Contains-cons_cases x s ids d) (none_missing waiting ids s)
   where
-    go : (b : Bool) → is_in waiting x ≡ b → cond (not b) (Some x) (find (λ i. not (is_in waiting i)) ids) ≡ None → (s ≡ x) ⊎ Contains ids s
+    go : (b : Bool) → is_in waiting x ≡ b → cond (not b) (Some x) (find (λ i. not (is_in waiting i)) ids) ≡ None → (x ≡ s) ⊎ Contains ids s
         → (find (λ i. not (is_in waiting i)) ids ≡ None → Contains ids s → Contains waiting s) → Contains waiting s
     go false e f m rest = cc
-    go true e f (inl same) rest = subst (Contains waiting) (sym same) (Contains-from_is_in waiting x e)
+    go true e f (inl same) rest = subst (Contains waiting) same (Contains-from_is_in waiting x e)
     go true e f (inr m) rest = rest f m
 
 -- ids that may be taken out of a buffer: they rise and wait there
@@ -86,7 +76,7 @@ AreTakeable-these waiting ids h = go (is_rising ids) refl (find (λ s. not (is_i
 AreTakeable-from_none : (chosen : Take) (waiting : List ℕ) → IsStrictlyIncreasing waiting → take_refusal chosen waiting ≡ None → AreTakeable waiting (taken_ids chosen waiting)
 AreTakeable-from_none All waiting rise h = record { rising = rise; waits = λ s d. d }
 AreTakeable-from_none Nothing waiting rise h = record { rising = λ k l. absurd (omega arith); waits = λ s d. absurd (Contains-nil s d) }
-AreTakeable-from_none (Oldest n) waiting rise h = record { rising = rising-take n waiting rise; waits = λ s d. Contains-take n waiting s d }
+AreTakeable-from_none (Oldest n) waiting rise h = record { rising = rising-take waiting n rise; waits = λ s d. Contains-take n waiting s d }
 AreTakeable-from_none (These ids) waiting rise h = AreTakeable-these waiting ids.now h
 
 -- so nothing is against a Receive of them
@@ -124,3 +114,9 @@ IsStepRefusal-take chosen waiting StillSending h = refl
 IsStepRefusal-take chosen waiting IdsNotRising h = refl
 IsStepRefusal-take chosen waiting (NotInBuffer s) h = refl
 IsStepRefusal-take chosen waiting Memory h = absurd (take_refusal-not_memory chosen waiting h)
+
+-- and it is due where it ends no round too early
+pub IsDue-received : (next : Option ℕ) (ends : Bool) (ids : List ℕ) (other : Option StepError) → cond (ends && is_some next) (Some StillSending) other ≡ None → IsDue next (Receive ends ids)
+IsDue-received next false ids other h = tt
+IsDue-received None true ids other h = refl
+IsDue-received (Some to) true ids other h = cc

@@ -3,7 +3,7 @@ use Rattle.std.proofs.Common.{ℕ, suc, ◌≡◌, ◌+◌, ◌-◌, ◌≤◌, 
 use Rattle.std.specs.Prelude.{slice_get}
 use Rattle.std.proofs.lemmas.List.{length-append}
 use Rattle.std.proofs.Math.Seq.{take-length}
-use Rattle.std.proofs.lemmas.List.Sums.{sum_by-cons}
+use Rattle.std.proofs.lemmas.List.Sums.{sum_by-cons, count_by-le-length}
 use Rattle.step_trace.specs.declared.steps.Step.{Step}
 use Rattle.step_trace.specs.Configurations.{Setup}
 use Rattle.step_trace.specs.Traces.{IsWellFormed}
@@ -23,6 +23,10 @@ passed-one x p =
     let one : passed (x ∷ []) p ≡ cond {A = ℕ} (x.proc == p && act_ends x.act) 1 0 + passed [] p = sum_by-cons (λ (y : Step). cond (y.proc == p && act_ends y.act) 1 0) x [] in
     let none : passed [] p ≡ 0 = refl in
     omega arith
+
+-- no processor passed more rounds than there are steps
+pub passed-within : (steps : List Step) (p : ℕ) → passed steps p ≤ length steps
+passed-within steps p = count_by-le-length (λ (x : Step). x.proc == p && act_ends x.act) steps
 
 -- a step that ends its processor's round
 pub passed-ends : (steps : List Step) (x : Step) → act_ends x.act ≡ true → passed (steps ++ x ∷ []) x.proc ≡ suc (passed steps x.proc)

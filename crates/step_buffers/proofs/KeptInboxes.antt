@@ -1,69 +1,51 @@
--- Inboxes by rounds, as the trace grows and as messages are moved in them.
-use Rattle.std.proofs.Common.{ℕ, ◌≡◌, ◌+◌, ◌<◌, ◌≤◌, ◌⊎◌, inl, inr, ◌↔◌, List, [], ◌∷◌, ◌++◌, filter, heap_items, Option, Bool, true, false, cond, ◌==◌, ◌&&◌, refl, sym, ap, ◌∙◌, subst, arith, append-nil, ne_eqb}
-use Rattle.std.specs.Prelude.{Contains, All, nat_le}
+-- Inboxes, as the trace grows and as messages are moved in them.
+use Rattle.std.proofs.Common.{ℕ, ◌≡◌, ◌+◌, ◌<◌, ◌⊎◌, inl, inr, List, [], ◌∷◌, ◌++◌, Option, refl, sym, ap, ◌∙◌, subst, arith}
+use Rattle.std.specs.Prelude.{Contains, All}
 use Rattle.std.specs.List.Sorted.{IsPermutation}
-use Rattle.std.proofs.lemmas.Bool.{le-leb}
-use Rattle.std.proofs.lemmas.List.Elements.{filter-append, All-contains, Contains-append_left, Contains-append_right, Contains-append_cases}
-use Rattle.std.proofs.lemmas.List.Sorted.{IsPermutation-refl, IsPermutation-sym, Contains-permutation}
-use Rattle.step_trace.specs.declared.steps.Act.TheVariants.{Receive}
+use Rattle.std.proofs.lemmas.Bool.{le-leb, leb-true}
+use Rattle.std.proofs.lemmas.List.Elements.{All-contains, Contains-append_left, Contains-append_right, Contains-append_cases}
+use Rattle.std.proofs.lemmas.List.Sorted.{IsPermutation-sym, Contains-permutation}
+use Rattle.step_trace.specs.declared.steps.Act.TheVariants.{Send}
 use Rattle.step_trace.specs.declared.steps.Step.{Step}
 use Rattle.step_trace.specs.Configurations.{Setup}
 use Rattle.step_trace.specs.Steps.{act_ids}
 use Rattle.step_trace.specs.Traces.{IsWellFormed}
-use Rattle.step_trace.proofs.ListMembers.{Contains-nil, Contains-head, Contains-rest, Contains-filter, Contains-from_filter, Contains-map, Contains-from_map}
+use Rattle.step_trace.proofs.StepPositions.{step_at_within}
+use Rattle.step_trace.proofs.FittingSteps.{Fits-from_well_formed}
+use Rattle.step_trace.proofs.ListMembers.{Contains-nil, Contains-filter, Contains-from_filter, Contains-map, Contains-from_map}
 use Rattle.step_buffers.specs.declared.letters.Letter.{Letter}
-use Rattle.step_buffers.specs.declared.inbox_entries.Inbox.{Inbox}
-use Rattle.step_buffers.specs.declared.processors.Processor.{Processor}
-use Rattle.step_buffers.specs.HeardTables.{act_ends, passed}
-use Rattle.step_buffers.specs.Letters.{round_of, of_round, heard_from, heard_in}
-use Rattle.step_buffers.specs.InboxRounds.{Entry, ids_of}
-use Rattle.step_buffers.specs.Inboxes.{kept_ids}
-use Rattle.step_buffers.specs.Worlds.{IsEntry, IsInbox, IsKept, IsProcessor, AreLetters}
-use Rattle.step_buffers.proofs.ProcessorSteps.{IsKept-stays}
-use Rattle.step_buffers.proofs.TakenSteps.{IsOfThese, added-these, sent-longer, round_of-ahead, inbox-ahead, inbox-taken}
+use Rattle.step_buffers.specs.HeardTables.{passed, round_at}
+use Rattle.step_buffers.specs.Runs.{IsSend}
+use Rattle.step_buffers.specs.Letters.{round_of}
+use Rattle.step_buffers.specs.InboxRounds.{Entry, ids_of, kept_of}
+use Rattle.step_buffers.specs.Inboxes.{is_ahead, ahead, IsEntered}
+use Rattle.step_buffers.specs.Worlds.{IsEntry, IsInbox, IsKept, AreLetters}
+use Rattle.step_buffers.proofs.TakenMessages.{IsKeptAfter, IsKept-from_after, IsKeptAfter-from_kept, sent-longer, round_of-ahead, round_of-known}
 
 -- the id of an entry for later is kept
-later-kept : (x : Inbox) (e : Entry) → Contains (heap_items x.later) e → Contains (kept_ids x) e.0.1
-later-kept x e d = Contains-append_right x.near.items (ids_of (heap_items x.later)) e.0.1 (Contains-map (λ (y : Entry). y.0.1) (heap_items x.later) e d)
+later-kept : (near : List ℕ) (later : List Entry) (e : Entry) → Contains later e → Contains (kept_of near later) e.0.1
+later-kept near later e d = Contains-append_right near (ids_of later) e.0.1 (Contains-map (λ (y : Entry). y.0.1) later e d)
 
 -- messages that are moved about in an inbox, none of them to those for later
-pub IsInbox-moved : (steps : List Step) (p : ℕ) (x y : Inbox) → IsPermutation (kept_ids x) (kept_ids y)
-    → ((e : Entry) → Contains (heap_items y.later) e → Contains (heap_items x.later) e) → IsInbox steps p x → IsInbox steps p y
-IsInbox-moved steps p x y same less is = record {
+pub IsInbox-moved : (steps : List Step) (p r : ℕ) (near new_near : List ℕ) (later new_later : List Entry)
+    → IsPermutation (kept_of near later) (kept_of new_near new_later) → ((e : Entry) → Contains new_later e → Contains later e)
+    → IsInbox steps p r near later → IsInbox steps p r new_near new_later
+IsInbox-moved steps p r near new_near later new_later same less is = record {
   ids = λ s. (
-    λ d. (is.ids s).0 (Contains-permutation (kept_ids y) (kept_ids x) s (IsPermutation-sym (kept_ids x) (kept_ids y) same) d),
-    λ k. Contains-permutation (kept_ids x) (kept_ids y) s same ((is.ids s).1 k),
+    λ d. (is.ids s).0 (Contains-permutation (kept_of new_near new_later) (kept_of near later) s (IsPermutation-sym _ _ same) d),
+    λ k. Contains-permutation (kept_of near later) (kept_of new_near new_later) s same ((is.ids s).1 k),
   );
   entries = λ e d. is.entries e (less e d);
 }
 
--- the same messages
-pub IsInbox-same : (steps : List Step) (p : ℕ) (x y : Inbox) → y.near.items ≡ x.near.items → heap_items y.later ≡ heap_items x.later → IsInbox steps p x → IsInbox steps p y
-IsInbox-same steps p x y near later =
-    IsInbox-moved steps p x y (rw (near, later) (IsPermutation-refl (kept_ids x))) (λ e d. subst (λ (es : List Entry). Contains es e) later d)
-
--- a processor with such an inbox
-pub IsProcessor-moved : (c : Setup) (steps : List Step) (p : ℕ) (x : Processor) (inbox : Inbox) → IsPermutation (kept_ids x.inbox) (kept_ids inbox)
-    → ((e : Entry) → Contains (heap_items inbox.later) e → Contains (heap_items x.inbox.later) e) → IsProcessor c steps p x → IsProcessor c steps p (record x { inbox = inbox })
-IsProcessor-moved c steps p x inbox same less is = record {
-  round = is.round;
-  node = is.node;
-  decided = is.decided;
-  last = is.last;
-  next = is.next;
-  buffer = is.buffer;
-  inbox = IsInbox-moved steps p x.inbox inbox same less is.inbox;
-  said = is.said;
-}
-
 -- no messages
-pub IsInbox-opening : (p : ℕ) (x : Inbox) → ((s : ℕ) → IsKept [] p s → ⊥) → x.near.items ≡ [] → heap_items x.later ≡ [] → IsInbox [] p x
-IsInbox-opening p x nothing near later = record {
+pub IsInbox-opening : (p r : ℕ) → IsInbox [] p r [] []
+IsInbox-opening p r = record {
   ids = λ s. (
-    λ d. absurd (Contains-nil s (rw (near, later) at d)),
-    λ k. absurd (nothing s k),
+    λ d. absurd (Contains-nil s d),
+    λ k. absurd (let b = step_at_within [] s (record { proc = k.sender; act = Send p }) k.sent in let low = b.0 in let high = b.1 in omega arith),
   );
-  entries = λ e d. absurd (Contains-nil e (rw later at d));
+  entries = λ e d. absurd (Contains-nil e d);
 }
 
 IsEntry-longer : (steps : List Step) (x : Step) (p : ℕ) (e : Entry) → IsEntry steps p e → IsEntry (steps ++ x ∷ []) p e
@@ -71,148 +53,102 @@ IsEntry-longer steps x p e is =
     let more = sent-longer steps x is.sender p e.0.1 is.sent in
     record { sender = is.sender; sent = more.0; round = more.1 ∙ is.round }
 
--- a step that takes nothing for p and doesn't end its round leaves its inbox
-pub IsInbox-stays : (c : Setup) (steps : List Step) (x : Step) (p : ℕ) (inbox : Inbox) → IsWellFormed c (steps ++ x ∷ []) → (x.proc == p && act_ends x.act) ≡ false
-    → (x.proc ≡ p → act_ids x.act ≡ []) → IsInbox steps p inbox → IsInbox (steps ++ x ∷ []) p inbox
-IsInbox-stays c steps x p inbox w quiet nothing is = record {
+-- a step that takes nothing for p leaves its inbox
+pub IsInbox-stays : (c : Setup) (steps : List Step) (x : Step) (p r : ℕ) (near : List ℕ) (later : List Entry) → IsWellFormed c (steps ++ x ∷ [])
+    → (x.proc ≡ p → act_ids x.act ≡ []) → IsInbox steps p r near later → IsInbox (steps ++ x ∷ []) p r near later
+IsInbox-stays c steps x p r near later w nothing is = record {
   ids = λ s. (
-    λ d. (IsKept-stays c steps x p s w quiet nothing).0 ((is.ids s).0 d),
-    λ k. (is.ids s).1 ((IsKept-stays c steps x p s w quiet nothing).1 k),
+    λ d. (let k = (is.ids s).0 d in IsKept-from_after steps x p r s (record { sender = k.sender; sent = k.sent; ahead = k.ahead; how = inl k.taken })),
+    λ k. (let a = IsKeptAfter-from_kept steps x c p r s w k in elim a.how [
+      | inl before ↦ (is.ids s).1 (record { sender = a.sender; sent = a.sent; taken = before; ahead = a.ahead })
+      | inr now ↦ absurd (Contains-nil s (subst (λ ids. Contains ids s) (nothing now.0) now.1))
+    ]),
   );
   entries = λ e d. IsEntry-longer steps x p e (is.entries e d);
 }
 
--- the round of an entry that p may yet hear is that of its message
-round_of-entry : (c : Setup) (steps : List Step) (letters : List (Option Letter)) (p : ℕ) (e : Entry) → AreLetters c steps letters → IsEntry steps p e → passed steps p < e.0.0
-    → round_of letters e.0.1 ≡ e.0.0
-round_of-entry c steps letters p e are is ahead =
-    let same = is.round in
-    round_of-ahead c steps letters is.sender p e.0.1 are is.sent (omega arith) ∙ is.round
-
--- where those for later are of later rounds, the messages of a round are at hand
-pub heard_in-near : (c : Setup) (steps : List Step) (letters : List (Option Letter)) (p round : ℕ) (x : Inbox) (ids : List ℕ) (n : ℕ) → AreLetters c steps letters → IsInbox steps p x
-    → round ≡ passed steps p + 1 → All (λ (e : Entry). round < e.0.0) (heap_items x.later) → heard_in letters x.near.items ids round n ≡ heard_in letters (kept_ids x) ids round n
-heard_in-near c steps letters p round x ids n are is now ahead = ap (λ xs. heard_from letters (xs ++ of_round letters round ids) n) (sym same)
+-- after a Receive, the messages of the round and of later ones that it takes are there too
+pub IsInbox-took : (c : Setup) (steps : List Step) (x : Step) (r : ℕ) (near new_near : List ℕ) (later new_later : List Entry) (letters : List (Option Letter))
+    → IsWellFormed c (steps ++ x ∷ []) → AreLetters c steps letters → r ≡ passed steps x.proc + 1
+    → IsPermutation (kept_of near later ++ ahead letters r (act_ids x.act)) (kept_of new_near new_later)
+    → ((e : Entry) → Contains new_later e → IsEntered later letters r e) → IsInbox steps x.proc r near later → IsInbox (steps ++ x ∷ []) x.proc r new_near new_later
+IsInbox-took c steps x r near new_near later new_later letters w are now same entered is = record { ids = λ s. (forth s, back s); entries = entry }
   where
-    of_it : ℕ → Bool
-    of_it s = round_of letters s == round
+    old : List ℕ
+    old = kept_of near later
 
-    other : (e : Entry) → Contains (heap_items x.later) e → of_it e.0.1 ≡ false
-    other e d =
-        let later : round < e.0.0 = All-contains (λ (y : Entry). round < y.0.0) (heap_items x.later) e ahead d in
-        let known = round_of-entry c steps letters p e are (is.entries e d) (omega arith) in
-        ne_eqb (round_of letters e.0.1) round (λ f. omega arith)
+    new : List ℕ
+    new = kept_of new_near new_later
 
-    none : (es : List Entry) → ((e : Entry) → Contains es e → of_it e.0.1 ≡ false) → filter of_it (ids_of es) ≡ []
-    none [] h = refl
-    none (e ∷ es) h = ap (λ b. cond b (e.0.1 ∷ filter of_it (ids_of es)) (filter of_it (ids_of es))) (h e (Contains-head e es)) ∙ none es (λ y d. h y (Contains-rest e y es d))
+    taken : List ℕ
+    taken = ahead letters r (act_ids x.act)
 
-    same : of_round letters round (kept_ids x) ≡ of_round letters round x.near.items
-    same = filter-append of_it x.near.items (ids_of (heap_items x.later)) ∙ ap (λ xs. filter of_it x.near.items ++ xs) (none (heap_items x.later) other) ∙ append-nil (filter of_it x.near.items)
+    all : List ℕ
+    all = old ++ taken
 
--- whether a message is of a round or a later one
-abbrev pub is_ahead : List (Option Letter) → ℕ → ℕ → Bool
-is_ahead letters round s = nat_le round (round_of letters s)
+    after : (s : ℕ) → Contains old s ⊎ Contains taken s → IsKeptAfter steps x x.proc r s
+    after s (inl d) = let k = (is.ids s).0 d in record { sender = k.sender; sent = k.sent; ahead = k.ahead; how = inl k.taken }
+    after s (inr d) =
+        let f = Contains-from_filter (is_ahead letters r) (act_ids x.act) s d in
+        let q = (Fits-from_well_formed c steps x w).sent s f.0 in
+        let high = leb-true r (round_of letters s) f.1 in
+        let known = round_of-known c steps letters are q.0 x.proc s q.1 (omega arith) in
+        record { sender = q.0; sent = q.1; ahead = omega arith; how = inr (refl, f.0) }
 
--- each of the entries for later was there, or has the round of its message, this one or a later one
-abbrev pub AreEntered : Inbox → Inbox → List (Option Letter) → ℕ → Type 0
-AreEntered x y letters round = (e : Entry) → Contains (heap_items y.later) e → Contains (heap_items x.later) e ⊎ ((round ≤ e.0.0) × (e.0.0 ≡ round_of letters e.0.1))
+    forth : (s : ℕ) → Contains new s → IsKept (steps ++ x ∷ []) x.proc r s
+    forth s d = IsKept-from_after steps x x.proc r s (after s (Contains-append_cases old taken s (Contains-permutation new all s (IsPermutation-sym all new same) d)))
 
--- the inbox after a Receive
-IsInbox-received : (c : Setup) (steps : List Step) (p round : ℕ) (ends : Bool) (ids : List ℕ) (x y : Inbox) (letters : List (Option Letter))
-    → IsWellFormed c (steps ++ record { proc = p; act = Receive ends ids } ∷ []) → AreLetters c (steps ++ record { proc = p; act = Receive ends ids } ∷ []) letters
-    → round ≡ passed (steps ++ record { proc = p; act = Receive ends ids } ∷ []) p + 1 → IsInbox steps p x
-    → ((s : ℕ) → Contains (kept_ids y) s ↔ IsOfThese (is_ahead letters round) (kept_ids x) ids s) → AreEntered x y letters round
-    → IsInbox (steps ++ record { proc = p; act = Receive ends ids } ∷ []) p y
-IsInbox-received c steps p round ends ids x y letters w are now is these entered = record { ids = kept; entries = entry }
-  where
-    step : Step
-    step = record { proc = p; act = Receive ends ids }
+    back : (s : ℕ) → IsKept (steps ++ x ∷ []) x.proc r s → Contains new s
+    back s k =
+        let a = IsKeptAfter-from_kept steps x c x.proc r s w k in
+        let ahead = a.ahead in
+        Contains-permutation all new s same (elim a.how [
+          | inl before ↦ Contains-append_left old taken s ((is.ids s).1 (record { sender = a.sender; sent = a.sent; taken = before; ahead = a.ahead }))
+          | inr here ↦
+              let known = round_of-ahead c steps letters are a.sender x.proc s a.sent (omega arith) in
+              Contains-append_right old taken s (Contains-filter (is_ahead letters r) (act_ids x.act) s here.1 (le-leb r (round_of letters s) (omega arith)))
+        ])
 
-    kept : (s : ℕ) → Contains (kept_ids y) s ↔ IsKept (steps ++ step ∷ []) p s
-    kept s = inbox-taken c steps p s round ends ids (kept_ids x) (kept_ids y) letters w are is.ids now (these s)
-
-    entry : (e : Entry) → Contains (heap_items y.later) e → IsEntry (steps ++ step ∷ []) p e
+    entry : (e : Entry) → Contains new_later e → IsEntry (steps ++ x ∷ []) x.proc e
     entry e d = elim (entered e d) [
-      | inl old ↦ IsEntry-longer steps step p e (is.entries e old)
-      | inr new ↦
-          let k = (kept e.0.1).0 (later-kept y e d) in
-          record { sender = k.sender; sent = k.sent; round = sym (round_of-ahead c (steps ++ step ∷ []) letters k.sender p e.0.1 are k.sent k.ahead) ∙ sym new.1 }
+      | inl before ↦ IsEntry-longer steps x x.proc e (is.entries e before)
+      | inr here ↦
+          let a = IsKeptAfter-from_kept steps x c x.proc r e.0.1 w (forth e.0.1 (later-kept new_near new_later e d)) in
+          let ahead = a.ahead in
+          let known = round_of-ahead c steps letters are a.sender x.proc e.0.1 a.sent (omega arith) in
+          IsEntry-longer steps x x.proc e (record { sender = a.sender; sent = a.sent; round = sym known ∙ sym here.1 })
     ]
 
--- after one that doesn't end the round, the messages of the round and of later ones that it takes were added
-pub IsInbox-took : (c : Setup) (steps : List Step) (p round : ℕ) (ids : List ℕ) (x y : Inbox) (letters : List (Option Letter))
-    → IsWellFormed c (steps ++ record { proc = p; act = Receive false ids } ∷ []) → AreLetters c (steps ++ record { proc = p; act = Receive false ids } ∷ []) letters
-    → round ≡ passed (steps ++ record { proc = p; act = Receive false ids } ∷ []) p + 1 → round ≡ passed steps p + 1 → IsInbox steps p x
-    → IsPermutation (kept_ids x ++ filter (is_ahead letters round) ids) (kept_ids y) → AreEntered x y letters round
-    → IsInbox (steps ++ record { proc = p; act = Receive false ids } ∷ []) p y
-IsInbox-took c steps p round ids x y letters w are now before is more entered = IsInbox-received c steps p round false ids x y letters w are now is these entered
+-- where a round is over, those of it are dropped from the ones at hand
+pub IsInbox-turned : (c : Setup) (steps : List Step) (p r : ℕ) (near : List ℕ) (later : List Entry) (letters : List (Option Letter))
+    → AreLetters c steps letters → r ≡ passed steps p → All (λ (e : Entry). r < e.0.0) later → IsInbox steps p r near later
+    → IsInbox steps p (r + 1) (ahead letters (r + 1) near) later
+IsInbox-turned c steps p r near later letters are now gathered is = record { ids = λ s. (λ d. forth s (Contains-append_cases kept (ids_of later) s d), back s); entries = is.entries }
   where
-    step : Step
-    step = record { proc = p; act = Receive false ids }
+    kept : List ℕ
+    kept = ahead letters (r + 1) near
 
-    all : List ℕ
-    all = kept_ids x ++ filter (is_ahead letters round) ids
-
-    these : (s : ℕ) → Contains (kept_ids y) s ↔ IsOfThese (is_ahead letters round) (kept_ids x) ids s
-    these s =
-        let added = added-these (is_ahead letters round) (kept_ids x) ids s (inbox-ahead c steps step p s round (kept_ids x) letters are is.ids now before) in (
-          λ d. added.0 (Contains-permutation (kept_ids y) all s (IsPermutation-sym all (kept_ids y) more) d),
-          λ o. Contains-permutation all (kept_ids y) s more (added.1 o),
-        )
-
--- after one that ends it, those at hand that were of the round were dropped too
-pub IsInbox-ended : (c : Setup) (steps : List Step) (p round : ℕ) (ids : List ℕ) (x mid y : Inbox) (letters : List (Option Letter))
-    → IsWellFormed c (steps ++ record { proc = p; act = Receive true ids } ∷ []) → AreLetters c (steps ++ record { proc = p; act = Receive true ids } ∷ []) letters
-    → round ≡ passed (steps ++ record { proc = p; act = Receive true ids } ∷ []) p + 1 → IsInbox steps p x → All (λ (e : Entry). round ≤ e.0.0) (heap_items x.later)
-    → IsPermutation (kept_ids x ++ filter (is_ahead letters round) ids) (kept_ids mid) → AreEntered x mid letters round
-    → y.near.items ≡ filter (is_ahead letters round) mid.near.items → heap_items y.later ≡ heap_items mid.later
-    → IsInbox (steps ++ record { proc = p; act = Receive true ids } ∷ []) p y
-IsInbox-ended c steps p round ids x mid y letters w are now is ahead more entered near later =
-    IsInbox-received c steps p round true ids x y letters w are now is these (λ e d. entered e (subst (λ (es : List Entry). Contains es e) later d))
-  where
-    step : Step
-    step = record { proc = p; act = Receive true ids }
-
-    test : ℕ → Bool
-    test = is_ahead letters round
-
-    all : List ℕ
-    all = kept_ids x ++ filter test ids
-
-    from : (s : ℕ) → Contains (kept_ids mid) s → Contains (kept_ids x) s ⊎ Contains ids s
-    from s d = elim (Contains-append_cases (kept_ids x) (filter test ids) s (Contains-permutation (kept_ids mid) all s (IsPermutation-sym all (kept_ids mid) more) d)) [
-      | inl old ↦ inl old
-      | inr new ↦ inr (Contains-from_filter test ids s new).0
-    ]
-
-    passes : (e : Entry) → Contains (heap_items mid.later) e → test e.0.1 ≡ true
-    passes e d = elim (entered e d) [
-      | inl old ↦
-          let high : round ≤ e.0.0 = All-contains (λ (y : Entry). round ≤ y.0.0) (heap_items x.later) e ahead old in
-          let known = round_of-entry c (steps ++ step ∷ []) letters p e are (IsEntry-longer steps step p e (is.entries e old)) (omega arith) in
-          le-leb round (round_of letters e.0.1) (omega arith)
-      | inr new ↦ let high = new.0 in let known = new.1 in le-leb round (round_of letters e.0.1) (omega arith)
-    ]
-
-    forth : (s : ℕ) → Contains (filter test mid.near.items) s ⊎ Contains (ids_of (heap_items mid.later)) s → IsOfThese test (kept_ids x) ids s
+    forth : (s : ℕ) → Contains kept s ⊎ Contains (ids_of later) s → IsKept steps p (r + 1) s
     forth s (inl d) =
-        let r = Contains-from_filter test mid.near.items s d in
-        (from s (Contains-append_left mid.near.items (ids_of (heap_items mid.later)) s r.0), r.1)
+        let f = Contains-from_filter (is_ahead letters (r + 1)) near s d in
+        let k = (is.ids s).0 (Contains-append_left near (ids_of later) s f.0) in
+        let high = leb-true (r + 1) (round_of letters s) f.1 in
+        let known = round_of-known c steps letters are k.sender p s k.sent (omega arith) in
+        record { sender = k.sender; sent = k.sent; taken = k.taken; ahead = omega arith }
     forth s (inr d) =
-        let r = Contains-from_map (λ (e : Entry). e.0.1) (heap_items mid.later) s d in
-        (from s (Contains-append_right mid.near.items (ids_of (heap_items mid.later)) s d), subst (λ i. test i ≡ true) r.2 (passes r.0 r.1))
+        let f = Contains-from_map (λ (e : Entry). e.0.1) later s d in
+        let k = (is.ids s).0 (Contains-append_right near (ids_of later) s d) in
+        let is_entry = is.entries f.0 f.1 in
+        let e : f.0.0.1 ≡ s = f.2 in
+        let high = All-contains (λ (y : Entry). r < y.0.0) later f.0 gathered f.1 in
+        let round : round_at steps is_entry.sender s ≡ f.0.0.0 = ap (round_at steps is_entry.sender) (sym e) ∙ is_entry.round in
+        record { sender = is_entry.sender; sent = subst (λ i. IsSend steps is_entry.sender p i) e is_entry.sent; taken = k.taken; ahead = omega arith }
 
-    back : (s : ℕ) → IsOfThese test (kept_ids x) ids s → Contains (filter test mid.near.items ++ ids_of (heap_items mid.later)) s
-    back s o =
-        let here : Contains all s = elim o.0 [
-          | inl old ↦ Contains-append_left (kept_ids x) (filter test ids) s old
-          | inr new ↦ Contains-append_right (kept_ids x) (filter test ids) s (Contains-filter test ids s new o.1)
-        ] in
-        elim (Contains-append_cases mid.near.items (ids_of (heap_items mid.later)) s (Contains-permutation all (kept_ids mid) s more here)) [
-          | inl d ↦ Contains-append_left (filter test mid.near.items) (ids_of (heap_items mid.later)) s (Contains-filter test mid.near.items s d o.1)
-          | inr d ↦ Contains-append_right (filter test mid.near.items) (ids_of (heap_items mid.later)) s d
+    back : (s : ℕ) → IsKept steps p (r + 1) s → Contains (kept ++ ids_of later) s
+    back s k =
+        let ahead = k.ahead in
+        let known = round_of-ahead c steps letters are k.sender p s k.sent (omega arith) in
+        elim (Contains-append_cases near (ids_of later) s ((is.ids s).1 (record { sender = k.sender; sent = k.sent; taken = k.taken; ahead = omega arith }))) [
+          | inl d ↦ Contains-append_left kept (ids_of later) s (Contains-filter (is_ahead letters (r + 1)) near s d (le-leb (r + 1) (round_of letters s) (omega arith)))
+          | inr d ↦ Contains-append_right kept (ids_of later) s d
         ]
-
-    these : (s : ℕ) → Contains (kept_ids y) s ↔ IsOfThese test (kept_ids x) ids s
-    these s = rw (near, later) (λ d. forth s (Contains-append_cases (filter test mid.near.items) (ids_of (heap_items mid.later)) s d), back s)

@@ -1,25 +1,17 @@
 -- The last step of a trace.
-use Rattle.std.proofs.Common.{ℕ, suc, ◌≡◌, ◌+◌, List, [], ◌∷◌, ◌++◌, length, Option, Some, None, Bool, true, false, cond, ◌&&◌, refl, ap, ◌∙◌, arith}
-use Rattle.std.specs.Prelude.{is_some}
+use Rattle.std.proofs.Common.{suc, ◌≡◌, ◌+◌, List, [], ◌∷◌, ◌++◌, length, Option, Some, None, Bool, true, false, cond, ap, ◌∙◌, arith}
 use Rattle.std.proofs.lemmas.List.{length_push}
-use Rattle.step_trace.specs.declared.steps.Act.TheVariants.{Receive}
 use Rattle.step_trace.specs.declared.steps.Step.{Step}
 use Rattle.step_trace.specs.Traces.{step_at}
 use Rattle.step_trace.proofs.StepPositions.{step_at_last}
 use Rattle.step_buffers.specs.declared.moves.StepError.{StepError}
 use Rattle.step_buffers.specs.declared.moves.StepError.TheVariants.{StillSending}
-use Rattle.step_buffers.specs.Runs.{IsDue}
 
 -- the step of the last number
 pub step_at-end : (all steps : List Step) (x : Step) → all ≡ steps ++ x ∷ [] → step_at all (length all) ≡ Some x
 step_at-end all steps x e =
     let long : length all ≡ suc (length steps) = ap length e ∙ length_push steps x ∙ (let f : length steps + 1 ≡ suc (length steps) = omega arith in f) in
     rw (long, e) (step_at_last steps x)
-
--- and ends none too early where it is due
-pub not_early-from_due : (next : Option ℕ) (ends : Bool) (ids : List ℕ) → IsDue next (Receive ends ids) → (ends && is_some next) ≡ false
-not_early-from_due next false ids due = refl
-not_early-from_due next true ids due = ap is_some due
 
 -- what is taken, where nothing is against a Receive
 pub take_refusal-none : (early : Bool) (o : Option StepError) → cond early (Some StillSending) o ≡ None → o ≡ None

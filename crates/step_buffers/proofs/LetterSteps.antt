@@ -1,8 +1,9 @@
 -- The messages that are kept, with one step more.
-use Rattle.std.proofs.Common.{ℕ, zero, suc, ◌≡◌, ◌+◌, ◌<◌, ◌≤◌, ◌⊎◌, inl, inr, List, [], ◌∷◌, ◌++◌, length, get_or, Bool, Option, Some, None, refl, sym, ap, ◌∙◌, subst, arith}
+use Rattle.std.proofs.Common.{ℕ, zero, suc, ◌≡◌, ◌+◌, ◌≤◌, ◌⊎◌, inl, inr, List, [], ◌∷◌, ◌++◌, length, Bool, Option, Some, None, refl, sym, ap, ◌∙◌, subst, arith}
+use Rattle.std.proofs.Math.Seq.{get_or-append_seam}
 use Rattle.std.proofs.lemmas.Option.{same_Some, none-some}
-use Rattle.std.proofs.lemmas.List.{length-append}
-use Rattle.step_trace.specs.declared.steps.Act.TheVariants.{Send, Receive}
+use Rattle.std.proofs.lemmas.List.{length-append, get_or_append_left}
+use Rattle.step_trace.specs.declared.steps.Act.TheVariants.{Send}
 use Rattle.step_trace.specs.declared.steps.Step.{Step}
 use Rattle.step_trace.specs.Configurations.{Setup}
 use Rattle.step_trace.specs.Steps.{act_dest}
@@ -13,6 +14,7 @@ use Rattle.step_buffers.specs.declared.letters.Letter.{Letter}
 use Rattle.step_buffers.specs.HeardTables.{passed, round_at}
 use Rattle.step_buffers.specs.Runs.{node_at}
 use Rattle.step_buffers.specs.Letters.{letter_at}
+use Rattle.step_buffers.specs.NextSteps.{sending, receiving}
 use Rattle.step_buffers.specs.Worlds.{IsLetter, AreLetters}
 use Rattle.step_buffers.proofs.StepPrefixes.{round_at-prefix, passed-append}
 use Rattle.step_buffers.proofs.GrownNodes.{body_of-prefix, body_of-now, before-now}
@@ -20,19 +22,7 @@ use Rattle.step_buffers.proofs.GrownNodes.{body_of-prefix, body_of-now, before-n
 -- a place before the last one
 letter_at-old : (xs : List (Option Letter)) (x : Option Letter) (s : ℕ) → s ≤ length xs → letter_at (xs ++ x ∷ []) s ≡ letter_at xs s
 letter_at-old xs x zero l = refl
-letter_at-old xs x (suc k) l = go xs k (omega arith)
-  where
-    go : (ys : List (Option Letter)) (k : ℕ) → k < length ys → get_or (ys ++ x ∷ []) k None ≡ get_or ys k None
-    go [] k h = absurd (omega arith)
-    go (y ∷ ys) zero h = refl
-    go (y ∷ ys) (suc k) h = go ys k (omega arith)
-
-letter_at-last : (xs : List (Option Letter)) (x : Option Letter) → letter_at (xs ++ x ∷ []) (suc (length xs)) ≡ x
-letter_at-last xs x = go xs
-  where
-    go : (ys : List (Option Letter)) → get_or (ys ++ x ∷ []) (length ys) None ≡ x
-    go [] = refl
-    go (y ∷ ys) = go ys
+letter_at-old xs x (suc k) l = get_or_append_left xs (x ∷ []) None k (omega arith)
 
 IsLetter-longer : (c : Setup) (steps : List Step) (x : Step) (q to s : ℕ) (l : Letter) → IsWellFormed c steps → s ≤ length steps → IsLetter c steps q to s l
     → IsLetter c (steps ++ x ∷ []) q to s l
@@ -75,16 +65,16 @@ AreLetters-push c steps x letters o w are new = record {
         let places = are.places in
         let e : suc (length steps) ≡ s = omega arith in
         let f : suc (length letters) ≡ s = omega arith in
-        inl (m.0, subst (λ n. letter_at (letters ++ o ∷ []) n ≡ Some m.0) f (letter_at-last letters o ∙ m.1), subst (λ n. IsLetter c (steps ++ x ∷ []) q to n m.0) e m.2)
+        inl (m.0, subst (λ n. letter_at (letters ++ o ∷ []) n ≡ Some m.0) f (get_or-append_seam letters o [] None ∙ m.1), subst (λ n. IsLetter c (steps ++ x ∷ []) q to n m.0) e m.2)
 
 -- a Send
 pub AreLetters-sent : (c : Setup) (steps : List Step) (p to : ℕ) (letters : List (Option Letter)) (l : Letter) → IsWellFormed c steps → AreLetters c steps letters
     → l.sender ≡ p → l.round ≡ passed steps p + 1 → out c (node_at c steps p) p l.round to ≡ Some l.body
-    → AreLetters c (steps ++ record { proc = p; act = Send to } ∷ []) (letters ++ Some l ∷ [])
+    → AreLetters c (steps ++ sending p to ∷ []) (letters ++ Some l ∷ [])
 AreLetters-sent c steps p to letters l w are sender round body = AreLetters-push c steps x letters (Some l) w are (record { each = each })
   where
     x : Step
-    x = record { proc = p; act = Send to }
+    x = sending p to
 
     is : IsLetter c (steps ++ x ∷ []) p to (length steps + 1) l
     is = record {
@@ -104,7 +94,7 @@ AreLetters-sent c steps p to letters l w are sender round body = AreLetters-push
 
 -- a Receive
 pub AreLetters-received : (c : Setup) (steps : List Step) (p : ℕ) (ends : Bool) (ids : List ℕ) (letters : List (Option Letter)) → IsWellFormed c steps → AreLetters c steps letters
-    → AreLetters c (steps ++ record { proc = p; act = Receive ends ids } ∷ []) (letters ++ None ∷ [])
+    → AreLetters c (steps ++ receiving p ends ids ∷ []) (letters ++ None ∷ [])
 AreLetters-received c steps p ends ids letters w are =
-    AreLetters-push c steps (record { proc = p; act = Receive ends ids }) letters None w are
+    AreLetters-push c steps (receiving p ends ids) letters None w are
     (record { each = λ q to e. absurd (none-some to (ap (λ (z : Step). act_dest z.act) e)) })

@@ -14,10 +14,10 @@ use Rattle.round_model.proofs.RoundEquations.{state_after-opening}
 use Rattle.step_buffers.specs.declared.processors.Processor.{Processor}
 use Rattle.step_buffers.specs.HeardTables.{heard_table}
 use Rattle.step_buffers.specs.Runs.{node_at, IsRun}
-use Rattle.step_buffers.specs.Worlds.{IsKept, IsProcessor, AreProcessors, AreLetters}
+use Rattle.step_buffers.specs.Worlds.{IsProcessor, AreProcessors, AreLetters}
 use Rattle.step_buffers.proofs.DecidedRounds.{IsDecidedSince-opening}
 use Rattle.step_buffers.proofs.KeptInboxes.{IsInbox-opening}
-use Rattle.step_buffers.proofs.RoundEnds.{next_send-opening}
+use Rattle.step_buffers.proofs.NextSends.{next_send-opening}
 
 -- what is kept of a processor before the first step
 pub record IsOpening (c : Setup) (p : ℕ) (x : Processor) : Type 0 where
@@ -32,19 +32,18 @@ pub record IsOpening (c : Setup) (p : ℕ) (x : Processor) : Type 0 where
 
 IsProcessor-opening : (c : Setup) (p : ℕ) (x : Processor) → IsOpening c p x → IsProcessor c [] p x
 IsProcessor-opening c p x is = record {
-  round = is.round;
-  node = node;
-  decided = rw is.since (IsDecidedSince-opening c p x.node node);
-  last = (let l = is.last in omega arith);
-  next = next_send-opening c p ∙ rw (node, is.round, is.last) refl;
+  stands = record {
+    round = is.round;
+    node = node;
+    decided = rw is.since (IsDecidedSince-opening c p x.node node);
+    last = (let l = is.last in omega arith);
+    next = next_send-opening c p ∙ rw (node, is.round, is.last) refl;
+    said = rw is.said tt;
+  };
   buffer = is.buffer;
-  inbox = IsInbox-opening p x.inbox nothing is.near is.later;
-  said = rw is.said tt;
+  inbox = rw (is.near, is.later) (IsInbox-opening p x.round);
 }
   where
-    nothing : (s : ℕ) → IsKept [] p s → ⊥
-    nothing s k = let b = step_at_within [] s (record { proc = k.sender; act = Send p }) k.sent in let low = b.0 in let high = b.1 in omega arith
-
     node : x.node ≡ node_at c [] p
     node = is.node ∙ sym (state_after-opening c (heard_table []) p)
 

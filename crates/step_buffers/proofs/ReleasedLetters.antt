@@ -45,7 +45,7 @@ letter_left-more old mid new a b round e f = go a b (nat_lt (round_in old) round
 
 -- messages of the receiver's past rounds may be let go
 pub AreLetters-released : (c : Setup) (steps : List Step) (p round : ℕ) (ids : List ℕ) (letters after : List (Option Letter)) → AreLetters c steps letters
-    → round ≡ passed steps p + 1 → ((s : ℕ) → Contains ids s → (q : ℕ) × IsSend steps q p s)
+    → round ≤ passed steps p + 1 → ((s : ℕ) → Contains ids s → (q : ℕ) × IsSend steps q p s)
     → length after ≡ length letters → ((s : ℕ) → letter_at after s ≡ letter_left letters ids round s) → AreLetters c steps after
 AreLetters-released c steps p round ids letters after are now sent places left = record {
   places = places ∙ are.places;

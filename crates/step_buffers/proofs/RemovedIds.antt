@@ -1,28 +1,49 @@
 -- Ids that are taken out of a rising list: from its front, from its back, or from between others.
-use Rattle.std.proofs.Common.{ℕ, suc, ◌≡◌, ◌+◌, ◌-◌, ◌<◌, ◌≤◌, List, [], ◌∷◌, ◌++◌, length, filter, get_or, take, drop, Bool, true, false, not, ◌||◌, ◌==◌, refl, sym, ap, ◌∙◌, subst, arith, eq-eqb}
+use Rattle.std.proofs.Common.{ℕ, suc, ◌≡◌, ◌+◌, ◌-◌, ◌<◌, ◌≤◌, List, [], ◌∷◌, ◌++◌, length, filter, get_or, take, drop, min, Bool, true, false, not, ◌||◌, ◌==◌, refl, sym, ap, ◌∙◌, subst, arith, eq-eqb}
 use lib.Seq.{paste}
 use Rattle.std.specs.Prelude.{Contains}
 use Rattle.std.specs.List.Sorted.{IsStrictlyIncreasing}
+use Rattle.std.proofs.Math.Bool.{or-true, or-false}
+use Rattle.std.proofs.Math.Seq.{take-append-add, drop-append-add, drop-append_seam}
 use Rattle.std.proofs.lemmas.Bool.{ne_eqb}
 use Rattle.std.proofs.lemmas.List.{length-append, length-take, length-take-le, length-drop, get_or-take, get_or-drop, get_or_default, take-append-drop, append-nil, drop_at, drop_more, take_more, append_assoc, take-append-le, drop-append-le, drop-take, drop-drop}
+use Rattle.std.proofs.lemmas.List.Elements.{filter-append}
 use Rattle.std.proofs.lemmas.List.Folds.{list_any-append}
 use Rattle.round_model.proofs.RisingLists.{rising-later}
 use Rattle.step_buffers.specs.Moves.{is_in}
-use Rattle.step_buffers.proofs.BufferSteps.{filter-agree, filter-all, filter-append, or_false}
+use Rattle.step_buffers.proofs.BufferSteps.{filter-agree, filter-all}
 use Rattle.step_buffers.proofs.RisingIds.{rising-nondecreasing, Contains-from_is_in}
-use Rattle.step_buffers.proofs.TakenIds.{front-below, left-of_buffer}
 
--- the parts of a rising list rise
-pub rising-drop : (xs : List ℕ) (n : ℕ) → IsStrictlyIncreasing xs → IsStrictlyIncreasing (drop n xs)
-rising-drop xs n rise = λ k inside.
-    let long = length-drop n xs in
-    let e : n + (k + 1) ≡ n + k + 1 = omega arith in
-    rw (get_or-drop n xs k 0, get_or-drop n xs (k + 1) 0, e) (rise (n + k) (omega arith))
+-- what is less than the first of rising ids is none of them
+below-first : (ids : List ℕ) (s : ℕ) → IsStrictlyIncreasing ids → s < get_or ids 0 0 → not (is_in ids s) ≡ true
+below-first ids s rise low = go (is_in ids s) refl
+  where
+    go : (b : Bool) → is_in ids s ≡ b → not b ≡ true
+    go false e = refl
+    go true e =
+        let d = Contains-from_is_in ids s e in
+        let at : get_or ids d.0 0 ≡ s = sym (get_or_default ids d.0 s 0 d.1) ∙ d.2 in
+        let later = rising-nondecreasing ids rise 0 d.0 (omega arith) d.1 in
+        absurd (omega arith)
 
-pub rising-take : (xs : List ℕ) (n : ℕ) → IsStrictlyIncreasing xs → IsStrictlyIncreasing (take n xs)
-rising-take xs n rise = λ k inside.
-    let short = length-take n xs in
-    rw (get_or-take n xs k 0 (omega arith), get_or-take n xs (k + 1) 0 (omega arith)) (rise k (omega arith))
+-- the elements of the front of a list that are below a bound
+front-below : (xs : List ℕ) (n bound s : ℕ) → n ≤ length xs → ((k : ℕ) → k < n → get_or xs k 0 < bound) → Contains (take n xs) s → s < bound
+front-below xs n bound s within below d =
+    let short : length (take n xs) ≡ min n (length xs) = length-take n xs in
+    let inside = d.1 in
+    let at : get_or (take n xs) d.0 0 ≡ s = sym (get_or_default (take n xs) d.0 s 0 d.1) ∙ d.2 in
+    let same : get_or (take n xs) d.0 0 ≡ get_or xs d.0 0 = get_or-take n xs d.0 0 (omega arith) in
+    let low = below d.0 (omega arith) in
+    omega arith
+
+-- what is left of a buffer: what is below the first id taken, and what is left of the rest
+left-of_buffer : (ids xs : List ℕ) (n bound : ℕ) → IsStrictlyIncreasing ids → bound ≡ get_or ids 0 0 → n ≤ length xs → ((k : ℕ) → k < n → get_or xs k 0 < bound)
+    → filter (λ s. not (is_in ids s)) xs ≡ take n xs ++ filter (λ s. not (is_in ids s)) (drop n xs)
+left-of_buffer ids xs n bound rise first within below =
+    let f : ℕ → Bool = λ s. not (is_in ids s) in
+    ap (filter f) (sym (take-append-drop n xs))
+    ∙ filter-append f (take n xs) (drop n xs)
+    ∙ ap (λ ys. ys ++ filter f (drop n xs)) (filter-all f (take n xs) (λ s d. below-first ids s rise (let low = front-below xs n bound s within below d in omega arith)))
 
 rising-before : (xs : List ℕ) (i j : ℕ) → IsStrictlyIncreasing xs → i < j → j < length xs → get_or xs i 0 < get_or xs j 0
 rising-before xs i j rise l h =
@@ -57,23 +78,19 @@ shared-first ids xs k rise a b same =
     ∙ drops-first x rest (drop (k + 1) xs)
     (λ s d. back-above xs (k + 1) (get_or ids k 0) s (λ j l h. subst (λ n. n < get_or xs j 0) same (rising-before xs k j rise (omega arith) h)) d)
 
-or_true : (b : Bool) → (b || true) ≡ true
-or_true true = refl
-or_true false = refl
-
 is_in-more : (ids : List ℕ) (x s : ℕ) → is_in (ids ++ x ∷ []) s ≡ (is_in ids s || x == s)
-is_in-more ids x s = list_any-append (λ i. i == s) ids (x ∷ []) ∙ ap (λ b. is_in ids s || b) (or_false (x == s))
+is_in-more ids x s = list_any-append (λ i. i == s) ids (x ∷ []) ∙ ap (λ b. is_in ids s || b) (or-false (x == s))
 
 -- an id that is taken from the back
 drops-last : (x : ℕ) (ids xs : List ℕ) → ((s : ℕ) → Contains xs s → s < x)
     → filter (λ s. not (is_in (ids ++ x ∷ []) s)) (xs ++ x ∷ []) ≡ filter (λ s. not (is_in ids s)) xs
 drops-last x ids xs below =
     let f : ℕ → Bool = λ s. not (is_in (ids ++ x ∷ []) s) in
-    let inside : is_in (ids ++ x ∷ []) x ≡ true = is_in-more ids x x ∙ rw (eq-eqb x x refl) (or_true (is_in ids x)) in
+    let inside : is_in (ids ++ x ∷ []) x ≡ true = is_in-more ids x x ∙ rw (eq-eqb x x refl) (or-true (is_in ids x)) in
     filter-append f xs (x ∷ [])
     ∙ rw inside (append-nil (filter f xs))
     ∙ filter-agree f (λ s. not (is_in ids s)) xs
-    (λ s d. (let low = below s d in ap not (is_in-more ids x s ∙ rw (ne_eqb x s (λ e. (let g : x ≡ s = e in omega arith))) (or_false (is_in ids s)))))
+    (λ s d. (let low = below s d in ap not (is_in-more ids x s ∙ rw (ne_eqb x s (λ e. (let g : x ≡ s = e in omega arith))) (or-false (is_in ids s)))))
 
 pub shared-last : (ids xs : List ℕ) (n m : ℕ) → IsStrictlyIncreasing xs → n < length ids → m < length xs → get_or xs m 0 ≡ get_or ids n 0
     → filter (λ s. not (is_in (take (n + 1) ids) s)) (take (m + 1) xs) ≡ filter (λ s. not (is_in (take n ids) s)) (take m xs)
@@ -108,14 +125,6 @@ left-between ids xs n m rise within below above =
     ∙ filter-append f (take m rest) (drop m rest)
     ∙ ap (λ ys. filter f (take m rest) ++ ys) (filter-all f (drop m rest) (λ s d. above-last ids s rise (back-above rest m (get_or ids (length ids - 1) 0) s above d))))
 
-take-past : (p q : List ℕ) (r : ℕ) → take (length p + r) (p ++ q) ≡ p ++ take r q
-take-past [] q r = let e : 0 + r ≡ r = omega arith in ap (λ n. take n q) e
-take-past (x ∷ p) q r = let e : suc (length p) + r ≡ suc (length p + r) = omega arith in rw e (ap (λ ys. x ∷ ys) (take-past p q r))
-
-drop-past : (p q : List ℕ) (r : ℕ) → drop (length p + r) (p ++ q) ≡ drop r q
-drop-past [] q r = let e : 0 + r ≡ r = omega arith in ap (λ n. drop n q) e
-drop-past (x ∷ p) q r = let e : suc (length p) + r ≡ suc (length p + r) = omega arith in rw e (drop-past p q r)
-
 -- a list in whose part the others were moved to the front, without the gap after them
 pub without-gap : (old part : List ℕ) (start n m r : ℕ) → start + n ≤ length old → length part ≡ m → r ≤ m
     → drop start (take (start + n + r) (take (start + n) old ++ (part ++ drop m (drop (start + n) old)))) ++ drop (start + n + m) (take (start + n) old ++ (part ++ drop m (drop (start + n) old)))
@@ -125,17 +134,13 @@ without-gap old part start n m r within long short =
     let front = take a old in
     let size : length front ≡ a = length-take-le a old within in
     let rest = drop m (drop a old) in
-    let one : take (a + r) (front ++ (part ++ rest)) ≡ front ++ take r part = subst (λ k. take (k + r) (front ++ (part ++ rest)) ≡ front ++ take r part) size (take-past front (part ++ rest) r ∙ ap (λ ys. front ++ ys) (take-append-le r part rest (omega arith))) in
-    let two : drop (a + m) (front ++ (part ++ rest)) ≡ rest = subst (λ k. drop (k + m) (front ++ (part ++ rest)) ≡ rest) size (drop-past front (part ++ rest) m ∙ subst (λ k. drop k (part ++ rest) ≡ rest) long (drop-whole part rest)) in
+    let one : take (a + r) (front ++ (part ++ rest)) ≡ front ++ take r part = subst (λ k. take (k + r) (front ++ (part ++ rest)) ≡ front ++ take r part) size (take-append-add front (part ++ rest) r ∙ ap (λ ys. front ++ ys) (take-append-le r part rest (omega arith))) in
+    let two : drop (a + m) (front ++ (part ++ rest)) ≡ rest = subst (λ k. drop (k + m) (front ++ (part ++ rest)) ≡ rest) size (drop-append-add front (part ++ rest) m ∙ subst (λ k. drop k (part ++ rest) ≡ rest) long (drop-append_seam part rest)) in
     ap (λ ys. drop start ys ++ drop (a + m) (front ++ (part ++ rest))) one
     ∙ ap (λ ys. drop start (front ++ take r part) ++ ys) two
     ∙ ap (λ ys. ys ++ rest) (drop-append-le start front (take r part) (omega arith) ∙ ap (λ ys. ys ++ take r part) (drop-take start n old))
     ∙ append_assoc (take n (drop start old)) (take r part) rest
     ∙ ap (λ ys. take n (drop start old) ++ (take r part ++ drop m ys)) (sym (drop-drop n start old))
-  where
-    drop-whole : (p q : List ℕ) → drop (length p) (p ++ q) ≡ q
-    drop-whole [] q = refl
-    drop-whole (x ∷ p) q = drop-whole p q
 
 -- what stands before a gap, moved on to its end
 pub moved-on : (old : List ℕ) (start kept until : ℕ) → start ≤ kept → kept ≤ until → until ≤ length old

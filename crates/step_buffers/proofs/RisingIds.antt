@@ -1,10 +1,10 @@
--- Searches of rising ids.
-use Rattle.std.proofs.Common.{ℕ, ◌≡◌, ◌+◌, ◌-◌, ◌<◌, ◌≤◌, ◌⊎◌, inl, inr, suc, List, length, get_or, Bool, true, false, ◌==◌, Result, Ok, Err, refl, sym, ◌∙◌, subst, arith, eq-eqb}
+-- Rising ids: their parts, and searches of them.
+use Rattle.std.proofs.Common.{ℕ, ◌≡◌, ◌+◌, ◌-◌, ◌<◌, ◌≤◌, ◌⊎◌, inl, inr, suc, List, length, get_or, take, drop, Bool, true, false, ◌==◌, Result, Ok, Err, refl, sym, ◌∙◌, subst, arith, eq-eqb}
 use Rattle.std.specs.Prelude.{MatchResult, Contains}
 use Rattle.std.specs.Result.{is_ok}
 use Rattle.std.specs.List.Sorted.{IsStrictlyIncreasing}
 use Rattle.std.proofs.lemmas.Bool.{cases_lt, eqb-true}
-use Rattle.std.proofs.lemmas.List.{get_or_default}
+use Rattle.std.proofs.lemmas.List.{length-take, length-drop, get_or-take, get_or-drop, get_or_default}
 use Rattle.step_trace.proofs.ListMembers.{list_any-found, list_any-at}
 use Rattle.round_model.proofs.RisingLists.{rising-later}
 use Rattle.step_buffers.specs.Moves.{is_in}
@@ -48,3 +48,15 @@ is_in-searched xs x (Err i) h = go (is_in xs x) refl
     go : (b : Bool) → is_in xs x ≡ b → false ≡ is_in xs x
     go true e = absurd (not-found xs x i h.1 h.2 (Contains-from_is_in xs x e))
     go false e = sym e
+
+-- the parts of a rising list rise
+pub rising-drop : (xs : List ℕ) (n : ℕ) → IsStrictlyIncreasing xs → IsStrictlyIncreasing (drop n xs)
+rising-drop xs n rise = λ k inside.
+    let long = length-drop n xs in
+    let e : n + (k + 1) ≡ n + k + 1 = omega arith in
+    rw (get_or-drop n xs k 0, get_or-drop n xs (k + 1) 0, e) (rise (n + k) (omega arith))
+
+pub rising-take : (xs : List ℕ) (n : ℕ) → IsStrictlyIncreasing xs → IsStrictlyIncreasing (take n xs)
+rising-take xs n rise = λ k inside.
+    let short = length-take n xs in
+    rw (get_or-take n xs k 0 (omega arith), get_or-take n xs (k + 1) 0 (omega arith)) (rise k (omega arith))

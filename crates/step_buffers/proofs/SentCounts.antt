@@ -1,5 +1,5 @@
 -- How many messages a processor sent in a round, from step to step and from trace to trace.
-use Rattle.std.proofs.Common.{ℕ, zero, suc, ◌≡◌, ◌+◌, ◌-◌, ◌<◌, ◌≤◌, List, [], ◌∷◌, ◌++◌, length, Bool, true, cond, refl, sym, ap, subst, ◌∙◌, arith}
+use Rattle.std.proofs.Common.{ℕ, zero, suc, ◌≡◌, ◌+◌, ◌-◌, ◌≤◌, List, [], ◌∷◌, ◌++◌, length, Bool, cond, refl, sym, ap, ◌∙◌, arith}
 use Rattle.std.specs.Prelude.{count_by}
 use Rattle.std.specs.List.{range_with_len}
 use Rattle.std.proofs.lemmas.List.Sums.{sum_by-append, sum_by-cons}
@@ -27,28 +27,6 @@ count_by-agree f g (suc n) same =
     let less = count_by-agree f g n (λ k l. same k (omega arith)) in
     let last : cond {A = ℕ} (f (suc n)) 1 0 ≡ cond (g (suc n)) 1 0 = ap (λ b. cond b 1 0) (same (suc n) (omega arith)) in
     count_by-more f n ∙ (let e : count_by f (range_with_len 1 n) + cond (f (suc n)) 1 0 ≡ count_by g (range_with_len 1 n) + cond (g (suc n)) 1 0 = omega arith in e) ∙ sym (count_by-more g n)
-
-count_by-grows : (test : ℕ → Bool) (n more : ℕ) → count_by test (range_with_len 1 n) ≤ count_by test (range_with_len 1 (n + more))
-count_by-grows test n zero = let e : n + zero ≡ n = omega arith in rw e (omega arith)
-count_by-grows test n (suc more) =
-    let e : n + suc more ≡ suc (n + more) = omega arith in
-    let l = count_by-grows test n more in
-    let step = count_by-more test (n + more) in
-    rw e (omega arith)
-
--- a later step of the round has more messages before it than an earlier message
-pub sent_before-grows : (steps : List Step) (p r s k : ℕ) → 1 ≤ s → s < k → is_sent_in steps p r s ≡ true → sent_before steps p r s < sent_before steps p r k
-sent_before-grows steps p r s k low late is =
-    let test : ℕ → Bool = λ i. is_sent_in steps p r i in
-    let here : suc (s - 1) ≡ s = omega arith in
-    let counted : cond {A = ℕ} (test (suc (s - 1))) 1 0 ≡ 1 = ap (λ n. cond {A = ℕ} (test n) 1 0) here ∙ ap (λ b. cond {A = ℕ} b 1 0) is in
-    let step : count_by test (range_with_len 1 (suc (s - 1))) ≡ count_by test (range_with_len 1 (s - 1)) + cond (test (suc (s - 1))) 1 0 = count_by-more test (s - 1) in
-    let there : suc (s - 1) + (k - 1 - s) ≡ k - 1 = omega arith in
-    let rest : count_by test (range_with_len 1 (suc (s - 1))) ≤ count_by test (range_with_len 1 (k - 1)) =
-    subst (λ n. count_by test (range_with_len 1 (suc (s - 1))) ≤ count_by test (range_with_len 1 n)) there (count_by-grows test (suc (s - 1)) (k - 1 - s)) in
-    let before : sent_before steps p r s ≡ count_by test (range_with_len 1 (s - 1)) = refl in
-    let after : sent_before steps p r k ≡ count_by test (range_with_len 1 (k - 1)) = refl in
-    omega arith
 
 -- the count is the same in each longer trace
 pub sent_before-prefix : (steps more : List Step) (p r k : ℕ) → k ≤ length steps + 1 → sent_before steps p r k ≡ sent_before (steps ++ more) p r k

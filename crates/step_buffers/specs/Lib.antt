@@ -6,6 +6,7 @@ pub mod Queues
 pub mod Letters
 pub mod InboxRounds
 pub mod Inboxes
+pub mod NextSteps
 pub mod Worlds
 pub mod Progress
 pub mod Replays

@@ -1,5 +1,5 @@
 -- What a World keeps beside its trace, and what it must be for the trace.
-use Rattle.std.specs.Prelude.{ℕ, suc, ◌≡◌, ◌+◌, ◌<◌, ◌≤◌, ◌↔◌, ◌⊎◌, List, length, Option, Some, None, Contains, true, slice_get, IfSome}
+use Rattle.std.specs.Prelude.{ℕ, suc, ◌≡◌, ◌+◌, ◌-◌, ◌<◌, ◌≤◌, ◌↔◌, ◌⊎◌, List, length, Option, Some, None, Contains, Bool, true, false, All, slice_get, IfSome}
 use Rattle.std.specs.BinaryHeap.{heap_items}
 use Rattle.step_trace.specs.declared.steps.Step.{Step}
 use Rattle.step_trace.specs.Configurations.{Setup, IsSetup}
@@ -9,22 +9,21 @@ use Rattle.step_trace.specs.PushRefusals.{is_taken}
 use Rattle.lock_phases.specs.Nodes.{State}
 use Rattle.lock_phases.specs.NodeFunctions.{out}
 use Rattle.step_buffers.specs.declared.letters.Letter.{Letter}
-use Rattle.step_buffers.specs.declared.inbox_entries.Inbox.{Inbox}
 use Rattle.step_buffers.specs.declared.processors.Processor.{Processor}
 use Rattle.round_model.specs.RoundStates.{state_after}
 use Rattle.step_buffers.specs.HeardTables.{passed, round_at, heard_table}
 use Rattle.step_buffers.specs.Runs.{node_at, body_of, IsSend, destination_after, next_destination, IsRun}
 use Rattle.step_buffers.specs.Buffers.{buffer}
 use Rattle.step_buffers.specs.Letters.{letter_at}
-use Rattle.step_buffers.specs.InboxRounds.{Entry}
-use Rattle.step_buffers.specs.Inboxes.{kept_ids}
+use Rattle.step_buffers.specs.InboxRounds.{Entry, kept_of}
+use Rattle.step_buffers.specs.NextSteps.{node_after}
 
--- p took message s, which was sent in a round that p has not passed
-pub record IsKept (steps : List Step) (p s : ℕ) : Type 0 where
+-- p took message s, which was sent in round r or in a later one
+pub record IsKept (steps : List Step) (p r s : ℕ) : Type 0 where
   pub sender : ℕ
   pub sent : IsSend steps sender p s
   pub taken : is_taken steps s ≡ true
-  pub ahead : passed steps p < round_at steps sender s
+  pub ahead : r ≤ round_at steps sender s
 
 -- an entry for later is a message to p, with the round in which it was sent
 pub record IsEntry (steps : List Step) (p : ℕ) (e : Entry) : Type 0 where
@@ -32,10 +31,10 @@ pub record IsEntry (steps : List Step) (p : ℕ) (e : Entry) : Type 0 where
   pub sent : IsSend steps sender p e.0.1
   pub round : round_at steps sender e.0.1 ≡ e.0.0
 
--- the messages that p took and may hear in its round or a later one; those for later with their rounds
-pub record IsInbox (steps : List Step) (p : ℕ) (x : Inbox) : Type 0 where
-  pub ids : (s : ℕ) → Contains (kept_ids x) s ↔ IsKept steps p s
-  pub entries : (e : Entry) → Contains (heap_items x.later) e → IsEntry steps p e
+-- the messages of round r and of later ones that p took: those at hand, and those for later with their rounds
+pub record IsInbox (steps : List Step) (p r : ℕ) (near : List ℕ) (later : List Entry) : Type 0 where
+  pub ids : (s : ℕ) → Contains (kept_of near later) s ↔ IsKept steps p r s
+  pub entries : (e : Entry) → Contains later e → IsEntry steps p e
 
 -- what p, with this node, says to a processor in round r
 pub record IsSaidTo (c : Setup) (p : ℕ) (node : State) (r to : ℕ) (x : Letter) : Type 0 where
@@ -58,18 +57,28 @@ pub record IsDecidedSince (c : Setup) (steps : List Step) (p : ℕ) (decision : 
   pub before : (r : ℕ) → r ≤ passed steps p → r + 1 < since → (state_after c (heard_table steps) r p).decision ≡ None
   pub after : (r : ℕ) → r ≤ passed steps p → since ≤ r + 1 → (state_after c (heard_table steps) r p).decision ≡ decision
 
--- What is kept of a processor: its round, its node, since which round it has its decision, where it sends next,
--- the messages that wait for it, those that it took and may hear in its round or a later one, and what it said in
--- its round.
+-- where p stands: its round, its node, since which round it has its decision, its last destination, which tells where
+-- it sends next, and what it said in its round
+pub record IsStanding (c : Setup) (steps : List Step) (p r : ℕ) (state : State) (since to : ℕ) (letter : Option Letter) : Type 0 where
+  pub round : r ≡ passed steps p + 1
+  pub node : state ≡ node_at c steps p
+  pub decided : IsDecidedSince c steps p state.decision since
+  pub last : to ≤ c.n
+  pub next : next_destination c steps p (length steps + 1) ≡ destination_after c state p r to
+  pub said : IsSaid c p state r letter
+
+-- What is kept of a processor: where it stands, the messages that wait for it, and those that it took and may hear in
+-- its round or a later one.
 pub record IsProcessor (c : Setup) (steps : List Step) (p : ℕ) (x : Processor) : Type 0 where
-  pub round : x.round ≡ passed steps p + 1
-  pub node : x.node ≡ node_at c steps p
-  pub decided : IsDecidedSince c steps p x.node.decision x.since
-  pub last : x.last ≤ c.n
-  pub next : next_destination c steps p (length steps + 1) ≡ destination_after c x.node p x.round x.last
+  pub stands : IsStanding c steps p x.round x.node x.since x.last x.said
   pub buffer : x.buffer.items ≡ buffer steps p
-  pub inbox : IsInbox steps p x.inbox
-  pub said : IsSaid c p x.node x.round x.said
+  pub inbox : IsInbox steps p x.round x.inbox.near.items (heap_items x.inbox.later)
+
+-- The node with which the round of p ends once it took these ids, if its round ends. What it keeps for later is then of
+-- later rounds.
+abbrev pub IsTurnOf : Recorded → ℕ → Processor → Bool → List ℕ → Option State → Type 0
+IsTurnOf trace p x ends ids None = ends ≡ false
+IsTurnOf trace p x ends ids (Some node) = (ends ≡ true) × (node ≡ node_after trace p ids) × All (λ e. x.round < e.0.0) (heap_items x.inbox.later)
 
 -- the message of a Send is kept: who sent it in which round, and what it says
 pub record IsLetter (c : Setup) (steps : List Step) (q to s : ℕ) (x : Letter) : Type 0 where
@@ -84,15 +93,31 @@ pub record AreLetters (c : Setup) (steps : List Step) (letters : List (Option Le
   pub messages : (q to s : ℕ) → IsSend steps q to s
       → ((x : Letter) × (letter_at letters s ≡ Some x) × IsLetter c steps q to s x) ⊎ ((letter_at letters s ≡ None) × (round_at steps q s ≤ passed steps to))
 
--- what is kept of all processors, in their order
+-- what is kept of each processor is this, in their order
+abbrev pub AreEach : (ℕ → Processor → Type 0) → List Processor → Type 0
+AreEach Is kept = (k : ℕ) (x : Processor) → slice_get kept k ≡ Some x → Is (suc k) x
+
+-- what is kept of all processors
 pub record AreProcessors (c : Setup) (steps : List Step) (kept : List Processor) : Type 0 where
   pub count : length kept ≡ c.n
-  pub each : (k : ℕ) (x : Processor) → slice_get kept k ≡ Some x → IsProcessor c steps (suc k) x
+  pub each : AreEach (IsProcessor c steps) kept
+
+-- the second serve for the traces that the first serve for
+abbrev pub Serve : List Processor → List Processor → Type 0
+Serve kept new = (c : Setup) (steps : List Step) → AreProcessors c steps kept → AreProcessors c steps new
+
+-- the buffer of p has room for one id more
+abbrev pub HasRoom : List Processor → ℕ → Type 0
+HasRoom kept p = (x : Processor) → slice_get kept (p - 1) ≡ Some x → 0 < x.buffer.room
+
+-- a run with one step in each tick
+pub record IsPacedRun (trace : Recorded) : Type 0 where
+  pub run : IsRun trace.config trace.steps
+  pub one_per_tick : IsOnePerTick trace
 
 -- What a World keeps: a run with one step in each tick, its messages, and what is kept of its processors.
 pub record IsWorld (trace : Recorded) (sent : List (Option Letter)) (kept : List Processor) : Type 0 where
   pub setup : IsSetup trace.config
-  pub run : IsRun trace.config trace.steps
-  pub one_per_tick : IsOnePerTick trace
+  pub paced : IsPacedRun trace
   pub letters : AreLetters trace.config trace.steps sent
   pub processors : AreProcessors trace.config trace.steps kept

@@ -1,23 +1,20 @@
 //! One step more, where nothing but memory can lack.
 
-ghost use Rattle.std.specs.Prelude.{◌≡◌, ◌++◌, ◌∷◌, [], List, None, OnOk, OnErr};
+ghost use Rattle.std.specs.Prelude.{◌≡◌, ◌++◌, ◌∷◌, [], List, OnOk, OnErr};
 ghost use Rattle.step_trace.specs.declared.steps.Step.{Step as TraceStep};
 ghost use Rattle.step_trace.specs.Steps.{act_ids};
-ghost use Rattle.step_trace.specs.Traces.{IsWellFormed};
-ghost use Rattle.step_trace.specs.Ticks.{IsOnePerTick};
-ghost use Rattle.step_trace.specs.PushRefusals.{refusal};
+ghost use Rattle.step_buffers.specs.NextSteps.{IsNext, IsGrown};
+ghost use Rattle.step_buffers.specs.Worlds.{IsPacedRun};
 
 use std::alloc::AllocError;
 use step_trace::{PushError, Step, Trace};
 
-/// Appends a step against which there is no reason, in a tick of its own.
+/// Appends a step that may come next, in a tick of its own.
 pub(crate) fn append(trace: &mut Trace, step: Step) -> Result<(), AllocError>
-    requires step { refusal trace.old.config trace.old.steps step ≡ None }
-    requires ticks { IsOnePerTick trace.old }
-    ensures appended { OnOk result (trace.new.steps ≡ trace.old.steps ++ step ∷ []) }
-    ensures config { trace.new.config ≡ trace.old.config }
-    ensures well_formed { OnOk result (IsWellFormed trace.old.config (trace.old.steps ++ step ∷ [])) }
-    ensures one_per_tick { IsOnePerTick trace.new }
+    requires run { IsPacedRun trace.old }
+    requires next { IsNext trace.old step }
+    ensures run { IsPacedRun trace.new }
+    ensures grown { OnOk result (IsGrown trace.old trace.new step) }
     ensures err { OnErr result (trace.new ≡ trace.old) }
 {
     match trace.push(step) {

@@ -1,24 +1,19 @@
 //! A Receive, which may end its processor's round.
 
-ghost use Rattle.std.specs.Prelude.{◌≡◌, ◌+◌, ◌≤◌, ◌++◌, ◌∷◌, [], None, true, false, length, vec_len, vec_capacity, ◌<◌, ◌&&◌, is_some, All, IfOk, OnOk, IfErr, OnErr};
+ghost use Rattle.std.specs.Prelude.{◌≡◌, ◌+◌, ◌≤◌, None, true, false, length, vec_len, vec_capacity, ◌<◌, ◌&&◌, is_some, All, IfOk, OnOk, IfErr, OnErr};
 ghost use Rattle.std.specs.BinaryHeap.{heap_items, heap_len, heap_capacity};
-ghost use Rattle.step_trace.specs.declared.traces.TheConstants.{MAX_STEPS};
-ghost use Rattle.step_trace.specs.Configurations.{IsProc};
-ghost use Rattle.step_trace.specs.Traces.{IsWellFormed};
-ghost use Rattle.step_trace.specs.Ticks.{IsOnePerTick};
-ghost use Rattle.step_trace.specs.PushRefusals.{refusal};
-ghost use Rattle.step_buffers.specs.Runs.{node_at, IsRun};
 ghost use Rattle.step_buffers.specs.Buffers.{buffer};
 ghost use Rattle.step_buffers.specs.Moves.{next_send, taken_ids, receive_refusal, IsStepRefusal};
-ghost use Rattle.step_buffers.specs.Worlds.{AreLetters, IsProcessor, IsWorld};
+ghost use Rattle.step_buffers.specs.NextSteps.{receiving, node_after, IsNext, IsGrown};
+ghost use Rattle.step_buffers.specs.Worlds.{AreLetters, IsProcessor, IsTurnOf, IsPacedRun, IsWorld};
 
 use crate::appends::{append, last_ids};
 use crate::inbox_entries::Inbox;
-use crate::kept_messages::{drop_past, release, take_in};
+use crate::kept_messages::{drop_past, release};
 use crate::letters::{Place, heard_in};
 use crate::moves::{StepError, Take};
 use crate::processors::{Processor, decided_since, next_send};
-use crate::round_inboxes::{gather, reserve};
+use crate::round_inboxes::{gather, keep_ahead, reserve};
 use crate::takes::{take_refusal, taken_ids};
 use lock_phases::Node;
 use std::alloc::{AllocError, Global};
@@ -72,65 +67,41 @@ pub(crate) fn receive(
     taken: MessageIds,
 ) -> Result<(), AllocError>
     requires world { IsWorld trace.old letters.old.items processors.old.items }
-    requires processor { IsProc trace.old.config p }
-    requires step { refusal trace.old.config trace.old.steps (record { proc = p; act = Act.Receive ends taken }) ≡ None }
-    requires due { (ends && is_some (next_send trace.old.config trace.old.steps p)) ≡ false }
+    requires next { IsNext trace.old (receiving p ends taken) }
     ensures world { IsWorld trace.new letters.new.items processors.new.items }
-    ensures config { trace.new.config ≡ trace.old.config }
-    ensures step { OnOk result (trace.new.steps ≡ trace.old.steps ++ record { proc = p; act = Act.Receive ends taken } ∷ []) }
-    ensures err { OnErr result (trace.new ≡ trace.old) }
-{
-    if ends {
-        end_round(alloc, trace, letters, processors, p, taken)
-    } else {
-        take_messages(trace, letters, processors, p, taken)
-    }
-}
-
-/// Takes these messages for `p`, which stays in its round.
-fn take_messages(
-    trace: &mut Trace,
-    letters: &mut Vec<Place>,
-    processors: &mut Vec<Processor>,
-    p: u64,
-    taken: MessageIds,
-) -> Result<(), AllocError>
-    requires world { IsWorld trace.old letters.old.items processors.old.items }
-    requires processor { IsProc trace.old.config p }
-    requires step { refusal trace.old.config trace.old.steps (record { proc = p; act = Act.Receive false taken }) ≡ None }
-    ensures world { IsWorld trace.new letters.new.items processors.new.items }
-    ensures config { trace.new.config ≡ trace.old.config }
-    ensures step { OnOk result (trace.new.steps ≡ trace.old.steps ++ record { proc = p; act = Act.Receive false taken } ∷ []) }
+    ensures grown { OnOk result (IsGrown trace.old trace.new (receiving p ends taken)) }
     ensures err { OnErr result (trace.new ≡ trace.old) }
 {
     let receiver = &mut processors[(p - 1) as usize];
-    settle_taken(trace, letters, receiver, p, taken)?;
+    let turned = turned_node(alloc, trace, letters, receiver, p, ends, &taken)?;
+    settle(trace, letters, receiver, p, ends, taken, turned)?;
     Ok(())
 }
 
-/// Takes these messages for `p`, and ends its round: its node computes from what it heard in it.
-fn end_round(
+/// The node with which the round of `p` ends once it took these messages, if it ends; what is of its round is then at
+/// hand.
+fn turned_node(
     alloc: Global,
-    trace: &mut Trace,
-    letters: &mut Vec<Place>,
-    processors: &mut Vec<Processor>,
+    trace: &Trace,
+    letters: &[Place],
+    receiver: &mut Processor,
     p: u64,
-    taken: MessageIds,
-) -> Result<(), AllocError>
-    requires world { IsWorld trace.old letters.old.items processors.old.items }
-    requires processor { IsProc trace.old.config p }
-    requires step { refusal trace.old.config trace.old.steps (record { proc = p; act = Act.Receive true taken }) ≡ None }
-    requires due { next_send trace.old.config trace.old.steps p ≡ None }
-    ensures world { IsWorld trace.new letters.new.items processors.new.items }
-    ensures config { trace.new.config ≡ trace.old.config }
-    ensures step { OnOk result (trace.new.steps ≡ trace.old.steps ++ record { proc = p; act = Act.Receive true taken } ∷ []) }
-    ensures err { OnErr result (trace.new ≡ trace.old) }
+    ends: bool,
+    taken: &MessageIds,
+) -> Result<Option<Node>, AllocError>
+    requires run { IsPacedRun trace.now }
+    requires letters { AreLetters trace.now.config trace.now.steps letters.now }
+    requires receiver { IsProcessor trace.now.config trace.now.steps p receiver.old }
+    requires next { IsNext trace.now (receiving p ends taken.now) }
+    ensures receiver { IsProcessor trace.now.config trace.now.steps p receiver.new }
+    ensures turned { IfOk result (λ node. IsTurnOf trace.now p receiver.new ends taken.now node) }
 {
-    let receiver = &mut processors[(p - 1) as usize];
+    if !ends {
+        return Ok(None);
+    }
     gather(&mut receiver.inbox, receiver.round)?;
-    let node = computed(alloc, trace, letters, receiver, p, &taken)?;
-    settle_ended(trace, letters, receiver, p, taken, node)?;
-    Ok(())
+    let node = computed(alloc, trace, letters, receiver, p, taken)?;
+    Ok(Some(node))
 }
 
 /// The node of `p` after it took these messages and ended its round, where those of its round are at hand.
@@ -142,13 +113,12 @@ fn computed(
     p: u64,
     taken: &MessageIds,
 ) -> Result<Node, AllocError>
-    requires run { IsRun trace.now.config trace.now.steps }
+    requires run { IsPacedRun trace.now }
     requires letters { AreLetters trace.now.config trace.now.steps letters.now }
     requires receiver { IsProcessor trace.now.config trace.now.steps p receiver.now }
-    requires step { refusal trace.now.config trace.now.steps (record { proc = p; act = Act.Receive true taken.now }) ≡ None }
-    requires due { next_send trace.now.config trace.now.steps p ≡ None }
+    requires next { IsNext trace.now (receiving p true taken.now) }
     requires gathered { All (λ e. receiver.now.round < e.0.0) (heap_items receiver.now.inbox.later) }
-    ensures { IfOk result (λ node. node ≡ node_at trace.now.config (trace.now.steps ++ record { proc = p; act = Act.Receive true taken.now } ∷ []) p) }
+    ensures { IfOk result (λ node. node ≡ node_after trace.now p taken.now) }
 {
     let config = trace.config();
     let round = receiver.round;
@@ -165,73 +135,43 @@ fn computed(
     Ok(node)
 }
 
-/// Takes these messages, whose receiver stays in its round.
-fn settle_taken(
+/// Takes these messages for `p`, whose round ends with this node if there is one.
+fn settle(
     trace: &mut Trace,
     letters: &mut Vec<Place>,
     receiver: &mut Processor,
     p: u64,
+    ends: bool,
     taken: MessageIds,
+    turned: Option<Node>,
 ) -> Result<(), AllocError>
-    requires run { IsRun trace.old.config trace.old.steps }
-    requires ticks { IsOnePerTick trace.old }
+    requires run { IsPacedRun trace.old }
     requires letters { AreLetters trace.old.config trace.old.steps letters.old.items }
     requires receiver { IsProcessor trace.old.config trace.old.steps p receiver.old }
-    requires step { refusal trace.old.config trace.old.steps (record { proc = p; act = Act.Receive false taken }) ≡ None }
-    ensures run { IsRun trace.new.config trace.new.steps }
-    ensures one_per_tick { IsOnePerTick trace.new }
+    requires next { IsNext trace.old (receiving p ends taken) }
+    requires turned { IsTurnOf trace.old p receiver.old ends taken turned }
+    ensures run { IsPacedRun trace.new }
     ensures letters { AreLetters trace.new.config trace.new.steps letters.new.items }
     ensures receiver { IsProcessor trace.new.config trace.new.steps p receiver.new }
-    ensures config { trace.new.config ≡ trace.old.config }
-    ensures step { OnOk result (trace.new.steps ≡ trace.old.steps ++ record { proc = p; act = Act.Receive false taken } ∷ []) }
+    ensures grown { OnOk result (IsGrown trace.old trace.new (receiving p ends taken)) }
     ensures err { OnErr result (trace.new ≡ trace.old) }
 {
-    push_receive(trace, letters, &mut receiver.inbox, p, false, taken)?;
+    push_receive(trace, letters, &mut receiver.inbox, p, ends, taken)?;
     let ids = last_ids(trace);
+    receiver.buffer.take_out(ids);
+    keep_ahead(&mut receiver.inbox, letters, ids, receiver.round);
     letters.push_reserved(Place::empty());
-    let round = receiver.round;
-    release(letters, ids, round);
-    take_in(receiver, letters, ids, round);
-    Ok(())
-}
-
-/// Takes these messages, whose receiver ends its round with this node.
-fn settle_ended(
-    trace: &mut Trace,
-    letters: &mut Vec<Place>,
-    receiver: &mut Processor,
-    p: u64,
-    taken: MessageIds,
-    node: Node,
-) -> Result<(), AllocError>
-    requires run { IsRun trace.old.config trace.old.steps }
-    requires ticks { IsOnePerTick trace.old }
-    requires letters { AreLetters trace.old.config trace.old.steps letters.old.items }
-    requires receiver { IsProcessor trace.old.config trace.old.steps p receiver.old }
-    requires step { refusal trace.old.config trace.old.steps (record { proc = p; act = Act.Receive true taken }) ≡ None }
-    requires due { next_send trace.old.config trace.old.steps p ≡ None }
-    requires gathered { All (λ e. receiver.old.round < e.0.0) (heap_items receiver.old.inbox.later) }
-    requires node { node ≡ node_at trace.old.config (trace.old.steps ++ record { proc = p; act = Act.Receive true taken } ∷ []) p }
-    ensures run { IsRun trace.new.config trace.new.steps }
-    ensures one_per_tick { IsOnePerTick trace.new }
-    ensures letters { AreLetters trace.new.config trace.new.steps letters.new.items }
-    ensures receiver { IsProcessor trace.new.config trace.new.steps p receiver.new }
-    ensures config { trace.new.config ≡ trace.old.config }
-    ensures step { OnOk result (trace.new.steps ≡ trace.old.steps ++ record { proc = p; act = Act.Receive true taken } ∷ []) }
-    ensures err { OnErr result (trace.new ≡ trace.old) }
-{
-    push_receive(trace, letters, &mut receiver.inbox, p, true, taken)?;
-    let ids = last_ids(trace);
-    letters.push_reserved(Place::empty());
+    release(letters, ids, receiver.round);
+    let Some(node) = turned else {
+        return Ok(());
+    };
     let round = receiver.round + 1;
     release(letters, &receiver.inbox.near, round);
-    release(letters, ids, round);
-    take_in(receiver, letters, ids, round);
     drop_past(&mut receiver.inbox.near, letters, round);
+    receiver.since = decided_since(receiver, &node, round);
     receiver.round = round;
     receiver.last = 0;
     receiver.said = Place::empty();
-    receiver.since = decided_since(receiver, &node, round);
     receiver.node = node;
     Ok(())
 }
@@ -245,18 +185,16 @@ fn push_receive(
     ends: bool,
     taken: MessageIds,
 ) -> Result<(), AllocError>
-    requires step { refusal trace.old.config trace.old.steps (record { proc = p; act = Act.Receive ends taken }) ≡ None }
-    requires ticks { IsOnePerTick trace.old }
+    requires run { IsPacedRun trace.old }
+    requires next { IsNext trace.old (receiving p ends taken) }
     ensures letters { letters.new.items ≡ letters.old.items }
     ensures near { inbox.new.near.items ≡ inbox.old.near.items }
     ensures later { heap_items inbox.new.later ≡ heap_items inbox.old.later }
     ensures place { OnOk result (vec_len letters.new < vec_capacity letters.new) }
     ensures room_near { OnOk result (vec_len inbox.new.near + length taken ≤ vec_capacity inbox.new.near) }
     ensures room_later { OnOk result (heap_len inbox.new.later + length taken ≤ heap_capacity inbox.new.later) }
-    ensures appended { OnOk result (trace.new.steps ≡ trace.old.steps ++ record { proc = p; act = Act.Receive ends taken } ∷ []) }
-    ensures config { trace.new.config ≡ trace.old.config }
-    ensures well_formed { OnOk result (IsWellFormed trace.old.config (trace.old.steps ++ record { proc = p; act = Act.Receive ends taken } ∷ [])) }
-    ensures one_per_tick { IsOnePerTick trace.new }
+    ensures run { IsPacedRun trace.new }
+    ensures grown { OnOk result (IsGrown trace.old trace.new (receiving p ends taken)) }
     ensures err { OnErr result (trace.new ≡ trace.old) }
 {
     letters.reserve(1)?;

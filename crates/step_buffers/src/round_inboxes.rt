@@ -1,11 +1,10 @@
 //! Inboxes: what is taken goes in by rounds, and each round's messages are brought to hand at its end.
 
-ghost use Rattle.std.specs.Prelude.{filter, nat_le, length, vec_len, vec_capacity, ◌⊎◌, ◌≡◌, ◌+◌, ◌≤◌, ◌<◌, ◌∷◌, ◌++◌, [], true, false, All, Contains, IfOk, IfSome, IfNone, OnOk};
+ghost use Rattle.std.specs.Prelude.{length, vec_len, vec_capacity, ◌⊎◌, ◌≡◌, ◌≢◌, ◌+◌, ◌≤◌, ◌<◌, ◌∷◌, ◌++◌, [], true, false, All, Contains, IfOk, IfSome, IfNone, OnOk};
 ghost use Rattle.std.specs.BinaryHeap.{IsHeap, heap_items, heap_len, heap_capacity};
 ghost use Rattle.std.specs.List.Sorted.{IsPermutation};
-ghost use Rattle.step_buffers.specs.Letters.{round_of};
-ghost use Rattle.step_buffers.specs.InboxRounds.{Entry, earlier_first, ids_of};
-ghost use Rattle.step_buffers.specs.Inboxes.{kept_ids};
+ghost use Rattle.step_buffers.specs.InboxRounds.{Entry, earlier_first};
+ghost use Rattle.step_buffers.specs.Inboxes.{kept_ids, ahead, IsEntered};
 
 use crate::inbox_entries::Inbox;
 use crate::letters::{Place, round_of};
@@ -85,9 +84,9 @@ fn is_due(later: &BinaryHeap<Reverse<(u64, u64)>>, round: u64) -> bool
 pub(crate) fn keep_ahead(inbox: &mut Inbox, letters: &[Place], ids: &[u64], round: u64)
     requires room_near { vec_len inbox.old.near + length ids.now ≤ vec_capacity inbox.old.near }
     requires room_later { heap_len inbox.old.later + length ids.now ≤ heap_capacity inbox.old.later }
-    ensures kept { IsPermutation (kept_ids inbox.old ++ filter (λ s. nat_le round (round_of letters.now s)) ids.now) (kept_ids inbox.new) }
+    ensures kept { IsPermutation (kept_ids inbox.old ++ ahead letters.now round ids.now) (kept_ids inbox.new) }
     ensures entries { (e : Entry) → Contains (heap_items inbox.new.later) e
-        → Contains (heap_items inbox.old.later) e ⊎ ((round ≤ e.0.0) × (e.0.0 ≡ round_of letters.now e.0.1)) }
+        → IsEntered (heap_items inbox.old.later) letters.now round e }
 {
     for id in ids {
         let sent = round_of(letters, *id);
@@ -102,7 +101,8 @@ fn keep(inbox: &mut Inbox, round: u64, sent: u64, id: u64)
     requires room_near { vec_len inbox.old.near < vec_capacity inbox.old.near }
     requires room_later { heap_len inbox.old.later < heap_capacity inbox.old.later }
     ensures kept { IsPermutation (id ∷ kept_ids inbox.old) (kept_ids inbox.new) }
-    ensures entries { (e : Entry) → Contains (heap_items inbox.new.later) e → Contains (heap_items inbox.old.later) e ⊎ (e.0 ≡ (sent, id)) }
+    ensures entries { (e : Entry) → Contains (heap_items inbox.new.later) e
+        → Contains (heap_items inbox.old.later) e ⊎ ((sent ≢ round) × (e.0 ≡ (sent, id))) }
     ensures length_near { vec_len inbox.new.near ≤ vec_len inbox.old.near + 1 }
     ensures length_later { heap_len inbox.new.later ≤ heap_len inbox.old.later + 1 }
     ensures room_near { vec_capacity inbox.old.near ≤ vec_capacity inbox.new.near }

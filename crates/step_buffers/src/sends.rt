@@ -1,17 +1,12 @@
 //! A Send.
 
-ghost use Rattle.std.specs.Prelude.{List, ◌-◌, slice_get, vec_len, vec_capacity, ◌≡◌, ◌<◌, ◌++◌, ◌∷◌, [], length, Some, None, IfOk, OnOk, OnErr, ◌+◌, ◌≤◌, IsSome};
-ghost use Rattle.step_trace.specs.declared.traces.TheConstants.{MAX_STEPS};
-ghost use Rattle.step_trace.specs.declared.steps.Step.{Step as TraceStep};
-ghost use Rattle.step_trace.specs.Configurations.{Setup, IsProc};
-ghost use Rattle.step_trace.specs.Traces.{IsWellFormed};
-ghost use Rattle.step_trace.specs.Ticks.{IsOnePerTick};
-ghost use Rattle.step_trace.specs.PushRefusals.{refusal};
+ghost use Rattle.std.specs.Prelude.{vec_len, vec_capacity, ◌≡◌, ◌<◌, length, IfOk, OnOk, OnErr, ◌+◌, ◌≤◌, IsSome};
+ghost use Rattle.step_trace.specs.Configurations.{IsProc};
 ghost use Rattle.lock_phases.specs.NodeFunctions.{out};
 ghost use Rattle.step_buffers.specs.HeardTables.{passed};
 ghost use Rattle.step_buffers.specs.Runs.{node_at};
-ghost use Rattle.step_buffers.specs.Moves.{next_send};
-ghost use Rattle.step_buffers.specs.Worlds.{IsSaidTo, IsSaid, IsPlaceOf, AreProcessors, IsWorld};
+ghost use Rattle.step_buffers.specs.NextSteps.{sending, IsNext, IsGrown};
+ghost use Rattle.step_buffers.specs.Worlds.{IsSaidTo, IsSaid, IsPlaceOf, Serve, HasRoom, IsPacedRun, IsWorld};
 
 use crate::appends::append;
 use crate::letters::{Letter, Place};
@@ -29,12 +24,9 @@ pub(crate) fn send(
     to: u64,
 ) -> Result<(), AllocError>
     requires world { IsWorld trace.old letters.old.items processors.old.items }
-    requires room { length trace.old.steps < MAX_STEPS }
-    requires processor { IsProc trace.old.config p }
-    requires destination { next_send trace.old.config trace.old.steps p ≡ Some to }
+    requires next { IsNext trace.old (sending p to) }
     ensures world { IsWorld trace.new letters.new.items processors.new.items }
-    ensures config { trace.new.config ≡ trace.old.config }
-    ensures step { OnOk result (trace.new.steps ≡ trace.old.steps ++ record { proc = p; act = Act.Send to } ∷ []) }
+    ensures grown { OnOk result (IsGrown trace.old trace.new (sending p to)) }
     ensures err { OnErr result (trace.new ≡ trace.old) }
 {
     let sender = &processors[(p - 1) as usize];
@@ -98,13 +90,11 @@ fn post(
     place: Place,
 ) -> Result<(), AllocError>
     requires world { IsWorld trace.old letters.old.items processors.old.items }
-    requires room { length trace.old.steps < MAX_STEPS }
-    requires processor { IsProc trace.old.config p }
-    requires destination { next_send trace.old.config trace.old.steps p ≡ Some to }
-    requires place { IsPlaceOf trace.old.config p (node_at trace.old.config trace.old.steps p) (passed trace.old.steps p + 1) to place }
+    requires next { IsNext trace.old (sending p to) }
+    requires place { IsPlaceOf trace.old.config p (node_at trace.old.config trace.old.steps p)
+        (passed trace.old.steps p + 1) to place }
     ensures world { IsWorld trace.new letters.new.items processors.new.items }
-    ensures config { trace.new.config ≡ trace.old.config }
-    ensures step { OnOk result (trace.new.steps ≡ trace.old.steps ++ record { proc = p; act = Act.Send to } ∷ []) }
+    ensures grown { OnOk result (IsGrown trace.old trace.new (sending p to)) }
     ensures err { OnErr result (trace.new ≡ trace.old) }
 {
     let said = place.share()?;
@@ -126,19 +116,17 @@ fn push_send(
     p: u64,
     to: u64,
 ) -> Result<(), AllocError>
-    requires step { refusal trace.old.config trace.old.steps (record { proc = p; act = Act.Send to }) ≡ None }
-    requires ticks { IsOnePerTick trace.old }
+    requires run { IsPacedRun trace.old }
+    requires next { IsNext trace.old (sending p to) }
     requires low { 1 ≤ to }
     requires high { to ≤ length processors.old.items }
     ensures letters { letters.new.items ≡ letters.old.items }
-    ensures processors { (c : Setup) (steps : List TraceStep) → AreProcessors c steps processors.old.items → AreProcessors c steps processors.new.items }
+    ensures processors { Serve processors.old.items processors.new.items }
     ensures count { length processors.new.items ≡ length processors.old.items }
     ensures place { OnOk result (vec_len letters.new < vec_capacity letters.new) }
-    ensures room { OnOk result ((x : Processor) → slice_get processors.new.items (to - 1) ≡ Some x → 0 < x.buffer.room) }
-    ensures appended { OnOk result (trace.new.steps ≡ trace.old.steps ++ record { proc = p; act = Act.Send to } ∷ []) }
-    ensures config { trace.new.config ≡ trace.old.config }
-    ensures well_formed { OnOk result (IsWellFormed trace.old.config (trace.old.steps ++ record { proc = p; act = Act.Send to } ∷ [])) }
-    ensures one_per_tick { IsOnePerTick trace.new }
+    ensures room { OnOk result (HasRoom processors.new.items to) }
+    ensures run { IsPacedRun trace.new }
+    ensures grown { OnOk result (IsGrown trace.old trace.new (sending p to)) }
     ensures err { OnErr result (trace.new ≡ trace.old) }
 {
     make_room(letters, processors, to)?;
@@ -160,10 +148,10 @@ fn make_room(
     requires low { 1 ≤ to }
     requires high { to ≤ length processors.old.items }
     ensures letters { letters.new.items ≡ letters.old.items }
-    ensures processors { (c : Setup) (steps : List TraceStep) → AreProcessors c steps processors.old.items → AreProcessors c steps processors.new.items }
+    ensures processors { Serve processors.old.items processors.new.items }
     ensures count { length processors.new.items ≡ length processors.old.items }
     ensures place { OnOk result (vec_len letters.new < vec_capacity letters.new) }
-    ensures room { OnOk result ((x : Processor) → slice_get processors.new.items (to - 1) ≡ Some x → 0 < x.buffer.room) }
+    ensures room { OnOk result (HasRoom processors.new.items to) }
 {
     letters.reserve(1)?;
     let receiver = &mut processors[(to - 1) as usize];

@@ -1,11 +1,10 @@
 //! A step: what a move comes to, and a Send or a Receive that is made.
 
-ghost use Rattle.std.specs.Prelude.{◌≡◌, ◌<◌, ◌++◌, ◌∷◌, [], Some, None, length, IfOk, OnOk, IfErr, OnErr};
+ghost use Rattle.std.specs.Prelude.{◌≡◌, ◌<◌, Some, None, length, IfOk, OnOk, IfErr, OnErr};
 ghost use Rattle.step_trace.specs.declared.traces.TheConstants.{MAX_STEPS};
 ghost use Rattle.step_trace.specs.Configurations.{IsProc};
-ghost use Rattle.step_trace.specs.PushRefusals.{refusal};
-ghost use Rattle.step_buffers.specs.Runs.{IsDue};
-ghost use Rattle.step_buffers.specs.Moves.{next_send, step_of, move_refusal, IsStepRefusal};
+ghost use Rattle.step_buffers.specs.Moves.{step_of, move_refusal, IsStepRefusal};
+ghost use Rattle.step_buffers.specs.NextSteps.{IsNext, IsGrown};
 ghost use Rattle.step_buffers.specs.Worlds.{AreProcessors, IsWorld};
 
 use crate::letters::Place;
@@ -28,8 +27,7 @@ pub(crate) fn act_of(
     requires room { length trace.now.steps < MAX_STEPS }
     requires processor { IsProc trace.now.config p }
     ensures step { IfOk result (λ act. Some (record { proc = p; act = act }) ≡ step_of trace.now.config trace.now.steps p step.entry) }
-    ensures fits { IfOk result (λ act. refusal trace.now.config trace.now.steps (record { proc = p; act = act }) ≡ None) }
-    ensures due { IfOk result (λ act. IsDue (next_send trace.now.config trace.now.steps p) act) }
+    ensures next { IfOk result (λ act. IsNext trace.now (record { proc = p; act = act })) }
     ensures ok { OnOk result (move_refusal trace.now.config trace.now.steps p step.entry ≡ None) }
     ensures refused { IfErr result (λ e. IsStepRefusal e (move_refusal trace.now.config trace.now.steps p step.entry)) }
 {
@@ -58,13 +56,9 @@ pub(crate) fn make(
     act: Act,
 ) -> Result<(), AllocError>
     requires world { IsWorld trace.old letters.old.items processors.old.items }
-    requires room { length trace.old.steps < MAX_STEPS }
-    requires processor { IsProc trace.old.config p }
-    requires fits { refusal trace.old.config trace.old.steps (record { proc = p; act = act }) ≡ None }
-    requires due { IsDue (next_send trace.old.config trace.old.steps p) act }
+    requires next { IsNext trace.old (record { proc = p; act = act }) }
     ensures world { IsWorld trace.new letters.new.items processors.new.items }
-    ensures config { trace.new.config ≡ trace.old.config }
-    ensures step { OnOk result (trace.new.steps ≡ trace.old.steps ++ record { proc = p; act = act } ∷ []) }
+    ensures grown { OnOk result (IsGrown trace.old trace.new (record { proc = p; act = act })) }
     ensures err { OnErr result (trace.new ≡ trace.old) }
 {
     match act {

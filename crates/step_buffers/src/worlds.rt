@@ -7,10 +7,10 @@ ghost use Rattle.step_trace.specs.Configurations.{IsProc};
 ghost use Rattle.step_trace.specs.Ticks.{IsOnePerTick};
 ghost use Rattle.round_model.specs.RoundStates.{state_after};
 ghost use Rattle.step_buffers.specs.HeardTables.{passed, heard_table};
-ghost use Rattle.step_trace.specs.PushRefusals.{refusal};
-ghost use Rattle.step_buffers.specs.Runs.{node_at, IsDue, IsRun};
+ghost use Rattle.step_buffers.specs.Runs.{node_at, IsRun};
 ghost use Rattle.step_buffers.specs.Buffers.{buffer};
-ghost use Rattle.step_buffers.specs.Moves.{next_send, step_of, step_refusal, IsStepRefusal};
+ghost use Rattle.step_buffers.specs.Moves.{step_of, step_refusal, IsStepRefusal};
+ghost use Rattle.step_buffers.specs.NextSteps.{IsNext, IsGrown};
 
 use crate::copies::{copied_letters, copied_processors};
 use crate::letters::Place;
@@ -205,9 +205,7 @@ impl World {
     fn act_of(&self, alloc: Global, p: u64, step: Move) -> Result<Act, StepError>
         ensures step { IfOk result (λ act. Some (record { proc = p; act = act }) ≡ step_of self.now.trace.config self.now.trace.steps p step.entry) }
         ensures room { OnOk result (length self.now.trace.steps < self.now.limit) }
-        ensures processor { OnOk result (IsProc self.now.trace.config p) }
-        ensures fits { IfOk result (λ act. refusal self.now.trace.config self.now.trace.steps (record { proc = p; act = act }) ≡ None) }
-        ensures due { IfOk result (λ act. IsDue (next_send self.now.trace.config self.now.trace.steps p) act) }
+        ensures next { IfOk result (λ act. IsNext self.now.trace (record { proc = p; act = act })) }
         ensures ok { OnOk result (step_refusal self.now.trace.config self.now.limit self.now.trace.steps p step.entry ≡ None) }
         ensures refused { IfErr result (λ e. IsStepRefusal e (step_refusal self.now.trace.config self.now.limit self.now.trace.steps p step.entry)) }
     {
@@ -223,11 +221,8 @@ impl World {
     /// Makes a step of processor `p` that is due.
     fn make(&mut self, alloc: Global, p: u64, act: Act) -> Result<(), StepError>
         requires room { length self.old.trace.steps < self.old.limit }
-        requires processor { IsProc self.old.trace.config p }
-        requires fits { refusal self.old.trace.config self.old.trace.steps (record { proc = p; act = act }) ≡ None }
-        requires due { IsDue (next_send self.old.trace.config self.old.trace.steps p) act }
-        ensures made { OnOk result (self.new.trace.steps ≡ self.old.trace.steps ++ record { proc = p; act = act } ∷ []) }
-        ensures config { self.new.trace.config ≡ self.old.trace.config }
+        requires next { IsNext self.old.trace (record { proc = p; act = act }) }
+        ensures grown { OnOk result (IsGrown self.old.trace self.new.trace (record { proc = p; act = act })) }
         ensures limit { self.new.limit ≡ self.old.limit }
         ensures refused { IfErr result (λ e. e ≡ StepError.Memory) }
         ensures err { OnErr result (self.new ≡ self.old) }

@@ -6,7 +6,7 @@ use Rattle.step_trace.specs.Configurations.{Setup}
 use Rattle.step_trace.specs.Traces.{Recorded, step_at}
 use Rattle.step_buffers.specs.declared.moves.Done.{Done}
 use Rattle.step_buffers.specs.HeardTables.{passed}
-use Rattle.step_buffers.proofs.ReceivedProcessors.{passed-within}
+use Rattle.step_buffers.proofs.GrownNodes.{passed-within}
 use Rattle.locked_recorder.specs.Audits.{done_last}
 use Rattle.locked_recorder.specs.Comparisons.{AreCompared, IsNextAgreed}
 use Rattle.locked_recorder.proofs.DoneSteps.{step_at-there, passed-take, passed-own, done_last-by_round}

@@ -34,6 +34,6 @@ returns-else-sent-round-clause-entries c = λ e d.
     let new = heap_items c.keep_for_later.new.inbox.later in
     let added = c.keep_for_later.ensures.later in
     elim (Contains-cons_cases added.0 e old (Contains-permutation new (added.0 ∷ old) e (IsPermutation-sym _ _ added.2) d)) [
-      | inl same ↦ inr (ap (λ (x : Entry). x.0) same ∙ added.1)
+      | inl same ↦ inr (c.if-sent-round.false, ap (λ (x : Entry). x.0) same ∙ added.1)
       | inr before ↦ inl before
     ]

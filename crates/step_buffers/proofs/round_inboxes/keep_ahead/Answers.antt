@@ -1,12 +1,11 @@
 use Rattle.std.proofs.Common.{ℕ, Bool, List, ◌≡◌, ◌++◌, ◌∷◌, [], true, false, filter, take, get_or, inl, inr, sym, subst, ap, ◌∙◌, arith, append_assoc, append-nil, cond}
-use Rattle.std.specs.Prelude.{nat_le}
 use Rattle.std.specs.List.Sorted.{IsPermutation}
 use Rattle.std.proofs.lemmas.Bool.{le-leb, lt-leb}
 use Rattle.std.proofs.lemmas.List.{take_more}
 use Rattle.std.proofs.lemmas.List.Elements.{filter-append}
 use Rattle.std.proofs.lemmas.List.Sorted.{IsPermutation-push_more}
 use Rattle.step_buffers.specs.Letters.{round_of}
-use Rattle.step_buffers.specs.Inboxes.{kept_ids}
+use Rattle.step_buffers.specs.Inboxes.{kept_ids, is_ahead}
 use Rattle.step_buffers.proofs.round_inboxes.keep_ahead.Goals.{then-round-sent, else-round-sent}
 use Rattle.step_buffers.proofs.round_inboxes.keep_ahead.Goals as goal
 
@@ -31,7 +30,7 @@ loop-id-preserved c =
     let id = get_or ids i 0 in
     let letters = c.args.letters.now in
     let round = c.args.round in
-    let test : ℕ → Bool = λ s. nat_le round (round_of letters s) in
+    let test : ℕ → Bool = is_ahead letters round in
     let old = kept_ids c.args.inbox.now in
     let now = kept_ids c.loop-id.inbox in
     let is = c.loop-id.invariant in
@@ -55,8 +54,9 @@ loop-id-preserved c =
             λ e d. elim (w.keep.ensures.entries e d) [
               | inl before ↦ is.1 e before
               | inr same ↦
-                  let round_is : e.0.0 ≡ round_of letters id = ap (λ (x : ℕ × ℕ). x.0) same ∙ sent in
-                  let id_is : e.0.1 ≡ id = ap (λ (x : ℕ × ℕ). x.1) same in
+                  let other = same.0 in
+                  let round_is : e.0.0 ≡ round_of letters id = ap (λ (x : ℕ × ℕ). x.0) same.1 ∙ sent in
+                  let id_is : e.0.1 ≡ id = ap (λ (x : ℕ × ℕ). x.1) same.1 in
                   inr (omega arith, round_is ∙ ap (round_of letters) (sym id_is))
             ],
             (omega arith),

@@ -1,6 +1,7 @@
 use Rattle.std.proofs.Common.{◌-◌, length, refl, arith}
 use Rattle.std.proofs.lemmas.Option.{slice_get_read}
-use Rattle.step_buffers.proofs.PostSteps.{AreProcessors-room, length-slice_set}
+use Rattle.std.proofs.lemmas.List.{length-set}
+use Rattle.step_buffers.proofs.KeptProcessors.{AreProcessors-room}
 use Rattle.step_buffers.proofs.sends.make_room.Goals as goal
 
 pub returns-clause-processors : goal.returns-clause-processors
@@ -9,7 +10,7 @@ returns-clause-processors c = λ config steps are.
     let high = c.requires.high in
     let ra = c.index_mut-receiver.result.now in
     let at = slice_get_read c.args.processors.now.items (length c.args.processors.now.items) (c.args.to - 1) ra refl (omega arith) c.index_mut-receiver.ensures.value in
-    AreProcessors-room config steps c.args.processors.now.items (c.args.to - 1) ra c.reserve-2.new.self are at c.reserve-2.ensures.items
+    AreProcessors-room config steps c.args.processors.now.items c.args.to ra c.reserve-2.new.self low are at c.reserve-2.ensures.items
 
 pub returns-clause-count : goal.returns-clause-count
-returns-clause-count c = length-slice_set c.args.processors.now.items (c.args.to - 1) _
+returns-clause-count c = length-set c.args.processors.now.items (c.args.to - 1) _

@@ -9,8 +9,7 @@ invariant_of-result c =
     rw (trace, letters) (
       record {
         setup = world.setup;
-        run = world.run;
-        one_per_tick = world.one_per_tick;
+        paced = world.paced;
         letters = world.letters;
         processors = c.in_ok-processors.ensures c.self.inside.trace.config c.self.inside.trace.steps (rw c.deref-2.ensures.value world.processors);
       },

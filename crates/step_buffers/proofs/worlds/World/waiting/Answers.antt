@@ -1,6 +1,6 @@
 use Rattle.std.proofs.Common.{◌∙◌}
 use Rattle.step_buffers.proofs.BufferSteps.{buffer-rises}
-use Rattle.step_buffers.proofs.PostSteps.{IsProcessor-at}
+use Rattle.step_buffers.proofs.KeptProcessors.{IsProcessor-at}
 use Rattle.step_buffers.proofs.worlds.World.waiting.Goals as goal
 
 pub returns-clause-value : goal.returns-clause-value
