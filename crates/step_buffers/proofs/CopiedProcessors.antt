@@ -8,7 +8,7 @@ use Rattle.step_trace.specs.Configurations.{Setup}
 use Rattle.step_buffers.specs.declared.processors.Processor.{Processor}
 use Rattle.step_buffers.specs.InboxRounds.{Entry}
 use Rattle.step_buffers.specs.Inboxes.{kept_ids}
-use Rattle.step_buffers.specs.Worlds.{IsProcessor, AreProcessors}
+use Rattle.step_buffers.specs.Worlds.{IsProcessor, Serves, AreProcessors}
 use Rattle.step_buffers.proofs.KeptInboxes.{IsInbox-moved}
 use Rattle.step_buffers.proofs.Openings.{slice_get-push}
 
@@ -29,10 +29,6 @@ IsProcessor-alike c steps p x y like is = record {
   buffer = like.buffer ∙ is.buffer;
   inbox = rw like.round (IsInbox-moved steps p x.round _ _ _ _ like.inbox like.entries is.inbox);
 }
-
--- the second serves for the traces and processors that the first serves for
-abbrev pub Serves : Processor → Processor → Type 0
-Serves x y = (c : Setup) (steps : List Step) (p : ℕ) → IsProcessor c steps p x → IsProcessor c steps p y
 
 -- each of the copies stands in the place of what it serves for
 abbrev pub AreCopied : List Processor → List Processor → Type 0

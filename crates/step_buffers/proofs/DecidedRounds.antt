@@ -1,18 +1,38 @@
--- Since which round a processor has its decision, as the trace grows by a step.
-use Rattle.std.proofs.Common.{ℕ, zero, suc, ◌≡◌, ◌≢◌, ◌+◌, ◌<◌, ◌≤◌, ◌⊎◌, inl, inr, Option, Some, None, List, [], ◌∷◌, ◌++◌, true, false, ◌==◌, ◌&&◌, refl, sym, ap, ◌∙◌, arith}
-use Rattle.std.proofs.lemmas.Bool.{cases_lt}
-use Rattle.std.proofs.lemmas.Option.{none-some}
+-- Agreement and validity in a trace, whose processors stand in different rounds; decisions that stay, and since which
+-- round a processor has its own, as the trace grows by a step.
+use Rattle.std.proofs.Common.{ℕ, ◌≡◌, ◌+◌, ◌-◌, List, ◌++◌, Some, subst, arith, zero, suc, ◌≢◌, ◌<◌, ◌≤◌, ◌⊎◌, inl, inr, Option, None, [], ◌∷◌, true, false, ◌==◌, ◌&&◌, refl, sym, ap, ◌∙◌}
 use Rattle.step_trace.specs.declared.steps.Step.{Step}
-use Rattle.step_trace.specs.Configurations.{Setup}
+use Rattle.step_trace.specs.Configurations.{Setup, IsSetup, IsProc}
 use Rattle.step_trace.specs.Traces.{IsWellFormed}
 use Rattle.lock_phases.specs.Nodes.{State}
 use Rattle.round_model.specs.RoundStates.{state_after}
-use Rattle.step_buffers.specs.HeardTables.{act_ends, passed, heard_table}
+use Rattle.round_model.specs.Agreement.{Agree, DecidesInitialValue}
+use Rattle.round_model.proofs.AgreedDecisions.{Agree-state_after, DecidesInitialValue-state_after, decision-stays_later}
+use Rattle.step_buffers.specs.HeardTables.{passed, heard_table, act_ends}
 use Rattle.step_buffers.specs.Runs.{node_at}
-use Rattle.step_buffers.specs.Worlds.{IsDecidedSince}
+use Rattle.step_buffers.proofs.StepPrefixes.{passed-append}
 use Rattle.step_buffers.proofs.SettledPrefixes.{state_after-prefix}
+use Rattle.std.proofs.lemmas.Bool.{cases_lt}
+use Rattle.std.proofs.lemmas.Option.{none-some}
+use Rattle.step_buffers.specs.Worlds.{IsDecidedSince}
 use Rattle.step_buffers.proofs.GrownNodes.{passed-ends, passed-stays}
-use Rattle.step_buffers.proofs.Decisions.{decision-stays_longer}
+
+pub Agree-node_at : (c : Setup) (steps : List Step) (p q : ℕ) → IsSetup c → Agree (node_at c steps p) (node_at c steps q)
+Agree-node_at c steps p q setup = Agree-state_after c (heard_table steps) (passed steps p) (passed steps q) p q setup
+
+pub DecidesInitialValue-node_at : (c : Setup) (steps : List Step) (p : ℕ) → IsSetup c → IsProc c p → DecidesInitialValue c (node_at c steps p)
+DecidesInitialValue-node_at c steps p setup is = DecidesInitialValue-state_after c (heard_table steps) (passed steps p) p setup is
+
+-- a decision stays in each longer trace
+pub decision-stays_longer : (c : Setup) (steps more : List Step) (p v : ℕ) → IsWellFormed c steps → (node_at c steps p).decision ≡ Some v
+    → (node_at c (steps ++ more) p).decision ≡ Some v
+decision-stays_longer c steps more p v w d =
+    let all = passed-append steps more p in
+    let here : (state_after c (heard_table (steps ++ more)) (passed steps p) p).decision ≡ Some v =
+    subst (λ (s : State). s.decision ≡ Some v) (state_after-prefix c steps more (passed steps p) p w (omega arith)) d in
+    let sum : passed steps p + (passed (steps ++ more) p - passed steps p) ≡ passed (steps ++ more) p = omega arith in
+    subst (λ n. (state_after c (heard_table (steps ++ more)) n p).decision ≡ Some v) sum
+    (decision-stays_later c (heard_table (steps ++ more)) (passed steps p) (passed (steps ++ more) p - passed steps p) p v here)
 
 -- the decision after rounds that were passed in a shorter trace
 pub decision-prefix : (c : Setup) (steps more : List Step) (r p : ℕ) → IsWellFormed c steps → r ≤ passed steps p

@@ -1,17 +1,93 @@
--- Steps of a trace that are made again: as many as were made are the first ones of the trace.
-use Rattle.std.proofs.Common.{ℕ, suc, ◌≡◌, ◌+◌, ◌-◌, inl, inr, List, [], ◌∷◌, ◌++◌, length, take, drop, Some, None, Result, Ok, Err, refl, sym, ap, ◌∙◌, subst, arith}
-use Rattle.std.specs.Prelude.{slice_get, IfErr}
+-- Steps of a trace that are made again: what a run says of its last step, and as many as were made are the first ones.
+use Rattle.std.proofs.Common.{ℕ, suc, Result, Ok, Err, ◌≡◌, ◌+◌, ◌-◌, ◌<◌, List, [], ◌∷◌, ◌++◌, length, get_or, Option, Some, None, Bool, true, false, cond, not, ◌&&◌, refl, sym, ap, subst, arith, eq-eqb, inl, inr, take, drop, ◌∙◌}
+use Rattle.std.specs.Prelude.{Contains, find, is_some, option_map, IfOk, OnOk, slice_get, IfErr}
+use Rattle.std.specs.declared.alloc.AllocError.{AllocError}
+use Rattle.std.proofs.lemmas.Bool.{lt-ltb, not_from_true}
+use Rattle.std.proofs.lemmas.List.FromFn.{length-range_with_len, get_or-range_with_len}
+use Rattle.step_trace.specs.declared.steps.Act.TheVariants.{Send, Receive}
+use Rattle.step_trace.specs.declared.steps.Step.{Step}
+use Rattle.step_trace.specs.Configurations.{Setup, is_proc}
+use Rattle.step_trace.specs.Traces.{IsSentTo, step_at}
+use Rattle.step_trace.specs.PushRefusals.{is_rising, is_taken}
+use Rattle.step_trace.proofs.StepPositions.{step_at_last, step_at_within}
+use Rattle.step_trace.proofs.FittingSteps.{Fits-from_well_formed, is_proc-true, is_rising-from_increasing, find-none}
+use Rattle.step_trace.proofs.ListMembers.{Contains-filter}
+use Rattle.step_buffers.specs.declared.moves.Take.{Take}
+use Rattle.step_buffers.specs.declared.moves.Move.TheVariants as move
+use Rattle.step_buffers.specs.declared.moves.StepError.{StepError}
+use Rattle.step_buffers.specs.declared.moves.StepError.TheVariants.{IdsNotRising, NotInBuffer}
+use Rattle.step_buffers.specs.HeardTables.{numbers}
+use Rattle.step_buffers.specs.Runs.{next_destination, IsDue, IsRun}
+use Rattle.step_buffers.specs.Buffers.{waits_for, buffer}
+use Rattle.step_buffers.specs.Moves.{next_send, is_in, take_refusal, step_refusal, IsStepRefusal}
+use Rattle.step_buffers.proofs.StepPrefixes.{IsWellFormed-prefix}
+use Rattle.step_buffers.proofs.GrownRuns.{next_destination-prefix, IsRun-prefix}
+use Rattle.step_buffers.proofs.RisingIds.{is_in-member}
 use Rattle.std.proofs.lemmas.Option.{none-some, slice_get_within, slice_get_cases, get_or_from_slice_get}
 use Rattle.std.proofs.lemmas.List.{length-append, length_push, take_all, take-append-le, take-append-drop}
 use Rattle.std.proofs.Math.Seq.{take-suc}
-use Rattle.step_trace.specs.declared.steps.Step.{Step}
-use Rattle.step_trace.specs.Configurations.{Setup}
-use Rattle.step_trace.specs.Traces.{step_at}
 use Rattle.step_buffers.specs.declared.replays.ReplayError.{ReplayError}
 use Rattle.step_buffers.specs.declared.replays.ReplayError.TheVariants.{NotARun, Memory}
-use Rattle.step_buffers.specs.Runs.{IsRun}
 use Rattle.step_buffers.specs.Replays.{IsReplayRefusal}
-use Rattle.step_buffers.proofs.RunPrefixes.{IsRun-prefix}
+
+-- the last step of a run is due
+pub IsDue-from_run : (c : Setup) (steps : List Step) (x : Step) → IsRun c (steps ++ x ∷ []) → IsDue (next_send c steps x.proc) x.act
+IsDue-from_run c steps x run =
+    let w = IsWellFormed-prefix c steps (x ∷ []) run.well_formed in
+    let place : suc (length steps) ≡ length steps + 1 = omega arith in
+    let here : IsDue (next_destination c steps x.proc (suc (length steps))) x.act =
+    subst (λ next. IsDue next x.act) (sym (next_destination-prefix c steps (x ∷ []) x.proc (suc (length steps)) w (omega arith))) (run.each (suc (length steps)) x (step_at_last steps x)) in
+    subst (λ n. IsDue (next_destination c steps x.proc n) x.act) place here
+
+-- so a Receive of a run ends no round too early
+pub not_early-from_run : (c : Setup) (steps : List Step) (p : ℕ) (ends : Bool) (ids : List ℕ) → IsRun c (steps ++ record { proc = p; act = Receive ends ids } ∷ [])
+    → (ends && is_some (next_send c steps p)) ≡ false
+not_early-from_run c steps p ends ids run = go ends (IsDue-from_run c steps (record { proc = p; act = Receive ends ids }) run)
+  where
+    go : (b : Bool) → IsDue (next_send c steps p) (Receive b ids) → (b && is_some (next_send c steps p)) ≡ false
+    go false due = refl
+    go true due = ap is_some due
+
+-- a message to p that no step took is in its buffer
+Contains-buffer : (steps : List Step) (p s : ℕ) → IsSentTo steps s p → is_taken steps s ≡ false → Contains (buffer steps p) s
+Contains-buffer steps p s sent fresh =
+    let b = step_at_within steps s (record { proc = sent.0; act = Send p }) sent.1 in
+    let low = b.0 in
+    let high = b.1 in
+    let long : length (numbers steps) ≡ length steps = length-range_with_len 1 (length steps) in
+    let at : get_or (numbers steps) (s - 1) s ≡ 1 + (s - 1) = get_or-range_with_len 1 (length steps) (s - 1) s (omega arith) in
+    Contains-filter (λ i. waits_for steps p i) (numbers steps) s (s - 1, omega arith, omega arith) (rw (sent.1, eq-eqb p p refl, fresh) refl)
+
+-- and takes rising ids of messages that wait
+pub takes-from_run : (c : Setup) (steps : List Step) (p : ℕ) (ends : Bool) (ids : List ℕ) → IsRun c (steps ++ record { proc = p; act = Receive ends ids } ∷ [])
+    → cond {A = Option StepError} (is_rising ids) (option_map (λ s. NotInBuffer s) (find (λ s. not (is_in (buffer steps p) s)) ids)) (Some IdsNotRising) ≡ None
+takes-from_run c steps p ends ids run =
+    let fits = Fits-from_well_formed c steps (record { proc = p; act = Receive ends ids }) run.well_formed in
+    let waits = find-none (λ s. not (is_in (buffer steps p) s)) ids (λ s d. not_from_true _ (is_in-member (buffer steps p) s (Contains-buffer steps p s (fits.sent s d) (fits.fresh s d)))) in
+    rw (is_rising-from_increasing ids fits.rising, waits) refl
+
+-- with room no reason stands against it
+is_proc-from_run : (c : Setup) (steps : List Step) (x : Step) → IsRun c (steps ++ x ∷ []) → is_proc c x.proc ≡ true
+is_proc-from_run c steps x run = is_proc-true c x.proc (Fits-from_well_formed c steps x run.well_formed).proc
+
+pub step_refusal-send : (c : Setup) (limit : ℕ) (steps : List Step) (p to : ℕ) → length steps < limit → IsRun c (steps ++ record { proc = p; act = Send to } ∷ [])
+    → step_refusal c limit steps p move.Send ≡ None
+step_refusal-send c limit steps p to room run =
+    let x : Step = record { proc = p; act = Send to } in
+    rw (lt-ltb (length steps) limit room, is_proc-from_run c steps x run, IsDue-from_run c steps x run) refl
+
+pub step_refusal-receive : (c : Setup) (limit : ℕ) (steps : List Step) (p : ℕ) (taken : Take) (ends : Bool) (ids : List ℕ) → length steps < limit
+    → IsRun c (steps ++ record { proc = p; act = Receive ends ids } ∷ []) → take_refusal taken (buffer steps p) ≡ None
+    → step_refusal c limit steps p (move.Receive taken ends) ≡ None
+step_refusal-receive c limit steps p taken ends ids room run none =
+    let x : Step = record { proc = p; act = Receive ends ids } in
+    rw (lt-ltb (length steps) limit room, is_proc-from_run c steps x run, not_early-from_run c steps p ends ids run) none
+
+-- so where a reason stands against a step the steps with it are no run
+pub off-from_refusal : (made : Result Bool AllocError) (why : StepError) (refusal : Option StepError) (Run : Type 0) → OnOk made (¬ IsStepRefusal why None)
+    → IsStepRefusal why refusal → (Run → refusal ≡ None) → IfOk made (λ is. is ≡ false → ¬ Run)
+off-from_refusal (Ok is) why refusal Run h r none = λ off run. h (subst (IsStepRefusal why) (none run) r)
+off-from_refusal (Err e) why refusal Run h r none = tt
 
 -- one step more of the first ones
 take-next : (steps : List Step) (n : ℕ) (x : Step) → step_at steps (n + 1) ≡ Some x → take (n + 1) steps ≡ take n steps ++ x ∷ []

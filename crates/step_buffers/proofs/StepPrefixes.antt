@@ -1,13 +1,13 @@
 -- A prefix of a list of steps: what is known of a step of the prefix is known of the same step of the longer list.
 use Rattle.std.proofs.Common.{ℕ, zero, suc, ◌≡◌, ◌+◌, ◌-◌, ◌<◌, ◌≤◌, List, [], ◌∷◌, ◌++◌, length, take, Some, refl, sym, ap, ◌∙◌, arith}
 use Rattle.std.specs.Prelude.{slice_get, cond, ◌==◌, ◌&&◌}
-use Rattle.std.proofs.lemmas.List.{take-append-le, length-append}
+use Rattle.std.proofs.lemmas.List.{take-append-le, length-append, length_push}
 use Rattle.std.proofs.lemmas.List.Sums.{sum_by-append, sum_by-take-le}
 use Rattle.std.proofs.Math.Seq.{take-append-add}
 use Rattle.step_trace.specs.declared.steps.Step.{Step}
 use Rattle.step_trace.specs.Configurations.{Setup}
 use Rattle.step_trace.specs.Traces.{step_at, IsSentTo, TakesAt, IsWellFormed}
-use Rattle.step_trace.proofs.StepPositions.{step_at_within}
+use Rattle.step_trace.proofs.StepPositions.{step_at_within, step_at_last}
 use Rattle.step_buffers.specs.HeardTables.{act_ends, passed, before, round_at}
 
 slice_get-append : {X : Type 0} (xs ys : List X) (k : ℕ) → k < length xs → slice_get (xs ++ ys) k ≡ slice_get xs k
@@ -66,3 +66,9 @@ IsWellFormed-prefix c steps more w = record {
       (l, IsSentTo-prefix steps more s x.proc (omega arith) e.1);
   once = λ m n s a b. w.once m n s (TakesAt-prefix steps more m s a) (TakesAt-prefix steps more n s b);
 }
+
+-- the step of the last number
+pub step_at-end : (all steps : List Step) (x : Step) → all ≡ steps ++ x ∷ [] → step_at all (length all) ≡ Some x
+step_at-end all steps x e =
+    let long : length all ≡ suc (length steps) = ap length e ∙ length_push steps x ∙ (let f : length steps + 1 ≡ suc (length steps) = omega arith in f) in
+    rw (long, e) (step_at_last steps x)

@@ -1,5 +1,5 @@
 -- Moves: what a processor does in a step, by what its node has to send and what waits in its buffer (own).
-use Rattle.std.specs.Prelude.{ℕ, ◌≡◌, ◌+◌, List, [], take, length, find, Option, Some, None, Bool, ◌==◌, ◌&&◌, not, nat_lt, is_some, is_none, option_map, if◌then◌else◌}
+use Rattle.std.specs.Prelude.{ℕ, ◌≡◌, ◌+◌, List, [], take, length, filter, find, Option, Some, None, Bool, ◌==◌, ◌&&◌, not, nat_lt, is_some, is_none, option_map, if◌then◌else◌}
 use Rattle.std.specs.List.{list_any}
 use Rattle.step_trace.specs.declared.steps.Act.TheVariants as act
 use Rattle.step_trace.specs.declared.steps.Step.{Step}
@@ -17,6 +17,10 @@ use Rattle.step_buffers.specs.Buffers.{buffer}
 -- whether an id is one of these
 abbrev pub is_in : List ℕ → ℕ → Bool
 is_in ids s = list_any (λ i. i == s) ids
+
+-- a list without these ids
+abbrev pub without : List ℕ → List ℕ → List ℕ
+without ids xs = filter (λ s. not (is_in ids s)) xs
 
 -- the ids that a Receive takes out of a buffer
 abbrev pub taken_ids : Take → List ℕ → List ℕ

@@ -102,7 +102,11 @@ pub record AreProcessors (c : Setup) (steps : List Step) (kept : List Processor)
   pub count : length kept ≡ c.n
   pub each : AreEach (IsProcessor c steps) kept
 
--- the second serve for the traces that the first serve for
+-- the second serves for the traces and processors that the first serves for
+abbrev pub Serves : Processor → Processor → Type 0
+Serves x y = (c : Setup) (steps : List Step) (p : ℕ) → IsProcessor c steps p x → IsProcessor c steps p y
+
+-- and the second ones for the traces that the first ones serve for
 abbrev pub Serve : List Processor → List Processor → Type 0
 Serve kept new = (c : Setup) (steps : List Step) → AreProcessors c steps kept → AreProcessors c steps new
 

@@ -26,7 +26,8 @@ pub(crate) fn append(trace: &mut Trace, step: Step) -> Result<(), AllocError>
 
 /// The ids that the last step of a trace takes.
 pub(crate) fn last_ids(trace: &Trace) -> &[u64]
-    ensures { (steps : List TraceStep) (last : TraceStep) → trace.now.steps ≡ steps ++ last ∷ [] → result.now ≡ act_ids last.act }
+    ensures { (steps : List TraceStep) (last : TraceStep) → trace.now.steps ≡ steps ++ last ∷ []
+        → result.now ≡ act_ids last.act }
 {
     match trace.step(trace.len() as u64) {
         Some(step) => step.act.ids(),

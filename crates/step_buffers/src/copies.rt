@@ -1,9 +1,7 @@
 //! Copies of what a World keeps.
 
-ghost use Rattle.std.specs.Prelude.{ℕ, ◌≡◌, List, IfOk};
-ghost use Rattle.step_trace.specs.declared.steps.Step.{Step};
-ghost use Rattle.step_trace.specs.Configurations.{Setup};
-ghost use Rattle.step_buffers.specs.Worlds.{IsProcessor, AreProcessors};
+ghost use Rattle.std.specs.Prelude.{◌≡◌, IfOk};
+ghost use Rattle.step_buffers.specs.Worlds.{Serves, Serve};
 
 use crate::letters::Place;
 use crate::processors::Processor;
@@ -26,7 +24,7 @@ pub(crate) fn copied_processors(
     alloc: Global,
     processors: &[Processor],
 ) -> Result<Vec<Processor>, AllocError>
-    ensures { IfOk result (λ copy. (c : Setup) (steps : List Step) → AreProcessors c steps processors.now → AreProcessors c steps copy.items) }
+    ensures { IfOk result (λ copy. Serve processors.now copy.items) }
 {
     let mut copy = Vec::with_capacity(alloc, processors.len())?;
     for processor in processors {
@@ -36,7 +34,7 @@ pub(crate) fn copied_processors(
 }
 
 fn copied_processor(alloc: Global, processor: &Processor) -> Result<Processor, AllocError>
-    ensures { IfOk result (λ copy. (c : Setup) (steps : List Step) (p : ℕ) → IsProcessor c steps p processor.now → IsProcessor c steps p copy) }
+    ensures { IfOk result (λ copy. Serves processor.now copy) }
 {
     Ok(Processor {
         round: processor.round,

@@ -9,7 +9,8 @@ use crate::letters::{Place, letter_at, round_of};
 /// Lets go of those of these messages that were sent in an earlier round than this one.
 pub(crate) fn release(letters: &mut Vec<Place>, ids: &[u64], round: u64)
     ensures places { length letters.new.items ≡ length letters.old.items }
-    ensures left { (s : ℕ) → letter_at letters.new.items s ≡ letter_left letters.old.items ids.now round s }
+    ensures left { (s : ℕ) → letter_at letters.new.items s
+        ≡ letter_left letters.old.items ids.now round s }
 {
     for id in ids {
         release_one(letters, *id, round);
@@ -18,7 +19,8 @@ pub(crate) fn release(letters: &mut Vec<Place>, ids: &[u64], round: u64)
 
 fn release_one(letters: &mut Vec<Place>, id: u64, round: u64)
     ensures places { length letters.new.items ≡ length letters.old.items }
-    ensures left { (s : ℕ) → letter_at letters.new.items s ≡ letter_left letters.old.items (id ∷ []) round s }
+    ensures left { (s : ℕ) → letter_at letters.new.items s
+        ≡ letter_left letters.old.items (id ∷ []) round s }
 {
     if is_past(letters, id, round) {
         letters[id as usize - 1] = Place::empty();
@@ -30,7 +32,8 @@ fn is_past(letters: &[Place], id: u64, round: u64) -> bool
     ensures past { IsTrue result → round_of letters.now id < round }
     ensures low { IsTrue result → 1 ≤ id }
     ensures high { IsTrue result → id ≤ length letters.now }
-    ensures other { result ≡ false → letter_left letters.now (id ∷ []) round id ≡ letter_at letters.now id }
+    ensures other { result ≡ false
+        → letter_left letters.now (id ∷ []) round id ≡ letter_at letters.now id }
 {
     match letter_at(letters, id) {
         Some(letter) => letter.round < round,

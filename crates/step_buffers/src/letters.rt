@@ -1,9 +1,9 @@
 //! Messages on their way, by their ids.
 
-ghost use Rattle.std.specs.Prelude.{◌≡◌, ◌≤◌, ◌<◌, ◌+◌, ◌++◌, ◌==◌, ℕ, filter, length, option_copied, slice_index, IfOk, OnOk};
+ghost use Rattle.std.specs.Prelude.{◌≡◌, ◌≤◌, ◌<◌, ◌+◌, ◌++◌, ℕ, length, option_copied, slice_index, IfOk, OnOk};
 ghost use Rattle.std.specs.Option.{option_or};
 ghost use Rattle.step_trace.specs.declared.configurations.TheConstants.{MAX_PROCESSORS};
-ghost use Rattle.step_buffers.specs.Letters.{letter_at, round_of, said_by, body_from, heard_from, heard_in};
+ghost use Rattle.step_buffers.specs.Letters.{letter_at, round_of, of_round, said_by, body_from, heard_from, heard_in};
 
 use lock_phases::Body;
 use std::alloc::{AllocError, Global};
@@ -115,7 +115,8 @@ pub(crate) fn heard_in(
     n: u64,
 ) -> Result<Vec<(u64, Body)>, AllocError>
     requires { n ≤ MAX_PROCESSORS }
-    ensures { IfOk result (λ heard. heard.items ≡ heard_in letters.now inbox.now taken.now round n) }
+    ensures { IfOk result (λ heard.
+        heard.items ≡ heard_in letters.now inbox.now taken.now round n) }
 {
     // (a processor says no more than one thing in a round)
     let mut ids = Vec::with_capacity(alloc, n as usize)?;
@@ -126,16 +127,16 @@ pub(crate) fn heard_in(
 
 /// Adds those of these ids whose messages were sent in a round.
 fn add_of_round(
-    of_round: &mut Vec<u64>,
+    list: &mut Vec<u64>,
     letters: &[Place],
     ids: &[u64],
     round: u64,
 ) -> Result<(), AllocError>
-    ensures { OnOk result (of_round.new.items ≡ of_round.old.items ++ filter (λ s. round_of letters.now s == round) ids.now) }
+    ensures { OnOk result (list.new.items ≡ list.old.items ++ of_round letters.now round ids.now) }
 {
     for id in ids {
         if round_of(letters, *id) == round {
-            of_round.push(*id)?;
+            list.push(*id)?;
         }
     }
     Ok(())

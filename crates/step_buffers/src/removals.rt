@@ -1,9 +1,9 @@
 //! Taking ids out of a list of rising ids. It costs what is taken, and to move the shorter side where something
 //! else waits before the ids and after them.
 
-ghost use Rattle.std.specs.Prelude.{ℕ, ◌≡◌, ◌≢◌, ◌<◌, ◌≤◌, ◌++◌, ◌-◌, drop, filter, get_or, not, length, take};
+ghost use Rattle.std.specs.Prelude.{ℕ, ◌≡◌, ◌≢◌, ◌<◌, ◌≤◌, ◌++◌, ◌-◌, drop, get_or, length, take};
 ghost use Rattle.std.specs.List.Sorted.{IsStrictlyIncreasing};
-ghost use Rattle.step_buffers.specs.Moves.{is_in};
+ghost use Rattle.step_buffers.specs.Moves.{without};
 
 use crate::takes::is_in;
 use std::alloc::Global;
@@ -13,7 +13,7 @@ pub(crate) fn take_out(list: &mut Vec<u64>, start: usize, ids: &[u64]) -> usize
     requires rising { IsStrictlyIncreasing ids.now }
     requires waiting { IsStrictlyIncreasing (drop start list.old.items) }
     requires within { start ≤ length list.old.items }
-    ensures left { drop result list.new.items ≡ filter (λ s. not (is_in ids.now s)) (drop start list.old.items) }
+    ensures left { drop result list.new.items ≡ without ids.now (drop start list.old.items) }
     ensures within { result ≤ length list.new.items }
 {
     let front = shared_front(&list[start..], ids);
@@ -29,8 +29,9 @@ fn shared_front(waiting: &[u64], ids: &[u64]) -> usize
     requires { IsStrictlyIncreasing waiting.now }
     ensures waiting { result ≤ length waiting.now }
     ensures ids { result ≤ length ids.now }
-    ensures all { result < length waiting.now → result < length ids.now → get_or waiting.now result 0 ≢ get_or ids.now result 0 }
-    ensures left { filter (λ s. not (is_in ids.now s)) waiting.now ≡ filter (λ s. not (is_in (drop result ids.now) s)) (drop result waiting.now) }
+    ensures all { result < length waiting.now → result < length ids.now
+        → get_or waiting.now result 0 ≢ get_or ids.now result 0 }
+    ensures left { without ids.now waiting.now ≡ without (drop result ids.now) (drop result waiting.now) }
 {
     let most = waiting.len().min(ids.len());
     for at in 0..most {
@@ -46,8 +47,10 @@ fn shared_back(waiting: &[u64], ids: &[u64]) -> usize
     requires { IsStrictlyIncreasing waiting.now }
     ensures waiting { result ≤ length waiting.now }
     ensures ids { result ≤ length ids.now }
-    ensures all { result < length waiting.now → result < length ids.now → get_or waiting.now (length waiting.now - 1 - result) 0 ≢ get_or ids.now (length ids.now - 1 - result) 0 }
-    ensures left { filter (λ s. not (is_in ids.now s)) waiting.now ≡ filter (λ s. not (is_in (take (length ids.now - result) ids.now) s)) (take (length waiting.now - result) waiting.now) }
+    ensures all { result < length waiting.now → result < length ids.now
+        → get_or waiting.now (length waiting.now - 1 - result) 0 ≢ get_or ids.now (length ids.now - 1 - result) 0 }
+    ensures left { without ids.now waiting.now
+        ≡ without (take (length ids.now - result) ids.now) (take (length waiting.now - result) waiting.now) }
 {
     let most = waiting.len().min(ids.len());
     for at in 0..most {
@@ -64,7 +67,7 @@ fn take_out_between(list: &mut Vec<u64>, start: usize, ids: &[u64]) -> usize
     requires rising { IsStrictlyIncreasing ids.now }
     requires waiting { IsStrictlyIncreasing (drop start list.old.items) }
     requires within { start ≤ length list.old.items }
-    ensures left { drop result list.new.items ≡ filter (λ s. not (is_in ids.now s)) (drop start list.old.items) }
+    ensures left { drop result list.new.items ≡ without ids.now (drop start list.old.items) }
     ensures within { result ≤ length list.new.items }
 {
     if ids.len() == 0 {
@@ -99,7 +102,7 @@ fn keep_others(part: &mut [u64], ids: &[u64]) -> usize
     requires { IsStrictlyIncreasing ids.now }
     ensures within { result ≤ length part.new }
     ensures length { length part.new ≡ length part.old }
-    ensures kept { take result part.new ≡ filter (λ s. not (is_in ids.now s)) part.old }
+    ensures kept { take result part.new ≡ without ids.now part.old }
 {
     let mut kept = 0;
     for at in 0..part.len() {
@@ -118,7 +121,8 @@ fn close_gap(list: &mut Vec<u64>, start: usize, kept: usize, until: usize) -> us
     requires first { start ≤ kept }
     requires gap { kept ≤ until }
     requires within { until ≤ length list.old.items }
-    ensures left { drop result list.new.items ≡ drop start (take kept list.old.items) ++ drop until list.old.items }
+    ensures left { drop result list.new.items
+        ≡ drop start (take kept list.old.items) ++ drop until list.old.items }
     ensures within { result ≤ length list.new.items }
 {
     if kept - start < list.len() - until {

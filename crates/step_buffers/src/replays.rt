@@ -137,7 +137,8 @@ fn not_made(why: StepError) -> Result<bool, AllocError>
 
 /// Whether the last step of a trace is a Send to a processor.
 fn last_sends_to(trace: &Trace, p: u64) -> bool
-    ensures { (steps : List TraceStep) (last : TraceStep) → trace.now.steps ≡ steps ++ last ∷ [] → result ≡ act_sends_to last.act p }
+    ensures { (steps : List TraceStep) (last : TraceStep) → trace.now.steps ≡ steps ++ last ∷ []
+        → result ≡ act_sends_to last.act p }
 {
     match trace.step(trace.len() as u64) {
         Some(step) => sends_to(&step.act, p),

@@ -6,7 +6,7 @@ ghost use Rattle.lock_phases.specs.NodeFunctions.{out};
 ghost use Rattle.step_buffers.specs.HeardTables.{passed};
 ghost use Rattle.step_buffers.specs.Runs.{node_at};
 ghost use Rattle.step_buffers.specs.NextSteps.{sending, IsNext, IsGrown};
-ghost use Rattle.step_buffers.specs.Worlds.{IsSaidTo, IsSaid, IsPlaceOf, Serve, HasRoom, IsPacedRun, IsWorld};
+ghost use Rattle.step_buffers.specs.Worlds.{IsSaid, IsPlaceOf, Serve, HasRoom, IsWorld};
 
 use crate::appends::append;
 use crate::letters::{Letter, Place};
@@ -52,32 +52,18 @@ fn said_to(
     if sender.said.has_letter() {
         return sender.said.share();
     }
-    Place::of(alloc, letter_to(alloc, config, sender, p, to)?)
-}
-
-/// What `p` sends to a processor to which it sends anything.
-fn letter_to(
-    alloc: Global,
-    config: &Config,
-    sender: &Processor,
-    p: u64,
-    to: u64,
-) -> Result<Letter, AllocError>
-    requires processor { IsProc config.now p }
-    requires receiver { IsProc config.now to }
-    requires positive { 1 ≤ sender.now.round }
-    requires sends { IsSome (out config.now sender.now.node p sender.now.round to) }
-    ensures { IfOk result (IsSaidTo config.now p sender.now.node sender.now.round to) }
-{
     let round = sender.round;
     let Some(body) = sender.node.out(alloc, config, p, round, to)? else {
         unreachable!();
     };
-    Ok(Letter {
-        sender: p,
-        round,
-        body,
-    })
+    Place::of(
+        alloc,
+        Letter {
+            sender: p,
+            round,
+            body,
+        },
+    )
 }
 
 /// Sends a message of `p`, which has this place, to its next destination.
@@ -98,37 +84,6 @@ fn post(
     ensures err { OnErr result (trace.new ≡ trace.old) }
 {
     let said = place.share()?;
-    push_send(trace, letters, processors, p, to)?;
-    let receiver = &mut processors[(to - 1) as usize];
-    receiver.buffer.push_reserved(trace.len() as u64);
-    letters.push_reserved(place);
-    let sender = &mut processors[(p - 1) as usize];
-    sender.last = to;
-    sender.said = said;
-    Ok(())
-}
-
-/// Appends a Send to the trace, and makes room for what it changes.
-fn push_send(
-    trace: &mut Trace,
-    letters: &mut Vec<Place>,
-    processors: &mut Vec<Processor>,
-    p: u64,
-    to: u64,
-) -> Result<(), AllocError>
-    requires run { IsPacedRun trace.old }
-    requires next { IsNext trace.old (sending p to) }
-    requires low { 1 ≤ to }
-    requires high { to ≤ length processors.old.items }
-    ensures letters { letters.new.items ≡ letters.old.items }
-    ensures processors { Serve processors.old.items processors.new.items }
-    ensures count { length processors.new.items ≡ length processors.old.items }
-    ensures place { OnOk result (vec_len letters.new < vec_capacity letters.new) }
-    ensures room { OnOk result (HasRoom processors.new.items to) }
-    ensures run { IsPacedRun trace.new }
-    ensures grown { OnOk result (IsGrown trace.old trace.new (sending p to)) }
-    ensures err { OnErr result (trace.new ≡ trace.old) }
-{
     make_room(letters, processors, to)?;
     append(
         trace,
@@ -136,7 +91,14 @@ fn push_send(
             proc: p,
             act: Act::Send { to },
         },
-    )
+    )?;
+    let receiver = &mut processors[(to - 1) as usize];
+    receiver.buffer.push_reserved(trace.len() as u64);
+    letters.push_reserved(place);
+    let sender = &mut processors[(p - 1) as usize];
+    sender.last = to;
+    sender.said = said;
+    Ok(())
 }
 
 /// Makes room for one more message, and for its id in the buffer of the processor that it goes to.

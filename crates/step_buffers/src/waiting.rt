@@ -25,9 +25,9 @@ impl Model for Waiting {
 }
 
 impl Waiting {
-    ghost use Rattle.std.specs.Prelude.{◌≡◌, ◌<◌, ◌≤◌, ◌++◌, ◌∷◌, [], length, filter, not, IfOk, OnOk};
+    ghost use Rattle.std.specs.Prelude.{◌≡◌, ◌<◌, ◌≤◌, ◌++◌, ◌∷◌, [], length, IfOk, OnOk};
     ghost use Rattle.std.specs.List.Sorted.{IsStrictlyIncreasing};
-    ghost use Rattle.step_buffers.specs.Moves.{is_in};
+    ghost use Rattle.step_buffers.specs.Moves.{without};
 
     /// Nothing waits. Takes no memory.
     pub(crate) fn new(alloc: Global) -> Self
@@ -82,7 +82,7 @@ impl Waiting {
     pub(crate) fn take_out(&mut self, ids: &[u64])
         requires rising { IsStrictlyIncreasing ids.now }
         requires waiting { IsStrictlyIncreasing self.old.items }
-        ensures items { self.new.items ≡ filter (λ s. not (is_in ids.now s)) self.old.items }
+        ensures items { self.new.items ≡ without ids.now self.old.items }
     {
         self.start = take_out(&mut self.ids, self.start, ids);
     }

@@ -3,7 +3,7 @@ use Rattle.std.proofs.lemmas.Option.{same_Some, none-some}
 use Rattle.step_trace.specs.Steps.{act_ids}
 use Rattle.step_trace.specs.Traces.{step_at}
 use Rattle.step_trace.specs.declared.steps.Step.{Step}
-use Rattle.step_buffers.proofs.LastSteps.{step_at-end}
+use Rattle.step_buffers.proofs.StepPrefixes.{step_at-end}
 use Rattle.step_buffers.proofs.appends.last_ids.Goals as goal
 
 pub returns-in-Some : goal.returns-in-Some

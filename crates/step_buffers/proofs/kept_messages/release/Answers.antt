@@ -3,7 +3,7 @@ use Rattle.std.specs.List.{list_any}
 use Rattle.std.proofs.lemmas.List.{take_more}
 use Rattle.std.proofs.lemmas.List.Folds.{list_any-append}
 use Rattle.step_buffers.specs.Letters.{letter_at}
-use Rattle.step_buffers.proofs.ReleasedLetters.{letter_left-more}
+use Rattle.step_buffers.proofs.KeptLetters.{letter_left-more}
 use Rattle.step_buffers.proofs.kept_messages.release.Goals as goal
 
 pub loop-id-preserved : goal.loop-id-preserved

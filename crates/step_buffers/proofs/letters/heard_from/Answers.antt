@@ -2,7 +2,7 @@ use Rattle.std.proofs.Common.{◌≡◌, ◌∙◌, Some, None, sym, ap, arith}
 use Rattle.std.specs.Prelude.{option_copied}
 use Rattle.std.proofs.lemmas.List.{append-nil, get_or_default}
 use Rattle.step_buffers.specs.Letters.{letter_at, said_by, body_from}
-use Rattle.step_buffers.proofs.HeardNow.{heard_from-more}
+use Rattle.step_buffers.proofs.HeardInboxes.{heard_from-more}
 use Rattle.step_buffers.proofs.letters.heard_from.Goals as goal
 use Rattle.step_buffers.proofs.letters.heard_from.Goals.{After-said_by}
 

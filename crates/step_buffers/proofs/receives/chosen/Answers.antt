@@ -3,7 +3,7 @@ use Rattle.std.specs.Prelude.{is_some}
 use Rattle.step_buffers.specs.Buffers.{buffer}
 use Rattle.step_buffers.specs.Moves.{next_send, taken_ids, take_refusal}
 use Rattle.step_buffers.proofs.BufferSteps.{buffer-rises}
-use Rattle.step_buffers.proofs.FittingTakes.{IsStepRefusal-take}
+use Rattle.step_buffers.proofs.RefusedTakes.{IsStepRefusal-take}
 use Rattle.step_buffers.proofs.receives.chosen.Goals as goal
 
 pub take_refusal-requires : goal.take_refusal-requires

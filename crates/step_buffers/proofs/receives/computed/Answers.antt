@@ -4,8 +4,7 @@ use Rattle.step_trace.proofs.Refusals.{Fits-from_none}
 use Rattle.step_trace.proofs.Growth.{IsWellFormed-push}
 use Rattle.step_buffers.specs.Letters.{heard_in, of_round}
 use Rattle.step_buffers.specs.NextSteps.{receiving}
-use Rattle.step_buffers.proofs.HeardNow.{heard_from-rises}
-use Rattle.step_buffers.proofs.HeardInboxes.{heard_in-senders, node_at-computes}
+use Rattle.step_buffers.proofs.HeardInboxes.{heard_from-rises, heard_in-senders, node_at-computes}
 use Rattle.step_buffers.proofs.receives.computed.Goals as goal
 use Rattle.step_buffers.proofs.receives.computed.Goals.{After-deref-2}
 

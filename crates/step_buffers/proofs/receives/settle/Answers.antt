@@ -14,8 +14,7 @@ use Rattle.step_buffers.specs.NextSteps.{receiving}
 use Rattle.step_buffers.specs.Worlds.{AreLetters, IsInbox}
 use Rattle.step_buffers.proofs.StepPrefixes.{passed-append}
 use Rattle.step_buffers.proofs.GrownNodes.{passed-ends}
-use Rattle.step_buffers.proofs.LetterSteps.{AreLetters-received}
-use Rattle.step_buffers.proofs.ReleasedLetters.{AreLetters-released}
+use Rattle.step_buffers.proofs.KeptLetters.{AreLetters-received, AreLetters-released}
 use Rattle.step_buffers.proofs.BufferSteps.{buffer-received, buffer-rises}
 use Rattle.step_buffers.proofs.KeptInboxes.{IsInbox-took, IsInbox-turned}
 use Rattle.step_buffers.proofs.KeptProcessors.{IsStanding-stays, IsStanding-turned}

@@ -1,14 +1,15 @@
--- What a Receive takes out of a buffer, where nothing is against it: ids that rise, of messages that wait.
+-- What a Receive takes out of a buffer, where nothing is against it: ids that rise, of messages that wait; and the
+-- message that it is refused for.
 use Rattle.std.proofs.Common.{ℕ, zero, suc, ◌≡◌, ◌+◌, ◌<◌, List, [], ◌∷◌, length, take, Option, Some, None, Bool, true, false, not, cond, ◌&&◌, ◌⊎◌, inl, inr, refl, subst, arith}
-use Rattle.std.specs.Prelude.{Contains, find, nat_lt, is_some, option_map}
+use Rattle.std.specs.Prelude.{Contains, find, nat_lt, is_some, option_map, is_none}
 use Rattle.std.specs.List.Sorted.{IsStrictlyIncreasing}
 use Rattle.std.proofs.lemmas.Bool.{ltb-true}
 use Rattle.std.proofs.lemmas.Option.{none-some}
 use Rattle.step_trace.specs.declared.traces.TheConstants.{MAX_STEPS}
 use Rattle.step_trace.specs.declared.steps.Act.TheVariants.{Receive}
 use Rattle.step_trace.specs.declared.steps.Step.{Step}
-use Rattle.step_trace.specs.Configurations.{Setup, IsProc}
-use Rattle.step_trace.specs.PushRefusals.{is_rising, is_rising_from, refusal}
+use Rattle.step_trace.specs.Configurations.{Setup, IsProc, is_proc}
+use Rattle.step_trace.specs.PushRefusals.{is_rising, is_rising_from, refusal, IsLeastFailing}
 use Rattle.step_trace.proofs.FittingSteps.{none_from_Fits}
 use Rattle.step_trace.proofs.ListMembers.{Contains-nil, Contains-head, Contains-rest, Contains-cons_cases}
 use Rattle.step_buffers.specs.declared.moves.StepError.{StepError}
@@ -17,9 +18,12 @@ use Rattle.step_buffers.specs.declared.moves.Take.{Take}
 use Rattle.step_buffers.specs.declared.moves.Take.TheVariants.{All, Nothing, Oldest, These}
 use Rattle.step_buffers.specs.Runs.{IsDue}
 use Rattle.step_buffers.specs.Buffers.{buffer}
-use Rattle.step_buffers.specs.Moves.{is_in, taken_ids, take_refusal, IsStepRefusal}
+use Rattle.step_buffers.specs.Moves.{is_in, taken_ids, take_refusal, IsStepRefusal, named_ids, next_send, move_refusal, step_refusal}
 use Rattle.step_buffers.proofs.RisingIds.{rising-take, Contains-from_is_in}
 use Rattle.step_buffers.proofs.BufferSteps.{buffer-rises, IsWaiting-from_buffer}
+use Rattle.step_trace.proofs.NamedReasons.{found, failing}
+use Rattle.step_buffers.specs.declared.moves.Move.{Move}
+use Rattle.step_buffers.specs.declared.moves.Move.TheVariants.{Send as SendMove, Receive as ReceiveMove}
 
 -- ids that rise by the test rise
 rising-from_test : (x : ℕ) (xs : List ℕ) → is_rising_from x xs ≡ true → IsStrictlyIncreasing (x ∷ xs)
@@ -120,3 +124,42 @@ pub IsDue-received : (next : Option ℕ) (ends : Bool) (ids : List ℕ) (other :
 IsDue-received next false ids other h = tt
 IsDue-received None true ids other h = refl
 IsDue-received (Some to) true ids other h = cc
+
+-- among ids that are to be taken
+least-these : (waiting ids : List ℕ) (s : ℕ) (rising : Bool) (missing : Option ℕ) → is_rising ids ≡ rising → find (λ i. not (is_in waiting i)) ids ≡ missing
+    → cond {A = Option StepError} rising (option_map (λ i. NotInBuffer i) missing) (Some IdsNotRising) ≡ Some (NotInBuffer s) → IsLeastFailing (is_in waiting) ids s
+least-these waiting ids s true (Some i) r f h = failing (is_in waiting) ids s (found _ ids s r (let e : i ≡ s = cc in subst (λ n. find (λ i. not (is_in waiting i)) ids ≡ Some n) e f))
+least-these waiting ids s true None r f h = cc
+least-these waiting ids s false missing r f h = cc
+
+-- so of a move
+least-move : (c : Setup) (steps : List Step) (p : ℕ) (move : Move) (s : ℕ) → move_refusal c steps p move ≡ Some (NotInBuffer s) → IsLeastFailing (is_in (buffer steps p)) (named_ids move) s
+least-move c steps p SendMove s h = go (is_none (next_send c steps p)) h
+  where
+    go : (b : Bool) → cond {A = Option StepError} b (Some NothingToSend) None ≡ Some (NotInBuffer s) → IsLeastFailing (is_in (buffer steps p)) [] s
+    go true f = cc
+    go false f = cc
+least-move c steps p (ReceiveMove taken ends) s h = go (ends && is_some (next_send c steps p)) taken h
+  where
+    go : (b : Bool) (taken : Take) → cond b (Some StillSending) (take_refusal taken (buffer steps p)) ≡ Some (NotInBuffer s)
+        → IsLeastFailing (is_in (buffer steps p)) (named_ids (ReceiveMove taken ends)) s
+    go true taken f = cc
+    go false All f = cc
+    go false Nothing f = cc
+    go false (Oldest n) f = cc
+    go false (These ids) f = least-these (buffer steps p) ids.now s _ _ refl refl f
+
+-- and of a World
+pub least-missing : (c : Setup) (limit : ℕ) (steps : List Step) (p : ℕ) (move : Move) (s : ℕ) → step_refusal c limit steps p move ≡ Some (NotInBuffer s)
+    → IsLeastFailing (is_in (buffer steps p)) (named_ids move) s
+least-missing c limit steps p move s h = go (nat_lt (length steps) limit) (is_proc c p) h
+  where
+    go : (room is : Bool) → cond room (cond is (move_refusal c steps p move) (Some BadProc)) (Some Full) ≡ Some (NotInBuffer s) → IsLeastFailing (is_in (buffer steps p)) (named_ids move) s
+    go true true f = least-move c steps p move s f
+    go true false f = cc
+    go false is f = cc
+
+-- what is taken, where nothing is against a Receive
+pub take_refusal-none : (early : Bool) (o : Option StepError) → cond early (Some StillSending) o ≡ None → o ≡ None
+take_refusal-none true o h = cc
+take_refusal-none false o h = h
