@@ -8,9 +8,9 @@ use Rattle.chunk_join.specs.declared.summaries.Place.{Place}
 use Rattle.chunk_join.specs.declared.summaries.Fate.{Fate}
 use Rattle.chunk_join.specs.declared.summaries.Fate.TheVariants.{Open, Taken}
 use Rattle.chunk_join.specs.declared.summaries.Message.{Message}
-use Rattle.chunk_join.specs.Summaries.{Summary, IsSummary, Whole}
+use Rattle.chunk_join.specs.Summaries.{Summary, IsSummary, Whole, IsListing, IsSent, IsLongest, SentBefore, EndsBefore}
 use Rattle.chunk_join.specs.Joins.{joined_parts}
-use Rattle.chunk_join.specs.Thinning.{thinned}
+use Rattle.chunk_join.specs.Thinning.{thinned, IsUndominated}
 
 abbrev pub is_open_fate : Fate → Bool
 is_open_fate Open = true
@@ -66,3 +66,14 @@ abbrev pub joined_digests : Option Summary → Option Summary → Option Summary
 joined_digests None right = right
 joined_digests (Some l) None = Some l
 joined_digests (Some l) (Some r) = Some (digest (joined_parts l r))
+
+-- What a digest keeps, said of the trace: of the messages that are sent in the part and of its longest silences those
+-- that are undominated, and no others.
+pub record HasUndominated (set : ℕ) (trace : Recorded) (i j : ℕ) (d : Summary) : Type 0 where
+  pub sent : IsListing SentBefore (IsUndominated SentBefore is_open miss_long (IsSent set trace i j)) d.sent
+  pub silent : IsListing EndsBefore (IsUndominated EndsBefore (reaches_edge (i + 1) j) gap_long (IsLongest set trace i j)) d.silent
+
+-- so of a part that may be empty
+abbrev pub KeepsUndominated : ℕ → Recorded → ℕ → ℕ → Option Summary → Type 0
+KeepsUndominated set trace i j None = i ≡ j
+KeepsUndominated set trace i j (Some d) = HasUndominated set trace i j d

@@ -98,10 +98,12 @@ impl Digest {
     ghost use Rattle.suffix_staircase.specs.Analysis.{AreLevels};
     ghost use Rattle.chunk_join.specs.declared.finishes.FinishError.TheVariants.{NotWhole};
     ghost use Rattle.chunk_join.specs.Summaries.{Whole};
-    ghost use Rattle.chunk_join.specs.Digests.{IsDigestOf};
+    ghost use Rattle.chunk_join.specs.Digests.{IsDigestOf, KeepsUndominated};
     ghost use Rattle.chunk_join.specs.Finishes.{BeginsWithFirst};
 
-    /// The digest of the ticks `from` to `to`, from 1 to the last tick; where `from` is one after `to`, the unit.
+    /// The digest of the ticks `from` to `to`, from 1 to the last tick; where `from` is one after `to`, the unit. It
+    /// keeps exactly the undominated messages and silences of these ticks: those that a later part may still change, and
+    /// of the others those that are longer than each that comes later.
     ///
     /// Fails only for want of memory; the unit takes none.
     pub(crate) fn of(
@@ -116,6 +118,7 @@ impl Digest {
         requires high { to ≤ trace.now.last }
         ensures some { OnErr result (from ≤ to) }
         ensures digest { IfOk result (λ digest. (sound : IsTrace trace.now) → IsDigestOf (record { set = set; trace = trace.now; sound = sound }) (from - 1) to digest) }
+        ensures keeps { IfOk result (λ digest. IsTrace trace.now → KeepsUndominated set trace.now (from - 1) to digest) }
     {
         let mut whole = Digest::unit();
         let mut next = from;

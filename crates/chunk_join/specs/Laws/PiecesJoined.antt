@@ -54,7 +54,7 @@ IsSummary-joined set t sound i m j l r low high inside a b = record {
 
 -- A part has one summary.
 
-sent_strict : (a b : Message) → SentBefore a b → SentBefore b a → ⊥
+pub sent_strict : (a b : Message) → SentBefore a b → SentBefore b a → ⊥
 sent_strict a b (inl h) (inl k) = omega (arith, h, k)
 sent_strict a b (inl h) (inr k) = let e = k.0 in omega (arith, h, e)
 sent_strict a b (inr h) (inl k) = let e = h.0 in omega (arith, k, e)
@@ -66,7 +66,7 @@ taken_strict a b (inl h) (inr k) = let e = k.0 in omega (arith, h, e)
 taken_strict a b (inr h) (inl k) = let e = h.0 in omega (arith, k, e)
 taken_strict a b (inr h) (inr k) = let p = h.1 in let q = k.1 in omega (arith, p, q)
 
-ends_strict : (a b : Gap) → EndsBefore a b → EndsBefore b a → ⊥
+pub ends_strict : (a b : Gap) → EndsBefore a b → EndsBefore b a → ⊥
 ends_strict a b (inl h) (inl k) = omega (arith, h, k)
 ends_strict a b (inl h) (inr k) = let e = k.0 in omega (arith, h, e)
 ends_strict a b (inr h) (inl k) = let e = h.0 in omega (arith, k, e)

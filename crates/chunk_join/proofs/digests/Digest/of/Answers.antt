@@ -1,6 +1,7 @@
 use Rattle.std.proofs.Common.{rules, ◌≡◌, ℕ, Option, Some, ◌+◌, ◌-◌, ◌≤◌, ◌<◌, subst, arith}
 use Rattle.chunk_join.specs.Summaries.{Whole, Summary, IsSummary}
 use Rattle.chunk_join.specs.Digests.{IsDigestOf}
+use Rattle.chunk_join.proofs.Undominated.{IsDigestOf-keeps}
 use Rattle.chunk_join.proofs.digests.Digest.of.Goals as goal
 
 pub loop-next-preserved : goal.loop-next-preserved
@@ -28,3 +29,6 @@ ended w from to next d high past h = let e : next - 1 ≡ to = omega (arith, hig
 
 pub returns-clause-digest : goal.returns-clause-digest
 returns-clause-digest c = λ sound. ended (let w : Whole = record { set = c.args.set; trace = c.args.trace.now; sound = sound } in w) c.args.from c.args.to c.loop-next.next c.loop-next.whole c.loop-next.invariant.high c.loop-next-test.false (c.loop-next.invariant.whole sound)
+
+pub returns-clause-keeps : goal.returns-clause-keeps
+returns-clause-keeps c = λ sound. (let w : Whole = record { set = c.args.set; trace = c.args.trace.now; sound = sound } in IsDigestOf-keeps w (c.args.from - 1) c.args.to c.loop-next.whole (returns-clause-digest c sound))
