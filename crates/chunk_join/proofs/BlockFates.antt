@@ -13,7 +13,7 @@ use Rattle.chunk_join.specs.declared.summaries.Message.{Message}
 use Rattle.chunk_join.specs.declared.summaries.Take.{Take}
 use Rattle.chunk_join.specs.Summaries.{IsListing, Rises, IsSent, IsFate, IsTake, IsPlace, IsLastReceive, SentBefore, TakenBefore}
 use Rattle.chunk_join.specs.TickSteps.{AreStepsBefore}
-use Rattle.chunk_join.specs.Joins.{later_of, after, settle, settled_by, takes_of, is_older}
+use Rattle.chunk_join.specs.Parts.{later_of, after, settle, settled_by, takes_of, is_older}
 use Rattle.chunk_join.specs.BlockSteps.{IsOpenBy, IsAnyTake, IsAnyTakeBy, AreFates, fated, fate_by, takes_no}
 use Rattle.chunk_join.specs.Laws.Listings.{Contains-found, none_found, Rises-map, Rises-filter}
 use Rattle.chunk_join.specs.Laws.LastReceives.{IsLastReceive-join, IsLastReceive-after, IsLastReceive-one, IsLastReceive-some}

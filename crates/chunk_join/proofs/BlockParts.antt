@@ -5,7 +5,7 @@ use Rattle.step_trace.specs.Ticks.{IsTrace}
 use Rattle.chunk_join.specs.declared.summaries.Fate.{Fate}
 use Rattle.chunk_join.specs.declared.summaries.Take.{Take}
 use Rattle.chunk_join.specs.Summaries.{Summary, IsSummary, IsListing, IsSent, IsTake, IsLongest, SentBefore, TakenBefore, EndsBefore}
-use Rattle.chunk_join.specs.Joins.{is_older}
+use Rattle.chunk_join.specs.Parts.{is_older}
 use Rattle.chunk_join.specs.TickSteps.{AreStepsBefore}
 use Rattle.chunk_join.specs.BlockSteps.{AreFates, AreFated, IsAnyTakeBy, AreLastBy}
 use Rattle.chunk_join.proofs.BlockMessages.{last_all}

@@ -10,7 +10,7 @@ use Rattle.chunk_join.specs.declared.joins.Why.TheVariants.{NotAdjacent, OtherSe
 use Rattle.chunk_join.specs.declared.summaries.Place.{Place}
 use Rattle.chunk_join.specs.declared.summaries.Message.{Message}
 use Rattle.chunk_join.specs.Summaries.{Summary, IsSummary, IsConsistent, SentBefore, EndsBefore}
-use Rattle.chunk_join.specs.Joins.{settle, stops, reach_back, from_seam, takes_of, meets, parts_refusal, joined_parts}
+use Rattle.chunk_join.specs.Parts.{settle, stops, reach_back, from_seam, takes_of, meets, parts_refusal, joined_parts}
 use Rattle.chunk_join.specs.Laws.Listings.{Rises-append, Rises-map, Rises-filter}
 use Rattle.chunk_join.specs.Laws.SentMessages.{settled_sent}
 use Rattle.chunk_join.specs.Laws.PiecesJoined.{length-later_each}

@@ -6,7 +6,7 @@ use Rattle.step_trace.specs.declared.processors.TheConstants.{MAX_MEMBER}
 use Rattle.step_trace.specs.Processors.{has_proc}
 use Rattle.chunk_join.specs.declared.summaries.Place.{Place}
 use Rattle.chunk_join.specs.Summaries.{last_of}
-use Rattle.chunk_join.specs.Joins.{later_of, later_each}
+use Rattle.chunk_join.specs.Parts.{later_of, later_each}
 
 pub later_each-nil : (xs : List (Option Place)) → later_each xs [] ≡ xs
 later_each-nil [] = refl

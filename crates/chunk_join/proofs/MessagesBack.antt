@@ -25,7 +25,7 @@ use Rattle.chunk_join.specs.declared.summaries.Fate.TheVariants.{Open, Taken}
 use Rattle.chunk_join.specs.declared.summaries.Message.{Message}
 use Rattle.chunk_join.specs.Summaries.{Rises, SentBefore, IsLastReceive, IsFate, IsSent, Summary, IsSummary, AreLastReceives, last_of}
 use Rattle.chunk_join.specs.Sufficient.{Suffices}
-use Rattle.chunk_join.specs.Joins.{after}
+use Rattle.chunk_join.specs.Parts.{after}
 use Rattle.chunk_join.specs.Laws.LastReceives.{IsLastReceive-after, IsLastReceive-some}
 use Rattle.chunk_join.specs.Finishes.{last_at, missed, missed_with, up_to, with_missed, number_of, number_at, SentFrom, HasMissesFrom}
 use Rattle.chunk_join.proofs.Places.{Rises-at}

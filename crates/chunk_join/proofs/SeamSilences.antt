@@ -7,7 +7,7 @@ use Rattle.std.proofs.lemmas.List.{take-append-drop}
 use Rattle.step_trace.specs.declared.rows.Gap.{Gap}
 use Rattle.step_trace.proofs.ListMembers.{Contains-head, Contains-rest, list_any-found}
 use Rattle.chunk_join.specs.Summaries.{Rises, EndsBefore}
-use Rattle.chunk_join.specs.Joins.{meets, goes_on, stops, reach_back, from_seam}
+use Rattle.chunk_join.specs.Parts.{meets, goes_on, stops, reach_back, from_seam}
 use Rattle.chunk_join.proofs.Places.{Rises-at}
 
 ends_no_later : (a b : Gap) → EndsBefore a b → a.to ≤ b.to

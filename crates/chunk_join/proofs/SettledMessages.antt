@@ -7,7 +7,7 @@ use Rattle.chunk_join.specs.declared.summaries.Place.{Place}
 use Rattle.chunk_join.specs.declared.summaries.Message.{Message}
 use Rattle.chunk_join.specs.declared.summaries.Take.{Take}
 use Rattle.chunk_join.specs.Summaries.{Rises, SentBefore}
-use Rattle.chunk_join.specs.Joins.{comes_before, settle, settle_with, settled_by, takes_of}
+use Rattle.chunk_join.specs.Parts.{comes_before, settle, settle_with, settled_by, takes_of}
 use Rattle.chunk_join.specs.Laws.Listings.{Rises-map}
 use Rattle.chunk_join.specs.Laws.SentMessages.{settle_keeps_order}
 use Rattle.chunk_join.proofs.Places.{Rises-at, map_kept, map_at}

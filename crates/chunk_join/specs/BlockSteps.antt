@@ -16,7 +16,7 @@ use Rattle.chunk_join.specs.declared.summaries.Fate.{Fate}
 use Rattle.chunk_join.specs.declared.summaries.Message.{Message}
 use Rattle.chunk_join.specs.declared.summaries.Take.{Take}
 use Rattle.chunk_join.specs.Summaries.{IsPlace, IsLastReceive, IsLongest, IsListing, SentBefore, EndsBefore, last_of}
-use Rattle.chunk_join.specs.Joins.{after}
+use Rattle.chunk_join.specs.Parts.{after}
 
 -- a message between members that is sent after cut i by a step up to k, without its fate
 pub record IsOpenBy (set : ℕ) (trace : Recorded) (i k : ℕ) (m : Message) : Type 0 where

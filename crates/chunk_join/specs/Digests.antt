@@ -9,7 +9,7 @@ use Rattle.chunk_join.specs.declared.summaries.Fate.{Fate}
 use Rattle.chunk_join.specs.declared.summaries.Fate.TheVariants.{Open, Taken}
 use Rattle.chunk_join.specs.declared.summaries.Message.{Message}
 use Rattle.chunk_join.specs.Summaries.{Summary, IsSummary, Whole, IsListing, IsSent, IsLongest, SentBefore, EndsBefore}
-use Rattle.chunk_join.specs.Joins.{joined_parts}
+use Rattle.chunk_join.specs.Parts.{joined_parts}
 use Rattle.chunk_join.specs.Thinning.{thinned, IsUndominated}
 
 abbrev pub is_open_fate : Fate → Bool

@@ -13,7 +13,7 @@ use Rattle.chunk_join.specs.declared.summaries.Fate.{Fate}
 use Rattle.chunk_join.specs.declared.summaries.Message.{Message}
 use Rattle.chunk_join.specs.Summaries.{Summary, last_of}
 use Rattle.chunk_join.specs.Sufficient.{Suffices}
-use Rattle.chunk_join.specs.Joins.{after}
+use Rattle.chunk_join.specs.Parts.{after}
 
 -- the piece is empty, or begins with tick 1
 abbrev pub BeginsWithFirst : Option Summary → Type 0

@@ -1,103 +1,46 @@
--- The summary of two parts that follow one another, from the summaries of both (own).
-use Rattle.std.specs.Prelude.{ℕ, ◌+◌, List, [], ◌∷◌, ◌++◌, Option, Some, None, Bool, not, ◌==◌, ◌&&◌, map, filter, find, nat_lt, if◌then◌else◌}
-use Rattle.std.specs.List.{list_any}
-use Rattle.step_trace.specs.declared.rows.Gap.{Gap}
+-- Parts of a whole between two cuts, and what joining them keeps (own). Cut i stands after the first i places of the
+-- whole; the part from i to j has those after i up to j, so that the part from j on comes right after it.
+use Rattle.std.specs.Prelude.{ℕ, ◌≡◌, ◌⊎◌, List, [], ◌∷◌, Option, Some, None}
 use Rattle.chunk_join.specs.declared.joins.Why.{Why}
-use Rattle.chunk_join.specs.declared.joins.Why.TheVariants.{NotAdjacent, OtherSet}
-use Rattle.chunk_join.specs.declared.summaries.Place.{Place}
-use Rattle.chunk_join.specs.declared.summaries.Fate.TheVariants.{Taken}
-use Rattle.chunk_join.specs.declared.summaries.Message.{Message}
-use Rattle.chunk_join.specs.declared.summaries.Take.{Take}
-use Rattle.chunk_join.specs.Summaries.{Summary, last_of}
+use Rattle.chunk_join.specs.declared.joins.Why.TheVariants.{NotAdjacent, OtherSet, Memory}
 
--- the right part's last Receive, or the left part's where the right has none
-abbrev pub later_of : Option Place → Option Place → Option Place
-later_of left None = left
-later_of left (Some r) = Some r
+-- What joining keeps. `refusal` is the first reason against joining two values.
+pub record JoinedLaws {M W : Type 0} (IsPart : W → ℕ → ℕ → M → Type 0) (empty : M) (refusal : M → M → Option Why) (joined : M → M → M) : Type 0 where
+  -- the empty value changes nothing
+  pub left_unit : (x : M) → joined empty x ≡ x
+  pub right_unit : (x : M) → joined x empty ≡ x
+  pub left_fits : (x : M) → refusal empty x ≡ None
+  pub right_fits : (x : M) → refusal x empty ≡ None
+  -- between equal cuts a part is the empty value
+  pub empty_part : (whole : W) (i : ℕ) (x : M) → IsPart whole i i x → x ≡ empty
+  -- a part is one value
+  pub one : (whole : W) (i j : ℕ) (x y : M) → IsPart whole i j x → IsPart whole i j y → x ≡ y
+  -- parts that follow one another join, and give the part that they make up together
+  pub fit : (whole : W) (i j k : ℕ) (x y : M) → IsPart whole i j x → IsPart whole j k y → refusal x y ≡ None
+  pub part : (whole : W) (i j k : ℕ) (x y : M) → IsPart whole i j x → IsPart whole j k y → IsPart whole i k (joined x y)
 
--- this Receive, where it comes in a later tick than the Send
-abbrev pub after : Place → Option Place → Option Place
-after s None = None
-after s (Some r) = if nat_lt s.tick r.tick then Some r else None
+-- the values are the parts of a whole from cut i to cut k, each beginning where the one before ends
+abbrev pub AreParts : {M W : Type 0} → (W → ℕ → ℕ → M → Type 0) → M → W → ℕ → List M → ℕ → Type 0
+AreParts IsPart empty whole i [] k = IsPart whole i k empty
+AreParts IsPart empty whole i (x ∷ xs) k = (j : ℕ) × IsPart whole i j x × AreParts IsPart empty whole j xs k
 
--- whether one step comes before another: in an earlier tick, or in the same tick with a smaller number
-abbrev pub comes_before : Place → Place → Bool
-comes_before a b = if a.tick == b.tick then nat_lt a.no b.no else nat_lt a.tick b.tick
+-- these values joined, in their order, to what was joined so far
+abbrev pub join_after : {M : Type 0} → (M → M → M) → M → List M → M
+join_after joined all [] = all
+join_after joined all (x ∷ xs) = join_after joined (joined all x) xs
 
--- the fate of a message of the left part, where the right part takes it like this or not at all
-abbrev pub settled_by : List (Option Place) → Message → Option Take → Message
-settled_by last m None = m
-settled_by last m (Some t) = record { sent = m.sent; to = m.to; fate = Taken (after m.sent (later_of (last_of last t.by) t.before)) }
+-- nothing stands against joining them so
+abbrev pub FitAfter : {M : Type 0} → (M → M → Option Why) → (M → M → M) → M → List M → Type 0
+FitAfter refusal joined all [] = Unit {0}
+FitAfter refusal joined all (x ∷ xs) = (refusal all x ≡ None) × FitAfter refusal joined (joined all x) xs
 
-abbrev pub takes_of : Message → Take → Bool
-takes_of m t = t.sent.no == m.sent.no && t.sent.tick == m.sent.tick
+-- an answer gives the first reason, or want of memory where there is none
+abbrev pub IsRefusal : Why → Option Why → Type 0
+IsRefusal Memory first = first ≡ None
+IsRefusal NotAdjacent first = first ≡ Some NotAdjacent
+IsRefusal OtherSet first = first ≡ Some OtherSet
 
--- a message of the left part, whose last Receives are these, after what the right part takes
-abbrev pub settle : List Take → List (Option Place) → Message → Message
-settle taken last m = settled_by last m (find (takes_of m) taken)
-
--- a message after one take
-abbrev pub settle_with : List (Option Place) → Take → Message → Message
-settle_with last t m = if takes_of m t then settled_by last m (Some t) else m
-
--- whether the right part takes a message that was sent before the left part, too
-abbrev pub is_older : ℕ → Take → Bool
-is_older from t = nat_lt t.sent.tick from
-
--- a take of the right part, with the last Receive before it in either part
-abbrev pub reach_take : List (Option Place) → Take → Take
-reach_take last t = record { at = t.at; by = t.by; sent = t.sent; before = later_of (last_of last t.by) t.before }
-
-abbrev pub later_each : List (Option Place) → List (Option Place) → List (Option Place)
-later_each [] right = []
-later_each (x ∷ left) [] = x ∷ left
-later_each (x ∷ left) (y ∷ right) = later_of x y ∷ later_each left right
-
--- whether the first silence ends where the left part does, and the second goes on with it
-abbrev pub meets : ℕ → Gap → Gap → Bool
-meets seam w v = w.proc == v.proc && w.to == seam && v.from == seam + 1
-
--- whether a silence of the left part goes on in the right part
-abbrev pub goes_on : ℕ → List Gap → Gap → Bool
-goes_on seam right w = list_any (λ v. meets seam w v) right
-
-abbrev pub stops : ℕ → List Gap → Gap → Bool
-stops seam right w = not (goes_on seam right w)
-
-abbrev pub from_seam : Gap → Option Gap → Gap
-from_seam v None = v
-from_seam v (Some w) = record { proc = v.proc; from = w.from; to = v.to }
-
--- a silence of the right part, from where it began in the left part
-abbrev pub reach_back : ℕ → List Gap → Gap → Gap
-reach_back seam left v = from_seam v (find (λ w. meets seam w v) left)
-
--- both as one
-abbrev pub joined_parts : Summary → Summary → Summary
-joined_parts l r = record {
-  set = l.set;
-  from = l.from;
-  to = r.to;
-  sent = map (settle r.taken l.last) l.sent ++ r.sent;
-  taken = l.taken ++ map (reach_take l.last) (filter (is_older l.from) r.taken);
-  last = later_each l.last r.last;
-  silent = filter (stops l.to r.silent) l.silent ++ map (reach_back l.to l.silent) r.silent;
-}
-
--- where one is the empty part, the other one
-abbrev pub joined : Option Summary → Option Summary → Option Summary
-joined None right = right
-joined (Some l) None = Some l
-joined (Some l) (Some r) = Some (joined_parts l r)
-
--- the first reason against joining them
-abbrev pub parts_refusal : Summary → Summary → Option Why
-parts_refusal l r =
-    if not (l.to + 1 == r.from) then Some NotAdjacent
-    else if l.set == r.set then None
-    else Some OtherSet
-
-abbrev pub refusal : Option Summary → Option Summary → Option Why
-refusal None right = None
-refusal (Some l) None = None
-refusal (Some l) (Some r) = parts_refusal l r
+-- the answer is a refusal to join one of them to those before it, which fit
+abbrev pub RefusesAfter : {M : Type 0} → (M → M → Option Why) → (M → M → M) → Why → M → List M → Type 0
+RefusesAfter refusal joined why all [] = ⊥
+RefusesAfter refusal joined why all (x ∷ xs) = IsRefusal why (refusal all x) ⊎ ((refusal all x ≡ None) × RefusesAfter refusal joined why (joined all x) xs)

@@ -40,7 +40,7 @@ impl Joined for Digest {
     ghost use Rattle.std.specs.Prelude.{None};
     ghost use Rattle.chunk_join.specs.Summaries.{Whole};
     ghost use Rattle.chunk_join.specs.Digests.{IsDigestOf, joined_digests};
-    ghost use Rattle.chunk_join.specs.Joins.{refusal};
+    ghost use Rattle.chunk_join.specs.Parts.{refusal};
     ghost use Rattle.chunk_join.specs.Laws.DigestsJoined.{digests_join};
 
     ghost Whole = { Whole };

@@ -1,7 +1,7 @@
 //! Values that join in their order, as parts of a whole do.
 
 ghost use Rattle.std.specs.Prelude.{◌≡◌, ◌↔◌, None, ℕ, Option, IfOk, OnOk, IfErr, IsTrue};
-ghost use Rattle.chunk_join.specs.Parts.{JoinedLaws, AreParts, IsRefusal, join_after, FitAfter, RefusesAfter};
+ghost use Rattle.chunk_join.specs.Joins.{JoinedLaws, AreParts, IsRefusal, join_after, FitAfter, RefusesAfter};
 
 /// Why two values don't join, in the order in which the reasons are tested.
 #[derive(Clone, Copy, Debug, PartialEq, Eq)]

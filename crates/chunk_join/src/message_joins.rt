@@ -2,7 +2,7 @@
 
 ghost use Rattle.std.specs.Prelude.{◌≡◌, ◌+◌, ◌≤◌, ◌++◌, length, map, vec_len, vec_capacity};
 ghost use Rattle.chunk_join.specs.Summaries.{Rises, SentBefore};
-ghost use Rattle.chunk_join.specs.Joins.{settle, settle_with, takes_of};
+ghost use Rattle.chunk_join.specs.Parts.{settle, settle_with, takes_of};
 
 use crate::summaries::{Fate, Message, Place, Take, after, comes_before, last_of, later_of};
 

@@ -1,8 +1,8 @@
 //! The summary of a part of a trace that has at least one tick, and two that are joined.
 
 ghost use Rattle.std.specs.Prelude.{◌≡◌, ◌+◌, ◌++◌, ◌≤◌, ◌<◌, length, map, filter, drop, vec_len, vec_capacity, None, OnOk, IfOk, IfErr};
-ghost use Rattle.chunk_join.specs.Parts.{IsRefusal};
-ghost use Rattle.chunk_join.specs.Joins.{parts_refusal, joined_parts, is_older, reach_take, later_each};
+ghost use Rattle.chunk_join.specs.Joins.{IsRefusal};
+ghost use Rattle.chunk_join.specs.Parts.{parts_refusal, joined_parts, is_older, reach_take, later_each};
 
 use crate::joins::{JoinRefused, Why};
 use crate::message_joins::join_messages;
@@ -39,7 +39,7 @@ impl Model for Part {
 }
 
 impl Part {
-    ghost use Rattle.chunk_join.specs.Joins.{parts_refusal};
+    ghost use Rattle.chunk_join.specs.Parts.{parts_refusal};
 
     /// An equal part.
     pub(crate) fn copy(&self, alloc: Global) -> Result<Part, AllocError>

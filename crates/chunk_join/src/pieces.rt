@@ -26,7 +26,7 @@ impl Model for Piece {
 impl Joined for Piece {
     ghost use Rattle.std.specs.Prelude.{None};
     ghost use Rattle.chunk_join.specs.Summaries.{Whole, IsPiece};
-    ghost use Rattle.chunk_join.specs.Joins.{refusal, joined};
+    ghost use Rattle.chunk_join.specs.Parts.{refusal, joined};
     ghost use Rattle.chunk_join.specs.Laws.PiecesJoined.{pieces_join};
 
     ghost Whole = { Whole };

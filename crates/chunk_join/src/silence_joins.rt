@@ -4,7 +4,7 @@ ghost use Rattle.std.specs.Prelude.{◌≡◌, ◌+◌, ◌++◌, ◌≤◌, ◌
 ghost use Rattle.step_trace.specs.declared.rows.Gap.{Gap};
 ghost use Rattle.step_trace.specs.declared.traces.TheConstants.{MAX_TICKS};
 ghost use Rattle.chunk_join.specs.Summaries.{Rises, EndsBefore};
-ghost use Rattle.chunk_join.specs.Joins.{meets, goes_on, stops, reach_back};
+ghost use Rattle.chunk_join.specs.Parts.{meets, goes_on, stops, reach_back};
 
 use step_trace::Gap;
 

@@ -5,7 +5,7 @@
 ghost use Rattle.std.specs.Prelude.{◌≡◌, ◌≤◌, length};
 ghost use Rattle.step_trace.specs.Ticks.{tick_of};
 ghost use Rattle.chunk_join.specs.Summaries.{last_of};
-ghost use Rattle.chunk_join.specs.Joins.{later_of, after, comes_before};
+ghost use Rattle.chunk_join.specs.Parts.{later_of, after, comes_before};
 
 use step_trace::Trace;
 

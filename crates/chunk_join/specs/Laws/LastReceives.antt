@@ -13,7 +13,7 @@ use Rattle.step_trace.proofs.TickOrder.{ticks_rise, one_in_tick}
 use Rattle.suffix_staircase.proofs.ReceivesLowered.{same_step}
 use Rattle.chunk_join.specs.declared.summaries.Place.{Place}
 use Rattle.chunk_join.specs.Summaries.{IsLastReceive}
-use Rattle.chunk_join.specs.Joins.{later_of, after}
+use Rattle.chunk_join.specs.Parts.{later_of, after}
 
 -- over a seam: the last Receive after it, or that before it where there is none after
 pub IsLastReceive-join : (t : Recorded) (q low mid high : ℕ) (x y : Option Place) → low ≤ mid → mid < high → IsLastReceive t q low (mid + 1) x → IsLastReceive t q mid high y → IsLastReceive t q low high (later_of x y)

@@ -7,9 +7,9 @@ use Rattle.step_trace.specs.Ticks.{IsTrace}
 use Rattle.chunk_join.specs.declared.summaries.Place.{Place}
 use Rattle.chunk_join.specs.declared.summaries.Message.{Message}
 use Rattle.chunk_join.specs.declared.summaries.Take.{Take}
-use Rattle.chunk_join.specs.Parts.{JoinedLaws}
+use Rattle.chunk_join.specs.Joins.{JoinedLaws}
 use Rattle.chunk_join.specs.Summaries.{Summary, IsSummary, IsListing, AreLastReceives, IsLastReceive, last_of, IsPiece, Whole, SentBefore, TakenBefore, EndsBefore, IsSent, IsTake, IsLongest}
-use Rattle.chunk_join.specs.Joins.{later_of, later_each, stops, reach_back, joined_parts, joined, refusal}
+use Rattle.chunk_join.specs.Parts.{later_of, later_each, stops, reach_back, joined_parts, joined, refusal}
 use Rattle.chunk_join.specs.Laws.Listings.{IsListing-one}
 use Rattle.chunk_join.specs.Laws.LastReceives.{IsLastReceive-join, IsLastReceive-one}
 use Rattle.chunk_join.specs.Laws.TakenIds.{joined_taken}

@@ -14,7 +14,7 @@ use Rattle.chunk_join.specs.declared.summaries.Fate.TheVariants.{Open, Taken}
 use Rattle.chunk_join.specs.declared.summaries.Message.{Message}
 use Rattle.chunk_join.specs.declared.summaries.Take.{Take}
 use Rattle.chunk_join.specs.Summaries.{Summary, IsSummary, IsListing, IsSent, IsFate, IsTake, SentBefore, IsLastReceive, last_of}
-use Rattle.chunk_join.specs.Joins.{later_of, after, settle, settled_by, takes_of}
+use Rattle.chunk_join.specs.Parts.{later_of, after, settle, settled_by, takes_of}
 use Rattle.chunk_join.specs.Laws.Listings.{Contains-found, none_found, Rises-append, Rises-map}
 use Rattle.chunk_join.specs.Laws.LastReceives.{IsLastReceive-after, IsLastReceive-one, IsLastReceive-some}
 use Rattle.chunk_join.specs.Laws.TakenIds.{before_take}

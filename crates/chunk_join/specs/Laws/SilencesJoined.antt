@@ -11,7 +11,7 @@ use Rattle.step_trace.specs.Ticks.{StepsIn}
 use Rattle.step_trace.proofs.BoundDecisions.{steps_in_or_not}
 use Rattle.step_trace.proofs.ListMembers.{Contains-map, Contains-from_map, Contains-filter, Contains-from_filter, list_any-found}
 use Rattle.chunk_join.specs.Summaries.{IsLongest, IsListing, EndsBefore}
-use Rattle.chunk_join.specs.Joins.{meets, stops, reach_back, from_seam}
+use Rattle.chunk_join.specs.Parts.{meets, stops, reach_back, from_seam}
 use Rattle.chunk_join.specs.Laws.Listings.{Contains-found, none_found, none_passes, Rises-append, Rises-filter, Rises-map}
 
 -- Silences

@@ -9,7 +9,7 @@ use Rattle.step_trace.proofs.ListMembers.{Contains-map, Contains-from_map, Conta
 use Rattle.chunk_join.specs.declared.summaries.Place.{Place}
 use Rattle.chunk_join.specs.declared.summaries.Take.{Take}
 use Rattle.chunk_join.specs.Summaries.{Summary, IsSummary, IsListing, IsTake, TakenBefore, IsLastReceive, last_of}
-use Rattle.chunk_join.specs.Joins.{later_of, is_older, reach_take}
+use Rattle.chunk_join.specs.Parts.{later_of, is_older, reach_take}
 use Rattle.chunk_join.specs.Laws.Listings.{Rises-append, Rises-map, Rises-filter}
 use Rattle.chunk_join.specs.Laws.LastReceives.{IsLastReceive-join, IsLastReceive-one, IsLastReceive-some}
 

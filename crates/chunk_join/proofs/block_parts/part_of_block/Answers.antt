@@ -1,6 +1,6 @@
 use Rattle.std.proofs.Common.{◌≡◌, ◌<◌, ◌-◌, filter, refl, arith, rules}
 use Rattle.step_trace.specs.Ticks.{IsTrace}
-use Rattle.chunk_join.specs.Joins.{is_older}
+use Rattle.chunk_join.specs.Parts.{is_older}
 use Rattle.chunk_join.specs.BlockSteps.{AreFates, AreFated}
 use Rattle.chunk_join.proofs.BlockParts.{IsSummary-block}
 use Rattle.chunk_join.proofs.Consistency.{IsConsistent-summary}

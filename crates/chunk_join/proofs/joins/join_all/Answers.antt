@@ -1,6 +1,6 @@
 use Rattle.std.proofs.Common.{subst, sym, arith}
 use Rattle.std.proofs.lemmas.Grind.{common_steps}
-use Rattle.chunk_join.proofs.JoinedParts.{IsPart-all, Memory-all}
+use Rattle.chunk_join.proofs.JoinedInOrder.{IsPart-all, Memory-all}
 use Rattle.chunk_join.proofs.joins.join_all.Goals as goal
 
 pub returns-clause-value : goal.returns-clause-value

@@ -1,4 +1,4 @@
-use Rattle.chunk_join.proofs.JoinedParts.{StandsFor}
+use Rattle.chunk_join.proofs.JoinedInOrder.{StandsFor}
 use Rattle.chunk_join.proofs.joins.join_all.Given as goal
 
 abbrev pub invariant-loop-part : goal.invariant-loop-part

@@ -1,5 +1,5 @@
 use Rattle.std.proofs.Common.{◌≡◌, ◌++◌, ◌+◌, map, take, vec_len, vec_capacity}
-use Rattle.chunk_join.specs.Joins.{settle}
+use Rattle.chunk_join.specs.Parts.{settle}
 use Rattle.chunk_join.proofs.message_joins.join_messages.Given as goal
 
 abbrev pub invariant-loop-message : goal.invariant-loop-message

@@ -1,6 +1,6 @@
 use Rattle.std.proofs.Common.{◌≤◌, ◌∙◌, length, map, ap, sym, subst, arith, drop_of_length-le}
 use Rattle.chunk_join.specs.Summaries.{Rises, SentBefore}
-use Rattle.chunk_join.specs.Joins.{settle}
+use Rattle.chunk_join.specs.Parts.{settle}
 use Rattle.chunk_join.proofs.SettledMessages.{map-settle_none, settled_back, settled_rise}
 use Rattle.chunk_join.proofs.message_joins.settle_all.Goals as goal
 

@@ -1,5 +1,5 @@
 use Rattle.std.proofs.Common.{◌≡◌, ◌≤◌, length, map, drop}
-use Rattle.chunk_join.specs.Joins.{settle}
+use Rattle.chunk_join.specs.Parts.{settle}
 use Rattle.chunk_join.proofs.message_joins.settle_all.Given as goal
 
 abbrev pub invariant-loop-k : goal.invariant-loop-k

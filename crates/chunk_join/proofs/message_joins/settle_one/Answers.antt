@@ -1,7 +1,7 @@
 use Rattle.std.proofs.Common.{rules, ap, ◌∙◌}
 use Rattle.std.proofs.lemmas.List.{get_or_default}
 use Rattle.std.proofs.lemmas.List.Sorted.{IsPartitionPoint-from_clause}
-use Rattle.chunk_join.specs.Joins.{comes_before, settle_with}
+use Rattle.chunk_join.specs.Parts.{comes_before, settle_with}
 use Rattle.chunk_join.proofs.SettledMessages.{parted_by_place, settled_at, settled_none}
 use Rattle.chunk_join.proofs.message_joins.settle_one.Goals as goal
 

@@ -1,5 +1,5 @@
 use Rattle.std.proofs.Common.{◌≡◌, ◌++◌, ◌+◌, ◌≤◌, map, filter, take, vec_len, vec_capacity}
-use Rattle.chunk_join.specs.Joins.{is_older, reach_take}
+use Rattle.chunk_join.specs.Parts.{is_older, reach_take}
 use Rattle.chunk_join.proofs.parts.append_older.Given as goal
 
 abbrev pub invariant-loop-take : goal.invariant-loop-take

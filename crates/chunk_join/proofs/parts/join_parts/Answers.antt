@@ -1,7 +1,7 @@
 use Rattle.std.proofs.Common.{◌≡◌, ◌∙◌, ◌+◌, ◌++◌, ap, refl, List, None, take, map, filter, Contains, subst, sym, rules}
 use Rattle.step_trace.specs.declared.rows.Gap.{Gap}
 use Rattle.chunk_join.specs.Summaries.{Summary, IsConsistent}
-use Rattle.chunk_join.specs.Joins.{parts_refusal, settle, reach_take, is_older, later_each, stops, reach_back}
+use Rattle.chunk_join.specs.Parts.{parts_refusal, settle, reach_take, is_older, later_each, stops, reach_back}
 use Rattle.chunk_join.specs.Laws.PiecesJoined.{same_summary}
 use Rattle.chunk_join.proofs.Consistency.{IsConsistent-joined, seam_of}
 use Rattle.chunk_join.proofs.parts.join_parts.Goals as goal

@@ -1,7 +1,7 @@
 use Rattle.std.proofs.Common.{◌<◌, ◌∙◌, length, get_or, Option, None, arith, ap, sym, refl}
 use Rattle.std.proofs.lemmas.List.{length-set, get_or_default}
 use Rattle.chunk_join.specs.declared.summaries.Place.{Place}
-use Rattle.chunk_join.specs.Joins.{later_of}
+use Rattle.chunk_join.specs.Parts.{later_of}
 use Rattle.chunk_join.proofs.LastEntries.{later_each-nil, later_each-more}
 use Rattle.chunk_join.proofs.parts.replace_last.Goals as goal
 

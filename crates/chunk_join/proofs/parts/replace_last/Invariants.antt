@@ -1,5 +1,5 @@
 use Rattle.std.proofs.Common.{◌≡◌, length, take}
-use Rattle.chunk_join.specs.Joins.{later_each}
+use Rattle.chunk_join.specs.Parts.{later_each}
 use Rattle.chunk_join.proofs.parts.replace_last.Given as goal
 
 abbrev pub invariant-loop-p : goal.invariant-loop-p

@@ -1,5 +1,5 @@
 use Rattle.std.proofs.Common.{◌≡◌, ◌++◌, ◌+◌, map, take, vec_len, vec_capacity}
-use Rattle.chunk_join.specs.Joins.{reach_back}
+use Rattle.chunk_join.specs.Parts.{reach_back}
 use Rattle.chunk_join.proofs.silence_joins.append_reached.Given as goal
 
 abbrev pub invariant-loop-silence : goal.invariant-loop-silence

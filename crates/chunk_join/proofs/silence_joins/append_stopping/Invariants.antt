@@ -1,5 +1,5 @@
 use Rattle.std.proofs.Common.{◌≡◌, ◌++◌, ◌+◌, ◌≤◌, filter, take, vec_len, vec_capacity}
-use Rattle.chunk_join.specs.Joins.{stops}
+use Rattle.chunk_join.specs.Parts.{stops}
 use Rattle.chunk_join.proofs.silence_joins.append_stopping.Given as goal
 
 abbrev pub invariant-loop-silence : goal.invariant-loop-silence

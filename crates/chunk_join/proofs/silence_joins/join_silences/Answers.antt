@@ -1,5 +1,5 @@
 use Rattle.std.proofs.Common.{◌++◌, map, filter, ap, ◌∙◌}
-use Rattle.chunk_join.specs.Joins.{stops, reach_back}
+use Rattle.chunk_join.specs.Parts.{stops, reach_back}
 use Rattle.chunk_join.proofs.SeamSilences.{join_from}
 use Rattle.chunk_join.proofs.silence_joins.join_silences.Goals as goal
 

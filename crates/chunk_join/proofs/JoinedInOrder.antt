@@ -2,7 +2,7 @@
 use Rattle.std.proofs.Common.{ℕ, ◌≡◌, List, [], ◌∷◌, Option, None, subst, sym, ◌∙◌, refl, inl, inr}
 use Rattle.chunk_join.specs.declared.joins.Why.{Why}
 use Rattle.chunk_join.specs.declared.joins.Why.TheVariants.{NotAdjacent, OtherSet, Memory}
-use Rattle.chunk_join.specs.Parts.{JoinedLaws, AreParts, join_after, FitAfter, RefusesAfter, IsRefusal}
+use Rattle.chunk_join.specs.Joins.{JoinedLaws, AreParts, join_after, FitAfter, RefusesAfter, IsRefusal}
 
 pub IsPart-after : {M W : Type 0} (IsPart : W → ℕ → ℕ → M → Type 0) (empty : M) (refusal : M → M → Option Why) (joined : M → M → M) → JoinedLaws IsPart empty refusal joined
     → (whole : W) (h i k : ℕ) (all : M) (xs : List M) → IsPart whole h i all → AreParts IsPart empty whole i xs k → IsPart whole h k (join_after joined all xs)
