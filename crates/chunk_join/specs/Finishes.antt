@@ -4,14 +4,15 @@ use Rattle.std.specs.Prelude.{ℕ, ◌≡◌, ◌+◌, ◌-◌, ◌<◌, ◌≤�
 use Rattle.step_trace.specs.declared.rows.Gap.{Gap}
 use Rattle.step_trace.specs.Ticks.{IsTrace}
 use Rattle.step_trace.specs.Traces.{Recorded}
+use Rattle.step_trace.specs.Cuts.{IsCutAt}
 use Rattle.suffix_staircase.specs.declared.levels.Level.{Level}
 use Rattle.suffix_staircase.specs.Levels.{CanStandBefore}
-use Rattle.suffix_staircase.specs.Analysis.{KnowsMissesAfter, KnowsGaps, AreLevelsFrom, with_miss, with_gap}
+use Rattle.suffix_staircase.specs.Analysis.{KnowsMissesAfter, KnowsGaps, AreLevels, AreLevelsFrom, with_miss, with_gap}
 use Rattle.chunk_join.specs.declared.summaries.Place.{Place}
 use Rattle.chunk_join.specs.declared.summaries.Fate.TheVariants.{Open, Taken}
 use Rattle.chunk_join.specs.declared.summaries.Fate.{Fate}
 use Rattle.chunk_join.specs.declared.summaries.Message.{Message}
-use Rattle.chunk_join.specs.Summaries.{Summary, last_of}
+use Rattle.chunk_join.specs.Summaries.{Summary, Whole, last_of}
 use Rattle.chunk_join.specs.Sufficient.{Suffices}
 use Rattle.chunk_join.specs.Parts.{after}
 
@@ -19,6 +20,10 @@ use Rattle.chunk_join.specs.Parts.{after}
 abbrev pub BeginsWithFirst : Option Summary → Type 0
 BeginsWithFirst None = Unit {0}
 BeginsWithFirst (Some s) = s.from ≡ 1
+
+-- these are the levels of the trace as if it ended at tick k
+abbrev pub AreLevelsUntil : Whole → ℕ → List Level → Type 0
+AreLevelsUntil whole k levels = (cut : Recorded) → IsTrace cut → IsCutAt whole.trace k cut → AreLevels whole.set cut levels
 
 -- the last of the first n
 abbrev pub last_at : {X : Type 0} → List X → ℕ → Option X

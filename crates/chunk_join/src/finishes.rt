@@ -11,8 +11,7 @@ ghost use Rattle.chunk_join.specs.declared.summaries.Message.{Message};
 ghost use Rattle.chunk_join.specs.declared.finishes.FinishError.TheVariants.{NotWhole};
 ghost use Rattle.chunk_join.specs.Summaries.{Whole, IsPiece};
 ghost use Rattle.chunk_join.specs.Sufficient.{Suffices};
-ghost use Rattle.chunk_join.specs.Prefixes.{prefix};
-ghost use Rattle.chunk_join.specs.Finishes.{BeginsWithFirst, last_at, missed, with_missed, with_silence, KeepsMisses, IsGoneOver, IsQuietFrom};
+ghost use Rattle.chunk_join.specs.Finishes.{BeginsWithFirst, AreLevelsUntil, last_at, missed, with_missed, with_silence, KeepsMisses, IsGoneOver, IsQuietFrom};
 
 use crate::parts::Part;
 use crate::pieces::Piece;
@@ -31,13 +30,13 @@ pub enum FinishError {
 }
 
 impl Piece {
-    /// The stairs of a piece that begins with tick 1: those of `Stairs::of_trace` for the trace up to the piece's
+    /// The stairs of a piece that begins with tick 1: those of `Stairs::of_trace` for the trace cut at the piece's
     /// end. The unit has no levels.
     ///
     /// It takes time that grows with the piece's ticks, messages and silences. Of pieces that were joined though they
     /// are not of one trace it gives some stairs.
     pub fn finish(&self, alloc: Global) -> Result<Stairs, FinishError>
-        ensures stairs { IfOk result (λ stairs. (whole : Whole) (k : ℕ) → IsPiece whole 0 k self.now → AreLevels whole.set (prefix whole.trace k) stairs) }
+        ensures stairs { IfOk result (λ stairs. (whole : Whole) (k : ℕ) → IsPiece whole 0 k self.now → AreLevelsUntil whole k stairs) }
         ensures whole { IfOk result (λ stairs. (whole : Whole) → IsPiece whole 0 whole.trace.last self.now → AreLevels whole.set whole.trace stairs) }
         ensures begins { OnOk result (BeginsWithFirst self.now) }
         ensures not_whole { IfErr result (λ why. (why ≡ NotWhole) ↔ ¬ BeginsWithFirst self.now) }
