@@ -15,9 +15,9 @@ use Rattle.step_trace.proofs.ListMembers.{Contains-nil}
 use Rattle.suffix_staircase.proofs.ReceivesLowered.{same_step}
 use Rattle.chunk_join.specs.declared.summaries.Place.{Place}
 use Rattle.chunk_join.specs.declared.summaries.Take.{Take}
-use Rattle.chunk_join.specs.Summaries.{IsListing, IsLastReceive, TakenBefore, last_of}
+use Rattle.chunk_join.specs.Summaries.{IsListing, IsAnyTake, IsLastReceive, TakenBefore, last_of}
 use Rattle.chunk_join.specs.TickSteps.{AreStepsBefore}
-use Rattle.chunk_join.specs.BlockSteps.{IsAnyTake, IsAnyTakeBy, IsLastBy, AreLastBy, take_of, ids_of, ids_at}
+use Rattle.chunk_join.specs.BlockSteps.{IsAnyTakeBy, IsLastBy, AreLastBy, take_of, ids_of, ids_at}
 use Rattle.chunk_join.specs.Laws.LastReceives.{IsLastReceive-one}
 use Rattle.chunk_join.proofs.ListingGrowth.{IsListing-none, IsListing-same, IsListing-push}
 use Rattle.chunk_join.proofs.BlockMessages.{step_early, last_at_step, last_more}

@@ -95,9 +95,9 @@ sent t p k a set m h =
 -- nothing is sent before the first tick
 no_take : (t : Recorded) → IsTrace t → (set k : ℕ) (x : Take) → IsTake set t 0 k x → ⊥
 no_take t sound set k x h =
-    let sent = (sound.steps.earlier x.at.no x.sent.no h.takes.0 h.takes.1 h.takes.2).1 in
+    let sent = (sound.steps.earlier x.at.no x.sent.no h.own.takes.0 h.own.takes.1 h.own.takes.2).1 in
     let low = (sound.time.inside x.sent.no _ sent.1).0 in
-    let place = h.sent_place in
+    let place = h.own.sent_place in
     let early = h.earlier in
     omega (arith, low, place, early)
 

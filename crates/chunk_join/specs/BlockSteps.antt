@@ -5,7 +5,7 @@ use Rattle.step_trace.specs.declared.processors.TheConstants.{MAX_MEMBER}
 use Rattle.step_trace.specs.declared.rows.Gap.{Gap}
 use Rattle.step_trace.specs.declared.steps.Step.{Step}
 use Rattle.step_trace.specs.Processors.{has_proc}
-use Rattle.step_trace.specs.Traces.{Recorded, step_at, TakesAt, IsReceiveOf, IsStepOf}
+use Rattle.step_trace.specs.Traces.{Recorded, step_at, IsReceiveOf, IsStepOf}
 use Rattle.step_trace.specs.Steps.{act_ids}
 use Rattle.step_trace.specs.Ticks.{tick_of, StepsIn}
 use Rattle.step_trace.specs.Bounds.{IsMessage}
@@ -15,7 +15,7 @@ use Rattle.chunk_join.specs.declared.summaries.Fate.TheVariants.{Open, Taken}
 use Rattle.chunk_join.specs.declared.summaries.Fate.{Fate}
 use Rattle.chunk_join.specs.declared.summaries.Message.{Message}
 use Rattle.chunk_join.specs.declared.summaries.Take.{Take}
-use Rattle.chunk_join.specs.Summaries.{IsPlace, IsLastReceive, IsLongest, IsListing, SentBefore, EndsBefore, last_of}
+use Rattle.chunk_join.specs.Summaries.{IsPlace, IsAnyTake, IsLongest, IsListing, SentBefore, EndsBefore, last_of}
 use Rattle.chunk_join.specs.Parts.{after}
 
 -- a message between members that is sent after cut i by a step up to k, without its fate
@@ -71,18 +71,7 @@ pub record AreLastBy (set : ℕ) (trace : Recorded) (i k : ℕ) (last : List (Op
   pub members : (p : ℕ) → IsTrue (has_proc set p) → IsLastBy trace p i k (last_of last p)
   pub others : (p : ℕ) → has_proc set p ≡ false → last_of last p ≡ None
 
--- a message, sent whenever, that a member takes after cut i, with the member's last Receive before, if that is after
--- cut i
-pub record IsAnyTake (set : ℕ) (trace : Recorded) (i : ℕ) (t : Take) : Type 0 where
-  pub member : IsTrue (has_proc set t.by)
-  pub receive : IsReceiveOf trace.steps t.at.no t.by
-  pub takes : TakesAt trace.steps t.at.no t.sent.no
-  pub at_place : IsPlace trace t.at
-  pub sent_place : IsPlace trace t.sent
-  pub after : i < t.at.tick
-  pub before : IsLastReceive trace t.by i t.at.tick t.before
-
--- one by a step up to k, or by the next step among these ids
+-- a take by a step up to k, or by the next step among these ids
 pub record IsAnyTakeBy (set : ℕ) (trace : Recorded) (i k : ℕ) (ids : List ℕ) (t : Take) : Type 0 where
   pub own : IsAnyTake set trace i t
   pub until : (t.at.no ≤ k) ⊎ ((t.at.no ≡ k + 1) × Contains ids t.sent.no)

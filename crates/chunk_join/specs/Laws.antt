@@ -3,6 +3,7 @@ pub mod Listings
 pub mod Thinned
 pub mod LastReceives
 pub mod TakenIds
+pub mod SettledFates
 pub mod SentMessages
 pub mod SilencesJoined
 pub mod PiecesJoined

@@ -47,18 +47,22 @@ pub record IsSent (set : ℕ) (trace : Recorded) (i j : ℕ) (m : Message) : Typ
   pub until : m.sent.tick ≤ j
   pub fate : IsFate trace m.sent m.to j m.fate
 
--- a message sent before the part, by whomever, that a member takes in it, with the last Receive of that member
--- before, if that is in the part
-pub record IsTake (set : ℕ) (trace : Recorded) (i j : ℕ) (t : Take) : Type 0 where
+-- a message, sent whenever and by whomever, that a member takes after cut i, with the last Receive of that member before,
+-- if that is after cut i
+pub record IsAnyTake (set : ℕ) (trace : Recorded) (i : ℕ) (t : Take) : Type 0 where
   pub member : IsTrue (has_proc set t.by)
   pub receive : IsReceiveOf trace.steps t.at.no t.by
   pub takes : TakesAt trace.steps t.at.no t.sent.no
   pub at_place : IsPlace trace t.at
   pub sent_place : IsPlace trace t.sent
   pub after : i < t.at.tick
+  pub before : IsLastReceive trace t.by i t.at.tick t.before
+
+-- one that was sent before the part, and is taken in it
+pub record IsTake (set : ℕ) (trace : Recorded) (i j : ℕ) (t : Take) : Type 0 where
+  pub own : IsAnyTake set trace i t
   pub until : t.at.tick ≤ j
   pub earlier : t.sent.tick ≤ i
-  pub before : IsLastReceive trace t.by i t.at.tick t.before
 
 -- a member is silent from tick `from` to tick `to` of the part, and in the part no longer
 pub record IsLongest (set : ℕ) (trace : Recorded) (i j : ℕ) (w : Gap) : Type 0 where

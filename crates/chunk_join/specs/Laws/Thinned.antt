@@ -149,9 +149,9 @@ pub filter-alike : {X : Type 0} (p q : X → Bool) (xs : List X) → ((x : X) �
 filter-alike p q [] h = refl
 filter-alike {X} p q (x ∷ xs) h = ap₂ (λ (b : Bool) (ys : List X). cond b (x ∷ ys) ys) (h x) (filter-alike p q xs h)
 
-pub map-alike : {X Y : Type 0} (f g : X → Y) (xs : List X) → ((x : X) → f x ≡ g x) → map f xs ≡ map g xs
+pub map-alike : {X Y : Type 0} (f g : X → Y) (xs : List X) → ((x : X) → Contains xs x → f x ≡ g x) → map f xs ≡ map g xs
 map-alike f g [] h = refl
-map-alike {X} {Y} f g (x ∷ xs) h = ap₂ (λ (y : Y) (ys : List Y). y ∷ ys) (h x) (map-alike f g xs h)
+map-alike f g (x ∷ xs) h = ap₂ (λ y ys. y ∷ ys) (h x (Contains-head x xs)) (map-alike f g xs (λ y k. h y (Contains-rest x y xs k)))
 
 -- THE LEMMA for a map and for a filter
 pub thinned-map : {X Y : Type 0} (pending : X → Bool) (weight : X → ℕ) (waits : Y → Bool) (heavy : Y → ℕ) (f : X → Y) (xs : List X) (ys : List Y)
