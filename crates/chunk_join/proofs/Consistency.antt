@@ -1,5 +1,5 @@
 -- What holds of the lists of every summary, and is kept as two are joined.
-use Rattle.std.proofs.Common.{ℕ, ◌≡◌, ◌+◌, ◌<◌, ◌≤◌, inl, inr, List, map, filter, find, not, cond, ◌==◌, Bool, true, false, Option, Some, None, Contains, refl, sym, ap, subst, ◌∙◌, arith}
+use Rattle.std.proofs.Common.{ℕ, ◌≡◌, ◌+◌, ◌<◌, ◌≤◌, inl, inr, List, map, filter, find, not, cond, ◌==◌, Bool, true, false, Some, None, Contains, refl, sym, ap, subst, ◌∙◌, arith}
 use Rattle.std.proofs.lemmas.Bool.{eqb-true}
 use Rattle.std.proofs.lemmas.List.Elements.{Contains-append_cases}
 use Rattle.step_trace.specs.declared.rows.Gap.{Gap}
@@ -10,30 +10,12 @@ use Rattle.chunk_join.specs.declared.joins.Why.TheVariants.{NotAdjacent, OtherSe
 use Rattle.chunk_join.specs.declared.summaries.Place.{Place}
 use Rattle.chunk_join.specs.declared.summaries.Message.{Message}
 use Rattle.chunk_join.specs.Summaries.{Summary, IsSummary, IsConsistent, SentBefore, EndsBefore}
-use Rattle.chunk_join.specs.Parts.{settle, stops, reach_back, from_seam, takes_of, meets, parts_refusal, joined_parts}
+use Rattle.chunk_join.specs.Parts.{settle, stops, reach_back, takes_of, meets, parts_refusal, joined_parts}
 use Rattle.chunk_join.specs.Laws.Listings.{Rises-append, Rises-map, Rises-filter}
 use Rattle.chunk_join.specs.Laws.SentMessages.{settled_sent}
+use Rattle.chunk_join.specs.Laws.SilencesJoined.{from_seam-to, reach_back-order}
 use Rattle.chunk_join.specs.Laws.PiecesJoined.{length-later_each}
 use Rattle.chunk_join.proofs.SettledMessages.{settled_rise}
-
-from_seam-proc : (v : Gap) (o : Option Gap) → (from_seam v o).proc ≡ v.proc
-from_seam-proc v None = refl
-from_seam-proc v (Some w) = refl
-
-from_seam-to : (v : Gap) (o : Option Gap) → (from_seam v o).to ≡ v.to
-from_seam-to v None = refl
-from_seam-to v (Some w) = refl
-
-reach_back-order : (seam : ℕ) (left : List Gap) (x y : Gap) → EndsBefore x y → EndsBefore (reach_back seam left x) (reach_back seam left y)
-reach_back-order seam left x y b =
-    let ex = from_seam-to x (find (λ w. meets seam w x) left) in
-    let ey = from_seam-to y (find (λ w. meets seam w y) left) in
-    let px = from_seam-proc x (find (λ w. meets seam w x) left) in
-    let py = from_seam-proc y (find (λ w. meets seam w y) left) in
-    elim b [
-      | inl l ↦ inl (omega (arith, l, ex, ey))
-      | inr e ↦ inr (ex ∙ e.0 ∙ sym ey, (let l = e.1 in omega (arith, l, px, py)))
-    ]
 
 pub IsConsistent-joined : (l r : Summary) → l.to + 1 ≡ r.from → IsConsistent l → IsConsistent r → IsConsistent (joined_parts l r)
 IsConsistent-joined l r seam a b = record {

@@ -1,15 +1,15 @@
 -- The digest of a part of a trace: its summary without what later messages and silences make needless (own). A message
 -- that no Receive of the part takes stays, for its fate is open; so does a silence that reaches the part's first or last
 -- tick, for it may go on beyond. Of the others only those stay that are longer than all that come later.
-use Rattle.std.specs.Prelude.{ℕ, ◌≡◌, ◌+◌, ◌-◌, ◌<◌, ◌≤◌, ◌||◌, Bool, true, false, Option, Some, None, nat_le}
+use Rattle.std.specs.Prelude.{ℕ, ◌≡◌, ◌+◌, ◌-◌, ◌||◌, Bool, true, false, Option, Some, None, nat_le}
 use Rattle.step_trace.specs.declared.rows.Gap.{Gap}
 use Rattle.step_trace.specs.Traces.{Recorded}
 use Rattle.chunk_join.specs.declared.summaries.Place.{Place}
 use Rattle.chunk_join.specs.declared.summaries.Fate.{Fate}
 use Rattle.chunk_join.specs.declared.summaries.Fate.TheVariants.{Open, Taken}
 use Rattle.chunk_join.specs.declared.summaries.Message.{Message}
-use Rattle.chunk_join.specs.Summaries.{Summary, IsSummary, Whole, IsListing, IsSent, IsLongest, SentBefore, EndsBefore}
-use Rattle.chunk_join.specs.Parts.{joined_parts}
+use Rattle.chunk_join.specs.Summaries.{Summary, IsSummary, Whole, IsPartBy, IsListing, IsSent, IsLongest, SentBefore, EndsBefore}
+use Rattle.chunk_join.specs.Parts.{joined_parts, joined_by}
 use Rattle.chunk_join.specs.Thinning.{thinned, IsUndominated}
 
 abbrev pub is_open_fate : Fate → Bool
@@ -56,16 +56,12 @@ digest s = record {
 abbrev pub IsDigest : ℕ → Recorded → ℕ → ℕ → Summary → Type 0
 IsDigest set trace i j d = (s : Summary) × IsSummary set trace i j s × (d ≡ digest s)
 
--- the part of a trace from cut i to cut j: its digest, or none where the cuts are one
+-- the part, by its digest
 abbrev pub IsDigestOf : Whole → ℕ → ℕ → Option Summary → Type 0
-IsDigestOf whole i j None = i ≡ j
-IsDigestOf whole i j (Some d) = (i < j) × (j ≤ whole.trace.last) × IsDigest whole.set whole.trace i j d
+IsDigestOf = IsPartBy IsDigest
 
--- both as one; where one is the empty part, the other one
 abbrev pub joined_digests : Option Summary → Option Summary → Option Summary
-joined_digests None right = right
-joined_digests (Some l) None = Some l
-joined_digests (Some l) (Some r) = Some (digest (joined_parts l r))
+joined_digests = joined_by (λ l r. digest (joined_parts l r))
 
 -- What a digest keeps, said of the trace: of the messages that are sent in the part and of its longest silences those
 -- that are undominated, and no others.

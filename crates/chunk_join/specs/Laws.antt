@@ -6,5 +6,6 @@ pub mod TakenIds
 pub mod SettledFates
 pub mod SentMessages
 pub mod SilencesJoined
+pub mod PartsJoined
 pub mod PiecesJoined
 pub mod DigestsJoined

@@ -84,11 +84,14 @@ joined_parts l r = record {
   silent = filter (stops l.to r.silent) l.silent ++ map (reach_back l.to l.silent) r.silent;
 }
 
--- where one is the empty part, the other one
+-- both made one so; where one is the empty part, the other one
+abbrev pub joined_by : (Summary → Summary → Summary) → Option Summary → Option Summary → Option Summary
+joined_by both None right = right
+joined_by both (Some l) None = Some l
+joined_by both (Some l) (Some r) = Some (both l r)
+
 abbrev pub joined : Option Summary → Option Summary → Option Summary
-joined None right = right
-joined (Some l) None = Some l
-joined (Some l) (Some r) = Some (joined_parts l r)
+joined = joined_by joined_parts
 
 -- the first reason against joining them
 abbrev pub parts_refusal : Summary → Summary → Option Why

@@ -142,7 +142,11 @@ pub record Whole : Type 0 where
   pub trace : Recorded
   pub sound : IsTrace trace
 
--- the part of a trace from cut i to cut j: its summary, or none where the cuts are one
+-- the part of a trace from cut i to cut j: what stands for it so, or none where the cuts are one
+abbrev pub IsPartBy : (ℕ → Recorded → ℕ → ℕ → Summary → Type 0) → Whole → ℕ → ℕ → Option Summary → Type 0
+IsPartBy Is whole i j None = i ≡ j
+IsPartBy Is whole i j (Some s) = (i < j) × (j ≤ whole.trace.last) × Is whole.set whole.trace i j s
+
+-- the part, by its summary
 abbrev pub IsPiece : Whole → ℕ → ℕ → Option Summary → Type 0
-IsPiece whole i j None = i ≡ j
-IsPiece whole i j (Some s) = (i < j) × (j ≤ whole.trace.last) × IsSummary whole.set whole.trace i j s
+IsPiece = IsPartBy IsSummary

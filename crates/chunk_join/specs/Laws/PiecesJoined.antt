@@ -1,5 +1,5 @@
 -- The summaries of two parts that follow one another make up that of both together.
-use Rattle.std.proofs.Common.{ℕ, ◌≡◌, ◌+◌, ◌<◌, ◌≤◌, List, [], ◌∷◌, length, inl, inr, Bool, true, false, Option, Some, None, zero, suc, refl, sym, ap, ap₂, subst, ◌∙◌, ◌++◌, map, filter, arith, eq-eqb}
+use Rattle.std.proofs.Common.{ℕ, ◌≡◌, ◌+◌, ◌<◌, ◌≤◌, List, [], ◌∷◌, length, ◌⊎◌, inl, inr, Bool, true, false, Option, None, zero, suc, refl, sym, ap, ap₂, subst, ◌∙◌, ◌++◌, map, filter, arith}
 use Rattle.step_trace.specs.declared.rows.Gap.{Gap}
 use Rattle.step_trace.specs.Processors.{has_proc}
 use Rattle.step_trace.specs.Traces.{Recorded}
@@ -8,9 +8,10 @@ use Rattle.chunk_join.specs.declared.summaries.Place.{Place}
 use Rattle.chunk_join.specs.declared.summaries.Message.{Message}
 use Rattle.chunk_join.specs.declared.summaries.Take.{Take}
 use Rattle.chunk_join.specs.Joins.{JoinedLaws}
-use Rattle.chunk_join.specs.Summaries.{Summary, IsSummary, IsListing, AreLastReceives, IsLastReceive, last_of, IsPiece, Whole, SentBefore, TakenBefore, EndsBefore, IsSent, IsTake, IsLongest}
+use Rattle.chunk_join.specs.Summaries.{Summary, IsSummary, IsListing, AreLastReceives, IsLastReceive, last_of, IsPiece, SentBefore, TakenBefore, EndsBefore, IsSent, IsTake, IsLongest}
 use Rattle.chunk_join.specs.Parts.{later_of, later_each, stops, reach_back, joined_parts, joined, refusal}
 use Rattle.chunk_join.specs.Laws.Listings.{IsListing-one}
+use Rattle.chunk_join.specs.Laws.PartsJoined.{parts_join}
 use Rattle.chunk_join.specs.Laws.LastReceives.{IsLastReceive-join, IsLastReceive-one}
 use Rattle.chunk_join.specs.Laws.TakenIds.{joined_taken}
 use Rattle.chunk_join.specs.Laws.SentMessages.{joined_sent}
@@ -54,23 +55,21 @@ IsSummary-joined set t sound i m j l r low high inside a b = record {
 
 -- A part has one summary.
 
+-- an order by two numbers is strict
+strict_by_two : (a b c d : ℕ) → (a < b) ⊎ ((a ≡ b) × (c < d)) → (b < a) ⊎ ((b ≡ a) × (d < c)) → ⊥
+strict_by_two a b c d (inl h) (inl k) = omega (arith, h, k)
+strict_by_two a b c d (inl h) (inr k) = omega (arith, h, k.0)
+strict_by_two a b c d (inr h) (inl k) = omega (arith, h.0, k)
+strict_by_two a b c d (inr h) (inr k) = omega (arith, h.1, k.1)
+
 pub sent_strict : (a b : Message) → SentBefore a b → SentBefore b a → ⊥
-sent_strict a b (inl h) (inl k) = omega (arith, h, k)
-sent_strict a b (inl h) (inr k) = let e = k.0 in omega (arith, h, e)
-sent_strict a b (inr h) (inl k) = let e = h.0 in omega (arith, k, e)
-sent_strict a b (inr h) (inr k) = let p = h.1 in let q = k.1 in omega (arith, p, q)
+sent_strict a b = strict_by_two a.sent.tick b.sent.tick a.sent.no b.sent.no
 
 taken_strict : (a b : Take) → TakenBefore a b → TakenBefore b a → ⊥
-taken_strict a b (inl h) (inl k) = omega (arith, h, k)
-taken_strict a b (inl h) (inr k) = let e = k.0 in omega (arith, h, e)
-taken_strict a b (inr h) (inl k) = let e = h.0 in omega (arith, k, e)
-taken_strict a b (inr h) (inr k) = let p = h.1 in let q = k.1 in omega (arith, p, q)
+taken_strict a b = strict_by_two a.at.no b.at.no a.sent.no b.sent.no
 
 pub ends_strict : (a b : Gap) → EndsBefore a b → EndsBefore b a → ⊥
-ends_strict a b (inl h) (inl k) = omega (arith, h, k)
-ends_strict a b (inl h) (inr k) = let e = k.0 in omega (arith, h, e)
-ends_strict a b (inr h) (inl k) = let e = h.0 in omega (arith, k, e)
-ends_strict a b (inr h) (inr k) = let p = h.1 in let q = k.1 in omega (arith, p, q)
+ends_strict a b = strict_by_two a.to b.to b.proc a.proc
 
 same_entries : (xs ys : List (Option Place)) → length xs ≡ length ys → ((p : ℕ) → last_of xs p ≡ last_of ys p) → xs ≡ ys
 same_entries [] [] e h = refl
@@ -98,49 +97,11 @@ IsSummary-one set t sound i j x y a b = same_summary x y (a.members ∙ sym b.me
     (IsListing-one EndsBefore (IsLongest set t i j) ends_strict x.silent y.silent a.silent b.silent)
 
 -- Pieces of one trace join, and give the piece of both together.
-
-IsPiece-empty : (whole : Whole) (i : ℕ) (x : Option Summary) → IsPiece whole i i x → x ≡ None
-IsPiece-empty whole i None h = refl
-IsPiece-empty whole i (Some x) h = absurd (let l = h.0 in omega (arith, l))
-
-IsPiece-one : (whole : Whole) (i j : ℕ) (x y : Option Summary) → IsPiece whole i j x → IsPiece whole i j y → x ≡ y
-IsPiece-one whole i j None None a b = refl
-IsPiece-one whole i j None (Some y) a b = absurd (let l = b.0 in omega (arith, l, a))
-IsPiece-one whole i j (Some x) None a b = absurd (let l = a.0 in omega (arith, l, b))
-IsPiece-one whole i j (Some x) (Some y) a b = ap (λ (s : Summary). Some s) (IsSummary-one whole.set whole.trace whole.sound i j x y a.2 b.2)
-
-pub refusal-parts : (l r : Summary) → l.to + 1 ≡ r.from → l.set ≡ r.set → refusal (Some l) (Some r) ≡ None
-refusal-parts l r e f = rw (eq-eqb _ _ e, eq-eqb _ _ f) refl
-
-IsPiece-fit : (whole : Whole) (i j k : ℕ) (x y : Option Summary) → IsPiece whole i j x → IsPiece whole j k y → refusal x y ≡ None
-IsPiece-fit whole i j k None y a b = refl
-IsPiece-fit whole i j k (Some x) None a b = refl
-IsPiece-fit whole i j k (Some x) (Some y) a b = refusal-parts x y (ap (λ n. n + 1) a.2.to ∙ sym b.2.from) (a.2.members ∙ sym b.2.members)
-
-IsPiece-part : (whole : Whole) (i j k : ℕ) (x y : Option Summary) → IsPiece whole i j x → IsPiece whole j k y → IsPiece whole i k (joined x y)
-IsPiece-part whole i j k None y a b = subst (λ n. IsPiece whole n k y) (sym a) b
-IsPiece-part whole i j k (Some x) None a b = subst (λ n. IsPiece whole i n (Some x)) b a
-IsPiece-part whole i j k (Some x) (Some y) a b =
-    let low = a.0 in
-    let high = b.0 in
-    (omega (arith, low, high), b.1, IsSummary-joined whole.set whole.trace whole.sound i j k x y low high b.1 a.2 b.2)
-
-right_unit : (x : Option Summary) → joined x None ≡ x
-right_unit None = refl
-right_unit (Some x) = refl
-
-pub right_fits : (x : Option Summary) → refusal x None ≡ None
-right_fits None = refl
-right_fits (Some x) = refl
-
 pub pieces_join : JoinedLaws IsPiece None refusal joined
-pieces_join = record {
-  left_unit = λ x. refl;
-  right_unit = right_unit;
-  left_fits = λ x. refl;
-  right_fits = right_fits;
-  empty_part = IsPiece-empty;
-  one = IsPiece-one;
-  fit = IsPiece-fit;
-  part = IsPiece-part;
-}
+pieces_join = parts_join IsSummary joined_parts (record {
+  members = λ set t i j x a. a.members;
+  from = λ set t i j x a. a.from;
+  to = λ set t i j x a. a.to;
+  one = λ whole. IsSummary-one whole.set whole.trace whole.sound;
+  part = λ whole. IsSummary-joined whole.set whole.trace whole.sound;
+})

@@ -93,9 +93,21 @@ from_seam-proc : (v : Gap) (o : Option Gap) → (from_seam v o).proc ≡ v.proc
 from_seam-proc v None = refl
 from_seam-proc v (Some w) = refl
 
-from_seam-to : (v : Gap) (o : Option Gap) → (from_seam v o).to ≡ v.to
+pub from_seam-to : (v : Gap) (o : Option Gap) → (from_seam v o).to ≡ v.to
 from_seam-to v None = refl
 from_seam-to v (Some w) = refl
+
+-- reaching back moves no end
+pub reach_back-order : (seam : ℕ) (left : List Gap) (x y : Gap) → EndsBefore x y → EndsBefore (reach_back seam left x) (reach_back seam left y)
+reach_back-order seam left x y b =
+    let ex = from_seam-to x (find (λ w. meets seam w x) left) in
+    let ey = from_seam-to y (find (λ w. meets seam w y) left) in
+    let px = from_seam-proc x (find (λ w. meets seam w x) left) in
+    let py = from_seam-proc y (find (λ w. meets seam w y) left) in
+    elim b [
+      | inl l ↦ inl (omega (arith, l, ex, ey))
+      | inr e ↦ inr (ex ∙ e.0 ∙ sym ey, (let l = e.1 in omega (arith, l, px, py)))
+    ]
 
 -- of one member the longest silence that ends at a tick is one
 longest-begins : (set : ℕ) (trace : Recorded) (i j : ℕ) (u w : Gap) → IsLongest set trace i j u → IsLongest set trace i j w → u.proc ≡ w.proc → u.to ≡ w.to → u.from ≡ w.from
@@ -322,17 +334,6 @@ module _ (set : ℕ) (trace : Recorded) (i m k : ℕ) (before : i < m) (after : 
 
   -- The joined list is in order.
 
-  reach_back-order : (x y : Gap) → EndsBefore x y → EndsBefore (reach_back m left x) (reach_back m left y)
-  reach_back-order x y b =
-      let ex = from_seam-to x (find (λ w. meets m w x) left) in
-      let ey = from_seam-to y (find (λ w. meets m w y) left) in
-      let px = from_seam-proc x (find (λ w. meets m w x) left) in
-      let py = from_seam-proc y (find (λ w. meets m w y) left) in
-      elim b [
-        | inl l ↦ inl (omega (arith, l, ex, ey))
-        | inr e ↦ inr (ex ∙ e.0 ∙ sym ey, omega (arith, e.1, px, py))
-      ]
-
   parts-order : (x y : Gap) → Contains (filter (stops m right) left) x → Contains (map (reach_back m left) right) y → EndsBefore x y
   parts-order x y a b =
       let early = (first.sound x (Contains-from_filter (stops m right) left x a).0).until in
@@ -347,7 +348,7 @@ module _ (set : ℕ) (trace : Recorded) (i m k : ℕ) (before : i < m) (after : 
   silences_joined = record {
     rising = Rises-append EndsBefore (filter (stops m right) left) (map (reach_back m left) right)
         (Rises-filter EndsBefore (stops m right) left first.rising)
-        (Rises-map EndsBefore (reach_back m left) right (λ x y _ _. reach_back-order x y) second.rising) parts-order;
+        (Rises-map EndsBefore (reach_back m left) right (λ x y _ _. reach_back-order m left x y) second.rising) parts-order;
     sound = λ x c. elim (Contains-append_cases (filter (stops m right) left) (map (reach_back m left) right) x c) [
       | inl a ↦ (let f = Contains-from_filter (stops m right) left x a in stopped x f.0 f.1)
       | inr b ↦ (let u = Contains-from_map (reach_back m left) right x b in subst (IsLongest set trace i k) u.2 (reached u.0 u.1))
