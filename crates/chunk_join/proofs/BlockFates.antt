@@ -32,11 +32,11 @@ any_takes_all set t i j b all o l = record {
   sound = λ x k. (let h = l.sound x k in (
     h.own,
     elim h.until [
-      | inl before ↦ (let early = step_early t (j + 1) b x.at.no _ o h.own.receive.step before in let place = h.own.at_place in omega (arith, early, place))
+      | inl before ↦ (let early = step_early t (j + 1) b x.at.no _ o h.own.receive.step before in omega (arith, early, h.own.at_place))
       | inr here ↦ absurd (Contains-nil x.sent.no here.1)
     ],
   ));
-  complete = λ x h u. l.complete x (record { own = h; until = inl (step_first t (j + 1) b x.at.no _ o h.receive.step (let place = h.at_place in omega (arith, place, u))) });
+  complete = λ x h u. l.complete x (record { own = h; until = inl (step_first t (j + 1) b x.at.no _ o h.receive.step (omega (arith, h.at_place, u))) });
 }
 
 -- of these the older ones
@@ -48,7 +48,7 @@ block_taken set t from j all low a = record {
       let early = ltb-true x.sent.tick from y.1 in
       let h = a.sound x y.0 in
       record { own = h.0; until = h.1; earlier = omega (arith, early) };
-  complete = λ x h. Contains-filter (is_older from) all x (a.complete x h.own h.until) (is_older-true from x (let e = h.earlier in omega (arith, e, low)));
+  complete = λ x h. Contains-filter (is_older from) all x (a.complete x h.own h.until) (is_older-true from x (omega (arith, h.earlier, low)));
 }
 
 later_of-none : (o : Option Place) → later_of None o ≡ o
@@ -69,7 +69,7 @@ block_sent set t sound i j all a b opens o l = record {
         message = h.message;
         place = h.place;
         after = h.after;
-        until = step_first t (j + 1) b m.sent.no _ o h.message.sent (let place = h.place in let until = h.until in omega (arith, place, until));
+        until = step_first t (j + 1) b m.sent.no _ o h.message.sent (omega (arith, h.place, h.until));
         open_yet = refl;
       } in
       let same = settle-fate set t sound i i j all [] (with_fate m Open) (order _ own) (knows _ own) (known _ own) m.fate h.fate in
@@ -79,7 +79,7 @@ block_sent set t sound i j all a b opens o l = record {
   knows m h = record {
     sound = a.sound;
     complete = λ y own until same. a.complete y own until;
-    before = λ y own. (i, (let low = h.after in omega (arith, low)), subst (IsLastReceive t y.by i y.at.tick) (sym (later_of-none y.before)) own.before);
+    before = λ y own. (i, omega (arith, h.after), subst (IsLastReceive t y.by i y.at.tick) (sym (later_of-none y.before)) own.before);
   }
 
   -- before the block nothing takes it
@@ -93,7 +93,7 @@ block_sent set t sound i j all a b opens o l = record {
   }
 
   order : (m : Message) → IsOpenBy set t i b m → i ≤ j
-  order m h = let k = known m h in let low = k.after in let high = k.until in omega (arith, low, high)
+  order m h = let k = known m h in omega (arith, k.after, k.until)
 
 -- searches that are alike
 find_alike : {X : Type 0} (p q : X → Bool) (xs : List X) → ((x : X) → Contains xs x → p x ≡ q x) → find p xs ≡ find q xs
@@ -119,15 +119,12 @@ fated_settled set t from j before b all fates opens low first long f a l = map-a
   one : (m : Message) → Contains opens m → fated before fates m ≡ settle all [] m
   one m k =
       let h = l.sound m k in
-      let place = h.place in
-      let start = h.after in
-      let until = h.until in
       let above : before < m.sent.no = elim (cases_lt before m.sent.no) [
         | inl n ↦ n
-        | inr n ↦ absurd (let early = step_early t from before m.sent.no _ first h.message.sent n in omega (arith, early, place, start, low))
+        | inr n ↦ absurd (let early = step_early t from before m.sent.no _ first h.message.sent n in omega (arith, early, h.place, h.after, low))
       ] in
       let found = find_alike (takes_no m.sent.no) (takes_of m) all (λ x c. takes_alike t m x h.place (a.sound x c).0.sent_place) in
-      let value = f.each m.sent.no above (omega (arith, above, until, long)) ∙ ap fate_by found in
+      let value = f.each m.sent.no above (omega (arith, above, h.until, long)) ∙ ap fate_by found in
       ap (λ (g : Fate). with_fate m g) value ∙ settled_as m (find (takes_of m) all) h.open_yet (λ x e.
       let c = Contains-found (takes_of m) all x e in
       let same = takes_of-same m x c.1 in

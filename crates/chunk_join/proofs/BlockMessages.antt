@@ -42,7 +42,7 @@ pub opens_more : (t : Recorded) → IsTimed t → (set i k b : ℕ) (sent : List
     → IsListing SentBefore (IsOpenBy set t i k) sent → IsListing SentBefore (IsOpenBy set t i (k + 1)) (sent ++ record { sent = record { no = k + 1; tick = tick_of t (k + 1) }; to = b; fate = Open } ∷ [])
 opens_more t time set i k b sent low message l =
     IsListing-push SentBefore (IsOpenBy set t i k) (IsOpenBy set t i (k + 1)) sent next l above
-    (λ y o. record { message = o.message; place = o.place; after = o.after; until = (let u = o.until in omega (arith, u)); open_yet = o.open_yet })
+    (λ y o. record { message = o.message; place = o.place; after = o.after; until = omega (arith, o.until); open_yet = o.open_yet })
     (record { message = message; place = refl; after = low; until = omega arith; open_yet = refl })
     cases
   where
@@ -51,12 +51,10 @@ opens_more t time set i k b sent low message l =
 
     above : (y : Message) → IsOpenBy set t i k y → SentBefore y next
     above y o =
-        let u = o.until in
-        let place = o.place in
-        let rise = ticks_rise t time y.sent.no (k + 1) _ _ o.message.sent message.sent (omega (arith, u)) in
+        let rise = ticks_rise t time y.sent.no (k + 1) _ _ o.message.sent message.sent (omega (arith, o.until)) in
         elim (cases_lt y.sent.tick (tick_of t (k + 1))) [
           | inl earlier ↦ inl earlier
-          | inr n ↦ inr (omega (arith, n, rise, place), omega (arith, u))
+          | inr n ↦ inr (omega (arith, n, rise, o.place), omega (arith, o.until))
         ]
 
     same : (y : Message) → IsOpenBy set t i (k + 1) y → y.sent.no ≡ k + 1 → next ≡ y
@@ -71,16 +69,16 @@ opens_more t time set i k b sent low message l =
     cases : (y : Message) → IsOpenBy set t i (k + 1) y → IsOpenBy set t i k y ⊎ (next ≡ y)
     cases y o = elim (cases_eq y.sent.no (k + 1)) [
       | inl e ↦ inr (same y o e)
-      | inr n ↦ inl (record { message = o.message; place = o.place; after = o.after; until = (let u = o.until in omega (arith, u, n)); open_yet = o.open_yet })
+      | inr n ↦ inl (record { message = o.message; place = o.place; after = o.after; until = omega (arith, o.until, n); open_yet = o.open_yet })
     ]
 
 -- another step adds none
 pub opens_same : (t : Recorded) (set i k : ℕ) (sent : List Message) → ((b : ℕ) → IsMessage set t.steps (k + 1) b → ⊥) → IsListing SentBefore (IsOpenBy set t i k) sent → IsListing SentBefore (IsOpenBy set t i (k + 1)) sent
 opens_same t set i k sent none l = IsListing-same SentBefore (IsOpenBy set t i k) (IsOpenBy set t i (k + 1)) sent
-    (λ y o. record { message = o.message; place = o.place; after = o.after; until = (let u = o.until in omega (arith, u)); open_yet = o.open_yet })
+    (λ y o. record { message = o.message; place = o.place; after = o.after; until = omega (arith, o.until); open_yet = o.open_yet })
     (λ y o. elim (cases_eq y.sent.no (k + 1)) [
       | inl e ↦ absurd (none y.to (subst (λ n. IsMessage set t.steps n y.to) e o.message))
-      | inr n ↦ record { message = o.message; place = o.place; after = o.after; until = (let u = o.until in omega (arith, u, n)); open_yet = o.open_yet }
+      | inr n ↦ record { message = o.message; place = o.place; after = o.after; until = omega (arith, o.until, n); open_yet = o.open_yet }
     ]) l
 
 -- the last Receive up to a number, where the numbers are those before a tick
@@ -91,8 +89,8 @@ last_before t time p i k high (Some r) f g h = record {
   receive = h.receive;
   place = h.place;
   after = h.after;
-  until = let u = g r.no h.receive h.until in let e = h.place in omega (arith, u, e);
-  latest = λ y q v. (let e = h.place in let l = ticks_rise t time y r.no _ _ q.step h.receive.step (h.latest y q (f y q v)) in omega (arith, l, e));
+  until = let u = g r.no h.receive h.until in omega (arith, u, h.place);
+  latest = λ y q v. (let l = ticks_rise t time y r.no _ _ q.step h.receive.step (h.latest y q (f y q v)) in omega (arith, l, h.place));
 }
 
 -- before a step of p it is the last one in earlier ticks
@@ -130,7 +128,7 @@ last_kept t p i k (Some r) none h = record {
   receive = h.receive;
   place = h.place;
   after = h.after;
-  until = let u = h.until in omega (arith, u);
+  until = omega (arith, h.until);
   latest = λ y q v. elim (cases_eq y (k + 1)) [
     | inl f ↦ absurd (none (subst (λ n. IsReceiveOf t.steps n p) f q))
     | inr n ↦ h.latest y q (omega (arith, v, n))
@@ -159,7 +157,7 @@ last_more set t i k q last m r low a = record {
   ];
 } where
   cases : (p : ℕ) → ((p ≡ q) × (last_of (set_at last q (Some (record { no = k + 1; tick = tick_of t (k + 1) }))) p ≡ Some (record { no = k + 1; tick = tick_of t (k + 1) }))) ⊎ ((p ≢ q) × (last_of (set_at last q (Some (record { no = k + 1; tick = tick_of t (k + 1) }))) p ≡ last_of last p))
-  cases p = last_of-set last q p _ (let h = member_high set q m in let long = a.long in omega (arith, h, long))
+  cases p = last_of-set last q p _ (let h = member_high set q m in omega (arith, h, a.long))
 
 -- another step changes nothing
 pub last_same : (set : ℕ) (t : Recorded) (i k : ℕ) (last : List (Option Place)) → ((p : ℕ) → IsTrue (has_proc set p) → IsReceiveOf t.steps (k + 1) p → ⊥) → AreLastBy set t i k last → AreLastBy set t i (k + 1) last

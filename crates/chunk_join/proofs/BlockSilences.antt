@@ -51,13 +51,13 @@ module _ (set : ℕ) (t : Recorded) (i x n y m : ℕ) (forth : (k p : ℕ) → I
 -- before tick x all its steps are to come, after it none is
 pub ended_before : (set : ℕ) (t : Recorded) (i x b : ℕ) (silent : List Gap) (begun : List ℕ) → AreStepsBefore t (x + 1) b → AreEnded set t i x (length t.steps) silent begun → AreEnded set t i x b silent begun
 ended_before set t i x b silent begun o a = ended_alike set t i x (length t.steps) x b
-    (λ k p m s d. elim d [ inl l ↦ inl l | inr e ↦ absurd (let w = (step_at_within t.steps k _ s.1).1 in let n = e.1 in omega (arith, w, n)) ])
-    (λ k p m s d. elim d [ inl l ↦ inl l | inr e ↦ absurd (let r = o.rest k e.1 (step_at_within t.steps k _ s.1).1 in let f = e.0 in omega (arith, r, f)) ])
+    (λ k p m s d. elim d [ inl l ↦ inl l | inr e ↦ absurd (let w = (step_at_within t.steps k _ s.1).1 in omega (arith, w, e.1)) ])
+    (λ k p m s d. elim d [ inl l ↦ inl l | inr e ↦ absurd (let r = o.rest k e.1 (step_at_within t.steps k _ s.1).1 in omega (arith, r, e.0)) ])
     silent begun a
 
 pub ended_after : (set : ℕ) (t : Recorded) (i x a : ℕ) (silent : List Gap) (begun : List ℕ) → AreStepsBefore t x a → AreEnded set t i x a silent begun → AreEnded set t i (x + 1) (length t.steps) silent begun
 ended_after set t i x a silent begun o e = ended_alike set t i x a (x + 1) (length t.steps)
-    (λ k p m s d. elim d [ inl l ↦ inl (omega (arith, l)) | inr e ↦ inl (let f = e.0 in omega (arith, f)) ])
+    (λ k p m s d. elim d [ inl l ↦ inl (omega (arith, l)) | inr e ↦ inl (omega (arith, e.0)) ])
     (λ k p m s d. elim d [
       | inl l ↦ elim (cases_lt (tick_of t k) x) [
         | inl early ↦ inl early
@@ -69,7 +69,7 @@ ended_after set t i x a silent begun o e = ended_alike set t i x a (x + 1) (leng
           ]),
         )
       ]
-      | inr e ↦ absurd (let w = (step_at_within t.steps k _ s.1).1 in let n = e.1 in omega (arith, w, n))
+      | inr e ↦ absurd (let w = (step_at_within t.steps k _ s.1).1 in omega (arith, w, e.1))
     ])
     silent begun e
 
@@ -85,14 +85,12 @@ begin_one t set i x n p v w b early done own end gap after left = elim (cases_lt
         gap.silent (v - 1) (omega (arith, l)) (omega (arith, tick, u, end)) (record { place = s.place; step = (s.step.0, subst (λ q. step_at t.steps s.place ≡ Some (record { proc = q; act = s.step.0 })) (sym own) s.step.1); tick = tick }))
   ])
   | inr n ↦ elim (cases_lt v w.from) [
-    | inl l ↦ absurd (let low = b.low in elim left [
-      | inl e ↦ omega (arith, e, l, low)
+    | inl l ↦ absurd (elim left [
+      | inl e ↦ omega (arith, e, l, b.low)
       | inr s ↦ (
-          let tick = s.tick in
-          let order = gap.order in
           let step : IsStepOf t.steps s.place p = (s.step.0, subst (λ q. step_at t.steps s.place ≡ Some (record { proc = q; act = s.step.0 })) own s.step.1) in
-          let q = b.quiet s.place step (done s.place step (omega (arith, tick, order, end))) in
-          omega (arith, q, tick, l))
+          let q = b.quiet s.place step (done s.place step (omega (arith, s.tick, gap.order, end))) in
+          omega (arith, q, s.tick, l))
     ])
     | inr m ↦ omega (arith, n, m)
   ]
@@ -106,14 +104,14 @@ alike w p v z e f g = join (λ proc from to. record { proc = proc; from = from; 
 -- one step of tick x, going back
 module _ (set : ℕ) (t : Recorded) (time : IsTimed t) (i x n p : ℕ) (low : i < x) (high : x ≤ t.last) (member : IsTrue (has_proc set p)) (step : IsStepOf t.steps (n + 1) p) (tick : tick_of t (n + 1) ≡ x) where
   more : (k : ℕ) → IsDone t x (n + 1) k → IsDone t x n k
-  more k d = elim d [ inl l ↦ inl l | inr e ↦ inr (e.0, (let l = e.1 in omega (arith, l))) ]
+  more k d = elim d [ inl l ↦ inl l | inr e ↦ inr (e.0, omega (arith, e.1)) ]
 
   less : (k : ℕ) → IsDone t x n k → IsDone t x (n + 1) k ⊎ (k ≡ n + 1)
   less k d = elim d [
     | inl l ↦ inl (inl l)
     | inr e ↦ elim (cases_eq k (n + 1)) [
       | inl f ↦ inr f
-      | inr d ↦ inl (inr (e.0, (let l = e.1 in omega (arith, l, d))))
+      | inr d ↦ inl (inr (e.0, omega (arith, e.1, d)))
     ]
   ]
 
@@ -124,14 +122,14 @@ module _ (set : ℕ) (t : Recorded) (time : IsTimed t) (i x n p : ℕ) (low : i 
   own_early : (k : ℕ) → IsStepOf t.steps k p → IsDone t x (n + 1) k → tick_of t k < x
   own_early k s d = elim d [
     | inl l ↦ l
-    | inr e ↦ absurd (let f = one_in_tick t time k (n + 1) _ _ s.1 step.1 refl (e.0 ∙ sym tick) in let l = e.1 in omega (arith, f, l))
+    | inr e ↦ absurd (let f = one_in_tick t time k (n + 1) _ _ s.1 step.1 refl (e.0 ∙ sym tick) in omega (arith, f, e.1))
   ]
 
   begun_own : IsBegun t i x n p (x + 1)
   begun_own = record {
     low = omega (arith, low);
     left = inr (record { place = n + 1; step = step; tick = (let e : x ≡ x + 1 - 1 = omega arith in tick ∙ e); done = inr (tick, omega arith) });
-    quiet = λ k s d. elim d [ inl l ↦ omega (arith, l) | inr e ↦ (let f = e.0 in omega (arith, f)) ];
+    quiet = λ k s d. elim d [ inl l ↦ omega (arith, l) | inr e ↦ omega (arith, e.0) ];
   }
 
   begun_other : (q v : ℕ) → q ≢ p → IsBegun t i x (n + 1) q v → IsBegun t i x n q v
@@ -169,7 +167,7 @@ module _ (set : ℕ) (t : Recorded) (time : IsTimed t) (i x n p : ℕ) (low : i 
     ended = IsListing-push EndsBefore (IsEnded set t i x (n + 1)) (IsEnded set t i x n) silent (record { proc = p; from = get_or begun p 0; to = x - 1 }) a.ended above ended_more own
         (λ w e. elim (ended_less v b w e) [
           | inl old ↦ inl old
-          | inr f ↦ inr (alike w p v (x - 1) f.0 f.1 (let end = f.2 in omega (arith, end)))
+          | inr f ↦ inr (alike w p v (x - 1) f.0 f.1 (omega (arith, f.2)))
         ]);
     next = begun_all begun long a.next;
   } where
@@ -180,12 +178,12 @@ module _ (set : ℕ) (t : Recorded) (time : IsTimed t) (i x n p : ℕ) (low : i 
     b = a.next p member
 
     above : (w : Gap) → IsEnded set t i x (n + 1) w → EndsBefore w (record { proc = p; from = get_or begun p 0; to = x - 1 })
-    above w e = let f = e.right.tick in elim e.right.done [
-      | inl l ↦ inl (omega (arith, f, l))
+    above w e = elim e.right.done [
+      | inl l ↦ inl (omega (arith, e.right.tick, l))
       | inr l ↦ inr (
-        (let g = l.0 in omega (arith, f, g)),
+        omega (arith, e.right.tick, l.0),
         elim (time.order (n + 1) e.right.place _ _ l.1 step.1 e.right.step.1) [
-          | inl r ↦ absurd (let g = l.0 in omega (arith, r, g, tick))
+          | inl r ↦ absurd (omega (arith, r, l.0, tick))
           | inr r ↦ r.1
         ],
       )
@@ -195,13 +193,12 @@ module _ (set : ℕ) (t : Recorded) (time : IsTimed t) (i x n p : ℕ) (low : i 
     own = record {
       gap = record {
         member = member;
-        start = let l = b.low in omega (arith, l);
+        start = omega (arith, b.low);
         order = omega (arith, short);
         inside = omega (arith, high);
         silent = λ y f u s. (
-            let at = s.tick in
-            let q = b.quiet s.place s.step (inl (omega (arith, at, u, low))) in
-            omega (arith, q, at, f));
+            let q = b.quiet s.place s.step (inl (omega (arith, s.tick, u, low))) in
+            omega (arith, q, s.tick, f));
       };
       after = b.low;
       left = elim b.left [ inl e ↦ inl e | inr s ↦ inr (steps_in t x (n + 1) p (v - 1) s) ];
@@ -213,7 +210,7 @@ module _ (set : ℕ) (t : Recorded) (time : IsTimed t) (i x n p : ℕ) (low : i 
     ended = IsListing-same EndsBefore (IsEnded set t i x (n + 1)) (IsEnded set t i x n) silent ended_more
         (λ w e. elim (ended_less (get_or begun p 0) (a.next p member) w e) [
           | inl old ↦ old
-          | inr f ↦ absurd (let from = f.1 in let end = f.2 in let order = e.gap.order in omega (arith, from, end, order, none))
+          | inr f ↦ absurd (omega (arith, f.1, f.2, e.gap.order, none))
         ]) a.ended;
     next = begun_all begun long a.next;
   }
@@ -227,12 +224,12 @@ module _ (set : ℕ) (t : Recorded) (time : IsTimed t) (i x n p : ℕ) (low : i 
 -- a step of another processor ends none that counts
 pub ended_same : (set : ℕ) (t : Recorded) (i x n : ℕ) (silent : List Gap) (begun : List ℕ) → ((p : ℕ) → IsTrue (has_proc set p) → IsStepOf t.steps (n + 1) p → ⊥) → AreEnded set t i x (n + 1) silent begun → AreEnded set t i x n silent begun
 ended_same set t i x n silent begun none a = ended_alike set t i x (n + 1) x n
-    (λ k p m s d. elim d [ inl l ↦ inl l | inr e ↦ inr (e.0, (let l = e.1 in omega (arith, l))) ])
+    (λ k p m s d. elim d [ inl l ↦ inl l | inr e ↦ inr (e.0, omega (arith, e.1)) ])
     (λ k p m s d. elim d [
       | inl l ↦ inl l
       | inr e ↦ elim (cases_eq k (n + 1)) [
         | inl f ↦ absurd (none p m (subst (λ y. IsStepOf t.steps y p) f s))
-        | inr d ↦ inr (e.0, (let l = e.1 in omega (arith, l, d)))
+        | inr d ↦ inr (e.0, omega (arith, e.1, d))
       ]
     ])
     silent begun a
@@ -240,16 +237,15 @@ ended_same set t i x n silent begun none a = ended_alike set t i x (n + 1) x n
 -- what is left after the last tick: the silences that last up to it
 module _ (set : ℕ) (t : Recorded) (i j : ℕ) (low : i < j) (high : j ≤ t.last) where
   early : (k p : ℕ) → IsStepOf t.steps k p → IsDone t (j + 1) (length t.steps) k → tick_of t k < j + 1
-  early k p s d = elim d [ inl l ↦ l | inr e ↦ absurd (let w = (step_at_within t.steps k _ s.1).1 in let n = e.1 in omega (arith, w, n)) ]
+  early k p s d = elim d [ inl l ↦ l | inr e ↦ absurd (let w = (step_at_within t.steps k _ s.1).1 in omega (arith, w, e.1)) ]
 
   pub tails_none : (silent : List Gap) (begun : List ℕ) → AreEnded set t i (j + 1) (length t.steps) silent begun → IsListing EndsBefore (IsLongestFrom set t i j (MAX_MEMBER + 1)) silent
   tails_none silent begun a = IsListing-same EndsBefore (IsEnded set t i (j + 1) (length t.steps)) (IsLongestFrom set t i j (MAX_MEMBER + 1)) silent
       (λ w e.
-      let end = e.right.tick in
       let u = early e.right.place w.proc e.right.step e.right.done in
       record {
-        longest = record { gap = e.gap; after = e.after; until = omega (arith, end, u); left = e.left; right = inr (steps_in t (j + 1) (length t.steps) w.proc (w.to + 1) e.right) };
-        from = inl (omega (arith, end, u));
+        longest = record { gap = e.gap; after = e.after; until = omega (arith, e.right.tick, u); left = e.left; right = inr (steps_in t (j + 1) (length t.steps) w.proc (w.to + 1) e.right) };
+        from = inl (omega (arith, e.right.tick, u));
       })
       (λ w h. record {
         gap = h.longest.gap;
@@ -258,7 +254,7 @@ module _ (set : ℕ) (t : Recorded) (i j : ℕ) (low : i < j) (high : j ≤ t.la
         right = elim h.from [
           | inl l ↦ elim h.longest.right [
             | inl e ↦ absurd (omega (arith, e, l))
-            | inr s ↦ record { place = s.place; step = s.step; tick = s.tick; done = inl (let f = s.tick in omega (arith, f, l)) }
+            | inr s ↦ record { place = s.place; step = s.step; tick = s.tick; done = inl (omega (arith, s.tick, l)) }
           ]
           | inr l ↦ absurd (let m = member_high set w.proc h.longest.gap.member in omega (arith, l, m))
         ];
@@ -278,7 +274,7 @@ module _ (set : ℕ) (t : Recorded) (i j : ℕ) (low : i < j) (high : j ≤ t.la
         | inl e ↦ inl e
         | inr n ↦ elim h.from [
           | inl e ↦ inl e
-          | inr m ↦ inr ((let u = h.longest.until in omega (arith, u, n)), omega (arith, m))
+          | inr m ↦ inr (omega (arith, h.longest.until, n), omega (arith, m))
         ]
       ])
       (λ w h. record { longest = h.longest; from = elim h.from [ inl e ↦ inl e | inr m ↦ inr (omega (arith, m)) ] })
@@ -289,7 +285,7 @@ module _ (set : ℕ) (t : Recorded) (i j : ℕ) (low : i < j) (high : j ≤ t.la
           | inr d ↦ inl (record { longest = h.longest; from = inr (omega (arith, m, d)) })
           | inl e ↦ elim (cases_lt w.to j) [
             | inl f ↦ inl (record { longest = h.longest; from = inl f })
-            | inr n ↦ (let end : w.to ≡ j = (let u = h.longest.until in omega (arith, u, n)) in inr (alike w p v j (sym e) (tail_one p v b w h.longest e end) (sym end)))
+            | inr n ↦ (let end : w.to ≡ j = omega (arith, h.longest.until, n) in inr (alike w p v j (sym e) (tail_one p v b w h.longest e end) (sym end)))
           ]
         ]
       ])
@@ -298,10 +294,10 @@ module _ (set : ℕ) (t : Recorded) (i j : ℕ) (low : i < j) (high : j ≤ t.la
       own = record {
         gap = record {
           member = member;
-          start = let l = b.low in omega (arith, l);
+          start = omega (arith, b.low);
           order = short;
           inside = high;
-          silent = λ y f u s. (let at = s.tick in let q = b.quiet s.place s.step (inl (omega (arith, at, u))) in omega (arith, q, at, f));
+          silent = λ y f u s. (let q = b.quiet s.place s.step (inl (omega (arith, s.tick, u))) in omega (arith, q, s.tick, f));
         };
         after = b.low;
         until = let same : j ≤ j = omega arith in same;
@@ -321,12 +317,9 @@ module _ (set : ℕ) (t : Recorded) (i j : ℕ) (low : i < j) (high : j ≤ t.la
             | inl e ↦ elim (cases_lt w.to j) [
               | inl f ↦ inl f
               | inr n ↦ absurd (
-                  let until = h.longest.until in
                   let b = none (subst (λ q. IsTrue (has_proc set q)) e h.longest.gap.member) in
-                  let one = tail_one p b.0 b.1 w h.longest e (omega (arith, until, n)) in
-                  let order = h.longest.gap.order in
-                  let beyond = b.2 in
-                  omega (arith, one, order, until, beyond))
+                  let one = tail_one p b.0 b.1 w h.longest e (omega (arith, h.longest.until, n)) in
+                  omega (arith, one, h.longest.gap.order, h.longest.until, b.2))
             ]
           ]
         ];

@@ -28,9 +28,7 @@ pub any_takes_none : (set : ℕ) (t : Recorded) (from a : ℕ) → 1 ≤ from �
 any_takes_none set t from a low s = IsListing-none TakenBefore (IsAnyTakeBy set t (from - 1) a []) (λ y i. elim i.until [
   | inl before ↦ (
       let early = step_early t from a y.at.no _ s i.own.receive.step before in
-      let place = i.own.at_place in
-      let after = i.own.after in
-      omega (arith, early, place, after))
+      omega (arith, early, i.own.at_place, i.own.after))
   | inr here ↦ Contains-nil y.sent.no here.1
 ])
 
@@ -91,7 +89,7 @@ module _ (set : ℕ) (t : Recorded) (time : IsTimed t) (i k p : ℕ) (b : Option
 any_takes_done : (set : ℕ) (t : Recorded) (i k p : ℕ) (ends : Bool) (all : List ℕ) (taken : List Take) → step_at t.steps (k + 1) ≡ Some (record { proc = p; act = Receive ends all }) → IsListing TakenBefore (IsAnyTakeBy set t i k all) taken
     → IsListing TakenBefore (IsAnyTakeBy set t i (k + 1) []) taken
 any_takes_done set t i k p ends all taken step l = IsListing-same TakenBefore (IsAnyTakeBy set t i k all) (IsAnyTakeBy set t i (k + 1) []) taken
-    (λ y h. record { own = h.own; until = elim h.until [ inl before ↦ inl (omega (arith, before)) | inr here ↦ inl (let e = here.0 in omega (arith, e)) ] })
+    (λ y h. record { own = h.own; until = elim h.until [ inl before ↦ inl (omega (arith, before)) | inr here ↦ inl (omega (arith, here.0)) ] })
     (λ y h. record {
       own = h.own;
       until = elim h.until [

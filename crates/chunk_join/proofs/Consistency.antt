@@ -25,15 +25,15 @@ IsConsistent-joined l r seam a b = record {
   long = length-later_each l.last r.last ∙ a.long;
   sent_rising = Rises-append SentBefore settled r.sent (settled_rise r.taken l.last l.sent a.sent_rising) b.sent_rising (λ x y p q. (let u = (left_sent x p).1 in let v = (b.sent_inside y q).0 in inl (omega (arith, u, v, seam))));
   sent_inside = λ x k. elim (Contains-append_cases settled r.sent x k) [
-    | inl p ↦ (let u = left_sent x p in let v = u.1 in (u.0, omega (arith, v, seam, high)))
-    | inr p ↦ (let u = b.sent_inside x p in let v = u.0 in (omega (arith, v, seam, low), u.1))
+    | inl p ↦ (let u = left_sent x p in (u.0, omega (arith, u.1, seam, high)))
+    | inr p ↦ (let u = b.sent_inside x p in (omega (arith, u.0, seam, low), u.1))
   ];
   silent_rising = Rises-append EndsBefore stopped reached (Rises-filter EndsBefore (stops l.to r.silent) l.silent a.silent_rising)
       (Rises-map EndsBefore (reach_back l.to l.silent) r.silent (λ x y p q h. reach_back-order l.to l.silent x y h) b.silent_rising)
       (λ x y p q. (let u = (left_silent x p).1 in let v = (right_silent y q).0 in inl (omega (arith, u, v, seam))));
   silent_inside = λ x k. elim (Contains-append_cases stopped reached x k) [
-    | inl p ↦ (let u = left_silent x p in let v = u.1 in (u.0, omega (arith, v, seam, high)))
-    | inr p ↦ (let u = right_silent x p in let v = u.0 in (omega (arith, v, seam, low), u.1))
+    | inl p ↦ (let u = left_silent x p in (u.0, omega (arith, u.1, seam, high)))
+    | inr p ↦ (let u = right_silent x p in (omega (arith, u.0, seam, low), u.1))
   ];
 } where
   low : l.from ≤ l.to
@@ -76,12 +76,12 @@ seam_of l r h = go (l.to + 1 == r.from) refl h where
 -- what holds of the lists of every summary holds of that of a part
 pub IsConsistent-summary : (set : ℕ) (t : Recorded) → IsTimed t → (i j : ℕ) (s : Summary) → i < j → j ≤ t.last → IsSummary set t i j s → IsConsistent s
 IsConsistent-summary set t time i j s low high a = record {
-  start = let f = a.from in omega (arith, f);
-  order = let f = a.from in let g = a.to in omega (arith, f, g, low);
-  end = let g = a.to in let e = time.end in omega (arith, g, e, high);
+  start = omega (arith, a.from);
+  order = omega (arith, a.from, a.to, low);
+  end = omega (arith, a.to, time.end, high);
   long = a.last.long;
   sent_rising = a.sent.rising;
-  sent_inside = λ m k. (let o = a.sent.sound m k in let f = a.from in let g = a.to in let u = o.after in let v = o.until in (omega (arith, f, u), omega (arith, g, v)));
+  sent_inside = λ m k. (let o = a.sent.sound m k in (omega (arith, a.from, o.after), omega (arith, a.to, o.until)));
   silent_rising = a.silent.rising;
-  silent_inside = λ w k. (let o = a.silent.sound w k in let f = a.from in let g = a.to in let u = o.after in let h = o.gap.order in let v = o.until in (omega (arith, f, u, h), omega (arith, g, v)));
+  silent_inside = λ w k. (let o = a.silent.sound w k in (omega (arith, a.from, o.after, o.gap.order), omega (arith, a.to, o.until)));
 }

@@ -87,8 +87,7 @@ module _ {T : Type 0} where
     pub AreJoined-all : (threads : List (PromisedHandle T DigestOf)) (all : Result (Option Summary) E) (rest : List (PromisedHandle T DigestOf)) → AreJoined threads all rest → length rest ≡ 0
         → IfOk all (λ digest. (set : ℕ) (trace : Recorded) (workers : ℕ) → 0 < workers → ArePromised set trace workers threads → IsDigestBetween set trace 0 (cut trace.last workers (length threads)) digest)
     AreJoined-all threads (Ok digest) rest was none = λ set trace workers some are. (
-        let c = was.count in
-        let e : was.done ≡ length threads = omega (arith, c, none) in
+        let e : was.done ≡ length threads = omega (arith, was.count, none) in
         subst (λ n. IsDigestBetween set trace 0 (cut trace.last workers n) digest) e (was.digest set trace workers some are))
     AreJoined-all threads (Err e) rest was none = tt
 

@@ -85,15 +85,11 @@ with_missed-gap end level m (Some r) = with_miss-gap level _ _
 
 pub StandsBefore-through : (a b c : Level) → StandsBefore a b → StandsBefore b c → StandsBefore a c
 StandsBefore-through a b c h k =
-    let dh = h.delta in
-    let dk = k.delta in
-    let ph = h.phi in
-    let pk = k.phi in
     record {
-      delta = omega (arith, dh, dk);
-      phi = omega (arith, ph, pk);
-      miss = λ e. h.miss (omega (arith, e, dh, dk)) ∙ k.miss (omega (arith, e, dh, dk));
-      gap = λ e. h.gap (omega (arith, e, ph, pk)) ∙ k.gap (omega (arith, e, ph, pk));
+      delta = omega (arith, h.delta, k.delta);
+      phi = omega (arith, h.phi, k.phi);
+      miss = λ e. h.miss (omega (arith, e, h.delta, k.delta)) ∙ k.miss (omega (arith, e, h.delta, k.delta));
+      gap = λ e. h.gap (omega (arith, e, h.phi, k.phi)) ∙ k.gap (omega (arith, e, h.phi, k.phi));
     }
 
 -- what is known of misses after one number is known after a smaller one, if misses between are covered by later ones
@@ -101,7 +97,7 @@ KnowsMissesAfter-moved : (set : ℕ) (t : Recorded) (old new d : ℕ) (o : Optio
     → ((n : Miss) → IsMiss set t n → new < n.sent → (m : Miss) × IsMiss set t m × (old < m.sent) × (tick_of t n.missed + tick_of t m.sent ≤ tick_of t m.missed + tick_of t n.sent))
     → KnowsMissesAfter set t old d o → KnowsMissesAfter set t new d o
 KnowsMissesAfter-moved set t old new d o less cover k = record {
-  shorter = λ n i l. (let c = cover n i l in let short = k.shorter c.0 c.1 c.2 in let long = c.3 in omega (arith, short, long));
+  shorter = λ n i l. (let c = cover n i l in let short = k.shorter c.0 c.1 c.2 in omega (arith, short, c.3));
   named = go o k.named;
 } where
   go : (o : Option Miss) → NamesAfter set t old d o → NamesAfter set t new d o
@@ -158,8 +154,7 @@ IsLastMissed-from_last : (set : ℕ) (t : Recorded) (m : Message) (high : ℕ) (
 IsLastMissed-from_last set t m high None message place end undelivered below l = record {
   last = record {
     found = λ late. (let none : tick_of t m.sent.no < 0 = late in absurd (omega (arith, none)));
-    last = λ y i. absurd (let late = i.late in
-        l y (subst (λ (q : ℕ). IsReceiveOf t.steps y q) (message_unique set t.steps m.sent.no _ m.to i.to message.sent i.message) i.receive) (omega (arith, late, place)) (below y i));
+    last = λ y i. absurd (l y (subst (λ (q : ℕ). IsReceiveOf t.steps y q) (message_unique set t.steps m.sent.no _ m.to i.to message.sent i.message) i.receive) (omega (arith, i.late, place)) (below y i));
   };
   inside = λ r e. cc;
 }
@@ -190,7 +185,7 @@ IsLastMissed-summary set t sound s a m sent = go m.fate sent.fate where
   go (Taken missed) fate =
       let until = fate.2 in
       IsLastMissed-from_last set t m (tick_of t fate.0) missed sent.message sent.place (omega (arith, until))
-      (λ y d l. (let same = ap (λ n. tick_of t n) (sound.steps.once d.place fate.0 m.sent.no d.takes fate.1) in let u = d.until in omega (arith, same, u, l)))
+      (λ y d l. (let same = ap (λ n. tick_of t n) (sound.steps.once d.place fate.0 m.sent.no d.takes fate.1) in omega (arith, same, d.until, l)))
       (λ y i. elim (cases_lt (tick_of t y) (tick_of t fate.0)) [
         | inl l ↦ l
         | inr late ↦ absurd (i.undelivered (record { place = fate.0; after = sound.time.later fate.0 m.sent.no fate.1; until = omega (arith, late); takes = fate.1 }))
@@ -222,8 +217,7 @@ IsListed-message set t sound s a x b m =
     let fate = fate_exists set t sound place b in
     let own : Message = record { sent = place; to = b; fate = fate.0 } in
     let inside = sound.time.inside x _ m.sent in
-    let low = inside.0 in
-    let at = slice-Contains s.sent own (a.sent.complete own (record { message = m; place = refl; after = omega (arith, low); until = inside.1; fate = fate.1 })) in
+    let at = slice-Contains s.sent own (a.sent.complete own (record { message = m; place = refl; after = omega (arith, inside.0); until = inside.1; fate = fate.1 })) in
     record { place = at.0; message = own; at = at.1; no = refl; tick = refl }
 
 -- numbers rise as the places do
@@ -233,9 +227,7 @@ numbers_rise set t sound s a i j x y h k l = elim (Rises-slices SentBefore s.sen
   | inl e ↦ (
       let u = a.sent_sound x (Contains-slice_get s.sent i x h) in
       let v = a.sent_sound y (Contains-slice_get s.sent j y k) in
-      let p = u.place in
-      let q = v.place in
-      number_below t sound.time x.sent.no y.sent.no _ _ u.message.sent v.message.sent (omega (arith, e, p, q)))
+      number_below t sound.time x.sent.no y.sent.no _ _ u.message.sent v.message.sent (omega (arith, e, u.place, v.place)))
 ]
 
 -- the messages from place n on have greater numbers than those before
@@ -277,10 +269,8 @@ with_missed-lowered set t end m level None last place low known is =
 with_missed-lowered set t end m level (Some r) last place low known is =
     let miss : Miss = record { sent = m.sent.no; missed = r.no } in
     let inside = is.inside r refl in
-    let at = inside.0 in
-    let until = inside.1 in
-    let same = up_to-inside end r.tick (omega (arith, until, last)) in
-    let long : tick_of t r.no - tick_of t m.sent.no ≡ up_to end r.tick - m.sent.tick = omega (arith, at, place, same) in
+    let same = up_to-inside end r.tick (omega (arith, inside.1, last)) in
+    let long : tick_of t r.no - tick_of t m.sent.no ≡ up_to end r.tick - m.sent.tick = omega (arith, inside.0, place, same) in
     subst (λ n. KnowsMissesAfter set t (m.sent.no - 1) (with_miss level miss n).delta (with_miss level miss n).miss) long
     (MissesLowered-with_miss set t m.sent.no r.no level low known is.last).misses
 
@@ -297,20 +287,18 @@ HasMissesFrom-back part j m level at h = λ set t sound a.
           → (u : Miss) × IsMiss set t u × (m.sent.no - 1 < u.sent) × (tick_of t n.missed + tick_of t u.sent ≤ tick_of t u.missed + tick_of t n.sent)
       cover set t sound a n i l =
           let c = a.missed n i in
-          let no = c.sent_in in
-          let later = c.later in
           let place = slice-Contains part.sent c.message c.listed in
           let long = slice_get_within part.sent j m at in (
             c.miss,
             c.is,
             elim (cases_lt place.0 j) [
-              | inl below ↦ absurd (let until = number_until set t sound part a j place.0 c.message place.1 (omega (arith, long)) below in omega (arith, until, no, later, l))
+              | inl below ↦ absurd (let until = number_until set t sound part a j place.0 c.message place.1 (omega (arith, long)) below in omega (arith, until, c.sent_in, c.later, l))
               | inr above ↦ elim (cases_lt j place.0) [
-                | inl after ↦ (let rise = numbers_rise set t sound part a j place.0 m c.message at place.1 after in omega (arith, rise, no))
+                | inl after ↦ (let rise = numbers_rise set t sound part a j place.0 m c.message at place.1 after in omega (arith, rise, c.sent_in))
                 | inr b ↦ (let e : place.0 ≡ j = omega (arith, above, b) in
                     let same = ap (λ (x : Message). x.sent.no) (same_Some _ _ (sym place.1 ∙ ap (slice_get part.sent) e ∙ at)) in
                     let own = (step_at_within t.steps m.sent.no _ (a.sent_sound m (Contains-slice_get part.sent j m at)).message.sent).0 in
-                    omega (arith, same, no, own))
+                    omega (arith, same, c.sent_in, own))
               ]
             ],
             c.long,
@@ -320,12 +308,10 @@ HasMissesFrom-back part j m level at h = λ set t sound a.
 pub HasMissesFrom-all : (part : Summary) (level : Level) → level.delta ≡ 1 → level.miss ≡ None → HasMissesFrom part (length part.sent) level
 HasMissesFrom-all part level d o set t sound a = rw (d, o) (record {
   shorter = λ m i l. absurd (let c = a.missed m i in
-      let no = c.sent_in in
-      let later = c.later in
       let place = slice-Contains part.sent c.message c.listed in
       let inside = slice_get_within part.sent place.0 c.message place.1 in
       let until = number_until set t sound part a (length part.sent) place.0 c.message place.1 (omega arith) inside in
-      omega (arith, until, no, later, l));
+      omega (arith, until, c.sent_in, c.later, l));
   named = refl;
 })
 
@@ -340,19 +326,14 @@ KnowsMisses-from_left part g left level long sent_later earlier h set t sound a 
       to : (m : Miss) → IsNamedAfter set t (number_at part.sent left) level.delta m → g ≤ tick_of t m.sent
       to m named =
           let c = a.missed m named.miss in
-          let no = c.sent_in in
-          let later = c.later in
-          let covers = c.long in
-          let own = named.long in
-          let after = named.after in
-          let short = known.shorter c.miss c.is (omega (arith, later, after)) in
-          let first = named.greatest c.miss c.is (omega (arith, later, after)) (omega (arith, covers, own, short)) in
-          let same : c.message.sent.no ≡ m.sent = omega (arith, no, later, first) in
+          let short = known.shorter c.miss c.is (omega (arith, c.later, named.after)) in
+          let first = named.greatest c.miss c.is (omega (arith, c.later, named.after)) (omega (arith, c.long, named.long, short)) in
+          let same : c.message.sent.no ≡ m.sent = omega (arith, c.sent_in, c.later, first) in
           let tick = (a.sent_sound c.message c.listed).place in
           let at_tick = ap (tick_of t) same in
           let place = slice-Contains part.sent c.message c.listed in
           elim (cases_lt place.0 left) [
-            | inl below ↦ absurd (let until = number_until set t sound part a left place.0 c.message place.1 long below in omega (arith, until, same, after))
+            | inl below ↦ absurd (let until = number_until set t sound part a left place.0 c.message place.1 long below in omega (arith, until, same, named.after))
             | inr above ↦ (let at = sent_later place.0 c.message (omega (arith, above)) place.1 in omega (arith, at, tick, at_tick))
           ]
 
@@ -364,8 +345,7 @@ KnowsMisses-from_left part g left level long sent_later earlier h set t sound a 
           | inl late ↦ late
           | inr early ↦ absurd (
               let sent = a.sent_sound x (last_at-Contains part.sent left x e) in
-              let place = sent.place in
               let rise = ticks_rise t sound.time m.sent x.sent.no _ _ i.message.sent sent.message.sent early in
               let low = earlier x e in
-              omega (arith, rise, place, low, l))
+              omega (arith, rise, sent.place, low, l))
         ]

@@ -13,7 +13,7 @@ use Rattle.step_trace.proofs.StepPositions.{step_at_within}
 pub above_taken : (ids : List ℕ) (n : ℕ) → IsStrictlyIncreasing ids → n < length ids → (s : ℕ) → Contains (take n ids) s → s < get_or ids n 0
 above_taken ids n rising inside s k =
     let long = length-take-le n ids (let l : n ≤ length ids = omega arith in l) in
-    let within : k.0 < n = let m = k.1 in omega (arith, m, long) in
+    let within : k.0 < n = omega (arith, k.1, long) in
     let same = sym (get_or-take n ids k.0 s within) ∙ k.2 in
     climb n k.0 within inside (subst (λ v. v ≡ s) (get_or_default ids k.0 s 0 (omega (arith, within, inside))) same)
   where

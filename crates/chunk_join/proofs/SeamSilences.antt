@@ -12,7 +12,7 @@ use Rattle.chunk_join.proofs.Places.{Rises-at}
 
 ends_no_later : (a b : Gap) → EndsBefore a b → a.to ≤ b.to
 ends_no_later a b (inl l) = omega (arith, l)
-ends_no_later a b (inr l) = let e = l.0 in omega (arith, e)
+ends_no_later a b (inr l) = omega (arith, l.0)
 
 -- silences in order are parted by their ends
 pub parted_by_end : (silent : List Gap) (seam : ℕ) → Rises EndsBefore silent → IsPartitionedBy (λ w. nat_lt w.to seam) silent

@@ -28,13 +28,13 @@ comes_before-true a b p = go (a.tick == b.tick) refl p where
   go true e (inl l) = absurd (let s = eqb-true _ _ e in omega (arith, l, s))
   go true e (inr l) = lt-ltb _ _ l.1
   go false e (inl l) = lt-ltb _ _ l
-  go false e (inr l) = absurd (let n = eqb-false _ _ e in let s = l.0 in omega (arith, n, s))
+  go false e (inr l) = absurd (let n = eqb-false _ _ e in omega (arith, n, l.0))
 
 earlier_trans : (a b c : Place) → Earlier a b → Earlier b c → Earlier a c
 earlier_trans a b c (inl p) (inl q) = inl (omega (arith, p, q))
-earlier_trans a b c (inl p) (inr q) = inl (let e = q.0 in omega (arith, p, e))
-earlier_trans a b c (inr p) (inl q) = inl (let e = p.0 in omega (arith, q, e))
-earlier_trans a b c (inr p) (inr q) = inr (p.0 ∙ q.0, (let l = p.1 in let m = q.1 in omega (arith, l, m)))
+earlier_trans a b c (inl p) (inr q) = inl (omega (arith, p, q.0))
+earlier_trans a b c (inr p) (inl q) = inl (omega (arith, q, p.0))
+earlier_trans a b c (inr p) (inr q) = inr (p.0 ∙ q.0, omega (arith, p.1, q.1))
 
 -- messages in order are parted by a place
 pub parted_by_place : (sent : List Message) (at : Place) → Rises SentBefore sent → IsPartitionedBy (λ m. comes_before m.sent at) sent
@@ -51,14 +51,14 @@ kept last t m other = go (takes_of m t) refl where
   go false e = refl
 
 earlier_other : (a b : Place) → Earlier a b → (b.no ≡ a.no) × (b.tick ≡ a.tick) → ⊥
-earlier_other a b (inl l) e = let f = e.1 in omega (arith, l, f)
-earlier_other a b (inr l) e = let f = e.0 in let g = l.1 in omega (arith, f, g)
+earlier_other a b (inl l) e = omega (arith, l, e.1)
+earlier_other a b (inr l) e = omega (arith, e.0, l.1)
 
 later_other : (a b c : Place) → (comes_before a b ≡ false) → Earlier a c → (b.no ≡ c.no) × (b.tick ≡ c.tick) → ⊥
 later_other a b c n l e = true≢false (sym (comes_before-true a b (go l)) ∙ n) where
   go : Earlier a c → Earlier a b
-  go (inl p) = inl (let f = e.1 in omega (arith, p, f))
-  go (inr p) = inr ((let f = e.1 in let g = p.0 in omega (arith, f, g)), (let f = e.0 in let g = p.1 in omega (arith, f, g)))
+  go (inl p) = inl (omega (arith, p, e.1))
+  go (inr p) = inr (omega (arith, e.1, p.0), omega (arith, e.0, p.1))
 
 -- what stands before the place is another message
 module _ (last : List (Option Place)) (t : Take) (sent : List Message) (at : ℕ) (rises : Rises SentBefore sent)

@@ -45,8 +45,7 @@ steps_in t p k a x q l h =
 last_receive : (t p : Recorded) (k : ℕ) → ShareTicks t p k → (q low high : ℕ) (o : Option Place) → high ≤ k + 1 → IsLastReceive t q low high o → IsLastReceive p q low high o
 last_receive t p k a q low high None l h = λ y r u v. (
     let own = receives p t k (back t p k a) y q r (omega (arith, v, l)) in
-    let same = own.1 in
-    h y own.0 (omega (arith, same, u)) (omega (arith, same, v)))
+    h y own.0 (omega (arith, own.1, u)) (omega (arith, own.1, v)))
 last_receive t p k a q low high (Some r) l h =
     let place = h.place in
     let until = h.until in
@@ -58,9 +57,8 @@ last_receive t p k a q low high (Some r) l h =
       until = until;
       latest = λ y g v. (
           let other = receives p t k (back t p k a) y q g (omega (arith, v, l)) in
-          let same = other.1 in
-          let low = h.latest y other.0 (omega (arith, same, v)) in
-          omega (arith, low, same));
+          let low = h.latest y other.0 (omega (arith, other.1, v)) in
+          omega (arith, low, other.1));
     }
 
 -- a fate up to tick k
@@ -69,9 +67,8 @@ fate t p k a s q Open h = λ x g. elim (cases_lt k (tick_of p x)) [
   | inl late ↦ late
   | inr early ↦ (
       let own = takes p t k (back t p k a) x s.no g (omega (arith, early)) in
-      let same = own.1 in
       let late = h x own.0 in
-      omega (arith, late, same))
+      omega (arith, late, own.1))
 ]
 fate t p k a s q (Taken missed) h =
     let until = h.2 in
@@ -97,9 +94,7 @@ no_take : (t : Recorded) → IsTrace t → (set k : ℕ) (x : Take) → IsTake s
 no_take t sound set k x h =
     let sent = (sound.steps.earlier x.at.no x.sent.no h.own.takes.0 h.own.takes.1 h.own.takes.2).1 in
     let low = (sound.time.inside x.sent.no _ sent.1).0 in
-    let place = h.own.sent_place in
-    let early = h.earlier in
-    omega (arith, low, place, early)
+    omega (arith, low, h.own.sent_place, h.earlier)
 
 longest : (t p : Recorded) (k : ℕ) → ShareTicks t p k → k ≤ p.last → (set : ℕ) (w : Gap) → IsLongest set t 0 k w → IsLongest set p 0 k w
 longest t p k a inside set w h =
@@ -160,14 +155,13 @@ ShareTicks-extended t seen k e time later = record {
   kept : (s : ℕ) (x : Step) → step_at seen.steps s ≡ Some x → (step_at t.steps s ≡ Some x) × (tick_of t s ≡ tick_of seen s)
   kept s x h =
       let inside = (step_at_within seen.steps s x h).1 in
-      let long = time.each in
-      (step_kept t.steps seen.steps e.steps s inside ∙ h, tick_kept t.ticks seen.ticks e.ticks s (omega (arith, inside, long)))
+      (step_kept t.steps seen.steps e.steps s inside ∙ h, tick_kept t.ticks seen.ticks e.ticks s (omega (arith, inside, time.each)))
 
 -- the summary up to tick k is that of the trace cut there
 pub IsSummary-cut : (set : ℕ) (t cut : Recorded) (k : ℕ) (s : Summary) → IsTrace t → IsTrace cut → IsCutAt t k cut → k ≤ t.last → IsSummary set t 0 k s → IsSummary set cut 0 cut.last s
 IsSummary-cut set t cut k s sound is at low h =
     subst (λ n. IsSummary set cut 0 n s) (sym at.last)
-    (IsSummary-shared t cut k (back cut t k (ShareTicks-extended t cut k at.extends is.time at.after)) sound is low (let e = at.last in omega (arith, e)) set s h)
+    (IsSummary-shared t cut k (back cut t k (ShareTicks-extended t cut k at.extends is.time at.after)) sound is low (omega (arith, at.last)) set s h)
 
 -- the digest of the ticks before the one that was last
 pub IsDigestUpTo-extended : (set : ℕ) (t seen : Recorded) (digest : Option Summary) → IsTrace seen → Extends t seen → IsDigestUpTo set seen (seen.last - 1) digest → IsDigestUpTo set t (seen.last - 1) digest
@@ -175,7 +169,6 @@ IsDigestUpTo-extended set t seen None w e h = λ sound. h w
 IsDigestUpTo-extended set t seen (Some d) w e h = λ sound. extended sound (h w) where
   extended : (sound : IsTrace t) → IsDigestOf (record { set = set; trace = seen; sound = w }) 0 (seen.last - 1) (Some d) → IsDigestOf (record { set = set; trace = t; sound = sound }) 0 (seen.last - 1) (Some d)
   extended sound (some, high, (s, is, same)) =
-      let last = e.last in
-      let inside : seen.last - 1 ≤ t.last = omega (arith, last) in
+      let inside : seen.last - 1 ≤ t.last = omega (arith, e.last) in
       let shared = ShareTicks-extended t seen (seen.last - 1) e w.time (λ n x past at. (let late = e.later n x past at in omega (arith, late, some))) in
       (some, inside, (s, IsSummary-shared seen t (seen.last - 1) shared w sound high inside set s is, same))

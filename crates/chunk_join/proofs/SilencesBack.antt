@@ -58,7 +58,6 @@ around set t w gap =
     let low = b.1 in
     let from = b.2 in
     let to = e.1 in
-    let high = e.2 in
     let v : Gap = record { proc = w.proc; from = b.0; to = e.0 } in (
       v,
       record {
@@ -67,7 +66,7 @@ around set t w gap =
             member = gap.member;
             start = omega (arith, low);
             order = omega (arith, from, first, order, to);
-            inside = omega (arith, high, end);
+            inside = omega (arith, e.2, end);
             silent = λ x l h s. elim (cases_lt x w.from) [
               | inl before ↦ b.3 x l (omega (arith, before, first)) s
               | inr c ↦ elim (cases_lt w.to x) [
@@ -77,7 +76,7 @@ around set t w gap =
             ];
           };
           after = low;
-          until = omega (arith, high, end);
+          until = omega (arith, e.2, end);
           left = elim b.4 [ inl f ↦ inl (omega (arith, f)) | inr s ↦ inr s ];
           right = elim e.4 [ inl f ↦ inl (omega (arith, f, end)) | inr s ↦ inr s ];
         };
@@ -97,7 +96,7 @@ record IsTopped (w u : Gap) : Type 0 where
 ends_later : (v w : Gap) → (v ≡ w) ⊎ EndsBefore v w → (v.to ≤ w.to) × (v.to ≡ w.to → w.proc ≤ v.proc)
 ends_later v w (inl same) = let p = ap (λ (x : Gap). x.to) same in let q = ap (λ (x : Gap). x.proc) same in (omega (arith, p), λ e. omega (arith, q))
 ends_later v w (inr (inl l)) = (omega (arith, l), λ e. absurd (omega (arith, e, l)))
-ends_later v w (inr (inr e)) = let p = e.0 in let q = e.1 in (omega (arith, p), λ f. omega (arith, q))
+ends_later v w (inr (inr e)) = (omega (arith, e.0), λ f. omega (arith, e.1))
 
 -- A gap from tick g on is within the last silence that begins by then, or no longer than a later one.
 topped : (set : ℕ) (t : Recorded) (s : Summary) → Suffices set t s → (n g f : ℕ) (o : Option Gap) → n ≤ length s.silent → BeginAfter s.silent g n → KnowsGaps set t (g + 1) f o → (u : Gap) → IsGap set t u → u.from ≡ g
@@ -106,11 +105,7 @@ topped set t s a n g f o long later known u gap from = elim (cases_lt g c.by.fro
   | inl beyond ↦ inr (
       let v = a.silent_sound c.by c.listed in
       let short = known.shorter c.by v.gap (omega (arith, beyond)) in
-      let covers = c.long in
-      let low = is.from in
-      let high = is.to in
-      let order = gap.order in
-      omega (arith, short, covers, low, high, from, order))
+      omega (arith, short, c.long, is.from, is.to, from, gap.order))
   | inr begun ↦ inl (go n long later begun)
 ] where
   is : IsAround set t u (around set t u gap).0
@@ -138,7 +133,7 @@ topped set t s a n g f o long later known u gap from = elim (cases_lt g c.by.fro
           | inr inside ↦ elim (cases_lt at.0 n) [
             | inl below ↦ elim (Rises-slices EndsBefore s.silent at.0 n c.by _ a.silent_rising at.1 own below) [
               | inl e ↦ record { until = omega (arith, e, to, until); proc = λ same. absurd (omega (arith, e, to, until, same)) }
-              | inr e ↦ (let same = e.0 in let less = e.1 in record { until = omega (arith, same, to, until); proc = λ f. (let p = tie (omega (arith, f, same, to, until)) in omega (arith, less, proc, p)) })
+              | inr e ↦ (record { until = omega (arith, e.0, to, until); proc = λ f. (let p = tie (omega (arith, f, e.0, to, until)) in omega (arith, e.1, proc, p)) })
             ]
             | inr above ↦ (let e : at.0 ≡ n = omega (arith, above, inside) in
                 let same = same_Some _ _ (sym at.1 ∙ ap (slice_get s.silent) e ∙ own) in
@@ -157,7 +152,7 @@ IsLongestOver-top set t s a n g f o w start long later known top from = record {
     member = own.gap.member;
     start = start;
     order = omega (arith, l);
-    inside = let i = own.gap.inside in omega (arith, i);
+    inside = omega (arith, own.gap.inside);
     silent = λ x b e s. own.gap.silent x (omega (arith, b, from)) (omega (arith, e)) s;
   };
   longest = λ u i e. elim (topped set t s a n g f o long later known u i e) [

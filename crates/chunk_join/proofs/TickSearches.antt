@@ -27,14 +27,14 @@ pub searched_up : (t : Recorded) → IsTimed t → (x low high middle : ℕ) →
 searched_up t time x low high middle h l s = record {
   order = omega (arith, h);
   within = s.within;
-  before = λ k a b. (let w = s.within in let r = tick_below t time k (middle + 1) a b (omega (arith, h, w)) in omega (arith, r, l));
+  before = λ k a b. (let r = tick_below t time k (middle + 1) a b (omega (arith, h, s.within)) in omega (arith, r, l));
   rest = s.rest;
 }
 
 pub searched_down : (t : Recorded) → IsTimed t → (x low high middle : ℕ) → low ≤ middle → middle < high → x ≤ tick_of t (middle + 1) → IsSearched t x low high → IsSearched t x low middle
 searched_down t time x low high middle o h l s = record {
   order = o;
-  within = let w = s.within in omega (arith, w, h);
+  within = omega (arith, s.within, h);
   before = s.before;
   rest = λ k a b. (let r = tick_below t time (middle + 1) k (omega arith) (omega (arith, a)) b in omega (arith, r, l));
 }
@@ -62,9 +62,8 @@ all_steps t time x l = record {
 -- the steps in between are in the tick
 pub steps_inside : (t : Recorded) (x a b k : ℕ) → AreStepsOf t x a b → a ≤ k → k < b → tick_of t (k + 1) ≡ x
 steps_inside t x a b k o l h =
-    let within = o.next.within in
     let above = o.next.before (k + 1) (omega arith) (omega (arith, h)) in
-    let below = o.first.rest (k + 1) (omega (arith, l)) (omega (arith, h, within)) in
+    let below = o.first.rest (k + 1) (omega (arith, l)) (omega (arith, h, o.next.within)) in
     omega (arith, above, below)
 
 pub steps_order : (t : Recorded) (x a b : ℕ) → AreStepsOf t x a b → a ≤ b

@@ -60,10 +60,10 @@ pub IsTickBack-read : (part : Summary) (g m s n o : ℕ) (old mid : Level) (leve
 IsTickBack-read part g m s n o old mid levels known read = record {
   falling = CanStandBefore-through new old levels falling known.falling;
   known = record {
-    count = let c = known.count in omega (arith, c);
+    count = omega (arith, known.count);
     messages_within = read.messages_within;
     silences_within = read.silences_within;
-    positive = let a = falling.phi in let b = known.positive in omega (arith, a, b);
+    positive = omega (arith, falling.phi, known.positive);
     falling = StandsBefore-itself new;
     sent = read.sent;
     silent = read.silent;
@@ -86,7 +86,7 @@ IsTickBack-read part g m s n o old mid levels known read = record {
   falling = StandsBefore-through new mid old (StandsBefore-with_silence mid g (last_at part.silent o)) read.falling
 
   positive : 1 ≤ mid.phi
-  positive = let a = read.phi in let b = known.positive in omega (arith, a, b)
+  positive = omega (arith, read.phi, known.positive)
 
   lowered : (set : ℕ) (t : Recorded) → IsTrace t → Suffices set t part → GapsLowered set t g mid new
   lowered set t sound a =

@@ -75,12 +75,11 @@ thinned_listing Before strict pending weight Is xs all = record {
     | inl k ↦ k
     | inr n ↦ elim u.heavy [
       | inl e ↦ absurd (true≢false (sym e ∙ n.settled))
-      | inr h ↦ (let some = h.0 in elim n.covered [
-        | inl none ↦ absurd (omega (arith, none, some))
+      | inr h ↦ (elim n.covered [
+        | inl none ↦ absurd (omega (arith, none, h.0))
         | inr c ↦ absurd (
-            let w = c.as_heavy in
             let l = h.1 c.by (all.sound c.by (Contains-from_thinned pending weight xs c.by c.listed)) c.later c.settled in
-            omega (arith, w, l))
+            omega (arith, c.as_heavy, l))
       ])
     ]
   ];

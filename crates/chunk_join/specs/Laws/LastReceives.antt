@@ -25,7 +25,7 @@ IsLastReceive-join t q low mid high (Some r) None l h a b = record {
   receive = a.receive;
   place = a.place;
   after = a.after;
-  until = let u = a.until in omega (arith, u, h);
+  until = omega (arith, a.until, h);
   latest = λ z k v. elim (cases_lt mid (tick_of t z)) [
     | inl later ↦ absurd (b z k later v)
     | inr early ↦ a.latest z k (omega (arith, early))
@@ -34,7 +34,7 @@ IsLastReceive-join t q low mid high (Some r) None l h a b = record {
 IsLastReceive-join t q low mid high x (Some r) l h a b = record {
   receive = b.receive;
   place = b.place;
-  after = let u = b.after in omega (arith, u, l);
+  after = omega (arith, b.after, l);
   until = b.until;
   latest = b.latest;
 }
@@ -50,18 +50,14 @@ IsLastReceive-after t q low high s (Some r) l a = go (nat_lt s.tick r.tick) refl
 -- it is one
 pub IsLastReceive-one : (t : Recorded) → IsTimed t → (q low high : ℕ) (x y : Option Place) → IsLastReceive t q low high x → IsLastReceive t q low high y → x ≡ y
 IsLastReceive-one t time q low high None None a b = refl
-IsLastReceive-one t time q low high None (Some r) a b = absurd (a r.no b.receive (let p = b.place in let u = b.after in omega (arith, p, u)) (let p = b.place in let u = b.until in omega (arith, p, u)))
-IsLastReceive-one t time q low high (Some r) None a b = absurd (b r.no a.receive (let p = a.place in let u = a.after in omega (arith, p, u)) (let p = a.place in let u = a.until in omega (arith, p, u)))
+IsLastReceive-one t time q low high None (Some r) a b = absurd (a r.no b.receive (omega (arith, b.place, b.after)) (omega (arith, b.place, b.until)))
+IsLastReceive-one t time q low high (Some r) None a b = absurd (b r.no a.receive (omega (arith, a.place, a.after)) (omega (arith, a.place, a.until)))
 IsLastReceive-one t time q low high (Some r) (Some s) a b = ap₂ (λ (n m : ℕ). let p : Place = record { no = n; tick = m } in Some p) number tick where
   tick : r.tick ≡ s.tick
   tick =
-      let p = a.place in
-      let o = b.place in
-      let u = a.until in
-      let v = b.until in
-      let c = a.latest s.no b.receive (omega (arith, o, v)) in
-      let d = b.latest r.no a.receive (omega (arith, p, u)) in
-      omega (arith, p, o, c, d)
+      let c = a.latest s.no b.receive (omega (arith, b.place, b.until)) in
+      let d = b.latest r.no a.receive (omega (arith, a.place, a.until)) in
+      omega (arith, a.place, b.place, c, d)
 
   number : r.no ≡ s.no
   number = one_in_tick t time r.no s.no _ _ a.receive.step b.receive.step refl (a.place ∙ tick ∙ sym b.place)

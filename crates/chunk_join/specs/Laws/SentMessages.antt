@@ -18,19 +18,19 @@ use Rattle.chunk_join.specs.Laws.SettledFates.{KnowsTakes, IsKnown, earlier_fate
 pub KnowsTakes-right : (set : ℕ) (t : Recorded) (i s j : ℕ) (l r : Summary) (m : Message) → i ≤ s → IsSummary set t i s l → IsSummary set t s j r → IsSent set t i s m → KnowsTakes set t s j r.taken l.last m
 KnowsTakes-right set t i s j l r m low a b sent = record {
   sound = λ y c. (let k = b.taken.sound y c in (k.own, k.until));
-  complete = λ y own until same. (let early = sent.until in b.taken.complete y (record { own = own; until = until; earlier = omega (arith, early, same) }));
-  before = λ y own. (let after = sent.after in (i, omega (arith, after), before_take set t i s l y low a own));
+  complete = λ y own until same. (b.taken.complete y (record { own = own; until = until; earlier = omega (arith, sent.until, same) }));
+  before = λ y own. ((i, omega (arith, sent.after), before_take set t i s l y low a own));
 }
 
 pub IsKnown-left : (set : ℕ) (t : Recorded) (i s j : ℕ) (m : Message) → s ≤ j → IsSent set t i s m → IsKnown set t i s j m
-IsKnown-left set t i s j m high k = record { message = k.message; place = k.place; after = k.after; until = (let u = k.until in omega (arith, u, high)); fate = k.fate }
+IsKnown-left set t i s j m high k = record { message = k.message; place = k.place; after = k.after; until = omega (arith, k.until, high); fate = k.fate }
 
 -- what is sent after the seam is a message of the right part, and the other way
 IsSent-right : (set : ℕ) (t : Recorded) (i s j : ℕ) (m : Message) → s < m.sent.tick → IsSent set t i j m → IsSent set t s j m
 IsSent-right set t i s j m late k = record { message = k.message; place = k.place; after = late; until = k.until; fate = k.fate }
 
 IsSent-whole : (set : ℕ) (t : Recorded) (i s j : ℕ) (m : Message) → i ≤ s → IsSent set t s j m → IsSent set t i j m
-IsSent-whole set t i s j m low k = record { message = k.message; place = k.place; after = (let u = k.after in omega (arith, u, low)); until = k.until; fate = k.fate }
+IsSent-whole set t i s j m low k = record { message = k.message; place = k.place; after = omega (arith, k.after, low); until = k.until; fate = k.fate }
 
 -- a message keeps its Send
 pub settled_sent : (last : List (Option Place)) (m : Message) (o : Option Take) → (settled_by last m o).sent ≡ m.sent

@@ -20,8 +20,8 @@ use Rattle.chunk_join.specs.Laws.LastReceives.{IsLastReceive-after, IsLastReceiv
 -- A message has one fate.
 IsFate-one : (t : Recorded) → IsTrace t → (s : Place) (q j : ℕ) (f g : Fate) → IsFate t s q j f → IsFate t s q j g → f ≡ g
 IsFate-one t sound s q j Open Open a b = refl
-IsFate-one t sound s q j Open (Taken y) a b = absurd (let late = a b.0 b.1 in let until = b.2 in omega (arith, late, until))
-IsFate-one t sound s q j (Taken x) Open a b = absurd (let late = b a.0 a.1 in let until = a.2 in omega (arith, late, until))
+IsFate-one t sound s q j Open (Taken y) a b = absurd (let late = a b.0 b.1 in omega (arith, late, b.2))
+IsFate-one t sound s q j (Taken x) Open a b = absurd (let late = b a.0 a.1 in omega (arith, late, a.2))
 IsFate-one t sound s q j (Taken x) (Taken y) a b =
     let one : b.0 ≡ a.0 = sound.steps.once b.0 a.0 s.no b.1 a.1 in
     let last = subst (λ n. IsLastReceive t q s.tick (tick_of t n) y) one b.3 in
@@ -41,7 +41,7 @@ later_fate t p q s j Open high none h = λ x takes. elim (cases_lt j (tick_of t 
   | inl late ↦ late
   | inr until ↦ absurd (none x takes (h x takes) until)
 ]
-later_fate t p q s j (Taken missed) high none h = (h.0, h.1, (let until = h.2 in omega (arith, until, high)), h.3)
+later_fate t p q s j (Taken missed) high none h = (h.0, h.1, omega (arith, h.2, high), h.3)
 
 -- a message with another fate
 abbrev pub with_fate : Message → Fate → Message

@@ -106,7 +106,7 @@ reach_back-order seam left x y b =
     let py = from_seam-proc y (find (λ w. meets seam w y) left) in
     elim b [
       | inl l ↦ inl (omega (arith, l, ex, ey))
-      | inr e ↦ inr (ex ∙ e.0 ∙ sym ey, (let l = e.1 in omega (arith, l, px, py)))
+      | inr e ↦ inr (ex ∙ e.0 ∙ sym ey, omega (arith, e.1, px, py))
     ]
 
 -- of one member the longest silence that ends at a tick is one
@@ -120,8 +120,8 @@ longest-begins set trace i j u w a b same ends = elim (cases_lt u.from w.from) [
 ] where
   earlier : (u w : Gap) → IsLongest set trace i j u → IsLongest set trace i j w → u.proc ≡ w.proc → u.to ≡ w.to → u.from < w.from → ⊥
   earlier u w a b same ends l = elim b.left [
-    | inl e ↦ (let z = a.after in omega (arith, e, z, l))
-    | inr s ↦ (let o = b.gap.order in a.gap.silent (w.from - 1) (omega (arith, l)) (omega (arith, l, o, ends)) (subst (λ p. StepsIn trace (w.from - 1) p) (sym same) s))
+    | inl e ↦ omega (arith, e, a.after, l)
+    | inr s ↦ (a.gap.silent (w.from - 1) (omega (arith, l)) (omega (arith, l, b.gap.order, ends)) (subst (λ p. StepsIn trace (w.from - 1) p) (sym same) s))
   ]
 
 module _ (set : ℕ) (trace : Recorded) (i m k : ℕ) (before : i < m) (after : m < k) (inside : k ≤ trace.last)
@@ -136,7 +136,7 @@ module _ (set : ℕ) (trace : Recorded) (i m k : ℕ) (before : i < m) (after : 
   stopped w c s = let l = first.sound w c in record {
     gap = l.gap;
     after = l.after;
-    until = let u = l.until in omega (arith, u, after);
+    until = omega (arith, l.until, after);
     left = l.left;
     right = elim l.right [
       | inl e ↦ elim (steps_in_or_not trace (m + 1) w.proc) [
@@ -174,7 +174,7 @@ module _ (set : ℕ) (trace : Recorded) (i m k : ℕ) (before : i < m) (after : 
           gap = record {
             member = l.gap.member;
             start = a.gap.start;
-            order = let o = a.gap.order in let p = l.gap.order in omega (arith, o, p, f.1, f.2);
+            order = omega (arith, a.gap.order, l.gap.order, f.1, f.2);
             inside = l.gap.inside;
             silent = λ z from until s. elim (cases_lt m z) [
               | inl late ↦ l.gap.silent z (omega (arith, late, f.2)) until s
@@ -190,7 +190,7 @@ module _ (set : ℕ) (trace : Recorded) (i m k : ℕ) (before : i < m) (after : 
     | inr none ↦ (
         let whole : IsLongest set trace i k v = record {
           gap = l.gap;
-          after = let a = l.after in omega (arith, a, before);
+          after = omega (arith, l.after, before);
           until = l.until;
           left = elim l.left [
             | inl e ↦ elim (steps_in_or_not trace (v.from - 1) v.proc) [
@@ -213,7 +213,7 @@ module _ (set : ℕ) (trace : Recorded) (i m k : ℕ) (before : i < m) (after : 
           let long : IsLongest set trace i m w = record {
             gap = record {
               member = l.gap.member;
-              start = let a = b.1 in omega (arith, a);
+              start = omega (arith, b.1);
               order = omega (arith, until, before);
               inside = omega (arith, after, inside);
               silent = λ z c d s. b.3 z c (omega (arith, d, before)) s;
@@ -249,10 +249,9 @@ module _ (set : ℕ) (trace : Recorded) (i m k : ℕ) (before : i < m) (after : 
             let v = found.0 in
             let b = second.sound v found.1 in
             let f = meets-facts m w v found.2 in
-            let o = b.gap.order in
             elim l.right [
               | inl e ↦ absurd (omega (arith, e, ends, after))
-              | inr s ↦ absurd (b.gap.silent (w.to + 1) (omega (arith, f.1, f.2)) (omega (arith, o, f.1, f.2)) (subst (λ p. StepsIn trace (w.to + 1) p) f.0 s))
+              | inr s ↦ absurd (b.gap.silent (w.to + 1) (omega (arith, f.1, f.2)) (omega (arith, b.gap.order, f.1, f.2)) (subst (λ p. StepsIn trace (w.to + 1) p) f.0 s))
             ])
         | inr none ↦ ap not none.0
       ]
@@ -289,10 +288,9 @@ module _ (set : ℕ) (trace : Recorded) (i m k : ℕ) (before : i < m) (after : 
             let u = found.0 in
             let a = first.sound u found.1 in
             let f = meets-facts m u w found.2 in
-            let o = a.gap.order in
             elim stepped [
               | inl n ↦ absurd (n f.2)
-              | inr s ↦ absurd (a.gap.silent m (omega (arith, o, f.1)) (omega (arith, f.1)) (subst (λ p. StepsIn trace m p) (sym f.0) s))
+              | inr s ↦ absurd (a.gap.silent m (omega (arith, a.gap.order, f.1)) (omega (arith, f.1)) (subst (λ p. StepsIn trace m p) (sym f.0) s))
             ])
         | inr none ↦ ap (from_seam w) none.0
       ]
@@ -339,10 +337,8 @@ module _ (set : ℕ) (trace : Recorded) (i m k : ℕ) (before : i < m) (after : 
       let early = (first.sound x (Contains-from_filter (stops m right) left x a).0).until in
       let u = Contains-from_map (reach_back m left) right y b in
       let late = second.sound u.0 u.1 in
-      let from = late.after in
-      let order = late.gap.order in
       let to : y.to ≡ u.0.to = ap (λ (g : Gap). g.to) (sym u.2) ∙ from_seam-to u.0 (find (λ w. meets m w u.0) left) in
-      inl (omega (arith, early, from, order, to))
+      inl (omega (arith, early, late.after, late.gap.order, to))
 
   pub silences_joined : IsListing EndsBefore (IsLongest set trace i k) Joined
   silences_joined = record {

@@ -55,37 +55,30 @@ joined_taken set t sound i m j l r low high a b = record {
   right : (x : Take) → Contains older x → IsTake set t m j x × (x.sent.tick ≤ i)
   right x k =
       let y = Contains-from_filter (is_older l.from) r.taken x k in
-      let from = a.from in
       let early : x.sent.tick < l.from = ltb-true x.sent.tick l.from y.1 in
-      (b.taken.sound x y.0, omega (arith, from, early))
+      (b.taken.sound x y.0, omega (arith, a.from, early))
 
   reached : (x : Take) → Contains older x → IsTake set t i j (reach_take l.last x)
   reached x k =
       let y = right x k in
       let own = y.0.own in
-      let after = own.after in
-      record { own = any_take-from set t m i x _ own (omega (arith, after, low)) (before_take set t i m l x low a own); until = y.0.until; earlier = y.1 }
+      record { own = any_take-from set t m i x _ own (omega (arith, own.after, low)) (before_take set t i m l x low a own); until = y.0.until; earlier = y.1 }
 
   across : (x y : Take) → Contains l.taken x → Contains more y → TakenBefore x y
   across x y p q =
       let z = Contains-from_map (reach_take l.last) older y q in
       let u = a.taken.sound x p in
       let v = (right z.0 z.1).0.own in
-      let until = u.until in
-      let after = v.after in
-      let e = u.own.at_place in
-      let f = v.at_place in
-      subst (λ w. TakenBefore x w) z.2 (inl (number_below t sound.time x.at.no z.0.at.no _ _ u.own.receive.step v.receive.step (omega (arith, until, after, e, f))))
+      subst (λ w. TakenBefore x w) z.2 (inl (number_below t sound.time x.at.no z.0.at.no _ _ u.own.receive.step v.receive.step (omega (arith, u.until, v.after, u.own.at_place, v.at_place))))
 
   after_seam : (x : Take) → IsTake set t i j x → m < x.at.tick → Contains more x
   after_seam x k late =
       let last = IsLastReceive-some t sound.time x.by m x.at.tick in
       let y : Take = record { at = x.at; by = x.by; sent = x.sent; before = last.0 } in
       let own : IsAnyTake set t m y = any_take-from set t i m x last.0 k.own late last.1 in
-      let from = a.from in
       let earlier = k.earlier in
       let listed = b.taken.complete y (record { own = own; until = k.until; earlier = omega (arith, earlier, low) }) in
-      let test = is_older-true l.from y (omega (arith, from, earlier)) in
+      let test = is_older-true l.from y (omega (arith, a.from, earlier)) in
       let place = Contains-map (reach_take l.last) older y (Contains-filter (is_older l.from) r.taken y listed test) in
       let same = IsLastReceive-one t sound.time x.by i x.at.tick _ _ (before_take set t i m l y low a own) k.own.before in
       subst (λ v. Contains more v) (ap (λ (o : Option Place). let z : Take = record { at = x.at; by = x.by; sent = x.sent; before = o } in z) same) place

@@ -80,7 +80,7 @@ heaviest-becomes {X} {Y} pending weight waits heavy becomes (x ∷ xs) keeps =
     go rest more front true e = omega (arith, rest, more)
     go rest more front false e =
         let s = keeps x (Contains-head x xs) e in
-        let own : heaviest waits heavy (becomes x) ≡ weight x = ap (heaviest waits heavy) s.one ∙ ap (λ (b : Bool). max (cond b 0 (heavy s.is)) 0) s.still ∙ (let h = s.as_heavy in omega (arith, h)) in
+        let own : heaviest waits heavy (becomes x) ≡ weight x = ap (heaviest waits heavy) s.one ∙ ap (λ (b : Bool). max (cond b 0 (heavy s.is)) 0) s.still ∙ (omega (arith, s.as_heavy)) in
         omega (arith, rest, more, front, own)
 
 -- THE LEMMA: what is kept of xs is as good as xs, whatever becomes of its elements and whatever follows.
@@ -105,7 +105,7 @@ thinned-alike {X} {Y} pending weight waits heavy becomes (x ∷ xs) ys keeps =
         let s = keeps x (Contains-head x xs) d.0 in
         let a = heaviest-becomes pending weight waits heavy becomes xs keeps_rest in
         let b = heaviest-append waits heavy (flat_map becomes xs) ys in
-        let light : heavy s.is ≤ heaviest waits heavy (flat_map becomes xs ++ ys) = (let h = s.as_heavy in let w = d.1 in omega (arith, h, w, a, b)) in
+        let light : heavy s.is ≤ heaviest waits heavy (flat_map becomes xs ++ ys) = omega (arith, s.as_heavy, d.1, a, b) in
         let same : s.is ∷ (flat_map becomes xs ++ ys) ≡ (becomes x ++ flat_map becomes xs) ++ ys = ap (λ (zs : List Y). (zs ++ flat_map becomes xs) ++ ys) (sym s.one) in
         let step = AreAlike-drop waits heavy s.is (flat_map becomes xs ++ ys) s.still light in
         AreAlike-trans waits heavy _ (flat_map becomes xs ++ ys) _ rest
@@ -206,11 +206,11 @@ heaviest-reached {X} pending weight (x ∷ xs) = go (pending x) refl (heaviest-r
 
   go : (p : Bool) → pending x ≡ p → (heaviest pending weight xs ≡ 0) ⊎ ((y : X) × IsHeaviest pending weight xs y) → (heaviest pending weight (x ∷ xs) ≡ 0) ⊎ ((y : X) × IsHeaviest pending weight (x ∷ xs) y)
   go true e (inl z) = whole true e (inl (omega (arith, z)))
-  go true e (inr (y, h)) = whole true e (inr (y, Contains-rest x y xs h.listed, h.settled, (let w = h.heavy in omega (arith, w))))
+  go true e (inr (y, h)) = whole true e (inr (y, Contains-rest x y xs h.listed, h.settled, omega (arith, h.heavy)))
   go false e (inl z) = whole false e (inr (x, Contains-head x xs, e, omega (arith, z)))
   go false e (inr (y, h)) = elim (cases_lt (weight x) (weight y)) [
-    | inl l ↦ whole false e (inr (y, Contains-rest x y xs h.listed, h.settled, (let w = h.heavy in omega (arith, w, l))))
-    | inr m ↦ whole false e (inr (x, Contains-head x xs, e, (let w = h.heavy in omega (arith, w, m))))
+    | inl l ↦ whole false e (inr (y, Contains-rest x y xs h.listed, h.settled, omega (arith, h.heavy, l)))
+    | inr m ↦ whole false e (inr (x, Contains-head x xs, e, omega (arith, h.heavy, m)))
   ]
 
 -- a later one that is kept, settled and no lighter
@@ -253,14 +253,12 @@ kept_or_needless {X} Before pending weight (z ∷ zs) r x c = go (λ k. kept_or_
   first : stays pending weight (heaviest pending weight zs) z ≡ false → IsNeedless Before pending weight kept z
   first e =
       let d = dropped pending weight (heaviest pending weight zs) z e in
-      let light = d.1 in
       let same = (thinned-same pending weight zs).top in
       record {
         settled = d.0;
         covered = elim (heaviest-reached pending weight kept) [
-          | inl n ↦ inl (omega (arith, n, same, light))
-          | inr h ↦ (let l = h.1.listed in let w = h.1.heavy in
-              inr (record { by = h.0; listed = l; later = r.0 h.0 (Contains-from_thinned pending weight zs h.0 l); settled = h.1.settled; as_heavy = omega (arith, w, same, light) }))
+          | inl n ↦ inl (omega (arith, n, same, d.1))
+          | inr h ↦ (let l = h.1.listed in inr (record { by = h.0; listed = l; later = r.0 h.0 (Contains-from_thinned pending weight zs h.0 l); settled = h.1.settled; as_heavy = omega (arith, h.1.heavy, same, d.1) }))
         ];
       }
 

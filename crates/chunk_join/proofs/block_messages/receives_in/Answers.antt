@@ -29,9 +29,7 @@ loop-no-preserved c =
     let i = c.args.from - 1 in
     let order = c.loop-no.invariant.0 in
     let more : c.args.before ≤ no + 1 = omega (arith, order) in
-    let test = c.loop-no-test.true in
-    let within = c.requires.within in
-    let inside : no < length t.steps = omega (arith, test, within) in
+    let inside : no < length t.steps = omega (arith, c.loop-no-test.true, c.requires.within) in
     let low = step_after t c.args.from c.args.before no c.requires.low c.requires.first order inside in
     elim c.match-receiver.branch [
       | in-Some+in_ok-append_takes w ↦ (
@@ -46,7 +44,6 @@ loop-no-preserved c =
 
 pub returns-clause-taken : goal.returns-clause-taken
 returns-clause-taken c =
-    let last = c.loop-no-test.false in
     let upto = c.loop-no.auto.no-end c.requires.order in
-    let at : c.loop-no.no ≡ c.args.end = omega (arith, last, upto) in
+    let at : c.loop-no.no ≡ c.args.end = omega (arith, c.loop-no-test.false, upto) in
     subst (λ k. IsListing TakenBefore (IsAnyTakeBy c.args.set c.args.trace.now (c.args.from - 1) k []) c.loop-no.taken.items) at c.loop-no.invariant.1

@@ -20,13 +20,11 @@ loop-no-preserved-in-Some c =
     let p = c.in-Some.proc in
     let test = c.loop-no-test.true in
     let known = c.loop-no.invariant in
-    let upto = c.loop-no.auto.no in
     let next : c.loop-no.no ≡ n + 1 = omega (arith, test) in
-    let tick = steps_inside t x c.args.span.before c.args.span.end n c.requires.steps (omega (arith, test)) (omega (arith, test, upto)) in
+    let tick = steps_inside t x c.args.span.before c.args.span.end n c.requires.steps (omega (arith, test)) (omega (arith, test, c.loop-no.auto.no)) in
     let long : length (slice_set c.loop-no.begun.items p (x + 1)) ≡ MAX_MEMBER + 1 = length-set c.loop-no.begun.items p (x + 1) ∙ known.0 in
     let high = member_high c.args.set p c.in-Some.ensures.0 in
-    let long_now = known.0 in
-    let value : c.index-from.result.now ≡ get_or c.loop-no.begun.items p 0 = c.index-from.ensures ∙ get_or_default c.loop-no.begun.items p c.index-from.result.now 0 (omega (arith, high, long_now)) in
+    let value : c.index-from.result.now ≡ get_or c.loop-no.begun.items p 0 = c.index-from.ensures ∙ get_or_default c.loop-no.begun.items p c.index-from.result.now 0 (omega (arith, high, known.0)) in
     elim c.if-from-span.branch [
       | then-from-span+in_ok-push w ↦ rw w.silent-is (
         long,
@@ -50,11 +48,10 @@ loop-no-preserved c =
     let t = c.args.trace.now in
     let x = c.args.span.tick in
     let n = c.loop-no.no - 1 in
-    let test = c.loop-no-test.true in
     let known = c.loop-no.invariant in
-    let next : c.loop-no.no ≡ n + 1 = omega (arith, test) in (
+    let next : c.loop-no.no ≡ n + 1 = omega (arith, c.loop-no-test.true) in (
       known.0,
-      omega (arith, test),
+      omega (arith, c.loop-no-test.true),
       λ i low k. ended_same c.args.set t i x n c.loop-no.silent.items c.loop-no.begun.items c.in_default.ensures
           (subst (λ m. AreEnded c.args.set t i x m c.loop-no.silent.items c.loop-no.begun.items) next (known.2 i low k)),
     )
@@ -62,7 +59,5 @@ loop-no-preserved c =
 pub returns-clause-ended : goal.returns-clause-ended
 returns-clause-ended c =
     let t = c.args.trace.now in
-    let test = c.loop-no-test.false in
-    let low = c.loop-no.invariant.1 in
-    let at : c.loop-no.no ≡ c.args.span.before = omega (arith, test, low) in
+    let at : c.loop-no.no ≡ c.args.span.before = omega (arith, c.loop-no-test.false, c.loop-no.invariant.1) in
     λ i l k. subst (λ m. AreEnded c.args.set t i c.args.span.tick m c.loop-no.silent.items c.loop-no.begun.items) at (c.loop-no.invariant.2 i l k)

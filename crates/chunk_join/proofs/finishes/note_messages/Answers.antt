@@ -10,14 +10,12 @@ use Rattle.chunk_join.proofs.finishes.note_messages.Goals as goal
 
 pub returns-then-tick-g-clause-misses : goal.returns-then-tick-g-clause-misses
 returns-then-tick-g-clause-misses c =
-    let above = c.loop-k-test.true in
-    let e : c.loop-k.k ≡ c.loop-k.k - 1 + 1 = omega (arith, above) in
+    let e : c.loop-k.k ≡ c.loop-k.k - 1 + 1 = omega (arith, c.loop-k-test.true) in
     λ h. subst (λ n. HasMissesFrom c.args.part.now n c.loop-k.level) e (c.loop-k.invariant.misses h)
 
 pub returns-clause-misses : goal.returns-clause-misses
 returns-clause-misses c =
-    let below = c.loop-k-test.false in
-    let e : c.loop-k.k ≡ 0 = omega (arith, below) in
+    let e : c.loop-k.k ≡ 0 = omega (arith, c.loop-k-test.false) in
     λ h. subst (λ n. HasMissesFrom c.args.part.now n c.loop-k.level) e (c.loop-k.invariant.misses h)
 
 pub loop-k-preserved : goal.loop-k-preserved
@@ -25,12 +23,10 @@ loop-k-preserved c =
     let k = c.loop-k.k - 1 in
     let message = c.index-message.result.now in
     let part = c.args.part.now in
-    let above = c.loop-k-test.true in
     let within = c.loop-k.invariant.within in
-    let e : c.loop-k.k ≡ suc k = omega (arith, above) in
-    let count = c.requires in
+    let e : c.loop-k.k ≡ suc k = omega (arith, c.loop-k-test.true) in
     let read : message ≡ get_or part.sent k message = search rules in
-    let at : slice_get part.sent k ≡ Some message = slice_get-get_or part.sent k message (omega (arith, within, above, count)) ∙ ap (λ (m : Message). Some m) (sym read) in
+    let at : slice_get part.sent k ≡ Some message = slice_get-get_or part.sent k message (omega (arith, within, c.loop-k-test.true, c.requires)) ∙ ap (λ (m : Message). Some m) (sym read) in
     let is : c.note_message.new.level ≡ with_missed part.to c.loop-k.level message (missed part.last message) = search rules in
     record {
       within = omega (arith, within);
@@ -38,12 +34,11 @@ loop-k-preserved c =
       phi = ap (λ (l : Level). l.phi) is ∙ with_missed-phi part.to c.loop-k.level message (missed part.last message) ∙ c.loop-k.invariant.phi;
       gap = ap (λ (l : Level). l.gap) is ∙ with_missed-gap part.to c.loop-k.level message (missed part.last message) ∙ c.loop-k.invariant.gap;
       later = λ j m low high h. elim (cases_lt k j) [
-        | inl later ↦ c.loop-k.invariant.later j m (omega (arith, later, above)) high h
+        | inl later ↦ c.loop-k.invariant.later j m (omega (arith, later, c.loop-k-test.true)) high h
         | inr first ↦ (
             let same : j ≡ k = omega (arith, first, low) in
             let one = ap (λ (x : Message). x.sent.tick) (same_Some _ _ (sym h ∙ ap (slice_get part.sent) same ∙ at)) in
-            let test = c.if-tick-g.false in
-            omega (arith, one, test))
+            omega (arith, one, c.if-tick-g.false))
       ];
       misses = λ h. subst (HasMissesFrom part k) (sym is)
           (HasMissesFrom-back part k message c.loop-k.level at (subst (λ n. HasMissesFrom part n c.loop-k.level) e (c.loop-k.invariant.misses h)));

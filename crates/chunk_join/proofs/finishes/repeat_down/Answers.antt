@@ -7,12 +7,11 @@ pub loop-x-preserved : goal.loop-x-preserved
 loop-x-preserved c =
     let part = c.args.part.now in
     let x = c.loop-x._x - 1 in
-    let test = c.loop-x-test.true in
     let high = c.loop-x.invariant.high in
-    let next : c.loop-x._x ≡ x + 1 = omega (arith, test) in
+    let next : c.loop-x._x ≡ x + 1 = omega (arith, c.loop-x-test.true) in
     let known : IsGoneOver part (x + 1) c.args.messages c.args.silences c.args.level c.loop-x.builder = rw next at c.loop-x.invariant.known in
     record {
-      low = omega (arith, test);
+      low = omega (arith, c.loop-x-test.true);
       high = omega (arith, high);
-      known = rw c.in_ok-lower.ensures.ok (IsGoneOver-quiet part x c.args.low c.args.messages c.args.silences c.args.level c.loop-x.builder (omega (arith, test)) known c.requires.quiet);
+      known = rw c.in_ok-lower.ensures.ok (IsGoneOver-quiet part x c.args.low c.args.messages c.args.silences c.args.level c.loop-x.builder (omega (arith, c.loop-x-test.true)) known c.requires.quiet);
     }

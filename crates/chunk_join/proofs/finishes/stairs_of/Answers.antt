@@ -24,8 +24,7 @@ pub note_silence-requires-clause-end : goal.note_silence-requires-clause-end
 note_silence-requires-clause-end c = λ w e.
     (let top : last_at c.part.inside.silent.items c.begun_by-silences.result ≡ Some w = search rules in
     let high = (c.part.invariant.silent_inside w (last_at-Contains c.part.inside.silent.items c.begun_by-silences.result w top)).1 in
-    let end = c.part.invariant.end in
-    omega (arith, high, end))
+    omega (arith, high, c.part.invariant.end))
 
 -- one tick back
 back : (c : After-note_silence) → IsTickBack c.args.part.now (c.loop-next.next - 1) c.note_messages-messages.result c.begun_by-silences.result c.note_silence.new.level c.loop-next.builder
@@ -33,8 +32,7 @@ back c =
     let part = c.args.part.now in
     let g = c.loop-next.next - 1 in
     let low = c.loop-next.invariant.low in
-    let test = c.loop-next-test.true in
-    let next : c.loop-next.next ≡ g + 1 = omega (arith, test) in
+    let next : c.loop-next.next ≡ g + 1 = omega (arith, c.loop-next-test.true) in
     let known : IsGoneOver part (g + 1) c.loop-next.messages c.loop-next.silences c.loop-next.level c.loop-next.builder = rw next at c.loop-next.invariant.known in
     let noted = c.note_messages-messages.ensures in
     let begun = c.begun_by-silences.ensures in
@@ -43,9 +41,9 @@ back c =
     let is : c.note_silence.new.level ≡ with_silence c.note_messages-messages.new.level g (last_at part.silent c.begun_by-silences.result) =
     c.note_silence.ensures ∙ ap (with_silence c.note_messages-messages.new.level g) (c.last_at.ensures ∙ ap (λ (xs : List Gap). last_at xs c.begun_by-silences.result) again) in
     rw is (IsTickBack-read part g c.loop-next.messages c.loop-next.silences c.note_messages-messages.result c.begun_by-silences.result c.loop-next.level c.note_messages-messages.new.level c.loop-next.builder known (record {
-      start = omega (arith, test);
-      messages_within = let a = noted.within in let b = known.messages_within in omega (arith, a, b);
-      silences_within = let a = begun.within in let b = known.silences_within in omega (arith, a, b);
+      start = omega (arith, c.loop-next-test.true);
+      messages_within = omega (arith, noted.within, known.messages_within);
+      silences_within = omega (arith, begun.within, known.silences_within);
       falling = noted.falling;
       phi = noted.phi;
       gap = noted.gap;
@@ -66,8 +64,7 @@ pub quiet_from-next-requires-clause-end : goal.quiet_from-next-requires-clause-e
 quiet_from-next-requires-clause-end c = λ w e.
     (let top : last_at c.part.inside.silent.items c.begun_by-silences.result ≡ Some w = search rules in
     let high = (c.part.invariant.silent_inside w (last_at-Contains c.part.inside.silent.items c.begun_by-silences.result w top)).1 in
-    let end = c.part.invariant.end in
-    omega (arith, high, end))
+    omega (arith, high, c.part.invariant.end))
 
 pub repeat_down-requires-clause-known : goal.repeat_down-requires-clause-known
 repeat_down-requires-clause-known c = rw c.in_ok-lower.ensures.ok (back (goal.at.repeat_down-requires-clause-known c).After-note_silence).known
@@ -80,7 +77,5 @@ loop-next-preserved c = record {
 
 pub returns : goal.returns
 returns c = λ set t sound a.
-    (let low = c.loop-next.invariant.low in
-    let test = c.loop-next-test.false in
-    let first : c.loop-next.next ≡ 1 = omega (arith, low, test) in
+    (let first : c.loop-next.next ≡ 1 = omega (arith, c.loop-next.invariant.low, c.loop-next-test.false) in
     rw c.build.ensures (AreLevels-gone_over c.args.part.now _ _ c.loop-next.level c.loop-next.builder (rw first at c.loop-next.invariant.known) set t sound a))

@@ -8,16 +8,13 @@ pub loop-next-preserved : goal.loop-next-preserved
 loop-next-preserved c =
     let low = c.block_end-end.ensures.low in
     let high = c.block_end-end.ensures.high in
-    let from = c.loop-next.invariant.low in
-    let last = c.requires.high in
-    let start = c.requires.low in
     record {
-      low = omega (arith, low, from);
+      low = omega (arith, low, c.loop-next.invariant.low);
       high = omega (arith, high);
       whole = λ sound. (
           let w : Whole = record { set = c.args.set; trace = c.args.trace.now; sound = sound } in
           let is : IsSummary c.args.set c.args.trace.now (c.loop-next.next - 1) c.block_end-end.result c.in_ok-part.part = search rules in
-          let block : IsDigestOf w (c.loop-next.next - 1) c.block_end-end.result (Some c.thin.result) = (omega (arith, low, from, start), omega (arith, high, last), (c.in_ok-part.part, is, c.thin.ensures)) in
+          let block : IsDigestOf w (c.loop-next.next - 1) c.block_end-end.result (Some c.thin.result) = (omega (arith, low, c.loop-next.invariant.low, c.requires.low), omega (arith, high, c.requires.high), (c.in_ok-part.part, is, c.thin.ensures)) in
           let both = c.in_ok-whole.ensures w (c.args.from - 1) (c.loop-next.next - 1) c.block_end-end.result (c.loop-next.invariant.whole sound) block in
           let e : c.block_end-end.result ≡ c.block_end-end.result + 1 - 1 = omega arith in
           subst (λ k. IsDigestOf w (c.args.from - 1) k c.in_ok-whole.whole) e both);
