@@ -2,7 +2,7 @@
 use Rattle.std.proofs.Common.{ℕ, ◌≡◌, ◌≢◌, ◌+◌, ◌-◌, ◌<◌, ◌≤◌, ◌⊎◌, ◌++◌, inl, inr, List, [], ◌∷◌, length, replicate, Option, Some, None, IsTrue, refl, sym, ap, subst, ◌∙◌, arith, ap₂, get_or}
 use Rattle.std.proofs.Common.{set as set_at}
 use Rattle.std.proofs.lemmas.Bool.{cases_eq, cases_lt}
-use Rattle.std.proofs.lemmas.List.{length-set, map-append}
+use Rattle.std.proofs.lemmas.List.{length-replicate, length-set, map-append}
 use Rattle.step_trace.specs.declared.processors.TheConstants.{MAX_MEMBER}
 use Rattle.step_trace.specs.declared.steps.Act.TheVariants.{Send}
 use Rattle.step_trace.specs.declared.steps.Step.{Step}
@@ -21,7 +21,7 @@ use Rattle.chunk_join.specs.Summaries.{IsListing, IsLastReceive, AreLastReceives
 use Rattle.chunk_join.specs.TickSteps.{AreStepsBefore}
 use Rattle.chunk_join.specs.BlockSteps.{IsOpenBy, AreFated, fated, IsLastBy, AreLastBy}
 use Rattle.chunk_join.proofs.ListingGrowth.{IsListing-same, IsListing-push}
-use Rattle.chunk_join.proofs.LastEntries.{member_high, length-none, last_of-replicate, last_of-set}
+use Rattle.chunk_join.proofs.LastEntries.{member_high, last_of-replicate, last_of-set}
 
 -- a step of the first ones is in an early tick, and one that isn't, isn't
 pub step_early : (t : Recorded) (x a k : ℕ) (s : Step) → AreStepsBefore t x a → step_at t.steps k ≡ Some s → k ≤ a → tick_of t k < x
@@ -111,7 +111,7 @@ last_all set t time i j b last o a = record {
 -- before the first step none is known
 pub last_none : (set : ℕ) (t : Recorded) (from a : ℕ) (last : List (Option Place)) → 1 ≤ from → AreStepsBefore t from a → last ≡ replicate (MAX_MEMBER + 1) None → AreLastBy set t (from - 1) a last
 last_none set t from a last low s e = record {
-  long = ap length e ∙ length-none (MAX_MEMBER + 1);
+  long = ap length e ∙ length-replicate {A = Option Place} (MAX_MEMBER + 1) None;
   members = λ p m. subst (λ o. IsLastBy t p (from - 1) a o) (sym (none p)) (λ y r u v. (let l = step_early t from a y _ s r.step v in omega (arith, l, u)));
   others = λ p m. none p;
 } where

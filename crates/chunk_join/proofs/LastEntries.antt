@@ -37,10 +37,6 @@ pub member_high : (set p : ℕ) → IsTrue (has_proc set p) → p ≤ MAX_MEMBER
 member_high set p m = (member_range set p m).1
 
 -- where no place has a Receive, and where one is set
-pub length-none : (n : ℕ) → (let xs : List (Option Place) = replicate n None in length xs) ≡ n
-length-none zero = refl
-length-none (suc n) = ap suc (length-none n)
-
 pub last_of-replicate : (n p : ℕ) → last_of (replicate n None) p ≡ None
 last_of-replicate zero p = refl
 last_of-replicate (suc n) zero = refl

@@ -53,23 +53,14 @@ StandsBefore-with_miss level m long = go (nat_le level.delta long) refl where
   go false e = StandsBefore-itself level
 
 with_miss-phi : (level : Level) (m : Miss) (long : ℕ) → (with_miss level m long).phi ≡ level.phi
-with_miss-phi level m long = go (nat_le level.delta long) where
-  go : (b : Bool) → (let l : Level = cond b (record { delta = long + 1; miss = Some m; phi = level.phi; gap = level.gap }) level in l).phi ≡ level.phi
-  go true = refl
-  go false = refl
+with_miss-phi level m long = grind arith
 
 with_miss-gap : (level : Level) (m : Miss) (long : ℕ) → (with_miss level m long).gap ≡ level.gap
-with_miss-gap level m long = go (nat_le level.delta long) where
-  go : (b : Bool) → (let l : Level = cond b (record { delta = long + 1; miss = Some m; phi = level.phi; gap = level.gap }) level in l).gap ≡ level.gap
-  go true = refl
-  go false = refl
+with_miss-gap level m long = grind arith
 
 -- no miss is shorter than a positive bound
 with_miss-none : (level : Level) (m : Miss) → 1 ≤ level.delta → with_miss level m 0 ≡ level
-with_miss-none level m l = go (nat_le level.delta 0) refl where
-  go : (b : Bool) → nat_le level.delta 0 ≡ b → cond b (record { delta = 0 + 1; miss = Some m; phi = level.phi; gap = level.gap }) level ≡ level
-  go true e = absurd (let h = leb-true level.delta 0 e in omega (arith, h, l))
-  go false e = refl
+with_miss-none level m l = grind (arith, l)
 
 pub StandsBefore-with_missed : (end : ℕ) (level : Level) (m : Message) (o : Option Place) → StandsBefore (with_missed end level m o) level
 StandsBefore-with_missed end level m None = StandsBefore-itself level

@@ -1,18 +1,19 @@
 -- Silences that ended before the seam neither go on nor are reached.
-use Rattle.std.proofs.Common.{ℕ, ◌≡◌, ◌+◌, ◌<◌, ◌≤◌, ◌++◌, inl, inr, List, [], ◌∷◌, get_or, take, drop, map, filter, find, not, Bool, true, false, cond, Some, Contains, refl, sym, ap, ap₂, subst, ◌∙◌, arith, ◌==◌, ◌&&◌}
+use Rattle.std.proofs.Common.{ℕ, ◌≡◌, ◌+◌, ◌<◌, ◌≤◌, ◌++◌, inl, inr, List, [], ◌∷◌, get_or, take, drop, map, filter, find, not, Bool, true, false, cond, Some, Contains, refl, sym, ap, ap₂, subst, ◌∙◌, arith}
 use Rattle.std.specs.Prelude.{nat_lt}
 use Rattle.std.specs.List.Sorted.{IsPartitionedBy}
-use Rattle.std.proofs.lemmas.Bool.{cases_eq, ltb-true, lt-ltb, eqb-true, and_parts}
+use Rattle.std.proofs.lemmas.Bool.{cases_eq, ltb-true, lt-ltb}
 use Rattle.std.proofs.lemmas.List.{take-append-drop}
 use Rattle.step_trace.specs.declared.rows.Gap.{Gap}
-use Rattle.step_trace.proofs.ListMembers.{Contains-head, Contains-rest, list_any-found}
+use Rattle.step_trace.proofs.ListMembers.{Contains-head, Contains-rest}
 use Rattle.chunk_join.specs.Summaries.{Rises, EndsBefore}
-use Rattle.chunk_join.specs.Parts.{meets, goes_on, stops, reach_back, from_seam}
+use Rattle.chunk_join.specs.Parts.{meets, stops, reach_back, from_seam}
+use Rattle.chunk_join.specs.Laws.Listings.{none_any}
+use Rattle.chunk_join.specs.Laws.SilencesJoined.{meets-early}
 use Rattle.chunk_join.proofs.Places.{Rises-at}
 
 ends_no_later : (a b : Gap) → EndsBefore a b → a.to ≤ b.to
-ends_no_later a b (inl l) = omega (arith, l)
-ends_no_later a b (inr l) = omega (arith, l.0)
+ends_no_later a b h = grind (arith, h)
 
 -- silences in order are parted by their ends
 pub parted_by_end : (silent : List Gap) (seam : ℕ) → Rises EndsBefore silent → IsPartitionedBy (λ w. nat_lt w.to seam) silent
@@ -21,23 +22,9 @@ parted_by_end silent seam r i j d l h e = elim (cases_eq i j) [
   | inr other ↦ lt-ltb (get_or silent i d).to seam (let a = ends_no_later (get_or silent i d) (get_or silent j d) (Rises-at EndsBefore silent i j d r (omega (arith, l, other)) h) in let b = ltb-true (get_or silent j d).to seam e in omega (arith, a, b))
 ]
 
-meets-at : (seam : ℕ) (w v : Gap) → meets seam w v ≡ true → w.to ≡ seam
-meets-at seam w v h =
-    let first = (and_parts (w.proc == v.proc && w.to == seam) (v.from == seam + 1) h).0 in
-    eqb-true w.to seam (and_parts (w.proc == v.proc) (w.to == seam) first).1
-
 -- one that ended before doesn't go on
 ended_stops : (seam : ℕ) (right : List Gap) (w : Gap) → w.to < seam → stops seam right w ≡ true
-ended_stops seam right w l = go (goes_on seam right w) refl where
-  go : (b : Bool) → goes_on seam right w ≡ b → not b ≡ true
-  go true e = absurd (let v = list_any-found (λ x. meets seam w x) right e in let same = meets-at seam w v.0 v.2 in omega (arith, same, l))
-  go false e = refl
-
-ended_misses : (seam : ℕ) (w v : Gap) → w.to < seam → meets seam w v ≡ false
-ended_misses seam w v l = go (meets seam w v) refl where
-  go : (b : Bool) → meets seam w v ≡ b → b ≡ false
-  go true e = absurd (let same = meets-at seam w v e in omega (arith, same, l))
-  go false e = refl
+ended_stops seam right w l = ap not (none_any (λ v. meets seam w v) right (λ v. meets-early seam w v l))
 
 -- so a filter keeps them, and a search passes over them
 filter_past : (seam : ℕ) (right first rest : List Gap) → ((w : Gap) → Contains first w → w.to < seam) → filter (stops seam right) (first ++ rest) ≡ first ++ filter (stops seam right) rest
@@ -50,7 +37,7 @@ filter_past seam right (w ∷ first) rest h =
 find_past_ended : (seam : ℕ) (v : Gap) (first rest : List Gap) → ((w : Gap) → Contains first w → w.to < seam) → find (λ w. meets seam w v) (first ++ rest) ≡ find (λ w. meets seam w v) rest
 find_past_ended seam v [] rest h = refl
 find_past_ended seam v (w ∷ first) rest h =
-    let e = ended_misses seam w v (h w (Contains-head w first)) in
+    let e = meets-early seam w v (h w (Contains-head w first)) in
     ap (λ (b : Bool). cond b (Some w) (find (λ w. meets seam w v) (first ++ rest))) e
     ∙ find_past_ended seam v first rest (λ x k. h x (Contains-rest w x first k))
 

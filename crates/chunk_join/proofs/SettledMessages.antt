@@ -17,24 +17,13 @@ abbrev Earlier : Place → Place → Type 0
 Earlier a b = (a.tick < b.tick) ⊎ ((a.tick ≡ b.tick) × (a.no < b.no))
 
 comes_before-says : (a b : Place) → comes_before a b ≡ true → Earlier a b
-comes_before-says a b = go (a.tick == b.tick) refl where
-  go : (same : Bool) → (a.tick == b.tick) ≡ same → cond same (nat_lt a.no b.no) (nat_lt a.tick b.tick) ≡ true → Earlier a b
-  go true e h = inr (eqb-true _ _ e, ltb-true _ _ h)
-  go false e h = inl (ltb-true _ _ h)
+comes_before-says a b h = grind (arith, h)
 
 comes_before-true : (a b : Place) → Earlier a b → comes_before a b ≡ true
-comes_before-true a b p = go (a.tick == b.tick) refl p where
-  go : (same : Bool) → (a.tick == b.tick) ≡ same → Earlier a b → cond same (nat_lt a.no b.no) (nat_lt a.tick b.tick) ≡ true
-  go true e (inl l) = absurd (let s = eqb-true _ _ e in omega (arith, l, s))
-  go true e (inr l) = lt-ltb _ _ l.1
-  go false e (inl l) = lt-ltb _ _ l
-  go false e (inr l) = absurd (let n = eqb-false _ _ e in omega (arith, n, l.0))
+comes_before-true a b p = grind (arith, p)
 
 earlier_trans : (a b c : Place) → Earlier a b → Earlier b c → Earlier a c
-earlier_trans a b c (inl p) (inl q) = inl (omega (arith, p, q))
-earlier_trans a b c (inl p) (inr q) = inl (omega (arith, p, q.0))
-earlier_trans a b c (inr p) (inl q) = inl (omega (arith, q, p.0))
-earlier_trans a b c (inr p) (inr q) = inr (p.0 ∙ q.0, omega (arith, p.1, q.1))
+earlier_trans a b c p q = grind (arith, p, q)
 
 -- messages in order are parted by a place
 pub parted_by_place : (sent : List Message) (at : Place) → Rises SentBefore sent → IsPartitionedBy (λ m. comes_before m.sent at) sent
@@ -51,14 +40,10 @@ kept last t m other = go (takes_of m t) refl where
   go false e = refl
 
 earlier_other : (a b : Place) → Earlier a b → (b.no ≡ a.no) × (b.tick ≡ a.tick) → ⊥
-earlier_other a b (inl l) e = omega (arith, l, e.1)
-earlier_other a b (inr l) e = omega (arith, e.0, l.1)
+earlier_other a b p e = grind (arith, p, e.0, e.1)
 
-later_other : (a b c : Place) → (comes_before a b ≡ false) → Earlier a c → (b.no ≡ c.no) × (b.tick ≡ c.tick) → ⊥
-later_other a b c n l e = true≢false (sym (comes_before-true a b (go l)) ∙ n) where
-  go : Earlier a c → Earlier a b
-  go (inl p) = inl (omega (arith, p, e.1))
-  go (inr p) = inr (omega (arith, e.1, p.0), omega (arith, e.0, p.1))
+later_other : (a b c : Place) → comes_before a b ≡ false → Earlier a c → (b.no ≡ c.no) × (b.tick ≡ c.tick) → ⊥
+later_other a b c n l e = grind (arith, n, l, e.0, e.1)
 
 -- what stands before the place is another message
 module _ (last : List (Option Place)) (t : Take) (sent : List Message) (at : ℕ) (rises : Rises SentBefore sent)

@@ -1,5 +1,5 @@
 -- Lists in a strict order, and what a search or a test finds in a list.
-use Rattle.std.proofs.Common.{◌≡◌, ◌⊎◌, List, [], ◌∷◌, ◌++◌, ◌||◌, Bool, true, false, cond, Some, None, map, filter, find, Contains, refl, sym, ap, ap₂, subst, ◌∙◌, inl, inr, true≢false}
+use Rattle.std.proofs.Common.{◌≡◌, ◌⊎◌, List, [], ◌∷◌, ◌++◌, ◌||◌, Bool, true, false, cond, Option, Some, None, map, filter, find, Contains, refl, sym, ap, ap₂, subst, ◌∙◌, inl, inr, true≢false}
 use Rattle.std.specs.List.{list_any}
 use Rattle.std.proofs.lemmas.Option.{same_Some, none-some}
 use Rattle.std.proofs.lemmas.List.Elements.{Contains-append_cases}
@@ -31,6 +31,15 @@ none_passes {X} p (z ∷ xs) x h k = go (λ n l. none_passes p xs x n l) (p z) r
   go rest true e n r = absurd (true≢false n)
   go rest false e n (inl same) = ap p (sym same) ∙ e
   go rest false e n (inr later) = rest n later
+
+-- where none passes, a search and a test find none
+pub find_none : {X : Type 0} (p : X → Bool) (xs : List X) → ((x : X) → p x ≡ false) → find p xs ≡ None
+find_none p [] h = refl
+find_none {X} p (x ∷ xs) h = ap₂ (λ (b : Bool) (o : Option X). cond b (Some x) o) (h x) (find_none p xs h)
+
+pub none_any : {X : Type 0} (p : X → Bool) (xs : List X) → ((x : X) → p x ≡ false) → list_any p xs ≡ false
+none_any p [] h = refl
+none_any p (x ∷ xs) h = ap₂ (λ (b c : Bool). b || c) (h x) (none_any p xs h)
 
 -- a list in order, followed by one that comes after all of it
 pub Rises-append : {X : Type 0} (Before : X → X → Type 0) (xs ys : List X) → Rises Before xs → Rises Before ys → ((x y : X) → Contains xs x → Contains ys y → Before x y) → Rises Before (xs ++ ys)

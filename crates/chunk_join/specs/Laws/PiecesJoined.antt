@@ -1,5 +1,6 @@
 -- The summaries of two parts that follow one another make up that of both together.
 use Rattle.std.proofs.Common.{ℕ, ◌≡◌, ◌+◌, ◌<◌, ◌≤◌, List, [], ◌∷◌, length, ◌⊎◌, inl, inr, Bool, true, false, Option, None, zero, suc, refl, sym, ap, ap₂, subst, ◌∙◌, ◌++◌, map, filter, arith}
+use Rattle.std.proofs.lemmas.List.{ext_get_or}
 use Rattle.step_trace.specs.declared.rows.Gap.{Gap}
 use Rattle.step_trace.specs.Processors.{has_proc}
 use Rattle.step_trace.specs.Traces.{Recorded}
@@ -71,14 +72,8 @@ taken_strict a b = strict_by_two a.at.no b.at.no a.sent.no b.sent.no
 pub ends_strict : (a b : Gap) → EndsBefore a b → EndsBefore b a → ⊥
 ends_strict a b = strict_by_two a.to b.to b.proc a.proc
 
-same_entries : (xs ys : List (Option Place)) → length xs ≡ length ys → ((p : ℕ) → last_of xs p ≡ last_of ys p) → xs ≡ ys
-same_entries [] [] e h = refl
-same_entries [] (y ∷ ys) e h = absurd (let n : 0 ≡ suc (length ys) = e in omega (arith, n))
-same_entries (x ∷ xs) [] e h = absurd (let n : suc (length xs) ≡ 0 = e in omega (arith, n))
-same_entries (x ∷ xs) (y ∷ ys) e h = ap₂ (λ z zs. z ∷ zs) (h 0) (same_entries xs ys (let n : suc (length xs) ≡ suc (length ys) = e in omega (arith, n)) (λ p. h (suc p)))
-
 AreLastReceives-one : (set : ℕ) (t : Recorded) → IsTrace t → (i j : ℕ) (x y : List (Option Place)) → AreLastReceives set t i j x → AreLastReceives set t i j y → x ≡ y
-AreLastReceives-one set t sound i j x y a b = same_entries x y (a.long ∙ sym b.long) (λ p. each p (has_proc set p) refl) where
+AreLastReceives-one set t sound i j x y a b = ext_get_or None x y (a.long ∙ sym b.long) (λ p l. each p (has_proc set p) refl) where
   each : (p : ℕ) (own : Bool) → has_proc set p ≡ own → last_of x p ≡ last_of y p
   each p true e = IsLastReceive-one t sound.time p i (j + 1) (last_of x p) (last_of y p) (a.members p e) (b.members p e)
   each p false e = a.others p e ∙ sym (b.others p e)

@@ -3,7 +3,7 @@
 use Rattle.std.proofs.Common.{ℕ, ◌≡◌, ◌+◌, ◌-◌, ◌<◌, ◌≤◌, ◌⊎◌, inl, inr, Bool, true, false, List, ◌++◌, filter, map, Contains, Option, Some, None, refl, sym, ap, subst, ◌∙◌, ◌==◌, ◌&&◌, eq-eqb, zero, suc, arith}
 use Rattle.std.specs.Prelude.{find, not}
 use Rattle.std.specs.List.{list_any}
-use Rattle.std.proofs.lemmas.Bool.{cases_lt, cases_eq, eqb-true}
+use Rattle.std.proofs.lemmas.Bool.{cases_lt, cases_eq, eqb-true, and_parts}
 use Rattle.std.proofs.lemmas.List.Elements.{Contains-append_left, Contains-append_right, Contains-append_cases}
 use Rattle.step_trace.specs.declared.rows.Gap.{Gap}
 use Rattle.step_trace.specs.Traces.{Recorded}
@@ -77,17 +77,21 @@ passes_or_none {X} p xs = go (list_any p xs) refl
     go true e = let f = list_any-found p xs e in inl (f.0, f.1, f.2, refl)
     go false e = inr (refl, λ x c. none_passes p xs x e c)
 
-meets-facts : (m : ℕ) (w v : Gap) → meets m w v ≡ true → (w.proc ≡ v.proc) × (w.to ≡ m) × (v.from ≡ m + 1)
-meets-facts m w v h = go (w.proc == v.proc) (w.to == m) (v.from == m + 1) refl refl refl h
-  where
-    go : (a b c : Bool) → (w.proc == v.proc) ≡ a → (w.to == m) ≡ b → (v.from == m + 1) ≡ c → (a && b && c) ≡ true → (w.proc ≡ v.proc) × (w.to ≡ m) × (v.from ≡ m + 1)
-    go true true true e f g t = (eqb-true _ _ e, eqb-true _ _ f, eqb-true _ _ g)
-    go true true false e f g t = cc
-    go true false c e f g t = cc
-    go false b c e f g t = cc
+pub meets-facts : (m : ℕ) (w v : Gap) → meets m w v ≡ true → (w.proc ≡ v.proc) × (w.to ≡ m) × (v.from ≡ m + 1)
+meets-facts m w v h =
+    let both = and_parts (w.proc == v.proc && w.to == m) (v.from == m + 1) h in
+    let first = and_parts (w.proc == v.proc) (w.to == m) both.0 in
+    (eqb-true _ _ first.0, eqb-true _ _ first.1, eqb-true _ _ both.1)
 
 meets-from_facts : (m : ℕ) (w v : Gap) → w.proc ≡ v.proc → w.to ≡ m → v.from ≡ m + 1 → meets m w v ≡ true
 meets-from_facts m w v e f g = rw (eq-eqb _ _ e, eq-eqb _ _ f, eq-eqb _ _ g) refl
+
+-- nothing meets where the first ends before the seam, or the second begins after it
+pub meets-early : (seam : ℕ) (w v : Gap) → w.to < seam → meets seam w v ≡ false
+meets-early seam w v h = grind (arith, h)
+
+pub meets-late : (seam : ℕ) (w v : Gap) → seam + 1 < v.from → meets seam w v ≡ false
+meets-late seam w v h = grind (arith, h)
 
 from_seam-proc : (v : Gap) (o : Option Gap) → (from_seam v o).proc ≡ v.proc
 from_seam-proc v None = refl
