@@ -1,6 +1,6 @@
 -- The messages of a block with their fates, and the older ones that it takes, from all that its Receives take.
-use Rattle.std.proofs.Common.{ℕ, ◌≡◌, ◌+◌, ◌-◌, ◌<◌, ◌≤◌, List, [], inl, inr, Option, Some, None, map, filter, find, Contains, refl, sym, ap, subst, ◌∙◌, arith, ap₂, ◌∷◌, Bool, false, length, cond, ◌==◌, ◌&&◌, true}
-use Rattle.std.proofs.lemmas.Bool.{cases_lt, ltb-true, eqb-true}
+use Rattle.std.proofs.Common.{ℕ, ◌≡◌, ◌+◌, ◌-◌, ◌<◌, ◌≤◌, List, [], inl, inr, Option, Some, None, map, filter, find, Contains, refl, sym, ap, subst, ◌∙◌, arith, ap₂, ◌∷◌, Bool, length, cond}
+use Rattle.std.proofs.lemmas.Bool.{cases_lt, ltb-true}
 use Rattle.step_trace.specs.Traces.{Recorded}
 use Rattle.step_trace.specs.Ticks.{tick_of, IsTrace}
 use Rattle.step_trace.proofs.ListMembers.{Contains-nil, Contains-map, Contains-from_map, Contains-filter, Contains-from_filter, Contains-head, Contains-rest}
@@ -16,7 +16,7 @@ use Rattle.chunk_join.specs.BlockSteps.{IsOpenBy, IsAnyTakeBy, AreFates, fated, 
 use Rattle.chunk_join.specs.Laws.Listings.{Contains-found, Rises-map, Rises-filter}
 use Rattle.chunk_join.specs.Laws.Thinned.{map-alike}
 use Rattle.chunk_join.specs.Laws.TakenIds.{is_older-true}
-use Rattle.chunk_join.specs.Laws.SettledFates.{KnowsTakes, IsKnown, takes_of-true, takes_of-same, with_fate, settle-fate, IsSent-settled}
+use Rattle.chunk_join.specs.Laws.SettledFates.{KnowsTakes, IsKnown, takes_of-same, with_fate, settle-fate, IsSent-settled}
 use Rattle.chunk_join.specs.Laws.SentMessages.{settle_keeps_order}
 use Rattle.chunk_join.proofs.BlockMessages.{step_early, step_first}
 
@@ -102,10 +102,7 @@ find_alike p q (x ∷ xs) h = ap₂ (λ b rest. cond b (Some x) rest) (h x (Cont
 
 -- a take of the message's number is one of the message
 takes_alike : (t : Recorded) (m : Message) (x : Take) → IsPlace t m.sent → IsPlace t x.sent → takes_no m.sent.no x ≡ takes_of m x
-takes_alike t m x p q = go (x.sent.no == m.sent.no) refl where
-  go : (b : Bool) → (x.sent.no == m.sent.no) ≡ b → takes_no m.sent.no x ≡ takes_of m x
-  go true e = let same = eqb-true x.sent.no m.sent.no e in e ∙ sym (takes_of-true m x same (sym q ∙ ap (tick_of t) same ∙ p))
-  go false e = e ∙ sym (ap (λ b. b && (x.sent.tick == m.sent.tick)) e)
+takes_alike t m x p q = grind (arith, p, q)
 
 -- the fate by a message's number is that by the message
 settled_as : (m : Message) (o : Option Take) → m.fate ≡ Open → ((x : Take) → o ≡ Some x → x.sent ≡ m.sent) → with_fate m (fate_by o) ≡ settled_by [] m o

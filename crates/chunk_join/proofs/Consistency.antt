@@ -1,12 +1,10 @@
 -- What holds of the lists of every summary, and is kept as two are joined.
-use Rattle.std.proofs.Common.{ℕ, ◌≡◌, ◌+◌, ◌<◌, ◌≤◌, inl, inr, List, map, filter, find, not, cond, ◌==◌, Bool, true, false, Some, None, Contains, refl, sym, ap, subst, ◌∙◌, arith}
-use Rattle.std.proofs.lemmas.Bool.{eqb-true}
+use Rattle.std.proofs.Common.{ℕ, ◌≡◌, ◌+◌, ◌<◌, ◌≤◌, inl, inr, List, map, filter, find, None, Contains, sym, ap, subst, ◌∙◌, arith}
 use Rattle.std.proofs.lemmas.List.Elements.{Contains-append_cases}
 use Rattle.step_trace.specs.declared.rows.Gap.{Gap}
 use Rattle.step_trace.specs.Traces.{Recorded}
 use Rattle.step_trace.specs.Ticks.{IsTimed}
 use Rattle.step_trace.proofs.ListMembers.{Contains-from_map, Contains-from_filter}
-use Rattle.chunk_join.specs.declared.joins.Why.TheVariants.{NotAdjacent, OtherSet}
 use Rattle.chunk_join.specs.declared.summaries.Place.{Place}
 use Rattle.chunk_join.specs.declared.summaries.Message.{Message}
 use Rattle.chunk_join.specs.Summaries.{Summary, IsSummary, IsConsistent, SentBefore, EndsBefore}
@@ -68,10 +66,7 @@ IsConsistent-joined l r seam a b = record {
 
 -- parts that may be joined follow one another
 pub seam_of : (l r : Summary) → parts_refusal l r ≡ None → l.to + 1 ≡ r.from
-seam_of l r h = go (l.to + 1 == r.from) refl h where
-  go : (b : Bool) → (l.to + 1 == r.from) ≡ b → cond (not b) (Some NotAdjacent) (cond (l.set == r.set) None (Some OtherSet)) ≡ None → l.to + 1 ≡ r.from
-  go true e n = eqb-true _ _ e
-  go false e n = cc
+seam_of l r h = grind (arith, h)
 
 -- what holds of the lists of every summary holds of that of a part
 pub IsConsistent-summary : (set : ℕ) (t : Recorded) → IsTimed t → (i j : ℕ) (s : Summary) → i < j → j ≤ t.last → IsSummary set t i j s → IsConsistent s

@@ -1,7 +1,7 @@
 -- The messages of a part that is a whole trace, gone over from the last one back: the misses of those so far.
-use Rattle.std.proofs.Common.{ℕ, ◌≡◌, ◌+◌, ◌-◌, ◌<◌, ◌≤◌, inl, inr, List, length, get_or, Bool, true, false, Option, Some, None, cond, Contains, zero, suc, refl, sym, ap, subst, ◌∙◌, arith, true≢false}
-use Rattle.std.specs.Prelude.{slice_get, nat_le}
-use Rattle.std.proofs.lemmas.Bool.{cases_lt, leb-true, leb-false}
+use Rattle.std.proofs.Common.{ℕ, ◌≡◌, ◌+◌, ◌-◌, ◌<◌, ◌≤◌, inl, inr, List, length, get_or, Bool, true, false, Option, Some, None, Contains, zero, suc, refl, sym, ap, subst, ◌∙◌, arith, true≢false}
+use Rattle.std.specs.Prelude.{slice_get}
+use Rattle.std.proofs.lemmas.Bool.{cases_lt}
 use Rattle.std.proofs.lemmas.Option.{same_Some, none-some, slice_get_within, slice_get-get_or, get_or_from_slice_get}
 use Rattle.step_trace.specs.declared.rows.Miss.{Miss}
 use Rattle.step_trace.specs.Traces.{Recorded, IsReceiveOf}
@@ -47,10 +47,7 @@ last_at-Contains xs (suc n) x h = Contains-slice_get xs n x h
 -- Whatever the miss, the level with it may stand before the one without.
 
 pub StandsBefore-with_miss : (level : Level) (m : Miss) (long : ℕ) → StandsBefore (with_miss level m long) level
-StandsBefore-with_miss level m long = go (nat_le level.delta long) refl where
-  go : (b : Bool) → nat_le level.delta long ≡ b → StandsBefore (cond b (record { delta = long + 1; miss = Some m; phi = level.phi; gap = level.gap }) level) level
-  go true e = let h = leb-true level.delta long e in record { delta = omega (arith, h); phi = omega arith; miss = λ same. absurd (omega (arith, same, h)); gap = λ same. refl }
-  go false e = StandsBefore-itself level
+StandsBefore-with_miss level m long = record { delta = grind arith; phi = grind arith; miss = λ same. grind (arith, same); gap = λ same. grind arith }
 
 with_miss-phi : (level : Level) (m : Miss) (long : ℕ) → (with_miss level m long).phi ≡ level.phi
 with_miss-phi level m long = grind arith
@@ -244,10 +241,7 @@ number_until set t sound s a (suc n) j y h long l =
 -- The level takes the last miss of a message.
 
 up_to-inside : (end x : ℕ) → x ≤ end → up_to end x ≡ x
-up_to-inside end x l = go (nat_le x end) refl where
-  go : (b : Bool) → nat_le x end ≡ b → cond b x end ≡ x
-  go true e = refl
-  go false e = absurd (let h = leb-false x end e in omega (arith, h, l))
+up_to-inside end x l = grind (arith, l)
 
 with_missed-lowered : (set : ℕ) (t : Recorded) (end : ℕ) (m : Message) (level : Level) (o : Option Place) → end ≡ t.last → tick_of t m.sent.no ≡ m.sent.tick → 1 ≤ m.sent.no → KnowsMissesAfter set t m.sent.no level.delta level.miss → IsLastMissed set t m o
     → KnowsMissesAfter set t (m.sent.no - 1) (with_missed end level m o).delta (with_missed end level m o).miss

@@ -1,5 +1,5 @@
 -- Silences that ended before the seam neither go on nor are reached.
-use Rattle.std.proofs.Common.{ℕ, ◌≡◌, ◌+◌, ◌<◌, ◌≤◌, ◌++◌, inl, inr, List, [], ◌∷◌, get_or, take, drop, map, filter, find, not, Bool, true, false, cond, Some, Contains, refl, sym, ap, ap₂, subst, ◌∙◌, arith}
+use Rattle.std.proofs.Common.{ℕ, ◌≡◌, ◌<◌, ◌≤◌, ◌++◌, inl, inr, List, [], ◌∷◌, get_or, take, drop, map, filter, find, not, Bool, true, cond, Some, Contains, refl, sym, ap, ap₂, subst, ◌∙◌, arith}
 use Rattle.std.specs.Prelude.{nat_lt}
 use Rattle.std.specs.List.Sorted.{IsPartitionedBy}
 use Rattle.std.proofs.lemmas.Bool.{cases_eq, ltb-true, lt-ltb}

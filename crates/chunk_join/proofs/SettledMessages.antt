@@ -1,8 +1,7 @@
 -- Messages that get their fates, take by take.
-use Rattle.std.proofs.Common.{ℕ, ◌≡◌, ◌-◌, ◌<◌, ◌≤◌, ◌⊎◌, inl, inr, List, [], ◌∷◌, length, get_or, set, drop, drop-cons, map, find, Bool, true, false, cond, Option, Some, None, suc, refl, sym, ap, ap₂, subst, ◌∙◌, arith, ◌==◌, true≢false}
-use Rattle.std.specs.Prelude.{nat_lt}
+use Rattle.std.proofs.Common.{ℕ, ◌≡◌, ◌-◌, ◌<◌, ◌≤◌, ◌⊎◌, inl, inr, List, [], ◌∷◌, length, get_or, set, drop, drop-cons, map, find, Bool, true, false, cond, Option, Some, None, suc, refl, sym, ap, ap₂, subst, ◌∙◌, arith}
 use Rattle.std.specs.List.Sorted.{IsPartitionedBy, IsPartitionPoint}
-use Rattle.std.proofs.lemmas.Bool.{cases_lt, cases_eq, eqb-true, eqb-false, ltb-true, lt-ltb, and_parts}
+use Rattle.std.proofs.lemmas.Bool.{cases_lt, cases_eq}
 use Rattle.chunk_join.specs.declared.summaries.Place.{Place}
 use Rattle.chunk_join.specs.declared.summaries.Message.{Message}
 use Rattle.chunk_join.specs.declared.summaries.Take.{Take}
@@ -34,10 +33,7 @@ parted_by_place sent at r i j d l h e = elim (cases_eq i j) [
 
 -- a message that isn't the one of a take is as it was
 kept : (last : List (Option Place)) (t : Take) (m : Message) → ((t.sent.no ≡ m.sent.no) × (t.sent.tick ≡ m.sent.tick) → ⊥) → settle_with last t m ≡ m
-kept last t m other = go (takes_of m t) refl where
-  go : (b : Bool) → takes_of m t ≡ b → cond b (settled_by last m (Some t)) m ≡ m
-  go true e = absurd (let p = and_parts (t.sent.no == m.sent.no) (t.sent.tick == m.sent.tick) e in other (eqb-true _ _ p.0, eqb-true _ _ p.1))
-  go false e = refl
+kept last t m other = grind (arith, other)
 
 earlier_other : (a b : Place) → Earlier a b → (b.no ≡ a.no) × (b.tick ≡ a.tick) → ⊥
 earlier_other a b p e = grind (arith, p, e.0, e.1)

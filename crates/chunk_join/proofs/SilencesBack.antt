@@ -1,7 +1,7 @@
 -- The silences of a part that is a whole trace, gone over from the last one back: the longest gap from a tick on.
-use Rattle.std.proofs.Common.{ℕ, ◌≡◌, ◌+◌, ◌-◌, ◌<◌, ◌≤◌, ◌⊎◌, inl, inr, length, Bool, true, false, Option, Some, None, cond, zero, suc, refl, sym, ap, subst, ◌∙◌, arith}
-use Rattle.std.specs.Prelude.{slice_get, nat_le}
-use Rattle.std.proofs.lemmas.Bool.{cases_lt, leb-true}
+use Rattle.std.proofs.Common.{ℕ, ◌≡◌, ◌+◌, ◌-◌, ◌<◌, ◌≤◌, ◌⊎◌, inl, inr, length, Option, Some, None, zero, suc, refl, sym, ap, subst, ◌∙◌, arith}
+use Rattle.std.specs.Prelude.{slice_get}
+use Rattle.std.proofs.lemmas.Bool.{cases_lt}
 use Rattle.std.proofs.lemmas.Option.{same_Some, none-some, slice_get-get_or}
 use Rattle.step_trace.specs.declared.rows.Gap.{Gap}
 use Rattle.step_trace.specs.Traces.{Recorded}
@@ -22,10 +22,7 @@ use Rattle.chunk_join.proofs.MessagesBack.{slice-Contains, Rises-slices, last_at
 -- Whatever the silence, the level with it may stand before the one without.
 
 StandsBefore-with_gap : (level : Level) (p g until : ℕ) → StandsBefore (with_gap level p g until) level
-StandsBefore-with_gap level p g until = go (nat_le level.phi (until - g)) refl where
-  go : (b : Bool) → nat_le level.phi (until - g) ≡ b → StandsBefore (cond b (record { delta = level.delta; miss = level.miss; phi = until - g + 1; gap = Some (record { proc = p; from = g; to = until - 1 }) }) level) level
-  go true e = let h = leb-true level.phi (until - g) e in record { delta = omega arith; phi = omega (arith, h); miss = λ same. refl; gap = λ same. absurd (omega (arith, same, h)) }
-  go false e = StandsBefore-itself level
+StandsBefore-with_gap level p g until = record { delta = grind arith; phi = grind arith; miss = λ same. grind arith; gap = λ same. grind (arith, same) }
 
 pub StandsBefore-with_silence : (level : Level) (g : ℕ) (o : Option Gap) → StandsBefore (with_silence level g o) level
 StandsBefore-with_silence level g None = StandsBefore-itself level
@@ -33,10 +30,7 @@ StandsBefore-with_silence level g (Some w) = StandsBefore-with_gap level w.proc 
 
 -- An empty gap changes nothing.
 with_gap-none : (level : Level) (p g : ℕ) → 1 ≤ level.phi → with_gap level p g g ≡ level
-with_gap-none level p g l = go (nat_le level.phi (g - g)) refl where
-  go : (b : Bool) → nat_le level.phi (g - g) ≡ b → cond b (record { delta = level.delta; miss = level.miss; phi = g - g + 1; gap = Some (record { proc = p; from = g; to = g - 1 }) }) level ≡ level
-  go true e = absurd (let h = leb-true level.phi (g - g) e in omega (arith, h, l))
-  go false e = refl
+with_gap-none level p g l = grind (arith, l)
 
 -- a longest silence with this gap in it
 record IsAround (set : ℕ) (t : Recorded) (w v : Gap) : Type 0 where

@@ -1,7 +1,5 @@
 -- One tick back: the level of the tick from that of the next one, and the levels of all.
-use Rattle.std.proofs.Common.{ℕ, ◌≡◌, ◌+◌, ◌-◌, ◌<◌, ◌≤◌, List, [], ◌∷◌, length, Bool, true, false, cond, Option, Some, None, refl, subst, arith}
-use Rattle.std.specs.Prelude.{nat_le}
-use Rattle.std.proofs.lemmas.Bool.{leb-true}
+use Rattle.std.proofs.Common.{ℕ, ◌≡◌, ◌+◌, ◌<◌, ◌≤◌, List, [], ◌∷◌, length, Option, Some, None, refl, subst, arith}
 use Rattle.std.proofs.lemmas.Option.{slice_get_within}
 use Rattle.step_trace.specs.declared.rows.Gap.{Gap}
 use Rattle.step_trace.specs.Traces.{Recorded}
@@ -96,10 +94,7 @@ IsTickBack-read part g m s n o old mid levels known read = record {
 -- a silence that gives no longer gap leaves the level as it is
 with_silence-short : (level : Level) (g : ℕ) (o : Option Gap) → 1 ≤ level.phi → ((w : Gap) → o ≡ Some w → w.to + 1 < g + level.phi) → with_silence level g o ≡ level
 with_silence-short level g None positive h = refl
-with_silence-short level g (Some w) positive h = go (nat_le level.phi (w.to + 1 - g)) refl where
-  go : (b : Bool) → nat_le level.phi (w.to + 1 - g) ≡ b → cond b (record { delta = level.delta; miss = level.miss; phi = w.to + 1 - g + 1; gap = Some (record { proc = w.proc; from = g; to = w.to + 1 - 1 }) }) level ≡ level
-  go true e = absurd (let a = leb-true level.phi (w.to + 1 - g) e in let l = h w refl in omega (arith, a, l, positive))
-  go false e = refl
+with_silence-short level g (Some w) positive h = let short = h w refl in grind (arith, short, positive)
 
 -- where it is quiet, the level of the next tick is that of the tick
 pub IsGoneOver-quiet : (part : Summary) (x low m s : ℕ) (level : Level) (levels : List Level) → low ≤ x → IsGoneOver part (x + 1) m s level levels → IsQuietFrom part low m s level.phi → IsGoneOver part x m s level (level ∷ levels)

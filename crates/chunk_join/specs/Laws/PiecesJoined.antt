@@ -1,5 +1,5 @@
 -- The summaries of two parts that follow one another make up that of both together.
-use Rattle.std.proofs.Common.{ℕ, ◌≡◌, ◌+◌, ◌<◌, ◌≤◌, List, [], ◌∷◌, length, ◌⊎◌, inl, inr, Bool, true, false, Option, None, zero, suc, refl, sym, ap, ap₂, subst, ◌∙◌, ◌++◌, map, filter, arith}
+use Rattle.std.proofs.Common.{ℕ, ◌≡◌, ◌+◌, ◌<◌, ◌≤◌, List, [], ◌∷◌, length, ◌⊎◌, inl, inr, Bool, true, false, Option, None, zero, suc, refl, sym, ap, subst, ◌∙◌, ◌++◌, map, filter, arith}
 use Rattle.std.proofs.lemmas.List.{ext_get_or}
 use Rattle.step_trace.specs.declared.rows.Gap.{Gap}
 use Rattle.step_trace.specs.Processors.{has_proc}

@@ -1,9 +1,9 @@
 -- The longest silences of two parts that follow one another, joined, are those of both together. Part one goes from
 -- cut i to cut m, part two from m to k.
-use Rattle.std.proofs.Common.{ℕ, ◌≡◌, ◌+◌, ◌-◌, ◌<◌, ◌≤◌, ◌⊎◌, inl, inr, Bool, true, false, List, ◌++◌, filter, map, Contains, Option, Some, None, refl, sym, ap, subst, ◌∙◌, ◌==◌, ◌&&◌, eq-eqb, zero, suc, arith}
+use Rattle.std.proofs.Common.{ℕ, ◌≡◌, ◌+◌, ◌-◌, ◌<◌, ◌≤◌, ◌⊎◌, inl, inr, Bool, true, false, List, ◌++◌, filter, map, Contains, Option, Some, None, refl, sym, ap, subst, ◌∙◌, eq-eqb, zero, suc, arith}
 use Rattle.std.specs.Prelude.{find, not}
 use Rattle.std.specs.List.{list_any}
-use Rattle.std.proofs.lemmas.Bool.{cases_lt, cases_eq, eqb-true, and_parts}
+use Rattle.std.proofs.lemmas.Bool.{cases_lt, cases_eq}
 use Rattle.std.proofs.lemmas.List.Elements.{Contains-append_left, Contains-append_right, Contains-append_cases}
 use Rattle.step_trace.specs.declared.rows.Gap.{Gap}
 use Rattle.step_trace.specs.Traces.{Recorded}
@@ -78,10 +78,7 @@ passes_or_none {X} p xs = go (list_any p xs) refl
     go false e = inr (refl, λ x c. none_passes p xs x e c)
 
 pub meets-facts : (m : ℕ) (w v : Gap) → meets m w v ≡ true → (w.proc ≡ v.proc) × (w.to ≡ m) × (v.from ≡ m + 1)
-meets-facts m w v h =
-    let both = and_parts (w.proc == v.proc && w.to == m) (v.from == m + 1) h in
-    let first = and_parts (w.proc == v.proc) (w.to == m) both.0 in
-    (eqb-true _ _ first.0, eqb-true _ _ first.1, eqb-true _ _ both.1)
+meets-facts m w v h = (grind (arith, h), grind (arith, h), grind (arith, h))
 
 meets-from_facts : (m : ℕ) (w v : Gap) → w.proc ≡ v.proc → w.to ≡ m → v.from ≡ m + 1 → meets m w v ≡ true
 meets-from_facts m w v e f g = rw (eq-eqb _ _ e, eq-eqb _ _ f, eq-eqb _ _ g) refl

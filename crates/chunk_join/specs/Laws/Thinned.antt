@@ -1,9 +1,8 @@
 -- What is kept of a list is enough for what is kept of a longer one.
-use Rattle.std.proofs.Common.{ℕ, ◌≡◌, ◌≤◌, ◌⊎◌, List, [], ◌∷◌, ◌++◌, ◌||◌, Bool, true, false, cond, Contains, Option, Some, map, filter, find, max, refl, sym, ap, ap₂, subst, ◌∙◌, inl, inr, arith, append_assoc, true≢false}
-use Rattle.std.specs.Prelude.{nat_lt}
+use Rattle.std.proofs.Common.{ℕ, ◌≡◌, ◌≤◌, ◌⊎◌, List, [], ◌∷◌, ◌++◌, ◌||◌, Bool, true, false, cond, Contains, Option, Some, map, filter, find, max, refl, sym, ap, ap₂, subst, ◌∙◌, inl, inr, arith, append_assoc}
 use Rattle.std.specs.List.{flat_map, list_any}
 use Rattle.std.proofs.lemmas.List.Concat.{flat_map_single}
-use Rattle.std.proofs.lemmas.Bool.{cases_lt, ltb-true}
+use Rattle.std.proofs.lemmas.Bool.{cases_lt}
 use Rattle.step_trace.proofs.ListMembers.{Contains-head, Contains-rest, Contains-cons_cases}
 use Rattle.chunk_join.specs.Summaries.{Rises}
 use Rattle.chunk_join.specs.Thinning.{weight_of, heaviest, stays, thinned}
@@ -31,21 +30,11 @@ AreAlike-prefix pending weight (z ∷ zs) xs ys a = AreAlike-cons pending weight
 
 -- a settled element no heavier than what comes later is not missed
 pub AreAlike-drop : {X : Type 0} (pending : X → Bool) (weight : X → ℕ) (x : X) (xs : List X) → pending x ≡ false → weight x ≤ heaviest pending weight xs → AreAlike pending weight (x ∷ xs) xs
-AreAlike-drop {X} pending weight x xs settled light = go (pending x) refl (nat_lt (heaviest pending weight xs) (weight x)) refl where
-  go : (p : Bool) → pending x ≡ p → (l : Bool) → nat_lt (heaviest pending weight xs) (weight x) ≡ l → AreAlike pending weight (x ∷ xs) xs
-  go true e l f = absurd (true≢false (sym e ∙ settled))
-  go false e true f = absurd (let h = ltb-true (heaviest pending weight xs) (weight x) f in omega (arith, h, light))
-  go false e false f = record {
-    top = rw e (omega (arith, light));
-    kept = rw (e, f) refl;
-  }
+AreAlike-drop pending weight x xs settled light = record { top = grind (arith, settled, light); kept = grind (arith, settled, light) }
 
 -- what is dropped is settled, and no heavier than what comes later
 pub dropped : {X : Type 0} (pending : X → Bool) (weight : X → ℕ) (top : ℕ) (x : X) → stays pending weight top x ≡ false → (pending x ≡ false) × (weight x ≤ top)
-dropped pending weight top x e = go (pending x) refl e where
-  go : (p : Bool) → pending x ≡ p → (p || nat_lt top (weight x)) ≡ false → (pending x ≡ false) × (weight x ≤ top)
-  go true f k = absurd (true≢false k)
-  go false f k = (f, grind (arith, k))
+dropped pending weight top x e = (grind (arith, e), grind (arith, e))
 
 pub heaviest-append : {X : Type 0} (pending : X → Bool) (weight : X → ℕ) (xs ys : List X) → heaviest pending weight xs ≤ heaviest pending weight (xs ++ ys)
 heaviest-append pending weight [] ys = omega arith
