@@ -12,7 +12,7 @@ use Rattle.chunk_join.specs.declared.summaries.Take.{Take}
 use Rattle.chunk_join.specs.Summaries.{IsListing, Rises, IsSent, IsFate, IsAnyTake, IsTake, IsPlace, IsLastReceive, SentBefore, TakenBefore}
 use Rattle.chunk_join.specs.TickSteps.{AreStepsBefore}
 use Rattle.chunk_join.specs.Parts.{later_of, after, settle, settled_by, takes_of, is_older}
-use Rattle.chunk_join.specs.BlockSteps.{IsOpenBy, IsAnyTakeBy, AreFates, fated, fate_by, takes_no}
+use Rattle.chunk_join.specs.BlockSteps.{IsOpenBy, AreFates, fated, fate_by, takes_no, AreTakesBy, AreOpenBy}
 use Rattle.chunk_join.specs.Laws.Listings.{Contains-found, Rises-map, Rises-filter}
 use Rattle.chunk_join.specs.Laws.Thinned.{map-alike}
 use Rattle.chunk_join.specs.Laws.TakenIds.{is_older-true}
@@ -26,7 +26,7 @@ pub record AreCatches (set : ℕ) (t : Recorded) (i j : ℕ) (all : List Take) :
   pub sound : (x : Take) → Contains all x → IsAnyTake set t i x × (x.at.tick ≤ j)
   pub complete : (x : Take) → IsAnyTake set t i x → x.at.tick ≤ j → Contains all x
 
-pub any_takes_all : (set : ℕ) (t : Recorded) (i j b : ℕ) (all : List Take) → AreStepsBefore t (j + 1) b → IsListing TakenBefore (IsAnyTakeBy set t i b []) all → AreCatches set t i j all
+pub any_takes_all : (set : ℕ) (t : Recorded) (i j b : ℕ) (all : List Take) → AreStepsBefore t (j + 1) b → AreTakesBy set t i b [] all → AreCatches set t i j all
 any_takes_all set t i j b all o l = record {
   rising = l.rising;
   sound = λ x k. (let h = l.sound x k in (
@@ -56,7 +56,7 @@ later_of-none None = refl
 later_of-none (Some r) = refl
 
 -- the messages of the block, from all its open ones
-pub block_sent : (set : ℕ) (t : Recorded) → IsTrace t → (i j : ℕ) (all : List Take) → AreCatches set t i j all → (b : ℕ) (opens : List Message) → AreStepsBefore t (j + 1) b → IsListing SentBefore (IsOpenBy set t i b) opens
+pub block_sent : (set : ℕ) (t : Recorded) → IsTrace t → (i j : ℕ) (all : List Take) → AreCatches set t i j all → (b : ℕ) (opens : List Message) → AreStepsBefore t (j + 1) b → AreOpenBy set t i b opens
     → IsListing SentBefore (IsSent set t i j) (map (settle all []) opens)
 block_sent set t sound i j all a b opens o l = record {
   rising = Rises-map SentBefore (settle all []) opens (λ x y p q h. settle_keeps_order all [] x y h) l.rising;
@@ -111,7 +111,7 @@ settled_as m (Some x) e h = ap₂ (λ (s : Place) (o : Option Place). with_fate 
 
 -- the messages with their fates from a list by number are those that settle
 pub fated_settled : (set : ℕ) (t : Recorded) (from j before b : ℕ) (all : List Take) (fates : List Fate) (opens : List Message) → 1 ≤ from → AreStepsBefore t from before → length fates ≡ b - before → AreFates before all fates → AreCatches set t (from - 1) j all
-    → IsListing SentBefore (IsOpenBy set t (from - 1) b) opens → map (fated before fates) opens ≡ map (settle all []) opens
+    → AreOpenBy set t (from - 1) b opens → map (fated before fates) opens ≡ map (settle all []) opens
 fated_settled set t from j before b all fates opens low first long f a l = map-alike (fated before fates) (settle all []) opens one where
   one : (m : Message) → Contains opens m → fated before fates m ≡ settle all [] m
   one m k =

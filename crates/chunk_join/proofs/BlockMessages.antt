@@ -17,9 +17,9 @@ use Rattle.chunk_join.specs.declared.summaries.Place.{Place}
 use Rattle.chunk_join.specs.declared.summaries.Fate.{Fate}
 use Rattle.chunk_join.specs.declared.summaries.Fate.TheVariants.{Open}
 use Rattle.chunk_join.specs.declared.summaries.Message.{Message}
-use Rattle.chunk_join.specs.Summaries.{IsListing, IsLastReceive, AreLastReceives, SentBefore, last_of}
+use Rattle.chunk_join.specs.Summaries.{IsLastReceive, AreLastReceives, SentBefore, last_of}
 use Rattle.chunk_join.specs.TickSteps.{AreStepsBefore}
-use Rattle.chunk_join.specs.BlockSteps.{IsOpenBy, AreFated, fated, IsLastBy, AreLastBy}
+use Rattle.chunk_join.specs.BlockSteps.{IsOpenBy, AreFated, fated, IsLastBy, AreLastBy, AreOpenBy}
 use Rattle.chunk_join.proofs.ListingGrowth.{IsListing-same, IsListing-push}
 use Rattle.chunk_join.proofs.LastEntries.{member_high, last_of-replicate, last_of-set}
 
@@ -39,7 +39,7 @@ step_after t from a k low o l h = let r = o.rest (k + 1) (omega (arith, l)) (ome
 
 -- a Send between members adds its message
 pub opens_more : (t : Recorded) → IsTimed t → (set i k b : ℕ) (sent : List Message) → i < tick_of t (k + 1) → IsMessage set t.steps (k + 1) b
-    → IsListing SentBefore (IsOpenBy set t i k) sent → IsListing SentBefore (IsOpenBy set t i (k + 1)) (sent ++ record { sent = record { no = k + 1; tick = tick_of t (k + 1) }; to = b; fate = Open } ∷ [])
+    → AreOpenBy set t i k sent → AreOpenBy set t i (k + 1) (sent ++ record { sent = record { no = k + 1; tick = tick_of t (k + 1) }; to = b; fate = Open } ∷ [])
 opens_more t time set i k b sent low message l =
     IsListing-push SentBefore (IsOpenBy set t i k) (IsOpenBy set t i (k + 1)) sent next l above
     (λ y o. record { message = o.message; place = o.place; after = o.after; until = omega (arith, o.until); open_yet = o.open_yet })
@@ -73,7 +73,7 @@ opens_more t time set i k b sent low message l =
     ]
 
 -- another step adds none
-pub opens_same : (t : Recorded) (set i k : ℕ) (sent : List Message) → ((b : ℕ) → IsMessage set t.steps (k + 1) b → ⊥) → IsListing SentBefore (IsOpenBy set t i k) sent → IsListing SentBefore (IsOpenBy set t i (k + 1)) sent
+pub opens_same : (t : Recorded) (set i k : ℕ) (sent : List Message) → ((b : ℕ) → IsMessage set t.steps (k + 1) b → ⊥) → AreOpenBy set t i k sent → AreOpenBy set t i (k + 1) sent
 opens_same t set i k sent none l = IsListing-same SentBefore (IsOpenBy set t i k) (IsOpenBy set t i (k + 1)) sent
     (λ y o. record { message = o.message; place = o.place; after = o.after; until = omega (arith, o.until); open_yet = o.open_yet })
     (λ y o. elim (cases_eq y.sent.no (k + 1)) [

@@ -15,7 +15,7 @@ use Rattle.step_trace.proofs.TickOrder.{one_in_tick}
 use Rattle.suffix_staircase.proofs.ReceivesLowered.{same_step}
 use Rattle.chunk_join.specs.Summaries.{IsListing, IsLongest, EndsBefore}
 use Rattle.chunk_join.specs.TickSteps.{AreStepsBefore}
-use Rattle.chunk_join.specs.BlockSteps.{IsDone, StepsDone, IsBegun, IsEnded, AreEnded, IsLongestFrom}
+use Rattle.chunk_join.specs.BlockSteps.{IsDone, StepsDone, IsBegun, IsEnded, AreEnded, IsLongestFrom, AreLongestFrom}
 use Rattle.chunk_join.proofs.ListingGrowth.{IsListing-same, IsListing-push}
 use Rattle.chunk_join.proofs.BlockMessages.{step_early}
 use Rattle.chunk_join.proofs.LastEntries.{member_low, member_high}
@@ -239,7 +239,7 @@ module _ (set : ℕ) (t : Recorded) (i j : ℕ) (low : i < j) (high : j ≤ t.la
   early : (k p : ℕ) → IsStepOf t.steps k p → IsDone t (j + 1) (length t.steps) k → tick_of t k < j + 1
   early k p s d = elim d [ inl l ↦ l | inr e ↦ absurd (let w = (step_at_within t.steps k _ s.1).1 in omega (arith, w, e.1)) ]
 
-  pub tails_none : (silent : List Gap) (begun : List ℕ) → AreEnded set t i (j + 1) (length t.steps) silent begun → IsListing EndsBefore (IsLongestFrom set t i j (MAX_MEMBER + 1)) silent
+  pub tails_none : (silent : List Gap) (begun : List ℕ) → AreEnded set t i (j + 1) (length t.steps) silent begun → AreLongestFrom set t i j (MAX_MEMBER + 1) silent
   tails_none silent begun a = IsListing-same EndsBefore (IsEnded set t i (j + 1) (length t.steps)) (IsLongestFrom set t i j (MAX_MEMBER + 1)) silent
       (λ w e.
       let u = early e.right.place w.proc e.right.step e.right.done in
@@ -260,15 +260,15 @@ module _ (set : ℕ) (t : Recorded) (i j : ℕ) (low : i < j) (high : j ≤ t.la
         ];
       }) a.ended
 
-  pub tails_all : (silent : List Gap) → IsListing EndsBefore (IsLongestFrom set t i j 1) silent → IsListing EndsBefore (IsLongest set t i j) silent
+  pub tails_all : (silent : List Gap) → AreLongestFrom set t i j 1 silent → IsListing EndsBefore (IsLongest set t i j) silent
   tails_all silent l = IsListing-same EndsBefore (IsLongestFrom set t i j 1) (IsLongest set t i j) silent (λ w h. h.longest) (λ w h. record { longest = h; from = inr (member_low set w.proc h.gap.member) }) l
 
   -- a silence of p up to the last tick begins where p's next one does
   tail_one : (p v : ℕ) → IsBegun t i (j + 1) (length t.steps) p v → (w : Gap) → IsLongest set t i j w → w.proc ≡ p → w.to ≡ j → v ≡ w.from
   tail_one p v b w h own end = begin_one t set i (j + 1) (length t.steps) p v w b (λ k s d. early k p s d) (λ k s l. inl l) own (omega (arith, end)) h.gap h.after h.left
 
-  pub tails_push : (p v : ℕ) (silent : List Gap) → IsTrue (has_proc set p) → IsBegun t i (j + 1) (length t.steps) p v → v ≤ j → IsListing EndsBefore (IsLongestFrom set t i j (p + 1)) silent
-      → IsListing EndsBefore (IsLongestFrom set t i j p) (silent ++ record { proc = p; from = v; to = j } ∷ [])
+  pub tails_push : (p v : ℕ) (silent : List Gap) → IsTrue (has_proc set p) → IsBegun t i (j + 1) (length t.steps) p v → v ≤ j → AreLongestFrom set t i j (p + 1) silent
+      → AreLongestFrom set t i j p (silent ++ record { proc = p; from = v; to = j } ∷ [])
   tails_push p v silent member b short l = IsListing-push EndsBefore (IsLongestFrom set t i j (p + 1)) (IsLongestFrom set t i j p) silent (record { proc = p; from = v; to = j }) l
       (λ w h. elim (cases_lt w.to j) [
         | inl e ↦ inl e
@@ -305,7 +305,7 @@ module _ (set : ℕ) (t : Recorded) (i j : ℕ) (low : i < j) (high : j ≤ t.la
         right = inl refl;
       }
 
-  pub tails_same : (p : ℕ) (silent : List Gap) → (IsTrue (has_proc set p) → (v : ℕ) × IsBegun t i (j + 1) (length t.steps) p v × (j < v)) → IsListing EndsBefore (IsLongestFrom set t i j (p + 1)) silent → IsListing EndsBefore (IsLongestFrom set t i j p) silent
+  pub tails_same : (p : ℕ) (silent : List Gap) → (IsTrue (has_proc set p) → (v : ℕ) × IsBegun t i (j + 1) (length t.steps) p v × (j < v)) → AreLongestFrom set t i j (p + 1) silent → AreLongestFrom set t i j p silent
   tails_same p silent none l = IsListing-same EndsBefore (IsLongestFrom set t i j (p + 1)) (IsLongestFrom set t i j p) silent
       (λ w h. record { longest = h.longest; from = elim h.from [ inl e ↦ inl e | inr m ↦ inr (omega (arith, m)) ] })
       (λ w h. record {

@@ -15,16 +15,16 @@ use Rattle.step_trace.proofs.ListMembers.{Contains-nil}
 use Rattle.suffix_staircase.proofs.ReceivesLowered.{same_step}
 use Rattle.chunk_join.specs.declared.summaries.Place.{Place}
 use Rattle.chunk_join.specs.declared.summaries.Take.{Take}
-use Rattle.chunk_join.specs.Summaries.{IsListing, IsAnyTake, IsLastReceive, TakenBefore, last_of}
+use Rattle.chunk_join.specs.Summaries.{IsAnyTake, IsLastReceive, TakenBefore, last_of}
 use Rattle.chunk_join.specs.TickSteps.{AreStepsBefore}
-use Rattle.chunk_join.specs.BlockSteps.{IsAnyTakeBy, IsLastBy, AreLastBy, take_of, ids_of, ids_at}
+use Rattle.chunk_join.specs.BlockSteps.{IsAnyTakeBy, IsLastBy, AreLastBy, take_of, ids_of, ids_at, AreTakesBy}
 use Rattle.chunk_join.specs.Laws.LastReceives.{IsLastReceive-one}
 use Rattle.chunk_join.proofs.ListingGrowth.{IsListing-none, IsListing-same, IsListing-push}
 use Rattle.chunk_join.proofs.BlockMessages.{step_early, last_at_step, last_more}
 use Rattle.chunk_join.proofs.ReceivedIds.{above_taken}
 
 -- before the block's first step nothing is taken
-pub any_takes_none : (set : ℕ) (t : Recorded) (from a : ℕ) → 1 ≤ from → AreStepsBefore t from a → IsListing TakenBefore (IsAnyTakeBy set t (from - 1) a []) []
+pub any_takes_none : (set : ℕ) (t : Recorded) (from a : ℕ) → 1 ≤ from → AreStepsBefore t from a → AreTakesBy set t (from - 1) a [] []
 any_takes_none set t from a low s = IsListing-none TakenBefore (IsAnyTakeBy set t (from - 1) a []) (λ y i. elim i.until [
   | inl before ↦ (
       let early = step_early t from a y.at.no _ s i.own.receive.step before in
@@ -67,7 +67,7 @@ module _ (set : ℕ) (t : Recorded) (time : IsTimed t) (i k p : ℕ) (b : Option
           → make (k + 1) (tick_of t (k + 1)) p (get_or all n 0) (tick_of t (get_or all n 0)) b ≡ make y.at.no y.at.tick y.by y.sent.no y.sent.tick y.before
       alike y make e f g h i j = cc
 
-  pub one_take_more : (taken : List Take) → IsListing TakenBefore (IsAnyTakeBy set t i k (take n all)) taken → IsListing TakenBefore (IsAnyTakeBy set t i k (take (n + 1) all)) (taken ++ next ∷ [])
+  pub one_take_more : (taken : List Take) → AreTakesBy set t i k (take n all) taken → AreTakesBy set t i k (take (n + 1) all) (taken ++ next ∷ [])
   one_take_more taken l = IsListing-push TakenBefore (IsAnyTakeBy set t i k (take n all)) (IsAnyTakeBy set t i k (take (n + 1) all)) taken next l next_above
       (λ y h. record {
         own = h.own;
@@ -86,8 +86,8 @@ module _ (set : ℕ) (t : Recorded) (time : IsTimed t) (i k p : ℕ) (b : Option
       ])
 
 -- once all its ids were gone over, the step counts as gone over
-any_takes_done : (set : ℕ) (t : Recorded) (i k p : ℕ) (ends : Bool) (all : List ℕ) (taken : List Take) → step_at t.steps (k + 1) ≡ Some (record { proc = p; act = Receive ends all }) → IsListing TakenBefore (IsAnyTakeBy set t i k all) taken
-    → IsListing TakenBefore (IsAnyTakeBy set t i (k + 1) []) taken
+any_takes_done : (set : ℕ) (t : Recorded) (i k p : ℕ) (ends : Bool) (all : List ℕ) (taken : List Take) → step_at t.steps (k + 1) ≡ Some (record { proc = p; act = Receive ends all }) → AreTakesBy set t i k all taken
+    → AreTakesBy set t i (k + 1) [] taken
 any_takes_done set t i k p ends all taken step l = IsListing-same TakenBefore (IsAnyTakeBy set t i k all) (IsAnyTakeBy set t i (k + 1) []) taken
     (λ y h. record { own = h.own; until = elim h.until [ inl before ↦ inl (omega (arith, before)) | inr here ↦ inl (omega (arith, here.0)) ] })
     (λ y h. record {
@@ -108,8 +108,8 @@ any_takes_done set t i k p ends all taken step l = IsListing-same TakenBefore (I
         subst (λ (z : Step). Contains (act_ids z.act) y.sent.no) same at.2
 
 -- a step that isn't a Receive of a member takes none
-pub any_takes_same : (set : ℕ) (t : Recorded) (i k : ℕ) (taken : List Take) → ((p : ℕ) → IsTrue (has_proc set p) → IsReceiveOf t.steps (k + 1) p → ⊥) → IsListing TakenBefore (IsAnyTakeBy set t i k []) taken
-    → IsListing TakenBefore (IsAnyTakeBy set t i (k + 1) []) taken
+pub any_takes_same : (set : ℕ) (t : Recorded) (i k : ℕ) (taken : List Take) → ((p : ℕ) → IsTrue (has_proc set p) → IsReceiveOf t.steps (k + 1) p → ⊥) → AreTakesBy set t i k [] taken
+    → AreTakesBy set t i (k + 1) [] taken
 any_takes_same set t i k taken none l = IsListing-same TakenBefore (IsAnyTakeBy set t i k []) (IsAnyTakeBy set t i (k + 1) []) taken
     (λ y h. record { own = h.own; until = elim h.until [ inl before ↦ inl (omega (arith, before)) | inr here ↦ absurd (Contains-nil y.sent.no here.1) ] })
     (λ y h. record {
@@ -125,9 +125,9 @@ any_takes_same set t i k taken none l = IsListing-same TakenBefore (IsAnyTakeBy 
 
 -- what one Receive takes, first n ids
 any_takes_upto : (set : ℕ) (t : Recorded) → IsTimed t → (i k p : ℕ) (b : Option Place) → i < tick_of t (k + 1) → (ends : Bool) (all : List ℕ) → IsStrictlyIncreasing all → step_at t.steps (k + 1) ≡ Some (record { proc = p; act = Receive ends all })
-    → IsTrue (has_proc set p) → IsLastReceive t p i (tick_of t (k + 1)) b → (taken : List Take) → IsListing TakenBefore (IsAnyTakeBy set t i k []) taken → (n : ℕ) → n ≤ length all
-    → IsListing TakenBefore (IsAnyTakeBy set t i k (take n all)) (taken ++ map (take_of t (record { no = k + 1; tick = tick_of t (k + 1) }) p b) (take n all))
-any_takes_upto set t time i k p b low ends all rising step member last taken l zero h = subst (λ ys. IsListing TakenBefore (IsAnyTakeBy set t i k []) ys) (sym (append-nil taken)) l
+    → IsTrue (has_proc set p) → IsLastReceive t p i (tick_of t (k + 1)) b → (taken : List Take) → AreTakesBy set t i k [] taken → (n : ℕ) → n ≤ length all
+    → AreTakesBy set t i k (take n all) (taken ++ map (take_of t (record { no = k + 1; tick = tick_of t (k + 1) }) p b) (take n all))
+any_takes_upto set t time i k p b low ends all rising step member last taken l zero h = subst (AreTakesBy set t i k []) (sym (append-nil taken)) l
 any_takes_upto set t time i k p b low ends all rising step member last taken l (suc n) h =
     let before = any_takes_upto set t time i k p b low ends all rising step member last taken l n (omega (arith, h)) in
     let inside : n < length all = omega (arith, h) in
@@ -135,29 +135,29 @@ any_takes_upto set t time i k p b low ends all rising step member last taken l (
     let same : take (n + 1) all ≡ take n all ++ get_or all n 0 ∷ [] = take_more all n 0 inside in
     let next : n + 1 ≡ suc n = omega arith in
     let list = append_assoc taken (map f (take n all)) (f (get_or all n 0) ∷ []) ∙ ap (λ ys. taken ++ ys) (sym (map-append f (take n all) (get_or all n 0 ∷ [])) ∙ ap (map f) (sym same)) in
-    subst (λ m. IsListing TakenBefore (IsAnyTakeBy set t i k (take m all)) (taken ++ map f (take m all))) next (subst (λ ys. IsListing TakenBefore (IsAnyTakeBy set t i k (take (n + 1) all)) ys) list more)
+    subst (λ m. AreTakesBy set t i k (take m all) (taken ++ map f (take m all))) next (subst (λ ys. AreTakesBy set t i k (take (n + 1) all) ys) list more)
   where
     f : ℕ → Take
     f = take_of t (record { no = k + 1; tick = tick_of t (k + 1) }) p b
 
 -- the next step, a Receive of a member, takes what it takes
 pub any_takes_step : (set : ℕ) (t : Recorded) → IsWellFormed t.config t.steps → IsTimed t → (i k p : ℕ) (b : Option Place) → i < tick_of t (k + 1) → IsReceiveOf t.steps (k + 1) p
-    → IsTrue (has_proc set p) → IsLastReceive t p i (tick_of t (k + 1)) b → (taken : List Take) → IsListing TakenBefore (IsAnyTakeBy set t i k []) taken
-    → IsListing TakenBefore (IsAnyTakeBy set t i (k + 1) []) (taken ++ map (take_of t (record { no = k + 1; tick = tick_of t (k + 1) }) p b) (ids_at t.steps (k + 1)))
+    → IsTrue (has_proc set p) → IsLastReceive t p i (tick_of t (k + 1)) b → (taken : List Take) → AreTakesBy set t i k [] taken
+    → AreTakesBy set t i (k + 1) [] (taken ++ map (take_of t (record { no = k + 1; tick = tick_of t (k + 1) }) p b) (ids_at t.steps (k + 1)))
 any_takes_step set t sound time i k p b low r member last taken l =
     let ids = r.ids in
     let all : length ids ≤ length ids = omega arith in
     let upto = any_takes_upto set t time i k p b low r.ends ids (sound.rising (k + 1) _ r.step) r.step member last taken l (length ids) all in
-    let whole = subst (λ ys. IsListing TakenBefore (IsAnyTakeBy set t i k ys) (taken ++ map (take_of t (record { no = k + 1; tick = tick_of t (k + 1) }) p b) ys)) (take_all (length ids) ids all) upto in
+    let whole = subst (λ ys. AreTakesBy set t i k ys (taken ++ map (take_of t (record { no = k + 1; tick = tick_of t (k + 1) }) p b) ys)) (take_all (length ids) ids all) upto in
     let same : ids ≡ ids_at t.steps (k + 1) = sym (ap ids_of r.step) in
-    subst (λ ys. IsListing TakenBefore (IsAnyTakeBy set t i (k + 1) []) (taken ++ map (take_of t (record { no = k + 1; tick = tick_of t (k + 1) }) p b) ys)) same (any_takes_done set t i k p r.ends ids _ r.step whole)
+    subst (λ ys. AreTakesBy set t i (k + 1) [] (taken ++ map (take_of t (record { no = k + 1; tick = tick_of t (k + 1) }) p b) ys)) same (any_takes_done set t i k p r.ends ids _ r.step whole)
 
 -- so do the last Receives with it
 pub receives_more : (set : ℕ) (t : Recorded) → IsTrace t → (i k p tick : ℕ) (b : Option Place) → i < tick_of t (k + 1) → tick ≡ tick_of t (k + 1) → IsReceiveOf t.steps (k + 1) p → IsTrue (has_proc set p)
-    → (taken : List Take) (last : List (Option Place)) → b ≡ last_of last p → IsListing TakenBefore (IsAnyTakeBy set t i k []) taken → AreLastBy set t i k last
-    → IsListing TakenBefore (IsAnyTakeBy set t i (k + 1) []) (taken ++ map (take_of t (record { no = k + 1; tick = tick }) p b) (ids_at t.steps (k + 1))) × AreLastBy set t i (k + 1) (set_at last p (Some (record { no = k + 1; tick = tick })))
+    → (taken : List Take) (last : List (Option Place)) → b ≡ last_of last p → AreTakesBy set t i k [] taken → AreLastBy set t i k last
+    → AreTakesBy set t i (k + 1) [] (taken ++ map (take_of t (record { no = k + 1; tick = tick }) p b) (ids_at t.steps (k + 1))) × AreLastBy set t i (k + 1) (set_at last p (Some (record { no = k + 1; tick = tick })))
 receives_more set t sound i k p tick b low e r member taken last f l a = (
-  subst (λ x. IsListing TakenBefore (IsAnyTakeBy set t i (k + 1) []) (taken ++ map (take_of t (record { no = k + 1; tick = x }) p b) (ids_at t.steps (k + 1)))) (sym e)
+  subst (λ x. AreTakesBy set t i (k + 1) [] (taken ++ map (take_of t (record { no = k + 1; tick = x }) p b) (ids_at t.steps (k + 1)))) (sym e)
       (any_takes_step set t sound.steps sound.time i k p b low r member (last_at_step t sound.time p i k b r (subst (λ o. IsLastBy t p i k o) (sym f) (a.members p member))) taken l),
   subst (λ (x : ℕ). AreLastBy set t i (k + 1) (set_at last p (Some (record { no = k + 1; tick = x })))) (sym e) (last_more set t i k p last member r low a),
 )

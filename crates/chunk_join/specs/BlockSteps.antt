@@ -15,7 +15,7 @@ use Rattle.chunk_join.specs.declared.summaries.Fate.TheVariants.{Open, Taken}
 use Rattle.chunk_join.specs.declared.summaries.Fate.{Fate}
 use Rattle.chunk_join.specs.declared.summaries.Message.{Message}
 use Rattle.chunk_join.specs.declared.summaries.Take.{Take}
-use Rattle.chunk_join.specs.Summaries.{IsPlace, IsAnyTake, IsLongest, IsListing, SentBefore, EndsBefore, last_of}
+use Rattle.chunk_join.specs.Summaries.{IsPlace, IsAnyTake, IsLongest, IsListing, SentBefore, TakenBefore, EndsBefore, last_of}
 use Rattle.chunk_join.specs.Parts.{after}
 
 -- a message between members that is sent after cut i by a step up to k, without its fate
@@ -25,6 +25,10 @@ pub record IsOpenBy (set : ℕ) (trace : Recorded) (i k : ℕ) (m : Message) : T
   pub after : i < m.sent.tick
   pub until : m.sent.no ≤ k
   pub open_yet : m.fate ≡ Open
+
+-- the list has these messages
+abbrev pub AreOpenBy : ℕ → Recorded → ℕ → ℕ → List Message → Type 0
+AreOpenBy set trace i k sent = IsListing SentBefore (IsOpenBy set trace i k) sent
 
 -- what becomes of a message that no take, or this one, takes
 abbrev pub fate_by : Option Take → Fate
@@ -50,7 +54,7 @@ fated before fates m = record { sent = m.sent; to = m.to; fate = slice_index_or 
 -- the messages up to k with these fates
 pub record AreFated (set : ℕ) (trace : Recorded) (i before k : ℕ) (fates : List Fate) (sent : List Message) : Type 0 where
   pub opens : List Message
-  pub listing : IsListing SentBefore (IsOpenBy set trace i k) opens
+  pub listing : AreOpenBy set trace i k opens
   pub same : sent ≡ map (fated before fates) opens
 
 -- the last Receive of p after cut i among the steps up to k, or none
@@ -75,6 +79,10 @@ pub record AreLastBy (set : ℕ) (trace : Recorded) (i k : ℕ) (last : List (Op
 pub record IsAnyTakeBy (set : ℕ) (trace : Recorded) (i k : ℕ) (ids : List ℕ) (t : Take) : Type 0 where
   pub own : IsAnyTake set trace i t
   pub until : (t.at.no ≤ k) ⊎ ((t.at.no ≡ k + 1) × Contains ids t.sent.no)
+
+-- the list has these takes
+abbrev pub AreTakesBy : ℕ → Recorded → ℕ → ℕ → List ℕ → List Take → Type 0
+AreTakesBy set trace i k ids taken = IsListing TakenBefore (IsAnyTakeBy set trace i k ids) taken
 
 -- the ids that the step of this number takes
 abbrev pub ids_of : Option Step → List ℕ
@@ -127,3 +135,7 @@ pub record AreEnded (set : ℕ) (trace : Recorded) (i x n : ℕ) (silent : List 
 pub record IsLongestFrom (set : ℕ) (trace : Recorded) (i j least : ℕ) (w : Gap) : Type 0 where
   pub longest : IsLongest set trace i j w
   pub from : (w.to < j) ⊎ (least ≤ w.proc)
+
+-- the list has these silences
+abbrev pub AreLongestFrom : ℕ → Recorded → ℕ → ℕ → ℕ → List Gap → Type 0
+AreLongestFrom set trace i j least silent = IsListing EndsBefore (IsLongestFrom set trace i j least) silent

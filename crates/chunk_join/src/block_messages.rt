@@ -6,7 +6,7 @@ ghost use Rattle.chunk_join.specs.Summaries.{IsListing, TakenBefore};
 ghost use Rattle.chunk_join.specs.declared.summaries.Fate.TheVariants.{Open};
 ghost use Rattle.chunk_join.specs.TickSteps.{AreStepsBefore};
 ghost use Rattle.chunk_join.specs.Parts.{is_older};
-ghost use Rattle.chunk_join.specs.BlockSteps.{AreFated, AreFates, fate_after, IsAnyTakeBy, AreLastBy, take_of, ids_at};
+ghost use Rattle.chunk_join.specs.BlockSteps.{AreFated, AreFates, fate_after, IsAnyTakeBy, AreLastBy, take_of, ids_at, AreTakesBy};
 
 use crate::summaries::{Fate, Message, Place, Take, after, last_of};
 use crate::tick_steps::{destination, receiver};
@@ -99,7 +99,7 @@ pub(crate) fn receives_in(
     requires low { 1 ≤ from }
     requires order { before ≤ end }
     requires within { end ≤ length trace.now.steps }
-    ensures taken { IfOk result (λ r. IsListing TakenBefore (IsAnyTakeBy set trace.now (from - 1) end []) r.taken.items) }
+    ensures taken { IfOk result (λ r. AreTakesBy set trace.now (from - 1) end [] r.taken.items) }
     ensures last { IfOk result (λ r. AreLastBy set trace.now (from - 1) end r.last.items) }
 {
     let mut taken = Vec::new(alloc);

@@ -2,9 +2,8 @@ use Rattle.std.proofs.Common.{◌≤◌, ◌<◌, ◌⊎◌, inl, inr, ◌+◌, 
 use Rattle.step_trace.specs.declared.processors.TheConstants.{MAX_MEMBER}
 use Rattle.step_trace.specs.Ticks.{tick_of}
 use Rattle.chunk_join.specs.declared.summaries.Place.{Place}
-use Rattle.chunk_join.specs.Summaries.{IsListing, TakenBefore}
 use Rattle.chunk_join.specs.TickSteps.{IsReceiverAt}
-use Rattle.chunk_join.specs.BlockSteps.{IsAnyTakeBy, take_of, ids_at}
+use Rattle.chunk_join.specs.BlockSteps.{take_of, ids_at, AreTakesBy}
 use Rattle.chunk_join.proofs.BlockMessages.{step_after, last_none, last_same}
 use Rattle.chunk_join.proofs.BlockTakes.{any_takes_none, any_takes_same, receives_more}
 use Rattle.chunk_join.proofs.block_messages.receives_in.Goals as goal
@@ -36,7 +35,7 @@ loop-no-preserved c =
           let r = subst (IsReceiverAt c.args.set t.steps (no + 1)) w.in-Some.is c.receiver.ensures in
           let both = receives_more c.args.set t c.requires.sound i no w.in-Some.by (tick_of t (no + 1)) w.last_of-missed.result low refl r.1 r.0 c.loop-no.taken.items c.loop-no.last.items (search rules) c.loop-no.invariant.1 c.loop-no.invariant.2 in
           let items : w.append_takes.new.taken.items ≡ c.loop-no.taken.items ++ map (take_of t (record { no = no + 1; tick = tick_of t (no + 1) }) w.in-Some.by w.last_of-missed.result) (ids_at t.steps (no + 1)) = search rules in
-          rw (w.taken-is, w.last-is, w.of-at.ensures) (more, subst (λ xs. IsListing TakenBefore (IsAnyTakeBy c.args.set t i (no + 1) []) xs) (sym items) both.0, both.1))
+          rw (w.taken-is, w.last-is, w.of-at.ensures) (more, subst (AreTakesBy c.args.set t i (no + 1) []) (sym items) both.0, both.1))
       | in_default w ↦ (
           let none = subst (IsReceiverAt c.args.set t.steps (no + 1)) w.in_default.is c.receiver.ensures in
           rw (w.taken-is, w.last-is) (more, any_takes_same c.args.set t i no c.loop-no.taken.items none c.loop-no.invariant.1, last_same c.args.set t i no c.loop-no.last.items none c.loop-no.invariant.2))
@@ -46,4 +45,4 @@ pub returns-clause-taken : goal.returns-clause-taken
 returns-clause-taken c =
     let upto = c.loop-no.auto.no-end c.requires.order in
     let at : c.loop-no.no ≡ c.args.end = omega (arith, c.loop-no-test.false, upto) in
-    subst (λ k. IsListing TakenBefore (IsAnyTakeBy c.args.set c.args.trace.now (c.args.from - 1) k []) c.loop-no.taken.items) at c.loop-no.invariant.1
+    subst (λ k. AreTakesBy c.args.set c.args.trace.now (c.args.from - 1) k [] c.loop-no.taken.items) at c.loop-no.invariant.1
