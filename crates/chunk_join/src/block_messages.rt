@@ -2,11 +2,10 @@
 
 ghost use Rattle.std.specs.Prelude.{◌≡◌, ◌-◌, ◌<◌, ◌≤◌, ℕ, slice_index_or, ◌++◌, length, map, filter, All, IfOk, OnOk, []};
 ghost use Rattle.step_trace.specs.Ticks.{IsTrace, IsTimed};
-ghost use Rattle.chunk_join.specs.Summaries.{IsListing, TakenBefore};
 ghost use Rattle.chunk_join.specs.declared.summaries.Fate.TheVariants.{Open};
 ghost use Rattle.chunk_join.specs.TickSteps.{AreStepsBefore};
 ghost use Rattle.chunk_join.specs.Parts.{is_older};
-ghost use Rattle.chunk_join.specs.BlockSteps.{AreFated, AreFates, fate_after, IsAnyTakeBy, AreLastBy, take_of, ids_at, AreTakesBy};
+ghost use Rattle.chunk_join.specs.BlockSteps.{AreFated, AreFates, fate_after, AreLastBy, take_of, ids_at, AreTakesBy};
 
 use crate::summaries::{Fate, Message, Place, Take, after, last_of};
 use crate::tick_steps::{destination, receiver};

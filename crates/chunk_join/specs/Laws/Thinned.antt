@@ -12,37 +12,112 @@ pub record AreAlike {X : Type 0} (pending : X → Bool) (weight : X → ℕ) (xs
   pub top : heaviest pending weight xs ≡ heaviest pending weight ys
   pub kept : thinned pending weight xs ≡ thinned pending weight ys
 
-pub AreAlike-refl : {X : Type 0} (pending : X → Bool) (weight : X → ℕ) (xs : List X) → AreAlike pending weight xs xs
-AreAlike-refl pending weight xs = record { top = refl; kept = refl }
+-- a settled element whose weight is the greatest
+pub record IsHeaviest {X : Type 0} (pending : X → Bool) (weight : X → ℕ) (xs : List X) (y : X) : Type 0 where
+  pub listed : Contains xs y
+  pub settled : pending y ≡ false
+  pub heavy : weight y ≡ heaviest pending weight xs
 
-pub AreAlike-trans : {X : Type 0} (pending : X → Bool) (weight : X → ℕ) (xs ys zs : List X) → AreAlike pending weight xs ys → AreAlike pending weight ys zs → AreAlike pending weight xs zs
-AreAlike-trans pending weight xs ys zs a b = record { top = a.top ∙ b.top; kept = a.kept ∙ b.kept }
+module _ {X : Type 0} (pending : X → Bool) (weight : X → ℕ) where
+  abbrev Alike : List X → List X → Type 0
+  Alike = AreAlike pending weight
 
-pub AreAlike-cons : {X : Type 0} (pending : X → Bool) (weight : X → ℕ) (x : X) (xs ys : List X) → AreAlike pending weight xs ys → AreAlike pending weight (x ∷ xs) (x ∷ ys)
-AreAlike-cons {X} pending weight x xs ys a = record {
-  top = ap (λ n. max (weight_of pending weight x) n) a.top;
-  kept = ap₂ (λ (n : ℕ) (zs : List X). cond (stays pending weight n x) (x ∷ zs) zs) a.top a.kept;
-}
+  abbrev top_of : List X → ℕ
+  top_of = heaviest pending weight
 
-pub AreAlike-prefix : {X : Type 0} (pending : X → Bool) (weight : X → ℕ) (zs xs ys : List X) → AreAlike pending weight xs ys → AreAlike pending weight (zs ++ xs) (zs ++ ys)
-AreAlike-prefix pending weight [] xs ys a = a
-AreAlike-prefix pending weight (z ∷ zs) xs ys a = AreAlike-cons pending weight z (zs ++ xs) (zs ++ ys) (AreAlike-prefix pending weight zs xs ys a)
+  abbrev thin : List X → List X
+  thin = thinned pending weight
 
--- a settled element no heavier than what comes later is not missed
-pub AreAlike-drop : {X : Type 0} (pending : X → Bool) (weight : X → ℕ) (x : X) (xs : List X) → pending x ≡ false → weight x ≤ heaviest pending weight xs → AreAlike pending weight (x ∷ xs) xs
-AreAlike-drop pending weight x xs settled light = record { top = grind (arith, settled, light); kept = grind (arith, settled, light) }
+  abbrev stay : ℕ → X → Bool
+  stay = stays pending weight
 
--- what is dropped is settled, and no heavier than what comes later
-pub dropped : {X : Type 0} (pending : X → Bool) (weight : X → ℕ) (top : ℕ) (x : X) → stays pending weight top x ≡ false → (pending x ≡ false) × (weight x ≤ top)
-dropped pending weight top x e = (grind (arith, e), grind (arith, e))
+  pub AreAlike-refl : (xs : List X) → Alike xs xs
+  AreAlike-refl xs = record { top = refl; kept = refl }
 
-pub heaviest-append : {X : Type 0} (pending : X → Bool) (weight : X → ℕ) (xs ys : List X) → heaviest pending weight xs ≤ heaviest pending weight (xs ++ ys)
-heaviest-append pending weight [] ys = omega arith
-heaviest-append pending weight (x ∷ xs) ys = let h = heaviest-append pending weight xs ys in omega (arith, h)
+  pub AreAlike-trans : (xs ys zs : List X) → Alike xs ys → Alike ys zs → Alike xs zs
+  AreAlike-trans xs ys zs a b = record { top = a.top ∙ b.top; kept = a.kept ∙ b.kept }
 
-pub heaviest-append_right : {X : Type 0} (pending : X → Bool) (weight : X → ℕ) (xs ys : List X) → heaviest pending weight ys ≤ heaviest pending weight (xs ++ ys)
-heaviest-append_right pending weight [] ys = omega arith
-heaviest-append_right pending weight (x ∷ xs) ys = let h = heaviest-append_right pending weight xs ys in omega (arith, h)
+  pub AreAlike-cons : (x : X) (xs ys : List X) → Alike xs ys → Alike (x ∷ xs) (x ∷ ys)
+  AreAlike-cons x xs ys a = record {
+    top = ap (λ n. max (weight_of pending weight x) n) a.top;
+    kept = ap₂ (λ (n : ℕ) (zs : List X). cond (stay n x) (x ∷ zs) zs) a.top a.kept;
+  }
+
+  pub AreAlike-prefix : (zs xs ys : List X) → Alike xs ys → Alike (zs ++ xs) (zs ++ ys)
+  AreAlike-prefix [] xs ys a = a
+  AreAlike-prefix (z ∷ zs) xs ys a = AreAlike-cons z (zs ++ xs) (zs ++ ys) (AreAlike-prefix zs xs ys a)
+
+  -- a settled element no heavier than what comes later is not missed
+  pub AreAlike-drop : (x : X) (xs : List X) → pending x ≡ false → weight x ≤ top_of xs → Alike (x ∷ xs) xs
+  AreAlike-drop x xs settled light = record { top = grind (arith, settled, light); kept = grind (arith, settled, light) }
+
+  -- what is dropped is settled, and no heavier than what comes later
+  pub dropped : (top : ℕ) (x : X) → stay top x ≡ false → (pending x ≡ false) × (weight x ≤ top)
+  dropped top x e = (grind (arith, e), grind (arith, e))
+
+  pub heaviest-append : (xs ys : List X) → top_of xs ≤ top_of (xs ++ ys)
+  heaviest-append [] ys = omega arith
+  heaviest-append (x ∷ xs) ys = let h = heaviest-append xs ys in omega (arith, h)
+
+  pub heaviest-append_right : (xs ys : List X) → top_of ys ≤ top_of (xs ++ ys)
+  heaviest-append_right [] ys = omega arith
+  heaviest-append_right (x ∷ xs) ys = let h = heaviest-append_right xs ys in omega (arith, h)
+
+  -- what is kept is as good as the list
+  pub thinned-same : (xs : List X) → Alike (thin xs) xs
+  thinned-same [] = AreAlike-refl []
+  thinned-same (x ∷ xs) = go (thinned-same xs) (stay (top_of xs) x) refl where
+    go : Alike (thin xs) xs → (b : Bool) → stay (top_of xs) x ≡ b → Alike (cond b (x ∷ thin xs) (thin xs)) (x ∷ xs)
+    go rest true e = AreAlike-cons x _ _ rest
+    go rest false e =
+        let d = dropped (top_of xs) x e in
+        let step = AreAlike-drop x xs d.0 d.1 in
+        AreAlike-trans _ xs _ rest (record { top = sym step.top; kept = sym step.kept })
+
+  -- nothing that is found among the pending ones alone is lost to a search or a test
+  pub find-thinned : (p : X → Bool) (xs : List X) → ((x : X) → pending x ≡ false → p x ≡ false) → find p (thin xs) ≡ find p xs
+  find-thinned p [] h = refl
+  find-thinned p (x ∷ xs) h = go (find-thinned p xs h) (stay (top_of xs) x) refl where
+    go : find p (thin xs) ≡ find p xs → (b : Bool) → stay (top_of xs) x ≡ b → find p (cond b (x ∷ thin xs) (thin xs)) ≡ cond (p x) (Some x) (find p xs)
+    go rest true e = ap (λ (o : Option X). cond (p x) (Some x) o) rest
+    go rest false e = rest ∙ ap (λ (b : Bool). cond b (Some x) (find p xs)) (sym (h x (dropped (top_of xs) x e).0))
+
+  pub list_any-thinned : (p : X → Bool) (xs : List X) → ((x : X) → pending x ≡ false → p x ≡ false) → list_any p (thin xs) ≡ list_any p xs
+  list_any-thinned p [] h = refl
+  list_any-thinned p (x ∷ xs) h = go (list_any-thinned p xs h) (stay (top_of xs) x) refl where
+    go : list_any p (thin xs) ≡ list_any p xs → (b : Bool) → stay (top_of xs) x ≡ b → list_any p (cond b (x ∷ thin xs) (thin xs)) ≡ (p x || list_any p xs)
+    go rest true e = ap (λ b. p x || b) rest
+    go rest false e = rest ∙ ap (λ b. b || list_any p xs) (sym (h x (dropped (top_of xs) x e).0))
+
+  -- what is kept was there, in the same order
+  pub Contains-from_thinned : (xs : List X) (y : X) → Contains (thin xs) y → Contains xs y
+  Contains-from_thinned [] y c = c
+  Contains-from_thinned (x ∷ xs) y c = go (Contains-from_thinned xs y) (stay (top_of xs) x) c where
+    go : (Contains (thin xs) y → Contains xs y) → (b : Bool) → Contains (cond b (x ∷ thin xs) (thin xs)) y → Contains (x ∷ xs) y
+    go rest true k = elim (Contains-cons_cases x y (thin xs) k) [
+      | inl e ↦ subst (λ z. Contains (x ∷ xs) z) e (Contains-head x xs)
+      | inr later ↦ Contains-rest x y xs (rest later)
+    ]
+    go rest false k = Contains-rest x y xs (rest k)
+
+  pub heaviest-reached : (xs : List X) → (top_of xs ≡ 0) ⊎ ((y : X) × IsHeaviest pending weight xs y)
+  heaviest-reached [] = inl refl
+  heaviest-reached (x ∷ xs) = go (pending x) refl (heaviest-reached xs) where
+    one : ℕ → Bool → Type 0
+    one n p = (max (cond p 0 (weight x)) n ≡ 0) ⊎ ((y : X) × Contains (x ∷ xs) y × (pending y ≡ false) × (weight y ≡ max (cond p 0 (weight x)) n))
+
+    whole : (p : Bool) → pending x ≡ p → one (top_of xs) p → (top_of (x ∷ xs) ≡ 0) ⊎ ((y : X) × IsHeaviest pending weight (x ∷ xs) y)
+    whole p e (inl z) = inl (rw e z)
+    whole p e (inr (y, c, s, w)) = inr (y, record { listed = c; settled = s; heavy = rw e w })
+
+    go : (p : Bool) → pending x ≡ p → (top_of xs ≡ 0) ⊎ ((y : X) × IsHeaviest pending weight xs y) → (top_of (x ∷ xs) ≡ 0) ⊎ ((y : X) × IsHeaviest pending weight (x ∷ xs) y)
+    go true e (inl z) = whole true e (inl (omega (arith, z)))
+    go true e (inr (y, h)) = whole true e (inr (y, Contains-rest x y xs h.listed, h.settled, omega (arith, h.heavy)))
+    go false e (inl z) = whole false e (inr (x, Contains-head x xs, e, omega (arith, z)))
+    go false e (inr (y, h)) = elim (cases_lt (weight x) (weight y)) [
+      | inl l ↦ whole false e (inr (y, Contains-rest x y xs h.listed, h.settled, omega (arith, h.heavy, l)))
+      | inr m ↦ whole false e (inr (x, Contains-head x xs, e, omega (arith, h.heavy, m)))
+    ]
 
 -- A settled element becomes one element, which is settled and as heavy; of a pending one anything may come.
 pub record IsSettledSo {X Y : Type 0} (pending : X → Bool) (weight : X → ℕ) (waits : Y → Bool) (heavy : Y → ℕ) (becomes : X → List Y) (x : X) : Type 0 where
@@ -100,32 +175,6 @@ thinned-alike {X} {Y} pending weight waits heavy becomes (x ∷ xs) ys keeps =
         AreAlike-trans waits heavy _ (flat_map becomes xs ++ ys) _ rest
         (subst (λ (zs : List Y). AreAlike waits heavy (flat_map becomes xs ++ ys) zs) same (record { top = sym step.top; kept = sym step.kept }))
 
--- what is kept is as good as the list
-pub thinned-same : {X : Type 0} (pending : X → Bool) (weight : X → ℕ) (xs : List X) → AreAlike pending weight (thinned pending weight xs) xs
-thinned-same pending weight [] = AreAlike-refl pending weight []
-thinned-same {X} pending weight (x ∷ xs) = go (thinned-same pending weight xs) (stays pending weight (heaviest pending weight xs) x) refl where
-  go : AreAlike pending weight (thinned pending weight xs) xs → (b : Bool) → stays pending weight (heaviest pending weight xs) x ≡ b → AreAlike pending weight (cond b (x ∷ thinned pending weight xs) (thinned pending weight xs)) (x ∷ xs)
-  go rest true e = AreAlike-cons pending weight x _ _ rest
-  go rest false e =
-      let d = dropped pending weight (heaviest pending weight xs) x e in
-      let step = AreAlike-drop pending weight x xs d.0 d.1 in
-      AreAlike-trans pending weight _ xs _ rest (record { top = sym step.top; kept = sym step.kept })
-
--- nothing that is found among the pending ones alone is lost to a search or a test
-pub find-thinned : {X : Type 0} (pending : X → Bool) (weight : X → ℕ) (p : X → Bool) (xs : List X) → ((x : X) → pending x ≡ false → p x ≡ false) → find p (thinned pending weight xs) ≡ find p xs
-find-thinned pending weight p [] h = refl
-find-thinned {X} pending weight p (x ∷ xs) h = go (find-thinned pending weight p xs h) (stays pending weight (heaviest pending weight xs) x) refl where
-  go : find p (thinned pending weight xs) ≡ find p xs → (b : Bool) → stays pending weight (heaviest pending weight xs) x ≡ b → find p (cond b (x ∷ thinned pending weight xs) (thinned pending weight xs)) ≡ cond (p x) (Some x) (find p xs)
-  go rest true e = ap (λ (o : Option X). cond (p x) (Some x) o) rest
-  go rest false e = rest ∙ ap (λ (b : Bool). cond b (Some x) (find p xs)) (sym (h x (dropped pending weight (heaviest pending weight xs) x e).0))
-
-pub list_any-thinned : {X : Type 0} (pending : X → Bool) (weight : X → ℕ) (p : X → Bool) (xs : List X) → ((x : X) → pending x ≡ false → p x ≡ false) → list_any p (thinned pending weight xs) ≡ list_any p xs
-list_any-thinned pending weight p [] h = refl
-list_any-thinned {X} pending weight p (x ∷ xs) h = go (list_any-thinned pending weight p xs h) (stays pending weight (heaviest pending weight xs) x) refl where
-  go : list_any p (thinned pending weight xs) ≡ list_any p xs → (b : Bool) → stays pending weight (heaviest pending weight xs) x ≡ b → list_any p (cond b (x ∷ thinned pending weight xs) (thinned pending weight xs)) ≡ (p x || list_any p xs)
-  go rest true e = ap (λ b. p x || b) rest
-  go rest false e = rest ∙ ap (λ b. b || list_any p xs) (sym (h x (dropped pending weight (heaviest pending weight xs) x e).0))
-
 -- a filter and a map are lists of what becomes of each
 pub flat_map-filter : {X : Type 0} (p : X → Bool) (xs : List X) → flat_map (λ x. cond (p x) (x ∷ []) []) xs ≡ filter p xs
 flat_map-filter p [] = refl
@@ -159,49 +208,6 @@ thinned-filter {X} pending weight waits heavy p xs ys h =
     (subst (λ (zs : List X). AreAlike waits heavy (flat_map (λ x. cond (p x) (x ∷ []) []) (thinned pending weight xs) ++ ys) (zs ++ ys)) (flat_map-filter p xs)
     (thinned-alike pending weight waits heavy (λ x. cond (p x) (x ∷ []) []) xs ys (λ x k e. record { is = x; one = ap (λ (b : Bool). cond b (x ∷ []) []) (h x k e).0; still = (h x k e).1; as_heavy = (h x k e).2 })))
 
--- what is kept was there, in the same order
-pub Contains-from_thinned : {X : Type 0} (pending : X → Bool) (weight : X → ℕ) (xs : List X) (y : X) → Contains (thinned pending weight xs) y → Contains xs y
-Contains-from_thinned pending weight [] y c = c
-Contains-from_thinned {X} pending weight (x ∷ xs) y c = go (Contains-from_thinned pending weight xs y) (stays pending weight (heaviest pending weight xs) x) c where
-  go : (Contains (thinned pending weight xs) y → Contains xs y) → (b : Bool) → Contains (cond b (x ∷ thinned pending weight xs) (thinned pending weight xs)) y → Contains (x ∷ xs) y
-  go rest true k = elim (Contains-cons_cases x y (thinned pending weight xs) k) [
-    | inl e ↦ subst (λ z. Contains (x ∷ xs) z) e (Contains-head x xs)
-    | inr later ↦ Contains-rest x y xs (rest later)
-  ]
-  go rest false k = Contains-rest x y xs (rest k)
-
-pub Rises-thinned : {X : Type 0} (Before : X → X → Type 0) (pending : X → Bool) (weight : X → ℕ) (xs : List X) → Rises Before xs → Rises Before (thinned pending weight xs)
-Rises-thinned Before pending weight [] r = tt
-Rises-thinned {X} Before pending weight (x ∷ xs) r = go (Rises-thinned Before pending weight xs r.1) (stays pending weight (heaviest pending weight xs) x) where
-  go : Rises Before (thinned pending weight xs) → (b : Bool) → Rises Before (cond b (x ∷ thinned pending weight xs) (thinned pending weight xs))
-  go rest true = (λ y k. r.0 y (Contains-from_thinned pending weight xs y k), rest)
-  go rest false = rest
-
--- a settled element whose weight is the greatest
-pub record IsHeaviest {X : Type 0} (pending : X → Bool) (weight : X → ℕ) (xs : List X) (y : X) : Type 0 where
-  pub listed : Contains xs y
-  pub settled : pending y ≡ false
-  pub heavy : weight y ≡ heaviest pending weight xs
-
-pub heaviest-reached : {X : Type 0} (pending : X → Bool) (weight : X → ℕ) (xs : List X) → (heaviest pending weight xs ≡ 0) ⊎ ((y : X) × IsHeaviest pending weight xs y)
-heaviest-reached pending weight [] = inl refl
-heaviest-reached {X} pending weight (x ∷ xs) = go (pending x) refl (heaviest-reached pending weight xs) where
-  one : ℕ → Bool → Type 0
-  one n p = (max (cond p 0 (weight x)) n ≡ 0) ⊎ ((y : X) × Contains (x ∷ xs) y × (pending y ≡ false) × (weight y ≡ max (cond p 0 (weight x)) n))
-
-  whole : (p : Bool) → pending x ≡ p → one (heaviest pending weight xs) p → (heaviest pending weight (x ∷ xs) ≡ 0) ⊎ ((y : X) × IsHeaviest pending weight (x ∷ xs) y)
-  whole p e (inl z) = inl (rw e z)
-  whole p e (inr (y, c, s, w)) = inr (y, record { listed = c; settled = s; heavy = rw e w })
-
-  go : (p : Bool) → pending x ≡ p → (heaviest pending weight xs ≡ 0) ⊎ ((y : X) × IsHeaviest pending weight xs y) → (heaviest pending weight (x ∷ xs) ≡ 0) ⊎ ((y : X) × IsHeaviest pending weight (x ∷ xs) y)
-  go true e (inl z) = whole true e (inl (omega (arith, z)))
-  go true e (inr (y, h)) = whole true e (inr (y, Contains-rest x y xs h.listed, h.settled, omega (arith, h.heavy)))
-  go false e (inl z) = whole false e (inr (x, Contains-head x xs, e, omega (arith, z)))
-  go false e (inr (y, h)) = elim (cases_lt (weight x) (weight y)) [
-    | inl l ↦ whole false e (inr (y, Contains-rest x y xs h.listed, h.settled, omega (arith, h.heavy, l)))
-    | inr m ↦ whole false e (inr (x, Contains-head x xs, e, omega (arith, h.heavy, m)))
-  ]
-
 -- a later one that is kept, settled and no lighter
 pub record IsCovered {X : Type 0} (Before : X → X → Type 0) (pending : X → Bool) (weight : X → ℕ) (kept : List X) (x : X) : Type 0 where
   pub by : X
@@ -215,46 +221,60 @@ pub record IsNeedless {X : Type 0} (Before : X → X → Type 0) (pending : X �
   pub settled : pending x ≡ false
   pub covered : (weight x ≡ 0) ⊎ IsCovered Before pending weight kept x
 
--- NOTHING IS LOST: what is listed is kept or needless
-pub kept_or_needless : {X : Type 0} (Before : X → X → Type 0) (pending : X → Bool) (weight : X → ℕ) (xs : List X) → Rises Before xs → (x : X) → Contains xs x
-    → Contains (thinned pending weight xs) x ⊎ IsNeedless Before pending weight (thinned pending weight xs) x
-kept_or_needless Before pending weight [] r x c = inl c
-kept_or_needless {X} Before pending weight (z ∷ zs) r x c = go (λ k. kept_or_needless Before pending weight zs r.1 x k) (stays pending weight (heaviest pending weight zs) z) refl (Contains-cons_cases z x zs c) where
-  kept : List X
-  kept = thinned pending weight zs
+module _ {X : Type 0} (Before : X → X → Type 0) (pending : X → Bool) (weight : X → ℕ) where
+  abbrev Needless : List X → X → Type 0
+  Needless = IsNeedless Before pending weight
 
-  more : Bool → List X
-  more b = cond b (z ∷ kept) kept
+  abbrev kept_of : List X → List X
+  kept_of = thinned pending weight
 
-  into : (b : Bool) (y : X) → Contains kept y → Contains (more b) y
-  into true y k = Contains-rest z y kept k
-  into false y k = k
+  pub Rises-thinned : (xs : List X) → Rises Before xs → Rises Before (kept_of xs)
+  Rises-thinned [] r = tt
+  Rises-thinned (x ∷ xs) r = go (Rises-thinned xs r.1) (stays pending weight (heaviest pending weight xs) x) where
+    go : Rises Before (kept_of xs) → (b : Bool) → Rises Before (cond b (x ∷ kept_of xs) (kept_of xs))
+    go rest true = (λ y k. r.0 y (Contains-from_thinned pending weight xs y k), rest)
+    go rest false = rest
 
-  lift : (b : Bool) (y : X) → IsNeedless Before pending weight kept y → IsNeedless Before pending weight (more b) y
-  lift b y n = record {
-    settled = n.settled;
-    covered = elim n.covered [
-      | inl e ↦ inl e
-      | inr k ↦ inr (record { by = k.by; listed = into b k.by k.listed; later = k.later; settled = k.settled; as_heavy = k.as_heavy })
-    ];
-  }
+  -- NOTHING IS LOST: what is listed is kept or needless
+  pub kept_or_needless : (xs : List X) → Rises Before xs → (x : X) → Contains xs x
+      → Contains (kept_of xs) x ⊎ Needless (kept_of xs) x
+  kept_or_needless [] r x c = inl c
+  kept_or_needless (z ∷ zs) r x c = go (λ k. kept_or_needless zs r.1 x k) (stays pending weight (heaviest pending weight zs) z) refl (Contains-cons_cases z x zs c) where
+    kept : List X
+    kept = kept_of zs
 
-  first : stays pending weight (heaviest pending weight zs) z ≡ false → IsNeedless Before pending weight kept z
-  first e =
-      let d = dropped pending weight (heaviest pending weight zs) z e in
-      let same = (thinned-same pending weight zs).top in
-      record {
-        settled = d.0;
-        covered = elim (heaviest-reached pending weight kept) [
-          | inl n ↦ inl (omega (arith, n, same, d.1))
-          | inr h ↦ (let l = h.1.listed in inr (record { by = h.0; listed = l; later = r.0 h.0 (Contains-from_thinned pending weight zs h.0 l); settled = h.1.settled; as_heavy = omega (arith, h.1.heavy, same, d.1) }))
-        ];
-      }
+    more : Bool → List X
+    more b = cond b (z ∷ kept) kept
 
-  go : (Contains zs x → Contains kept x ⊎ IsNeedless Before pending weight kept x) → (b : Bool) → stays pending weight (heaviest pending weight zs) z ≡ b → (z ≡ x) ⊎ Contains zs x → Contains (more b) x ⊎ IsNeedless Before pending weight (more b) x
-  go again true e (inl same) = inl (subst (λ v. Contains (z ∷ kept) v) same (Contains-head z kept))
-  go again false e (inl same) = inr (subst (IsNeedless Before pending weight kept) same (first e))
-  go again b e (inr later) = elim (again later) [
-    | inl k ↦ inl (into b x k)
-    | inr n ↦ inr (lift b x n)
-  ]
+    into : (b : Bool) (y : X) → Contains kept y → Contains (more b) y
+    into true y k = Contains-rest z y kept k
+    into false y k = k
+
+    lift : (b : Bool) (y : X) → Needless kept y → Needless (more b) y
+    lift b y n = record {
+      settled = n.settled;
+      covered = elim n.covered [
+        | inl e ↦ inl e
+        | inr k ↦ inr (record { by = k.by; listed = into b k.by k.listed; later = k.later; settled = k.settled; as_heavy = k.as_heavy })
+      ];
+    }
+
+    first : stays pending weight (heaviest pending weight zs) z ≡ false → Needless kept z
+    first e =
+        let d = dropped pending weight (heaviest pending weight zs) z e in
+        let same = (thinned-same pending weight zs).top in
+        record {
+          settled = d.0;
+          covered = elim (heaviest-reached pending weight kept) [
+            | inl n ↦ inl (omega (arith, n, same, d.1))
+            | inr h ↦ (let l = h.1.listed in inr (record { by = h.0; listed = l; later = r.0 h.0 (Contains-from_thinned pending weight zs h.0 l); settled = h.1.settled; as_heavy = omega (arith, h.1.heavy, same, d.1) }))
+          ];
+        }
+
+    go : (Contains zs x → Contains kept x ⊎ Needless kept x) → (b : Bool) → stays pending weight (heaviest pending weight zs) z ≡ b → (z ≡ x) ⊎ Contains zs x → Contains (more b) x ⊎ Needless (more b) x
+    go again true e (inl same) = inl (subst (λ v. Contains (z ∷ kept) v) same (Contains-head z kept))
+    go again false e (inl same) = inr (subst (Needless kept) same (first e))
+    go again b e (inr later) = elim (again later) [
+      | inl k ↦ inl (into b x k)
+      | inr n ↦ inr (lift b x n)
+    ]
