@@ -10,80 +10,86 @@ use Rattle.chunk_join.specs.Digests.{is_open, miss_long, reaches_edge, gap_long,
 use Rattle.chunk_join.specs.Laws.Thinned.{Contains-from_thinned, Rises-thinned, kept_or_needless}
 use Rattle.chunk_join.specs.Laws.PiecesJoined.{sent_strict, ends_strict}
 
--- the weight of each settled element is at most the greatest
-weight_within : {X : Type 0} (pending : X → Bool) (weight : X → ℕ) (xs : List X) (y : X) → Contains xs y → pending y ≡ false → weight y ≤ heaviest pending weight xs
-weight_within pending weight [] y k e = absurd (Contains-nil y k)
-weight_within pending weight (x ∷ xs) y k e = elim (Contains-cons_cases x y xs k) [
-  | inl same ↦ (let w = ap weight same in let s = ap (λ (b : Bool). cond b 0 (weight x)) (ap pending same ∙ e) in omega (arith, w, s))
-  | inr later ↦ (let h = weight_within pending weight xs y later e in omega (arith, h))
-]
+module _ {X : Type 0} (Before : X → X → Type 0) (strict : (x y : X) → Before x y → Before y x → ⊥) (pending : X → Bool) (weight : X → ℕ) where
+  abbrev Undominated : (X → Type 0) → X → Type 0
+  Undominated = IsUndominated Before pending weight
 
--- what is kept is undominated in the list
-kept_heavy : {X : Type 0} (Before : X → X → Type 0) → ((x y : X) → Before x y → Before y x → ⊥) → (pending : X → Bool) (weight : X → ℕ) (xs : List X) → Rises Before xs → (x : X) → Contains (thinned pending weight xs) x
-    → IsUndominated Before pending weight (Contains xs) x
-kept_heavy Before strict pending weight [] r x c = absurd (Contains-nil x c)
-kept_heavy {X} Before strict pending weight (z ∷ zs) r x c = go (λ k. rest (kept_heavy Before strict pending weight zs r.1 x k)) (stays pending weight (heaviest pending weight zs) z) refl c where
-  Heavy : List X → X → Type 0
-  Heavy list v = IsUndominated Before pending weight (Contains list) v
+  abbrev top : List X → ℕ
+  top = heaviest pending weight
 
-  -- one of the rest comes after the first, so that nothing comes to be later
-  rest : Heavy zs x → Heavy (z ∷ zs) x
-  rest own = record {
-    meant = Contains-rest z x zs own.meant;
-    heavy = elim own.heavy [
-      | inl e ↦ inl e
-      | inr h ↦ inr (
-        h.0,
-        λ y m b e. elim (Contains-cons_cases z y zs m) [
-          | inl same ↦ absurd (strict x y b (subst (λ v. Before v x) same (r.0 x own.meant)))
-          | inr later ↦ h.1 y later b e
-        ],
-      )
-    ];
-  }
+  abbrev kept : List X → List X
+  kept = thinned pending weight
 
-  first : (p : Bool) → pending z ≡ p → (p || nat_lt (heaviest pending weight zs) (weight z)) ≡ true → Heavy (z ∷ zs) z
-  first true e s = record { meant = Contains-head z zs; heavy = inl e }
-  first false e s = let l = ltb-true (heaviest pending weight zs) (weight z) s in record {
-    meant = Contains-head z zs;
-    heavy = inr (
-      omega (arith, l),
-      λ y m b settled. elim (Contains-cons_cases z y zs m) [
-        | inl same ↦ absurd (let own = subst (λ v. Before z v) (sym same) b in strict z z own own)
-        | inr later ↦ (let h = weight_within pending weight zs y later settled in omega (arith, h, l))
-      ],
-    );
-  }
-
-  go : (Contains (thinned pending weight zs) x → Heavy (z ∷ zs) x) → (b : Bool) → stays pending weight (heaviest pending weight zs) z ≡ b → Contains (cond b (z ∷ thinned pending weight zs) (thinned pending weight zs)) x → Heavy (z ∷ zs) x
-  go later false e k = later k
-  go later true e k = elim (Contains-cons_cases z x (thinned pending weight zs) k) [
-    | inl same ↦ subst (Heavy (z ∷ zs)) same (first (pending z) refl e)
-    | inr rest ↦ later rest
+  -- the weight of each settled element is at most the greatest
+  weight_within : (xs : List X) (y : X) → Contains xs y → pending y ≡ false → weight y ≤ top xs
+  weight_within [] y k e = absurd (Contains-nil y k)
+  weight_within (x ∷ xs) y k e = elim (Contains-cons_cases x y xs k) [
+    | inl same ↦ (let s = ap (λ (b : Bool). cond b 0 (weight x)) (ap pending same ∙ e) in omega (arith, ap weight same, s))
+    | inr later ↦ (let h = weight_within xs y later e in omega (arith, h))
   ]
 
--- of a list that has all that is meant, the undominated ones are kept
-pub thinned_listing : {X : Type 0} (Before : X → X → Type 0) → ((x y : X) → Before x y → Before y x → ⊥) → (pending : X → Bool) (weight : X → ℕ) (Is : X → Type 0) (xs : List X) → IsListing Before Is xs
-    → IsListing Before (IsUndominated Before pending weight Is) (thinned pending weight xs)
-thinned_listing Before strict pending weight Is xs all = record {
-  rising = Rises-thinned Before pending weight xs all.rising;
-  sound = λ x k. (let own = kept_heavy Before strict pending weight xs all.rising x k in record {
-    meant = all.sound x own.meant;
-    heavy = elim own.heavy [ inl e ↦ inl e | inr h ↦ inr (h.0, λ y i. h.1 y (all.complete y i)) ];
-  });
-  complete = λ x u. elim (kept_or_needless Before pending weight xs all.rising x (all.complete x u.meant)) [
-    | inl k ↦ k
-    | inr n ↦ elim u.heavy [
-      | inl e ↦ absurd (true≢false (sym e ∙ n.settled))
-      | inr h ↦ (elim n.covered [
-        | inl none ↦ absurd (omega (arith, none, h.0))
-        | inr c ↦ absurd (
-            let l = h.1 c.by (all.sound c.by (Contains-from_thinned pending weight xs c.by c.listed)) c.later c.settled in
-            omega (arith, c.as_heavy, l))
-      ])
+  -- what is kept is undominated in the list
+  kept_heavy : (xs : List X) → Rises Before xs → (x : X) → Contains (kept xs) x → Undominated (Contains xs) x
+  kept_heavy [] r x c = absurd (Contains-nil x c)
+  kept_heavy (z ∷ zs) r x c = go (λ k. rest (kept_heavy zs r.1 x k)) (stays pending weight (top zs) z) refl c where
+    Heavy : List X → X → Type 0
+    Heavy list v = Undominated (Contains list) v
+
+    -- one of the rest comes after the first, so that nothing comes to be later
+    rest : Heavy zs x → Heavy (z ∷ zs) x
+    rest own = record {
+      meant = Contains-rest z x zs own.meant;
+      heavy = elim own.heavy [
+        | inl e ↦ inl e
+        | inr h ↦ inr (
+          h.0,
+          λ y m b e. elim (Contains-cons_cases z y zs m) [
+            | inl same ↦ absurd (strict x y b (subst (λ v. Before v x) same (r.0 x own.meant)))
+            | inr later ↦ h.1 y later b e
+          ],
+        )
+      ];
+    }
+
+    first : (p : Bool) → pending z ≡ p → (p || nat_lt (top zs) (weight z)) ≡ true → Heavy (z ∷ zs) z
+    first true e s = record { meant = Contains-head z zs; heavy = inl e }
+    first false e s = let l = ltb-true (top zs) (weight z) s in record {
+      meant = Contains-head z zs;
+      heavy = inr (
+        omega (arith, l),
+        λ y m b settled. elim (Contains-cons_cases z y zs m) [
+          | inl same ↦ absurd (let own = subst (λ v. Before z v) (sym same) b in strict z z own own)
+          | inr later ↦ (let h = weight_within zs y later settled in omega (arith, h, l))
+        ],
+      );
+    }
+
+    go : (Contains (kept zs) x → Heavy (z ∷ zs) x) → (b : Bool) → stays pending weight (top zs) z ≡ b → Contains (cond b (z ∷ kept zs) (kept zs)) x → Heavy (z ∷ zs) x
+    go later false e k = later k
+    go later true e k = elim (Contains-cons_cases z x (kept zs) k) [
+      | inl same ↦ subst (Heavy (z ∷ zs)) same (first (pending z) refl e)
+      | inr rest ↦ later rest
     ]
-  ];
-}
+
+  -- of a list that has all that is meant, the undominated ones are kept
+  pub thinned_listing : (Is : X → Type 0) (xs : List X) → IsListing Before Is xs → IsListing Before (Undominated Is) (kept xs)
+  thinned_listing Is xs all = record {
+    rising = Rises-thinned Before pending weight xs all.rising;
+    sound = λ x k. (let own = kept_heavy xs all.rising x k in record {
+      meant = all.sound x own.meant;
+      heavy = elim own.heavy [ inl e ↦ inl e | inr h ↦ inr (h.0, λ y i. h.1 y (all.complete y i)) ];
+    });
+    complete = λ x u. elim (kept_or_needless Before pending weight xs all.rising x (all.complete x u.meant)) [
+      | inl k ↦ k
+      | inr n ↦ elim u.heavy [
+        | inl e ↦ absurd (true≢false (sym e ∙ n.settled))
+        | inr h ↦ elim n.covered [
+          | inl none ↦ absurd (omega (arith, none, h.0))
+          | inr c ↦ absurd (let l = h.1 c.by (all.sound c.by (Contains-from_thinned pending weight xs c.by c.listed)) c.later c.settled in omega (arith, c.as_heavy, l))
+        ]
+      ]
+    ];
+  }
 
 digest_keeps : (set : ℕ) (t : Recorded) (i j : ℕ) (s : Summary) → IsSummary set t i j s → HasUndominated set t i j (digest s)
 digest_keeps set t i j s a = record {
