@@ -4,7 +4,7 @@
 mod communication_bounds;
 mod longest_gaps;
 mod processor_bounds;
-mod step_tests;
+mod step_facts;
 
 pub use communication_bounds::{delta_at, last_miss};
 pub use longest_gaps::gaps;

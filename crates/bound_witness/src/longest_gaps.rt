@@ -4,7 +4,7 @@ ghost use Rattle.std.specs.Prelude.{◌≡◌, ℕ, ◌+◌, ◌<◌, ◌↔◌,
 ghost use Rattle.step_trace.specs.Processors.{IsWithin};
 ghost use Rattle.bound_witness.specs.LongestGaps.{IsLongestGap, ListsGapsBy, Precedes, gap_between};
 
-use crate::step_tests::is_step_of;
+use crate::step_facts::is_step_of;
 use std::alloc::{AllocError, Global};
 use step_trace::{Gap, ProcSet, Trace};
 

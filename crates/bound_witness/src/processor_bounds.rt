@@ -6,7 +6,7 @@ ghost use Rattle.step_trace.specs.Bounds.{StepsWithin, PhiHolds, IsPhi};
 ghost use Rattle.step_trace.specs.Witnesses.{IsNamedGap, GapRefutes, NamesGap};
 ghost use Rattle.bound_witness.specs.WitnessSearches.{AllStepWithin, IsFirstSilent, IsSteadyGap};
 
-use crate::step_tests::is_step_between;
+use crate::step_facts::is_step_between;
 use step_trace::{Gap, ProcSet, Trace};
 
 /// Whether processor `p` takes a step in one of the `f` ticks from `x` on.

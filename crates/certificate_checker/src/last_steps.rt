@@ -7,7 +7,7 @@ ghost use Rattle.step_trace.specs.Processors.{has_proc, IsWithin};
 ghost use Rattle.step_trace.specs.Traces.{IsStepOf};
 ghost use Rattle.certificate_checker.specs.LastSteps.{HasMember, HasAwaited, IsOldest, AreLastSteps, KnowsLastSteps};
 
-use crate::step_tests::step_of;
+use crate::step_facts::step_of;
 use std::alloc::{AllocError, Global};
 use step_trace::{ProcSet, Trace};
 

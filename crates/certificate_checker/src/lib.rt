@@ -13,7 +13,7 @@ mod laws;
 mod receives;
 mod row_order;
 mod silences;
-mod step_tests;
+mod step_facts;
 mod verdicts;
 mod witnesses;
 

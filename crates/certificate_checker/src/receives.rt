@@ -9,7 +9,7 @@ ghost use Rattle.step_trace.specs.Witnesses.{IsMiss};
 ghost use Rattle.certificate_checker.specs.Receives.{KnowsReceives, IsLastWaited, NotesTakes, last_waited};
 ghost use Rattle.certificate_checker.specs.LongestWitnesses.{HasNoMiss, IsLastMiss};
 
-use crate::step_tests::{is_receive_of, receiver, step_of};
+use crate::step_facts::{is_receive_of, receiver, step_of};
 use std::alloc::{AllocError, Global};
 use step_trace::{Act, Miss, ProcSet, Trace};
 

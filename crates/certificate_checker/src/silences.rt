@@ -4,7 +4,7 @@ ghost use Rattle.std.specs.Prelude.{ℕ, ◌≡◌, ◌+◌, ◌≤◌, ◌++◌
 ghost use Rattle.step_trace.specs.declared.traces.TheConstants.{MAX_TICKS};
 ghost use Rattle.certificate_checker.specs.Silences.{IsNextStep, IsSilence, KnowsSilences, AreSilences};
 
-use crate::step_tests::step_of;
+use crate::step_facts::step_of;
 use std::alloc::{AllocError, Global};
 use step_trace::{ProcSet, Trace};
 

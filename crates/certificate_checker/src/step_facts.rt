@@ -1,4 +1,4 @@
-//! Tests of single steps of a trace.
+//! Facts of single steps of a trace.
 
 ghost use Rattle.std.specs.Prelude.{◌≡◌, ℕ, ◌≤◌, ◌↔◌, length, Some, IsTrue, MatchOption};
 ghost use Rattle.step_trace.specs.Traces.{step_at, IsReceiveOf, IsWellFormed};
