@@ -1,17 +1,18 @@
 -- What the answer for the records of a text says of the text.
-use Rattle.std.proofs.Common.{ℕ, ◌≡◌, ◌+◌, ◌≤◌, ◌==◌, ◌∙◌, List, [], ◌∷◌, length, Option, Some, None, Result, Ok, Err, Bool, true, false, cond, All, IfOk, IfErr, IfSome, MatchResult, MatchBool, refl, sym, ap, subst, arith}
+use Rattle.std.proofs.Common.{ℕ, ◌≡◌, ◌+◌, ◌≤◌, ◌==◌, ◌∙◌, List, [], ◌∷◌, length, map, Option, Some, None, Result, Ok, Err, Bool, true, false, cond, All, IfOk, IfErr, IfSome, MatchResult, MatchBool, refl, sym, ap, subst, arith}
 use Rattle.std.specs.Prelude.{⊤, nat_le}
 use Rattle.std.proofs.lemmas.Bool.Decides.{nat_tests}
 use Rattle.std.specs.Option.{ok_or}
 use Rattle.step_trace.specs.declared.rows.Row.{Row}
 use Rattle.trace_text.specs.declared.byte_loops.TheConstants.{MAX_TEXT_BYTES}
 use Rattle.trace_text.specs.Records.{◌>>=◌, after_records, records_of_text}
-use Rattle.front.specs.declared.row_records.Entries.{Entries}
+use Rattle.front.specs.declared.columns.TheConstants.{COLUMNS}
 use Rattle.front.specs.declared.refusals.ReportError.{ReportError}
 use Rattle.front.specs.declared.refusals.ReportError.TheVariants as why
+use Rattle.front.specs.Columns.{gap_of, miss_of, row_of_entries, with_witnesses}
 use Rattle.front.specs.ReportTexts.{StandsFor, IsRow64}
 use Rattle.front.specs.ReportReading.{RefusedFor, IsDeviceRefusal, faults_after_report}
-use Rattle.front.specs.ReportRefusals.{is_header, entries_of, whole_row, row_from, row_of, with_row, next_rows, rows_at_end, rows_of_records, rows_of_text, is_memory, Gives}
+use Rattle.front.specs.ReportRefusals.{is_header, entry_of, row_of, with_row, next_rows, rows_at_end, rows_of_records, rows_of_text, is_memory, Gives}
 use Rattle.front.proofs.RowsRead.{rows_of_records-ok, rows_of_records-records, report_records-injective}
 
 -- a refusal of the records
@@ -26,15 +27,12 @@ unfolding IsRecordRefusal
 whole-refusal at None e h = let same : why.HalfWitness at ≡ e = cc h in subst IsRecordRefusal same tt
 whole-refusal at (Some r) e h = cc h
 
-entries-refusal : (at : ℕ) (o : Option Entries) (e : ReportError) → row_from at o ≡ Err e → IsRecordRefusal e
+row-refusal : (at : ℕ) (entries : List (Option (Option ℕ))) (b : Bool) (e : ReportError) → cond b (row_of_entries at entries) (Err (why.BadFields at)) ≡ Err e → IsRecordRefusal e
 unfolding IsRecordRefusal
-entries-refusal at None e h = let same : why.BadNumber at ≡ e = cc h in subst IsRecordRefusal same tt
-entries-refusal at (Some x) e h = whole-refusal at (whole_row x) e h
-
-row-refusal : (at : ℕ) (fields : List (List ℕ)) (b : Bool) (e : ReportError) → cond b (row_from at (entries_of fields)) (Err (why.BadFields at)) ≡ Err e → IsRecordRefusal e
-unfolding IsRecordRefusal
-row-refusal at fields true e h = entries-refusal at (entries_of fields) e h
-row-refusal at fields false e h = let same : why.BadFields at ≡ e = cc h in subst IsRecordRefusal same tt
+row-refusal at (Some (Some gst) ∷ Some (Some delta) ∷ Some (Some phi) ∷ Some sent ∷ Some missed ∷ Some proc ∷ Some from ∷ Some to ∷ []) true e h =
+    whole-refusal at (with_witnesses gst delta phi (miss_of sent missed) (gap_of proc from to)) e h
+row-refusal at entries false e h = let same : why.BadFields at ≡ e = cc h in subst IsRecordRefusal same tt
+row-refusal at _ true e h = let same : why.BadNumber at ≡ e = cc h in subst IsRecordRefusal same tt
 
 next-refusal : (rows : Option (List Row)) (fields : List (List ℕ)) (e : ReportError) → next_rows rows fields ≡ Err e → IsRecordRefusal e
 unfolding IsRecordRefusal
@@ -45,7 +43,7 @@ next-refusal None fields e h = go (is_header fields) h where
 next-refusal (Some rows) fields e h = go (row_of (length rows + 1) fields) refl h where
   go : (r : Result Row ReportError) → row_of (length rows + 1) fields ≡ r → with_row rows r ≡ Err e → IsRecordRefusal e
   go (Ok x) k h = cc h
-  go (Err f) k h = let same : f ≡ e = cc h in subst IsRecordRefusal same (row-refusal (length rows + 1) fields (length fields == 8) f k)
+  go (Err f) k h = let same : f ≡ e = cc h in subst IsRecordRefusal same (row-refusal (length rows + 1) (map entry_of fields) (length fields == COLUMNS) f k)
 
 after-refusal : (rows : Option (List Row)) (rs : List (List (List ℕ))) (e : ReportError) → after_records next_rows rows rs ≡ Err e → IsRecordRefusal e
 after-refusal rows [] e h = cc h

@@ -1,30 +1,28 @@
 -- Records are read as the rows that they are the records of, and as no others.
-use Rattle.std.proofs.Common.{ℕ, ◌≡◌, ◌+◌, ◌<◌, ◌^◌, ◌∙◌, ◌==◌, ◌&&◌, List, [], ◌∷◌, ◌++◌, length, map, Option, Some, None, Result, Ok, Err, Bool, true, false, cond, All, option_map, codes, decimal, append_assoc, refl, sym, ap, subst, arith}
+use Rattle.std.proofs.Common.{ℕ, ◌≡◌, ◌+◌, ◌<◌, ◌^◌, ◌∙◌, ◌==◌, ◌&&◌, List, [], ◌∷◌, ◌++◌, length, map, Option, Some, None, Result, Ok, Err, Bool, true, false, cond, All, IfSome, option_map, decimal, append_assoc, refl, sym, ap, suc, take, get_or, arith}
+use Rattle.std.specs.Cmp.Lexicographic.{pointwise}
 use Rattle.std.specs.Option.{ok_or}
-use Rattle.std.proofs.lemmas.Bool.{eqb-true}
+use Rattle.std.specs.Str.{bytes_eq}
+use Rattle.std.proofs.Math.Seq.{take-suc}
 use Rattle.std.proofs.lemmas.Fmt.{decimal_nonempty}
-use Rattle.std.proofs.lemmas.List.{append-nil}
+use Rattle.std.proofs.lemmas.List.{append-nil, map-append}
 use Rattle.std.proofs.lemmas.List.Elements.{All-head, All-tail}
-use Rattle.std.proofs.lemmas.Option.{same_Some, option_and_then_some}
-use Rattle.csv.specs.Records.{field_at}
+use Rattle.std.proofs.lemmas.Option.{same_Some}
+use Rattle.std.proofs.lemmas.Slice.Eq.{bytes_eq-Decides, slice_eq-Decides}
 use Rattle.step_trace.specs.declared.rows.Miss.{Miss}
 use Rattle.step_trace.specs.declared.rows.Gap.{Gap}
 use Rattle.step_trace.specs.declared.rows.Row.{Row}
-use Rattle.front.specs.declared.row_records.Entries.{Entries}
+use Rattle.front.specs.declared.columns.TheConstants.{COLUMNS}
 use Rattle.front.specs.declared.refusals.ReportError.{ReportError}
 use Rattle.front.specs.declared.refusals.ReportError.TheVariants.{HalfWitness, BadFields, BadHeader}
 use Rattle.trace_text.specs.Records.{◌>>=◌, after_records, field_of, number_of}
-use Rattle.front.specs.ReportTexts.{report_header, miss_fields, gap_fields, row_record, report_records, IsMiss64, IsGap64, IsRow64}
-use Rattle.front.specs.ReportRefusals.{is_header, entry_of, entries_of, miss_of, gap_of, whole_row, row_from, row_of, with_row, next_rows, rows_at_end, rows_of_records}
-use Rattle.trace_text.proofs.Numbers.{same-from_bytes_eq, number_of-decimal, number_of-some}
-
--- the text of what a field of a witness says
-entry_text : Option ℕ → List ℕ
-entry_text None = []
-entry_text (Some n) = decimal n
+use Rattle.front.specs.Columns.{AreBelow, entries_of, entry_text, gap_of, miss_of, report_header, row_of_entries, with_witnesses}
+use Rattle.front.specs.ReportTexts.{row_record, report_records, IsRow64}
+use Rattle.front.specs.ReportRefusals.{is_header, entry_of, row_of, with_row, next_rows, rows_at_end, rows_of_records}
+use Rattle.trace_text.proofs.NumberLists.{field_of-get_or}
+use Rattle.trace_text.proofs.Numbers.{number_of-decimal, number_of-some}
 
 entry_of-some : (field : List ℕ) (o : Option ℕ) → entry_of field ≡ Some o → field ≡ entry_text o
-unfolding entry_text
 entry_of-some [] None e = refl
 entry_of-some [] (Some n) e = cc e
 entry_of-some (b ∷ bs) o e = go (number_of (b ∷ bs)) refl o e where
@@ -33,90 +31,65 @@ entry_of-some (b ∷ bs) o e = go (number_of (b ∷ bs)) refl o e where
   go (Some n) k None e = cc e
   go (Some n) k (Some m) e = let same : n ≡ m = cc e in (number_of-some (b ∷ bs) n k).0 ∙ ap decimal same
 
-entry_of-decimal : (n : ℕ) → n < 2 ^ 64 → entry_of (decimal n) ≡ Some (Some n)
-entry_of-decimal n h = go (decimal n) refl where
+entry_of-text : (o : Option ℕ) → IfSome o (λ n. n < 2 ^ 64) → entry_of (entry_text o) ≡ Some o
+entry_of-text None h = refl
+entry_of-text (Some n) h = go (decimal n) refl where
   go : (field : List ℕ) → decimal n ≡ field → entry_of field ≡ Some (Some n)
   go [] e = let some = rw e at (decimal_nonempty n h) in absurd (omega arith)
   go (b ∷ bs) e = let number = rw e at (number_of-decimal n h) in rw number refl
 
-miss_of-some : (sent missed : Option ℕ) (o : Option Miss) → miss_of sent missed ≡ Some o → miss_fields o ≡ entry_text sent ∷ entry_text missed ∷ []
-unfolding entry_text
-miss_of-some None None o e = rw (← same_Some None o e) refl
-miss_of-some (Some s) (Some m) o e = rw (← same_Some (Some (record { sent = s; missed = m })) o e) refl
-miss_of-some None (Some m) o e = cc e
-miss_of-some (Some s) None o e = cc e
+-- fields that were read are the texts of their entries
+entries-some : (fields : List (List ℕ)) (entries : List (Option ℕ)) → map entry_of fields ≡ map (λ e. Some e) entries → fields ≡ map entry_text entries
+entries-some [] [] h = refl
+entries-some [] (e ∷ es) h = cc h
+entries-some (f ∷ fs) [] h = cc h
+entries-some (f ∷ fs) (e ∷ es) h =
+    let one : entry_of f ≡ Some e = cc h in
+    let more : map entry_of fs ≡ map (λ e. Some e) es = cc h in
+    rw (entry_of-some f e one, entries-some fs es more) refl
 
-gap_of-some : (proc from to : Option ℕ) (o : Option Gap) → gap_of proc from to ≡ Some o → gap_fields o ≡ entry_text proc ∷ entry_text from ∷ entry_text to ∷ []
-unfolding entry_text
-gap_of-some None None None o e = rw (← same_Some None o e) refl
-gap_of-some (Some p) (Some x) (Some y) o e = rw (← same_Some (Some (record { proc = p; from = x; to = y })) o e) refl
-gap_of-some None None (Some y) o e = cc e
-gap_of-some None (Some x) to o e = cc e
-gap_of-some (Some p) None to o e = cc e
-gap_of-some (Some p) (Some x) None o e = cc e
+-- one more field
+pub entry_more : (fields : List (List ℕ)) (k : ℕ) → k < length fields → map entry_of (take (k + 1) fields) ≡ map entry_of (take k fields) ++ entry_of (field_of fields k) ∷ []
+entry_more fields k inside =
+    let next : k + 1 ≡ suc k = omega arith in
+    rw (next, take-suc fields k [] inside, field_of-get_or fields k) (map-append entry_of (take k fields) (get_or fields k [] ∷ []))
 
--- the fields of which a record was read
-record IsOfEntries (fields : List (List ℕ)) (e : Entries) : Type 0 where
-  pub gst : field_of fields 0 ≡ decimal e.gst
-  pub delta : field_of fields 1 ≡ decimal e.delta
-  pub phi : field_of fields 2 ≡ decimal e.phi
-  pub sent : field_of fields 3 ≡ entry_text e.sent
-  pub missed : field_of fields 4 ≡ entry_text e.missed
-  pub proc : field_of fields 5 ≡ entry_text e.proc
-  pub from : field_of fields 6 ≡ entry_text e.from
-  pub to : field_of fields 7 ≡ entry_text e.to
+-- and the texts of entries are read as these
+entries-texts : (entries : List (Option ℕ)) → AreBelow (2 ^ 64) entries → map entry_of (map entry_text entries) ≡ map (λ e. Some e) entries
+entries-texts [] h = refl
+entries-texts (e ∷ es) h = rw (entry_of-text e h.0, entries-texts es h.1) refl
 
-entries_of-some : (fields : List (List ℕ)) (e : Entries) → entries_of fields ≡ Some e → IsOfEntries fields e
-entries_of-some fields e h =
-    option_and_then_some _ (number_of (field_of fields 0)) e h (λ gst a h.
-    option_and_then_some _ (number_of (field_of fields 1)) e h (λ delta b h.
-    option_and_then_some _ (number_of (field_of fields 2)) e h (λ phi c h.
-    option_and_then_some _ (entry_of (field_of fields 3)) e h (λ sent d h.
-    option_and_then_some _ (entry_of (field_of fields 4)) e h (λ missed i h.
-    option_and_then_some _ (entry_of (field_of fields 5)) e h (λ proc j h.
-    option_and_then_some _ (entry_of (field_of fields 6)) e h (λ from k h.
-    option_and_then_some _ (entry_of (field_of fields 7)) e h (λ to l h.
-    subst (IsOfEntries fields) (same_Some _ e h) (record {
-      gst = (number_of-some _ gst a).0;
-      delta = (number_of-some _ delta b).0;
-      phi = (number_of-some _ phi c).0;
-      sent = entry_of-some _ sent d;
-      missed = entry_of-some _ missed i;
-      proc = entry_of-some _ proc j;
-      from = entry_of-some _ from k;
-      to = entry_of-some _ to l;
-    })))))))))
+-- entries of which a row was made are its entries
+row_of_entries-ok : (at : ℕ) (entries : List (Option (Option ℕ))) (r : Row) → row_of_entries at entries ≡ Ok r → entries ≡ map (λ e. Some e) (entries_of r)
+row_of_entries-ok at (Some (Some gst) ∷ Some (Some delta) ∷ Some (Some phi) ∷ Some sent ∷ Some missed ∷ Some proc ∷ Some from ∷ Some to ∷ []) r h = go sent missed proc from to h where
+  made : (miss : Option Miss) (gap : Option Gap) (o : Result Row ReportError) → o ≡ Ok (record { gst = gst; delta = delta; phi = phi; miss = miss; gap = gap }) → o ≡ Ok r
+      → map (λ e. Some e) (entries_of (record { gst = gst; delta = delta; phi = phi; miss = miss; gap = gap })) ≡ map (λ e. Some e) (entries_of r)
+  made miss gap o a b = let same : record { gst = gst; delta = delta; phi = phi; miss = miss; gap = gap } ≡ r = cc (a, b) in ap (λ (y : Row). map (λ e. Some e) (entries_of y)) same
 
-eight-fields : (fields : List (List ℕ)) → length fields ≡ 8
-    → fields ≡ field_of fields 0 ∷ field_of fields 1 ∷ field_of fields 2 ∷ field_of fields 3 ∷ field_of fields 4 ∷ field_of fields 5 ∷ field_of fields 6 ∷ field_of fields 7 ∷ []
-unfolding field_at
-eight-fields (a ∷ b ∷ c ∷ d ∷ e ∷ f ∷ g ∷ h ∷ []) l = refl
-eight-fields _ l = absurd (omega arith)
+  go : (s m p x y : Option ℕ) → ok_or (with_witnesses gst delta phi (miss_of s m) (gap_of p x y)) (HalfWitness at) ≡ Ok r
+      → map (λ e. Some e) (Some gst ∷ Some delta ∷ Some phi ∷ s ∷ m ∷ p ∷ x ∷ y ∷ []) ≡ map (λ e. Some e) (entries_of r)
+  go None None None None None h = made None None _ refl h
+  go (Some s) (Some m) None None None h = made (Some (record { sent = s; missed = m })) None _ refl h
+  go None None (Some p) (Some x) (Some y) h = made None (Some (record { proc = p; from = x; to = y })) _ refl h
+  go (Some s) (Some m) (Some p) (Some x) (Some y) h = made (Some (record { sent = s; missed = m })) (Some (record { proc = p; from = x; to = y })) _ refl h
+  go _ _ _ _ _ h = cc h
+row_of_entries-ok at _ r h = cc h
 
-whole_row-some : (e : Entries) (r : Row) → whole_row e ≡ Some r
-    → row_record r ≡ decimal e.gst ∷ decimal e.delta ∷ decimal e.phi ∷ entry_text e.sent ∷ entry_text e.missed ∷ entry_text e.proc ∷ entry_text e.from ∷ entry_text e.to ∷ []
-whole_row-some e r h =
-    option_and_then_some _ (miss_of e.sent e.missed) r h (λ miss a h.
-    option_and_then_some _ (gap_of e.proc e.from e.to) r h (λ gap b h.
-    rw (← same_Some _ r h, miss_of-some e.sent e.missed miss a, gap_of-some e.proc e.from e.to gap b) refl))
+row_of_entries-entries : (at : ℕ) (r : Row) → row_of_entries at (map (λ e. Some e) (entries_of r)) ≡ Ok r
+row_of_entries-entries at r = go r.gst r.delta r.phi r.miss r.gap where
+  go : (gst delta phi : ℕ) (miss : Option Miss) (gap : Option Gap)
+      → row_of_entries at (map (λ e. Some e) (entries_of (record { gst = gst; delta = delta; phi = phi; miss = miss; gap = gap }))) ≡ Ok (record { gst = gst; delta = delta; phi = phi; miss = miss; gap = gap })
+  go gst delta phi None None = refl
+  go gst delta phi (Some m) None = refl
+  go gst delta phi None (Some w) = refl
+  go gst delta phi (Some m) (Some w) = refl
 
 -- a record that was read is the record of its row
 row_of-ok : (at : ℕ) (fields : List (List ℕ)) (r : Row) → row_of at fields ≡ Ok r → fields ≡ row_record r
-row_of-ok at fields r h = eight (length fields == 8) refl h where
-  whole : length fields ≡ 8 → (e : Entries) → entries_of fields ≡ Some e → (o : Option Row) → whole_row e ≡ o → ok_or o (HalfWitness at) ≡ Ok r → fields ≡ row_record r
-  whole l e k None w h = cc h
-  whole l e k (Some x) w h =
-      let of = entries_of-some fields e k in
-      let same : x ≡ r = cc h in
-      eight-fields fields l ∙ rw (of.gst, of.delta, of.phi, of.sent, of.missed, of.proc, of.from, of.to) (sym (whole_row-some e x w)) ∙ ap row_record same
-
-  entries : length fields ≡ 8 → (o : Option Entries) → entries_of fields ≡ o → row_from at o ≡ Ok r → fields ≡ row_record r
-  entries l None k h = cc h
-  entries l (Some e) k h = whole l e k (whole_row e) refl h
-
-  eight : (t : Bool) → (length fields == 8) ≡ t → cond t (row_from at (entries_of fields)) (Err (BadFields at)) ≡ Ok r → fields ≡ row_record r
-  eight true t h = entries (eqb-true (length fields) 8 t) (entries_of fields) refl h
-  eight false t h = cc h
+row_of-ok at fields r h = go (length fields == COLUMNS) h where
+  go : (t : Bool) → cond t (row_of_entries at (map entry_of fields)) (Err (BadFields at)) ≡ Ok r → fields ≡ row_record r
+  go true h = entries-some fields (entries_of r) (row_of_entries-ok at (map entry_of fields) r h)
+  go false h = cc h
 
 -- the rows that were taken after others are those whose records were read
 rows_after-ok : (taken : List Row) (rs : List (List (List ℕ))) (o : Option (List Row)) → after_records next_rows (Some taken) rs ≡ Ok o
@@ -131,31 +104,11 @@ rows_after-ok taken (r ∷ rs) o h = go (row_of (length taken + 1) r) refl (λ x
       let m = more x h in
       (x ∷ m.0, m.1 ∙ ap (λ (t : List Row). Some t) (append_assoc taken (x ∷ []) m.0), rw (row_of-ok (length taken + 1) r x k, m.2) refl)
 
-and-parts : (b d : Bool) → (b && d) ≡ true → (b ≡ true) × (d ≡ true)
-and-parts true d h = (refl, h)
-and-parts false d h = cc
-
-header-same : (fields : List (List ℕ)) → is_header fields ≡ true → fields ≡ report_header
-header-same fields h =
-    let to = and-parts _ _ h in
-    let from = and-parts _ _ to.0 in
-    let proc = and-parts _ _ from.0 in
-    let missed = and-parts _ _ proc.0 in
-    let sent = and-parts _ _ missed.0 in
-    let phi = and-parts _ _ sent.0 in
-    let delta = and-parts _ _ phi.0 in
-    let gst = and-parts _ _ delta.0 in
-    eight-fields fields (eqb-true (length fields) 8 gst.0)
-    ∙ rw (
-      same-from_bytes_eq (field_of fields 0) (codes "gst") gst.1,
-      same-from_bytes_eq (field_of fields 1) (codes "delta") delta.1,
-      same-from_bytes_eq (field_of fields 2) (codes "phi") phi.1,
-      same-from_bytes_eq (field_of fields 3) (codes "sent") sent.1,
-      same-from_bytes_eq (field_of fields 4) (codes "missed") missed.1,
-      same-from_bytes_eq (field_of fields 5) (codes "proc") proc.1,
-      same-from_bytes_eq (field_of fields 6) (codes "from") from.1,
-      same-from_bytes_eq (field_of fields 7) (codes "to") to.1,
-    ) refl
+pub header-same : (fields : List (List ℕ)) → is_header fields ≡ true → fields ≡ report_header
+header-same fields h = go (length fields == COLUMNS) h where
+  go : (t : Bool) → (t && pointwise bytes_eq fields report_header) ≡ true → fields ≡ report_header
+  go true h = (slice_eq-Decides bytes_eq-Decides fields report_header (pointwise bytes_eq fields report_header) refl).0 h
+  go false h = cc h
 
 -- records that are read as rows are the records of these rows
 pub rows_of_records-ok : (rs : List (List (List ℕ))) (rows : List Row) → rows_of_records rs ≡ Ok rows → rs ≡ report_records rows
@@ -175,36 +128,7 @@ rows_of_records-ok (r ∷ rs) rows h = go (is_header r) refl h where
 
 -- the record of a row is read as the row
 row_of-record : (at : ℕ) (r : Row) → IsRow64 r → row_of at (row_record r) ≡ Ok r
-unfolding field_at
-row_of-record at r h = go r.gst r.delta r.phi r.miss r.gap h.gst h.delta h.phi h.miss h.gap where
-  go : (gst delta phi : ℕ) (miss : Option Miss) (gap : Option Gap) → gst < 2 ^ 64 → delta < 2 ^ 64 → phi < 2 ^ 64 → IsMiss64 miss → IsGap64 gap
-      → row_of at (row_record (record { gst = gst; delta = delta; phi = phi; miss = miss; gap = gap })) ≡ Ok (record { gst = gst; delta = delta; phi = phi; miss = miss; gap = gap })
-  go gst delta phi None None a b c d e = rw (number_of-decimal gst a, number_of-decimal delta b, number_of-decimal phi c) refl
-  go gst delta phi (Some m) None a b c d e = rw (
-    number_of-decimal gst a,
-    number_of-decimal delta b,
-    number_of-decimal phi c,
-    entry_of-decimal m.sent d.0,
-    entry_of-decimal m.missed d.1,
-  ) refl
-  go gst delta phi None (Some w) a b c d e = rw (
-    number_of-decimal gst a,
-    number_of-decimal delta b,
-    number_of-decimal phi c,
-    entry_of-decimal w.proc e.0,
-    entry_of-decimal w.from e.1,
-    entry_of-decimal w.to e.2,
-  ) refl
-  go gst delta phi (Some m) (Some w) a b c d e = rw (
-    number_of-decimal gst a,
-    number_of-decimal delta b,
-    number_of-decimal phi c,
-    entry_of-decimal m.sent d.0,
-    entry_of-decimal m.missed d.1,
-    entry_of-decimal w.proc e.0,
-    entry_of-decimal w.from e.1,
-    entry_of-decimal w.to e.2,
-  ) refl
+row_of-record at r h = rw (entries-texts (entries_of r) h.numbers) (row_of_entries-entries at r)
 
 rows_after-records : (taken rows : List Row) → All IsRow64 rows → after_records next_rows (Some taken) (map row_record rows) ≡ Ok (Some (taken ++ rows))
 rows_after-records taken [] h = ap (λ (t : List Row). Ok (Some t)) (sym (append-nil taken))
@@ -212,13 +136,9 @@ rows_after-records taken (r ∷ rows) h =
     rw (row_of-record (length taken + 1) r (All-head IsRow64 r rows h))
     (rows_after-records (taken ++ r ∷ []) rows (All-tail IsRow64 r rows h) ∙ ap (λ (t : List Row). Ok (Some t)) (append_assoc taken (r ∷ []) rows))
 
-header-read : is_header report_header ≡ true
-unfolding field_at
-header-read = refl
-
 -- the records of rows are read as these rows
 pub rows_of_records-records : (rows : List Row) → All IsRow64 rows → rows_of_records (report_records rows) ≡ Ok rows
-rows_of_records-records rows h = rw (header-read, rows_after-records [] rows h) refl
+rows_of_records-records rows h = rw (rows_after-records [] rows h) refl
 
 -- records are those of one list of rows
 pub report_records-injective : (xs ys : List Row) → All IsRow64 xs → All IsRow64 ys → report_records xs ≡ report_records ys → xs ≡ ys

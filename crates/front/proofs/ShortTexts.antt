@@ -1,6 +1,6 @@
 -- The text of a report is shorter than a text may be: its rows are no more than the ticks, and their
 -- numbers have at most seven digits.
-use Rattle.std.proofs.Common.{ℕ, ◌≡◌, ◌+◌, ◌*◌, ◌<◌, ◌≤◌, ◌^◌, List, [], ◌∷◌, ◌++◌, length, map, get_or, Option, Some, None, IsTrue, ◌&&◌, Contains, decimal, refl, subst, suc, zero, arith, length-append}
+use Rattle.std.proofs.Common.{ℕ, ◌≡◌, ◌+◌, ◌*◌, ◌<◌, ◌≤◌, ◌^◌, List, [], ◌∷◌, length, map, get_or, Option, Some, None, IsTrue, ◌&&◌, Contains, option_map, refl, subst, suc, zero, arith, length-append}
 use Rattle.std.specs.Prelude.{nat_le, nat_lt}
 use Rattle.std.specs.List.Sorted.{IsStrictlyIncreasing}
 use Rattle.std.proofs.lemmas.Bool.{and_parts, leb-true}
@@ -16,39 +16,29 @@ use Rattle.step_trace.specs.Witnesses.{NamesMiss, NamesGap}
 use Rattle.step_trace.specs.Fronts.{IsReport, IsReportRow}
 use Rattle.step_trace.proofs.StepPositions.{step_at_within}
 use Rattle.trace_text.specs.Records.{record_line, text_of_records}
-use Rattle.front.specs.ReportTexts.{report_header, report_text, row_record, miss_fields, gap_fields}
+use Rattle.front.specs.Columns.{AreBelow, entries_of, entry_text, report_header}
+use Rattle.front.specs.ReportTexts.{report_text, row_record}
 use Rattle.trace_text.proofs.LineLengths.{bytes_of, length-line, short-decimal}
 use Rattle.step_trace.proofs.ListMembers.{Contains-head, Contains-rest, Contains-from_map}
 
--- fields of at most seven bytes
-abbrev AreShort : List (List ℕ) → Type 0
-AreShort [] = Unit {0}
-AreShort (field ∷ rest) = (length field ≤ 7) × AreShort rest
-
-short-append : (xs ys : List (List ℕ)) → AreShort xs → AreShort ys → AreShort (xs ++ ys)
-short-append [] ys a b = b
-short-append (x ∷ xs) ys a b = (a.0, short-append xs ys a.1 b)
-
-bytes_of-short : (fields : List (List ℕ)) → AreShort fields → bytes_of fields ≤ 7 * length fields
+bytes_of-short : (entries : List (Option ℕ)) → AreBelow (10 ^ 7) entries → bytes_of (map entry_text entries) ≤ 7 * length entries
 bytes_of-short [] short = omega arith
-bytes_of-short (x ∷ rest) short = let l = short.0 in let more = bytes_of-short rest short.1 in omega (arith, l, more)
-
-length-short_line : (fields : List (List ℕ)) → AreShort fields → length (record_line fields) ≤ 8 * length fields + 1
-length-short_line fields short = let line = length-line fields in let bytes = bytes_of-short fields short in omega (arith, line, bytes)
+bytes_of-short (None ∷ rest) short = let more = bytes_of-short rest short.1 in omega (arith, more)
+bytes_of-short (Some n ∷ rest) short = let one = short-decimal n short.0 in let more = bytes_of-short rest short.1 in omega (arith, one, more)
 
 member_high : (members p : ℕ) → IsTrue (has_proc members p) → p ≤ 64
 member_high members p m =
     let range = (and_parts (nat_lt 0 p && nat_le p 64) _ m).0 in
     leb-true p 64 (and_parts (nat_lt 0 p) _ range).1
 
--- the fields of a witness, and the bound beside it
-record IsShortBeside (d n : ℕ) (fields : List (List ℕ)) : Type 0 where
+-- the numbers of a witness, and the bound beside it
+record IsShortBeside (d : ℕ) (entries : List (Option ℕ)) : Type 0 where
   bound : d < 10 ^ 7
-  short : AreShort fields
-  count : length fields ≡ n
+  short : AreBelow (10 ^ 7) entries
 
-short-miss : (members : ℕ) (trace : Recorded) (g d : ℕ) (o : Option Miss) → IsTrace trace → NamesMiss members trace g d o → IsShortBeside d 2 (miss_fields o)
-short-miss members trace g d None sound named = record { bound = omega (arith, named); short = (omega arith, (omega arith, tt)); count = refl }
+short-miss : (members : ℕ) (trace : Recorded) (g d : ℕ) (o : Option Miss) → IsTrace trace → NamesMiss members trace g d o
+    → IsShortBeside d (option_map (λ m. m.sent) o ∷ option_map (λ m. m.missed) o ∷ [])
+short-miss members trace g d None sound named = record { bound = omega (arith, named); short = (tt, (tt, tt)) }
 short-miss members trace g d (Some m) sound named =
     let miss = named.1.miss in
     let limit : length trace.steps ≤ 1000000 = sound.steps.short in
@@ -57,14 +47,11 @@ short-miss members trace g d (Some m) sound named =
     let long = named.1.long in
     let sent = step_at_within trace.steps m.sent _ miss.message.sent in
     let missed = step_at_within trace.steps m.missed _ miss.receive.step in
-    record {
-      bound = omega (arith, end, long, late);
-      short = (short-decimal m.sent (omega (arith, limit, sent)), (short-decimal m.missed (omega (arith, limit, missed)), tt));
-      count = refl;
-    }
+    record { bound = omega (arith, end, long, late); short = (omega (arith, limit, sent), (omega (arith, limit, missed), tt)) }
 
-short-gap : (members : ℕ) (trace : Recorded) (g f : ℕ) (o : Option Gap) → IsTrace trace → NamesGap members trace g f o → IsShortBeside f 3 (gap_fields o)
-short-gap members trace g f None sound named = record { bound = omega (arith, named); short = (omega arith, (omega arith, (omega arith, tt))); count = refl }
+short-gap : (members : ℕ) (trace : Recorded) (g f : ℕ) (o : Option Gap) → IsTrace trace → NamesGap members trace g f o
+    → IsShortBeside f (option_map (λ w. w.proc) o ∷ option_map (λ w. w.from) o ∷ option_map (λ w. w.to) o ∷ [])
+short-gap members trace g f None sound named = record { bound = omega (arith, named); short = (tt, (tt, (tt, tt))) }
 short-gap members trace g f (Some w) sound named =
     let limit : trace.last ≤ 1000000 = sound.time.end in
     let gap = named.1.gap in
@@ -74,8 +61,7 @@ short-gap members trace g f (Some w) sound named =
     let proc = member_high members w.proc gap.member in
     record {
       bound = omega (arith, limit, long, inside);
-      short = (short-decimal w.proc (omega (arith, proc)), (short-decimal w.from (omega (arith, limit, order, inside)), (short-decimal w.to (omega (arith, limit, inside)), tt)));
-      count = refl;
+      short = (omega (arith, proc), (omega (arith, limit, order, inside), (omega (arith, limit, inside), tt)));
     }
 
 length-row_line : (members : ℕ) (trace : Recorded) (r : Row) → IsTrace trace → IsReportRow members trace r → length (record_line (row_record r)) ≤ 65
@@ -84,15 +70,10 @@ length-row_line members trace r sound row =
     let miss = short-miss members trace r.gst r.delta r.miss sound row.miss in
     let gap = short-gap members trace r.gst r.phi r.gap sound row.gap in
     let end = row.front.feasible.end in
-    let bounds : List (List ℕ) = decimal r.gst ∷ decimal r.delta ∷ decimal r.phi ∷ [] in
-    let short = short-append bounds (miss_fields r.miss ++ gap_fields r.gap)
-    (short-decimal r.gst (omega (arith, limit, end)), (short-decimal r.delta miss.bound, (short-decimal r.phi gap.bound, tt)))
-    (short-append (miss_fields r.miss) (gap_fields r.gap) miss.short gap.short) in
-    let line = length-short_line (row_record r) short in
-    let rest = length-append (miss_fields r.miss) (gap_fields r.gap) in
-    let two = miss.count in
-    let three = gap.count in
-    omega (arith, line, rest, two, three)
+    let bytes = bytes_of-short (entries_of r)
+    (omega (arith, limit, end), (miss.bound, (gap.bound, (miss.short.0, (miss.short.1.0, gap.short))))) in
+    let line = length-line (row_record r) in
+    omega (arith, line, bytes)
 
 length-lines : (rows : List Row) → ((r : Row) → Contains rows r → length (record_line (row_record r)) ≤ 65) → length (text_of_records (map row_record rows)) ≤ 65 * length rows
 length-lines [] short = omega arith

@@ -1,29 +1,24 @@
 -- What csv reads from the text of a report is the report's records.
-use Rattle.std.proofs.Common.{ℕ, ◌≡◌, List, [], ◌∷◌, ◌++◌, map, Option, Some, None, All, refl, arith}
+use Rattle.std.proofs.Common.{ℕ, ◌≡◌, ◌+◌, ◌<◌, ◌^◌, suc, length, take, get_or, List, [], ◌∷◌, ◌++◌, map, Option, Some, None, All, refl, arith}
+use Rattle.std.proofs.Math.Seq.{take-suc}
+use Rattle.std.proofs.lemmas.List.{map-append}
 use Rattle.std.proofs.lemmas.List.Elements.{All-head, All-tail}
 use Rattle.csv.specs.Reading.{strip_bom}
-use Rattle.step_trace.specs.declared.rows.Miss.{Miss}
-use Rattle.step_trace.specs.declared.rows.Gap.{Gap}
 use Rattle.step_trace.specs.declared.rows.Row.{Row}
-use Rattle.trace_text.specs.RecordWriting.{ArePlain}
-use Rattle.front.specs.ReportTexts.{miss_fields, gap_fields, row_record, report_records, report_text, IsMiss64, IsGap64, IsRow64, StandsFor}
+use Rattle.trace_text.specs.RecordWriting.{ArePlain, IsPlain}
+use Rattle.front.specs.Columns.{AreBelow, entries_of, entry_text}
+use Rattle.front.specs.ReportTexts.{row_record, report_records, report_text, IsRow64, StandsFor}
 use Rattle.trace_text.proofs.LinesRead.{AreLines, lines-read}
 use Rattle.trace_text.proofs.PlainFields.{IsPlain-decimal}
 
-plain-miss : (o : Option Miss) → IsMiss64 o → (rest : List (List ℕ)) → ArePlain rest → ArePlain (miss_fields o ++ rest)
-plain-miss None h rest plain = (refl, (refl, plain))
-plain-miss (Some m) h rest plain = (IsPlain-decimal m.sent h.0, (IsPlain-decimal m.missed h.1, plain))
-
-plain-gap : (o : Option Gap) → IsGap64 o → ArePlain (gap_fields o)
-plain-gap None h = (refl, (refl, (refl, tt)))
-plain-gap (Some w) h = (IsPlain-decimal w.proc h.0, (IsPlain-decimal w.from h.1, (IsPlain-decimal w.to h.2, tt)))
-
-plain-row : (r : Row) → IsRow64 r → ArePlain (row_record r)
-plain-row r h = (IsPlain-decimal r.gst h.gst, (IsPlain-decimal r.delta h.delta, (IsPlain-decimal r.phi h.phi, plain-miss r.miss h.miss (gap_fields r.gap) (plain-gap r.gap h.gap))))
+plain-entries : (entries : List (Option ℕ)) → AreBelow (2 ^ 64) entries → ArePlain (map entry_text entries)
+plain-entries [] h = tt
+plain-entries (None ∷ rest) h = (refl, plain-entries rest h.1)
+plain-entries (Some n ∷ rest) h = (IsPlain-decimal n h.0, plain-entries rest h.1)
 
 lines-rows : (rows : List Row) → All IsRow64 rows → AreLines (map row_record rows)
 lines-rows [] h = tt
-lines-rows (r ∷ rows) h = (omega arith, plain-row r (All-head IsRow64 r rows h), lines-rows rows (All-tail IsRow64 r rows h))
+lines-rows (r ∷ rows) h = (omega arith, plain-entries (entries_of r) (All-head IsRow64 r rows h).numbers, lines-rows rows (All-tail IsRow64 r rows h))
 
 lines-report : (rows : List Row) → All IsRow64 rows → AreLines (report_records rows)
 lines-report rows h = (omega arith, (refl, (refl, (refl, (refl, (refl, (refl, (refl, (refl, tt)))))))), lines-rows rows h)
@@ -35,3 +30,13 @@ no-mark rows = refl
 -- the text of rows stands for them
 pub StandsFor-report_text : (rows : List Row) → All IsRow64 rows → StandsFor (report_text rows) rows
 StandsFor-report_text rows h = lines-read (report_records rows) (lines-report rows h) (no-mark rows)
+
+-- one more field
+pub push_plain : (fields : List (List ℕ)) (field : List ℕ) → ArePlain fields → IsPlain field → ArePlain (fields ++ field ∷ [])
+push_plain [] field plain one = (one, tt)
+push_plain (x ∷ rest) field plain one = (plain.0, push_plain rest field plain.1 one)
+
+pub map_more : (entries : List (Option ℕ)) (k : ℕ) → k < length entries → map entry_text (take (k + 1) entries) ≡ map entry_text (take k entries) ++ entry_text (get_or entries k None) ∷ []
+map_more entries k inside =
+    let next : k + 1 ≡ suc k = omega arith in
+    rw (next, take-suc entries k None inside) (map-append entry_text (take k entries) (get_or entries k None ∷ []))

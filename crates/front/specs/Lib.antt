@@ -1,4 +1,5 @@
 pub mod Reports
+pub mod Columns
 pub mod ReportTexts
 pub mod ReportRefusals
 pub mod ReportReading

@@ -2,6 +2,7 @@
 //! bound that a trace leaves possible, and the text in which reports are kept.
 #![tactic(auto)]
 
+mod columns;
 mod refusals;
 mod report_reading;
 mod report_texts;

@@ -1,21 +1,26 @@
 //! The text of a report: a header and a record for each row, as csv writes them.
 
-ghost use Rattle.std.specs.Prelude.{◌≡◌, ◌<◌, ◌≤◌, ℕ, List, ◌∷◌, [], ◌++◌, IfOk, OnOk, IfErr, IsTrue, All, length, string_bytes};
+ghost use Rattle.std.specs.Prelude.{◌≡◌, ◌<◌, ℕ, ◌∷◌, [], ◌++◌, IfOk, OnOk, IfErr, IsTrue, All, length};
+ghost use Rattle.csv.specs.Records.{fields_of, partial_of};
 ghost use Rattle.trace_text.specs.ByteLoops.{WasFaultless};
 ghost use Rattle.trace_text.specs.Faults.{is_flushed};
 ghost use Rattle.step_trace.specs.Traces.{Recorded};
 ghost use Rattle.step_trace.specs.Ticks.{IsTrace};
 ghost use Rattle.step_trace.specs.Fronts.{IsReport};
 ghost use Rattle.trace_text.specs.TextWriting.{Wrote, WrotePart, IsWriteCause};
-ghost use Rattle.trace_text.specs.RecordWriting.{IsReady, ArePlain, written};
+ghost use Rattle.trace_text.specs.RecordWriting.{IsReady, IsPlain, written};
 ghost use Rattle.trace_text.specs.Records.{record_line};
-ghost use Rattle.front.specs.ReportTexts.{report_header, report_text, row_record, miss_fields, gap_fields, IsRow64, StandsFor};
+ghost use Rattle.front.specs.Columns.{report_header, entry_text};
+ghost use Rattle.front.specs.ReportTexts.{report_text, row_record, IsRow64, StandsFor};
 
-use csv::Writer;
+use crate::columns::{NAMES, entries_of};
+use csv::{ByteRecord, Writer};
 use std::alloc::{AllocError, Global};
 use std::io::Write;
-use step_trace::{Gap, MAX_STEPS, Miss, Row};
-use trace_text::record_writing::{number_text, record_writer, text_written, write_record};
+use step_trace::Row;
+use trace_text::record_writing::{
+    number_text, record_writer, text_written, write_byte_record, write_record,
+};
 use trace_text::{Counting, MAX_TEXT_BYTES, WriteError, write_text};
 
 /// Writes the text of a report of these rows, and flushes.
@@ -60,65 +65,32 @@ fn write_header(writer: &mut Writer<Vec<u8>>) -> Result<(), AllocError>
     ensures text { OnOk result
         (written writer.new ≡ written writer.old ++ record_line report_header) }
 {
-    write_record(
-        writer,
-        &[
-            b"gst", b"delta", b"phi", b"sent", b"missed", b"proc", b"from", b"to",
-        ],
-    )
+    write_record(writer, &NAMES)
 }
 
+#[tactic(auto, using(crate::proofs::TextsRead::push_plain, crate::proofs::TextsRead::map_more))]
 fn write_row(alloc: Global, writer: &mut Writer<Vec<u8>>, row: &Row) -> Result<(), AllocError>
     requires { IsReady writer.old }
     ensures ready { OnOk result (IsReady writer.new) }
     ensures text { OnOk result
         (written writer.new ≡ written writer.old ++ record_line (row_record row.now)) }
 {
-    let gst = number_text(alloc, row.gst)?;
-    let delta = number_text(alloc, row.delta)?;
-    let phi = number_text(alloc, row.phi)?;
-    let (sent, missed) = miss_texts(alloc, row.miss)?;
-    let (proc, from, to) = gap_texts(alloc, row.gap)?;
-    write_record(
-        writer,
-        &[
-            gst.as_bytes(),
-            delta.as_bytes(),
-            phi.as_bytes(),
-            sent.as_bytes(),
-            missed.as_bytes(),
-            proc.as_bytes(),
-            from.as_bytes(),
-            to.as_bytes(),
-        ],
-    )
-}
-
-/// The fields of a miss, empty where there is none.
-fn miss_texts(alloc: Global, miss: Option<Miss>) -> Result<(String, String), AllocError>
-    ensures fields { IfOk result
-        (λ t. string_bytes t.0 ∷ string_bytes t.1 ∷ [] ≡ miss_fields miss) }
-    ensures plain { IfOk result (λ t. ArePlain (string_bytes t.0 ∷ string_bytes t.1 ∷ [])) }
-{
-    match miss {
-        None => Ok((String::new(alloc), String::new(alloc))),
-        Some(Miss { sent, missed }) => Ok((number_text(alloc, sent)?, number_text(alloc, missed)?)),
+    let mut fields = ByteRecord::new(alloc);
+    for entry in entries_of(row) {
+        push_entry(alloc, &mut fields, entry)?;
     }
+    write_byte_record(writer, &fields)
 }
 
-/// The fields of a gap, empty where there is none.
-fn gap_texts(alloc: Global, gap: Option<Gap>) -> Result<(String, String, String), AllocError>
-    ensures fields { IfOk result
-        (λ t. string_bytes t.0 ∷ string_bytes t.1 ∷ string_bytes t.2 ∷ [] ≡ gap_fields gap) }
-    ensures plain { IfOk result
-        (λ t. ArePlain (string_bytes t.0 ∷ string_bytes t.1 ∷ string_bytes t.2 ∷ [])) }
+/// One more field: a number, or none.
+fn push_entry(alloc: Global, fields: &mut ByteRecord, entry: Option<u64>) -> Result<(), AllocError>
+    requires { partial_of fields.old ≡ [] }
+    ensures whole { OnOk result (partial_of fields.new ≡ []) }
+    ensures text { OnOk result (fields_of fields.new ≡ fields_of fields.old ++ entry_text entry ∷ []) }
+    ensures plain { OnOk result (IsPlain (entry_text entry)) }
 {
-    match gap {
-        None => Ok((String::new(alloc), String::new(alloc), String::new(alloc))),
-        Some(Gap { proc, from, to }) => Ok((
-            number_text(alloc, proc)?,
-            number_text(alloc, from)?,
-            number_text(alloc, to)?,
-        )),
+    match entry {
+        Some(n) => fields.push_field(number_text(alloc, n)?.as_bytes()),
+        None => fields.push_field(b""),
     }
 }
