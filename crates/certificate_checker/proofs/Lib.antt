@@ -7,7 +7,6 @@ pub mod WaitedReceives
 pub mod NextSteps
 pub mod SilenceSteps
 pub mod SilentGaps
-pub mod LastStepNotes
 pub mod ClosedTicks
 pub mod LongestSilences
 pub mod LongerWitnesses

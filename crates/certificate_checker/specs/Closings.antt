@@ -1,8 +1,9 @@
 -- By which tick every member of a set has taken a step since a tick (own).
-use Rattle.std.specs.Prelude.{ℕ, ◌≡◌, ◌+◌, ◌<◌, ◌≤◌, List, length, slice_index, IsTrue}
+use Rattle.std.specs.Prelude.{ℕ, ◌≡◌, ◌+◌, ◌<◌, ◌≤◌, ◌⊎◌, List, length, slice_index, IsTrue}
 use Rattle.step_trace.specs.Processors.{has_proc}
-use Rattle.step_trace.specs.Traces.{Recorded, IsStepOf}
-use Rattle.step_trace.specs.Ticks.{tick_of, StepsIn}
+use Rattle.step_trace.specs.Traces.{Recorded}
+use Rattle.step_trace.specs.Ticks.{StepsIn}
+use Rattle.certificate_checker.specs.Silences.{IsNextStep}
 
 -- p takes a step in a tick from x to y
 pub record StepsBetween (trace : Recorded) (p x y : ℕ) : Type 0 where
@@ -30,22 +31,43 @@ pub record AreClosings (set : ℕ) (trace : Recorded) (closings : List ℕ) : Ty
   pub long : length closings ≡ trace.last + 1
   pub each : (x : ℕ) → x ≤ trace.last → IsClosedBy set trace x (slice_index closings x)
 
--- a member of the set that takes no step before step `until` in tick x or later
-pub record HasWaiting (set : ℕ) (trace : Recorded) (until x : ℕ) : Type 0 where
-  pub proc : ℕ
-  pub member : IsTrue (has_proc set proc)
-  pub earlier : (k : ℕ) → k < until → IsStepOf trace.steps k proc → tick_of trace k < x
+-- an end is put down at or before tick x that isn't before the next step of p from x on
+pub record IsReached (trace : Recorded) (p : ℕ) (ends : List ℕ) (x : ℕ) : Type 0 where
+  pub next : ℕ
+  pub is : IsNextStep trace p x next
+  pub start : ℕ
+  pub low : start ≤ x
+  pub far : x < next → next ≤ slice_index ends start
 
--- The steps before number `number` were gone over. The ticks before `first` are closed; from tick `first` on a member
--- has taken no step.
-pub record KnowsClosings (set : ℕ) (trace : Recorded) (number first : ℕ) (closings : List ℕ) : Type 0 where
-  pub long : length closings ≡ trace.last + 1
-  pub closed : (x : ℕ) → x < first → x ≤ trace.last → IsClosedBy set trace x (slice_index closings x)
-  pub rest : (x : ℕ) → first ≤ x → x ≤ trace.last → slice_index closings x ≡ trace.last + 1
-  pub waiting : HasWaiting set trace number first
+-- The ends of the silences of p that begin before tick `until` are put down where they begin, unless later ones stand
+-- there.
+pub record PutsEnds (trace : Recorded) (p until : ℕ) (old new : List ℕ) : Type 0 where
+  pub long : length new ≡ length old
+  pub kept : (x : ℕ) → slice_index old x ≤ slice_index new x
+  pub own : (x : ℕ) → (slice_index new x ≡ slice_index old x)
+      ⊎ (((z : ℕ) → x ≤ z → z < slice_index new x → ¬ StepsIn trace z p) × (slice_index new x ≤ trace.last + 1))
+  pub reach : (x : ℕ) → x < until → x ≤ trace.last → IsReached trace p new x
 
--- the value stands from one place to before another, and elsewhere what stood there before
-pub record IsWritten (from until value : ℕ) (old new : List ℕ) : Type 0 where
-  pub inside : (x : ℕ) → from ≤ x → x < until → slice_index new x ≡ value
-  pub below : (x : ℕ) → x < from → slice_index new x ≡ slice_index old x
-  pub above : (x : ℕ) → until ≤ x → slice_index new x ≡ slice_index old x
+-- The ends of the silences of the members below `number` are put down.
+pub record KnowsEnds (set : ℕ) (trace : Recorded) (number : ℕ) (ends : List ℕ) : Type 0 where
+  pub long : length ends ≡ trace.last + 1
+  pub silent : (x : ℕ) → x < slice_index ends x → HasSilent set trace x (slice_index ends x) × (slice_index ends x ≤ trace.last + 1)
+  pub reach : (p : ℕ) → IsTrue (has_proc set p) → p < number → (x : ℕ) → x ≤ trace.last → IsReached trace p ends x
+
+-- the tick stands in a place unless a later one stood there, and elsewhere what stood there before
+pub record IsRaised (place tick : ℕ) (old new : List ℕ) : Type 0 where
+  pub long : length new ≡ length old
+  pub here : place < length old → tick ≤ slice_index new place
+  pub kept : (x : ℕ) → slice_index old x ≤ slice_index new x
+  pub own : (x : ℕ) → (slice_index new x ≡ slice_index old x) ⊎ ((x ≡ place) × (slice_index new x ≡ tick))
+
+-- the latest of the ends up to tick x, or x where none is later
+pub record IsLatest (ends : List ℕ) (x latest : ℕ) : Type 0 where
+  pub from : x ≤ latest
+  pub all : (y : ℕ) → y ≤ x → slice_index ends y ≤ latest
+  pub own : x < latest → (y : ℕ) × (y ≤ x) × (slice_index ends y ≡ latest)
+
+-- that end, for each tick
+pub record IsCarried (old new : List ℕ) : Type 0 where
+  pub long : length new ≡ length old
+  pub each : (x : ℕ) → x < length old → IsLatest old x (slice_index new x)

@@ -5,6 +5,5 @@ pub mod Claims
 pub mod Receives
 pub mod Silences
 pub mod LongestWitnesses
-pub mod LastSteps
 pub mod Closings
 pub mod LongestSilences

@@ -59,7 +59,7 @@ fn verdict_on(
     }
     let receives = Receives::of_trace(alloc, trace)?;
     let silences = silences(alloc, trace, set)?;
-    let closings = closings(alloc, trace, set)?;
+    let closings = closings(alloc, trace, set, &silences)?;
     match step_reason(trace, set, &receives, &silences, &closings, rows) {
         Some(why) => Ok(Verdict::No(why)),
         None => Ok(Verdict::Yes),

@@ -8,7 +8,6 @@ mod claims;
 mod closings;
 mod first_reasons;
 mod gaps;
-mod last_steps;
 mod laws;
 mod receives;
 mod row_order;

@@ -2,6 +2,7 @@
 
 ghost use Rattle.std.specs.Prelude.{ℕ, ◌≡◌, ◌+◌, ◌≤◌, ◌++◌, ◌∷◌, [], length, IfOk, OnOk};
 ghost use Rattle.step_trace.specs.declared.traces.TheConstants.{MAX_TICKS};
+ghost use Rattle.certificate_checker.specs.Closings.{IsRaised, PutsEnds};
 ghost use Rattle.certificate_checker.specs.Silences.{IsNextStep, IsSilence, KnowsSilences, AreSilences};
 
 use crate::step_facts::step_of;
@@ -39,6 +40,31 @@ impl Silence {
         } else {
             after
         }
+    }
+
+    /// Puts the end of each silence down in the tick in which it begins, unless a later one stands there.
+    pub(crate) fn put_ends(&self, trace: &Trace, ends: &mut Vec<u32>)
+        requires { length ends.old.items ≡ trace.now.last + 1 }
+        ensures { (p : ℕ) → IsSilence trace.now p self.now
+            → PutsEnds trace.now p (trace.now.last + 1) ends.old.items ends.new.items }
+    {
+        let after = trace.last_tick() as u32 + 1;
+        let mut from = 0;
+        for tick in &self.ticks {
+            raise(ends, from, *tick);
+            from = u64::from(*tick) + 1;
+        }
+        raise(ends, from, after);
+    }
+}
+
+/// Puts a tick down in a place, if it is one, unless a later one stands there.
+fn raise(ends: &mut Vec<u32>, place: u64, tick: u32)
+    ensures { IsRaised place tick ends.old.items ends.new.items }
+{
+    let place = place as usize;
+    if place < ends.len() && ends[place] < tick {
+        ends[place] = tick;
     }
 }
 

@@ -1,33 +1,30 @@
-use Rattle.std.proofs.Common.{refl, arith}
-use Rattle.step_trace.specs.Traces.{IsStepOf}
-use Rattle.certificate_checker.proofs.StepFacts.{step_there, with_act}
-use Rattle.certificate_checker.proofs.ClosedTicks.{KnowsClosings-awaited, KnowsClosings-oldest, AreClosings-after_all}
+use Rattle.std.proofs.Common.{◌≤◌, IsTrue, ◌∙◌, sym, ap, arith}
+use Rattle.step_trace.specs.Configurations.{Setup}
+use Rattle.step_trace.specs.Processors.{has_proc}
+use Rattle.certificate_checker.proofs.SilentGaps.{silence_of}
+use Rattle.certificate_checker.proofs.ClosedTicks.{KnowsEnds-member, KnowsEnds-other, AreClosings-carried}
 use Rattle.certificate_checker.proofs.closings.closings.Goals as goal
-use Rattle.certificate_checker.proofs.closings.closings.Goals.{in-Some, in_default}
+use Rattle.certificate_checker.proofs.closings.closings.Goals.{then-contains, else-contains}
 
-pub loop-no-preserved : goal.loop-no-preserved
-loop-no-preserved c =
+pub loop-p-preserved : goal.loop-p-preserved
+loop-p-preserved c =
     let t = c.args.trace.now in
-    let no = c.loop-no.no in
-    let known = c.loop-no.invariant.closings in
-    let len = c.len.ensures.value in
-    let below = c.loop-no-test.true in
-    let low = c.loop-no.auto.no in
-    let step = step_there t.steps no (omega (arith, low)) (omega (arith, below, len)) in
+    let p = c.loop-p.p in
+    let n = c.n-p-end.ensures.value ∙ ap (λ (s : Setup). s.n) c.config.ensures in
+    let below = c.loop-p-test.true in
+    let within : p ≤ t.config.n = omega (arith, below, n) in
     record {
-      steps = c.note.ensures.known;
-      closings = elim c.match-note.branch [
-        | in-Some w ↦ (let own : IsStepOf t.steps no step.0.proc = (step.0.act, with_act t.steps no step.0 step.0.act step.1 refl) in
-            let written = rw w.tick.ensures.value at w.close-first_open.ensures.written in
-            rw (w.first_open-is, w.closed-is, w.close-first_open.ensures.first, w.tick.ensures.value)
-            (KnowsClosings-oldest c.args.set t no c.loop-no.first_open w.in-Some.oldest step.0.proc w.tick-in-Some.result c.loop-no.closed.items w.close-first_open.new.closed.items w.tick.ensures.timed own w.in-Some.ensures.oldest
-            w.tick-in-Some.ensures.value w.close-first_open.ensures.len written known))
-        | in_default w ↦ rw (w.first_open-is, w.closed-is) (KnowsClosings-awaited c.args.set t no c.loop-no.first_open c.loop-no.closed.items w.in_default.ensures.oldest known)
+      end = omega (arith, within);
+      known = elim c.if-contains.branch [
+        | then-contains w ↦ (let member : IsTrue (has_proc c.args.set p) = sym c.contains.ensures ∙ w.if-contains.true in
+            let silence = silence_of c.args.set t c.args.silences.now p w.index-silences-p.result c.requires.silences member within w.index-silences-p.is in
+            rw w.ends-is (KnowsEnds-member c.args.set t p c.loop-p.ends.items w.put_ends.new.ends.items member (w.put_ends.ensures p silence) c.loop-p.invariant.known))
+        | else-contains w ↦ rw w.ends-is (KnowsEnds-other c.args.set t p c.loop-p.ends.items (λ member. cc (member, c.contains.ensures, w.if-contains.false)) c.loop-p.invariant.known)
       ];
     }
 
 pub returns : goal.returns
 returns c =
-    let len = c.len.ensures.value in
-    let all = c.loop-no-test.false in
-    AreClosings-after_all c.args.set c.args.trace.now c.loop-no.no c.loop-no.first_open c.loop-no.closed.items (omega (arith, len, all)) c.loop-no.invariant.closings
+    let n = c.n-p-end.ensures.value ∙ ap (λ (s : Setup). s.n) c.config.ensures in
+    let all = c.loop-p-test.false in
+    AreClosings-carried c.args.set c.args.trace.now c.loop-p.p c.loop-p.ends.items c.carry.new.ends.items c.requires.set (omega (arith, n, all)) c.loop-p.invariant.known c.carry.ensures

@@ -1,10 +1,10 @@
-use Rattle.certificate_checker.specs.LastSteps.{KnowsLastSteps}
-use Rattle.certificate_checker.specs.Closings.{KnowsClosings}
+use Rattle.std.proofs.Common.{◌+◌, ◌≤◌}
+use Rattle.certificate_checker.specs.Closings.{KnowsEnds}
 use Rattle.certificate_checker.proofs.closings.closings.Given as goal
 
--- the steps before number `no` were gone over
-abbrev pub invariant-loop-no : goal.invariant-loop-no
-invariant-loop-no l = record {
-  steps : KnowsLastSteps l.set l.trace l.no l.steps;
-  closings : KnowsClosings l.set l.trace l.no l.first_open l.closed.items;
+-- the ends of the members below p are put down
+abbrev pub invariant-loop-p : goal.invariant-loop-p
+invariant-loop-p l = record {
+  end : l.p ≤ l.trace.config.n + 1;
+  known : KnowsEnds l.set l.trace l.p l.ends.items;
 }
