@@ -1,19 +1,18 @@
 -- What the answer for the records of a text says of the text.
-use Rattle.std.proofs.Common.{ℕ, ◌≡◌, ◌+◌, ◌≤◌, ◌==◌, ◌∙◌, List, [], ◌∷◌, length, map, Option, Some, None, Result, Ok, Err, Bool, true, false, cond, All, IfOk, IfErr, IfSome, MatchResult, MatchBool, refl, sym, ap, subst, arith}
+use Rattle.std.proofs.Common.{ℕ, ◌≡◌, ◌+◌, ◌≤◌, ◌==◌, ◌∙◌, inl, inr, List, [], ◌∷◌, length, map, Option, Some, None, Result, Ok, Err, Bool, true, false, cond, All, IfOk, IfErr, IfSome, MatchResult, MatchBool, refl, sym, ap, subst, arith}
 use Rattle.std.specs.Prelude.{⊤, nat_le}
 use Rattle.std.proofs.lemmas.Bool.Decides.{nat_tests}
-use Rattle.std.specs.Option.{ok_or}
 use Rattle.step_trace.specs.declared.rows.Row.{Row}
 use Rattle.trace_text.specs.declared.byte_loops.TheConstants.{MAX_TEXT_BYTES}
 use Rattle.trace_text.specs.Records.{◌>>=◌, after_records, records_of_text}
 use Rattle.front.specs.declared.columns.TheConstants.{COLUMNS}
 use Rattle.front.specs.declared.refusals.ReportError.{ReportError}
 use Rattle.front.specs.declared.refusals.ReportError.TheVariants as why
-use Rattle.front.specs.Columns.{gap_of, miss_of, row_of_entries, with_witnesses}
+use Rattle.front.specs.Columns.{row_of_entries}
 use Rattle.front.specs.ReportTexts.{StandsFor, IsRow64}
 use Rattle.front.specs.ReportReading.{RefusedFor, IsDeviceRefusal, faults_after_report}
 use Rattle.front.specs.ReportRefusals.{is_header, entry_of, row_of, with_row, next_rows, rows_at_end, rows_of_records, rows_of_text, is_memory, Gives}
-use Rattle.front.proofs.RowsRead.{rows_of_records-ok, rows_of_records-records, report_records-injective}
+use Rattle.front.proofs.RowsRead.{row_of_entries-refused, rows_of_records-ok, rows_of_records-records, report_records-injective}
 
 -- a refusal of the records
 IsRecordRefusal : ReportError → Type 0
@@ -22,17 +21,13 @@ IsRecordRefusal why.Read = ⊥
 IsRecordRefusal why.Memory = ⊥
 IsRecordRefusal e = ⊤
 
-whole-refusal : (at : ℕ) (o : Option Row) (e : ReportError) → ok_or o (why.HalfWitness at) ≡ Err e → IsRecordRefusal e
-unfolding IsRecordRefusal
-whole-refusal at None e h = let same : why.HalfWitness at ≡ e = cc h in subst IsRecordRefusal same tt
-whole-refusal at (Some r) e h = cc h
-
 row-refusal : (at : ℕ) (entries : List (Option (Option ℕ))) (b : Bool) (e : ReportError) → cond b (row_of_entries at entries) (Err (why.BadFields at)) ≡ Err e → IsRecordRefusal e
 unfolding IsRecordRefusal
-row-refusal at (Some (Some gst) ∷ Some (Some delta) ∷ Some (Some phi) ∷ Some sent ∷ Some missed ∷ Some proc ∷ Some from ∷ Some to ∷ []) true e h =
-    whole-refusal at (with_witnesses gst delta phi (miss_of sent missed) (gap_of proc from to)) e h
+row-refusal at entries true e h = elim (row_of_entries-refused at entries e h) [
+  | inl same ↦ subst IsRecordRefusal (sym same) tt
+  | inr same ↦ subst IsRecordRefusal (sym same) tt
+]
 row-refusal at entries false e h = let same : why.BadFields at ≡ e = cc h in subst IsRecordRefusal same tt
-row-refusal at _ true e h = let same : why.BadNumber at ≡ e = cc h in subst IsRecordRefusal same tt
 
 next-refusal : (rows : Option (List Row)) (fields : List (List ℕ)) (e : ReportError) → next_rows rows fields ≡ Err e → IsRecordRefusal e
 unfolding IsRecordRefusal

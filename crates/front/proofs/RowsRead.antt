@@ -1,5 +1,5 @@
 -- Records are read as the rows that they are the records of, and as no others.
-use Rattle.std.proofs.Common.{ℕ, ◌≡◌, ◌+◌, ◌<◌, ◌^◌, ◌∙◌, ◌==◌, ◌&&◌, List, [], ◌∷◌, ◌++◌, length, map, Option, Some, None, Result, Ok, Err, Bool, true, false, cond, All, IfSome, option_map, decimal, append_assoc, refl, sym, ap, suc, take, get_or, arith}
+use Rattle.std.proofs.Common.{ℕ, ◌≡◌, ◌+◌, ◌<◌, ◌^◌, ◌∙◌, ◌==◌, ◌&&◌, ◌⊎◌, inl, inr, List, [], ◌∷◌, ◌++◌, length, map, Option, Some, None, Result, Ok, Err, Bool, true, false, cond, All, IfSome, option_map, decimal, append_assoc, refl, sym, ap, suc, take, get_or, arith}
 use Rattle.std.specs.Cmp.Lexicographic.{pointwise}
 use Rattle.std.specs.Option.{ok_or}
 use Rattle.std.specs.Str.{bytes_eq}
@@ -14,7 +14,7 @@ use Rattle.step_trace.specs.declared.rows.Gap.{Gap}
 use Rattle.step_trace.specs.declared.rows.Row.{Row}
 use Rattle.front.specs.declared.columns.TheConstants.{COLUMNS}
 use Rattle.front.specs.declared.refusals.ReportError.{ReportError}
-use Rattle.front.specs.declared.refusals.ReportError.TheVariants.{HalfWitness, BadFields, BadHeader}
+use Rattle.front.specs.declared.refusals.ReportError.TheVariants.{BadNumber, HalfWitness, BadFields, BadHeader}
 use Rattle.trace_text.specs.Records.{◌>>=◌, after_records, field_of, number_of}
 use Rattle.front.specs.Columns.{AreBelow, entries_of, entry_text, gap_of, miss_of, report_header, row_of_entries, with_witnesses}
 use Rattle.front.specs.ReportTexts.{row_record, report_records, IsRow64}
@@ -74,6 +74,16 @@ row_of_entries-ok at (Some (Some gst) ∷ Some (Some delta) ∷ Some (Some phi) 
   go (Some s) (Some m) (Some p) (Some x) (Some y) h = made (Some (record { sent = s; missed = m })) (Some (record { proc = p; from = x; to = y })) _ refl h
   go _ _ _ _ _ h = cc h
 row_of_entries-ok at _ r h = cc h
+
+-- and where none was made a field or a witness is to blame
+pub row_of_entries-refused : (at : ℕ) (entries : List (Option (Option ℕ))) (e : ReportError) → row_of_entries at entries ≡ Err e → (e ≡ BadNumber at) ⊎ (e ≡ HalfWitness at)
+row_of_entries-refused at (Some (Some gst) ∷ Some (Some delta) ∷ Some (Some phi) ∷ Some sent ∷ Some missed ∷ Some proc ∷ Some from ∷ Some to ∷ []) e h =
+    go (with_witnesses gst delta phi (miss_of sent missed) (gap_of proc from to)) h
+  where
+    go : (o : Option Row) → ok_or o (HalfWitness at) ≡ Err e → (e ≡ BadNumber at) ⊎ (e ≡ HalfWitness at)
+    go None h = inr (cc h)
+    go (Some r) h = cc h
+row_of_entries-refused at _ e h = inl (cc h)
 
 row_of_entries-entries : (at : ℕ) (r : Row) → row_of_entries at (map (λ e. Some e) (entries_of r)) ≡ Ok r
 row_of_entries-entries at r = go r.gst r.delta r.phi r.miss r.gap where
