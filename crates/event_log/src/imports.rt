@@ -36,14 +36,8 @@ pub fn read_log(alloc: Global, text: &[u8], options: &Options) -> Result<Import,
     ensures import { IfOk result (λ import. IsImportOf options.now text.now import) }
     ensures refused { IfErr result (λ why. IsLogRefusal options.now text.now why) }
 {
-    let log = match events_by(alloc, text, options) {
-        Ok(log) => log,
-        Err(why) => return Err(why),
-    };
-    let clock = match clock_for(options, log.kind) {
-        Ok(clock) => clock,
-        Err(why) => return Err(why),
-    };
+    let log = events_by(alloc, text, options)?;
+    let clock = clock_for(options, log.kind)?;
     match trace_of_log(alloc, &log, &clock, options.spread) {
         Ok(timed) => Ok(Import {
             trace: timed.trace,

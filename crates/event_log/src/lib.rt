@@ -23,5 +23,6 @@ pub use logs::{NamedEvents, events_of_log};
 pub use names::{Name, NameSet};
 pub use options::{OptionError, Options, read_options};
 pub use reading::MAX_EVENTS;
+pub use refusal_texts::printed;
 pub use refusals::LogError;
 pub use times::{Moment, TimeKind, Width, read_moment, read_width};

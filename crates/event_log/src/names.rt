@@ -8,8 +8,10 @@ ghost use Rattle.event_log.specs.Names.{are_message_names, has_name, is_control,
 use crate::times::text_of;
 use indexmap::IndexSet;
 use std::alloc::{AllocError, Global};
-use std::fmt;
 use std::marker::Model;
+
+/// The greatest number of nodes.
+pub(crate) const MAX_NODES: usize = 64;
 
 /// A name, or several with one space between them.
 #[derive(Debug, Drop)]
@@ -37,22 +39,6 @@ impl Name {
         ensures { result.now ≡ self.now }
     {
         self.bytes.as_slice()
-    }
-}
-
-impl fmt::Display for Name {
-    ghost use Rattle.std.specs.Prelude.{Some};
-    ghost use Rattle.event_log.specs.RefusalTexts.{printed};
-
-    ghost output = { λ name. Some (printed name) };
-
-    // (each name of a log is text)
-    #[tactic(auto, unfolding(crate::specs::RefusalTexts::printed))]
-    fn fmt<W: fmt::Write>(&self, f: &mut fmt::Formatter<W>) -> fmt::Result {
-        match text_of(self.as_bytes()) {
-            Some(text) => f.write_str(text),
-            None => f.write_str("?"),
-        }
     }
 }
 

@@ -8,15 +8,12 @@ ghost use Rattle.event_log.specs.LogRecords.{said};
 ghost use Rattle.event_log.specs.Names.{with_name};
 
 use crate::events::events_of;
-use crate::names::{Name, NameSet};
+use crate::names::{MAX_NODES, Name, NameSet};
 use crate::records::{Told, Verb};
 use crate::refusals::LogError;
 use std::alloc::{AllocError, Global};
 use std::marker::Model;
 use timed_events::Event;
-
-/// The greatest number of nodes.
-const MAX_NODES: usize = 64;
 
 /// An event with numbers in place of the names of nodes.
 #[derive(Drop)]

@@ -3,12 +3,9 @@
 ghost use Rattle.std.specs.Prelude.{◌≡◌, ◌∷◌, [], ◌++◌, IfErr, IfOk, IfSome, OnOk, option_map, true, false, None};
 ghost use Rattle.event_log.specs.Options.{AreNodes, AreNodesIn, AreOptions, HasBadNodes, HasBadTick, HasBadUntil, IsNodeFault, IsOptionFault, IsUntilIn, IsWidthIn, is_next_node, parts_between_commas};
 
-use crate::names::{NameSet, is_name};
+use crate::names::{MAX_NODES, NameSet, is_name};
 use crate::times::{Moment, Width, read_moment, read_width};
 use std::alloc::Global;
-
-/// The greatest number of nodes.
-const MAX_NODES: usize = 64;
 
 /// How a log is read.
 #[derive(Drop)]
@@ -50,10 +47,7 @@ pub fn read_options(
     ensures options { IfOk result (λ o. AreOptions (option_map (λ t. t.now) nodes.entry) (option_map (λ t. t.now) tick.entry) (option_map (λ t. t.now) until.entry) spread o) }
     ensures refused { IfErr result (λ why. IsOptionFault (option_map (λ t. t.now) nodes.entry) (option_map (λ t. t.now) tick.entry) (option_map (λ t. t.now) until.entry) why) }
 {
-    let nodes = match listed_nodes(alloc, nodes) {
-        Ok(nodes) => nodes,
-        Err(why) => return Err(why),
-    };
+    let nodes = listed_nodes(alloc, nodes)?;
     let Some(width) = told_width(tick) else {
         return Err(OptionError::Tick);
     };
@@ -76,10 +70,8 @@ fn listed_nodes(alloc: Global, text: Option<&str>) -> Result<Option<NameSet>, Op
     let Some(text) = text else {
         return Ok(None);
     };
-    match node_list(alloc, text.as_bytes()) {
-        Ok(nodes) => Ok(Some(nodes)),
-        Err(why) => Err(why),
-    }
+    let nodes = node_list(alloc, text.as_bytes())?;
+    Ok(Some(nodes))
 }
 
 /// The length of a tick that a text tells; 1 where there is none.
@@ -114,10 +106,7 @@ fn node_list(alloc: Global, text: &[u8]) -> Result<NameSet, OptionError>
 {
     let mut nodes = NameSet::new(alloc);
     for name in text.split(|byte| *byte == b',') {
-        match list_node(alloc, &mut nodes, name) {
-            Ok(()) => {}
-            Err(why) => return Err(why),
-        }
+        list_node(alloc, &mut nodes, name)?;
     }
     if nodes.len() < 2 {
         return Err(OptionError::Nodes);

@@ -1,7 +1,34 @@
 //! What is told of a refused log.
 
+ghost use Rattle.std.specs.Prelude.{◌≡◌};
+ghost use Rattle.event_log.specs.RefusalTexts.{printed};
+
+use crate::names::Name;
 use crate::refusals::LogError;
+use crate::times::text_of;
 use std::fmt;
+
+/// A name as it is printed. Each name of a log is text.
+#[tactic(auto, unfolding(crate::specs::RefusalTexts::printed))]
+pub fn printed(name: &[u8]) -> &str
+    ensures { result.now ≡ printed name.now }
+{
+    match text_of(name) {
+        Some(text) => text,
+        None => "?",
+    }
+}
+
+impl fmt::Display for Name {
+    ghost use Rattle.std.specs.Prelude.{Some};
+    ghost use Rattle.event_log.specs.RefusalTexts.{printed};
+
+    ghost output = { λ name. Some (printed name) };
+
+    fn fmt<W: fmt::Write>(&self, f: &mut fmt::Formatter<W>) -> fmt::Result {
+        f.write_str(printed(self.as_bytes()))
+    }
+}
 
 impl fmt::Display for LogError {
     ghost use Rattle.std.specs.Prelude.{Some};
