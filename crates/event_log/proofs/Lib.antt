@@ -1,11 +1,11 @@
 pub mod EventPlaces
 pub mod HeaderPlaces
 pub mod ListedNodes
+pub mod LogRefusals
 pub mod MeantEvents
 pub mod MessageNames
 pub mod RecordPlaces
 pub mod SoundLogs
 pub mod Stages
 pub mod Texts
-pub mod Untimed
 pub mod Views

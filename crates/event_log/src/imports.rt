@@ -1,6 +1,6 @@
 //! Logs read as traces.
 
-ghost use Rattle.std.specs.Prelude.{◌≡◌, ◌<◌, [], Ok, IfErr, IfOk, length, unwrap_or};
+ghost use Rattle.std.specs.Prelude.{◌≡◌, ◌<◌, ◌≤◌, [], Err, Ok, IfErr, IfOk, length, unwrap_or};
 ghost use Rattle.timed_events.specs.Spreads.{IsTimed, IsTimedRefusal};
 ghost use Rattle.event_log.specs.Imports.{IsImportOf, IsLogRefusal, IsRead, IsReadRefusal, above_zero, clock_in, event_place, until_in, width_in};
 ghost use Rattle.event_log.specs.Logs.{seen_log};
@@ -16,6 +16,7 @@ use crate::times::{Moment, TimeKind, Width};
 use std::alloc::{AllocError, Global};
 use step_trace::Trace;
 use timed_events::{Clock, EventError, Moved, TimedTrace, trace_of_events};
+use trace_text::MAX_TEXT_BYTES;
 
 /// A log read as a trace.
 #[derive(Drop)]
@@ -31,11 +32,15 @@ pub struct Import {
 /// Reads a log as a trace: each event is one step, in the tick of its time or, where events may be spread, as little later
 /// as need be.
 ///
-/// Refuses in the order of `LogError`.
+/// Refuses in the order of `LogError`. Memory comes only for a text that isn't too large.
 pub fn read_log(alloc: Global, text: &[u8], options: &Options) -> Result<Import, LogError>
     ensures import { IfOk result (λ import. IsImportOf options.now text.now import) }
     ensures refused { IfErr result (λ why. IsLogRefusal options.now text.now why) }
+    ensures more { result ≡ Err LogError.Memory → length text.now ≤ MAX_TEXT_BYTES }
 {
+    if text.len() > MAX_TEXT_BYTES {
+        return Err(LogError::TooLarge);
+    }
     let log = events_by(alloc, text, options)?;
     let clock = clock_for(options, log.kind)?;
     match trace_of_log(alloc, &log, &clock, options.spread) {

@@ -1,6 +1,6 @@
 //! The events of a log.
 
-ghost use Rattle.std.specs.Prelude.{IfOk};
+ghost use Rattle.std.specs.Prelude.{◌≡◌, ◌≤◌, Err, IfOk, length};
 ghost use Rattle.trace_text.specs.Records.{GivesUnless};
 ghost use Rattle.event_log.specs.Logs.{events_in, seen_log};
 ghost use Rattle.event_log.specs.Naming.{is_memory};
@@ -13,6 +13,7 @@ use crate::refusals::LogError;
 use crate::times::TimeKind;
 use std::alloc::Global;
 use timed_events::Event;
+use trace_text::MAX_TEXT_BYTES;
 
 /// The events of a log, with numbers in place of names.
 #[derive(Drop)]
@@ -31,7 +32,7 @@ pub struct NamedEvents {
 /// There are 2 to 64 nodes, and at least one event, at most `MAX_EVENTS`.
 ///
 /// Refuses in the order of `LogError`. The first record that is refused for itself decides; where none is, the first whose
-/// names are refused.
+/// names are refused. Memory comes only for a text that isn't too large.
 pub fn events_of_log(
     alloc: Global,
     text: &[u8],
@@ -40,6 +41,7 @@ pub fn events_of_log(
 ) -> Result<NamedEvents, LogError>
     ensures exact { GivesUnless is_memory seen_log result (staged_log listed.entry nodes text.now) }
     ensures sound { IfOk result (λ log. IsSound (seen_log log)) }
+    ensures more { result ≡ Err LogError.Memory → length text.now ≤ MAX_TEXT_BYTES }
 {
     read_log(alloc, text, listed, nodes)
 }
@@ -50,7 +52,8 @@ fn read_log(
     listed: Option<&NameSet>,
     nodes: NameSet,
 ) -> Result<NamedEvents, LogError>
-    ensures { GivesUnless is_memory seen_log result (events_in listed.entry nodes text.now) }
+    ensures exact { GivesUnless is_memory seen_log result (events_in listed.entry nodes text.now) }
+    ensures more { result ≡ Err LogError.Memory → length text.now ≤ MAX_TEXT_BYTES }
 {
     let (kind, names) = read_names(alloc, text, listed, nodes)?;
     match names.into_events(alloc) {

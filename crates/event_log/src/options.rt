@@ -1,6 +1,6 @@
 //! How a log is read.
 
-ghost use Rattle.std.specs.Prelude.{◌≡◌, ◌∷◌, [], ◌++◌, IfErr, IfOk, IfSome, OnOk, option_map, true, false, None};
+ghost use Rattle.std.specs.Prelude.{◌≡◌, ◌∷◌, [], ◌++◌, Err, IfErr, IfOk, IfSome, IsSome, OnOk, option_map, true, false, None};
 ghost use Rattle.event_log.specs.Options.{AreNodes, AreNodesIn, AreOptions, HasBadNodes, HasBadTick, HasBadUntil, IsNodeFault, IsOptionFault, IsUntilIn, IsWidthIn, is_next_node, parts_between_commas};
 
 use crate::names::{MAX_NODES, NameSet, is_name};
@@ -36,7 +36,7 @@ pub enum OptionError {
 /// The options that texts tell: the nodes with one comma between each two; the length of a tick, which is 1 where it is left
 /// out; and when the log ends.
 ///
-/// Refuses in the order of `OptionError`.
+/// Refuses in the order of `OptionError`. Memory comes only where nodes are listed.
 pub fn read_options(
     alloc: Global,
     nodes: Option<&str>,
@@ -46,6 +46,7 @@ pub fn read_options(
 ) -> Result<Options, OptionError>
     ensures options { IfOk result (λ o. AreOptions (option_map (λ t. t.now) nodes.entry) (option_map (λ t. t.now) tick.entry) (option_map (λ t. t.now) until.entry) spread o) }
     ensures refused { IfErr result (λ why. IsOptionFault (option_map (λ t. t.now) nodes.entry) (option_map (λ t. t.now) tick.entry) (option_map (λ t. t.now) until.entry) why) }
+    ensures more { result ≡ Err OptionError.Memory → IsSome nodes.entry }
 {
     let nodes = listed_nodes(alloc, nodes)?;
     let Some(width) = told_width(tick) else {
@@ -66,6 +67,7 @@ pub fn read_options(
 fn listed_nodes(alloc: Global, text: Option<&str>) -> Result<Option<NameSet>, OptionError>
     ensures listed { IfOk result (λ nodes. AreNodesIn (option_map (λ t. t.now) text.entry) nodes) }
     ensures refused { IfErr result (IsNodeFault (HasBadNodes (option_map (λ t. t.now) text.entry))) }
+    ensures more { result ≡ Err OptionError.Memory → IsSome text.entry }
 {
     let Some(text) = text else {
         return Ok(None);

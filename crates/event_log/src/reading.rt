@@ -1,6 +1,6 @@
 //! The records of a log, taken in one after the other.
 
-ghost use Rattle.std.specs.Prelude.{◌≡◌, IfErr, IsTrue, OnOk};
+ghost use Rattle.std.specs.Prelude.{◌≡◌, ◌≤◌, Err, IfErr, IsTrue, OnOk, length};
 ghost use Rattle.csv.specs.Records.{fields_of};
 ghost use Rattle.trace_text.specs.Records.{GivesUnless, ReachesUnless, after_records, records_of_text};
 ghost use Rattle.event_log.specs.LogRecords.{said};
@@ -47,6 +47,7 @@ pub(crate) fn read_names(
     nodes: NameSet,
 ) -> Result<(TimeKind, Naming), LogError>
     ensures names { GivesUnless is_memory (λ x. x) result (named_of listed.entry nodes text.now) }
+    ensures more { result ≡ Err LogError.Memory → length text.now ≤ MAX_TEXT_BYTES }
 {
     if text.len() > MAX_TEXT_BYTES {
         return Err(LogError::TooLarge);

@@ -1,8 +1,9 @@
 //! The trace of events that may go to later ticks than those of their times.
 
-ghost use Rattle.std.specs.Prelude.{◌≡◌, ◌<◌, ◌≤◌, fold, length, max, true, IfErr, IfOk};
+ghost use Rattle.std.specs.Prelude.{◌≡◌, ◌<◌, ◌≤◌, fold, length, max, true, Err, IfErr, IfOk, None};
 ghost use Rattle.timed_events.specs.Checks.{AreMeant};
 ghost use Rattle.timed_events.specs.Spreads.{moved_of, IsTimed, IsTimedRefusal};
+ghost use Rattle.timed_events.specs.Times.{times_refusal};
 
 use crate::events::{Clock, Event, EventError};
 use crate::spread_ticks::spread_ticks;
@@ -35,7 +36,8 @@ pub struct TimedTrace {
 ///
 /// Asks for 2 to 64 processors, at least one event and at most `MAX_STEPS`, each of one of the processors and to one of
 /// them, and ticks that have a length. Refuses in the order of `EventError`; where events may be spread, none is refused as
-/// a second one in its tick, and TooManyTicks comes last where an event came too far.
+/// a second one in its tick, and TooManyTicks comes last where an event came too far. Memory comes only where the times
+/// aren't refused.
 pub fn trace_of_events(
     alloc: Global,
     n: u64,
@@ -51,6 +53,7 @@ pub fn trace_of_events(
     requires width { 0 < clock.now.width }
     ensures trace { IfOk result (λ timed. IsTimed spread n events.now clock.now timed) }
     ensures refused { IfErr result (λ why. IsTimedRefusal spread events.now clock.now why) }
+    ensures more { result ≡ Err EventError.Memory → times_refusal events.now clock.now ≡ None }
 {
     if spread {
         return spread_trace(alloc, n, events, clock);
@@ -78,6 +81,7 @@ fn spread_trace(
     requires width { 0 < clock.now.width }
     ensures trace { IfOk result (λ timed. IsTimed true n events.now clock.now timed) }
     ensures refused { IfErr result (λ why. IsTimedRefusal true events.now clock.now why) }
+    ensures more { result ≡ Err EventError.Memory → times_refusal events.now clock.now ≡ None }
 {
     let span = span_of(events, clock)?;
     let order = checked_order(alloc, events)?;

@@ -1,8 +1,8 @@
 //! The trace of events.
 
-ghost use Rattle.std.specs.Prelude.{◌≡◌, ◌<◌, ◌≤◌, ◌-◌, None, length, take, MatchResult, IfOk, OnOk, ℕ, slice_index};
+ghost use Rattle.std.specs.Prelude.{◌≡◌, ◌<◌, ◌≤◌, ◌-◌, Err, None, length, take, MatchResult, IfOk, OnOk, ℕ, slice_index};
 ghost use Rattle.step_trace.specs.Traces.{Recorded};
-ghost use Rattle.timed_events.specs.Times.{time_ticks, last_tick};
+ghost use Rattle.timed_events.specs.Times.{time_ticks, last_tick, times_refusal};
 ghost use Rattle.timed_events.specs.Checks.{events_refusal, AreMeant, IsEventRefusal};
 ghost use Rattle.timed_events.specs.TimedTraces.{IsAppended, HasSteps, IsTraceOf, AreFitting, setup_of, timed_refusal};
 
@@ -19,7 +19,8 @@ use step_trace::{Config, MAX_PROCESSORS, MAX_STEPS, MAX_TICKS, MIN_PROCESSORS, P
 /// its Send.
 ///
 /// Asks for 2 to 64 processors, at least one event and at most `MAX_STEPS`, each of one of the processors and to one of
-/// them, and ticks that have a length. Refuses in the order of `EventError`.
+/// them, and ticks that have a length. Refuses in the order of `EventError`; Memory comes only where the times aren't
+/// refused.
 pub fn trace_in_time(
     alloc: Global,
     n: u64,
@@ -34,6 +35,7 @@ pub fn trace_in_time(
     requires width { 0 < clock.now.width }
     ensures refused { MatchResult result (λ _. timed_refusal events.now clock.now ≡ None) (λ why. IsEventRefusal why (timed_refusal events.now clock.now)) }
     ensures trace { IfOk result (λ t. IsTraceOf n events.now (time_ticks events.now clock.now) (last_tick events.now clock.now) t) }
+    ensures more { result ≡ Err EventError.Memory → times_refusal events.now clock.now ≡ None }
 {
     let span = span_of(events, clock)?;
     let ticks = ticks_of(alloc, events, clock, span.least)?;

@@ -1,8 +1,21 @@
-use Rattle.std.proofs.Common.{refl, sym}
+use Rattle.std.proofs.Common.{inl, refl, sym}
+use Rattle.std.proofs.lemmas.Result.{err_from_is_err_and}
 use Rattle.event_log.specs.Imports.{error_of}
 use Rattle.event_log.specs.Logs.{seen_log}
-use Rattle.event_log.proofs.Untimed.{untimed-refusal}
+use Rattle.event_log.proofs.LogRefusals.{large-text, unfit-refusal, untimed-refusal}
 use Rattle.event_log.proofs.imports.read_log.Goals as goal
+
+pub returns-then-text-gt-MAX_TEXT_BYTES-clause-refused : goal.returns-then-text-gt-MAX_TEXT_BYTES-clause-refused
+returns-then-text-gt-MAX_TEXT_BYTES-clause-refused c = inl (large-text c.args.options.now c.args.text.now c.if-text-gt-MAX_TEXT_BYTES.true)
+
+pub returns-in_err-clock-clause-refused : goal.returns-in_err-clock-clause-refused
+returns-in_err-clock-clause-refused c =
+    let p = err_from_is_err_and c.from_residual-in_err-clock.result c.from_residual-in_err-clock.ensures.1 in
+    rw (p.1, p.2) (unfit-refusal c.args.options.now c.args.text.now c.in_err-clock.field-0.0 (record {
+      log = seen_log c.in_ok-log.log;
+      read = c.in_ok-log.ensures.read;
+      unfit = sym c.in_err-clock.ensures.clock;
+    }))
 
 pub returns-in-Err-clause-refused : goal.returns-in-Err-clause-refused
 returns-in-Err-clause-refused c =

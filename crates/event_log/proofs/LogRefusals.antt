@@ -1,0 +1,58 @@
+-- Why a log is refused: for its text, for options that don't fit its times, or for its events.
+use Rattle.std.proofs.Common.{◌≡◌, ◌<◌, ◌⊎◌, ℕ, List, length, Bool, true, false, Option, Some, None, Err, inl, inr, refl, arith}
+use Rattle.std.specs.Prelude.{nat_le, option_map, ⊤, MatchBool}
+use Rattle.std.specs.Borrow.{Bor}
+use Rattle.std.proofs.lemmas.Bool.Decides.{nat_tests}
+use Rattle.trace_text.specs.declared.byte_loops.TheConstants.{MAX_TEXT_BYTES}
+use Rattle.event_log.specs.declared.options.Options.{Options}
+use Rattle.event_log.specs.declared.refusals.LogError.{LogError}
+use Rattle.event_log.specs.declared.refusals.LogError.TheVariants.{TooLarge, NoColumn, TwoColumns, TooManyEvents, BadFields, BadTime, BadEvent, BadNode, BadMessage, NoEvents, TooManyNodes, SentBefore, TooFewNodes, TickUnfit, UntilUnfit, TooManyTicks, NeverSent, WrongReceiver, ReceivedBefore, NotLater, SecondEvent, Memory}
+use Rattle.event_log.specs.Imports.{IsLogRefusal, IsRead, IsUnfit, IsUntimed}
+use Rattle.event_log.specs.Naming.{IsUnless, is_memory}
+
+-- any refusal but want of memory
+refusal-unless_memory : (o : Options) (text : List ℕ) (why : LogError) → (is_memory why ≡ false → IsRead o text (Err why) ⊎ (IsUnfit o text why ⊎ IsUntimed o text why)) → IsLogRefusal o text why
+refusal-unless_memory o text Memory f = tt
+refusal-unless_memory o text TooLarge f = f refl
+refusal-unless_memory o text (NoColumn column) f = f refl
+refusal-unless_memory o text (TwoColumns column) f = f refl
+refusal-unless_memory o text TooManyEvents f = f refl
+refusal-unless_memory o text (BadFields n) f = f refl
+refusal-unless_memory o text (BadTime n) f = f refl
+refusal-unless_memory o text (BadEvent n) f = f refl
+refusal-unless_memory o text (BadNode n) f = f refl
+refusal-unless_memory o text (BadMessage n) f = f refl
+refusal-unless_memory o text NoEvents f = f refl
+refusal-unless_memory o text (TooManyNodes n) f = f refl
+refusal-unless_memory o text (SentBefore n message) f = f refl
+refusal-unless_memory o text TooFewNodes f = f refl
+refusal-unless_memory o text TickUnfit f = f refl
+refusal-unless_memory o text UntilUnfit f = f refl
+refusal-unless_memory o text TooManyTicks f = f refl
+refusal-unless_memory o text (NeverSent n message) f = f refl
+refusal-unless_memory o text (WrongReceiver n message node) f = f refl
+refusal-unless_memory o text (ReceivedBefore n message) f = f refl
+refusal-unless_memory o text (NotLater n message hint) f = f refl
+refusal-unless_memory o text (SecondEvent n node tick hint) f = f refl
+
+due : (t : Bool) (why e : LogError) → t ≡ false → MatchBool t ⊤ (why ≡ e) → why ≡ e
+due true why e n h = absurd (cc)
+due false why e n h = h
+
+pub untimed-refusal : (o : Options) (text : List ℕ) (why e : LogError) → IsUnless is_memory why e → (why ≡ e → IsUntimed o text why) → IsLogRefusal o text why
+untimed-refusal o text why e h f = refusal-unless_memory o text why (λ n. inr (inr (f (due (is_memory why) why e n h))))
+
+pub unfit-refusal : (o : Options) (text : List ℕ) (why : LogError) → IsUnfit o text why → IsLogRefusal o text why
+unfit-refusal o text why h = refusal-unless_memory o text why (λ n. inr (inl h))
+
+-- listed nodes, as they are lent
+lent : (nodes : Option (List (List ℕ))) → (lent : Option (Bor (List (List ℕ)))) × (option_map (λ n. n.now) lent ≡ nodes)
+lent None = (None, refl)
+lent (Some nodes) = (Some (record { ref_ptr = (0, 0); now = nodes }), refl)
+
+-- a text that is too large is refused for that
+pub large-text : (o : Options) (text : List ℕ) → MAX_TEXT_BYTES < length text → IsRead o text (Err TooLarge)
+large-text o text h =
+    let e : nat_le (length text) MAX_TEXT_BYTES ≡ false = grind (arith, nat_tests) in
+    let listed = lent o.nodes in
+    record { listed = listed.0; same = listed.1; staged = rw e refl }
