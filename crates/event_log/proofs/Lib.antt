@@ -4,7 +4,9 @@ pub mod ListedNodes
 pub mod LogRefusals
 pub mod MeantEvents
 pub mod MessageNames
+pub mod OneImport
 pub mod RecordPlaces
+pub mod SeenEvents
 pub mod SoundLogs
 pub mod Stages
 pub mod Texts

@@ -6,6 +6,7 @@ mod columns;
 mod event_refusals;
 mod events;
 mod imports;
+mod laws;
 mod logs;
 mod message_names;
 mod names;
@@ -19,6 +20,7 @@ mod times;
 
 pub use columns::Column;
 pub use imports::{Import, read_log};
+pub use laws::log_laws;
 pub use logs::{NamedEvents, events_of_log};
 pub use names::{Name, NameSet};
 pub use options::{OptionError, Options, read_options};

@@ -1,0 +1,113 @@
+-- A text and options have one import.
+use Rattle.std.proofs.Common.{ℕ, ◌≡◌, ◌∙◌, ◌+◌, Bool, List, [], ◌∷◌, length, map, Option, Some, None, Result, Ok, Err, cond, refl, sym, ap, ap₂, subst}
+use Rattle.std.specs.Prelude.{◌&&◌, ◌==◌, nat_le, option_map, unwrap_or}
+use Rattle.std.specs.Option.{ok_or}
+use Rattle.std.specs.Borrow.{Bor}
+use Rattle.step_trace.specs.Traces.{Recorded}
+use Rattle.timed_events.specs.declared.spread_traces.Moved.{Moved}
+use Rattle.timed_events.specs.declared.spread_traces.TimedTrace.{TimedTrace}
+use Rattle.timed_events.specs.Spreads.{IsTimed}
+use Rattle.timed_events.proofs.OneSpread.{IsTimed-unique}
+use Rattle.trace_text.specs.Records.{◌>>=◌, field_of, records_of_text}
+use Rattle.trace_text.specs.declared.byte_loops.TheConstants.{MAX_TEXT_BYTES}
+use Rattle.event_log.specs.declared.columns.Columns.{Columns}
+use Rattle.event_log.specs.declared.imports.Import.{Import}
+use Rattle.event_log.specs.declared.options.Options.{Options}
+use Rattle.event_log.specs.declared.reading.TheConstants.{MAX_EVENTS}
+use Rattle.event_log.specs.declared.records.Verb.{Verb}
+use Rattle.event_log.specs.declared.records.Verb.TheVariants as verb
+use Rattle.event_log.specs.declared.refusals.LogError.{LogError}
+use Rattle.event_log.specs.declared.refusals.LogError.TheVariants.{BadFields, BadTime, BadEvent, BadNode, BadMessage, TooLarge, TooManyEvents}
+use Rattle.event_log.specs.declared.times.TimeKind.{TimeKind}
+use Rattle.event_log.specs.Columns.{columns_of}
+use Rattle.event_log.specs.Events.{seen}
+use Rattle.event_log.specs.Imports.{IsImportOf, IsRead, clock_in}
+use Rattle.event_log.specs.LogRecords.{Said, accepted, are_messages, are_nodes_by, is_node, moment_as, said_by, said_of, verb_of}
+use Rattle.event_log.specs.Logs.{SeenLog, resolved_log}
+use Rattle.event_log.specs.Names.{has_name}
+use Rattle.event_log.specs.Stages.{header_stage, names_stage, rules, says_of, staged_log, with_said}
+use Rattle.event_log.proofs.SeenEvents.{timed-as-seen}
+
+-- steps that go on in the same way
+then-same : {A B : Type 0} (r : Result A LogError) (f g : A → Result B LogError) → ((x : A) → f x ≡ g x) → r >>= f ≡ r >>= g
+then-same (Ok x) f g h = h x
+then-same (Err e) f g h = refl
+
+unless-same : {A : Type 0} (t : Bool) (e : LogError) (r q : Result A LogError) → r ≡ q → cond t (Err e) r ≡ cond t (Err e) q
+unless-same t e r q h = ap (cond t (Err e)) h
+
+-- whether a node may be named goes by the listed names alone
+node-same : (a b : Option (Bor (List (List ℕ)))) (name : List ℕ) → option_map (λ nodes. nodes.now) a ≡ option_map (λ nodes. nodes.now) b → is_node a name ≡ is_node b name
+node-same None None name h = refl
+node-same None (Some b) name h = absurd (cc)
+node-same (Some a) None name h = absurd (cc)
+node-same (Some a) (Some b) name h = let same : a.now ≡ b.now = cc in ap (λ names. has_name names name) same
+
+module _ (a b : Option (Bor (List (List ℕ)))) (same : option_map (λ nodes. nodes.now) a ≡ option_map (λ nodes. nodes.now) b) where
+  nodes-same : (v : Verb) (s : Said) → are_nodes_by v a s ≡ are_nodes_by v b s
+  nodes-same verb.Send s = ap₂ (λ t u. t && u) (node-same a b s.node same) (node-same a b s.to same)
+  nodes-same verb.Receive s = node-same a b s.node same
+
+  accepted-same : (number : ℕ) (s : Said) → accepted a number s ≡ accepted b number s
+  accepted-same number s = ap (λ t. cond t (cond (are_messages s) (Ok s) (Err (BadMessage number))) (Err (BadNode number))) (nodes-same s.verb s)
+
+  said-same : (columns : Columns) (kind : Option TimeKind) (number : ℕ) (fields : List (List ℕ)) → said_of (rules columns kind a) number fields ≡ said_of (rules columns kind b) number fields
+  said-same columns kind number fields =
+      ap (λ r. cond (length fields == columns.fields) r (Err (BadFields number)))
+      (then-same (ok_or (moment_as kind (field_of fields columns.time)) (BadTime number)) _ _ (λ moment.
+      then-same (ok_or (verb_of (field_of fields columns.event)) (BadEvent number)) _ _ (λ v.
+      accepted-same number (said_by columns moment v fields))))
+
+  says-same : (columns : Columns) (kind : Option TimeKind) (place : ℕ) (records : List (List (List ℕ))) → says_of columns a kind place records ≡ says_of columns b kind place records
+  unfolding says_of
+  says-same columns kind place [] = refl
+  says-same columns kind place (fields ∷ more) =
+      unless-same (nat_le MAX_EVENTS place) TooManyEvents _ _
+      (ap (λ r. r >>= λ s. says_of columns a (Some s.moment.kind) (place + 1) more >>= λ r. with_said s r) (said-same columns kind (place + 2) fields)
+      ∙ then-same (said_of (rules columns kind b) (place + 2) fields) _ _ (λ s. ap (λ r. r >>= λ r. with_said s r) (says-same columns (Some s.moment.kind) (place + 1) more)))
+
+  header-same : (nodes : List (List ℕ)) (records : List (List (List ℕ))) → header_stage a nodes records ≡ header_stage b nodes records
+  header-same nodes [] = refl
+  header-same nodes (header ∷ more) = then-same (columns_of header) _ _ (λ columns. ap (λ r. r >>= λ r. names_stage nodes r) (says-same columns None 0 more))
+
+  staged-same : (nodes : List (List ℕ)) (text : List ℕ) → staged_log a nodes text ≡ staged_log b nodes text
+  staged-same nodes text =
+      ap (λ r. cond (nat_le (length text) MAX_TEXT_BYTES) (r >>= λ r. Ok (resolved_log r.0 r.1)) (Err TooLarge)) (header-same nodes (records_of_text text))
+
+-- a text tells one list of events, or is refused for one reason
+pub IsRead-unique : (o : Options) (text : List ℕ) (a b : Result SeenLog LogError) → IsRead o text a → IsRead o text b → a ≡ b
+IsRead-unique o text a b s t = sym s.staged ∙ staged-same s.listed t.listed (s.same ∙ sym t.same) (unwrap_or o.nodes []) text ∙ t.staged
+
+same-Ok : {A : Type 0} {x y : A} → ◌≡◌ {A = Result A LogError} (Ok x) (Ok y) → x ≡ y
+same-Ok e = cc e
+
+same-import : (a b : Import) → a.trace ≡ b.trace → a.nodes ≡ b.nodes → a.moved ≡ b.moved → a ≡ b
+same-import a b t n m =
+    ap₂ (λ (trace : Recorded) (nodes : List (List ℕ)). let z : Import = record { trace = trace; nodes = nodes; moved = a.moved } in z) t n
+    ∙ ap (λ (moved : Moved). let z : Import = record { trace = b.trace; nodes = b.nodes; moved = moved } in z) m
+
+pub IsImportOf-unique : (o : Options) (text : List ℕ) (a b : Import) → IsImportOf o text a → IsImportOf o text b → a ≡ b
+IsImportOf-unique o text a b s t = same-import a b (ap (λ x. x.trace) timed) (s.nodes ∙ ap (λ l. l.nodes) log ∙ sym t.nodes) (ap (λ x. x.moved) timed) where
+  log : s.log ≡ t.log
+  log = same-Ok (IsRead-unique o text (Ok s.log) (Ok t.log) s.told.read t.told.read)
+
+  clock : s.clock ≡ t.clock
+  clock = same-Ok (sym s.told.fits ∙ ap (λ l. clock_in o l.kind) log ∙ t.told.fits)
+
+  events : map seen t.events ≡ map seen s.events
+  events = t.told.same ∙ sym (ap (λ l. l.events) log) ∙ sym s.told.same
+
+  A : TimedTrace
+  A = record { trace = a.trace; moved = a.moved }
+
+  B : TimedTrace
+  B = record { trace = b.trace; moved = b.moved }
+
+  other : IsTimed o.spread (length s.log.nodes) s.events s.clock B
+  other =
+      subst (λ l. IsTimed o.spread (length l.nodes) s.events s.clock B) (sym log)
+      (subst (λ c. IsTimed o.spread (length t.log.nodes) s.events c B) (sym clock)
+      (timed-as-seen t.events s.events events o.spread (length t.log.nodes) t.clock B t.timed))
+
+  timed : A ≡ B
+  timed = IsTimed-unique o.spread (length s.log.nodes) s.events s.clock A B s.timed other
