@@ -1,19 +1,18 @@
 -- Events ranked by their times pass their tests in the ticks to which they are spread.
-use Rattle.std.proofs.Common.{ℕ, ◌≡◌, ◌+◌, ◌<◌, ◌≤◌, ◌⊎◌, inl, inr, Bool, true, false, cond, List, [], ◌∷◌, length, Option, Some, None, zero, suc, refl, sym, ap, ◌∙◌, subst, arith, ne_eqb}
-use Rattle.std.specs.Prelude.{◌==◌, if◌then◌else◌, option_map, slice_index, slice_index_or, nat_lt}
+use Rattle.std.proofs.Common.{ℕ, ◌≡◌, ◌+◌, ◌<◌, ◌≤◌, ◌⊎◌, inl, inr, Bool, true, false, cond, List, [], ◌∷◌, length, Option, Some, None, zero, suc, refl, sym, ap, ◌∙◌, subst, arith}
+use Rattle.std.specs.Prelude.{slice_index, slice_index_or, nat_lt}
 use Rattle.std.specs.List.{list_any}
-use Rattle.std.specs.Option.{option_or}
 use Rattle.std.proofs.lemmas.Bool.{cases_eq, or_cases, lt-ltb}
 use Rattle.step_trace.specs.declared.configurations.TheConstants.{MAX_PROCESSORS}
 use Rattle.timed_events.specs.declared.events.Event.{Event}
 use Rattle.timed_events.specs.declared.events.EventError.{EventError}
 use Rattle.timed_events.specs.declared.events.EventError.TheVariants.{UntilTooEarly, TooManyTicks, NeverSent, WrongReceiver, ReceivedBefore, NotLater, SecondEvent, Memory}
 use Rattle.timed_events.specs.Orders.{AreNumbers}
-use Rattle.timed_events.specs.Checks.{is_message, processor_at, messages_at, is_for, was_received, late_hint, message_refusal, messages_refusal, second_refusal, event_refusal, events_refusal, moment_of, moment_at, earlier_at, apart_hint, AreOfProcessors, IsEventRefusal}
+use Rattle.timed_events.specs.Checks.{is_message, processor_at, messages_at, is_for, was_received, late_hint, message_refusal, messages_refusal, events_refusal, moment_of, moment_at, AreOfProcessors, HaveOwnMoments, IsEventRefusal}
 use Rattle.timed_events.specs.Spreads.{is_earlier, AreRanks, AreLeast, AreSentBefore, IsTimeOrder, IsRankedRefusal, IsOrderRefusal}
 use Rattle.timed_events.proofs.Firsts.{first_of-each, first_of-from_each}
 use Rattle.timed_events.proofs.Messages.{is_for-inside}
-use Rattle.timed_events.proofs.PassedEvents.{passed-event}
+use Rattle.timed_events.proofs.PassedEvents.{own-passed, passed-event}
 use Rattle.timed_events.proofs.EarlierEvents.{earlier-other}
 use Rattle.timed_events.proofs.FittingEvents.{named-may, names-message}
 use Rattle.timed_events.proofs.GreatestTicks.{is-message}
@@ -80,16 +79,21 @@ messages-none : (events : List Event) (ticks : List ℕ) (i : ℕ) → ((k : ℕ
 unfolding messages_refusal
 messages-none events ticks i h = first_of-from_each (λ k. message_refusal events ticks (was_received events i k) i k (slice_index_or (messages_at events i) k None)) (length (messages_at events i)) h
 
-second-none : (events : List Event) (ticks : List ℕ) (i : ℕ) → ((j : ℕ) → j < i → ¬ (moment_at events ticks j ≡ moment_at events ticks i)) → second_refusal events ticks i ≡ None
-unfolding second_refusal earlier_at
-second-none events ticks i h = ap (option_map (λ j. SecondEvent i (slice_index_or ticks i 0) (apart_hint events j i))) (first_of-from_each (λ j. if moment_at events ticks j == moment_at events ticks i then Some j else None) i (λ k l. ap (λ b. cond b (Some k) None) (ne_eqb (moment_at events ticks k) (moment_at events ticks i) (h k l))))
-
-events-none : (events : List Event) (ticks : List ℕ) → ((i : ℕ) → i < length events → event_refusal events ticks i ≡ None) → events_refusal events ticks ≡ None
-unfolding events_refusal
-events-none events ticks h = first_of-from_each (event_refusal events ticks) (length events) h
-
 moment-parts : (t u p q : ℕ) → (1 ≤ p) × (p ≤ MAX_PROCESSORS) → (1 ≤ q) × (q ≤ MAX_PROCESSORS) → moment_of t p ≡ moment_of u q → (t ≡ u) × (p ≡ q)
 moment-parts t u p q a b e = let x = a.0 in let y = a.1 in let z = b.0 in let w = b.1 in (omega arith, omega arith)
+
+-- by ranks no two events have one moment
+pub ranked-moments : (events : List Event) (ranks : List ℕ) → AreOfProcessors events → AreRanks events ranks → HaveOwnMoments events ranks
+ranked-moments events ranks o r j i b l e = go (earlier-other events j i (λ q. omega arith)) where
+  inside : j < length events
+  inside = omega arith
+
+  same : slice_index ranks j ≡ slice_index ranks i
+  same = (moment-parts (slice_index ranks j) (slice_index ranks i) (processor_at events j) (processor_at events i) (o j inside) (o i l) e).0
+
+  go : (is_earlier events j i ≡ true) ⊎ (is_earlier events i j ≡ true) → ⊥
+  go (inl x) = let up = r.rising j i inside l x in let s = same in omega arith
+  go (inr x) = let up = r.rising i j l inside x in let s = same in omega arith
 
 module _ (events : List Event) (own ticks : List ℕ) (p : IsRankedRefusal events None) (o : AreOfProcessors events) (h : AreLeast events own ticks) where
   passes-messages : (i : ℕ) → i < length events → messages_refusal events ticks i ≡ None
@@ -114,7 +118,7 @@ module _ (events : List Event) (own ticks : List ℕ) (p : IsRankedRefusal event
 
   -- no event is refused in the ticks to which they are spread
   pub passes-spread : events_refusal events ticks ≡ None
-  passes-spread = events-none events ticks (λ i l. ap (λ r. option_or r (second_refusal events ticks i)) (passes-messages i l) ∙ second-none events ticks i (λ j b. moments-differ j i b l))
+  passes-spread = own-passed events ticks passes-messages moments-differ
 
 -- a reason that the tests by ranks give, or want of memory
 pub order-refused : (events : List Event) (ranks : List ℕ) (e : EventError) → AreRanks events ranks → IsEventRefusal e (events_refusal events ranks) → IsOrderRefusal events e

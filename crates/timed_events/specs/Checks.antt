@@ -98,6 +98,10 @@ pub record IsMeantAt (events : List Event) (n i : ℕ) : Type 0 where
 abbrev pub AreMeant : List Event → ℕ → Type 0
 AreMeant events n = (i : ℕ) → i < length events → IsMeantAt events n i
 
+-- no two events have one moment
+abbrev pub HaveOwnMoments : List Event → List ℕ → Type 0
+HaveOwnMoments events ticks = (j i : ℕ) → j < i → i < length events → ¬ (moment_at events ticks j ≡ moment_at events ticks i)
+
 -- the first event before i at this moment
 unfoldable pub earlier_at : List Event → List ℕ → ℕ → ℕ → Option ℕ
 earlier_at events ticks i moment = first_of (λ j. if moment_at events ticks j == moment then Some j else None) i

@@ -55,7 +55,7 @@ fn is_meant(events: &[Event], place: usize, n: u64) -> bool
 }
 
 /// Tests the messages of the event at `place`, and marks them as taken.
-fn take_messages(
+pub(crate) fn take_messages(
     events: &[Event],
     ticks: &[u32],
     place: usize,

@@ -5,6 +5,7 @@ mod checks;
 mod events;
 mod laws;
 mod orders;
+mod passing;
 mod spread_ticks;
 mod spread_traces;
 mod steps;

@@ -4,11 +4,12 @@ ghost use Rattle.std.specs.Prelude.{◌≡◌, ◌<◌, ◌≤◌, ◌-◌, Err,
 ghost use Rattle.step_trace.specs.Traces.{Recorded};
 ghost use Rattle.timed_events.specs.Times.{time_ticks, last_tick, times_refusal};
 ghost use Rattle.timed_events.specs.Checks.{events_refusal, AreMeant, IsEventRefusal};
+ghost use Rattle.timed_events.specs.Orders.{IsOrder};
 ghost use Rattle.timed_events.specs.TimedTraces.{IsAppended, HasSteps, IsTraceOf, AreFitting, setup_of, timed_refusal};
 
-use crate::checks::check_events;
 use crate::events::{Clock, Event, EventError};
-use crate::orders::{numbers_of, order_of};
+use crate::orders::{numbers_of, order_of, sorted_events};
+use crate::passing::pass_events;
 use crate::steps::step_at;
 use crate::times::{span_of, ticks_of};
 use std::alloc::Global;
@@ -39,8 +40,9 @@ pub fn trace_in_time(
 {
     let span = span_of(events, clock)?;
     let ticks = ticks_of(alloc, events, clock, span.least)?;
-    check_events(alloc, events, &ticks)?;
-    trace_of_ticks(alloc, n, events, &ticks, span.last)
+    let sorted = sorted_events(alloc, events, &ticks)?;
+    pass_events(alloc, events, &ticks, sorted.apart)?;
+    trace_in_order(alloc, n, events, &ticks, &sorted.order, span.last)
 }
 
 /// The trace of the events in these ticks, up to the tick `last`.
@@ -68,8 +70,36 @@ pub(crate) fn trace_of_ticks(
     ensures refused { MatchResult result (λ _. Unit {0}) (λ why. IsEventRefusal why None) }
 {
     let order = order_of(alloc, events, ticks)?;
-    let numbers = numbers_of(alloc, &order)?;
-    let mut trace = trace_of_steps(alloc, n, events, ticks, &order, &numbers)?;
+    trace_in_order(alloc, n, events, ticks, &order, last)
+}
+
+/// The trace of the events in these ticks, up to the tick `last`, by their order.
+///
+/// Asks for the same as `trace_of_ticks`. Refuses only for want of memory.
+fn trace_in_order(
+    alloc: Global,
+    n: u64,
+    events: &[Event],
+    ticks: &[u32],
+    order: &[u32],
+    last: u64,
+) -> Result<Trace, EventError>
+    requires least { MIN_PROCESSORS ≤ n }
+    requires most { n ≤ MAX_PROCESSORS }
+    requires some { 0 < length events.now }
+    requires few { length events.now ≤ MAX_STEPS }
+    requires meant { AreMeant events.now n }
+    requires ticks { length ticks.now ≡ length events.now }
+    requires passed { events_refusal events.now ticks.now ≡ None }
+    requires first { (i : ℕ) → i < length events.now → 1 ≤ slice_index ticks.now i }
+    requires within { (i : ℕ) → i < length events.now → slice_index ticks.now i ≤ last }
+    requires last { last ≤ MAX_TICKS }
+    requires ordered { IsOrder events.now ticks.now order.now }
+    ensures trace { IfOk result (λ t. IsTraceOf n events.now ticks.now last t) }
+    ensures refused { MatchResult result (λ _. Unit {0}) (λ why. IsEventRefusal why None) }
+{
+    let numbers = numbers_of(alloc, order)?;
+    let mut trace = trace_of_steps(alloc, n, events, ticks, order, &numbers)?;
     match trace.idle_to(last) {
         Ok(()) => Ok(trace),
         Err(_) => unreachable!(),
