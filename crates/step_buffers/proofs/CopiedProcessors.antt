@@ -1,13 +1,10 @@
 -- Copies of what is kept of processors: they serve for whatever traces the processors served for.
 use Rattle.std.proofs.Common.{ℕ, suc, ◌≡◌, inl, inr, List, [], ◌∷◌, ◌++◌, length, Some, ap, ◌∙◌, subst}
-use Rattle.std.specs.Prelude.{slice_get, Contains}
-use Rattle.std.specs.BinaryHeap.{heap_items}
-use Rattle.std.specs.List.Sorted.{IsPermutation}
+use Rattle.std.specs.Prelude.{slice_get}
 use Rattle.step_trace.specs.declared.steps.Step.{Step}
 use Rattle.step_trace.specs.Configurations.{Setup}
 use Rattle.step_buffers.specs.declared.processors.Processor.{Processor}
-use Rattle.step_buffers.specs.InboxRounds.{Entry}
-use Rattle.step_buffers.specs.Inboxes.{kept_ids}
+use Rattle.step_buffers.specs.Inboxes.{IsMoved}
 use Rattle.step_buffers.specs.Worlds.{IsProcessor, Serves, AreProcessors}
 use Rattle.step_buffers.proofs.KeptInboxes.{IsInbox-moved}
 use Rattle.step_buffers.proofs.Openings.{slice_get-push}
@@ -19,15 +16,14 @@ pub record IsAlike (x y : Processor) : Type 0 where
   pub node : y.node ≡ x.node
   pub since : y.since ≡ x.since
   pub buffer : y.buffer.items ≡ x.buffer.items
-  pub inbox : IsPermutation (kept_ids x.inbox) (kept_ids y.inbox)
-  pub entries : (e : Entry) → Contains (heap_items y.inbox.later) e → Contains (heap_items x.inbox.later) e
+  pub inbox : IsMoved x.inbox y.inbox.near y.inbox.later
   pub said : y.said ≡ x.said
 
 pub IsProcessor-alike : (c : Setup) (steps : List Step) (p : ℕ) (x y : Processor) → IsAlike x y → IsProcessor c steps p x → IsProcessor c steps p y
 IsProcessor-alike c steps p x y like is = record {
   stands = rw (like.round, like.last, like.node, like.since, like.said) is.stands;
   buffer = like.buffer ∙ is.buffer;
-  inbox = rw like.round (IsInbox-moved steps p x.round _ _ _ _ like.inbox like.entries is.inbox);
+  inbox = rw like.round (IsInbox-moved steps p x.round x.inbox _ _ like.inbox is.inbox);
 }
 
 -- each of the copies stands in the place of what it serves for

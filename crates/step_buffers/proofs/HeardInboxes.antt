@@ -29,7 +29,7 @@ use Rattle.lock_phases.specs.NodeFunctions.{out, next}
 use Rattle.round_model.specs.RoundStates.{processors, state_after, messages_heard}
 use Rattle.step_buffers.specs.HeardTables.{passed, before, round_at, heard_table}
 use Rattle.step_buffers.specs.Runs.{node_at, body_of, IsSend}
-use Rattle.step_buffers.specs.InboxRounds.{Entry, ids_of}
+use Rattle.step_buffers.specs.Inboxes.{Entry, ids_of}
 use Rattle.step_buffers.specs.NextSteps.{receiving}
 use Rattle.step_buffers.specs.Worlds.{IsInbox, IsLetter, AreLetters}
 use Rattle.step_buffers.proofs.StepPrefixes.{passed-before, round_at-prefix}

@@ -25,8 +25,7 @@ use Rattle.std.proofs.lemmas.List.Elements.{All-contains, Contains-append_left, 
 use Rattle.std.proofs.lemmas.List.Sorted.{IsPermutation-sym, Contains-permutation}
 use Rattle.step_trace.proofs.FittingSteps.{Fits-from_well_formed}
 use Rattle.step_trace.proofs.ListMembers.{Contains-nil, Contains-filter, Contains-from_filter, Contains-map, Contains-from_map}
-use Rattle.step_buffers.specs.InboxRounds.{Entry, ids_of, kept_of}
-use Rattle.step_buffers.specs.Inboxes.{is_ahead, ahead, IsEntered}
+use Rattle.step_buffers.specs.Inboxes.{Entry, ids_of, kept_of, is_ahead, ahead, IsEntered, Held, kept_ids, IsMoved}
 
 -- a step of p took message s
 pub record IsTakenBy (steps : List Step) (p s : ℕ) : Type 0 where
@@ -127,15 +126,14 @@ later-kept : (near : List ℕ) (later : List Entry) (e : Entry) → Contains lat
 later-kept near later e d = Contains-append_right near (ids_of later) e.0.1 (Contains-map (λ (y : Entry). y.0.1) later e d)
 
 -- messages that are moved about in an inbox, none of them to those for later
-pub IsInbox-moved : (steps : List Step) (p r : ℕ) (near new_near : List ℕ) (later new_later : List Entry)
-    → IsPermutation (kept_of near later) (kept_of new_near new_later) → ((e : Entry) → Contains new_later e → Contains later e)
-    → IsInbox steps p r near later → IsInbox steps p r new_near new_later
-IsInbox-moved steps p r near new_near later new_later same less is = record {
+pub IsInbox-moved : (steps : List Step) (p r : ℕ) (x : Held) (near : List ℕ) (later : List Entry)
+    → IsMoved x near later → IsInbox steps p r x.near x.later → IsInbox steps p r near later
+IsInbox-moved steps p r x near later moved is = record {
   ids = λ s. (
-    λ d. (is.ids s).0 (Contains-permutation (kept_of new_near new_later) (kept_of near later) s (IsPermutation-sym _ _ same) d),
-    λ k. Contains-permutation (kept_of near later) (kept_of new_near new_later) s same ((is.ids s).1 k),
+    λ d. (is.ids s).0 (Contains-permutation (kept_of near later) (kept_ids x) s (IsPermutation-sym _ _ moved.same) d),
+    λ k. Contains-permutation (kept_ids x) (kept_of near later) s moved.same ((is.ids s).1 k),
   );
-  entries = λ e d. is.entries e (less e d);
+  entries = λ e d. is.entries e (moved.entries e d);
 }
 
 -- no messages

@@ -1,5 +1,5 @@
 -- What is kept of the processors, as the trace grows by a step.
-use Rattle.std.proofs.Common.{ℕ, zero, suc, ◌≡◌, ◌≢◌, ◌+◌, ◌-◌, ◌≤◌, ◌⊎◌, inl, inr, List, [], ◌∷◌, ◌++◌, length, get_or, heap_items, Option, Some, None, Bool, true, false, ◌==◌, ◌&&◌, refl, sym, ap, ◌∙◌, subst, arith}
+use Rattle.std.proofs.Common.{ℕ, zero, suc, ◌≡◌, ◌≢◌, ◌+◌, ◌-◌, ◌≤◌, ◌⊎◌, inl, inr, List, [], ◌∷◌, ◌++◌, length, get_or, Option, Some, None, Bool, true, false, ◌==◌, ◌&&◌, refl, sym, ap, ◌∙◌, subst, arith}
 use Rattle.std.specs.Prelude.{slice_get, slice_set}
 use Rattle.std.proofs.Math.Bool.{and-false}
 use Rattle.std.proofs.lemmas.Bool.{ne_eqb}
@@ -136,7 +136,7 @@ AreProcessors-room c steps kept p z room low are at same =
 record IsPosted (c : Setup) (steps : List Step) (p to q : ℕ) (x : Processor) : Type 0 where
   pub stands : IsStanding c steps q x.round x.node x.since x.last x.said
   pub buffer : x.buffer.items ≡ buffer (steps ++ sending p to ∷ []) q
-  pub inbox : IsInbox (steps ++ sending p to ∷ []) q x.round x.inbox.near.items (heap_items x.inbox.later)
+  pub inbox : IsInbox (steps ++ sending p to ∷ []) q x.round x.inbox.near x.inbox.later
 
 -- the processors after a Send: the message is in the receiver's buffer, and its sender knows where it sent last
 pub AreProcessors-sent : (c : Setup) (steps : List Step) (p to : ℕ) (kept : List Processor) (receiver sender : Processor) (waiting : Queue) (said : Option Letter)
@@ -170,7 +170,7 @@ AreProcessors-sent c steps p to kept receiver sender waiting said w is due are a
     dest : IsProc c to
     dest = IsProc-next_send c steps p to due
 
-    stays : (q : ℕ) (z : Processor) → IsProcessor c steps q z → IsInbox (steps ++ sending p to ∷ []) q z.round z.inbox.near.items (heap_items z.inbox.later)
+    stays : (q : ℕ) (z : Processor) → IsProcessor c steps q z → IsInbox (steps ++ sending p to ∷ []) q z.round z.inbox.near z.inbox.later
     stays q z before = IsInbox-stays c steps (sending p to) q z.round _ _ w (λ e. refl) before.inbox
 
     each_posted : AreEach Posted posted

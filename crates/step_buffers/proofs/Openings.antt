@@ -1,7 +1,6 @@
 -- What is kept before the first step.
 use Rattle.std.proofs.Common.{None, ℕ, zero, suc, ◌≡◌, ◌⊎◌, inl, inr, List, [], ◌∷◌, ◌++◌, length, Some, refl, sym, ap, ◌∙◌, subst, arith}
 use Rattle.std.specs.Prelude.{slice_get}
-use Rattle.std.specs.BinaryHeap.{heap_items}
 use Rattle.std.proofs.lemmas.Option.{same_Some, none-some}
 use Rattle.step_trace.specs.declared.steps.Act.TheVariants.{Send}
 use Rattle.step_trace.specs.declared.steps.Step.{Step}
@@ -26,8 +25,8 @@ pub record IsOpening (c : Setup) (p : ℕ) (x : Processor) : Type 0 where
   pub node : x.node ≡ opening (initial_value c p)
   pub since : x.since ≡ 1
   pub buffer : x.buffer.items ≡ []
-  pub near : x.inbox.near.items ≡ []
-  pub later : heap_items x.inbox.later ≡ []
+  pub near : x.inbox.near ≡ []
+  pub later : x.inbox.later ≡ []
   pub said : x.said ≡ None
 
 IsProcessor-opening : (c : Setup) (p : ℕ) (x : Processor) → IsOpening c p x → IsProcessor c [] p x

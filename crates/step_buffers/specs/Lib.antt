@@ -4,7 +4,6 @@ pub mod Buffers
 pub mod Moves
 pub mod Queues
 pub mod Letters
-pub mod InboxRounds
 pub mod Inboxes
 pub mod NextSteps
 pub mod Worlds

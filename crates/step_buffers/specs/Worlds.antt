@@ -1,6 +1,5 @@
 -- What a World keeps beside its trace, and what it must be for the trace.
 use Rattle.std.specs.Prelude.{ℕ, suc, ◌≡◌, ◌+◌, ◌-◌, ◌<◌, ◌≤◌, ◌↔◌, ◌⊎◌, List, length, Option, Some, None, Contains, Bool, true, false, All, slice_get, IfSome}
-use Rattle.std.specs.BinaryHeap.{heap_items}
 use Rattle.step_trace.specs.declared.steps.Step.{Step}
 use Rattle.step_trace.specs.Configurations.{Setup, IsSetup}
 use Rattle.step_trace.specs.Traces.{Recorded}
@@ -15,7 +14,7 @@ use Rattle.step_buffers.specs.HeardTables.{passed, round_at, heard_table}
 use Rattle.step_buffers.specs.Runs.{node_at, body_of, IsSend, destination_after, next_destination, IsRun}
 use Rattle.step_buffers.specs.Buffers.{buffer}
 use Rattle.step_buffers.specs.Letters.{letter_at}
-use Rattle.step_buffers.specs.InboxRounds.{Entry, kept_of}
+use Rattle.step_buffers.specs.Inboxes.{Entry, kept_of}
 use Rattle.step_buffers.specs.NextSteps.{node_after}
 
 -- p took message s, which was sent in round r or in a later one
@@ -72,13 +71,13 @@ pub record IsStanding (c : Setup) (steps : List Step) (p r : ℕ) (state : State
 pub record IsProcessor (c : Setup) (steps : List Step) (p : ℕ) (x : Processor) : Type 0 where
   pub stands : IsStanding c steps p x.round x.node x.since x.last x.said
   pub buffer : x.buffer.items ≡ buffer steps p
-  pub inbox : IsInbox steps p x.round x.inbox.near.items (heap_items x.inbox.later)
+  pub inbox : IsInbox steps p x.round x.inbox.near x.inbox.later
 
 -- The node with which the round of p ends once it took these ids, if its round ends. What it keeps for later is then of
 -- later rounds.
 abbrev pub IsTurnOf : Recorded → ℕ → Processor → Bool → List ℕ → Option State → Type 0
 IsTurnOf trace p x ends ids None = ends ≡ false
-IsTurnOf trace p x ends ids (Some node) = (ends ≡ true) × (node ≡ node_after trace p ids) × All (λ e. x.round < e.0.0) (heap_items x.inbox.later)
+IsTurnOf trace p x ends ids (Some node) = (ends ≡ true) × (node ≡ node_after trace p ids) × All (λ e. x.round < e.0.0) x.inbox.later
 
 -- the message of a Send is kept: who sent it in which round, and what it says
 pub record IsLetter (c : Setup) (steps : List Step) (q to s : ℕ) (x : Letter) : Type 0 where

@@ -5,7 +5,6 @@ ghost use Rattle.step_buffers.specs.Worlds.{Serves, Serve};
 
 use crate::letters::Place;
 use crate::processors::Processor;
-use crate::round_inboxes::copied_inbox;
 use std::alloc::{AllocError, Global};
 
 /// The same messages.
@@ -42,7 +41,7 @@ fn copied_processor(alloc: Global, processor: &Processor) -> Result<Processor, A
         node: processor.node.copy(alloc)?,
         since: processor.since,
         buffer: processor.buffer.copy(alloc)?,
-        inbox: copied_inbox(alloc, &processor.inbox)?,
+        inbox: processor.inbox.copy(alloc)?,
         said: processor.said.share()?,
     })
 }

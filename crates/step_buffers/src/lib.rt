@@ -5,7 +5,7 @@
 
 mod appends;
 mod copies;
-mod inbox_entries;
+mod inboxes;
 mod kept_messages;
 mod laws;
 mod letters;
@@ -14,7 +14,6 @@ mod processors;
 mod receives;
 mod removals;
 mod replays;
-mod round_inboxes;
 mod sends;
 mod steps;
 mod takes;

@@ -9,9 +9,8 @@ ghost use Rattle.step_buffers.specs.Runs.{destination_after};
 ghost use Rattle.step_buffers.specs.Moves.{next_send};
 ghost use Rattle.step_buffers.specs.Worlds.{IsProcessor, AreProcessors};
 
-use crate::inbox_entries::Inbox;
+use crate::inboxes::Inbox;
 use crate::letters::Place;
-use crate::round_inboxes::empty_inbox;
 use crate::waiting::Waiting;
 use lock_phases::{Node, owner, part_of, phase_of};
 use std::alloc::{AllocError, Global};
@@ -114,7 +113,7 @@ pub(crate) fn opening_processors(
             node: Node::new(alloc, *value)?,
             since: 1,
             buffer: Waiting::new(alloc),
-            inbox: empty_inbox(alloc),
+            inbox: Inbox::new(alloc),
             said: Place::empty(),
         })?;
     }

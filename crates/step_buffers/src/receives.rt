@@ -1,19 +1,17 @@
 //! A Receive, which may end its processor's round.
 
 ghost use Rattle.std.specs.Prelude.{◌≡◌, ◌+◌, ◌≤◌, None, true, false, length, vec_len, vec_capacity, ◌<◌, ◌&&◌, is_some, All, IfOk, OnOk, IfErr, OnErr};
-ghost use Rattle.std.specs.BinaryHeap.{heap_items, heap_len, heap_capacity};
 ghost use Rattle.step_buffers.specs.Buffers.{buffer};
 ghost use Rattle.step_buffers.specs.Moves.{next_send, taken_ids, receive_refusal, IsStepRefusal};
 ghost use Rattle.step_buffers.specs.NextSteps.{receiving, node_after, IsNext, IsGrown};
 ghost use Rattle.step_buffers.specs.Worlds.{AreLetters, IsProcessor, IsTurnOf, IsPacedRun, IsWorld};
 
 use crate::appends::{append, last_ids};
-use crate::inbox_entries::Inbox;
-use crate::kept_messages::{drop_past, release};
+use crate::inboxes::Inbox;
+use crate::kept_messages::release;
 use crate::letters::{Place, heard_in};
 use crate::moves::{StepError, Take};
 use crate::processors::{Processor, decided_since, next_send};
-use crate::round_inboxes::{gather, keep_ahead, reserve};
 use crate::takes::{take_refusal, taken_ids};
 use lock_phases::Node;
 use std::alloc::{AllocError, Global};
@@ -99,7 +97,7 @@ fn turned_node(
     if !ends {
         return Ok(None);
     }
-    gather(&mut receiver.inbox, receiver.round)?;
+    receiver.inbox.gather(receiver.round)?;
     let node = computed(alloc, trace, letters, receiver, p, taken)?;
     Ok(Some(node))
 }
@@ -117,7 +115,7 @@ fn computed(
     requires letters { AreLetters trace.now.config trace.now.steps letters.now }
     requires receiver { IsProcessor trace.now.config trace.now.steps p receiver.now }
     requires next { IsNext trace.now (receiving p true taken.now) }
-    requires gathered { All (λ e. receiver.now.round < e.0.0) (heap_items receiver.now.inbox.later) }
+    requires gathered { All (λ e. receiver.now.round < e.0.0) receiver.now.inbox.later }
     ensures { IfOk result (λ node. node ≡ node_after trace.now p taken.now) }
 {
     let config = trace.config();
@@ -125,7 +123,7 @@ fn computed(
     let heard = heard_in(
         alloc,
         letters,
-        &receiver.inbox.near,
+        receiver.inbox.near(),
         taken.as_slice(),
         round,
         config.n(),
@@ -159,15 +157,15 @@ fn settle(
     push_receive(trace, letters, &mut receiver.inbox, p, ends, taken)?;
     let ids = last_ids(trace);
     receiver.buffer.take_out(ids);
-    keep_ahead(&mut receiver.inbox, letters, ids, receiver.round);
+    receiver.inbox.keep_ahead(letters, ids, receiver.round);
     letters.push_reserved(Place::empty());
     release(letters, ids, receiver.round);
     let Some(node) = turned else {
         return Ok(());
     };
     let round = receiver.round + 1;
-    release(letters, &receiver.inbox.near, round);
-    drop_past(&mut receiver.inbox.near, letters, round);
+    release(letters, receiver.inbox.near(), round);
+    receiver.inbox.drop_past(letters, round);
     receiver.since = decided_since(receiver, &node, round);
     receiver.round = round;
     receiver.last = 0;
@@ -188,17 +186,16 @@ fn push_receive(
     requires run { IsPacedRun trace.old }
     requires next { IsNext trace.old (receiving p ends taken) }
     ensures letters { letters.new.items ≡ letters.old.items }
-    ensures near { inbox.new.near.items ≡ inbox.old.near.items }
-    ensures later { heap_items inbox.new.later ≡ heap_items inbox.old.later }
+    ensures near { inbox.new.near ≡ inbox.old.near }
+    ensures later { inbox.new.later ≡ inbox.old.later }
     ensures place { OnOk result (vec_len letters.new < vec_capacity letters.new) }
-    ensures room_near { OnOk result (vec_len inbox.new.near + length taken ≤ vec_capacity inbox.new.near) }
-    ensures room_later { OnOk result (heap_len inbox.new.later + length taken ≤ heap_capacity inbox.new.later) }
+    ensures room { OnOk result (length taken ≤ inbox.new.room) }
     ensures run { IsPacedRun trace.new }
     ensures grown { OnOk result (IsGrown trace.old trace.new (receiving p ends taken)) }
     ensures err { OnErr result (trace.new ≡ trace.old) }
 {
     letters.reserve(1)?;
-    reserve(inbox, taken.as_slice().len())?;
+    inbox.reserve(taken.as_slice().len())?;
     append(
         trace,
         Step {

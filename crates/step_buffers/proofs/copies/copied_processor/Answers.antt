@@ -10,8 +10,7 @@ returns c = λ config steps p is. IsProcessor-alike config steps p c.args.proces
       node = c.in_ok-copy.ensures;
       since = refl;
       buffer = c.in_ok-copy-2.ensures.items;
-      inbox = c.in_ok-copied_inbox.ensures.same;
-      entries = c.in_ok-copied_inbox.ensures.entries;
+      inbox = c.in_ok-copy-3.ensures.moved;
       said = c.in_ok-share.ensures;
     })
     is

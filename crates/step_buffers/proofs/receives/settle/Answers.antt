@@ -1,4 +1,4 @@
-use Rattle.std.proofs.Common.{suc, heap_items, ◌≡◌, ◌<◌, ◌+◌, ◌∙◌, ◌++◌, ◌∷◌, [], List, length, false, ◌==◌, sym, subst, arith, inl, inr}
+use Rattle.std.proofs.Common.{suc, ◌≡◌, ◌<◌, ◌+◌, ◌∙◌, ◌++◌, ◌∷◌, [], List, length, false, ◌==◌, sym, subst, arith, inl, inr}
 use Rattle.std.proofs.Math.Bool.{and-false}
 use Rattle.std.specs.Prelude.{All, Contains}
 use Rattle.std.proofs.lemmas.List.Elements.{All-weaker, All-contains, All-contains_itself, Contains-append_left}
@@ -9,7 +9,7 @@ use Rattle.step_trace.proofs.Refusals.{Fits-from_none}
 use Rattle.step_trace.proofs.Growth.{IsWellFormed-push}
 use Rattle.step_buffers.specs.HeardTables.{passed}
 use Rattle.step_buffers.specs.Buffers.{buffer}
-use Rattle.step_buffers.specs.InboxRounds.{Entry, ids_of}
+use Rattle.step_buffers.specs.Inboxes.{Entry, ids_of}
 use Rattle.step_buffers.specs.NextSteps.{receiving}
 use Rattle.step_buffers.specs.Worlds.{AreLetters, IsInbox}
 use Rattle.step_buffers.proofs.StepPrefixes.{passed-append}
@@ -47,14 +47,14 @@ letters c =
     (λ s d. ((well_formed c).earlier (suc (length steps)) s x (step_at_last steps x) (subst (λ xs. Contains xs s) (ids c) d)).1)
     c.release.ensures.places c.release.ensures.left
 
-inbox : (c : After-release) → IsInbox (longer c) c.args.p c.args.receiver.now.round c.keep_ahead.new.inbox.near.items (heap_items c.keep_ahead.new.inbox.later)
+inbox : (c : After-release) → IsInbox (longer c) c.args.p c.args.receiver.now.round c.keep_ahead.new.self.near c.keep_ahead.new.self.later
 inbox c =
     let config = c.args.trace.now.config in
     let steps = c.args.trace.now.steps in
     let round = c.args.receiver.now.round in
     let old = c.push_receive.new.inbox in
-    let new = c.keep_ahead.new.inbox in
-    IsInbox-took config steps (receiving c.args.p c.args.ends c.args.taken) round old.near.items new.near.items (heap_items old.later) (heap_items new.later) c.deref.result.now
+    let new = c.keep_ahead.new.self in
+    IsInbox-took config steps (receiving c.args.p c.args.ends c.args.taken) round old.near new.near old.later new.later c.deref.result.now
     (well_formed c) (rw (c.deref.ensures.value, c.in_ok-push_receive.ensures.letters) c.requires.letters) c.requires.receiver.stands.round
     (rw (ids c) at c.keep_ahead.ensures.kept) c.keep_ahead.ensures.entries
     (rw (c.in_ok-push_receive.ensures.near, c.in_ok-push_receive.ensures.later) c.requires.receiver.inbox)
@@ -97,13 +97,13 @@ returns-clause-letters c =
     let p = c.args.p in
     let here = (goal.at.returns-clause-letters c).After-release in
     let grown = c.in_ok-push_receive.ensures.grown in
-    let new = c.keep_ahead.new.inbox in
+    let new = c.keep_ahead.new.self in
     let turned = rw c.in-Some.is at c.requires.turned in
     let before = c.requires.receiver.stands.round in
     let more = passed-ends c.args.trace.now.steps (receiving p c.args.ends c.args.taken) turned.0 in
     rw (grown.config, grown.steps)
-    (AreLetters-released c.args.trace.now.config (longer here) p (c.args.receiver.now.round + 1) c.deref-2.result.now c.release.new.letters.items c.release-2.new.letters.items (letters here) (omega arith)
-    (λ s d. (let k = ((inbox here).ids s).0 (Contains-append_left new.near.items (ids_of (heap_items new.later)) s (subst (λ xs. Contains xs s) c.deref-2.ensures.value d)) in (k.sender, k.sent)))
+    (AreLetters-released c.args.trace.now.config (longer here) p (c.args.receiver.now.round + 1) c.near.result.now c.release.new.letters.items c.release-2.new.letters.items (letters here) (omega arith)
+    (λ s d. (let k = ((inbox here).ids s).0 (Contains-append_left new.near (ids_of new.later) s (subst (λ xs. Contains xs s) c.near.ensures.value d)) in (k.sender, k.sent)))
     c.release-2.ensures.places c.release-2.ensures.left)
 
 pub returns-clause-receiver : goal.returns-clause-receiver
@@ -115,22 +115,22 @@ returns-clause-receiver c =
     let old = c.args.receiver.now in
     let here = (goal.at.returns-clause-receiver c).After-release in
     let grown = c.in_ok-push_receive.ensures.grown in
-    let new = c.keep_ahead.new.inbox in
+    let new = c.keep_ahead.new.self in
     let turned = rw c.in-Some.is at c.requires.turned in
     let before = c.requires.receiver.stands.round in
     let more = passed-ends steps x turned.0 in
     let now : old.round ≡ passed (longer here) p = omega arith in
-    let later : All (λ (e : Entry). old.round < e.0.0) (heap_items new.later) =
-    All-weaker (Contains (heap_items new.later)) (λ (e : Entry). old.round < e.0.0)
+    let later : All (λ (e : Entry). old.round < e.0.0) new.later =
+    All-weaker (Contains new.later) (λ (e : Entry). old.round < e.0.0)
     (λ e d. elim (c.keep_ahead.ensures.entries e d) [
-      | inl old_entry ↦ All-contains (λ (y : Entry). old.round < y.0.0) (heap_items c.push_receive.new.inbox.later) e (rw c.in_ok-push_receive.ensures.later turned.2) old_entry
+      | inl old_entry ↦ All-contains (λ (y : Entry). old.round < y.0.0) c.push_receive.new.inbox.later e (rw c.in_ok-push_receive.ensures.later turned.2) old_entry
       | inr new_entry ↦ new_entry.0
     ])
-    (heap_items new.later) (All-contains_itself (heap_items new.later)) in
+    new.later (All-contains_itself new.later) in
     rw (grown.config, grown.steps) (record {
       stands = rw c.empty-2.ensures (IsStanding-turned config steps x old.round old.node c.in-Some.node old.since c.decided_since-receiver.result old.last old.said c.requires.run.run.well_formed turned.0
           (rw turned.0 turned.1) c.decided_since-receiver.ensures.kept c.decided_since-receiver.ensures.changed c.requires.receiver.stands);
       buffer = waiting here;
-      inbox = rw c.drop_past.ensures (IsInbox-turned config (longer here) p old.round new.near.items (heap_items new.later) c.deref-3.result.now
-          (rw (c.deref-3.ensures.value, ← grown.config, ← grown.steps) (returns-clause-letters c)) now later (inbox here));
+      inbox = rw (c.drop_past.ensures.near, c.drop_past.ensures.later) (IsInbox-turned config (longer here) p old.round new.near new.later c.deref-2.result.now
+          (rw (c.deref-2.ensures.value, ← grown.config, ← grown.steps) (returns-clause-letters c)) now later (inbox here));
     })

@@ -6,8 +6,8 @@ use Rattle.std.proofs.lemmas.List.Elements.{filter-append}
 use Rattle.std.proofs.lemmas.List.Sorted.{IsPermutation-push_more}
 use Rattle.step_buffers.specs.Letters.{round_of}
 use Rattle.step_buffers.specs.Inboxes.{kept_ids, is_ahead}
-use Rattle.step_buffers.proofs.round_inboxes.keep_ahead.Goals.{then-round-sent, else-round-sent}
-use Rattle.step_buffers.proofs.round_inboxes.keep_ahead.Goals as goal
+use Rattle.step_buffers.proofs.inboxes.Inbox.keep_ahead.Goals.{then-round-sent, else-round-sent}
+use Rattle.step_buffers.proofs.inboxes.Inbox.keep_ahead.Goals as goal
 
 -- one id more, which passes the test
 kept-more : (p : ℕ → Bool) (old now new ids : List ℕ) (id : ℕ) → p id ≡ true → IsPermutation (old ++ filter p ids) now → IsPermutation (id ∷ now) new
@@ -31,48 +31,36 @@ loop-id-preserved c =
     let letters = c.args.letters.now in
     let round = c.args.round in
     let test : ℕ → Bool = is_ahead letters round in
-    let old = kept_ids c.args.inbox.now in
-    let now = kept_ids c.loop-id.inbox in
+    let old = kept_ids c.args.self.now in
+    let now = kept_ids c.loop-id.self in
     let is = c.loop-id.invariant in
     let sent = c.round_of-sent.ensures in
     let more = take_more ids i 0 c.loop-id-test.true in
-    let long_near = is.2 in
-    let room_near = is.3 in
-    let long_later = is.4 in
-    let room_later = is.5 in
+    let roomy = is.room in
     elim c.if-round-sent.branch [
       | then-round-sent w ↦
-          let new = kept_ids w.keep.new.inbox in
+          let new = kept_ids w.keep.new.self in
           let known = w.if-round-sent.true in
           let t : test id ≡ true = le-leb round (round_of letters id) (omega arith) in
-          let near = w.keep.ensures.length_near in
-          let later = w.keep.ensures.length_later in
-          let wide_near = w.keep.ensures.room_near in
-          let wide_later = w.keep.ensures.room_later in
-          rw w.inbox-is (
-            subst (λ xs. IsPermutation (old ++ filter test xs) new) (sym more) (kept-more test old now new (take i ids) id t is.0 w.keep.ensures.kept),
-            λ e d. elim (w.keep.ensures.entries e d) [
-              | inl before ↦ is.1 e before
+          let less = w.keep.ensures.room in
+          rw w.self-is (record {
+            kept = subst (λ xs. IsPermutation (old ++ filter test xs) new) (sym more) (kept-more test old now new (take i ids) id t is.kept w.keep.ensures.kept);
+            entries = λ e d. elim (w.keep.ensures.entries e d) [
+              | inl before ↦ is.entries e before
               | inr same ↦
                   let other = same.0 in
                   let round_is : e.0.0 ≡ round_of letters id = ap (λ (x : ℕ × ℕ). x.0) same.1 ∙ sent in
                   let id_is : e.0.1 ≡ id = ap (λ (x : ℕ × ℕ). x.1) same.1 in
                   inr (omega arith, round_is ∙ ap (round_of letters) (sym id_is))
-            ],
-            (omega arith),
-            (omega arith),
-            (omega arith),
-            (omega arith),
-          )
+            ];
+            room = omega arith;
+          })
       | else-round-sent w ↦
           let known = w.if-round-sent.false in
           let t : test id ≡ false = lt-leb round (round_of letters id) (omega arith) in
-          rw w.inbox-is (
-            subst (λ xs. IsPermutation (old ++ filter test xs) now) (sym more) (passed-over test old now (take i ids) id t is.0),
-            is.1,
-            (omega arith),
-            is.3,
-            (omega arith),
-            is.5,
-          )
+          rw w.self-is (record {
+            kept = subst (λ xs. IsPermutation (old ++ filter test xs) now) (sym more) (passed-over test old now (take i ids) id t is.kept);
+            entries = is.entries;
+            room = omega arith;
+          })
     ]
