@@ -95,8 +95,10 @@ impl Inbox {
     /// round at hand, the others for later.
     pub(crate) fn keep_ahead(&mut self, letters: &[Place], ids: &[u64], round: u64)
         requires room { length ids.now ≤ self.old.room }
-        ensures kept { IsPermutation (kept_ids self.old ++ ahead letters.now round ids.now) (kept_ids self.new) }
-        ensures entries { (e : Entry) → Contains self.new.later e → IsEntered self.old.later letters.now round e }
+        ensures kept { IsPermutation (kept_ids self.old ++ ahead letters.now round ids.now)
+            (kept_ids self.new) }
+        ensures entries { (e : Entry) → Contains self.new.later e
+            → IsEntered self.old.later letters.now round e }
     {
         for id in ids {
             let sent = round_of(letters, *id);

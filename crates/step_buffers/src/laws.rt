@@ -21,13 +21,19 @@ ghost use Rattle.step_buffers.specs.Moves.{is_in, named_ids, step_refusal};
 /// A theorem: it stands in the contract and quantifies over every configuration and every list of steps.
 /// Calling it does nothing.
 pub fn run_laws()
-    ensures agreement { (c : Setup) (steps : List TraceStep) (p q : ℕ) → IsSetup c → Agree (node_at c steps p) (node_at c steps q) }
-    ensures validity { (c : Setup) (steps : List TraceStep) (p : ℕ) → IsSetup c → IsProc c p → DecidesInitialValue c (node_at c steps p) }
-    ensures stays { (c : Setup) (steps more : List TraceStep) (p v : ℕ) → IsWellFormed c steps → (node_at c steps p).decision ≡ Some v
+    ensures agreement { (c : Setup) (steps : List TraceStep) (p q : ℕ) → IsSetup c
+        → Agree (node_at c steps p) (node_at c steps q) }
+    ensures validity { (c : Setup) (steps : List TraceStep) (p : ℕ) → IsSetup c → IsProc c p
+        → DecidesInitialValue c (node_at c steps p) }
+    ensures stays { (c : Setup) (steps more : List TraceStep) (p v : ℕ) → IsWellFormed c steps
+        → (node_at c steps p).decision ≡ Some v
         → (node_at c (steps ++ more) p).decision ≡ Some v }
-    ensures nodes { (c : Setup) (steps more : List TraceStep) (rounds p : ℕ) → IsWellFormed c steps → rounds ≤ passed steps p
-        → state_after c (heard_table steps) rounds p ≡ state_after c (heard_table (steps ++ more)) rounds p }
-    ensures prefix { (c : Setup) (steps more : List TraceStep) → IsRun c (steps ++ more) → IsRun c steps }
+    ensures nodes { (c : Setup) (steps more : List TraceStep) (rounds p : ℕ)
+        → IsWellFormed c steps → rounds ≤ passed steps p
+        → state_after c (heard_table steps) rounds p
+        ≡ state_after c (heard_table (steps ++ more)) rounds p }
+    ensures prefix { (c : Setup) (steps more : List TraceStep)
+        → IsRun c (steps ++ more) → IsRun c steps }
 {}
 
 /// Where a move is refused for a message, that message doesn't wait for the processor, and its id is the least
@@ -35,6 +41,8 @@ pub fn run_laws()
 ///
 /// A theorem: it stands in the contract and quantifies over every World and every move. Calling it does nothing.
 pub fn refusal_laws()
-    ensures least { (c : Setup) (limit : ℕ) (steps : List TraceStep) (p : ℕ) (move : TraceMove) (s : ℕ) → step_refusal c limit steps p move ≡ Some (NotInBuffer s)
+    ensures least { (c : Setup) (limit : ℕ) (steps : List TraceStep) (p : ℕ)
+        (move : TraceMove) (s : ℕ)
+        → step_refusal c limit steps p move ≡ Some (NotInBuffer s)
         → IsLeastFailing (is_in (buffer steps p)) (named_ids move) s }
 {}

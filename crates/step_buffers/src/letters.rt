@@ -172,7 +172,9 @@ fn first_by_sender(
 ) -> Result<Vec<u64>, AllocError>
     requires { n ≤ MAX_PROCESSORS }
     ensures long { IfOk result (λ first. length first.items ≡ n + 1) }
-    ensures each { IfOk result (λ first. (q : ℕ) → q ≤ n → said_by q (letter_at letters.now (slice_index first.items q)) ≡ body_from letters.now ids.now q) }
+    ensures each { IfOk result (λ first. (q : ℕ) → q ≤ n
+        → said_by q (letter_at letters.now (slice_index first.items q))
+        ≡ body_from letters.now ids.now q) }
 {
     let mut first = vec![in alloc; 0u64; n as usize + 1]?;
     for k in (0..ids.len()).rev() {
@@ -184,8 +186,10 @@ fn first_by_sender(
 /// Notes a message in the place of its sender.
 fn note_sender(first: &mut Vec<u64>, letters: &[Place], id: u64)
     ensures long { length first.new.items ≡ length first.old.items }
-    ensures each { (q : ℕ) → q < length first.old.items → said_by q (letter_at letters.now (slice_index first.new.items q))
-        ≡ option_or (said_by q (letter_at letters.now id)) (said_by q (letter_at letters.now (slice_index first.old.items q))) }
+    ensures each { (q : ℕ) → q < length first.old.items
+        → said_by q (letter_at letters.now (slice_index first.new.items q))
+        ≡ option_or (said_by q (letter_at letters.now id))
+        (said_by q (letter_at letters.now (slice_index first.old.items q))) }
 {
     if let Some(letter) = letter_at(letters, id) {
         let sender = letter.sender as usize;

@@ -56,8 +56,11 @@ fn candidate(config: &Config, round: u64, last: u64) -> u64
     requires positive { 1 ≤ round }
     requires within { last ≤ config.now.n }
     ensures later { last < result }
-    ensures first { (s : State) (me to : ℕ) → last < to → to < result → is_some (out config.now s me round to) ≡ false }
-    ensures only { (s : State) (me to : ℕ) → last < to → is_some (out config.now s me round result) ≡ false → is_some (out config.now s me round to) ≡ false }
+    ensures first { (s : State) (me to : ℕ) → last < to → to < result
+        → is_some (out config.now s me round to) ≡ false }
+    ensures only { (s : State) (me to : ℕ) → last < to
+        → is_some (out config.now s me round result) ≡ false
+        → is_some (out config.now s me round to) ≡ false }
 {
     let n = config.n();
     let next = last + 1;

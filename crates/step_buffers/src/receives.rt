@@ -28,8 +28,10 @@ pub(crate) fn chosen(
 ) -> Result<MessageIds, StepError>
     requires receiver { IsProcessor trace.now.config trace.now.steps p receiver.now }
     ensures taken { IfOk result (λ ids. ids ≡ taken_ids take.entry (buffer trace.now.steps p)) }
-    ensures ok { OnOk result (receive_refusal trace.now.config trace.now.steps p take.entry ends ≡ None) }
-    ensures refused { IfErr result (λ e. IsStepRefusal e (receive_refusal trace.now.config trace.now.steps p take.entry ends)) }
+    ensures ok { OnOk result
+        (receive_refusal trace.now.config trace.now.steps p take.entry ends ≡ None) }
+    ensures refused { IfErr result (λ e.
+        IsStepRefusal e (receive_refusal trace.now.config trace.now.steps p take.entry ends)) }
 {
     if is_early(trace, receiver, p, ends) {
         return Err(StepError::StillSending);

@@ -31,7 +31,8 @@ fn shared_front(waiting: &[u64], ids: &[u64]) -> usize
     ensures ids { result ≤ length ids.now }
     ensures all { result < length waiting.now → result < length ids.now
         → get_or waiting.now result 0 ≢ get_or ids.now result 0 }
-    ensures left { without ids.now waiting.now ≡ without (drop result ids.now) (drop result waiting.now) }
+    ensures left { without ids.now waiting.now
+        ≡ without (drop result ids.now) (drop result waiting.now) }
 {
     let most = waiting.len().min(ids.len());
     for at in 0..most {
@@ -48,9 +49,11 @@ fn shared_back(waiting: &[u64], ids: &[u64]) -> usize
     ensures waiting { result ≤ length waiting.now }
     ensures ids { result ≤ length ids.now }
     ensures all { result < length waiting.now → result < length ids.now
-        → get_or waiting.now (length waiting.now - 1 - result) 0 ≢ get_or ids.now (length ids.now - 1 - result) 0 }
+        → get_or waiting.now (length waiting.now - 1 - result) 0
+        ≢ get_or ids.now (length ids.now - 1 - result) 0 }
     ensures left { without ids.now waiting.now
-        ≡ without (take (length ids.now - result) ids.now) (take (length waiting.now - result) waiting.now) }
+        ≡ without (take (length ids.now - result) ids.now)
+        (take (length waiting.now - result) waiting.now) }
 {
     let most = waiting.len().min(ids.len());
     for at in 0..most {

@@ -8,7 +8,8 @@ ghost use Rattle.step_trace.specs.Traces.{step_at};
 ghost use Rattle.step_trace.specs.Ticks.{IsOnePerTick};
 ghost use Rattle.step_buffers.specs.Runs.{IsRun};
 ghost use Rattle.step_buffers.specs.Moves.{IsStepRefusal};
-ghost use Rattle.step_buffers.specs.Replays.{IsReplayRefusal};
+ghost use Rattle.step_buffers.specs.NextSteps.{sending, receiving};
+ghost use Rattle.step_buffers.specs.Replays.{IsReplayRefusal, IsMade, IsOff};
 
 use crate::moves::{Move, StepError, Take};
 use crate::worlds::World;
@@ -38,7 +39,8 @@ pub fn replay(alloc: Global, trace: &Trace) -> Result<World, ReplayError>
     ensures limit { IfOk result (λ world. world.limit ≡ MAX_STEPS) }
     ensures run { OnOk result (IsRun trace.now.config trace.now.steps) }
     ensures refused { IfErr result (λ e. IsReplayRefusal trace.now.config trace.now.steps e) }
-    ensures complete { IsRun trace.now.config trace.now.steps → IfErr result (λ e. e ≡ ReplayError.Memory) }
+    ensures complete { IsRun trace.now.config trace.now.steps
+        → IfErr result (λ e. e ≡ ReplayError.Memory) }
 {
     let Ok(mut world) = opening_world(alloc, trace.config()) else {
         return Err(ReplayError::Memory);
@@ -60,7 +62,8 @@ fn opening_world(alloc: Global, config: &Config) -> Result<World, AllocError>
 
 /// The step of a trace that comes after as many as a World made.
 fn next_step<'a>(world: &World, trace: &'a Trace) -> Option<&'a Step>
-    ensures value { option_copied result ≡ step_at trace.now.steps (length world.now.trace.steps + 1) }
+    ensures value { option_copied result
+        ≡ step_at trace.now.steps (length world.now.trace.steps + 1) }
     ensures limit { length trace.now.steps ≤ MAX_STEPS }
     ensures run { IsRun world.now.trace.config world.now.trace.steps }
     ensures one_per_tick { IsOnePerTick world.now.trace }
@@ -74,7 +77,8 @@ fn follow(alloc: Global, world: &mut World, step: &Step) -> Result<(), ReplayErr
     ensures made { OnOk result (world.new.trace.steps ≡ world.old.trace.steps ++ step.now ∷ []) }
     ensures config { world.new.trace.config ≡ world.old.trace.config }
     ensures limit { world.new.limit ≡ world.old.limit }
-    ensures refused { IfErr result (λ e. IsReplayRefusal world.old.trace.config (world.old.trace.steps ++ step.now ∷ []) e) }
+    ensures refused { IfErr result (λ e.
+        IsReplayRefusal world.old.trace.config (world.old.trace.steps ++ step.now ∷ []) e) }
 {
     let no = world.trace().len() as u64 + 1;
     let made = match &step.act {
@@ -92,8 +96,8 @@ fn follow(alloc: Global, world: &mut World, step: &Step) -> Result<(), ReplayErr
 /// nothing to send, too.
 fn follow_send(alloc: Global, world: &mut World, p: u64, to: u64) -> Result<bool, AllocError>
     requires { length world.old.trace.steps < world.old.limit }
-    ensures made { IfOk result (λ is. is ≡ true → world.new.trace.steps ≡ world.old.trace.steps ++ record { proc = p; act = Act.Send to } ∷ []) }
-    ensures off { IfOk result (λ is. is ≡ false → ¬ IsRun world.old.trace.config (world.old.trace.steps ++ record { proc = p; act = Act.Send to } ∷ [])) }
+    ensures made { IfOk result (IsMade world.old.trace world.new.trace (sending p to)) }
+    ensures off { IfOk result (IsOff world.old.trace (sending p to)) }
     ensures config { world.new.trace.config ≡ world.old.trace.config }
     ensures limit { world.new.limit ≡ world.old.limit }
 {
@@ -112,8 +116,8 @@ fn follow_receive(
     ids: &MessageIds,
 ) -> Result<bool, AllocError>
     requires { length world.old.trace.steps < world.old.limit }
-    ensures made { IfOk result (λ is. is ≡ true → world.new.trace.steps ≡ world.old.trace.steps ++ record { proc = p; act = Act.Receive ends ids.now } ∷ []) }
-    ensures off { IfOk result (λ is. is ≡ false → ¬ IsRun world.old.trace.config (world.old.trace.steps ++ record { proc = p; act = Act.Receive ends ids.now } ∷ [])) }
+    ensures made { IfOk result (IsMade world.old.trace world.new.trace (receiving p ends ids.now)) }
+    ensures off { IfOk result (IsOff world.old.trace (receiving p ends ids.now)) }
     ensures config { world.new.trace.config ≡ world.old.trace.config }
     ensures limit { world.new.limit ≡ world.old.limit }
 {

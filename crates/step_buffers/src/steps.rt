@@ -26,10 +26,12 @@ pub(crate) fn act_of(
     requires processors { AreProcessors trace.now.config trace.now.steps processors.now }
     requires room { length trace.now.steps < MAX_STEPS }
     requires processor { IsProc trace.now.config p }
-    ensures step { IfOk result (λ act. Some (record { proc = p; act = act }) ≡ step_of trace.now.config trace.now.steps p step.entry) }
+    ensures step { IfOk result (λ act. Some (record { proc = p; act = act })
+        ≡ step_of trace.now.config trace.now.steps p step.entry) }
     ensures next { IfOk result (λ act. IsNext trace.now (record { proc = p; act = act })) }
     ensures ok { OnOk result (move_refusal trace.now.config trace.now.steps p step.entry ≡ None) }
-    ensures refused { IfErr result (λ e. IsStepRefusal e (move_refusal trace.now.config trace.now.steps p step.entry)) }
+    ensures refused { IfErr result (λ e.
+        IsStepRefusal e (move_refusal trace.now.config trace.now.steps p step.entry)) }
 {
     let processor = &processors[(p - 1) as usize];
     match step {

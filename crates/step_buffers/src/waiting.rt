@@ -19,7 +19,11 @@ impl Model for Waiting {
 
     ghost Value = { Queue };
 
-    ghost view = { λ w. record { items = drop w.start w.ids.items; gone = w.start; room = vec_capacity w.ids - vec_len w.ids } };
+    ghost view = { λ w. record {
+      items = drop w.start w.ids.items;
+      gone = w.start;
+      room = vec_capacity w.ids - vec_len w.ids;
+    } };
 
     ghost invariant = { λ w. w.start ≤ length w.ids.items };
 }

@@ -45,7 +45,8 @@ impl Model for World {
 
     ghost view = { λ w. record { trace = w.trace; limit = w.limit } };
 
-    ghost invariant = { λ w. IsWorld w.trace w.letters.items w.processors.items × (w.limit ≤ MAX_STEPS) × (length w.trace.steps ≤ w.limit) };
+    ghost invariant = { λ w. IsWorld w.trace w.letters.items w.processors.items
+        × (w.limit ≤ MAX_STEPS) × (length w.trace.steps ≤ w.limit) };
 }
 
 impl World {
@@ -131,7 +132,9 @@ impl World {
         requires processor { IsProc self.now.trace.config p }
         requires first { 1 ≤ round }
         requires reached { round ≤ passed self.now.trace.steps p + 1 }
-        ensures { result ≡ (state_after self.now.trace.config (heard_table self.now.trace.steps) (round - 1) p).decision }
+        ensures { result
+            ≡ (state_after self.now.trace.config (heard_table self.now.trace.steps)
+            (round - 1) p).decision }
     {
         let processor = &self.processors[(p - 1) as usize];
         if round < processor.since {
@@ -160,15 +163,22 @@ impl World {
     /// among them or leaves them. Where some of the messages that it takes are neither among the first that wait
     /// nor among the last, it goes over what lies between these, and moves what waits on their shorter side.
     pub fn step(&mut self, alloc: Global, p: u64, step: Move) -> Result<Done, StepError>
-        ensures step { IfOk result (λ done. Some done.step ≡ step_of self.old.trace.config self.old.trace.steps p step.entry) }
-        ensures made { IfOk result (λ done. self.new.trace.steps ≡ self.old.trace.steps ++ done.step ∷ []) }
+        ensures step { IfOk result (λ done. Some done.step
+            ≡ step_of self.old.trace.config self.old.trace.steps p step.entry) }
+        ensures made { IfOk result (λ done.
+            self.new.trace.steps ≡ self.old.trace.steps ++ done.step ∷ []) }
         ensures number { IfOk result (λ done. done.no ≡ length self.new.trace.steps) }
         ensures round { IfOk result (λ done. done.round ≡ passed self.new.trace.steps p + 1) }
-        ensures decision { IfOk result (λ done. done.decision ≡ (node_at self.new.trace.config self.new.trace.steps p).decision) }
+        ensures decision { IfOk result (λ done. done.decision
+            ≡ (node_at self.new.trace.config self.new.trace.steps p).decision) }
         ensures config { self.new.trace.config ≡ self.old.trace.config }
         ensures limit { self.new.limit ≡ self.old.limit }
-        ensures ok { OnOk result (step_refusal self.old.trace.config self.old.limit self.old.trace.steps p step.entry ≡ None) }
-        ensures refused { IfErr result (λ e. IsStepRefusal e (step_refusal self.old.trace.config self.old.limit self.old.trace.steps p step.entry)) }
+        ensures ok { OnOk result
+            (step_refusal self.old.trace.config self.old.limit
+            self.old.trace.steps p step.entry ≡ None) }
+        ensures refused { IfErr result (λ e.
+            IsStepRefusal e (step_refusal self.old.trace.config self.old.limit
+            self.old.trace.steps p step.entry)) }
         ensures err { OnErr result (self.new ≡ self.old) }
     {
         let act = self.act_of(alloc, p, step)?;
@@ -190,11 +200,17 @@ impl World {
     /// Refuses what `step` refuses, in the same order. Then everything is as it was. Takes the time and memory
     /// of `step`, but for one copy of the ids that it takes in place of two.
     pub fn advance(&mut self, alloc: Global, p: u64, step: Move) -> Result<(), StepError>
-        ensures made { OnOk result (option_map (λ made. self.old.trace.steps ++ made ∷ []) (step_of self.old.trace.config self.old.trace.steps p step.entry) ≡ Some self.new.trace.steps) }
+        ensures made { OnOk result (option_map (λ made. self.old.trace.steps ++ made ∷ [])
+            (step_of self.old.trace.config self.old.trace.steps p step.entry)
+            ≡ Some self.new.trace.steps) }
         ensures config { self.new.trace.config ≡ self.old.trace.config }
         ensures limit { self.new.limit ≡ self.old.limit }
-        ensures ok { OnOk result (step_refusal self.old.trace.config self.old.limit self.old.trace.steps p step.entry ≡ None) }
-        ensures refused { IfErr result (λ e. IsStepRefusal e (step_refusal self.old.trace.config self.old.limit self.old.trace.steps p step.entry)) }
+        ensures ok { OnOk result
+            (step_refusal self.old.trace.config self.old.limit
+            self.old.trace.steps p step.entry ≡ None) }
+        ensures refused { IfErr result (λ e.
+            IsStepRefusal e (step_refusal self.old.trace.config self.old.limit
+            self.old.trace.steps p step.entry)) }
         ensures err { OnErr result (self.new ≡ self.old) }
     {
         let act = self.act_of(alloc, p, step)?;
@@ -203,11 +219,16 @@ impl World {
 
     /// What processor `p` does in a move.
     fn act_of(&self, alloc: Global, p: u64, step: Move) -> Result<Act, StepError>
-        ensures step { IfOk result (λ act. Some (record { proc = p; act = act }) ≡ step_of self.now.trace.config self.now.trace.steps p step.entry) }
+        ensures step { IfOk result (λ act. Some (record { proc = p; act = act })
+            ≡ step_of self.now.trace.config self.now.trace.steps p step.entry) }
         ensures room { OnOk result (length self.now.trace.steps < self.now.limit) }
         ensures next { IfOk result (λ act. IsNext self.now.trace (record { proc = p; act = act })) }
-        ensures ok { OnOk result (step_refusal self.now.trace.config self.now.limit self.now.trace.steps p step.entry ≡ None) }
-        ensures refused { IfErr result (λ e. IsStepRefusal e (step_refusal self.now.trace.config self.now.limit self.now.trace.steps p step.entry)) }
+        ensures ok { OnOk result
+            (step_refusal self.now.trace.config self.now.limit
+            self.now.trace.steps p step.entry ≡ None) }
+        ensures refused { IfErr result (λ e.
+            IsStepRefusal e (step_refusal self.now.trace.config self.now.limit
+            self.now.trace.steps p step.entry)) }
     {
         if self.trace.len() as u64 >= self.limit {
             return Err(StepError::Full);
@@ -222,7 +243,8 @@ impl World {
     fn make(&mut self, alloc: Global, p: u64, act: Act) -> Result<(), StepError>
         requires room { length self.old.trace.steps < self.old.limit }
         requires next { IsNext self.old.trace (record { proc = p; act = act }) }
-        ensures grown { OnOk result (IsGrown self.old.trace self.new.trace (record { proc = p; act = act })) }
+        ensures grown { OnOk result (IsGrown self.old.trace self.new.trace
+            (record { proc = p; act = act })) }
         ensures limit { self.new.limit ≡ self.old.limit }
         ensures refused { IfErr result (λ e. e ≡ StepError.Memory) }
         ensures err { OnErr result (self.new ≡ self.old) }
