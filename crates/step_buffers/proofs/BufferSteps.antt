@@ -19,23 +19,15 @@ use Rattle.step_trace.specs.Steps.{act_dest, act_takes, act_sends_to}
 use Rattle.step_trace.specs.Traces.{step_at, IsWellFormed}
 use Rattle.step_trace.specs.PushRefusals.{is_sent_to, is_taken}
 use Rattle.step_trace.proofs.StepPositions.{step_at_within, step_at_last, taken_at-from_is_taken}
-use Rattle.step_trace.proofs.ListMembers.{Contains-from_filter, Contains-rest, Contains-head, list_any-found}
+use Rattle.step_trace.proofs.ListMembers.{Contains-from_filter}
 use Rattle.round_model.proofs.ProcessorRanges.{range_with_len-more, IsStrictlyIncreasing-range_with_len, All-range_with_len}
 use Rattle.step_buffers.specs.HeardTables.{numbers}
 use Rattle.step_buffers.specs.Buffers.{waits_for, buffer}
 use Rattle.step_buffers.specs.Runs.{IsSend}
 use Rattle.step_buffers.specs.NextSteps.{sending, receiving}
 use Rattle.step_buffers.proofs.StepPrefixes.{step_at-prefix, IsWellFormed-prefix}
-
--- filters by tests that agree on the elements
-pub filter-agree : (f g : ℕ → Bool) (xs : List ℕ) → ((x : ℕ) → Contains xs x → f x ≡ g x) → filter f xs ≡ filter g xs
-filter-agree f g [] same = refl
-filter-agree f g (x ∷ xs) same = rw (same x (Contains-head x xs), filter-agree f g xs (λ y d. same y (Contains-rest x y xs d))) refl
-
--- a filter that all elements pass
-pub filter-all : (f : ℕ → Bool) (xs : List ℕ) → ((x : ℕ) → Contains xs x → f x ≡ true) → filter f xs ≡ xs
-filter-all f [] pass = refl
-filter-all f (x ∷ xs) pass = rw (pass x (Contains-head x xs), filter-all f xs (λ y d. pass y (Contains-rest x y xs d))) refl
+use Rattle.step_buffers.proofs.RemovedIds.{filter-agree, filter-all, Contains-from_is_in}
+use Rattle.step_trace.proofs.FittingSteps.{Fits-from_well_formed}
 
 -- two filters one after the other
 filter-twice : (f g : ℕ → Bool) (xs : List ℕ) → filter (λ x. f x && g x) xs ≡ filter g (filter f xs)
@@ -161,16 +153,11 @@ buffer-received_elsewhere c steps p q ends ids w other =
     go : (s : ℕ) → Contains (buffer steps q) s → (b : Bool) → list_any (λ i. i == s) ids ≡ b → not b ≡ true
     go s d false e = refl
     go s d true e =
-        let x : Step = receiving p ends ids in
         let waits = IsWaiting-from_buffer steps q s d in
-        let r = list_any-found (λ i. i == s) ids e in
-        let taken : Contains ids s = subst (Contains ids) (eqb-true r.0 s r.2) r.1 in
-        let within = step_at_within steps s (record { proc = waits.sender; act = Send q }) waits.sent in
-        let earlier = w.earlier (suc (length steps)) s x (step_at_last steps x) taken in
-        let one : Step = record { proc = earlier.1.0; act = Send p } in
+        let sent = (Fits-from_well_formed c steps (receiving p ends ids) w).sent s (Contains-from_is_in ids s e) in
+        let one : Step = record { proc = sent.0; act = Send p } in
         let two : Step = record { proc = waits.sender; act = Send q } in
-        let same : one ≡ two = same_Some one two (sym earlier.1.1 ∙ step_at-prefix steps (x ∷ []) s within.1 ∙ waits.sent) in
-        absurd (other (same_Some p q (ap (λ (z : Step). act_dest z.act) same)))
+        absurd (other (same_Some p q (ap (λ (z : Step). act_dest z.act) (same_Some one two (sym sent.1 ∙ waits.sent)))))
 
 -- a buffer rises
 pub buffer-rises : (steps : List Step) (p : ℕ) → IsStrictlyIncreasing (buffer steps p)

@@ -11,7 +11,7 @@ use Rattle.round_model.proofs.AgreedDecisions.{Agree-state_after, DecidesInitial
 use Rattle.step_buffers.specs.HeardTables.{passed, heard_table, act_ends}
 use Rattle.step_buffers.specs.Runs.{node_at}
 use Rattle.step_buffers.proofs.StepPrefixes.{passed-append}
-use Rattle.step_buffers.proofs.SettledPrefixes.{state_after-prefix}
+use Rattle.step_buffers.proofs.HeardSenders.{state_after-prefix}
 use Rattle.std.proofs.lemmas.Bool.{cases_lt}
 use Rattle.std.proofs.lemmas.Option.{none-some}
 use Rattle.step_buffers.specs.Worlds.{IsDecidedSince}

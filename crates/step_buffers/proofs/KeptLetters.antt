@@ -22,7 +22,7 @@ use Rattle.std.specs.Prelude.{Contains, nat_lt}
 use Rattle.std.specs.Option.{option_map_or}
 use Rattle.std.proofs.lemmas.Bool.{ltb-true}
 use Rattle.step_buffers.specs.Moves.{is_in}
-use Rattle.step_buffers.proofs.RisingIds.{Contains-from_is_in}
+use Rattle.step_buffers.proofs.RemovedIds.{Contains-from_is_in}
 
 -- a place before the last one
 letter_at-old : (xs : List (Option Letter)) (x : Option Letter) (s : ℕ) → s ≤ length xs → letter_at (xs ++ x ∷ []) s ≡ letter_at xs s

@@ -1,30 +1,143 @@
--- What is kept of the processors, as the trace grows by a step.
-use Rattle.std.proofs.Common.{ℕ, zero, suc, ◌≡◌, ◌≢◌, ◌+◌, ◌-◌, ◌≤◌, ◌⊎◌, inl, inr, List, [], ◌∷◌, ◌++◌, length, get_or, Option, Some, None, Bool, true, false, ◌==◌, ◌&&◌, refl, sym, ap, ◌∙◌, subst, arith}
+-- What is kept of the processors: before the first step, copied, and as the trace grows by a step.
+use Rattle.std.proofs.Common.{None, ℕ, zero, suc, ◌≡◌, ◌⊎◌, inl, inr, List, [], ◌∷◌, ◌++◌, length, Some, refl, sym, ap, ◌∙◌, subst, arith, ◌≢◌, ◌+◌, ◌-◌, ◌≤◌, get_or, Option, Bool, true, false, ◌==◌, ◌&&◌}
 use Rattle.std.specs.Prelude.{slice_get, slice_set}
-use Rattle.std.proofs.Math.Bool.{and-false}
-use Rattle.std.proofs.lemmas.Bool.{ne_eqb}
 use Rattle.std.proofs.lemmas.Option.{same_Some, none-some, slice_get_read}
-use Rattle.std.proofs.lemmas.List.{length-set}
+use Rattle.step_trace.specs.declared.steps.Act.TheVariants.{Send}
 use Rattle.step_trace.specs.declared.steps.Step.{Step}
 use Rattle.step_trace.specs.Configurations.{Setup, IsProc}
-use Rattle.step_trace.specs.Steps.{act_sends}
-use Rattle.step_trace.specs.Traces.{Recorded, IsWellFormed}
-use Rattle.lock_phases.specs.Nodes.{State}
-use Rattle.step_buffers.specs.declared.letters.Letter.{Letter}
+use Rattle.step_trace.specs.Traces.{step_at, Recorded, IsWellFormed}
+use Rattle.step_trace.proofs.StepPositions.{step_at_within}
+use Rattle.lock_phases.specs.Nodes.{opening, State}
+use Rattle.round_model.specs.RoundStates.{initial_value}
+use Rattle.round_model.proofs.RoundEquations.{state_after-opening}
 use Rattle.step_buffers.specs.declared.processors.Processor.{Processor}
-use Rattle.step_buffers.specs.HeardTables.{act_ends, passed}
-use Rattle.step_buffers.specs.Runs.{node_at}
+use Rattle.step_buffers.specs.HeardTables.{heard_table, act_ends, passed}
+use Rattle.step_buffers.specs.Runs.{node_at, IsRun}
+use Rattle.step_buffers.specs.Worlds.{IsProcessor, AreProcessors, AreLetters, Serves, IsInbox, IsPlaceOf, IsStanding, AreEach, IsPacedRun, IsWorld}
+use Rattle.step_buffers.proofs.DecidedRounds.{IsDecidedSince-opening, IsDecidedSince-stays, IsDecidedSince-ended}
+use Rattle.step_buffers.proofs.KeptInboxes.{IsInbox-opening, IsInbox-moved, IsInbox-stays}
+use Rattle.step_buffers.proofs.NextSends.{next_send-opening, IsProc-next_send, next_send-ended, next_send-stays, next_send-sent}
+use Rattle.step_buffers.specs.Inboxes.{IsMoved}
+use Rattle.std.proofs.Math.Bool.{and-false}
+use Rattle.std.proofs.lemmas.Bool.{ne_eqb}
+use Rattle.std.proofs.lemmas.List.{length-set}
+use Rattle.step_trace.specs.Steps.{act_sends}
+use Rattle.step_buffers.specs.declared.letters.Letter.{Letter}
 use Rattle.step_buffers.specs.Queues.{Queue}
 use Rattle.step_buffers.specs.Buffers.{buffer}
 use Rattle.step_buffers.specs.Moves.{next_send}
 use Rattle.step_buffers.specs.NextSteps.{sending, receiving, IsGrown}
-use Rattle.step_buffers.specs.Worlds.{IsInbox, IsPlaceOf, IsStanding, IsProcessor, AreEach, AreProcessors, AreLetters, IsPacedRun, IsWorld}
 use Rattle.step_buffers.proofs.StepPrefixes.{IsWellFormed-prefix}
 use Rattle.step_buffers.proofs.GrownNodes.{passed-ends, passed-stays, node_at-stays}
-use Rattle.step_buffers.proofs.NextSends.{IsProc-next_send, next_send-ended, next_send-stays, next_send-sent}
-use Rattle.step_buffers.proofs.DecidedRounds.{IsDecidedSince-stays, IsDecidedSince-ended}
 use Rattle.step_buffers.proofs.BufferSteps.{buffer-sent_to, buffer-sent_elsewhere, buffer-received_elsewhere}
-use Rattle.step_buffers.proofs.KeptInboxes.{IsInbox-stays}
+
+-- what is kept of a processor before the first step
+pub record IsOpening (c : Setup) (p : ℕ) (x : Processor) : Type 0 where
+  pub round : x.round ≡ 1
+  pub last : x.last ≡ 0
+  pub node : x.node ≡ opening (initial_value c p)
+  pub since : x.since ≡ 1
+  pub buffer : x.buffer.items ≡ []
+  pub near : x.inbox.near ≡ []
+  pub later : x.inbox.later ≡ []
+  pub said : x.said ≡ None
+
+IsProcessor-opening : (c : Setup) (p : ℕ) (x : Processor) → IsOpening c p x → IsProcessor c [] p x
+IsProcessor-opening c p x is = record {
+  stands = record {
+    round = is.round;
+    node = node;
+    decided = rw is.since (IsDecidedSince-opening c p x.node node);
+    last = (let l = is.last in omega arith);
+    next = next_send-opening c p ∙ rw (node, is.round, is.last) refl;
+    said = rw is.said tt;
+  };
+  buffer = is.buffer;
+  inbox = rw (is.near, is.later) (IsInbox-opening p x.round);
+}
+  where
+    node : x.node ≡ node_at c [] p
+    node = is.node ∙ sym (state_after-opening c (heard_table []) p)
+
+-- what stands in a list with one more at its end
+pub slice_get-push : {X : Type 0} (xs : List X) (x y : X) (k : ℕ) → slice_get (xs ++ x ∷ []) k ≡ Some y → (slice_get xs k ≡ Some y) ⊎ ((k ≡ length xs) × (x ≡ y))
+slice_get-push [] x y zero h = inr (refl, same_Some x y h)
+slice_get-push [] x y (suc k) h = absurd (none-some y h)
+slice_get-push (z ∷ xs) x y zero h = inl h
+slice_get-push (z ∷ xs) x y (suc k) h = elim (slice_get-push xs x y k h) [ inl e ↦ inl e | inr e ↦ inr (ap suc e.0, e.1) ]
+
+-- one more of them
+abbrev pub AreOpening : Setup → List Processor → Type 0
+AreOpening c kept = (k : ℕ) (x : Processor) → slice_get kept k ≡ Some x → IsOpening c (suc k) x
+
+pub AreOpening-push : (c : Setup) (kept : List Processor) (y : Processor) → AreOpening c kept → IsOpening c (suc (length kept)) y → AreOpening c (kept ++ y ∷ [])
+AreOpening-push c kept y are is k x h = elim (slice_get-push kept y x k h) [
+  | inl e ↦ are k x e
+  | inr e ↦ subst (λ n. IsOpening c (suc n) x) (sym e.0) (subst (IsOpening c (suc (length kept))) e.1 is)
+]
+
+pub AreProcessors-opening : (c : Setup) (kept : List Processor) → length kept ≡ c.n → AreOpening c kept → AreProcessors c [] kept
+AreProcessors-opening c kept count are = record {
+  count = count;
+  each = λ k x h. IsProcessor-opening c (suc k) x (are k x h);
+}
+
+-- the empty trace is a run
+pub IsRun-opening : (c : Setup) → IsRun c []
+IsRun-opening c = record {
+  well_formed = record {
+    short = omega arith;
+    procs = λ k x h. absurd (none k x h);
+    dests = λ k x h. absurd (none k x h);
+    rising = λ k x h. absurd (none k x h);
+    earlier = λ k s x h t. absurd (none k x h);
+    once = λ m n s a b. absurd (none m a.0 a.1);
+  };
+  each = λ k x h. absurd (none k x h);
+}
+  where
+    none : (k : ℕ) (x : Step) → step_at [] k ≡ Some x → ⊥
+    none k x h = let b = step_at_within [] k x h in let low = b.0 in let high = b.1 in omega arith
+
+pub AreLetters-opening : (c : Setup) → AreLetters c [] []
+AreLetters-opening c = record {
+  places = refl;
+  messages = λ q to s h. absurd (let b = step_at_within [] s (record { proc = q; act = Send to }) h in let low = b.0 in let high = b.1 in omega arith);
+}
+
+-- the same is kept of both
+pub record IsAlike (x y : Processor) : Type 0 where
+  pub round : y.round ≡ x.round
+  pub last : y.last ≡ x.last
+  pub node : y.node ≡ x.node
+  pub since : y.since ≡ x.since
+  pub buffer : y.buffer.items ≡ x.buffer.items
+  pub inbox : IsMoved x.inbox y.inbox.near y.inbox.later
+  pub said : y.said ≡ x.said
+
+pub IsProcessor-alike : (c : Setup) (steps : List Step) (p : ℕ) (x y : Processor) → IsAlike x y → IsProcessor c steps p x → IsProcessor c steps p y
+IsProcessor-alike c steps p x y like is = record {
+  stands = rw (like.round, like.last, like.node, like.since, like.said) is.stands;
+  buffer = like.buffer ∙ is.buffer;
+  inbox = rw like.round (IsInbox-moved steps p x.round x.inbox _ _ like.inbox is.inbox);
+}
+
+-- each of the copies stands in the place of what it serves for
+abbrev pub AreCopied : List Processor → List Processor → Type 0
+AreCopied kept copies = (k : ℕ) (y : Processor) → slice_get copies k ≡ Some y → (x : Processor) × (slice_get kept k ≡ Some x) × Serves x y
+
+pub AreCopied-push : (kept copies : List Processor) (x y : Processor) → AreCopied kept copies → slice_get kept (length copies) ≡ Some x → Serves x y → AreCopied kept (copies ++ y ∷ [])
+AreCopied-push kept copies x y are at serves k z h = elim (slice_get-push copies y z k h) [
+  | inl e ↦ are k z e
+  | inr e ↦ (x, ap (slice_get kept) e.0 ∙ at, subst (Serves x) e.1 serves)
+]
+
+pub AreProcessors-copied : (c : Setup) (steps : List Step) (kept copies : List Processor) → length copies ≡ length kept → AreCopied kept copies
+    → AreProcessors c steps kept → AreProcessors c steps copies
+AreProcessors-copied c steps kept copies count are is = record {
+  count = count ∙ is.count;
+  each = λ k y h. (let m = are k y h in m.2 c steps (suc k) (is.each k m.0 m.1));
+}
 
 -- where p stands after a step that is no Send of p and doesn't end its round
 pub IsStanding-stays : (c : Setup) (steps : List Step) (x : Step) (p r : ℕ) (state : State) (since to : ℕ) (letter : Option Letter) → IsWellFormed c steps

@@ -1,20 +1,15 @@
 pub mod StepPrefixes
 pub mod HeardSenders
-pub mod SettledPrefixes
-pub mod GrownRuns
 pub mod GrownNodes
 pub mod NextDestinations
 pub mod DecidedRounds
 pub mod WorkedTraces
-pub mod RisingIds
 pub mod RemovedIds
 pub mod BufferSteps
 pub mod KeptLetters
 pub mod KeptInboxes
 pub mod NextSends
 pub mod KeptProcessors
-pub mod Openings
-mod CopiedProcessors
 pub mod HeardInboxes
 pub mod RefusedTakes
 pub mod ReplayedSteps

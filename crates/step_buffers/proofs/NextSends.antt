@@ -25,8 +25,7 @@ use Rattle.step_buffers.specs.Moves.{next_send}
 use Rattle.step_buffers.specs.NextSteps.{sending}
 use Rattle.step_buffers.proofs.StepPrefixes.{before-prefix, passed-before, round_at-prefix}
 use Rattle.step_buffers.proofs.HeardSenders.{IsSentIn-from_test}
-use Rattle.step_buffers.proofs.GrownRuns.{count_by-more, sent_before-prefix}
-use Rattle.step_buffers.proofs.GrownNodes.{passed-ends, passed-stays, node_at-stays, before-now, next_destination-now}
+use Rattle.step_buffers.proofs.GrownNodes.{count_by-more, sent_before-prefix, passed-ends, passed-stays, node_at-stays, before-now, next_destination-now}
 use Rattle.step_buffers.proofs.NextDestinations.{first-destination, later-destination}
 
 -- how many messages p sent in its present round

@@ -1,9 +1,11 @@
 -- What a Receive takes out of a buffer, where nothing is against it: ids that rise, of messages that wait; and the
 -- message that it is refused for.
-use Rattle.std.proofs.Common.{ℕ, zero, suc, ◌≡◌, ◌+◌, ◌<◌, List, [], ◌∷◌, length, take, Option, Some, None, Bool, true, false, not, cond, ◌&&◌, ◌⊎◌, inl, inr, refl, subst, arith}
+use Rattle.std.proofs.Common.{ℕ, zero, suc, ◌≡◌, ◌+◌, ◌<◌, List, [], ◌∷◌, length, take, Option, Some, None, Bool, true, false, not, cond, ◌&&◌, inl, inr, refl, subst, arith}
+use Rattle.step_trace.proofs.Refusals.{find_all}
+use Rattle.std.proofs.lemmas.List.Elements.{All-contains}
 use Rattle.std.specs.Prelude.{Contains, find, nat_lt, is_some, option_map, is_none}
 use Rattle.std.specs.List.Sorted.{IsStrictlyIncreasing}
-use Rattle.std.proofs.lemmas.Bool.{ltb-true}
+use Rattle.std.proofs.lemmas.Bool.{ltb-true, not-false}
 use Rattle.std.proofs.lemmas.Option.{none-some}
 use Rattle.step_trace.specs.declared.traces.TheConstants.{MAX_STEPS}
 use Rattle.step_trace.specs.declared.steps.Act.TheVariants.{Receive}
@@ -19,7 +21,7 @@ use Rattle.step_buffers.specs.declared.moves.Take.TheVariants.{All, Nothing, Old
 use Rattle.step_buffers.specs.Runs.{IsDue}
 use Rattle.step_buffers.specs.Buffers.{buffer}
 use Rattle.step_buffers.specs.Moves.{is_in, taken_ids, take_refusal, IsStepRefusal, named_ids, next_send, move_refusal, step_refusal}
-use Rattle.step_buffers.proofs.RisingIds.{rising-take, Contains-from_is_in}
+use Rattle.step_buffers.proofs.RemovedIds.{rising-take, Contains-from_is_in}
 use Rattle.step_buffers.proofs.BufferSteps.{buffer-rises, IsWaiting-from_buffer}
 use Rattle.step_trace.proofs.NamedReasons.{found, failing}
 use Rattle.step_buffers.specs.declared.moves.Move.{Move}
@@ -53,14 +55,9 @@ Contains-take (suc n) (x ∷ xs) s d = elim (Contains-cons_cases x s (take n xs)
 
 -- where none is missing all are there
 none_missing : (waiting ids : List ℕ) (s : ℕ) → find (λ i. not (is_in waiting i)) ids ≡ None → Contains ids s → Contains waiting s
-none_missing waiting [] s h d = absurd (Contains-nil s d)
-none_missing waiting (x ∷ ids) s h d = go (is_in waiting x) refl h (Contains-cons_cases x s ids d) (none_missing waiting ids s)
-  where
-    go : (b : Bool) → is_in waiting x ≡ b → cond (not b) (Some x) (find (λ i. not (is_in waiting i)) ids) ≡ None → (x ≡ s) ⊎ Contains ids s
-        → (find (λ i. not (is_in waiting i)) ids ≡ None → Contains ids s → Contains waiting s) → Contains waiting s
-    go false e f m rest = cc
-    go true e f (inl same) rest = subst (Contains waiting) same (Contains-from_is_in waiting x e)
-    go true e f (inr m) rest = rest f m
+none_missing waiting ids s h d =
+    let none = All-contains (λ i. not (is_in waiting i) ≡ false) ids s (find_all (λ i. not (is_in waiting i)) ids h) d in
+    Contains-from_is_in waiting s (not-false (is_in waiting s) none)
 
 -- ids that may be taken out of a buffer: they rise and wait there
 record AreTakeable (waiting ids : List ℕ) : Type 0 where

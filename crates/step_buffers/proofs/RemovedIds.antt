@@ -1,18 +1,82 @@
--- Ids that are taken out of a rising list: from its front, from its back, or from between others.
-use Rattle.std.proofs.Common.{ℕ, suc, ◌≡◌, ◌+◌, ◌-◌, ◌<◌, ◌≤◌, List, [], ◌∷◌, ◌++◌, length, filter, get_or, take, drop, min, Bool, true, false, not, ◌||◌, ◌==◌, refl, sym, ap, ◌∙◌, subst, arith, eq-eqb}
-use lib.Seq.{paste}
-use Rattle.std.specs.Prelude.{Contains}
+-- Rising ids: their parts, and searches of them; ids that are taken out of a rising list, from its front, from its back, or
+-- from between others.
+use Rattle.std.proofs.Common.{ℕ, ◌≡◌, ◌+◌, ◌-◌, ◌<◌, ◌≤◌, ◌⊎◌, inl, inr, suc, List, length, get_or, take, drop, Bool, true, false, ◌==◌, Result, Ok, Err, refl, sym, ◌∙◌, subst, arith, eq-eqb, [], ◌∷◌, ◌++◌, filter, min, not, ◌||◌, ap}
+use Rattle.std.specs.Prelude.{MatchResult, Contains}
+use Rattle.std.specs.Result.{is_ok}
 use Rattle.std.specs.List.Sorted.{IsStrictlyIncreasing}
-use Rattle.std.proofs.Math.Bool.{or-true, or-false}
-use Rattle.std.proofs.Math.Seq.{take-append-add, drop-append-add, drop-append_seam}
-use Rattle.std.proofs.lemmas.Bool.{ne_eqb}
-use Rattle.std.proofs.lemmas.List.{length-append, length-take, length-take-le, length-drop, get_or-take, get_or-drop, get_or_default, take-append-drop, append-nil, drop_at, drop_more, take_more, append_assoc, take-append-le, drop-append-le, drop-take, drop-drop}
-use Rattle.std.proofs.lemmas.List.Elements.{filter-append}
-use Rattle.std.proofs.lemmas.List.Folds.{list_any-append}
+use Rattle.std.proofs.lemmas.Bool.{cases_lt, eqb-true, ne_eqb}
+use Rattle.std.proofs.lemmas.List.{length-take, length-drop, get_or-take, get_or-drop, get_or_default, length-append, length-take-le, take-append-drop, append-nil, drop_at, drop_more, take_more, append_assoc, take-append-le, drop-append-le, drop-take, drop-drop}
+use Rattle.step_trace.proofs.ListMembers.{list_any-found, list_any-at, Contains-head, Contains-rest}
 use Rattle.round_model.proofs.RisingLists.{rising-later}
 use Rattle.step_buffers.specs.Moves.{is_in}
-use Rattle.step_buffers.proofs.BufferSteps.{filter-agree, filter-all}
-use Rattle.step_buffers.proofs.RisingIds.{rising-nondecreasing, Contains-from_is_in}
+use lib.Seq.{paste}
+use Rattle.std.proofs.Math.Bool.{or-true, or-false}
+use Rattle.std.proofs.Math.Seq.{take-append-add, drop-append-add, drop-append_seam}
+use Rattle.std.proofs.lemmas.List.Elements.{filter-append}
+use Rattle.std.proofs.lemmas.List.Folds.{list_any-append}
+
+-- each element is below the later ones
+rising-before : (xs : List ℕ) (i j : ℕ) → IsStrictlyIncreasing xs → i < j → j < length xs → get_or xs i 0 < get_or xs j 0
+rising-before xs i j rise l h =
+    let e : i + suc (j - suc i) ≡ j = omega arith in
+    subst (λ n. get_or xs i 0 < get_or xs n 0) e (rising-later xs rise i (j - suc i) (omega arith))
+
+-- and no element is above a later one
+pub rising-nondecreasing : (xs : List ℕ) → IsStrictlyIncreasing xs → (i j : ℕ) → i ≤ j → j < length xs → get_or xs i 0 ≤ get_or xs j 0
+rising-nondecreasing xs rise i j l h = elim (cases_lt i j) [
+  | inl b ↦ (let before = rising-before xs i j rise b h in omega arith)
+  | inr b ↦ (let e : get_or xs i 0 ≡ get_or xs j 0 = ap (λ n. get_or xs n 0) (let f : i ≡ j = omega arith in f) in omega arith)
+]
+
+pub is_in-member : (xs : List ℕ) (x : ℕ) → Contains xs x → is_in xs x ≡ true
+is_in-member xs x d = list_any-at (λ i. i == x) xs x d (eq-eqb x x refl)
+
+pub Contains-from_is_in : (xs : List ℕ) (x : ℕ) → is_in xs x ≡ true → Contains xs x
+Contains-from_is_in xs x h =
+    let r = list_any-found (λ i. i == x) xs h in
+    subst (Contains xs) (eqb-true r.0 x r.2) r.1
+
+not-found : (xs : List ℕ) (x i : ℕ) → ((k : ℕ) → k < i → get_or xs k 0 < x) → ((k : ℕ) → i ≤ k → k < length xs → x < get_or xs k 0) → Contains xs x → ⊥
+not-found xs x i below above d =
+    let at : get_or xs d.0 0 ≡ x = sym (get_or_default xs d.0 x 0 d.1) ∙ d.2 in
+    go at (cases_lt d.0 i)
+  where
+    go : get_or xs d.0 0 ≡ x → (d.0 < i) ⊎ (i ≤ d.0) → ⊥
+    go at (inl l) = let b = below d.0 l in omega arith
+    go at (inr l) = let b = above d.0 l d.1 in omega arith
+
+-- a binary search finds just the members
+pub is_in-searched : (xs : List ℕ) (x : ℕ) (r : Result ℕ ℕ)
+    → MatchResult r (λ i. (i < length xs) × (get_or xs i 0 ≡ x)) (λ i. (i ≤ length xs) × ((k : ℕ) → k < i → get_or xs k 0 < x) × ((k : ℕ) → i ≤ k → k < length xs → x < get_or xs k 0))
+    → is_ok r ≡ is_in xs x
+is_in-searched xs x (Ok i) h = sym (is_in-member xs x (i, h.0, get_or_default xs i x 0 h.0 ∙ h.1))
+is_in-searched xs x (Err i) h = go (is_in xs x) refl
+  where
+    go : (b : Bool) → is_in xs x ≡ b → false ≡ is_in xs x
+    go true e = absurd (not-found xs x i h.1 h.2 (Contains-from_is_in xs x e))
+    go false e = sym e
+
+-- the parts of a rising list rise
+pub rising-drop : (xs : List ℕ) (n : ℕ) → IsStrictlyIncreasing xs → IsStrictlyIncreasing (drop n xs)
+rising-drop xs n rise = λ k inside.
+    let long = length-drop n xs in
+    let e : n + (k + 1) ≡ n + k + 1 = omega arith in
+    rw (get_or-drop n xs k 0, get_or-drop n xs (k + 1) 0, e) (rise (n + k) (omega arith))
+
+pub rising-take : (xs : List ℕ) (n : ℕ) → IsStrictlyIncreasing xs → IsStrictlyIncreasing (take n xs)
+rising-take xs n rise = λ k inside.
+    let short = length-take n xs in
+    rw (get_or-take n xs k 0 (omega arith), get_or-take n xs (k + 1) 0 (omega arith)) (rise k (omega arith))
+
+-- filters by tests that agree on the elements
+pub filter-agree : (f g : ℕ → Bool) (xs : List ℕ) → ((x : ℕ) → Contains xs x → f x ≡ g x) → filter f xs ≡ filter g xs
+filter-agree f g [] same = refl
+filter-agree f g (x ∷ xs) same = rw (same x (Contains-head x xs), filter-agree f g xs (λ y d. same y (Contains-rest x y xs d))) refl
+
+-- a filter that all elements pass
+pub filter-all : (f : ℕ → Bool) (xs : List ℕ) → ((x : ℕ) → Contains xs x → f x ≡ true) → filter f xs ≡ xs
+filter-all f [] pass = refl
+filter-all f (x ∷ xs) pass = rw (pass x (Contains-head x xs), filter-all f xs (λ y d. pass y (Contains-rest x y xs d))) refl
 
 -- what is less than the first of rising ids is none of them
 below-first : (ids : List ℕ) (s : ℕ) → IsStrictlyIncreasing ids → s < get_or ids 0 0 → not (is_in ids s) ≡ true
@@ -44,11 +108,6 @@ left-of_buffer ids xs n bound rise first within below =
     ap (filter f) (sym (take-append-drop n xs))
     ∙ filter-append f (take n xs) (drop n xs)
     ∙ ap (λ ys. ys ++ filter f (drop n xs)) (filter-all f (take n xs) (λ s d. below-first ids s rise (let low = front-below xs n bound s within below d in omega arith)))
-
-rising-before : (xs : List ℕ) (i j : ℕ) → IsStrictlyIncreasing xs → i < j → j < length xs → get_or xs i 0 < get_or xs j 0
-rising-before xs i j rise l h =
-    let e : i + suc (j - suc i) ≡ j = omega arith in
-    subst (λ n. get_or xs i 0 < get_or xs n 0) e (rising-later xs rise i (j - suc i) (omega arith))
 
 -- the elements of the back of a list that are above a bound
 back-above : (xs : List ℕ) (n bound s : ℕ) → ((k : ℕ) → n ≤ k → k < length xs → bound < get_or xs k 0) → Contains (drop n xs) s → bound < s

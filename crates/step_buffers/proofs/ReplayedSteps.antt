@@ -1,9 +1,9 @@
 -- Steps of a trace that are made again: what a run says of its last step, and as many as were made are the first ones.
-use Rattle.std.proofs.Common.{ℕ, suc, Result, Ok, Err, ◌≡◌, ◌+◌, ◌-◌, ◌<◌, List, [], ◌∷◌, ◌++◌, length, get_or, Option, Some, None, Bool, true, false, cond, not, ◌&&◌, refl, sym, ap, subst, arith, eq-eqb, inl, inr, take, drop, ◌∙◌}
+use Rattle.std.proofs.Common.{ℕ, suc, Result, Ok, Err, ◌≡◌, ◌+◌, ◌-◌, ◌<◌, List, [], ◌∷◌, ◌++◌, length, Option, Some, None, Bool, true, false, cond, not, ◌&&◌, refl, sym, ap, subst, arith, eq-eqb, inl, inr, take, drop, ◌∙◌}
+use Rattle.step_buffers.proofs.HeardSenders.{Contains-numbers}
 use Rattle.std.specs.Prelude.{Contains, find, is_some, option_map, IfOk, OnOk, slice_get, IfErr}
 use Rattle.std.specs.declared.alloc.AllocError.{AllocError}
 use Rattle.std.proofs.lemmas.Bool.{lt-ltb, not_from_true}
-use Rattle.std.proofs.lemmas.List.FromFn.{length-range_with_len, get_or-range_with_len}
 use Rattle.step_trace.specs.declared.steps.Act.TheVariants.{Send, Receive}
 use Rattle.step_trace.specs.declared.steps.Step.{Step}
 use Rattle.step_trace.specs.Configurations.{Setup, is_proc}
@@ -21,8 +21,8 @@ use Rattle.step_buffers.specs.Runs.{next_destination, IsDue, IsRun}
 use Rattle.step_buffers.specs.Buffers.{waits_for, buffer}
 use Rattle.step_buffers.specs.Moves.{next_send, is_in, take_refusal, step_refusal, IsStepRefusal}
 use Rattle.step_buffers.proofs.StepPrefixes.{IsWellFormed-prefix}
-use Rattle.step_buffers.proofs.GrownRuns.{next_destination-prefix, IsRun-prefix}
-use Rattle.step_buffers.proofs.RisingIds.{is_in-member}
+use Rattle.step_buffers.proofs.GrownNodes.{next_destination-prefix, IsRun-prefix}
+use Rattle.step_buffers.proofs.RemovedIds.{is_in-member}
 use Rattle.std.proofs.lemmas.Option.{none-some, slice_get_within, slice_get_cases, get_or_from_slice_get}
 use Rattle.std.proofs.lemmas.List.{length-append, length_push, take_all, take-append-le, take-append-drop}
 use Rattle.std.proofs.Math.Seq.{take-suc}
@@ -52,11 +52,7 @@ not_early-from_run c steps p ends ids run = go ends (IsDue-from_run c steps (rec
 Contains-buffer : (steps : List Step) (p s : ℕ) → IsSentTo steps s p → is_taken steps s ≡ false → Contains (buffer steps p) s
 Contains-buffer steps p s sent fresh =
     let b = step_at_within steps s (record { proc = sent.0; act = Send p }) sent.1 in
-    let low = b.0 in
-    let high = b.1 in
-    let long : length (numbers steps) ≡ length steps = length-range_with_len 1 (length steps) in
-    let at : get_or (numbers steps) (s - 1) s ≡ 1 + (s - 1) = get_or-range_with_len 1 (length steps) (s - 1) s (omega arith) in
-    Contains-filter (λ i. waits_for steps p i) (numbers steps) s (s - 1, omega arith, omega arith) (rw (sent.1, eq-eqb p p refl, fresh) refl)
+    Contains-filter (λ i. waits_for steps p i) (numbers steps) s (Contains-numbers steps s b.0 b.1) (rw (sent.1, eq-eqb p p refl, fresh) refl)
 
 -- and takes rising ids of messages that wait
 pub takes-from_run : (c : Setup) (steps : List Step) (p : ℕ) (ends : Bool) (ids : List ℕ) → IsRun c (steps ++ record { proc = p; act = Receive ends ids } ∷ [])

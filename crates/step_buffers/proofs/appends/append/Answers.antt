@@ -1,6 +1,6 @@
 use Rattle.step_trace.proofs.Refusals.{Fits-from_none}
 use Rattle.step_trace.proofs.Growth.{IsWellFormed-push}
-use Rattle.step_buffers.proofs.GrownRuns.{IsRun-push}
+use Rattle.step_buffers.proofs.GrownNodes.{IsRun-push}
 use Rattle.step_buffers.proofs.appends.append.Goals as goal
 
 pub returns-in-Ok-clause-run : goal.returns-in-Ok-clause-run

@@ -1,5 +1,5 @@
 use Rattle.std.proofs.Common.{refl}
-use Rattle.step_buffers.proofs.CopiedProcessors.{IsProcessor-alike}
+use Rattle.step_buffers.proofs.KeptProcessors.{IsProcessor-alike}
 use Rattle.step_buffers.proofs.copies.copied_processor.Goals as goal
 
 pub returns : goal.returns

@@ -2,7 +2,7 @@ use Rattle.std.proofs.Common.{◌≡◌, ◌+◌, ◌∙◌, length, Some, refl,
 use Rattle.std.specs.Prelude.{slice_get}
 use Rattle.std.proofs.lemmas.List.{length_push}
 use Rattle.std.proofs.lemmas.Option.{slice_get_read}
-use Rattle.step_buffers.proofs.CopiedProcessors.{AreCopied-push, AreProcessors-copied}
+use Rattle.step_buffers.proofs.KeptProcessors.{AreCopied-push, AreProcessors-copied}
 use Rattle.step_buffers.proofs.copies.copied_processors.Goals as goal
 
 pub loop-processor-preserved : goal.loop-processor-preserved

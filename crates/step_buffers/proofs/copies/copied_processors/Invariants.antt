@@ -1,5 +1,5 @@
 use Rattle.std.proofs.Common.{◌≡◌, length}
-use Rattle.step_buffers.proofs.CopiedProcessors.{AreCopied}
+use Rattle.step_buffers.proofs.KeptProcessors.{AreCopied}
 use Rattle.step_buffers.proofs.copies.copied_processors.Given as goal
 
 abbrev pub invariant-loop-processor : goal.invariant-loop-processor

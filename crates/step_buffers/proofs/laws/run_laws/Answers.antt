@@ -1,6 +1,6 @@
 use Rattle.step_buffers.proofs.DecidedRounds.{Agree-node_at, DecidesInitialValue-node_at, decision-stays_longer}
-use Rattle.step_buffers.proofs.SettledPrefixes.{state_after-prefix}
-use Rattle.step_buffers.proofs.GrownRuns.{IsRun-prefix}
+use Rattle.step_buffers.proofs.HeardSenders.{state_after-prefix}
+use Rattle.step_buffers.proofs.GrownNodes.{IsRun-prefix}
 use Rattle.step_buffers.proofs.laws.run_laws.Goals as goal
 
 pub returns-clause-agreement : goal.returns-clause-agreement

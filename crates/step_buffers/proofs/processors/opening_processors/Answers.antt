@@ -2,7 +2,7 @@ use Rattle.std.proofs.Common.{◌≡◌, ◌+◌, ◌-◌, ◌∙◌, suc, lengt
 use Rattle.std.proofs.lemmas.List.{length_push}
 use Rattle.lock_phases.specs.Nodes.{opening}
 use Rattle.round_model.specs.RoundStates.{initial_value}
-use Rattle.step_buffers.proofs.Openings.{AreOpening-push, AreProcessors-opening}
+use Rattle.step_buffers.proofs.KeptProcessors.{AreOpening-push, AreProcessors-opening}
 use Rattle.step_buffers.proofs.processors.opening_processors.Goals as goal
 
 pub loop-value-preserved : goal.loop-value-preserved

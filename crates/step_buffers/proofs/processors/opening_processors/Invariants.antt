@@ -1,5 +1,5 @@
 use Rattle.std.proofs.Common.{◌≡◌, length}
-use Rattle.step_buffers.proofs.Openings.{AreOpening}
+use Rattle.step_buffers.proofs.KeptProcessors.{AreOpening}
 use Rattle.step_buffers.proofs.processors.opening_processors.Given as goal
 
 abbrev pub invariant-loop-value : goal.invariant-loop-value

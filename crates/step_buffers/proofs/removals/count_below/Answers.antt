@@ -1,6 +1,6 @@
 use Rattle.std.proofs.Common.{ltb, ltb-true, arith, rules}
 use Rattle.std.proofs.lemmas.List.Sorted.{IsPartitionPoint-from_clause, IsPartitionedBy-ltb, IsNonDecreasingBy-from_default}
-use Rattle.step_buffers.proofs.RisingIds.{rising-nondecreasing}
+use Rattle.step_buffers.proofs.RemovedIds.{rising-nondecreasing}
 use Rattle.step_buffers.proofs.removals.count_below.Goals as goal
 
 pub returns-clause-below : goal.returns-clause-below

@@ -1,7 +1,7 @@
 use Rattle.std.proofs.Common.{leb, rules}
 use Rattle.std.proofs.lemmas.Bool.{leb-false}
 use Rattle.std.proofs.lemmas.List.Sorted.{IsPartitionPoint-from_clause, IsPartitionedBy-leb, IsNonDecreasingBy-from_default}
-use Rattle.step_buffers.proofs.RisingIds.{rising-nondecreasing}
+use Rattle.step_buffers.proofs.RemovedIds.{rising-nondecreasing}
 use Rattle.step_buffers.proofs.removals.count_up_to.Goals as goal
 
 pub returns-clause-above : goal.returns-clause-above

@@ -2,8 +2,7 @@ use Rattle.std.proofs.Common.{ℕ, ◌≡◌, ◌+◌, ◌-◌, ◌≤◌, ◌�
 use Rattle.std.proofs.lemmas.List.{take_rest, length-drop, drop-drop}
 use Rattle.std.specs.Vec.{vec_len}
 use Rattle.step_buffers.specs.Moves.{is_in}
-use Rattle.step_buffers.proofs.RisingIds.{rising-drop, rising-take}
-use Rattle.step_buffers.proofs.RemovedIds.{inner-part}
+use Rattle.step_buffers.proofs.RemovedIds.{rising-drop, rising-take, inner-part}
 use Rattle.step_buffers.proofs.removals.take_out.Goals as goal
 
 pub take_out_between-requires-clause-waiting : goal.take_out_between-requires-clause-waiting

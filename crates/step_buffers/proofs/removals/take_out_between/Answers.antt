@@ -2,9 +2,7 @@ use Rattle.std.proofs.Common.{ℕ, List, [], ◌≡◌, ◌+◌, ◌-◌, ◌<�
 use Rattle.std.proofs.lemmas.List.{with_items_is, nil_from_length, take_rest, length-take-le, length-drop, drop-drop}
 use Rattle.std.specs.Vec.{with_items}
 use Rattle.step_buffers.specs.Moves.{is_in}
-use Rattle.step_buffers.proofs.BufferSteps.{filter-all}
-use Rattle.step_buffers.proofs.RisingIds.{rising-drop}
-use Rattle.step_buffers.proofs.RemovedIds.{left-between, without-gap, length-written}
+use Rattle.step_buffers.proofs.RemovedIds.{rising-drop, left-between, without-gap, length-written, filter-all}
 use Rattle.step_buffers.proofs.removals.take_out_between.Goals as goal
 
 pub returns-then-ids-eq0-clause-left : goal.returns-then-ids-eq0-clause-left

@@ -1,6 +1,6 @@
 use Rattle.std.proofs.Common.{◌∙◌}
 use Rattle.std.proofs.lemmas.List.Sorted.{searched}
-use Rattle.step_buffers.proofs.RisingIds.{rising-nondecreasing, is_in-searched}
+use Rattle.step_buffers.proofs.RemovedIds.{rising-nondecreasing, is_in-searched}
 use Rattle.step_buffers.proofs.takes.is_in.Goals as goal
 
 pub returns : goal.returns

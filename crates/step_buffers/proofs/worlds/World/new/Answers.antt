@@ -1,5 +1,5 @@
 use Rattle.std.proofs.Common.{arith}
-use Rattle.step_buffers.proofs.Openings.{IsRun-opening, AreLetters-opening}
+use Rattle.step_buffers.proofs.KeptProcessors.{IsRun-opening, AreLetters-opening}
 use Rattle.step_buffers.proofs.worlds.World.new.Goals as goal
 
 pub invariant_of-result : goal.invariant_of-result
