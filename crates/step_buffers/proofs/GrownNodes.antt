@@ -125,8 +125,9 @@ pub sender-passed : (c : Setup) (steps : List Step) (x : Step) (p rounds q : ℕ
     → rounds ≤ passed steps q
 sender-passed c steps x p rounds q w h =
     let is = IsHeard-from_table (steps ++ x ∷ []) p (suc rounds) q h in
-    let b = step_at_within (steps ++ x ∷ []) is.place is.step is.stands in
-    let e = w.earlier is.place is.message is.step is.stands is.taken in
+    let t = is.take in
+    let b = step_at_within (steps ++ x ∷ []) t.place t.step t.stands in
+    let e = w.earlier t.place is.message t.step t.stands t.taken in
     let high = b.1 in
     let low = e.0 in
     let long : length (steps ++ x ∷ []) ≡ length steps + 1 = length-append steps (x ∷ []) in

@@ -163,13 +163,9 @@ module _ (c : Setup) (steps : List Step) (p r : ℕ) (ids near : List ℕ) (late
       let all = passed-ends steps (receiving p true ids) refl in
       heard_table-from_heard longer p r q (record {
         over = omega arith;
-        place = t.place;
-        step = t.step;
-        stands = t.stands;
-        taker = t.taker;
-        in_time = omega arith;
         message = s;
-        taken = t.taken;
+        take = t;
+        in_time = omega arith;
         sent = record { round = round; step = record { proc = q; act = Send p }; stands = sent; sender = refl; sends = refl };
       })
 
@@ -230,13 +226,14 @@ module _ (c : Setup) (steps : List Step) (p r : ℕ) (ids near : List ℕ) (late
   heard-in_heard : (m : Message) → Heard m → Contains (heard_in letters near ids r c.n) m
   heard-in_heard m heard =
       let h = IsHeard-from_table longer p r m.0 heard.heard in
-      let e = (w.earlier h.place h.message h.step h.stands h.taken).1 in
-      let one : Step = record { proc = e.0; act = Send h.step.proc } in
+      let t = h.take in
+      let e = (w.earlier t.place h.message t.step t.stands t.taken).1 in
+      let one : Step = record { proc = e.0; act = Send t.step.proc } in
       let same : one ≡ h.sent.step = same_Some one h.sent.step (sym e.1 ∙ h.sent.stands) in
-      let sent : IsSend longer m.0 p h.message = subst₂ (λ q to. IsSend longer q to h.message) (ap (λ (z : Step). z.proc) same ∙ h.sent.sender) h.taker e.1 in
+      let sent : IsSend longer m.0 p h.message = subst₂ (λ q to. IsSend longer q to h.message) (ap (λ (z : Step). z.proc) same ∙ h.sent.sender) t.taker e.1 in
       let round = h.sent.round in
       let a = IsKeptAfter-from_kept steps (receiving p true ids) c p r h.message w
-      (record { sender = m.0; sent = sent; taken = taken_from_at longer h.place h.message (h.step, h.stands, h.taken); ahead = omega arith }) in
+      (record { sender = m.0; sent = sent; taken = taken_from_at longer t.place h.message (t.step, t.stands, t.taken); ahead = omega arith }) in
       let after = sent-longer steps (receiving p true ids) a.sender p h.message a.sent in
       let two : Step = record { proc = a.sender; act = Send p } in
       let from : a.sender ≡ m.0 = ap (λ (z : Step). z.proc) (same_Some two h.sent.step (sym after.0 ∙ h.sent.stands)) ∙ h.sent.sender in

@@ -64,16 +64,20 @@ is_sent_in-from_send steps q r s is =
     (test-from_step (λ x. x.proc == q && act_sends x.act) steps s is.step is.stands
     (and_both (is.step.proc == q) (act_sends is.step.act) (eq-eqb is.step.proc q is.sender) is.sends))
 
--- p heard q in round r, which it has passed: a step of p took a message of q of that round in time
-pub record IsHeard (steps : List Step) (p r q : ℕ) : Type 0 where
-  pub over : r ≤ passed steps p
+-- a step of p took message s
+pub record IsTakenBy (steps : List Step) (p s : ℕ) : Type 0 where
   pub place : ℕ
   pub step : Step
   pub stands : step_at steps place ≡ Some step
   pub taker : step.proc ≡ p
-  pub in_time : round_at steps p place ≤ r
+  pub taken : Contains (act_ids step.act) s
+
+-- p heard q in round r, which it has passed: a step of p took a message of q of that round in time
+pub record IsHeard (steps : List Step) (p r q : ℕ) : Type 0 where
+  pub over : r ≤ passed steps p
   pub message : ℕ
-  pub taken : Contains (act_ids step.act) message
+  pub take : IsTakenBy steps p message
+  pub in_time : round_at steps p take.place ≤ r
   pub sent : IsSentIn steps q r message
 
 pub IsHeard-from_table : (steps : List Step) (p r q : ℕ) → heard_table steps p r q ≡ true → IsHeard steps p r q
@@ -88,13 +92,9 @@ IsHeard-from_table steps p r q h =
     let s = list_any-found (λ s. is_sent_in steps q r s) (act_ids x.step.act) does.1 in
     record {
       over = leb-true r (passed steps p) parts.0;
-      place = k.0;
-      step = x.step;
-      stands = x.stands;
-      taker = eqb-true x.step.proc p does.0;
-      in_time = leb-true (round_at steps p k.0) r at.0;
       message = s.0;
-      taken = s.1;
+      take = record { place = k.0; step = x.step; stands = x.stands; taker = eqb-true x.step.proc p does.0; taken = s.1 };
+      in_time = leb-true (round_at steps p k.0) r at.0;
       sent = IsSentIn-from_test steps q r s.0 s.2;
     }
 
@@ -108,17 +108,18 @@ Contains-numbers steps k low high =
 pub heard_table-from_heard : (steps : List Step) (p r q : ℕ) → IsHeard steps p r q → heard_table steps p r q ≡ true
 unfolding heard_table
 heard_table-from_heard steps p r q is =
+    let t = is.take in
     let takes : Step → Bool = λ x. x.proc == p && list_any (λ s. is_sent_in steps q r s) (act_ids x.act) in
-    let within = step_at_within steps is.place is.step is.stands in
+    let within = step_at_within steps t.place t.step t.stands in
     and_both (nat_le r (passed steps p)) (list_any (λ k. hears_at steps p r q k) (numbers steps))
     (le-leb r (passed steps p) is.over)
-    (list_any-at (λ k. hears_at steps p r q k) (numbers steps) is.place (Contains-numbers steps is.place (omega arith) within.1)
-    (and_both (nat_le (round_at steps p is.place) r) (option_map_or takes (step_at steps is.place) false)
-    (le-leb (round_at steps p is.place) r is.in_time)
-    (test-from_step takes steps is.place is.step is.stands
-    (and_both (is.step.proc == p) (list_any (λ s. is_sent_in steps q r s) (act_ids is.step.act))
-    (eq-eqb is.step.proc p is.taker)
-    (list_any-at (λ s. is_sent_in steps q r s) (act_ids is.step.act) is.message is.taken (is_sent_in-from_send steps q r is.message is.sent))))))
+    (list_any-at (λ k. hears_at steps p r q k) (numbers steps) t.place (Contains-numbers steps t.place (omega arith) within.1)
+    (and_both (nat_le (round_at steps p t.place) r) (option_map_or takes (step_at steps t.place) false)
+    (le-leb (round_at steps p t.place) r is.in_time)
+    (test-from_step takes steps t.place t.step t.stands
+    (and_both (t.step.proc == p) (list_any (λ s. is_sent_in steps q r s) (act_ids t.step.act))
+    (eq-eqb t.step.proc p t.taker)
+    (list_any-at (λ s. is_sent_in steps q r s) (act_ids t.step.act) is.message t.taken (is_sent_in-from_send steps q r is.message is.sent))))))
 
 pub same_tests : (a b : Bool) → (a ≡ true → b ≡ true) → (b ≡ true → a ≡ true) → a ≡ b
 same_tests true b f g = sym (f refl)
@@ -147,41 +148,35 @@ IsSentIn-prefix steps more q r s l is = record {
 -- what was heard stays heard
 IsHeard-longer : (c : Setup) (steps more : List Step) (p r q : ℕ) → IsWellFormed c steps → IsHeard steps p r q → IsHeard (steps ++ more) p r q
 IsHeard-longer c steps more p r q w is =
-    let b = step_at_within steps is.place is.step is.stands in
-    let e = w.earlier is.place is.message is.step is.stands is.taken in
+    let t = is.take in
+    let b = step_at_within steps t.place t.step t.stands in
+    let e = w.earlier t.place is.message t.step t.stands t.taken in
     let l = e.0 in
     let within = b.1 in
     record {
       over = (let o = is.over in let m = passed-append steps more p in omega arith);
-      place = is.place;
-      step = is.step;
-      stands = step_at-prefix steps more is.place within ∙ is.stands;
-      taker = is.taker;
-      in_time = (let same = round_at-prefix steps more p is.place (omega arith) in let t = is.in_time in omega arith);
       message = is.message;
-      taken = is.taken;
+      take = record { place = t.place; step = t.step; stands = step_at-prefix steps more t.place within ∙ t.stands; taker = t.taker; taken = t.taken };
+      in_time = (let same = round_at-prefix steps more p t.place (omega arith) in let i = is.in_time in omega arith);
       sent = IsSentIn-longer steps more q r is.message (omega arith) is.sent;
     }
 
 -- and in a round that is over nothing more is heard
 IsHeard-prefix : (c : Setup) (steps more : List Step) (p r q : ℕ) → IsWellFormed c steps → r ≤ passed steps p → IsHeard (steps ++ more) p r q → IsHeard steps p r q
-IsHeard-prefix c steps more p r q w over is = go (cases_lt (length steps) is.place)
+IsHeard-prefix c steps more p r q w over is = go is.take is.in_time (cases_lt (length steps) is.take.place)
   where
-    go : (length steps < is.place) ⊎ (is.place ≤ length steps) → IsHeard steps p r q
-    go (inl late) = absurd (let past = round_at-past steps more p is.place late in let t = is.in_time in omega arith)
-    go (inr within) =
-        let stands : step_at steps is.place ≡ _ = sym (step_at-prefix steps more is.place within) ∙ is.stands in
-        let e = w.earlier is.place is.message is.step stands is.taken in
+    go : (t : IsTakenBy (steps ++ more) p is.message) → round_at (steps ++ more) p t.place ≤ r → (length steps < t.place) ⊎ (t.place ≤ length steps) → IsHeard steps p r q
+    go t early (inl late) = absurd (let past = round_at-past steps more p t.place late in omega arith)
+    go t early (inr within) =
+        let stands : step_at steps t.place ≡ Some t.step = sym (step_at-prefix steps more t.place within) ∙ t.stands in
+        let e = w.earlier t.place is.message t.step stands t.taken in
         let l = e.0 in
+        let same = round_at-prefix steps more p t.place (omega arith) in
         record {
           over = over;
-          place = is.place;
-          step = is.step;
-          stands = stands;
-          taker = is.taker;
-          in_time = (let same = round_at-prefix steps more p is.place (omega arith) in let t = is.in_time in omega arith);
           message = is.message;
-          taken = is.taken;
+          take = record { place = t.place; step = t.step; stands = stands; taker = t.taker; taken = t.taken };
+          in_time = omega arith;
           sent = IsSentIn-prefix steps more q r is.message (omega arith) is.sent;
         }
 

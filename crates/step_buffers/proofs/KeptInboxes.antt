@@ -9,7 +9,7 @@ use Rattle.step_trace.specs.declared.steps.Act.TheVariants.{Send}
 use Rattle.step_trace.specs.declared.steps.Step.{Step}
 use Rattle.step_trace.specs.Configurations.{Setup}
 use Rattle.step_trace.specs.Steps.{act_ids, act_takes, act_dest}
-use Rattle.step_trace.specs.Traces.{step_at, IsWellFormed}
+use Rattle.step_trace.specs.Traces.{IsWellFormed}
 use Rattle.step_trace.specs.PushRefusals.{is_taken}
 use Rattle.step_trace.proofs.StepPositions.{step_at_within, step_at-push_cases, act_takes-from_Contains, taken_from_at, taken_at-from_is_taken}
 use Rattle.step_buffers.specs.declared.letters.Letter.{Letter}
@@ -18,6 +18,7 @@ use Rattle.step_buffers.specs.Runs.{IsSend}
 use Rattle.step_buffers.specs.Letters.{letter_at, round_of}
 use Rattle.step_buffers.specs.Worlds.{IsKept, IsLetter, AreLetters, IsEntry, IsInbox}
 use Rattle.step_buffers.proofs.StepPrefixes.{step_at-prefix, step_at-prefix_old, round_at-prefix}
+use Rattle.step_buffers.proofs.HeardSenders.{IsTakenBy}
 use Rattle.step_buffers.proofs.BufferSteps.{is_taken-push}
 use Rattle.std.specs.List.Sorted.{IsPermutation}
 use Rattle.std.proofs.lemmas.Bool.{le-leb, leb-true}
@@ -26,14 +27,6 @@ use Rattle.std.proofs.lemmas.List.Sorted.{IsPermutation-sym, Contains-permutatio
 use Rattle.step_trace.proofs.FittingSteps.{Fits-from_well_formed}
 use Rattle.step_trace.proofs.ListMembers.{Contains-nil, Contains-filter, Contains-from_filter, Contains-map, Contains-from_map}
 use Rattle.step_buffers.specs.Inboxes.{Entry, ids_of, kept_of, is_ahead, ahead, IsEntered, Held, kept_ids, IsMoved}
-
--- a step of p took message s
-pub record IsTakenBy (steps : List Step) (p s : ℕ) : Type 0 where
-  pub place : ℕ
-  pub step : Step
-  pub stands : step_at steps place ≡ Some step
-  pub taker : step.proc ≡ p
-  pub taken : Contains (act_ids step.act) s
 
 -- who takes a message is the one to whom it was sent
 pub IsTakenBy-receiver : (c : Setup) (steps : List Step) (q p s : ℕ) → IsWellFormed c steps → IsSend steps q p s → is_taken steps s ≡ true → IsTakenBy steps p s

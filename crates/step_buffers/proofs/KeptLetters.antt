@@ -15,7 +15,7 @@ use Rattle.step_buffers.specs.HeardTables.{passed, round_at}
 use Rattle.step_buffers.specs.Runs.{node_at, IsSend}
 use Rattle.step_buffers.specs.Letters.{letter_at, round_of, letter_left}
 use Rattle.step_buffers.specs.NextSteps.{sending, receiving}
-use Rattle.step_buffers.specs.Worlds.{IsLetter, AreLetters}
+use Rattle.step_buffers.specs.Worlds.{IsLetter, IsKeptOrPast, AreLetters}
 use Rattle.step_buffers.proofs.StepPrefixes.{round_at-prefix, passed-append}
 use Rattle.step_buffers.proofs.GrownNodes.{body_of-prefix, body_of-now, before-now}
 use Rattle.std.specs.Prelude.{Contains, nat_lt}
@@ -49,8 +49,7 @@ AreLetters-push c steps x letters o w are new = record {
 }
   where
     go : (q to s : ℕ) → (step_at steps s ≡ Some (record { proc = q; act = Send to })) ⊎ ((s ≡ length steps + 1) × (x ≡ record { proc = q; act = Send to }))
-        → ((l : Letter) × (letter_at (letters ++ o ∷ []) s ≡ Some l) × IsLetter c (steps ++ x ∷ []) q to s l)
-        ⊎ ((letter_at (letters ++ o ∷ []) s ≡ None) × (round_at (steps ++ x ∷ []) q s ≤ passed (steps ++ x ∷ []) to))
+        → IsKeptOrPast c (steps ++ x ∷ []) (letters ++ o ∷ []) q to s
     go q to s (inl old) =
         let b = step_at_within steps s (record { proc = q; act = Send to }) old in
         let within = b.1 in
@@ -143,10 +142,8 @@ AreLetters-released c steps p round ids letters after are now sent places left =
     at : (s : ℕ) (a t : Bool) → is_in ids s ≡ a → nat_lt (round_of letters s) round ≡ t → letter_at after s ≡ cond (a && t) None (letter_at letters s)
     at s a t d f = left s ∙ rw (d, f) refl
 
-    go : (q to s : ℕ) → IsSend steps q to s
-        → ((x : Letter) × (letter_at letters s ≡ Some x) × IsLetter c steps q to s x) ⊎ ((letter_at letters s ≡ None) × (round_at steps q s ≤ passed steps to))
-        → (a t : Bool) → is_in ids s ≡ a → nat_lt (round_of letters s) round ≡ t
-        → ((x : Letter) × (letter_at after s ≡ Some x) × IsLetter c steps q to s x) ⊎ ((letter_at after s ≡ None) × (round_at steps q s ≤ passed steps to))
+    go : (q to s : ℕ) → IsSend steps q to s → IsKeptOrPast c steps letters q to s → (a t : Bool) → is_in ids s ≡ a → nat_lt (round_of letters s) round ≡ t
+        → IsKeptOrPast c steps after q to s
     go q to s h (inl m) true true d f =
         let of_p = sent s (Contains-from_is_in ids s d) in
         let step : Step = record { proc = q; act = Send to } in

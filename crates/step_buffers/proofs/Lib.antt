@@ -1,14 +1,13 @@
 pub mod StepPrefixes
 pub mod HeardSenders
 pub mod GrownNodes
-pub mod NextDestinations
+pub mod NextSends
 pub mod DecidedRounds
 pub mod WorkedTraces
 pub mod RemovedIds
 pub mod BufferSteps
 pub mod KeptLetters
 pub mod KeptInboxes
-pub mod NextSends
 pub mod KeptProcessors
 pub mod HeardInboxes
 pub mod RefusedTakes

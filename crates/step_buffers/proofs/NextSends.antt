@@ -1,32 +1,177 @@
--- Where a processor sends next, as the trace grows by a step.
-use Rattle.std.proofs.Common.{ℕ, zero, suc, ◌≡◌, ◌+◌, ◌-◌, ◌<◌, ◌≤◌, List, [], ◌∷◌, ◌++◌, length, Some, None, Bool, true, false, cond, ◌==◌, ◌&&◌, refl, sym, ap, ◌∙◌, arith, eq-eqb}
-use Rattle.std.specs.Prelude.{slice_get, find, nat_lt, is_some, count_by}
+-- Where a processor sends next: the least destination above the last one to which there is something to send, found by
+-- trying one processor, since of those above the last one none before it is sent anything, nor any after it where it isn't;
+-- and as the trace grows by a step.
+use Rattle.std.proofs.Common.{ℕ, zero, suc, ◌≡◌, ◌+◌, ◌<◌, ◌≤◌, List, [], ◌∷◌, Some, Bool, true, false, cond, ltb, ◌&&◌, refl, sym, ap, ◌∙◌, subst, arith, ◌⊎◌, inl, inr, Option, None, ◌≢◌, eqb, eq-eqb, ◌-◌, ◌++◌, length, ◌==◌}
+use Rattle.std.specs.Prelude.{slice_get, filter, find, nat_lt, is_some, Contains, IsSome, option_map, count_by}
+use Rattle.std.specs.List.Sorted.{IsStrictlyIncreasing}
+use Rattle.std.proofs.lemmas.Option.{same_Some, none-some, slice_get_within, get_or_from_slice_get}
+use Rattle.std.proofs.lemmas.Bool.{lt-ltb, le-ltb, cases_lt, and_parts, eqb-true, ne_eqb, false≢true}
+use Rattle.step_trace.specs.Configurations.{Setup, IsProc}
+use Rattle.step_trace.proofs.ListMembers.{Contains-from_filter, Contains-head, Contains-rest, rising-tail, rising-first, Contains-nil}
+use Rattle.lock_phases.specs.Nodes.{State}
+use Rattle.lock_phases.specs.NodeFunctions.{out}
+use Rattle.round_model.specs.RoundStates.{processors}
+use Rattle.round_model.proofs.ProcessorRanges.{IsStrictlyIncreasing-range_with_len}
+use Rattle.step_buffers.specs.Runs.{destinations, destination_after, node_at, sent_before}
 use Rattle.std.specs.List.{range_with_len}
+use Rattle.lock_phases.specs.declared.bodies.Body.{Body}
+use Rattle.lock_phases.specs.declared.bodies.Kind.TheVariants.{Ack}
+use Rattle.lock_phases.specs.Rounds.{phase_of, part_of, owner, Listing, Locking, Acknowledging, Releasing}
+use Rattle.lock_phases.specs.Hearing.{with_proper}
+use Rattle.lock_phases.proofs.RoundLaws.{part_of-cases, part_at-listing, part_at-locking, part_at-acknowledging, part_at-releasing, out-in}
 use Rattle.std.proofs.Math.Bool.{and-false}
-use Rattle.std.proofs.lemmas.Bool.{lt-ltb}
-use Rattle.std.proofs.lemmas.Option.{slice_get_within, get_or_from_slice_get}
 use Rattle.std.proofs.lemmas.List.{length-append}
 use Rattle.step_trace.specs.declared.traces.TheConstants.{MAX_STEPS}
 use Rattle.step_trace.specs.declared.steps.Step.{Step}
-use Rattle.step_trace.specs.Configurations.{Setup, IsProc}
 use Rattle.step_trace.specs.Steps.{act_sends}
 use Rattle.step_trace.specs.Traces.{IsWellFormed}
 use Rattle.step_trace.specs.PushRefusals.{refusal}
 use Rattle.step_trace.proofs.StepPositions.{step_at_last, step_at_within}
 use Rattle.step_trace.proofs.FittingSteps.{none_from_Fits}
-use Rattle.step_trace.proofs.ListMembers.{Contains-from_filter, Contains-nil}
-use Rattle.lock_phases.specs.Nodes.{State}
-use Rattle.lock_phases.specs.NodeFunctions.{out}
-use Rattle.round_model.specs.RoundStates.{processors}
 use Rattle.round_model.proofs.HeardMessages.{IsProc-from_processors}
 use Rattle.step_buffers.specs.HeardTables.{act_ends, passed, round_at, is_sent_in}
-use Rattle.step_buffers.specs.Runs.{node_at, destinations, sent_before, destination_after}
 use Rattle.step_buffers.specs.Moves.{next_send}
 use Rattle.step_buffers.specs.NextSteps.{sending}
 use Rattle.step_buffers.proofs.StepPrefixes.{before-prefix, passed-before, round_at-prefix}
 use Rattle.step_buffers.proofs.HeardSenders.{IsSentIn-from_test}
 use Rattle.step_buffers.proofs.GrownNodes.{count_by-more, sent_before-prefix, passed-ends, passed-stays, node_at-stays, before-now, next_destination-now}
-use Rattle.step_buffers.proofs.NextDestinations.{first-destination, later-destination}
+
+-- all elements are above a number
+abbrev AreAbove : ℕ → List ℕ → Type 0
+AreAbove x xs = (y : ℕ) → Contains xs y → x < y
+
+-- what passes first
+first-filtered : (test : ℕ → Bool) (xs : List ℕ) → slice_get (filter test xs) 0 ≡ find test xs
+first-filtered test [] = refl
+first-filtered test (x ∷ xs) = go (test x) (first-filtered test xs)
+  where
+    go : (b : Bool) → slice_get (filter test xs) 0 ≡ find test xs → slice_get (cond b (x ∷ filter test xs) (filter test xs)) 0 ≡ cond b (Some x) (find test xs)
+    go true rest = refl
+    go false rest = rest
+
+-- a bound below all elements tests nothing
+find-above : (test : ℕ → Bool) (last : ℕ) (xs : List ℕ) → AreAbove last xs → find (λ y. nat_lt last y && test y) xs ≡ find test xs
+find-above test last [] above = refl
+find-above test last (x ∷ xs) above =
+    rw (lt-ltb last x (above x (Contains-head x xs)), find-above test last xs (λ y d. above y (Contains-rest x y xs d))) refl
+
+-- after one that passes
+pub after-filtered : (test : ℕ → Bool) (xs : List ℕ) (last k : ℕ) → IsStrictlyIncreasing xs → slice_get (filter test xs) k ≡ Some last
+    → slice_get (filter test xs) (suc k) ≡ find (λ y. nat_lt last y && test y) xs
+after-filtered test [] last k rise h = absurd (none-some last h)
+after-filtered test (x ∷ xs) last k rise h = go (test x) k (after-filtered test xs last) h
+  where
+    skip : (b : Bool) → x ≤ last → find (λ y. nat_lt last y && test y) xs ≡ cond (ltb last x && b) (Some x) (find (λ y. nat_lt last y && test y) xs)
+    skip b l = rw (le-ltb last x l) refl
+
+    later : (j : ℕ) → slice_get (filter test xs) j ≡ Some last → x ≤ last
+    later j e =
+        let member = (Contains-from_filter test xs last (j, slice_get_within (filter test xs) j last e, get_or_from_slice_get (filter test xs) j last last e)).0 in
+        let l = rising-first x xs rise last member in
+        omega arith
+
+    go : (b : Bool) (j : ℕ) → ((j : ℕ) → IsStrictlyIncreasing xs → slice_get (filter test xs) j ≡ Some last → slice_get (filter test xs) (suc j) ≡ find (λ y. nat_lt last y && test y) xs)
+        → slice_get (cond b (x ∷ filter test xs) (filter test xs)) j ≡ Some last
+        → slice_get (cond b (x ∷ filter test xs) (filter test xs)) (suc j) ≡ cond (ltb last x && b) (Some x) (find (λ y. nat_lt last y && test y) xs)
+    go false j rest e = rest j (rising-tail x xs rise) e ∙ skip false (later j e)
+    go true zero rest e =
+        let same : x ≡ last = same_Some x last e in
+        first-filtered test xs
+        ∙ sym (find-above test last xs (λ y d. let l = rising-first x xs rise y d in omega arith))
+        ∙ skip true (omega arith)
+    go true (suc j) rest e = rest j (rising-tail x xs rise) e ∙ skip true (later j e)
+
+-- the first destination of a round
+pub first-destination : (c : Setup) (node : State) (p round : ℕ) → slice_get (destinations c node p round) 0 ≡ find (λ to. is_some (out c node p round to)) (processors c)
+first-destination c node p round = first-filtered (λ to. is_some (out c node p round to)) (processors c)
+
+-- the one after the last
+pub later-destination : (c : Setup) (node : State) (p round last k : ℕ) → slice_get (destinations c node p round) k ≡ Some last
+    → slice_get (destinations c node p round) (suc k) ≡ find (λ to. nat_lt last to && is_some (out c node p round to)) (processors c)
+later-destination c node p round last k h =
+    after-filtered (λ to. is_some (out c node p round to)) (processors c) last k (IsStrictlyIncreasing-range_with_len 1 c.n) h
+
+-- the first number of a range that passes a test
+find-first : (test : ℕ → Bool) (a n k : ℕ) → a ≤ k → k < a + n → ((j : ℕ) → a ≤ j → j < k → test j ≡ false) → test k ≡ true → find test (range_with_len a n) ≡ Some k
+find-first test a zero k low high none at = absurd (omega arith)
+find-first test a (suc n) k low high none at =
+    go (cases_lt a k) (λ l. find-first test (a + 1) n k (omega arith) (omega arith) (λ j b h. none j (omega arith) h) at)
+  where
+    go : (a < k) ⊎ (k ≤ a) → (a < k → find test (range_with_len (a + 1) n) ≡ Some k) → find test (range_with_len a (suc n)) ≡ Some k
+    go (inl l) rest = rw (none a (omega arith) l) (rest l)
+    go (inr l) rest = let e : a ≡ k = omega arith in rw (ap test e ∙ at) (ap (λ (x : ℕ). Some x) e)
+
+-- where none passes
+find-none : (test : ℕ → Bool) (a n : ℕ) → ((j : ℕ) → a ≤ j → j < a + n → test j ≡ false) → find test (range_with_len a n) ≡ None
+find-none test a zero none = refl
+find-none test a (suc n) none = rw (none a (omega arith) (omega arith)) (find-none test (a + 1) n (λ j b h. none j (omega arith) (omega arith)))
+
+unsent : (c : Setup) (node : State) (p round last to : ℕ) → (last < to → is_some (out c node p round to) ≡ false) → (nat_lt last to && is_some (out c node p round to)) ≡ false
+unsent c node p round last to none = go (cases_lt last to)
+  where
+    go : (last < to) ⊎ (to ≤ last) → (nat_lt last to && is_some (out c node p round to)) ≡ false
+    go (inl l) = rw (lt-ltb last to l, none l) refl
+    go (inr l) = rw (le-ltb last to l) refl
+
+pub destination_after-found : (c : Setup) (node : State) (p round last to : ℕ) → last < to → to < c.n + 1
+    → ((t : ℕ) → last < t → t < to → is_some (out c node p round t) ≡ false) → is_some (out c node p round to) ≡ true → destination_after c node p round last ≡ Some to
+destination_after-found c node p round last to l high none at =
+    find-first (λ t. nat_lt last t && is_some (out c node p round t)) 1 c.n to (omega arith) (omega arith)
+    (λ t b h. unsent c node p round last t (λ m. none t m h))
+    (rw (lt-ltb last to l, at) refl)
+
+pub destination_after-none : (c : Setup) (node : State) (p round last : ℕ) → ((t : ℕ) → last < t → t < c.n + 1 → is_some (out c node p round t) ≡ false)
+    → destination_after c node p round last ≡ None
+destination_after-none c node p round last none =
+    find-none (λ t. nat_lt last t && is_some (out c node p round t)) 1 c.n (λ t b h. unsent c node p round last t (λ m. none t m (omega arith)))
+
+-- what is found passes the test
+find-passes : (test : ℕ → Bool) (xs : List ℕ) (x : ℕ) → find test xs ≡ Some x → test x ≡ true
+find-passes test [] x h = cc
+find-passes test (y ∷ ys) x h = go (test y) refl h (find-passes test ys x)
+  where
+    go : (b : Bool) → test y ≡ b → cond b (Some y) (find test ys) ≡ Some x → (find test ys ≡ Some x → test x ≡ true) → test x ≡ true
+    go true e f rest = subst (λ z. test z ≡ true) (same_Some y x f) e
+    go false e f rest = rest f
+
+present : (o : Option Body) → is_some o ≡ true → IsSome o
+present (Some x) h = refl
+present None h = cc
+
+-- so there is something to send to the next destination
+pub destination_after-sends : (c : Setup) (node : State) (p round last to : ℕ) → destination_after c node p round last ≡ Some to → IsSome (out c node p round to)
+destination_after-sends c node p round last to h =
+    present (out c node p round to) (and_parts (nat_lt last to) (is_some (out c node p round to)) (find-passes (λ t. nat_lt last t && is_some (out c node p round t)) (processors c) to h)).1
+
+-- in the rounds of lists and of acknowledgements nobody but the owner is sent anything
+pub sent-to_owner : (c : Setup) (s : State) (me round to : ℕ) → (part_of round ≡ 1) ⊎ (part_of round ≡ 3) → to ≢ owner c.n (phase_of round)
+    → is_some (out c s me round to) ≡ false
+sent-to_owner c s me round to (inl e) other =
+    ap is_some (out-in Listing c s me round to (part_at-listing round e)) ∙ rw (ne_eqb to (owner c.n (phase_of round)) other) refl
+sent-to_owner c s me round to (inr e) other =
+    ap is_some (out-in Acknowledging c s me round to (part_at-acknowledging round e)) ∙ rw (ne_eqb to (owner c.n (phase_of round)) other) (go s.owes_ack)
+  where
+    go : (b : Bool) → is_some (option_map (λ kind. with_proper s kind) (cond (b && false) (Some Ack) None)) ≡ false
+    go true = refl
+    go false = refl
+
+-- so where the owner is sent nothing nobody is
+pub sent-to_none : (c : Setup) (s : State) (me round r to : ℕ) → (part_of round ≡ 1) ⊎ (part_of round ≡ 3) → (to ≡ owner c.n (phase_of round) → to ≡ r)
+    → is_some (out c s me round r) ≡ false → is_some (out c s me round to) ≡ false
+sent-to_none c s me round r to part same none = go (eqb to (owner c.n (phase_of round))) refl
+  where
+    go : (b : Bool) → eqb to (owner c.n (phase_of round)) ≡ b → is_some (out c s me round to) ≡ false
+    go true e = subst (λ t. is_some (out c s me round t) ≡ false) (sym (same (eqb-true to (owner c.n (phase_of round)) e))) none
+    go false e = sent-to_owner c s me round to part (λ o. false≢true (sym e ∙ eq-eqb to (owner c.n (phase_of round)) o))
+
+-- in the other rounds all are sent something, or none is
+pub sent-alike : (c : Setup) (s : State) (me round t u : ℕ) → (part_of round ≢ 1) → (part_of round ≢ 3) → is_some (out c s me round t) ≡ is_some (out c s me round u)
+sent-alike c s me round t u first third = elim (part_of-cases round) [
+  | inl e ↦ absurd (first e)
+  | inr (inl e) ↦ ap is_some (out-in Locking c s me round t (part_at-locking round e) ∙ sym (out-in Locking c s me round u (part_at-locking round e)))
+  | inr (inr (inl e)) ↦ absurd (third e)
+  | inr (inr (inr e)) ↦ ap is_some (out-in Releasing c s me round t (part_at-releasing round e) ∙ sym (out-in Releasing c s me round u (part_at-releasing round e)))
+]
 
 -- how many messages p sent in its present round
 abbrev sent_now : List Step → ℕ → ℕ

@@ -85,12 +85,15 @@ pub record IsLetter (c : Setup) (steps : List Step) (q to s : ℕ) (x : Letter) 
   pub round : x.round ≡ round_at steps q s
   pub body : body_of c steps q to s ≡ Some x.body
 
--- The messages that are kept: a place for each step, and in that of each Send its message, at least until its
--- receiver has passed the round in which it was sent.
+-- the message of a Send is kept in its place; or it is gone, and its receiver has passed the round in which it was sent
+abbrev pub IsKeptOrPast : Setup → List Step → List (Option Letter) → ℕ → ℕ → ℕ → Type 0
+IsKeptOrPast c steps letters q to s =
+    ((x : Letter) × (letter_at letters s ≡ Some x) × IsLetter c steps q to s x) ⊎ ((letter_at letters s ≡ None) × (round_at steps q s ≤ passed steps to))
+
+-- the messages that are kept: a place for each step, and in that of each Send its message, as long as it may be heard
 pub record AreLetters (c : Setup) (steps : List Step) (letters : List (Option Letter)) : Type 0 where
   pub places : length letters ≡ length steps
-  pub messages : (q to s : ℕ) → IsSend steps q to s
-      → ((x : Letter) × (letter_at letters s ≡ Some x) × IsLetter c steps q to s x) ⊎ ((letter_at letters s ≡ None) × (round_at steps q s ≤ passed steps to))
+  pub messages : (q to s : ℕ) → IsSend steps q to s → IsKeptOrPast c steps letters q to s
 
 -- what is kept of each processor is this, in their order
 abbrev pub AreEach : (ℕ → Processor → Type 0) → List Processor → Type 0

@@ -1,6 +1,6 @@
 use Rattle.std.proofs.Common.{◌≡◌, ◌+◌, ◌∙◌, refl, arith}
 use Rattle.lock_phases.specs.Rounds.{owner, phase_of}
-use Rattle.step_buffers.proofs.NextDestinations.{sent-to_owner, sent-to_none, sent-alike}
+use Rattle.step_buffers.proofs.NextSends.{sent-to_owner, sent-to_none, sent-alike}
 use Rattle.step_buffers.proofs.processors.candidate.Goals as goal
 
 pub returns-then-not-is_to_owner-clause-only : goal.returns-then-not-is_to_owner-clause-only

@@ -1,5 +1,5 @@
 use Rattle.std.proofs.Common.{◌∙◌, sym, arith}
-use Rattle.step_buffers.proofs.NextDestinations.{destination_after-found, destination_after-none}
+use Rattle.step_buffers.proofs.NextSends.{destination_after-found, destination_after-none}
 use Rattle.step_buffers.proofs.processors.next_destination.Goals as goal
 use Rattle.step_buffers.proofs.processors.next_destination.Goals.{else-to-n-via-then-to-n+else-sends_to, else-to-n-via-else-to-n}
 

@@ -1,6 +1,5 @@
 use Rattle.std.proofs.Common.{◌∙◌, sym, arith}
-use Rattle.step_buffers.proofs.NextDestinations.{destination_after-sends}
-use Rattle.step_buffers.proofs.NextSends.{IsProc-next_send}
+use Rattle.step_buffers.proofs.NextSends.{destination_after-sends, IsProc-next_send}
 use Rattle.step_buffers.proofs.KeptProcessors.{IsProcessor-at}
 use Rattle.step_buffers.proofs.sends.send.Goals as goal
 
