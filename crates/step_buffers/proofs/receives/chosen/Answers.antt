@@ -1,7 +1,7 @@
-use Rattle.std.proofs.Common.{◌≡◌, ◌∙◌, Some, None, false, ◌&&◌, refl, sym, ap}
+use Rattle.std.proofs.Common.{◌≡◌, ◌∙◌, Some, false, ◌&&◌, sym, ap}
 use Rattle.std.specs.Prelude.{is_some}
 use Rattle.step_buffers.specs.Buffers.{buffer}
-use Rattle.step_buffers.specs.Moves.{next_send, taken_ids, take_refusal}
+use Rattle.step_buffers.specs.Moves.{next_send, take_refusal}
 use Rattle.step_buffers.proofs.BufferSteps.{buffer-rises}
 use Rattle.step_buffers.proofs.RefusedTakes.{IsStepRefusal-take}
 use Rattle.step_buffers.proofs.receives.chosen.Goals as goal
@@ -21,25 +21,3 @@ returns-in-Some-clause-refused c =
     let some : take_refusal c.args.take (buffer steps p) ≡ Some c.in-Some.why = ap (take_refusal c.args.take) (sym waiting) ∙ sym c.take_refusal.ensures ∙ c.in-Some.is in
     rw (early, some) (IsStepRefusal-take c.args.take (buffer steps p) c.in-Some.why some)
 
-pub returns-in-Err-clause-refused : goal.returns-in-Err-clause-refused
-returns-in-Err-clause-refused c =
-    let config = c.args.trace.now.config in
-    let steps = c.args.trace.now.steps in
-    let p = c.args.p in
-    let waiting : c.as_slice.result.now ≡ buffer steps p = c.as_slice.ensures.value ∙ c.requires.receiver.buffer in
-    let early : (c.args.ends && is_some (next_send config steps p)) ≡ false = sym c.is_early.ensures ∙ c.if-is_early.false in
-    let none : take_refusal c.args.take (buffer steps p) ≡ None = ap (take_refusal c.args.take) (sym waiting) ∙ sym c.take_refusal.ensures ∙ c.in_default.is in
-    rw (early, none) refl
-
-pub returns-in-Ok-clause-taken : goal.returns-in-Ok-clause-taken
-returns-in-Ok-clause-taken c = c.in-Ok.ensures ∙ ap (taken_ids c.args.take) (c.as_slice-2.ensures.value ∙ c.requires.receiver.buffer)
-
-pub returns-in-Ok-clause-ok : goal.returns-in-Ok-clause-ok
-returns-in-Ok-clause-ok c =
-    let config = c.args.trace.now.config in
-    let steps = c.args.trace.now.steps in
-    let p = c.args.p in
-    let waiting : c.as_slice.result.now ≡ buffer steps p = c.as_slice.ensures.value ∙ c.requires.receiver.buffer in
-    let early : (c.args.ends && is_some (next_send config steps p)) ≡ false = sym c.is_early.ensures ∙ c.if-is_early.false in
-    let none : take_refusal c.args.take (buffer steps p) ≡ None = ap (take_refusal c.args.take) (sym waiting) ∙ sym c.take_refusal.ensures ∙ c.in_default.is in
-    rw (early, none) refl
