@@ -7,7 +7,7 @@ use Rattle.step_trace.specs.declared.steps.Act.{Act}
 use Rattle.step_trace.specs.declared.steps.Act.TheVariants.{Send, Receive}
 use Rattle.step_trace.specs.declared.steps.Step.{Step}
 use Rattle.step_trace.specs.Configurations.{Setup}
-use Rattle.step_trace.specs.Traces.{Recorded, step_at, IsWellFormed}
+use Rattle.step_trace.specs.Traces.{Recorded, step_at, IsSentTo, IsWellFormed}
 use Rattle.step_trace.proofs.StepPositions.{step_at_within}
 use Rattle.suffix_staircase.specs.declared.receives.Receives.{Receives}
 use Rattle.suffix_staircase.specs.Receives.{KnowsReceives}
@@ -29,21 +29,19 @@ ids_bound c steps x p ids taken ends w h long = λ k d l.
     omega (arith, earlier, inside, long)
 
 -- the first Receive of a processor is the number of a step
-pub first_bound : (t : Recorded) (x p : ℕ) (r : Receives) → KnowsReceives t x r → p ≤ t.config.n → get_or r.first.items p 0 < length r.before.items
+pub first_bound : (t : Recorded) (x p : ℕ) (r : Receives) → KnowsReceives t x r → p ≤ t.config.n → get_or r.first.items p 0 < length r.links.items
 first_bound t x p r k l = elim (cases_lt 0 (get_or r.first.items p 0)) [
   | inl some ↦ (let f = (k.first p l).found some in
       let inside = step_at_within t.steps _ _ f.1.step in
-      let long = k.before_long in
-      omega (arith, inside, long))
-  | inr none ↦ (let long = k.before_long in omega (arith, none, long))
+      omega (arith, inside, k.links_long))
+  | inr none ↦ omega (arith, none, k.links_long)
 ]
 
 -- the Receive that takes a message is the number of a step
-pub taker_bound : (t : Recorded) (x s : ℕ) (r : Receives) → KnowsReceives t x r → get_or r.taken_by.items s 0 < length r.before.items
-taker_bound t x s r k = elim (cases_lt 0 (get_or r.taken_by.items s 0)) [
-  | inl some ↦ (let f = (k.taken s).found some in
+pub taker_bound : (t : Recorded) (x s p : ℕ) (r : Receives) → IsSentTo t.steps s p → KnowsReceives t x r → get_or r.links.items s 0 < length r.links.items
+taker_bound t x s p r m k = elim (cases_lt 0 (get_or r.links.items s 0)) [
+  | inl some ↦ (let f = (k.taken s p m).found some in
       let inside = step_at_within t.steps _ _ f.1.1 in
-      let long = k.before_long in
-      omega (arith, inside, long))
-  | inr none ↦ (let long = k.before_long in omega (arith, none, long))
+      omega (arith, inside, k.links_long))
+  | inr none ↦ omega (arith, none, k.links_long)
 ]

@@ -8,11 +8,11 @@ use Rattle.std.proofs.lemmas.Bool.{cases_eq, cases_lt, eqb-true, eqb-false}
 use Rattle.step_trace.specs.declared.steps.Act.TheVariants.{Receive}
 use Rattle.step_trace.specs.declared.steps.Step.{Step}
 use Rattle.step_trace.specs.Steps.{act_ids}
-use Rattle.step_trace.specs.Traces.{Recorded, step_at, IsReceiveOf}
+use Rattle.step_trace.specs.Traces.{Recorded, step_at, IsReceiveOf, IsSentTo, IsWellFormed}
 use Rattle.step_trace.proofs.StepPositions.{step_at_within, Contains-from_takes, act_takes-from_Contains}
 use Rattle.suffix_staircase.specs.declared.receives.Receives.{Receives}
 use Rattle.suffix_staircase.specs.Receives.{IsTaker, IsLastReceive, IsFirstReceive, KnowsReceives, NotesReceive}
-use Rattle.suffix_staircase.proofs.ReceivesLowered.{IsLastReceive-lower, IsFirstReceive-lower, IsTaker-lower, same_step}
+use Rattle.suffix_staircase.proofs.ReceivesLowered.{IsLastReceive-lower, IsFirstReceive-lower, IsTaker-lower, same_step, send_is_no_receive}
 
 -- one id more, as at a step of a loop
 pub taken_noted : (old now ids : List ℕ) (x i s : ℕ) → i < length ids → length now ≡ length old → get_or ids i 0 < length old → get_or now s 0 ≡ cond (list_any (λ k. k == s) (take i ids)) x (get_or old s 0)
@@ -46,10 +46,10 @@ receive_unique steps x p q g h = ap (λ (z : Step). z.proc) (same_step steps x _
 -- a last Receive that there is stays it back over an earlier one
 IsLastReceive-noted : (steps : List Step) (p x high r : ℕ) → 1 ≤ x → IsReceiveOf steps x p → x < high → (r ≡ 0 → ⊥) → IsLastReceive steps p x high r → IsLastReceive steps p (x - 1) high r
 IsLastReceive-noted steps p x high r low receive below some l = record {
-  found = λ h. let f = l.found h in (let above = f.0 in omega (arith, above), f.1, f.2);
+  found = λ h. let f = l.found h in (omega (arith, f.0), f.1, f.2);
   last = λ y other a b. elim (cases_lt x y) [
     | inl later ↦ l.last y other later b
-    | inr here ↦ (let f = l.found (omega (arith, some)) in let above = f.0 in omega (arith, above, here))
+    | inr here ↦ (let f = l.found (omega (arith, some)) in omega (arith, f.0, here))
   ];
 }
 
@@ -93,59 +93,85 @@ noted_first steps n x p first low receive long k q within = elim (cases_eq q p) 
 ]
 
 -- the notes of the Receives before each Receive
-noted_before : (steps : List Step) (x p next : ℕ) (before : List ℕ) → 1 ≤ x → IsReceiveOf steps x p → length before ≡ length steps + 1 → IsFirstReceive steps p x next
-    → ((q y : ℕ) → IsReceiveOf steps y q → x < y → IsLastReceive steps q x y (get_or before y 0)) → ((y : ℕ) → 1 ≤ y → y ≤ x → get_or before y 0 ≡ 0)
-    → (q y : ℕ) → IsReceiveOf steps y q → x - 1 < y → IsLastReceive steps q (x - 1) y (get_or (set before next x) y 0)
-noted_before steps x p next before low receive long first k clear q y other after = elim (cases_eq y next) [
-  | inl same ↦ (let f = first.found (omega (arith, same, after)) in
-      let inside = step_at_within steps next _ f.1.step in
-      let place : next < length before = omega (arith, inside, long) in
-      let proc : q ≡ p = receive_unique steps next q p (subst (λ (m : ℕ). IsReceiveOf steps m q) same other) f.1 in
-      subst (λ (m : ℕ). IsLastReceive steps q (x - 1) m (get_or (set before next x) m 0)) (sym same)
-      (rw get_or-set_same (subst (λ (m : ℕ). IsLastReceive steps m (x - 1) next x) (sym proc) (IsLastReceive-first steps p x next low receive f.0 (λ z r a b. let l = first.first z r a in let m = l.1 in omega (arith, m, b))))))
-  | inr ne ↦ (let apart : y ≢ next = ne in rw get_or-set_other (elim (cases_lt x y) [
+noted_before : (steps : List Step) (x p next : ℕ) (links : List ℕ) → 1 ≤ x → IsReceiveOf steps x p → IsFirstReceive steps p x next
+    → ((q y : ℕ) → IsReceiveOf steps y q → x < y → IsLastReceive steps q x y (get_or links y 0)) → ((q y : ℕ) → IsReceiveOf steps y q → y ≤ x → get_or links y 0 ≡ 0)
+    → (q y : ℕ) → IsReceiveOf steps y q → x - 1 < y → IsLastReceive steps q (x - 1) y (cond (next == y) x (get_or links y 0))
+noted_before steps x p next links low receive first k clear q y other after = go (next == y) refl where
+  go : (b : Bool) → (next == y) ≡ b → IsLastReceive steps q (x - 1) y (cond b x (get_or links y 0))
+  go true e =
+      let same = eqb-true next y e in
+      let f = first.found (omega (arith, same, after)) in
+      let proc : q ≡ p = receive_unique steps y q p other (subst (λ (m : ℕ). IsReceiveOf steps m p) same f.1) in
+      subst (λ (m : ℕ). IsLastReceive steps m (x - 1) y x) (sym proc)
+      (IsLastReceive-first steps p x y low receive (omega (arith, f.0, same)) (λ z r a b. let l = first.first z r a in omega (arith, l.1, b, same)))
+  go false e = elim (cases_lt x y) [
     | inl later ↦ elim (cases_eq q p) [
       | inl proc ↦ (let own = subst (λ (m : ℕ). IsReceiveOf steps y m) proc other in
           let l = first.first y own later in
           let f = first.found l.0 in
-          let old = subst (λ (m : ℕ). IsLastReceive steps m x y (get_or before y 0)) proc (k q y other later) in
-          let most = l.1 in
-          let some = old.last next f.1 f.0 (omega (arith, ne, most)) in
-          let least = l.0 in
-          subst (λ (m : ℕ). IsLastReceive steps m (x - 1) y (get_or before y 0)) (sym proc) (IsLastReceive-noted steps p x y _ low receive later (λ z. omega (arith, z, some, least)) old))
+          let old = subst (λ (m : ℕ). IsLastReceive steps m x y (get_or links y 0)) proc (k q y other later) in
+          let apart = eqb-false next y e in
+          let some = old.last next f.1 f.0 (omega (arith, apart, l.1)) in
+          subst (λ (m : ℕ). IsLastReceive steps m (x - 1) y (get_or links y 0)) (sym proc) (IsLastReceive-noted steps p x y _ low receive later (λ z. omega (arith, z, some, l.0)) old))
       | inr foreign ↦ IsLastReceive-lower steps q x y _ low (λ r. foreign (receive_unique steps x q p r receive)) (k q y other later)
     ]
-    | inr here ↦ (let value : get_or before y 0 ≡ 0 = clear y (omega (arith, after)) here in
-        rw value (record { found = λ h. absurd (omega arith); last = λ z r a b. absurd (omega (arith, a, b, here)) }))
-  ]))
-]
+    | inr here ↦ rw (clear q y other here) (record { found = λ h. absurd (omega arith); last = λ z r a b. absurd (omega (arith, a, b, here)) })
+  ]
 
 -- no Receive is noted before those that are still to come
-noted_clear : (steps : List Step) (x p next : ℕ) (before : List ℕ) → 1 ≤ x → IsFirstReceive steps p x next → ((y : ℕ) → 1 ≤ y → y ≤ x → get_or before y 0 ≡ 0)
-    → (y : ℕ) → 1 ≤ y → y ≤ x - 1 → get_or (set before next x) y 0 ≡ 0
-noted_clear steps x p next before low first clear y a b = elim (cases_eq y next) [
-  | inl same ↦ absurd (let f = first.found (omega (arith, same, a)) in let above = f.0 in omega (arith, same, above, b))
-  | inr ne ↦ (let apart : y ≢ next = ne in get_or-set_other before next y x 0 apart ∙ clear y a (omega (arith, b)))
-]
+noted_clear : (steps : List Step) (x p next : ℕ) (links : List ℕ) → 1 ≤ x → IsFirstReceive steps p x next → ((q y : ℕ) → IsReceiveOf steps y q → y ≤ x → get_or links y 0 ≡ 0)
+    → (q y : ℕ) → IsReceiveOf steps y q → y ≤ x - 1 → cond (next == y) x (get_or links y 0) ≡ 0
+noted_clear steps x p next links low first clear q y other until = go (next == y) refl where
+  go : (b : Bool) → (next == y) ≡ b → cond b x (get_or links y 0) ≡ 0
+  go true e = absurd (let same = eqb-true next y e in let some = (step_at_within steps y _ other.step).0 in let f = first.found (omega (arith, same, some)) in omega (arith, f.0, same, until))
+  go false e = clear q y other (omega (arith, until))
 
 -- back over a Receive each note is right again
-pub KnowsReceives-receive : (t : Recorded) (x p : ℕ) (ids : List ℕ) (ends : Bool) (old new : Receives) → p ≤ t.config.n → step_at t.steps x ≡ Some (record { proc = p; act = Receive ends ids })
-    → KnowsReceives t x old → NotesReceive x p ids old new → KnowsReceives t (x - 1) new
-KnowsReceives-receive t x p ids ends old new within h k notes =
-    let inside = step_at_within t.steps x _ h in
-    let low : 1 ≤ x = omega (arith, inside) in
-    let receive : IsReceiveOf t.steps x p = record { ids = ids; ends = ends; step = h } in
-    record {
-      taken_long = notes.taken_long ∙ k.taken_long;
-      before_long = ap length notes.before ∙ length-set old.before.items _ x ∙ k.before_long;
-      first_long = ap length notes.first ∙ length-set old.first.items p x ∙ k.first_long;
-      last_long = ap length notes.last ∙ length-noted _ ∙ k.last_long;
-      taken = λ s. rw notes.taken (IsTaker-noted t.steps x p s _ ids ends low h (k.taken s));
-      before = λ q y other l. rw notes.before (noted_before t.steps x p _ old.before.items low receive k.before_long (k.first p within) k.before k.clear q y other l);
-      clear = λ y a b. rw notes.before (noted_clear t.steps x p _ old.before.items low (k.first p within) k.clear y a b);
-      first = λ q l. rw notes.first (noted_first t.steps t.config.n x p old.first.items low receive k.first_long k.first q l);
-      last = λ q l. rw notes.last (noted_last t.steps t.config.n x p old.last.items low inside.1 receive k.last_long k.last q l);
-    } where
-      length-noted : (b : Bool) → length (cond b (set old.last.items p x) old.last.items) ≡ length old.last.items
-      length-noted true = length-set old.last.items p x
-      length-noted false = refl
+module _ (t : Recorded) (x p : ℕ) (ids : List ℕ) (ends : Bool) (old new : Receives) (sound : IsWellFormed t.config t.steps) (within : p ≤ t.config.n)
+    (h : step_at t.steps x ≡ Some (record { proc = p; act = Receive ends ids })) (k : KnowsReceives t x old) (notes : NotesReceive x p ids old new) where
+  abbrev next : ℕ
+  next = get_or old.first.items p 0
+
+  receive : IsReceiveOf t.steps x p
+  receive = record { ids = ids; ends = ends; step = h }
+
+  low : 1 ≤ x
+  low = (step_at_within t.steps x _ h).0
+
+  -- the link of a message is noted by its id alone
+  sent_link : (s q : ℕ) → IsSentTo t.steps s q → get_or new.links.items s 0 ≡ cond (list_any (λ i. i == s) ids) x (get_or old.links.items s 0)
+  sent_link s q m = notes.links s ∙ ap (λ b. cond (b || list_any (λ i. i == s) ids) x (get_or old.links.items s 0)) (other (next == s) refl) where
+    other : (b : Bool) → (next == s) ≡ b → b ≡ false
+    other true e = absurd (
+        let same = eqb-true next s e in
+        let some = (step_at_within t.steps s _ m.1).0 in
+        let f = (k.first p within).found (omega (arith, same, some)) in
+        send_is_no_receive t.steps s m.0 q p m.1 (subst (λ n. IsReceiveOf t.steps n p) same f.1))
+    other false e = refl
+
+  -- that of a Receive where it is the next one
+  receive_link : (q y : ℕ) → IsReceiveOf t.steps y q → get_or new.links.items y 0 ≡ cond (next == y) x (get_or old.links.items y 0)
+  receive_link q y r = notes.links y ∙ join (next == y) (list_any (λ i. i == y) ids) (untaken (list_any (λ i. i == y) ids) refl) where
+    untaken : (b : Bool) → list_any (λ i. i == y) ids ≡ b → b ≡ false
+    untaken true e = absurd (let m = (sound.earlier x y _ h (Contains-from_takes (Receive ends ids) y e)).1 in send_is_no_receive t.steps y m.0 p q m.1 r)
+    untaken false e = refl
+
+    join : (a b : Bool) → b ≡ false → cond (a || b) x (get_or old.links.items y 0) ≡ cond a x (get_or old.links.items y 0)
+    join true b e = refl
+    join false b e = ap (λ c. cond c x (get_or old.links.items y 0)) e
+
+  length-noted : (b : Bool) → length (cond b (set old.last.items p x) old.last.items) ≡ length old.last.items
+  length-noted true = length-set old.last.items p x
+  length-noted false = refl
+
+  pub KnowsReceives-receive : KnowsReceives t (x - 1) new
+  KnowsReceives-receive = record {
+    links_long = notes.long ∙ k.links_long;
+    first_long = ap length notes.first ∙ length-set old.first.items p x ∙ k.first_long;
+    last_long = ap length notes.last ∙ length-noted _ ∙ k.last_long;
+    taken = λ s q m. rw (sent_link s q m) (IsTaker-noted t.steps x p s _ ids ends low h (k.taken s q m));
+    before = λ q y other l. rw (receive_link q y other) (noted_before t.steps x p next old.links.items low receive (k.first p within) k.before k.clear q y other l);
+    clear = λ q y other l. receive_link q y other ∙ noted_clear t.steps x p next old.links.items low (k.first p within) k.clear q y other l;
+    first = λ q l. rw notes.first (noted_first t.steps t.config.n x p old.first.items low receive k.first_long k.first q l);
+    last = λ q l. rw notes.last (noted_last t.steps t.config.n x p old.last.items low (step_at_within t.steps x _ h).1 receive k.last_long k.last q l);
+  }

@@ -19,16 +19,14 @@ get_or-zeros (suc m) zero = refl
 get_or-zeros (suc m) (suc k) = get_or-zeros m k
 
 -- after the last step there is no Receive
-pub KnowsReceives-after_all : (t : Recorded) (r : Receives) → r.taken_by.items ≡ replicate (length t.steps + 1) 0 → r.before.items ≡ replicate (length t.steps + 1) 0
-    → r.first.items ≡ replicate (t.config.n + 1) 0 → r.last.items ≡ replicate (t.config.n + 1) 0 → KnowsReceives t (length t.steps) r
-KnowsReceives-after_all t r taken before first last = record {
-  taken_long = ap length taken ∙ length-replicate (length t.steps + 1) 0;
-  before_long = ap length before ∙ length-replicate (length t.steps + 1) 0;
+pub KnowsReceives-after_all : (t : Recorded) (r : Receives) → r.links.items ≡ replicate (length t.steps + 1) 0 → r.first.items ≡ replicate (t.config.n + 1) 0 → r.last.items ≡ replicate (t.config.n + 1) 0 → KnowsReceives t (length t.steps) r
+KnowsReceives-after_all t r links first last = record {
+  links_long = ap length links ∙ length-replicate (length t.steps + 1) 0;
   first_long = ap length first ∙ length-replicate (t.config.n + 1) 0;
   last_long = ap length last ∙ length-replicate (t.config.n + 1) 0;
-  taken = λ s. rw (taken, get_or-zeros) (record { found = λ p. absurd (omega arith); none = λ z y l h. absurd (let inside = step_at_within t.steps y h.0 h.1 in omega (arith, l, inside)) });
+  taken = λ s p m. rw (links, get_or-zeros) (record { found = λ p. absurd (omega arith); none = λ z y l h. absurd (let inside = step_at_within t.steps y h.0 h.1 in omega (arith, l, inside)) });
   before = λ p y receive l. absurd (let inside = step_at_within t.steps y _ receive.step in omega (arith, l, inside));
-  clear = λ y a b. rw (before, get_or-zeros) refl;
+  clear = λ p y receive l. rw (links, get_or-zeros) refl;
   first = λ p h. rw (first, get_or-zeros) (record { found = λ q. absurd (omega arith); first = λ y receive l. absurd (let inside = step_at_within t.steps y _ receive.step in omega (arith, l, inside)) });
   last = λ p h. rw (last, get_or-zeros) (record { found = λ q. absurd (omega arith); last = λ y receive l u. absurd (omega (arith, l, u)) });
 }
@@ -36,7 +34,7 @@ KnowsReceives-after_all t r taken before first last = record {
 -- a last Receive stays it back over a step that is no Receive of its processor
 pub IsLastReceive-lower : (steps : List Step) (p x high r : ℕ) → 1 ≤ x → (IsReceiveOf steps x p → ⊥) → IsLastReceive steps p x high r → IsLastReceive steps p (x - 1) high r
 IsLastReceive-lower steps p x high r low other l = record {
-  found = λ h. let f = l.found h in (let above = f.0 in omega (arith, above), f.1, f.2);
+  found = λ h. let f = l.found h in (omega (arith, f.0), f.1, f.2);
   last = λ y receive a b. elim (cases_eq y x) [
     | inl e ↦ absurd (other (subst (λ (n : ℕ). IsReceiveOf steps n p) e receive))
     | inr n ↦ l.last y receive (omega (arith, a, n)) b
@@ -46,7 +44,7 @@ IsLastReceive-lower steps p x high r low other l = record {
 -- so does a first Receive
 pub IsFirstReceive-lower : (steps : List Step) (p x r : ℕ) → 1 ≤ x → (IsReceiveOf steps x p → ⊥) → IsFirstReceive steps p x r → IsFirstReceive steps p (x - 1) r
 IsFirstReceive-lower steps p x r low other l = record {
-  found = λ h. let f = l.found h in (let above = f.0 in omega (arith, above), f.1);
+  found = λ h. let f = l.found h in (omega (arith, f.0), f.1);
   first = λ y receive a. elim (cases_eq y x) [
     | inl e ↦ absurd (other (subst (λ (n : ℕ). IsReceiveOf steps n p) e receive))
     | inr n ↦ l.first y receive (omega (arith, a, n))
@@ -56,7 +54,7 @@ IsFirstReceive-lower steps p x r low other l = record {
 -- the Receive that takes a message stays it back over a step that doesn't take it
 pub IsTaker-lower : (steps : List Step) (x s place : ℕ) → 1 ≤ x → (TakesAt steps x s → ⊥) → IsTaker steps x s place → IsTaker steps (x - 1) s place
 IsTaker-lower steps x s place low other l = record {
-  found = λ h. let f = l.found h in (let above = f.0 in omega (arith, above), f.1);
+  found = λ h. let f = l.found h in (omega (arith, f.0), f.1);
   none = λ z y a. elim (cases_eq y x) [
     | inl e ↦ (λ t. other (subst (λ (n : ℕ). TakesAt steps n s) e t))
     | inr n ↦ l.none z y (omega (arith, a, n))
@@ -76,7 +74,7 @@ pub same_step : (steps : List Step) (x : ℕ) (y z : Step) → step_at steps x �
 same_step steps x y z g h = same_Some y z (sym g ∙ h)
 
 -- a Send is no Receive
-send_is_no_receive : (steps : List Step) (x a b p : ℕ) → step_at steps x ≡ Some (record { proc = a; act = Send b }) → IsReceiveOf steps x p → ⊥
+pub send_is_no_receive : (steps : List Step) (x a b p : ℕ) → step_at steps x ≡ Some (record { proc = a; act = Send b }) → IsReceiveOf steps x p → ⊥
 send_is_no_receive steps x a b p h r =
     let same = ap (λ (z : Step). z.act) (same_step steps x _ _ h r.step) in
     cc
@@ -86,16 +84,15 @@ pub KnowsReceives-send : (t : Recorded) (x a b : ℕ) (r : Receives) → step_at
 KnowsReceives-send t x a b r h k =
     let low : 1 ≤ x = let inside = step_at_within t.steps x _ h in omega (arith, inside) in
     record {
-      taken_long = k.taken_long;
-      before_long = k.before_long;
+      links_long = k.links_long;
       first_long = k.first_long;
       last_long = k.last_long;
-      taken = λ s. IsTaker-lower t.steps x s _ low (send_takes_none t.steps x a b s h) (k.taken s);
+      taken = λ s p m. IsTaker-lower t.steps x s _ low (send_takes_none t.steps x a b s h) (k.taken s p m);
       before = λ p y receive l. elim (cases_eq y x) [
         | inl e ↦ absurd (send_is_no_receive t.steps x a b p h (subst (λ (m : ℕ). IsReceiveOf t.steps m p) e receive))
         | inr ne ↦ IsLastReceive-lower t.steps p x y _ low (send_is_no_receive t.steps x a b p h) (k.before p y receive (omega (arith, l, ne)))
       ];
-      clear = λ y c d. k.clear y c (omega (arith, d));
+      clear = λ p y receive l. k.clear p y receive (omega (arith, l));
       first = λ p c. IsFirstReceive-lower t.steps p x _ low (send_is_no_receive t.steps x a b p h) (k.first p c);
       last = λ p c. IsLastReceive-lower t.steps p x _ _ low (send_is_no_receive t.steps x a b p h) (k.last p c);
     }

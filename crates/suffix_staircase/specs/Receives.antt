@@ -1,10 +1,10 @@
 -- What is known of the Receives after a step, in numbers from 1 with 0 for none. Numbers rise with ticks, so a miss
 -- is one by the numbers of its steps too, as long as its Receive is in a later tick than its Send.
-use Rattle.std.specs.Prelude.{ℕ, ◌≡◌, ◌+◌, ◌<◌, ◌≤◌, ◌==◌, List, length, slice_index, slice_set, if◌then◌else◌}
+use Rattle.std.specs.Prelude.{ℕ, ◌≡◌, ◌+◌, ◌<◌, ◌≤◌, ◌==◌, List, ◌∷◌, length, slice_index, slice_set, if◌then◌else◌}
 use Rattle.std.specs.List.{list_any}
 use Rattle.step_trace.specs.declared.rows.Miss.{Miss}
 use Rattle.step_trace.specs.declared.steps.Step.{Step}
-use Rattle.step_trace.specs.Traces.{Recorded, TakesAt, IsReceiveOf}
+use Rattle.step_trace.specs.Traces.{Recorded, TakesAt, IsReceiveOf, IsSentTo}
 use Rattle.step_trace.specs.Bounds.{IsMessage}
 use Rattle.suffix_staircase.specs.declared.receives.Receives.{Receives}
 
@@ -45,30 +45,29 @@ pub record IsFirstReceive (steps : List Step) (p low r : ℕ) : Type 0 where
 
 -- what is known of the Receives after step x
 pub record KnowsReceives (trace : Recorded) (x : ℕ) (r : Receives) : Type 0 where
-  pub taken_long : length r.taken_by.items ≡ length trace.steps + 1
-  pub before_long : length r.before.items ≡ length trace.steps + 1
+  pub links_long : length r.links.items ≡ length trace.steps + 1
   pub first_long : length r.first.items ≡ trace.config.n + 1
   pub last_long : length r.last.items ≡ trace.config.n + 1
-  pub taken : (s : ℕ) → IsTaker trace.steps x s (slice_index r.taken_by.items s)
-  pub before : (p y : ℕ) → IsReceiveOf trace.steps y p → x < y → IsLastReceive trace.steps p x y (slice_index r.before.items y)
-  pub clear : (y : ℕ) → 1 ≤ y → y ≤ x → slice_index r.before.items y ≡ 0
+  pub taken : (s p : ℕ) → IsSentTo trace.steps s p → IsTaker trace.steps x s (slice_index r.links.items s)
+  pub before : (p y : ℕ) → IsReceiveOf trace.steps y p → x < y → IsLastReceive trace.steps p x y (slice_index r.links.items y)
+  pub clear : (p y : ℕ) → IsReceiveOf trace.steps y p → y ≤ x → slice_index r.links.items y ≡ 0
   pub first : (p : ℕ) → p ≤ trace.config.n → IsFirstReceive trace.steps p x (slice_index r.first.items p)
   pub last : (p : ℕ) → p ≤ trace.config.n → IsLastReceive trace.steps p x (length trace.steps + 1) (slice_index r.last.items p)
 
--- the messages that the Receive x takes are noted, and the others as before
-abbrev pub NotesTakes : ℕ → List ℕ → List ℕ → List ℕ → Type 0
-NotesTakes x ids old new = (s : ℕ) → slice_index new s ≡ (if list_any (λ i. i == s) ids then x else slice_index old s)
+-- x is noted at these places, and at others there is what was before
+abbrev pub NotesAt : ℕ → List ℕ → List ℕ → List ℕ → Type 0
+NotesAt x places old new = (s : ℕ) → slice_index new s ≡ (if list_any (λ i. i == s) places then x else slice_index old s)
 
--- what changes where the Receive x of p, which takes these messages, is gone over
+-- what changes where the Receive x of p, which takes these messages, is gone over: it is linked from them, and from the
+-- Receive of p that follows
 pub record NotesReceive (x p : ℕ) (ids : List ℕ) (old new : Receives) : Type 0 where
-  pub taken_long : length new.taken_by.items ≡ length old.taken_by.items
-  pub taken : NotesTakes x ids old.taken_by.items new.taken_by.items
-  pub before : new.before.items ≡ slice_set old.before.items (slice_index old.first.items p) x
+  pub long : length new.links.items ≡ length old.links.items
+  pub links : NotesAt x (slice_index old.first.items p ∷ ids) old.links.items new.links.items
   pub first : new.first.items ≡ slice_set old.first.items p x
   pub last : new.last.items ≡ (if slice_index old.last.items p == 0 then slice_set old.last.items p x else old.last.items)
 
 -- the last Receive of p before the one that takes message s, or the last of all where none does
 abbrev pub last_missed : Receives → ℕ → ℕ → ℕ
 last_missed r s p =
-    let taker = slice_index r.taken_by.items s in
-    if taker == 0 then slice_index r.last.items p else slice_index r.before.items taker
+    let taker = slice_index r.links.items s in
+    if taker == 0 then slice_index r.last.items p else slice_index r.links.items taker

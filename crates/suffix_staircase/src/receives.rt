@@ -5,20 +5,18 @@
 ghost use Rattle.std.specs.Prelude.{◌≡◌, ◌-◌, ◌<◌, ◌≤◌, length, Some, All, IfOk, slice_index, replicate};
 ghost use Rattle.step_trace.specs.declared.traces.TheConstants.{MAX_STEPS};
 ghost use Rattle.step_trace.specs.Traces.{step_at, IsWellFormed};
-ghost use Rattle.suffix_staircase.specs.Receives.{KnowsReceives, NotesReceive, NotesTakes, IsLastMissByNumber, last_missed};
+ghost use Rattle.suffix_staircase.specs.Receives.{KnowsReceives, NotesReceive, NotesAt, IsLastMissByNumber, last_missed};
 
 use std::alloc::{AllocError, Global};
 use step_trace::{Act, ProcSet, Step, Trace};
 
-/// What is known of the Receives after a step. Two of the lists have an entry for each step, so the
-/// entries are no wider than a number of a step needs.
+/// What is known of the Receives after a step. One list has an entry for each step, so the entries are no wider than a
+/// number of a step needs.
 #[derive(Debug, Drop)]
 pub(crate) struct Receives {
-    // For each message, the Receive after the step that takes it.
-    taken_by: Vec<u32>,
-    // For each Receive after the step, the one of the same processor right before it, if that comes
-    // after the step too.
-    before: Vec<u32>,
+    // For each message, the Receive after the step that takes it; and for each Receive after the step, the one of the
+    // same processor right before it, if that comes after the step too.
+    links: Vec<u32>,
     // For each processor, its first Receive after the step.
     first: Vec<u32>,
     // For each processor, its last Receive after the step.
@@ -53,8 +51,7 @@ impl Receives {
         let steps = trace.len() + 1;
         let processors = trace.config().n() as usize + 1;
         Ok(Receives {
-            taken_by: zeros(alloc, steps)?,
-            before: zeros(alloc, steps)?,
+            links: zeros(alloc, steps)?,
             first: zeros(alloc, processors)?,
             last: zeros(alloc, processors)?,
         })
@@ -88,32 +85,32 @@ impl Receives {
 
     /// The last Receive after the step that doesn't find the message delivered, which goes to `to`.
     fn last_missed(&self, sent: u64, to: u64) -> u64
-        requires sent { sent < length self.now.taken_by.items }
-        requires taken { slice_index self.now.taken_by.items sent < length self.now.before.items }
+        requires sent { sent < length self.now.links.items }
+        requires taken { slice_index self.now.links.items sent < length self.now.links.items }
         requires to { to < length self.now.last.items }
         ensures { result ≡ last_missed self.now sent to }
     {
-        let taker = self.taken_by[sent as usize];
+        let taker = self.links[sent as usize];
         if taker == 0 {
             u64::from(self.last[to as usize])
         } else {
-            u64::from(self.before[taker as usize])
+            u64::from(self.links[taker as usize])
         }
     }
 
-    /// Notes a Receive that comes before those so far. Where there is none yet, `before` is written at
+    /// Notes a Receive that comes before those so far. Where there is none yet, the link is written at
     /// number 0, which stands for no step.
     fn note(&mut self, no: u64, proc: u64, ids: &[u64])
         requires limit { no ≤ MAX_STEPS }
-        requires ids { All (λ s. s < length self.old.taken_by.items) ids.now }
+        requires ids { All (λ s. s < length self.old.links.items) ids.now }
         requires first { proc < length self.old.first.items }
         requires last { proc < length self.old.last.items }
-        requires before { slice_index self.old.first.items proc < length self.old.before.items }
+        requires next { slice_index self.old.first.items proc < length self.old.links.items }
         ensures { NotesReceive no proc ids.now self.old self.new }
     {
-        note_takes(&mut self.taken_by, no, ids);
+        note_takes(&mut self.links, no, ids);
         let next = self.first[proc as usize];
-        self.before[next as usize] = no as u32;
+        self.links[next as usize] = no as u32;
         self.first[proc as usize] = no as u32;
         if self.last[proc as usize] == 0 {
             self.last[proc as usize] = no as u32;
@@ -122,13 +119,13 @@ impl Receives {
 }
 
 /// Notes that the Receive of number `no` takes these messages.
-fn note_takes(taken_by: &mut Vec<u32>, no: u64, ids: &[u64])
+fn note_takes(links: &mut Vec<u32>, no: u64, ids: &[u64])
     requires limit { no ≤ MAX_STEPS }
-    requires ids { All (λ s. s < length taken_by.old.items) ids.now }
-    ensures len { length taken_by.new.items ≡ length taken_by.old.items }
-    ensures taken { NotesTakes no ids.now taken_by.old.items taken_by.new.items }
+    requires ids { All (λ s. s < length links.old.items) ids.now }
+    ensures len { length links.new.items ≡ length links.old.items }
+    ensures taken { NotesAt no ids.now links.old.items links.new.items }
 {
     for s in ids {
-        taken_by[*s as usize] = no as u32;
+        links[*s as usize] = no as u32;
     }
 }

@@ -8,6 +8,6 @@ loop-s-preserved c =
     let known = c.loop-s.invariant in
     let below = c.loop-s-test.true in
     record {
-      len = length-set c.loop-s.taken_by.items _ c.args.no ∙ known.len;
-      taken = λ s. taken_noted c.args.taken_by.now.items c.loop-s.taken_by.items c.args.ids.now c.args.no c.loop-s.s-index s below known.len (c.requires.ids c.loop-s.s-index 0 below) (known.taken s);
+      len = length-set c.loop-s.links.items _ c.args.no ∙ known.len;
+      taken = λ s. taken_noted c.args.links.now.items c.loop-s.links.items c.args.ids.now c.args.no c.loop-s.s-index s below known.len (c.requires.ids c.loop-s.s-index 0 below) (known.taken s);
     }

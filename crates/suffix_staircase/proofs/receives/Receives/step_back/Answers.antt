@@ -8,18 +8,18 @@ use Rattle.suffix_staircase.proofs.receives.Receives.step_back.Goals as goal
 pub last_missed-requires-clause-to : goal.last_missed-requires-clause-to
 last_missed-requires-clause-to c =
     let to = dest_bound c.args.trace.now.config c.args.trace.now.steps c.args.no c.step_of-step.result.now.proc c.in-Send.to c.step_of-step.ensures.sound (with_act c.args.trace.now.steps c.args.no c.step_of-step.result.now _ c.step_of-step.ensures.step c.in-Send.is) in
-    let long = c.requires.known.last_long in
-    omega (arith, to, long)
+    omega (arith, to, c.requires.known.last_long)
 
 pub last_missed-requires-clause-taken : goal.last_missed-requires-clause-taken
-last_missed-requires-clause-taken c = taker_bound c.args.trace.now c.args.no c.args.no c.args.self.now c.requires.known
+last_missed-requires-clause-taken c = taker_bound c.args.trace.now c.args.no c.args.no c.in-Send.to c.args.self.now
+    (c.step_of-step.result.now.proc, with_act c.args.trace.now.steps c.args.no c.step_of-step.result.now _ c.step_of-step.ensures.step c.in-Send.is) c.requires.known
 
 pub note-requires-clause-ids : goal.note-requires-clause-ids
 note-requires-clause-ids c = rw c.as_slice.ensures
-    (ids_bound c.args.trace.now.config c.args.trace.now.steps c.args.no c.step_of-step.result.now.proc c.in-Receive.ids c.args.self.now.taken_by.items c.in-Receive.ends c.step_of-step.ensures.sound (with_act c.args.trace.now.steps c.args.no c.step_of-step.result.now _ c.step_of-step.ensures.step c.in-Receive.is) c.requires.known.taken_long)
+    (ids_bound c.args.trace.now.config c.args.trace.now.steps c.args.no c.step_of-step.result.now.proc c.in-Receive.ids c.args.self.now.links.items c.in-Receive.ends c.step_of-step.ensures.sound (with_act c.args.trace.now.steps c.args.no c.step_of-step.result.now _ c.step_of-step.ensures.step c.in-Receive.is) c.requires.known.links_long)
 
-pub note-requires-clause-before : goal.note-requires-clause-before
-note-requires-clause-before c = first_bound c.args.trace.now c.args.no c.step_of-step.result.now.proc c.args.self.now c.requires.known (c.step_of-step.ensures.sound.procs c.args.no c.step_of-step.result.now c.step_of-step.ensures.step).1
+pub note-requires-clause-next : goal.note-requires-clause-next
+note-requires-clause-next c = first_bound c.args.trace.now c.args.no c.step_of-step.result.now.proc c.args.self.now c.requires.known (c.step_of-step.ensures.sound.procs c.args.no c.step_of-step.result.now c.step_of-step.ensures.step).1
 
 pub returns-then-contains-2-clause-known : goal.returns-then-contains-2-clause-known
 returns-then-contains-2-clause-known c = KnowsReceives-send c.args.trace.now c.args.no c.step_of-step.result.now.proc c.in-Send.to c.args.self.now (with_act c.args.trace.now.steps c.args.no c.step_of-step.result.now _ c.step_of-step.ensures.step c.in-Send.is) c.requires.known
@@ -35,6 +35,6 @@ returns-then-contains-2-clause-missed c =
     (record { from = c.step_of-step.result.now.proc; sent = sent; sender = sym c.if-contains.ensures; receiver = sym c.if-contains-2.ensures }) c.requires.known)
 
 pub returns-in-Receive-clause-known : goal.returns-in-Receive-clause-known
-returns-in-Receive-clause-known c = KnowsReceives-receive c.args.trace.now c.args.no c.step_of-step.result.now.proc c.in-Receive.ids c.in-Receive.ends c.args.self.now c.note.new.self
+returns-in-Receive-clause-known c = KnowsReceives-receive c.args.trace.now c.args.no c.step_of-step.result.now.proc c.in-Receive.ids c.in-Receive.ends c.args.self.now c.note.new.self c.step_of-step.ensures.sound
     (c.step_of-step.ensures.sound.procs c.args.no c.step_of-step.result.now c.step_of-step.ensures.step).1
     (with_act c.args.trace.now.steps c.args.no c.step_of-step.result.now _ c.step_of-step.ensures.step c.in-Receive.is) c.requires.known (rw c.as_slice.ensures at c.note.ensures)
