@@ -35,8 +35,7 @@ IsPhi-from_gaps set trace g f o start k =
       positive = positive;
       holds = PhiHolds-unrefuted set trace g f start positive (λ w r.
           let short = k.shorter w r.gap r.from in
-          let long = r.long in
-          omega (arith, short, long));
+          omega (arith, short, r.long));
       least = phi_least set trace g f o k.named;
     }
 

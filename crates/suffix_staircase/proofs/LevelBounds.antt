@@ -24,7 +24,7 @@ KnowsMissesAfter-after_all set t = record {
 -- after the last tick there is no gap
 pub KnowsGaps-after_all : (set : ℕ) (t : Recorded) → KnowsGaps set t (t.last + 1) 1 None
 KnowsGaps-after_all set t = record {
-  shorter = λ w i l. absurd (let order = i.order in let inside = i.inside in omega (arith, order, inside, l));
+  shorter = λ w i l. absurd (omega (arith, i.order, i.inside, l));
   named = refl;
 }
 

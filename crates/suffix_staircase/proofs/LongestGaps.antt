@@ -21,9 +21,7 @@ gap_until : (set : ℕ) (t : Recorded) (x : ℕ) (next : List ℕ) (w : Gap) →
 gap_until set t x next w within k gap e = elim (cases_lt w.to (get_or next w.proc 0)) [
   | inl l ↦ l
   | inr h ↦ (let own = k.each w.proc (member_low set w.proc gap.member) (within w.proc gap.member) in
-      let inside = gap.inside in
-      let from = own.from in
-      absurd (gap.silent (get_or next w.proc 0) (omega (arith, from, e)) h (own.step (omega (arith, h, inside)))))
+      absurd (gap.silent (get_or next w.proc 0) (omega (arith, own.from, e)) h (own.step (omega (arith, h, gap.inside)))))
 ]
 
 -- what the latest next step of a member says of the gaps that begin at x
@@ -40,8 +38,7 @@ IsLongest-from_latest set t x q next start within k latest = record {
   longest = λ w i e.
       let own = gap_until set t x next w within k i e in
       let high = within w.proc i.member in
-      let wide = k.long in
-      let most = latest.greatest w.proc (omega (arith, high, wide)) (member_low set w.proc i.member) i.member in
+      let most = latest.greatest w.proc (omega (arith, high, k.long)) (member_low set w.proc i.member) i.member in
       omega (arith, own, most);
   least = λ w i e until. elim (cases_lt w.proc q) [
     | inl below ↦ absurd (let own = gap_until set t x next w within k i e in
@@ -51,15 +48,14 @@ IsLongest-from_latest set t x q next start within k latest = record {
   ];
 } where
   gap : (p : ℕ) → IsLatest set next (length next) p → x < get_or next p 0 → IsGap set t (record { proc = p; from = x; to = get_or next p 0 - 1 })
-  gap zero l h = absurd (let z = k.zero in omega (arith, z, h))
+  gap zero l h = absurd (omega (arith, k.zero, h))
   gap (suc p) l h =
       let member = l.member (omega arith) in
       let own = k.each (suc p) (omega arith) (within (suc p) member) in
-      let until = own.until in
       record {
         member = member;
         start = start;
         order = omega arith;
-        inside = omega (arith, until, h);
+        inside = omega (arith, own.until, h);
         silent = λ z a b. own.silent z a (omega (arith, b, h));
       }

@@ -35,8 +35,7 @@ IsDelta-from_misses set t g d o k =
       positive = positive;
       holds = DeltaHolds-unrefuted set t g d positive (λ m r.
           let short = k.shorter m r.miss r.from in
-          let long = r.long in
-          omega (arith, short, long));
+          omega (arith, short, r.long));
       least = delta_least set t g d o k.named;
     }
 

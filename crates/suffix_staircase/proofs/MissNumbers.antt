@@ -32,12 +32,12 @@ taker t w s a b k at h =
 IsDelivered-numbers : (t : Recorded) → IsTrace t → (s a b r : ℕ) → step_at t.steps s ≡ Some (record { proc = a; act = Send b }) → IsReceiveOf t.steps r b
     → IsDelivered t s (tick_of t r) ↔ IsDeliveredByNumber t.steps s r
 IsDelivered-numbers t w s a b r at q = (
-  λ h. (let k = taker t w s a b h.place at h.takes in let u = h.until in record {
+  λ h. (let k = taker t w s a b h.place at h.takes in record {
     place = h.place;
     takes = h.takes;
     after = number_below t w.time s h.place _ _ at h.takes.1 h.after;
     until = elim (cases_lt r h.place) [
-      | inl l ↦ absurd (let x = own_ticks_rise t w.time r h.place _ _ q.step h.takes.1 (sym k.0) l in omega (arith, x, u))
+      | inl l ↦ absurd (let x = own_ticks_rise t w.time r h.place _ _ q.step h.takes.1 (sym k.0) l in omega (arith, x, h.until))
       | inr l ↦ l
     ];
   }),

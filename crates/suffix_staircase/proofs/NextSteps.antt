@@ -27,22 +27,21 @@ IsNextTick-other t p x next s h other n = record {
     | inl e ↦ absurd (other (ap (λ (y : Step). y.proc) (same_Some _ _ (sym h ∙ ap (step_at t.steps) (sym e) ∙ i.1))))
     | inr d ↦ n.first k (omega (arith, d, l)) i
   ];
-  step = λ l. (let i = n.step l in let a = i.1 in (i.0, omega (arith, a), i.2, i.3));
+  step = λ l. (let i = n.step l in (i.0, omega (arith, i.1), i.2, i.3));
 }
 
 -- a step isn't in a later tick than the next one of any processor
 pub next_tick_above : (t : Recorded) → IsTimed t → (p x next : ℕ) (s : Step) → step_at t.steps x ≡ Some s → IsNextTick t p x next → tick_of t x ≤ next
 next_tick_above t time p x next s h n = elim (cases_lt t.last next) [
   | inl l ↦ (let i = (time.inside x s h).1 in omega (arith, i, l))
-  | inr l ↦ (let i = n.step l in let a = i.1 in let e = i.3 in let r = ticks_rise t time x i.0 s _ h i.2.1 (omega (arith, a)) in omega (arith, r, e))
+  | inr l ↦ (let i = n.step l in let r = ticks_rise t time x i.0 s _ h i.2.1 (omega (arith, i.1)) in omega (arith, r, i.3))
 ]
 
 -- going back over a step, the notes are right again
 pub AreNextTicks-back : (t : Recorded) → IsTimed t → (x : ℕ) (s : Step) (next : List ℕ) → 1 ≤ s.proc → s.proc ≤ t.config.n → step_at t.steps x ≡ Some s → AreNextTicks t x next
     → AreNextTicks t (x - 1) (set next s.proc (tick_of t x))
 AreNextTicks-back t time x s next low high h k =
-    let wide = k.long in
-    let place : s.proc < length next = omega (arith, wide, high) in
+    let place : s.proc < length next = omega (arith, k.long, high) in
     record {
       long = length-set next s.proc (tick_of t x) ∙ k.long;
       zero = (let other : 0 ≢ s.proc = omega arith in rw get_or-set_other k.zero);

@@ -89,11 +89,11 @@ KnowsMisses-at_border set t time done g d o b k = record {
 IsNextStep-at_border : (t : Recorded) (p done g next : ℕ) → IsBorder t done g → IsNextTick t p done next → IsNextStep t p g next
 IsNextStep-at_border t p done g next b n = record {
   from = elim (cases_lt t.last next) [
-    | inl l ↦ (let e = b.end in omega (arith, l, e))
-    | inr l ↦ (let s = n.step l in let a = b.above s.0 _ s.2.1 s.1 in let e = s.3 in omega (arith, a, e))
+    | inl l ↦ omega (arith, l, b.end)
+    | inr l ↦ (let s = n.step l in let a = b.above s.0 _ s.2.1 s.1 in omega (arith, a, s.3))
   ];
   until = n.until;
-  silent = λ x f u s. (let e = s.tick in let low = n.first s.place (b.below s.place _ s.step.1 (omega (arith, e, f))) s.step in omega (arith, low, e, u));
+  silent = λ x f u s. (let low = n.first s.place (b.below s.place _ s.step.1 (omega (arith, s.tick, f))) s.step in omega (arith, low, s.tick, u));
   step = λ l. (let s = n.step l in record { place = s.0; step = s.2; tick = s.3 });
 }
 

@@ -13,11 +13,10 @@ ticks_back-requires-clause-known c = rw (c.len-len.ensures.value, c.last_tick.en
 
 pub loop-no-init : goal.loop-no-init
 loop-no-init c =
-    let len = c.len-len.ensures.value in
     let last : c.len-len.result + 1 - 1 ≡ c.len-len.result = omega arith in
     record {
       start = omega arith;
-      end = omega (arith, len);
+      end = omega (arith, c.len-len.ensures.value);
       tick = rw last c.in_ok-tick.ensures.tick;
       known = rw last c.in_ok-tick.ensures.known;
     }
@@ -32,9 +31,7 @@ ticks_back-requires-in-loop-no-clause-within c = rw (c.step_back.ensures.known.m
 
 pub ticks_back-requires-in-loop-no-clause-idle : goal.ticks_back-requires-in-loop-no-clause-idle
 ticks_back-requires-in-loop-no-clause-idle c =
-    let below = c.loop-no-test.true in
-    let end = c.loop-no.invariant.end in
-    rw c.loop-no.invariant.tick (AreIdleUpTo-step c.args.trace.now c.last_tick.ensures.timed (c.loop-no.no - 1) (omega (arith, below)) (omega (arith, end)))
+    rw c.loop-no.invariant.tick (AreIdleUpTo-step c.args.trace.now c.last_tick.ensures.timed (c.loop-no.no - 1) (omega (arith, c.loop-no-test.true)) (omega (arith, c.loop-no.invariant.end)))
 
 pub ticks_back-requires-in-loop-no-clause-known : goal.ticks_back-requires-in-loop-no-clause-known
 ticks_back-requires-in-loop-no-clause-known c =
@@ -49,11 +46,10 @@ ticks_back-requires-in-loop-no-clause-known c =
 
 pub loop-no-preserved : goal.loop-no-preserved
 loop-no-preserved c =
-    let below = c.loop-no-test.true in
     let end = c.loop-no.invariant.end in
     let k = c.loop-no.no - 1 - 1 in
     record {
-      start = omega (arith, below);
+      start = omega (arith, c.loop-no-test.true);
       end = omega (arith, end);
       tick = c.in_ok-tick-2.ensures.tick;
       known = subst (λ (s : ℕ). KnowsTicksFrom s c.args.trace.now k (tick_of c.args.trace.now k + 1) c.ticks_back-in-loop-no.new.self c.ticks_back-in-loop-no.new.builder)
@@ -62,7 +58,5 @@ loop-no-preserved c =
 
 pub returns : goal.returns
 returns c =
-    let start = c.loop-no.invariant.start in
-    let end = c.loop-no-test.false in
-    let first : c.loop-no.no ≡ 1 = omega (arith, start, end) in
+    let first : c.loop-no.no ≡ 1 = omega (arith, c.loop-no.invariant.start, c.loop-no-test.false) in
     record { levels = AreLevels-from_first c.args.self.now.set c.args.trace.now c.loop-no.builder (rw first at c.loop-no.invariant.known).each }

@@ -17,32 +17,24 @@ tick_back-requires-clause-latest c = c.loop-g.invariant.known.steps.next_steps.l
 lowered : (c : After-tick_back) → TickLowered c.args.self.now.set c.args.trace.now c.args.done (c.loop-g.g - 1) c.tick_back.new.self c.loop-g.builder
 lowered c =
     let g = c.loop-g.g - 1 in
-    let below = c.loop-g-test.true in
-    let start = c.tick_of-tick.ensures.value in
-    let high = c.loop-g.invariant.high in
-    let next : c.loop-g.g ≡ g + 1 = omega (arith, below) in
+    let next : c.loop-g.g ≡ g + 1 = omega (arith, c.loop-g-test.true) in
     TickLowered-with_gap c.args.self.now.set c.args.trace.now c.args.done c.args.high g c.loop-g.self c.tick_back.new.self c.loop-g.builder
-    c.requires.timed c.requires.within c.requires.done c.requires.idle (omega (arith, below, start)) (omega (arith, high, below)) (rw next at c.loop-g.invariant.known)
+    c.requires.timed c.requires.within c.requires.done c.requires.idle (omega (arith, c.loop-g-test.true, c.tick_of-tick.ensures.value)) (omega (arith, c.loop-g.invariant.high, c.loop-g-test.true)) (rw next at c.loop-g.invariant.known)
     (record { set = c.tick_back.ensures.set; receives = c.tick_back.ensures.receives; next_steps = c.tick_back.ensures.next_steps })
     (c.tick_back.ensures.kept ∙ c.tick_back.ensures.level)
 
 pub lower-requires-clause-room : goal.lower-requires-clause-room
 lower-requires-clause-room c =
-    let count = c.loop-g.invariant.known.each.count in
-    let end = c.requires.timed.end in
-    let below = c.loop-g-test.true in
-    omega (arith, count, end, below)
+    omega (arith, c.loop-g.invariant.known.each.count, c.requires.timed.end, c.loop-g-test.true)
 
 pub lower-requires-clause-falling : goal.lower-requires-clause-falling
 lower-requires-clause-falling c = rw c.tick_back.ensures.kept at (lowered c).falling
 
 pub loop-g-preserved : goal.loop-g-preserved
 loop-g-preserved c =
-    let below = c.loop-g-test.true in
-    let start = c.tick_of-tick.ensures.value in
     let high = c.loop-g.invariant.high in
     record {
-      low = omega (arith, below, start);
+      low = omega (arith, c.loop-g-test.true, c.tick_of-tick.ensures.value);
       high = omega (arith, high);
       known = subst (λ (levels : List Level). KnowsTicksFrom c.args.self.now.set c.args.trace.now c.args.done (c.loop-g.g - 1) c.tick_back.new.self levels)
           (ap (λ (l : Level). l ∷ c.loop-g.builder) c.tick_back.ensures.kept ∙ sym c.in_ok-lower.ensures.ok) (lowered (goal.at.loop-g-preserved c).After-tick_back).known;
@@ -50,8 +42,5 @@ loop-g-preserved c =
 
 pub returns : goal.returns
 returns c =
-    let low = c.loop-g.invariant.low in
-    let start = c.tick_of-tick.ensures.value in
-    let end = c.loop-g-test.false in
-    let first : c.loop-g.g ≡ tick_of c.args.trace.now c.args.done + 1 = omega (arith, low, start, end) in
+    let first : c.loop-g.g ≡ tick_of c.args.trace.now c.args.done + 1 = omega (arith, c.loop-g.invariant.low, c.tick_of-tick.ensures.value, c.loop-g-test.false) in
     record { known = rw first at c.loop-g.invariant.known; tick = c.tick_of-tick.ensures.value }

@@ -14,8 +14,7 @@ known_next c =
 pub index_mut-requires : goal.index_mut-requires
 index_mut-requires c =
     let proc = c.step_of.ensures.sound.procs c.args.no c.step_of.result.now c.step_of.ensures.step in
-    let long = c.requires.known.next.long in
-    omega (arith, proc, long, c.args.self.now.by_processor.ok.0)
+    omega (arith, proc, c.requires.known.next.long, c.args.self.now.by_processor.ok.0)
 
 pub returns-then-proc-self : goal.returns-then-proc-self
 returns-then-proc-self c = record {
@@ -27,10 +26,9 @@ pub returns-else-proc-self : goal.returns-else-proc-self
 returns-else-proc-self c =
     let proc = c.step_of.ensures.sound.procs c.args.no c.step_of.result.now c.step_of.ensures.step in
     let known = c.requires.known.next in
-    let long = known.long in
     let later = next_tick_above c.args.trace.now c.requires.timed c.step_of.result.now.proc c.args.no _ c.step_of.result.now c.step_of.ensures.step (known.each c.step_of.result.now.proc proc.0 proc.1) in
     record {
       next = known_next (goal.at.returns-else-proc-self c).After-step_of;
       latest = IsLatest-kept c.args.set c.args.self.now.latest c.step_of.result.now.proc c.args.tick c.args.self.now.by_processor.items
-          (λ e. c.if-proc-self.false (sym e)) (omega (arith, proc, long)) (rw c.requires.tick later) c.requires.known.latest;
+          (λ e. c.if-proc-self.false (sym e)) (omega (arith, proc, known.long)) (rw c.requires.tick later) c.requires.known.latest;
     }
