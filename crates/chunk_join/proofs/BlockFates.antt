@@ -45,9 +45,8 @@ block_taken set t from j all low a = record {
   rising = Rises-filter TakenBefore (is_older from) all a.rising;
   sound = λ x k.
       let y = Contains-from_filter (is_older from) all x k in
-      let early = ltb-true x.sent.tick from y.1 in
       let h = a.sound x y.0 in
-      record { own = h.0; until = h.1; earlier = omega (arith, early) };
+      record { own = h.0; until = h.1; earlier = omega (arith, ltb-true x.sent.tick from y.1) };
   complete = λ x h. Contains-filter (is_older from) all x (a.complete x h.own h.until) (is_older-true from x (omega (arith, h.earlier, low)));
 }
 
@@ -89,7 +88,7 @@ block_sent set t sound i j all a b opens o l = record {
     place = place;
     after = low;
     until = let early = step_early t (j + 1) b m.sent.no _ o h.message.sent h.until in omega (arith, early, place);
-    fate = subst (IsFate t m.sent m.to i) (sym h.open_yet) (λ x takes. (let later = sound.time.later x m.sent.no takes in omega (arith, later, place, low)));
+    fate = subst (IsFate t m.sent m.to i) (sym h.open_yet) (λ x takes. omega (arith, sound.time.later x m.sent.no takes, place, low));
   }
 
   order : (m : Message) → IsOpenBy set t i b m → i ≤ j

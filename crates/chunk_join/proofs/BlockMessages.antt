@@ -25,11 +25,11 @@ use Rattle.chunk_join.proofs.LastEntries.{member_high, last_of-replicate, last_o
 
 -- a step of the first ones is in an early tick, and one that isn't, isn't
 pub step_early : (t : Recorded) (x a k : ℕ) (s : Step) → AreStepsBefore t x a → step_at t.steps k ≡ Some s → k ≤ a → tick_of t k < x
-step_early t x a k s o e l = let w = (step_at_within t.steps k s e).0 in o.before k (omega (arith, w)) l
+step_early t x a k s o e l = o.before k (omega (arith, (step_at_within t.steps k s e).0)) l
 
 pub step_first : (t : Recorded) (x a k : ℕ) (s : Step) → AreStepsBefore t x a → step_at t.steps k ≡ Some s → tick_of t k < x → k ≤ a
 step_first t x a k s o e l = elim (cases_lt a k) [
-  | inl later ↦ absurd (let m = o.rest k later (step_at_within t.steps k s e).1 in omega (arith, m, l))
+  | inl later ↦ absurd (omega (arith, o.rest k later (step_at_within t.steps k s e).1, l))
   | inr n ↦ n
 ]
 
@@ -89,7 +89,7 @@ last_before t time p i k high (Some r) f g h = record {
   receive = h.receive;
   place = h.place;
   after = h.after;
-  until = let u = g r.no h.receive h.until in omega (arith, u, h.place);
+  until = omega (arith, g r.no h.receive h.until, h.place);
   latest = λ y q v. (let l = ticks_rise t time y r.no _ _ q.step h.receive.step (h.latest y q (f y q v)) in omega (arith, l, h.place));
 }
 
@@ -157,7 +157,7 @@ last_more set t i k q last m r low a = record {
   ];
 } where
   cases : (p : ℕ) → ((p ≡ q) × (last_of (set_at last q (Some (record { no = k + 1; tick = tick_of t (k + 1) }))) p ≡ Some (record { no = k + 1; tick = tick_of t (k + 1) }))) ⊎ ((p ≢ q) × (last_of (set_at last q (Some (record { no = k + 1; tick = tick_of t (k + 1) }))) p ≡ last_of last p))
-  cases p = last_of-set last q p _ (let h = member_high set q m in omega (arith, h, a.long))
+  cases p = last_of-set last q p _ (omega (arith, member_high set q m, a.long))
 
 -- another step changes nothing
 pub last_same : (set : ℕ) (t : Recorded) (i k : ℕ) (last : List (Option Place)) → ((p : ℕ) → IsTrue (has_proc set p) → IsReceiveOf t.steps (k + 1) p → ⊥) → AreLastBy set t i k last → AreLastBy set t i (k + 1) last

@@ -144,7 +144,7 @@ module _ (set : ℕ) (t : Recorded) (time : IsTimed t) (i x n p : ℕ) (low : i 
 
   begun_all : (begun : List ℕ) → length begun ≡ MAX_MEMBER + 1 → ((q : ℕ) → IsTrue (has_proc set q) → IsBegun t i x (n + 1) q (get_or begun q 0)) → (q : ℕ) → IsTrue (has_proc set q) → IsBegun t i x n q (get_or (set_at begun p (x + 1)) q 0)
   begun_all begun long all q m = elim (cases_eq q p) [
-    | inl e ↦ subst (λ r. IsBegun t i x n r (get_or (set_at begun p (x + 1)) r 0)) (sym e) (subst (λ v. IsBegun t i x n p v) (sym (get_or-set_same begun p (x + 1) 0 (let h = member_high set p member in omega (arith, h, long)))) begun_own)
+    | inl e ↦ subst (λ r. IsBegun t i x n r (get_or (set_at begun p (x + 1)) r 0)) (sym e) (subst (λ v. IsBegun t i x n p v) (sym (get_or-set_same begun p (x + 1) 0 (omega (arith, member_high set p member, long)))) begun_own)
     | inr d ↦ subst (λ v. IsBegun t i x n q v) (sym (get_or-set_other begun p q (x + 1) 0 d)) (begun_other q (get_or begun q 0) d (all q m))
   ]
 
@@ -256,7 +256,7 @@ module _ (set : ℕ) (t : Recorded) (i j : ℕ) (low : i < j) (high : j ≤ t.la
             | inl e ↦ absurd (omega (arith, e, l))
             | inr s ↦ record { place = s.place; step = s.step; tick = s.tick; done = inl (omega (arith, s.tick, l)) }
           ]
-          | inr l ↦ absurd (let m = member_high set w.proc h.longest.gap.member in omega (arith, l, m))
+          | inr l ↦ absurd (omega (arith, l, member_high set w.proc h.longest.gap.member))
         ];
       }) a.ended
 

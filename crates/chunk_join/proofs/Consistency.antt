@@ -21,14 +21,14 @@ IsConsistent-joined l r seam a b = record {
   order = omega (arith, low, high, seam);
   end = b.end;
   long = length-later_each l.last r.last ∙ a.long;
-  sent_rising = Rises-append SentBefore settled r.sent (settled_rise r.taken l.last l.sent a.sent_rising) b.sent_rising (λ x y p q. (let u = (left_sent x p).1 in let v = (b.sent_inside y q).0 in inl (omega (arith, u, v, seam))));
+  sent_rising = Rises-append SentBefore settled r.sent (settled_rise r.taken l.last l.sent a.sent_rising) b.sent_rising (λ x y p q. inl (omega (arith, (left_sent x p).1, (b.sent_inside y q).0, seam)));
   sent_inside = λ x k. elim (Contains-append_cases settled r.sent x k) [
     | inl p ↦ (let u = left_sent x p in (u.0, omega (arith, u.1, seam, high)))
     | inr p ↦ (let u = b.sent_inside x p in (omega (arith, u.0, seam, low), u.1))
   ];
   silent_rising = Rises-append EndsBefore stopped reached (Rises-filter EndsBefore (stops l.to r.silent) l.silent a.silent_rising)
       (Rises-map EndsBefore (reach_back l.to l.silent) r.silent (λ x y p q h. reach_back-order l.to l.silent x y h) b.silent_rising)
-      (λ x y p q. (let u = (left_silent x p).1 in let v = (right_silent y q).0 in inl (omega (arith, u, v, seam))));
+      (λ x y p q. inl (omega (arith, (left_silent x p).1, (right_silent y q).0, seam)));
   silent_inside = λ x k. elim (Contains-append_cases stopped reached x k) [
     | inl p ↦ (let u = left_silent x p in (u.0, omega (arith, u.1, seam, high)))
     | inr p ↦ (let u = right_silent x p in (omega (arith, u.0, seam, low), u.1))

@@ -27,8 +27,7 @@ later_each-more xs ys p zs v d l e f g = rw (add-one, g, f) (more xs ys p d l e)
 member_range : (set p : ℕ) → IsTrue (has_proc set p) → (1 ≤ p) × (p ≤ MAX_MEMBER)
 member_range mask p m =
     let range = and_parts (nat_lt 0 p) (nat_le p MAX_MEMBER) (and_parts (nat_lt 0 p && nat_le p MAX_MEMBER) _ m).0 in
-    let low = ltb-true 0 p range.0 in
-    (omega (arith, low), leb-true p MAX_MEMBER range.1)
+    (omega (arith, ltb-true 0 p range.0), leb-true p MAX_MEMBER range.1)
 
 pub member_low : (set p : ℕ) → IsTrue (has_proc set p) → 1 ≤ p
 member_low set p m = (member_range set p m).0

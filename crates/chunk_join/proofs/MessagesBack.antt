@@ -85,7 +85,7 @@ KnowsMissesAfter-moved : (set : ℕ) (t : Recorded) (old new d : ℕ) (o : Optio
     → ((n : Miss) → IsMiss set t n → new < n.sent → (m : Miss) × IsMiss set t m × (old < m.sent) × (tick_of t n.missed + tick_of t m.sent ≤ tick_of t m.missed + tick_of t n.sent))
     → KnowsMissesAfter set t old d o → KnowsMissesAfter set t new d o
 KnowsMissesAfter-moved set t old new d o less cover k = record {
-  shorter = λ n i l. (let c = cover n i l in let short = k.shorter c.0 c.1 c.2 in omega (arith, short, c.3));
+  shorter = λ n i l. (let c = cover n i l in omega (arith, k.shorter c.0 c.1 c.2, c.3));
   named = go o k.named;
 } where
   go : (o : Option Miss) → NamesAfter set t old d o → NamesAfter set t new d o
@@ -167,7 +167,7 @@ IsLastMissed-summary set t sound s a m sent = go m.fate sent.fate where
 
   go : (f : Fate) → IsFate t m.sent m.to t.last f → IsLastMissed set t m (missed_with s.last m f)
   go Open fate = IsLastMissed-from_last set t m (t.last + 1) (after m.sent (last_of s.last m.to)) sent.message sent.place (omega arith)
-      (λ y d l. (let late = fate d.place d.takes in let end = (sound.time.inside d.place d.takes.0 d.takes.1).1 in omega (arith, late, end)))
+      (λ y d l. omega (arith, fate d.place d.takes, (sound.time.inside d.place d.takes.0 d.takes.1).1))
       inside
       (IsLastReceive-after t m.to 0 (t.last + 1) m.sent (last_of s.last m.to) (omega arith) (a.members m.to sent.message.receiver))
   go (Taken missed) fate =
@@ -315,11 +315,10 @@ KnowsMisses-from_left part g left level long sent_later earlier h set t sound a 
           let first = named.greatest c.miss c.is (omega (arith, c.later, named.after)) (omega (arith, c.long, named.long, short)) in
           let same : c.message.sent.no ≡ m.sent = omega (arith, c.sent_in, c.later, first) in
           let tick = (a.sent_sound c.message c.listed).place in
-          let at_tick = ap (tick_of t) same in
           let place = slice-Contains part.sent c.message c.listed in
           elim (cases_lt place.0 left) [
             | inl below ↦ absurd (let until = number_until set t sound part a left place.0 c.message place.1 long below in omega (arith, until, same, named.after))
-            | inr above ↦ (let at = sent_later place.0 c.message (omega (arith, above)) place.1 in omega (arith, at, tick, at_tick))
+            | inr above ↦ (let at = sent_later place.0 c.message (omega (arith, above)) place.1 in omega (arith, at, tick, ap (tick_of t) same))
           ]
 
       from : (m : Miss) → IsMiss set t m → g ≤ tick_of t m.sent → number_at part.sent left < m.sent
@@ -331,6 +330,5 @@ KnowsMisses-from_left part g left level long sent_later earlier h set t sound a 
           | inr early ↦ absurd (
               let sent = a.sent_sound x (last_at-Contains part.sent left x e) in
               let rise = ticks_rise t sound.time m.sent x.sent.no _ _ i.message.sent sent.message.sent early in
-              let low = earlier x e in
-              omega (arith, rise, sent.place, low, l))
+              omega (arith, rise, sent.place, earlier x e, l))
         ]

@@ -27,6 +27,5 @@ map_at f (x ∷ xs) (suc k) v l e h = ap₂ (λ y ys. y ∷ ys) (sym (h 0 x (ome
 -- what holds up to a place holds of each element that is taken
 pub each_taken : {X : Type 0} (P : X → Type 0) (xs : List X) (n : ℕ) → n ≤ length xs → AllWithin P xs 0 n → (x : X) → Contains (take n xs) x → P x
 each_taken P xs n l h x k =
-    let long = length-take-le n xs l in
-    let within : k.0 < n = omega (arith, k.1, long) in
+    let within : k.0 < n = omega (arith, k.1, length-take-le n xs l) in
     subst P (sym (get_or-take n xs k.0 x within) ∙ k.2) (h k.0 x (omega arith) within)

@@ -19,7 +19,7 @@ ends_no_later a b h = grind (arith, h)
 pub parted_by_end : (silent : List Gap) (seam : ℕ) → Rises EndsBefore silent → IsPartitionedBy (λ w. nat_lt w.to seam) silent
 parted_by_end silent seam r i j d l h e = elim (cases_eq i j) [
   | inl same ↦ subst (λ k. nat_lt (get_or silent k d).to seam ≡ true) (sym same) e
-  | inr other ↦ lt-ltb (get_or silent i d).to seam (let a = ends_no_later (get_or silent i d) (get_or silent j d) (Rises-at EndsBefore silent i j d r (omega (arith, l, other)) h) in let b = ltb-true (get_or silent j d).to seam e in omega (arith, a, b))
+  | inr other ↦ lt-ltb (get_or silent i d).to seam (let a = ends_no_later (get_or silent i d) (get_or silent j d) (Rises-at EndsBefore silent i j d r (omega (arith, l, other)) h) in omega (arith, a, ltb-true (get_or silent j d).to seam e))
 ]
 
 -- one that ended before doesn't go on

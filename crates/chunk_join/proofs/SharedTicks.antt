@@ -67,8 +67,7 @@ fate t p k a s q Open h = λ x g. elim (cases_lt k (tick_of p x)) [
   | inl late ↦ late
   | inr early ↦ (
       let own = takes p t k (back t p k a) x s.no g (omega (arith, early)) in
-      let late = h x own.0 in
-      omega (arith, late, own.1))
+      omega (arith, h x own.0, own.1))
 ]
 fate t p k a s q (Taken missed) h =
     let until = h.2 in
@@ -148,7 +147,7 @@ ShareTicks-extended : (t seen : Recorded) (k : ℕ) → Extends t seen → IsTim
 ShareTicks-extended t seen k e time later = record {
   forth = λ s x h l. kept s x h;
   back = λ s x h l. elim (cases_lt (length seen.steps) s) [
-    | inl past ↦ absurd (let late = later s x past h in omega (arith, late, l))
+    | inl past ↦ absurd (omega (arith, later s x past h, l))
     | inr within ↦ (let own = sym (step_kept t.steps seen.steps e.steps s (omega (arith, within))) ∙ h in (own, sym (kept s x own).1))
   ];
 } where
@@ -170,5 +169,5 @@ IsDigestUpTo-extended set t seen (Some d) w e h = λ sound. extended sound (h w)
   extended : (sound : IsTrace t) → IsDigestOf (record { set = set; trace = seen; sound = w }) 0 (seen.last - 1) (Some d) → IsDigestOf (record { set = set; trace = t; sound = sound }) 0 (seen.last - 1) (Some d)
   extended sound (some, high, (s, is, same)) =
       let inside : seen.last - 1 ≤ t.last = omega (arith, e.last) in
-      let shared = ShareTicks-extended t seen (seen.last - 1) e w.time (λ n x past at. (let late = e.later n x past at in omega (arith, late, some))) in
+      let shared = ShareTicks-extended t seen (seen.last - 1) e w.time (λ n x past at. omega (arith, e.later n x past at, some)) in
       (some, inside, (s, IsSummary-shared seen t (seen.last - 1) shared w sound high inside set s is, same))

@@ -150,7 +150,7 @@ IsLongestOver-top set t s a n g f o w start long later known top from = record {
     silent = λ x b e s. own.gap.silent x (omega (arith, b, from)) (omega (arith, e)) s;
   };
   longest = λ u i e. elim (topped set t s a n g f o long later known u i e) [
-    | inl h ↦ inl (let b = (is u h).until in omega (arith, b))
+    | inl h ↦ inl (omega (arith, (is u h).until))
     | inr short ↦ inr short
   ];
   least = λ u i e long_enough same. elim (topped set t s a n g f o long later known u i e) [

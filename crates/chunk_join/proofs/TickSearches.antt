@@ -55,7 +55,7 @@ come_stop t time x n h s = record {
 pub all_steps : (t : Recorded) → IsTimed t → (x : ℕ) → t.last ≤ x → AreStepsBefore t (x + 1) (length t.steps)
 all_steps t time x l = record {
   within = omega arith;
-  before = λ k a b. (let h = tick_of-limit t time k in omega (arith, h, l));
+  before = λ k a b. omega (arith, tick_of-limit t time k, l);
   rest = λ k a b. absurd (omega (arith, a, b));
 }
 
@@ -68,6 +68,6 @@ steps_inside t x a b k o l h =
 
 pub steps_order : (t : Recorded) (x a b : ℕ) → AreStepsOf t x a b → a ≤ b
 steps_order t x a b o = elim (cases_lt b a) [
-  | inl l ↦ absurd (let within = o.first.within in let above = o.next.rest a l within in let below = o.first.before a (omega (arith, l)) (omega arith) in omega (arith, above, below))
+  | inl l ↦ absurd (let within = o.first.within in let below = o.first.before a (omega (arith, l)) (omega arith) in omega (arith, o.next.rest a l within, below))
   | inr n ↦ n
 ]

@@ -24,8 +24,8 @@ IsGoneOver-none part level d m f w = record {
   silences_within = omega arith;
   positive = omega (arith, f);
   falling = tt;
-  sent = λ k x l h. absurd (let i = slice_get_within part.sent k x h in omega (arith, i, l));
-  silent = λ k x l h. absurd (let i = slice_get_within part.silent k x h in omega (arith, i, l));
+  sent = λ k x l h. absurd (omega (arith, slice_get_within part.sent k x h, l));
+  silent = λ k x l h. absurd (omega (arith, slice_get_within part.silent k x h, l));
   misses = HasMissesFrom-all part level d m;
   ticks = record {
     gaps = λ set t sound a. (let e = a.to in rw (f, w, e) (KnowsGaps-after_all set t));
@@ -101,7 +101,7 @@ pub IsGoneOver-quiet : (part : Summary) (x low m s : ℕ) (level : Level) (level
 IsGoneOver-quiet part x low m s level levels above known quiet =
     let start = quiet.start in
     subst (λ (l : Level). IsGoneOver part x m s l (l ∷ levels))
-    (with_silence-short level x (last_at part.silent s) known.positive (λ w e. let a = quiet.short w e in omega (arith, a, above)))
+    (with_silence-short level x (last_at part.silent s) known.positive (λ w e. omega (arith, quiet.short w e, above)))
     (IsTickBack-read part x m s m s level level levels known (record {
       start = omega (arith, start, above);
       messages_within = known.messages_within;
@@ -109,11 +109,11 @@ IsGoneOver-quiet part x low m s level levels above known quiet =
       falling = StandsBefore-itself level;
       phi = refl;
       gap = refl;
-      sent = λ k y l h. (let a = known.sent k y l h in omega (arith, a));
-      earlier = λ y e. (let a = quiet.message y e in omega (arith, a, above));
+      sent = λ k y l h. omega (arith, known.sent k y l h);
+      earlier = λ y e. omega (arith, quiet.message y e, above);
       misses = known.misses;
-      silent = λ k w l h. (let a = known.silent k w l h in omega (arith, a));
-      begun = λ w e. (let a = quiet.begun w e in omega (arith, a, above));
+      silent = λ k w l h. omega (arith, known.silent k w l h);
+      begun = λ w e. omega (arith, quiet.begun w e, above);
     })).known
 
 -- From the first tick on they are the levels of the trace.

@@ -25,7 +25,7 @@ module _ {X : Type 0} (Before : X → X → Type 0) (strict : (x y : X) → Befo
   weight_within [] y k e = absurd (Contains-nil y k)
   weight_within (x ∷ xs) y k e = elim (Contains-cons_cases x y xs k) [
     | inl same ↦ (let s = ap (λ (b : Bool). cond b 0 (weight x)) (ap pending same ∙ e) in omega (arith, ap weight same, s))
-    | inr later ↦ (let h = weight_within xs y later e in omega (arith, h))
+    | inr later ↦ omega (arith, weight_within xs y later e)
   ]
 
   -- what is kept is undominated in the list
@@ -59,7 +59,7 @@ module _ {X : Type 0} (Before : X → X → Type 0) (strict : (x y : X) → Befo
         omega (arith, l),
         λ y m b settled. elim (Contains-cons_cases z y zs m) [
           | inl same ↦ absurd (let own = subst (λ v. Before z v) (sym same) b in strict z z own own)
-          | inr later ↦ (let h = weight_within zs y later settled in omega (arith, h, l))
+          | inr later ↦ omega (arith, weight_within zs y later settled, l)
         ],
       );
     }

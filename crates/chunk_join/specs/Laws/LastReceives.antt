@@ -45,7 +45,7 @@ IsLastReceive-after t q low high s None l a = λ z r u v. a z r (omega (arith, l
 IsLastReceive-after t q low high s (Some r) l a = go (nat_lt s.tick r.tick) refl where
   go : (b : Bool) → nat_lt s.tick r.tick ≡ b → IsLastReceive t q s.tick high (cond b (Some r) None)
   go true e = record { receive = a.receive; place = a.place; after = ltb-true s.tick r.tick e; until = a.until; latest = a.latest }
-  go false e = λ z k u v. (let n = ltb-false s.tick r.tick e in let m = a.latest z k v in omega (arith, n, m, u))
+  go false e = λ z k u v. (omega (arith, ltb-false s.tick r.tick e, a.latest z k v, u))
 
 -- it is one
 pub IsLastReceive-one : (t : Recorded) → IsTimed t → (q low high : ℕ) (x y : Option Place) → IsLastReceive t q low high x → IsLastReceive t q low high y → x ≡ y

@@ -73,7 +73,5 @@ joined_sent set t sound i s j l r low high a b = record {
   across : (x y : Message) → Contains settled x → Contains r.sent y → SentBefore x y
   across x y p q =
       let z = Contains-from_map (settle r.taken l.last) l.sent x p in
-      let u = (a.sent.sound z.0 z.1).until in
-      let v = (b.sent.sound y q).after in
       let e = ap (λ (w : Place). w.tick) (settled_sent l.last z.0 (find (takes_of z.0) r.taken)) in
-      subst (λ w. SentBefore w y) z.2 (inl (omega (arith, u, v, e)))
+      subst (λ w. SentBefore w y) z.2 (inl (omega (arith, (a.sent.sound z.0 z.1).until, (b.sent.sound y q).after, e)))

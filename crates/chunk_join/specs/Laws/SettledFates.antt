@@ -20,8 +20,8 @@ use Rattle.chunk_join.specs.Laws.LastReceives.{IsLastReceive-after, IsLastReceiv
 -- A message has one fate.
 IsFate-one : (t : Recorded) → IsTrace t → (s : Place) (q j : ℕ) (f g : Fate) → IsFate t s q j f → IsFate t s q j g → f ≡ g
 IsFate-one t sound s q j Open Open a b = refl
-IsFate-one t sound s q j Open (Taken y) a b = absurd (let late = a b.0 b.1 in omega (arith, late, b.2))
-IsFate-one t sound s q j (Taken x) Open a b = absurd (let late = b a.0 a.1 in omega (arith, late, a.2))
+IsFate-one t sound s q j Open (Taken y) a b = absurd (omega (arith, a b.0 b.1, b.2))
+IsFate-one t sound s q j (Taken x) Open a b = absurd (omega (arith, b a.0 a.1, a.2))
 IsFate-one t sound s q j (Taken x) (Taken y) a b =
     let one : b.0 ≡ a.0 = sound.steps.once b.0 a.0 s.no b.1 a.1 in
     let last = subst (λ n. IsLastReceive t q s.tick (tick_of t n) y) one b.3 in
@@ -29,7 +29,7 @@ IsFate-one t sound s q j (Taken x) (Taken y) a b =
 
 -- it had one up to an earlier tick
 pub earlier_fate : (t : Recorded) → IsTrace t → (p : Place) (q s j : ℕ) (f : Fate) → s ≤ j → IsFate t p q j f → (g : Fate) × IsFate t p q s g
-earlier_fate t sound p q s j Open high h = (Open, λ x takes. (let late = h x takes in omega (arith, late, high)))
+earlier_fate t sound p q s j Open high h = (Open, λ x takes. omega (arith, h x takes, high))
 earlier_fate t sound p q s j (Taken missed) high h = elim (cases_lt s (tick_of t h.0)) [
   | inl late ↦ (Open, λ x takes. (let one = ap (λ n. tick_of t n) (sound.steps.once x h.0 p.no takes h.1) in omega (arith, one, late)))
   | inr before ↦ (Taken missed, (h.0, h.1, before, h.3))
@@ -93,13 +93,12 @@ module _ (set : ℕ) (t : Recorded) (sound : IsTrace t) (i s j : ℕ) (taken : L
   taken_so : (y : Take) → Contains taken y → takes_of m y ≡ true → IsFate t m.sent m.to j (Taken (after m.sent (later_of (last_of last y.by) y.before)))
   taken_so y c e =
       let own = (k.sound y c).0 in
-      let until = (k.sound y c).1 in
       let place = own.at_place in
       let takes : TakesAt t.steps y.at.no m.sent.no = subst (λ n. TakesAt t.steps y.at.no n) (takes_of-same m y e) own.takes in
       let by : y.by ≡ m.to = ap (λ (x : Step). x.proc) (same_step t.steps y.at.no _ _ own.receive.step (receives y.at.no takes).step) in
       let before = k.before y own in
       let missed = IsLastReceive-after t y.by before.0 y.at.tick m.sent _ before.1 before.2 in
-      (y.at.no, takes, omega (arith, until, place), rw (← by, place) missed)
+      (y.at.no, takes, omega (arith, (k.sound y c).1, place), rw (← by, place) missed)
 
   settled_fate : IsFate t m.sent m.to j (settle taken last m).fate
   settled_fate = go (find (takes_of m) taken) refl where

@@ -57,11 +57,11 @@ module _ {X : Type 0} (pending : X → Bool) (weight : X → ℕ) where
 
   pub heaviest-append : (xs ys : List X) → top_of xs ≤ top_of (xs ++ ys)
   heaviest-append [] ys = omega arith
-  heaviest-append (x ∷ xs) ys = let h = heaviest-append xs ys in omega (arith, h)
+  heaviest-append (x ∷ xs) ys = omega (arith, heaviest-append xs ys)
 
   pub heaviest-append_right : (xs ys : List X) → top_of ys ≤ top_of (xs ++ ys)
   heaviest-append_right [] ys = omega arith
-  heaviest-append_right (x ∷ xs) ys = let h = heaviest-append_right xs ys in omega (arith, h)
+  heaviest-append_right (x ∷ xs) ys = omega (arith, heaviest-append_right xs ys)
 
   -- what is kept is as good as the list
   pub thinned-same : (xs : List X) → Alike (thin xs) xs

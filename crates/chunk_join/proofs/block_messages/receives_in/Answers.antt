@@ -43,6 +43,5 @@ loop-no-preserved c =
 
 pub returns-clause-taken : goal.returns-clause-taken
 returns-clause-taken c =
-    let upto = c.loop-no.auto.no-end c.requires.order in
-    let at : c.loop-no.no ≡ c.args.end = omega (arith, c.loop-no-test.false, upto) in
+    let at : c.loop-no.no ≡ c.args.end = omega (arith, c.loop-no-test.false, c.loop-no.auto.no-end c.requires.order) in
     subst (λ k. AreTakesBy c.args.set c.args.trace.now (c.args.from - 1) k [] c.loop-no.taken.items) at c.loop-no.invariant.1
