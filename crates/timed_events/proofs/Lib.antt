@@ -22,3 +22,4 @@ pub mod SortedOnce
 pub mod OneOrder
 pub mod OneTrace
 pub mod OneSpread
+pub mod BriefEvents

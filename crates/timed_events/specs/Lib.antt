@@ -4,3 +4,4 @@ pub mod Checks
 pub mod Orders
 pub mod TimedTraces
 pub mod Spreads
+pub mod Briefs

@@ -1,9 +1,11 @@
 //! What makes events a trace, tested event by event.
 
-ghost use Rattle.std.specs.Prelude.{◌≡◌, ◌<◌, ◌≤◌, ◌+◌, ◌||◌, ◌↔◌, ℕ, None, Some, false, length, IfOk, OnOk, OnErr, MatchResult, IsTrue, IsSome, is_some, nat_eq, slice_get, slice_index_or, All};
+ghost use Rattle.std.specs.Prelude.{◌≡◌, ◌<◌, ◌≤◌, ◌+◌, ◌||◌, ◌↔◌, ℕ, None, Some, false, length, map, IfOk, OnOk, OnErr, MatchResult, IsTrue, IsSome, is_some, nat_eq, slice_get, slice_index_or, All};
 ghost use Rattle.std.specs.HashSet.{contains};
+ghost use Rattle.timed_events.specs.Briefs.{brief_of};
 ghost use Rattle.timed_events.specs.Checks.{is_for, received_before, messages_at, message_refusal, messages_refusal, late_hint, apart_hint, moment_at, earlier_at, second_refusal, events_refusal, AreOfProcessors, AreMeant, IsMeantAt, IsEventRefusal};
 
+use crate::briefs::{Brief, briefs_of};
 use crate::events::{Event, EventAct, EventError, Hint};
 use std::alloc::Global;
 use std::collections::HashSet;
@@ -18,10 +20,12 @@ pub fn check_events(alloc: Global, events: &[Event], ticks: &[u32]) -> Result<()
     requires processors { AreOfProcessors events.now }
     ensures { MatchResult result (λ _. events_refusal events.now ticks.now ≡ None) (λ why. IsEventRefusal why (events_refusal events.now ticks.now)) }
 {
+    let briefs = briefs_of(alloc, events)?;
     let mut taken = vec![in alloc; false; events.len()]?;
     let mut seen = HashSet::new(alloc);
     for (place, event) in events.iter().enumerate() {
-        take_messages(events, ticks, place, event.act.messages(), &mut taken)?;
+        let messages = event.act.messages();
+        take_messages(events, &briefs, ticks, place, messages, &mut taken)?;
         take_moment(events, ticks, place, &mut seen)?;
     }
     Ok(())
@@ -57,6 +61,7 @@ fn is_meant(events: &[Event], place: usize, n: u64) -> bool
 /// Tests the messages of the event at `place`, and marks them as taken.
 pub(crate) fn take_messages(
     events: &[Event],
+    briefs: &[Brief],
     ticks: &[u32],
     place: usize,
     messages: &[Option<u32>],
@@ -64,6 +69,8 @@ pub(crate) fn take_messages(
 ) -> Result<(), EventError>
     requires inside { place < length events.now }
     requires ticks { length ticks.now ≡ length events.now }
+    requires processors { AreOfProcessors events.now }
+    requires briefs { briefs.now ≡ map brief_of events.now }
     requires messages { messages.now ≡ messages_at events.now place }
     requires len { length taken.old.items ≡ length events.now }
     requires taken { (s : ℕ) → s < length events.now → slice_index_or taken.old.items s false ≡ received_before events.now place s }
@@ -72,7 +79,7 @@ pub(crate) fn take_messages(
     ensures refused { MatchResult result (λ _. messages_refusal events.now ticks.now place ≡ None) (λ why. messages_refusal events.now ticks.now place ≡ Some why) }
 {
     for (k, message) in messages.iter().enumerate() {
-        let sent = sent_before(events, ticks, place, k, *message, taken)?;
+        let sent = sent_before(events, briefs, ticks, place, k, *message, taken)?;
         taken[sent] = true;
     }
     Ok(())
@@ -81,6 +88,7 @@ pub(crate) fn take_messages(
 /// The place of the event that sent a message, where the event at `place` may receive it.
 fn sent_before(
     events: &[Event],
+    briefs: &[Brief],
     ticks: &[u32],
     place: usize,
     k: usize,
@@ -89,6 +97,8 @@ fn sent_before(
 ) -> Result<usize, EventError>
     requires inside { place < length events.now }
     requires ticks { length ticks.now ≡ length events.now }
+    requires processors { AreOfProcessors events.now }
+    requires briefs { briefs.now ≡ map brief_of events.now }
     requires taken { length taken.now ≡ length events.now }
     ensures sent { IfOk result (λ s. (s < length events.now) × (message ≡ Some s)) }
     ensures refused { MatchResult result (λ _. message_refusal events.now ticks.now (λ s. slice_index_or taken.now s false) place k message ≡ None) (λ why. message_refusal events.now ticks.now (λ s. slice_index_or taken.now s false) place k message ≡ Some why) }
@@ -100,7 +110,7 @@ fn sent_before(
         });
     };
     let sent = sent as usize;
-    if !is_sent_to(events, sent, events[place].processor) {
+    if !is_sent_to(events, briefs, sent, events[place].processor) {
         return Err(EventError::WrongReceiver {
             event: place,
             message: k,
@@ -123,16 +133,16 @@ fn sent_before(
     })
 }
 
-/// Whether the event at `place` is a Send to this processor.
-fn is_sent_to(events: &[Event], place: usize, processor: u64) -> bool
+/// Whether the event at `place` is a Send to this processor, by the briefs of the events, which are read by the clauses
+/// alone.
+fn is_sent_to(events: &[Event], briefs: &[Brief], place: usize, processor: u64) -> bool
+    requires briefs { briefs.now ≡ map brief_of events.now }
+    requires processor { (1 ≤ processor) × (processor ≤ MAX_PROCESSORS) }
     ensures value { result ≡ is_for events.now place processor }
     ensures inside { IsTrue result → place < length events.now }
 {
-    match events.get(place) {
-        Some(event) => match &event.act {
-            EventAct::Send { to } => *to == processor,
-            EventAct::Receive { .. } => false,
-        },
+    match briefs.get(place) {
+        Some(brief) => u64::from(brief.to) == processor,
         None => false,
     }
 }

@@ -1,6 +1,7 @@
 //! Events with times in place of ticks, as systems log them, and the trace in ticks that they make.
 #![tactic(auto)]
 
+mod briefs;
 mod checks;
 mod events;
 mod laws;
