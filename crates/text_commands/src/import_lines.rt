@@ -2,12 +2,10 @@
 
 ghost use Rattle.std.specs.Prelude.{◌≡◌, IfOk, length, string_bytes};
 ghost use Rattle.text_commands.specs.ImportLines.{hint_line, node_lines, notes_of};
-ghost use Rattle.event_log.specs.RefusalTexts.{printed};
 
-use event_log::{Import, LogError, NameSet, Options};
+use event_log::{Import, LogError, NameSet, Options, printed};
 use std::alloc::{AllocError, Global};
 use std::fmt;
-use std::str::from_utf8;
 use timed_events::{Hint, Moved};
 
 /// What is told of a log that was read as a trace: which processor each node is, where the nodes weren't listed; and how far
@@ -94,16 +92,6 @@ impl fmt::Display for MovedLine {
             "synchrony: {} of {} events moved, by at most {} ticks",
             self.moved.events, self.count, self.moved.ticks
         )
-    }
-}
-
-/// A name as it is printed. Each name of a log is text.
-fn printed(name: &[u8]) -> &str
-    ensures { result.now ≡ printed name.now }
-{
-    match from_utf8(name) {
-        Ok(text) => text,
-        Err(_) => "?",
     }
 }
 
