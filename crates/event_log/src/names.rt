@@ -156,6 +156,21 @@ impl NameSet {
         if let Some(place) = self.place_of(name) {
             return Ok((place, false));
         }
+        self.add_new(alloc, name)
+    }
+
+    /// The same for a name that is most likely new: it is looked up once, after it was copied.
+    pub(crate) fn add_new(
+        &mut self,
+        alloc: Global,
+        name: &[u8],
+    ) -> Result<(usize, bool), AllocError>
+        ensures names { OnOk result (self.new ≡ with_name self.old name.now) }
+        ensures place { IfOk result (λ r. r.0 ≡ position_or_len (bytes_eq name.now) self.old) }
+        ensures added { IfOk result (λ r. r.1 ≡ not (has_name self.old name.now)) }
+        ensures within { IfOk result (λ r. r.0 < length self.new) }
+        ensures kept { OnErr result (self.new ≡ self.old) }
+    {
         let name = Vec::from_slice(alloc, name)?;
         insert(&mut self.names, name)
     }

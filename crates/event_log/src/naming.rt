@@ -189,7 +189,7 @@ fn name_act(
         };
         return Ok(KeptAct::Receive { messages });
     }
-    let Ok((_, is_new)) = messages.add(alloc, told.messages) else {
+    let Ok((_, is_new)) = messages.add_new(alloc, told.messages) else {
         return Err(LogError::Memory);
     };
     if !is_new {
