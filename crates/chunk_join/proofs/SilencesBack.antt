@@ -10,8 +10,7 @@ use Rattle.step_trace.specs.Witnesses.{IsGap}
 use Rattle.suffix_staircase.specs.declared.levels.Level.{Level}
 use Rattle.suffix_staircase.specs.Levels.{StandsBefore}
 use Rattle.suffix_staircase.specs.Analysis.{KnowsGaps, with_gap}
-use Rattle.suffix_staircase.proofs.GapBounds.{GapsLowered}
-use Rattle.chunk_join.proofs.GapsBack.{IsLongestOver, GapsLowered-with_over}
+use Rattle.suffix_staircase.proofs.GapBounds.{GapsLowered, IsLongestOver, GapsLowered-with_over}
 use Rattle.suffix_staircase.proofs.LevelBounds.{StandsBefore-itself}
 use Rattle.chunk_join.specs.Summaries.{EndsBefore, IsLongest, Summary}
 use Rattle.chunk_join.specs.Sufficient.{Suffices, IsGapCovered}

@@ -1,18 +1,18 @@
 -- The least processor bound from the gaps, one tick back.
-use Rattle.std.proofs.Common.{ℕ, ◌≡◌, ◌+◌, ◌-◌, ◌<◌, ◌≤◌, inl, inr, List, length, get_or, set, Option, Some, None, Bool, true, false, cond, refl, arith}
+use Rattle.std.proofs.Common.{ℕ, ◌≡◌, ◌+◌, ◌-◌, ◌<◌, ◌≤◌, ◌⊎◌, inl, inr, List, length, get_or, set, Option, Some, None, Bool, true, false, cond, refl, arith}
 use Rattle.std.specs.Prelude.{nat_le}
 use Rattle.std.proofs.lemmas.Bool.{cases_eq, cases_lt, leb-true, leb-false}
 use Rattle.step_trace.specs.declared.rows.Gap.{Gap}
 use Rattle.step_trace.specs.Processors.{IsWithin}
 use Rattle.step_trace.specs.Traces.{Recorded}
 use Rattle.step_trace.specs.Bounds.{PhiHolds, IsPhi}
-use Rattle.step_trace.specs.Witnesses.{NamesGap}
+use Rattle.step_trace.specs.Witnesses.{IsGap, NamesGap}
 use Rattle.suffix_staircase.specs.declared.levels.Level.{Level}
 use Rattle.suffix_staircase.specs.NextSteps.{AreNextSteps, IsLatest}
 use Rattle.suffix_staircase.specs.Analysis.{KnowsGaps, with_gap}
 use Rattle.step_trace.proofs.BoundLaws.{GapRefutes-sound, IsNamedGap-refutes}
 use Rattle.step_trace.proofs.BoundDecisions.{PhiHolds-unrefuted}
-use Rattle.suffix_staircase.proofs.LongestGaps.{IsLongest, IsLongest-from_latest}
+use Rattle.suffix_staircase.proofs.LongestGaps.{IsLongest-from_latest}
 
 -- a bound with its named gap is positive
 pub phi_positive : (set : ℕ) (trace : Recorded) (g f : ℕ) (o : Option Gap) → NamesGap set trace g f o → 1 ≤ f
@@ -34,21 +34,27 @@ IsPhi-from_gaps set trace g f o start k =
     record {
       positive = positive;
       holds = PhiHolds-unrefuted set trace g f start positive (λ w r.
-          let short = k.shorter w r.gap r.from in
-          omega (arith, short, r.long));
+          omega (arith, k.shorter w r.gap r.from, r.long));
       least = phi_least set trace g f o k.named;
     }
 
--- the longest gap that begins at x is longer than all that begin later
-gaps_longer : (set : ℕ) (trace : Recorded) (x f q until : ℕ) (o : Option Gap) → KnowsGaps set trace (x + 1) f o → IsLongest set trace x q until → f ≤ until - x
+-- Of the gaps that begin at x, this one is the longest and of the least processor, where it refutes the bound f; where
+-- it doesn't, none does.
+pub record IsLongestOver (set : ℕ) (trace : Recorded) (x f q until : ℕ) : Type 0 where
+  pub gap : x < until → IsGap set trace (record { proc = q; from = x; to = until - 1 })
+  pub longest : (u : Gap) → IsGap set trace u → u.from ≡ x → (u.to < until) ⊎ (u.to + 1 < x + f)
+  pub least : (u : Gap) → IsGap set trace u → u.from ≡ x → x + f ≤ u.to + 1 → u.to + 1 ≡ until → q ≤ u.proc
+
+-- where it refutes the bound, it is longer than all that begin later
+gaps_longer : (set : ℕ) (trace : Recorded) (x f q until : ℕ) (o : Option Gap) → KnowsGaps set trace (x + 1) f o → IsLongestOver set trace x f q until → f ≤ until - x
     → KnowsGaps set trace x (until - x + 1) (Some (record { proc = q; from = x; to = until - 1 }))
 gaps_longer set trace x f q until o k l h =
     let positive = phi_positive set trace (x + 1) f o k.named in
     let above : x < until = omega arith in
     record {
       shorter = λ w i a. elim (cases_eq w.from x) [
-        | inl e ↦ (let short = l.longest w i e in omega (arith, short, e, above))
-        | inr n ↦ (let later : x + 1 ≤ w.from = omega (arith, n, a) in let short = k.shorter w i later in omega (arith, short, h))
+        | inl e ↦ elim (l.longest w i e) [ inl short ↦ omega (arith, short, e, above) | inr short ↦ omega (arith, short, e, h) ]
+        | inr n ↦ (let later : x + 1 ≤ w.from = omega (arith, n, a) in omega (arith, k.shorter w i later, h))
       ];
       named = (
         omega arith,
@@ -60,16 +66,16 @@ gaps_longer set trace x f q until o k l h =
             | inl later ↦ absurd (let short = k.shorter w i (omega (arith, later)) in omega (arith, short, h, e))
             | inr b ↦ b
           ];
-          least = λ w i e b. l.least w i e (omega (arith, e, b, above));
+          least = λ w i e b. l.least w i e (omega (arith, e, b, above, h)) (omega (arith, e, b, above));
         },
       );
     }
 
--- no gap that begins at x is as long as the named one
-gaps_kept : (set : ℕ) (trace : Recorded) (x f q until : ℕ) (o : Option Gap) → KnowsGaps set trace (x + 1) f o → IsLongest set trace x q until → until - x < f → KnowsGaps set trace x f o
+-- where it doesn't, no gap that begins at x is as long as the named one
+gaps_kept : (set : ℕ) (trace : Recorded) (x f q until : ℕ) (o : Option Gap) → KnowsGaps set trace (x + 1) f o → IsLongestOver set trace x f q until → until - x < f → KnowsGaps set trace x f o
 gaps_kept set trace x f q until o k l h = record {
   shorter = λ w i a. elim (cases_eq w.from x) [
-    | inl e ↦ (let short = l.longest w i e in omega (arith, short, e, h))
+    | inl e ↦ elim (l.longest w i e) [ inl short ↦ omega (arith, short, e, h) | inr short ↦ omega (arith, short, e) ]
     | inr n ↦ (let later : x + 1 ≤ w.from = omega (arith, n, a) in k.shorter w i later)
   ];
   named = go o k.named;
@@ -95,9 +101,9 @@ pub record GapsLowered (set : ℕ) (trace : Recorded) (x : ℕ) (old new : Level
   pub delta : new.delta ≡ old.delta
   pub miss : new.miss ≡ old.miss
 
--- one tick back, the level takes the longest gap that begins there where its bound allows it no more
-pub GapsLowered-with_longest : (set : ℕ) (t : Recorded) (x q until : ℕ) (level : Level) → IsLongest set t x q until → KnowsGaps set t (x + 1) level.phi level.gap → GapsLowered set t x level (with_gap level q x until)
-GapsLowered-with_longest set t x q until level longest k = go (nat_le level.phi (until - x)) refl where
+-- one tick back, the level takes that gap where its bound allows it no more
+pub GapsLowered-with_over : (set : ℕ) (t : Recorded) (x q until : ℕ) (level : Level) → IsLongestOver set t x level.phi q until → KnowsGaps set t (x + 1) level.phi level.gap → GapsLowered set t x level (with_gap level q x until)
+GapsLowered-with_over set t x q until level longest k = go (nat_le level.phi (until - x)) refl where
   go : (b : Bool) → nat_le level.phi (until - x) ≡ b
       → GapsLowered set t x level (cond b (record { delta = level.delta; miss = level.miss; phi = until - x + 1; gap = Some (record { proc = q; from = x; to = until - 1 }) }) level)
   go true e = let h = leb-true level.phi (until - x) e in record {
@@ -118,4 +124,6 @@ GapsLowered-with_longest set t x q until level longest k = go (nat_le level.phi 
 -- so it does with that of the member whose next step comes last
 pub GapsLowered-with_gap : (set : ℕ) (t : Recorded) (x q : ℕ) (next : List ℕ) (level : Level) → 1 ≤ x → IsWithin set t.config.n → AreNextSteps t x next → IsLatest set next (length next) q
     → KnowsGaps set t (x + 1) level.phi level.gap → GapsLowered set t x level (with_gap level q x (get_or next q 0))
-GapsLowered-with_gap set t x q next level start within known latest k = GapsLowered-with_longest set t x q (get_or next q 0) level (IsLongest-from_latest set t x q next start within known latest) k
+GapsLowered-with_gap set t x q next level start within known latest k =
+    let l = IsLongest-from_latest set t x q next start within known latest in
+    GapsLowered-with_over set t x q (get_or next q 0) level (record { gap = l.gap; longest = λ w i e. inl (l.longest w i e); least = λ w i e long. l.least w i e }) k
