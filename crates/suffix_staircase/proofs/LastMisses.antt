@@ -59,6 +59,6 @@ IsLastMissByNumber-from_known set t x b r w within m k = go (get_or r.links.item
       let some = eqb-false _ _ e in
       let f = (k.taken x b (m.from, m.sent)).found (let positive : 0 < get_or r.links.items x 0 = omega (arith, some) in positive) in
       IsLastMissByNumber-from_last set t.steps x b (get_or r.links.items x 0) (get_or r.links.items (get_or r.links.items x 0) 0) m
-      (λ d l. let same = w.once d.place (get_or r.links.items x 0) x d.takes f.1 in omega (arith, same, d.until, l))
+      (λ d l. omega (arith, w.once d.place (get_or r.links.items x 0) x d.takes f.1, d.until, l))
       (λ y i. elim (cases_lt y (get_or r.links.items x 0)) [ inl l ↦ l | inr late ↦ absurd (i.undelivered (record { place = get_or r.links.items x 0; after = f.0; until = late; takes = f.1 })) ])
       (k.before b (get_or r.links.items x 0) (taker_receives t.config t.steps x b _ _ w m.sent f.1) f.0)

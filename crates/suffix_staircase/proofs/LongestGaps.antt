@@ -36,14 +36,12 @@ pub IsLongest-from_latest : (set : ℕ) (t : Recorded) (x q : ℕ) (next : List 
 IsLongest-from_latest set t x q next start within k latest = record {
   gap = gap q latest;
   longest = λ w i e.
-      let own = gap_until set t x next w within k i e in
       let high = within w.proc i.member in
       let most = latest.greatest w.proc (omega (arith, high, k.long)) (member_low set w.proc i.member) i.member in
-      omega (arith, own, most);
+      omega (arith, gap_until set t x next w within k i e, most);
   least = λ w i e until. elim (cases_lt w.proc q) [
-    | inl below ↦ absurd (let own = gap_until set t x next w within k i e in
-        let less = latest.least w.proc below (member_low set w.proc i.member) i.member in
-        omega (arith, own, less, until))
+    | inl below ↦ absurd (let less = latest.least w.proc below (member_low set w.proc i.member) i.member in
+        omega (arith, gap_until set t x next w within k i e, less, until))
     | inr h ↦ h
   ];
 } where

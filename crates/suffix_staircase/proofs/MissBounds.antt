@@ -34,8 +34,7 @@ IsDelta-from_misses set t g d o k =
     record {
       positive = positive;
       holds = DeltaHolds-unrefuted set t g d positive (λ m r.
-          let short = k.shorter m r.miss r.from in
-          omega (arith, short, r.long));
+          omega (arith, k.shorter m r.miss r.from, r.long));
       least = delta_least set t g d o k.named;
     }
 
@@ -56,7 +55,7 @@ misses_longer set t x d r o low k l h =
     let above : tick_of t x < tick_of t r = omega arith in
     record {
       shorter = λ m i f. elim (cases_eq m.sent x) [
-        | inl e ↦ (let last = l.last m.missed (same_sent set t x m i e) in let at = ap (tick_of t) e in omega (arith, last, at, above))
+        | inl e ↦ omega (arith, l.last m.missed (same_sent set t x m i e), ap (tick_of t) e, above)
         | inr n ↦ (let short = k.shorter m i (omega (arith, n, f)) in omega (arith, short, h))
       ];
       named = (
@@ -66,7 +65,7 @@ misses_longer set t x d r o low k l h =
           after = omega arith;
           long = omega arith;
           greatest = λ m i f e. elim (cases_lt x m.sent) [
-            | inl later ↦ absurd (let short = k.shorter m i later in omega (arith, short, h, e))
+            | inl later ↦ absurd (omega (arith, k.shorter m i later, h, e))
             | inr b ↦ b
           ];
         },
@@ -77,7 +76,7 @@ misses_longer set t x d r o low k l h =
 misses_kept : (set : ℕ) (t : Recorded) (x d r : ℕ) (o : Option Miss) → 1 ≤ x → KnowsMissesAfter set t x d o → IsLastMissOf set t x r → tick_of t r - tick_of t x < d → KnowsMissesAfter set t (x - 1) d o
 misses_kept set t x d r o low k l h = record {
   shorter = λ m i f. elim (cases_eq m.sent x) [
-    | inl e ↦ (let last = l.last m.missed (same_sent set t x m i e) in let at = ap (tick_of t) e in omega (arith, last, at, h))
+    | inl e ↦ omega (arith, l.last m.missed (same_sent set t x m i e), ap (tick_of t) e, h)
     | inr n ↦ k.shorter m i (omega (arith, n, f))
   ];
   named = go o k.named;

@@ -13,10 +13,10 @@ use Rattle.suffix_staircase.specs.NextSteps.{IsNextTick, AreNextTicks, IsLatest}
 
 -- going back over a step, its processor gets it as its next step
 IsNextTick-own : (t : Recorded) → IsTimed t → (x : ℕ) (s : Step) → step_at t.steps x ≡ Some s → IsNextTick t s.proc (x - 1) (tick_of t x)
-IsNextTick-own t time x s h = let low = step_at_within t.steps x s h in record {
+IsNextTick-own t time x s h = record {
   until = let i = (time.inside x s h).1 in omega arith;
   first = λ k l i. ticks_rise t time x k s _ h i.1 (omega (arith, l));
-  step = λ l. (x, omega (arith, low), (s.act, h), refl);
+  step = λ l. (x, omega (arith, step_at_within t.steps x s h), (s.act, h), refl);
 }
 
 -- and every other keeps its own
@@ -33,7 +33,7 @@ IsNextTick-other t p x next s h other n = record {
 -- a step isn't in a later tick than the next one of any processor
 pub next_tick_above : (t : Recorded) → IsTimed t → (p x next : ℕ) (s : Step) → step_at t.steps x ≡ Some s → IsNextTick t p x next → tick_of t x ≤ next
 next_tick_above t time p x next s h n = elim (cases_lt t.last next) [
-  | inl l ↦ (let i = (time.inside x s h).1 in omega (arith, i, l))
+  | inl l ↦ omega (arith, (time.inside x s h).1, l)
   | inr l ↦ (let i = n.step l in let r = ticks_rise t time x i.0 s _ h i.2.1 (omega (arith, i.1)) in omega (arith, r, i.3))
 ]
 
@@ -61,7 +61,7 @@ get_or-replicate_all (suc m) v (suc k) h = get_or-replicate_all m v k (omega ari
 pub AreNextTicks-after_all : (t : Recorded) (next : List ℕ) → next ≡ set (replicate (t.config.n + 1) (t.last + 1)) 0 0 → AreNextTicks t (length t.steps) next
 AreNextTicks-after_all t next e = subst (λ (xs : List ℕ). AreNextTicks t (length t.steps) xs) (sym e) (record {
   long = length-set (replicate (t.config.n + 1) (t.last + 1)) 0 0 ∙ length-replicate (t.config.n + 1) (t.last + 1);
-  zero = get_or-set_same (replicate (t.config.n + 1) (t.last + 1)) 0 0 0 (let l = length-replicate (t.config.n + 1) (t.last + 1) in omega (arith, l));
+  zero = get_or-set_same (replicate (t.config.n + 1) (t.last + 1)) 0 0 0 (omega (arith, length-replicate (t.config.n + 1) (t.last + 1)));
   each = λ p a b.
       let other : p ≢ 0 = omega arith in
       let value = get_or-replicate_all (t.config.n + 1) (t.last + 1) p (omega arith) in
@@ -86,13 +86,11 @@ IsLatest-kept members q p x next other inside low latest = rw (length-set next p
   within = rw (length-set next p x) latest.within;
   member = latest.member;
   greatest = λ r below start member.
-      let most = latest.greatest r below start member in
       let lowered = entry-lowered next p x r inside low in
-      rw (get_or-set_other next p q x 0 other) (omega (arith, most, lowered));
+      rw (get_or-set_other next p q x 0 other) (omega (arith, latest.greatest r below start member, lowered));
   least = λ r below start member.
-      let less = latest.least r below start member in
       let lowered = entry-lowered next p x r inside low in
-      rw (get_or-set_other next p q x 0 other) (omega (arith, less, lowered));
+      rw (get_or-set_other next p q x 0 other) (omega (arith, latest.least r below start member, lowered));
 })
 
 -- the latest of the members so far stays it where the next one isn't later
@@ -116,5 +114,5 @@ IsLatest-taken members p q next latest inside here later = record {
     | inl e ↦ rw e (omega arith)
     | inr other ↦ (let most = latest.greatest r (omega (arith, other, below)) start member in omega (arith, most, later))
   ];
-  least = λ r below start member. (let most = latest.greatest r below start member in omega (arith, most, later));
+  least = λ r below start member. (omega (arith, latest.greatest r below start member, later));
 }

@@ -71,7 +71,7 @@ noted_last steps n x p last low high receive long k q within = go (get_or last p
       let place : p < length last = omega (arith, long, same, within) in
       let before = subst (λ (m : ℕ). IsLastReceive steps m x (length steps + 1) (get_or last m 0)) same (k q within) in
       subst (λ (m : ℕ). IsLastReceive steps m (x - 1) (length steps + 1) (get_or (set last p x) m 0)) (sym same)
-      (rw get_or-set_same (IsLastReceive-first steps p x (length steps + 1) low receive (omega arith) (λ y other a b. let l = before.last y other a b in omega (arith, l, none, a))))
+      (rw get_or-set_same (IsLastReceive-first steps p x (length steps + 1) low receive (omega arith) (λ y other a b. omega (arith, before.last y other a b, none, a))))
   go true e (inr ne) =
       let other : q ≢ p = ne in
       rw get_or-set_other (IsLastReceive-lower steps q x _ _ low (λ r. ne (receive_unique steps x q p r receive)) (k q within))
@@ -110,8 +110,7 @@ noted_before steps x p next links low receive first k clear q y other after = go
           let l = first.first y own later in
           let f = first.found l.0 in
           let old = subst (λ (m : ℕ). IsLastReceive steps m x y (get_or links y 0)) proc (k q y other later) in
-          let apart = eqb-false next y e in
-          let some = old.last next f.1 f.0 (omega (arith, apart, l.1)) in
+          let some = old.last next f.1 f.0 (omega (arith, eqb-false next y e, l.1)) in
           subst (λ (m : ℕ). IsLastReceive steps m (x - 1) y (get_or links y 0)) (sym proc) (IsLastReceive-noted steps p x y _ low receive later (λ z. omega (arith, z, some, l.0)) old))
       | inr foreign ↦ IsLastReceive-lower steps q x y _ low (λ r. foreign (receive_unique steps x q p r receive)) (k q y other later)
     ]

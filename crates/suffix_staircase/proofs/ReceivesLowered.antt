@@ -24,7 +24,7 @@ KnowsReceives-after_all t r links first last = record {
   links_long = ap length links ∙ length-replicate (length t.steps + 1) 0;
   first_long = ap length first ∙ length-replicate (t.config.n + 1) 0;
   last_long = ap length last ∙ length-replicate (t.config.n + 1) 0;
-  taken = λ s p m. rw (links, get_or-zeros) (record { found = λ p. absurd (omega arith); none = λ z y l h. absurd (let inside = step_at_within t.steps y h.0 h.1 in omega (arith, l, inside)) });
+  taken = λ s p m. rw (links, get_or-zeros) (record { found = λ p. absurd (omega arith); none = λ z y l h. absurd (omega (arith, l, step_at_within t.steps y h.0 h.1)) });
   before = λ p y receive l. absurd (let inside = step_at_within t.steps y _ receive.step in omega (arith, l, inside));
   clear = λ p y receive l. rw (links, get_or-zeros) refl;
   first = λ p h. rw (first, get_or-zeros) (record { found = λ q. absurd (omega arith); first = λ y receive l. absurd (let inside = step_at_within t.steps y _ receive.step in omega (arith, l, inside)) });

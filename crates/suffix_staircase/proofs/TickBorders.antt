@@ -30,12 +30,12 @@ step_or_zero steps (suc k) l = inr (found steps k (omega arith)) where
 pub IsBorder-between : (t : Recorded) → IsTimed t → (done high g : ℕ) → done ≤ length t.steps → AreIdleUpTo t done high → tick_of t done < g → g ≤ high → IsBorder t done g
 IsBorder-between t time done high g inside idle low within = record {
   end = let until = idle.until in omega arith;
-  above = λ k x h l. (let later = idle.later k x h l in omega (arith, later));
+  above = λ k x h l. (omega (arith, idle.later k x h l));
   below = λ k x h l. elim (cases_lt done k) [
     | inl e ↦ e
     | inr e ↦ elim (step_or_zero t.steps done inside) [
-      | inl none ↦ absurd (let p = step_at_within t.steps k x h in omega (arith, p, e, none))
-      | inr z ↦ absurd (let r = ticks_rise t time k done x z.0 h z.1 e in omega (arith, r, l))
+      | inl none ↦ absurd (omega (arith, step_at_within t.steps k x h, e, none))
+      | inr z ↦ absurd (omega (arith, ticks_rise t time k done x z.0 h z.1 e, l))
     ]
   ];
 }
@@ -48,7 +48,7 @@ AreIdleUpTo-last t time = record {
     | inr z ↦ (time.inside (length t.steps) z.0 z.1).1
   ];
   until = omega arith;
-  later = λ k x h l. absurd (let p = step_at_within t.steps k x h in omega (arith, p, l));
+  later = λ k x h l. absurd (omega (arith, step_at_within t.steps k x h, l));
 }
 
 -- between the ticks of two steps in a row there is none
