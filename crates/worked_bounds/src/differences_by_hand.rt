@@ -1,9 +1,9 @@
 //! Where traces differ first from others. A step is written as its tick and then as in the plain traces.
 
-use crate::traces::{step_of, ticked};
 use std::alloc::Global;
 use std::test::Fail;
 use step_trace::{Step, Trace};
+use test_support::traces::{step_of, ticked};
 
 /// A trace of two processors, one of them that was seen, each with its last tick, the first number at which
 /// the trace differs from what was seen, and what it has there.

@@ -1,9 +1,9 @@
 //! Traces that extend others, and the steps of one processor.
 
-use crate::traces::{step_of, trace_of};
 use std::alloc::Global;
 use std::test::Fail;
 use step_trace::{Config, Step, Trace};
+use test_support::traces::{step_of, trace_of};
 
 // One-miss: message 1 goes from 1 to 2, which receives nothing at first, and then the message.
 const ONE_MISS: &[(u64, u64, &[u64])] = &[(1, 2, &[]), (2, 0, &[]), (2, 0, &[1])];

@@ -1,10 +1,10 @@
 //! What no clause can say: that calls succeed at full size where memory is ample.
 
-use crate::traces::{both, empty_trace, step_of};
 use bound_witness::gaps;
 use std::alloc::{AllocError, Global};
 use std::test::Fail;
 use step_trace::{Act, Gap, MAX_STEPS, MessageIds, PushError, Step, Trace};
+use test_support::traces::{both, empty_trace, step_of};
 
 // Two processors take turns, but for 20,000 steps in the middle, which are all of processor 1.
 fn processor_of(no: u64) -> u64 {

@@ -1,10 +1,10 @@
 //! The longest gaps of worked traces, and the last misses of their messages.
 
-use crate::traces::{both, trace_of};
 use bound_witness::{gaps, last_miss};
 use std::alloc::{AllocError, Global};
 use std::test::Fail;
 use step_trace::{Gap, Miss, ProcSet, Trace};
+use test_support::traces::{both, trace_of};
 
 // Whether these are the longest gaps of the processors of a list, each as its processor, its first and its last
 // tick.

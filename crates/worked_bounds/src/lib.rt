@@ -21,15 +21,11 @@ mod plain_comparison;
 #[cfg(test)]
 mod pushes_by_hand;
 #[cfg(test)]
-mod stair_levels;
-#[cfg(test)]
 mod stairs_by_hand;
 #[cfg(test)]
 mod texts_by_hand;
 #[cfg(test)]
 mod tick_stairs_tests;
-#[cfg(test)]
-mod traces;
 #[cfg(test)]
 mod worked_ticks;
 #[cfg(test)]

@@ -1,11 +1,11 @@
 //! The stairs of a long trace.
 
-use crate::stair_levels::level_of;
-use crate::traces::{both, empty_trace, step_of};
 use std::alloc::Global;
 use std::test::Fail;
 use step_trace::Trace;
 use suffix_staircase::Stairs;
+use test_support::stair_levels::level_of;
+use test_support::traces::{both, empty_trace, step_of};
 
 // Two processors that take turns, but from 40,001 to 60,000 only the first takes steps. Step 1 is a
 // Send from the first to the second, which takes it at 70,000; the others are Receives.

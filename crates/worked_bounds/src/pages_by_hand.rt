@@ -1,10 +1,10 @@
 //! Traces whose steps fill pages, or don't quite, or go over: of these copies share what is full, and it mustn't show.
 //! A page has 256 steps.
 
-use crate::traces::{empty_trace, step_of, trace_of};
 use std::alloc::Global;
 use std::test::Fail;
 use step_trace::{PushError, Trace};
+use test_support::traces::{empty_trace, step_of, trace_of};
 
 // Goes on to so many steps with Receives that take nothing, of 1 and 2 in turns.
 fn go_on(alloc: Global, trace: &mut Trace, count: u64) -> Result<(), Fail> {

@@ -1,102 +1,34 @@
 //! The backward pass beside the plain searches, on small traces of a fixed seed.
 
-ghost use Rattle.std.specs.Prelude.{◌<◌, ◌≤◌};
+ghost use Rattle.std.specs.Prelude.{◌≤◌};
 ghost use Rattle.step_trace.specs.Processors.{IsWithin};
 
-use crate::stair_levels::level_of;
 use bound_witness::{delta_at, phi_at};
 use std::alloc::Global;
 use std::test::Fail;
-use step_trace::{Act, Config, MessageIds, ProcSet, Step, Trace};
+use step_trace::{Act, ProcSet, Step, Trace};
 use suffix_staircase::{Level, Stairs};
-
-/// A linear congruential generator.
-#[derive(Drop)]
-pub(crate) struct Draws {
-    pub(crate) state: u64,
-}
-
-impl Draws {
-    /// A number below 4.
-    pub(crate) fn below_four(&mut self) -> u64
-        ensures { result < 4 }
-    {
-        self.state = self
-            .state
-            .wrapping_mul(6_364_136_223_846_793_005)
-            .wrapping_add(1_442_695_040_888_963_407);
-        (self.state >> 40) % 4
-    }
-}
-
-fn is_sent_to(trace: &Trace, s: u64, proc: u64) -> bool {
-    match trace.step(s) {
-        None => false,
-        Some(step) => match &step.act {
-            Act::Send { to } => *to == proc,
-            Act::Receive { .. } => false,
-        },
-    }
-}
-
-// About a quarter of the messages to a processor, whether they were taken or not.
-fn some_ids(alloc: Global, draws: &mut Draws, trace: &Trace, proc: u64) -> Result<Vec<u64>, Fail> {
-    let mut ids = Vec::new(alloc);
-    for s in 1..trace.len() as u64 + 1 {
-        if is_sent_to(trace, s, proc) && draws.below_four() == 0 {
-            ids.push(s)?;
-        }
-    }
-    Ok(ids)
-}
-
-/// A Send, or as often a Receive of some messages to this processor.
-pub(crate) fn some_act(
-    alloc: Global,
-    draws: &mut Draws,
-    trace: &Trace,
-    proc: u64,
-) -> Result<Act, Fail> {
-    if draws.below_four() < 2 {
-        return Ok(Act::Send {
-            to: draws.below_four().max(1),
-        });
-    }
-    let ids = MessageIds::new(alloc, some_ids(alloc, draws, trace, proc)?)?;
-    Ok(Act::Receive { ids, ends: false })
-}
+use test_support::random_traces::{Draws, empty_trace_of_three, some_act, some_set};
+use test_support::stair_levels::level_of;
+use test_support::traces::step_of;
 
 // Appends a step of this act, or where it is refused an empty Receive.
 fn push_or_receive(alloc: Global, trace: &mut Trace, proc: u64, act: Act) -> Result<(), Fail> {
     if trace.push(Step { proc, act }).is_err() {
-        let ids = MessageIds::new(alloc, Vec::new(alloc))?;
-        let act = Act::Receive { ids, ends: false };
-        trace.push(Step { proc, act })?;
+        trace.push(step_of(alloc, proc, 0, &[])?)?;
     }
     Ok(())
 }
 
-// Up to 12 steps of three processors.
+// Up to 13 steps of three processors.
 fn some_trace(alloc: Global, draws: &mut Draws) -> Result<Trace, Fail> {
-    let config = Config::new(3, 1, Vec::from_slice(alloc, &[5, 7, 9])?)?;
-    let mut trace = Trace::new(alloc, config);
-    for _ in 0..draws.below_four() * 4 {
-        let proc = draws.below_four().max(1);
+    let mut trace = empty_trace_of_three(alloc)?;
+    for _ in 0..2 + draws.below(12) {
+        let proc = 1 + draws.below(3);
         let act = some_act(alloc, draws, &trace, proc)?;
         push_or_receive(alloc, &mut trace, proc, act)?;
     }
     Ok(trace)
-}
-
-/// Some of the first three processors.
-pub(crate) fn some_set(draws: &mut Draws) -> ProcSet {
-    let mut set = ProcSet::empty();
-    for p in 1..4u64 {
-        if draws.below_four() > 0 {
-            set = set.with(p);
-        }
-    }
-    set
 }
 
 // Whether a level is the one that the plain searches give.

@@ -1,9 +1,9 @@
 //! Configurations, and steps that a trace takes or refuses.
 
-use crate::traces::{empty_trace, step_of, trace_of};
 use std::alloc::{AllocError, Global};
 use std::test::Fail;
 use step_trace::{Act, BadTick, Config, ConfigError, MAX_TICKS, PushError, Trace};
+use test_support::traces::{empty_trace, step_of, trace_of};
 
 // The reason against a configuration with so many initial values.
 fn reason(alloc: Global, n: u64, t: u64, values: usize) -> Result<Option<ConfigError>, AllocError> {

@@ -1,11 +1,11 @@
 //! Stairs of traces, and stairs that are built level by level.
 
-use crate::stair_levels::{has_levels, has_starts};
-use crate::traces::{empty_trace, step_of};
 use std::alloc::{AllocError, Global};
 use std::test::Fail;
 use step_trace::{Gap, Miss, ProcSet, Trace};
 use suffix_staircase::{Level, StairBuilder, Stairs};
+use test_support::stair_levels::{has_levels, has_starts};
+use test_support::traces::{empty_trace, step_of};
 
 const NEVER_DELIVERED: [[u64; 7]; 5] = [
     [5, 1, 5, 3, 1, 4, 5],

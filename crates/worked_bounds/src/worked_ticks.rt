@@ -4,8 +4,8 @@
 use crate::gaps_by_hand::{lists_gaps, misses_at};
 use crate::plain_comparison::have_levels;
 use crate::stairs_by_hand::climbs;
-use crate::traces::{both, ticked};
 use std::test::Fail;
+use test_support::traces::{both, ticked};
 
 /// A trace of `n` processors with these steps up to the tick `last`. Where the processors of the list are correct,
 /// these are the levels of its ticks, written as in `stair_levels`, and the starts of its stairs.

@@ -3,8 +3,8 @@
 
 use crate::plain_comparison::have_levels;
 use crate::stairs_by_hand::climbs;
-use crate::traces::trace_of;
 use std::test::Fail;
+use test_support::traces::trace_of;
 
 /// A trace of `n` processors with these steps. Where the processors of the list are correct, these are the levels
 /// of its ticks, written as in `stair_levels`, and the starts of its stairs.

@@ -1,11 +1,11 @@
 //! Rows with values at the ends of their types, and witnesses that name nothing.
 
 use crate::checks::says;
-use crate::traces::{empty_trace, step_of, trace_of};
 use certificate_checker::{Reason, Verdict};
 use std::alloc::{AllocError, Global};
 use std::test::Fail;
 use step_trace::Trace;
+use test_support::traces::{empty_trace, step_of, trace_of};
 
 const TOP: u64 = u64::MAX;
 

@@ -8,6 +8,4 @@ mod hostile_rows;
 #[cfg(test)]
 mod tick_checks;
 #[cfg(test)]
-mod traces;
-#[cfg(test)]
 mod verdicts_by_hand;

@@ -1,21 +1,10 @@
 //! Verdicts on worked traces in which ticks are idle or hold several steps.
 
 use crate::checks::says;
-use crate::traces::{empty_trace, step_of};
 use certificate_checker::{Gap, Reason, Verdict};
 use std::alloc::Global;
 use std::test::Fail;
-use step_trace::Trace;
-
-// A trace of two processors with these steps, each in its tick, up to the tick `last`.
-fn in_ticks(alloc: Global, steps: &[(u64, u64, u64, &[u64])], last: u64) -> Result<Trace, Fail> {
-    let mut trace = empty_trace(alloc, 2)?;
-    for (tick, proc, to, ids) in steps {
-        trace.push_at(*tick, step_of(alloc, *proc, *to, ids)?)?;
-    }
-    trace.idle_to(last)?;
-    Ok(trace)
-}
+use test_support::traces::ticked;
 
 // A Receive in the tick of a Send.
 const AT_ONCE: &[(u64, u64, u64, &[u64])] = &[(1, 1, 2, &[]), (1, 2, 0, &[])];
@@ -136,7 +125,7 @@ const CHECKS: &[(&[(u64, u64, u64, &[u64])], u64, &str, &[[u64; 8]], Verdict)] =
 #[test]
 fn verdicts_in_ticks(rt: HostRuntime) -> Result<(), Fail> {
     for &(steps, last, correct, rows, verdict) in CHECKS {
-        let trace = in_ticks(rt.alloc(), steps, last)?;
+        let trace = ticked(rt.alloc(), 2, steps, last)?;
         assert!(rt;
             says(rt.alloc(), &trace, correct, rows, verdict)?,
             "{rows:?}"

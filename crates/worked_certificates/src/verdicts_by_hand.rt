@@ -1,9 +1,9 @@
 //! Verdicts on worked traces with one step in each tick.
 
 use crate::checks::says;
-use crate::traces::trace_of;
 use certificate_checker::{Gap, Miss, Reason, Verdict};
 use std::test::Fail;
+use test_support::traces::trace_of;
 
 type Steps<'a> = &'a [(u64, u64, &'a [u64])];
 

@@ -1,12 +1,12 @@
 //! Worked traces that are cut into pieces, which are joined again.
 
-use crate::stair_levels::{has_levels, same_stairs};
-use crate::traces::{both, never_delivered, trace_of};
 use chunk_join::{Joined, Piece, join_all};
 use std::alloc::Global;
 use std::test::Fail;
 use step_trace::{ProcSet, Trace};
 use suffix_staircase::Stairs;
+use test_support::stair_levels::{has_levels, same_stairs};
+use test_support::traces::{both, never_delivered, trace_of};
 
 /// The piece of these ticks, where the trace has them.
 pub(crate) fn piece_of(

@@ -1,13 +1,13 @@
 //! An analyst that is fed longer and longer traces, and traces that don't extend those.
 
-use crate::random_traces::{Draws, empty_trace_of_three, push_near, some_set};
-use crate::stair_levels::{has_levels, has_one_level, same_stairs};
-use crate::traces::{both, empty_trace, step_of, ticked};
 use chunk_join::{Analyst, FeedError};
 use std::alloc::Global;
 use std::test::Fail;
 use step_trace::{ProcSet, Step, Trace};
 use suffix_staircase::Stairs;
+use test_support::random_traces::{Draws, empty_trace_of_three, push_near, some_set};
+use test_support::stair_levels::{has_levels, has_one_level, same_stairs};
+use test_support::traces::{both, empty_trace, step_of, ticked};
 
 /// An analyst for processors 1 and 2 of two, who was fed nothing yet.
 pub(crate) fn new_analyst(alloc: Global) -> Result<Analyst, Fail> {

@@ -2,12 +2,12 @@
 
 use crate::cut_pieces::{are_stairs_of, is_whole_cut_after, piece_of};
 use crate::following::new_analyst;
-use crate::stair_levels::has_levels_at;
-use crate::traces::{both, empty_trace, step_of};
 use chunk_join::{Analyst, Piece};
 use std::alloc::Global;
 use std::test::Fail;
 use step_trace::Trace;
+use test_support::stair_levels::has_levels_at;
+use test_support::traces::{both, empty_trace, step_of};
 
 // So many steps, in which 1 and 2 take turns to send to each other.
 fn sent_in_turns(alloc: Global, count: u64) -> Result<Trace, Fail> {

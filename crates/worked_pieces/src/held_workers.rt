@@ -1,6 +1,5 @@
 //! Workers that meet, are held back, or are too few or too many.
 
-use crate::traces::{both, never_delivered};
 use chunk_join::{AnalyseError, analyse};
 use std::alloc::Global;
 use std::sync::Wait;
@@ -8,6 +7,7 @@ use std::test::Fail;
 use std::thread::Threads;
 use step_trace::Gate;
 use step_trace::meeting::MeetingGate;
+use test_support::traces::{both, never_delivered};
 
 // A gate that holds one worker back.
 #[derive(Drop)]

@@ -13,12 +13,6 @@ mod held_workers;
 #[cfg(test)]
 mod random_pieces;
 #[cfg(test)]
-mod random_traces;
-#[cfg(test)]
 mod refused_pieces;
-#[cfg(test)]
-mod stair_levels;
-#[cfg(test)]
-mod traces;
 #[cfg(test)]
 mod workers;

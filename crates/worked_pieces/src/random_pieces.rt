@@ -1,11 +1,11 @@
 //! Random traces cut into random parts, whose pieces are joined in random order, beside the stairs of the whole.
 
 use crate::cut_pieces::{are_stairs_of, join_at, piece_of};
-use crate::random_traces::{Draws, some_set, some_trace};
 use chunk_join::{Piece, join_all};
 use std::alloc::Global;
 use std::test::Fail;
 use step_trace::{ProcSet, Trace};
+use test_support::random_traces::{Draws, some_set, some_trace};
 
 // The pieces of a trace that is cut after about a third of its ticks.
 fn some_pieces(

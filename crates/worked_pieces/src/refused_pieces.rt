@@ -1,11 +1,11 @@
 //! Pieces that don't join, or have no stairs.
 
 use crate::cut_pieces::piece_of;
-use crate::traces::{both, trace_of};
 use chunk_join::{FinishError, Joined, Piece, Why};
 use std::alloc::Global;
 use std::test::Fail;
 use step_trace::ProcSet;
+use test_support::traces::{both, trace_of};
 
 // Message 1 goes from 1 to 2, which receives nothing at first, and then the message.
 const ONE_MISS: &[(u64, u64, &[u64])] = &[(1, 2, &[]), (2, 0, &[]), (2, 0, &[1])];

@@ -3,9 +3,6 @@
 ghost use Rattle.step_trace.specs.Processors.{IsWithin};
 
 use crate::full_size::sent_and_then_taken;
-use crate::random_traces::{Draws, some_set, some_trace};
-use crate::stair_levels::{has_levels, same_stairs};
-use crate::traces::{both, never_delivered, ticked};
 use chunk_join::analyse;
 use std::alloc::Global;
 use std::sync::Wait;
@@ -13,6 +10,9 @@ use std::test::Fail;
 use std::thread::Threads;
 use step_trace::{OpenGate, ProcSet, Trace};
 use suffix_staircase::Stairs;
+use test_support::random_traces::{Draws, some_set, some_trace};
+use test_support::stair_levels::{has_levels, same_stairs};
+use test_support::traces::{both, never_delivered, ticked};
 
 const WORKERS: [u64; 5] = [1, 2, 3, 5, 64];
 

@@ -9,13 +9,13 @@ use step_trace::{Act, Config, MessageIds, ProcSet, Step, Trace};
 
 /// A linear congruential generator.
 #[derive(Drop)]
-pub(crate) struct Draws {
-    pub(crate) state: u64,
+pub struct Draws {
+    pub state: u64,
 }
 
 impl Draws {
     /// A number below `n`.
-    pub(crate) fn below(&mut self, n: u64) -> u64
+    pub fn below(&mut self, n: u64) -> u64
         requires { 0 < n }
         ensures { result < n }
     {
@@ -48,8 +48,8 @@ fn some_ids(alloc: Global, draws: &mut Draws, trace: &Trace, proc: u64) -> Resul
     Ok(ids)
 }
 
-// A Send, or as often a Receive of some messages to this processor.
-fn some_act(alloc: Global, draws: &mut Draws, trace: &Trace, proc: u64) -> Result<Act, Fail> {
+/// A Send, or as often a Receive of some messages to this processor.
+pub fn some_act(alloc: Global, draws: &mut Draws, trace: &Trace, proc: u64) -> Result<Act, Fail> {
     if draws.below(2) == 0 {
         return Ok(Act::Send {
             to: 1 + draws.below(3),
@@ -61,7 +61,7 @@ fn some_act(alloc: Global, draws: &mut Draws, trace: &Trace, proc: u64) -> Resul
 
 /// Appends a step in the last tick or up to two ticks after it, or where it is refused an empty Receive in
 /// the next one.
-pub(crate) fn push_near(alloc: Global, draws: &mut Draws, trace: &mut Trace) -> Result<(), Fail> {
+pub fn push_near(alloc: Global, draws: &mut Draws, trace: &mut Trace) -> Result<(), Fail> {
     let proc = 1 + draws.below(3);
     let tick = trace.last_tick() + draws.below(3);
     let act = some_act(alloc, draws, trace, proc)?;
@@ -72,13 +72,13 @@ pub(crate) fn push_near(alloc: Global, draws: &mut Draws, trace: &mut Trace) -> 
 }
 
 /// A trace of three processors that has no steps.
-pub(crate) fn empty_trace_of_three(alloc: Global) -> Result<Trace, Fail> {
+pub fn empty_trace_of_three(alloc: Global) -> Result<Trace, Fail> {
     let config = Config::new(3, 1, Vec::from_slice(alloc, &[5, 7, 9])?)?;
     Ok(Trace::new(alloc, config))
 }
 
 /// Up to 13 steps of three processors, and up to two idle ticks after them.
-pub(crate) fn some_trace(alloc: Global, draws: &mut Draws) -> Result<Trace, Fail> {
+pub fn some_trace(alloc: Global, draws: &mut Draws) -> Result<Trace, Fail> {
     let mut trace = empty_trace_of_three(alloc)?;
     for _ in 0..2 + draws.below(12) {
         push_near(alloc, draws, &mut trace)?;
@@ -89,7 +89,7 @@ pub(crate) fn some_trace(alloc: Global, draws: &mut Draws) -> Result<Trace, Fail
 }
 
 /// Some of the first three processors.
-pub(crate) fn some_set(draws: &mut Draws) -> ProcSet {
+pub fn some_set(draws: &mut Draws) -> ProcSet {
     let mut set = ProcSet::empty();
     for p in 1..4u64 {
         if draws.below(3) > 0 {

@@ -1,0 +1,71 @@
+//! Levels as plain numbers. A level is written [delta, sent, missed, phi, proc, from, to], with 0 for none.
+
+use step_trace::{Gap, Miss};
+use suffix_staircase::{Level, Stairs};
+
+/// The level that is so written.
+pub fn level_of(numbers: [u64; 7]) -> Level {
+    let [delta, sent, missed, phi, proc, from, to] = numbers;
+    Level {
+        delta,
+        miss: (sent != 0).then_some(Miss { sent, missed }),
+        phi,
+        gap: (proc != 0).then_some(Gap { proc, from, to }),
+    }
+}
+
+/// Whether the stairs have exactly these levels.
+pub fn has_levels(stairs: &Stairs, levels: &[[u64; 7]]) -> bool {
+    if stairs.len() != levels.len() {
+        return false;
+    }
+    for i in 0..levels.len() {
+        if stairs.at(i as u64 + 1) != level_of(levels[i]) {
+            return false;
+        }
+    }
+    true
+}
+
+/// Whether the stairs have these levels at these ticks.
+pub fn has_levels_at(stairs: &Stairs, levels: &[(u64, [u64; 7])]) -> bool {
+    for &(g, level) in levels {
+        if g == 0 || g > stairs.len() as u64 || stairs.at(g) != level_of(level) {
+            return false;
+        }
+    }
+    true
+}
+
+/// Whether there are so many levels, all of them this one.
+pub fn has_one_level(stairs: &Stairs, count: usize, level: [u64; 7]) -> bool {
+    for g in 1..stairs.len() as u64 + 1 {
+        if stairs.at(g) != level_of(level) {
+            return false;
+        }
+    }
+    stairs.len() == count
+}
+
+/// Whether the stairs have exactly these starts.
+pub fn has_starts(stairs: &Stairs, starts: &[u64]) -> bool {
+    for i in 0..starts.len() + 2 {
+        if stairs.start(i) != starts.get(i).copied() {
+            return false;
+        }
+    }
+    true
+}
+
+/// Whether two have the same levels.
+pub fn same_stairs(a: &Stairs, b: &Stairs) -> bool {
+    if a.len() != b.len() {
+        return false;
+    }
+    for g in 1..a.len() as u64 + 1 {
+        if a.at(g) != b.at(g) {
+            return false;
+        }
+    }
+    true
+}
