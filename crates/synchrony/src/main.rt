@@ -18,7 +18,9 @@ mod runs;
 use crate::followers::follower_for;
 use crate::line_faults::refused_line;
 use crate::runs::run_nodes;
+use certificate_checker::Verdict;
 use command_line::{Job, names_standard_input, read_command, refuse_words};
+use event_log::Options;
 use std::env;
 use std::fs::File;
 use std::io::Read;
@@ -47,39 +49,28 @@ fn main(rt: HostRuntime) -> ExitCode {
 /// Does what the words of the command line ask for, and gives the exit status. `threads` starts the threads of a
 /// run and of the workers of a report.
 fn run<R: Threads + Wait + Clock + Sync>(rt: &HostRuntime, threads: &R) -> Result<u8, Fault> {
-    let alloc = rt.alloc();
-    let mut output = Counting::new(rt.stdout());
-    match read_command(alloc, words(rt)?).map_err(refused_line)? {
-        Job::Report { file, set, workers } => {
-            let mut trace = input(rt, file.as_str())?;
-            let out = &mut output;
-            run_report(threads, alloc, &mut trace, out, set, workers, &OpenGate)?;
-        }
+    match read_command(rt.alloc(), words(rt)?).map_err(refused_line)? {
+        Job::Report { file, set, workers } => report(rt, threads, file.as_str(), set, workers)?,
         Job::ReportPart {
             file,
             set,
             until,
             at,
-        } => {
-            let part = ReportPart { set, until, at };
-            run_report_part(alloc, &part, &mut input(rt, file.as_str())?, &mut output)?;
-        }
-        Job::Replay { file } => run_replay(alloc, &mut input(rt, file.as_str())?, &mut output)?,
+        } => report_part(rt, file.as_str(), &ReportPart { set, until, at })?,
+        Job::Replay { file } => replay(rt, file.as_str())?,
         Job::Run {
             config,
             patience,
             steps,
             follow,
         } => run_of(rt, threads, &config, patience, steps, follow)?,
-        Job::Upgrade { file } => run_upgrade(alloc, &mut input(rt, file.as_str())?, &mut output)?,
+        Job::Upgrade { file } => upgrade(rt, file.as_str())?,
         Job::Check {
             file,
             certificate,
             set,
         } => {
-            let mut trace = input(rt, file.as_str())?;
-            let mut rows = input(rt, certificate.as_str())?;
-            let verdict = run_check(alloc, &mut trace, &mut rows, &mut output, set)?;
+            let verdict = check(rt, file.as_str(), certificate.as_str(), set)?;
             return Ok(verdict_status(verdict));
         }
         Job::Draw {
@@ -95,7 +86,7 @@ fn run<R: Threads + Wait + Clock + Sync>(rt: &HostRuntime, threads: &R) -> Resul
                 to,
                 names,
             };
-            run_draw(alloc, &drawing, &mut input(rt, file.as_str())?, &mut output)?;
+            draw(rt, file.as_str(), &drawing)?;
         }
         Job::Import {
             file,
@@ -104,12 +95,16 @@ fn run<R: Threads + Wait + Clock + Sync>(rt: &HostRuntime, threads: &R) -> Resul
             until,
             spread,
         } => {
-            let (nodes, tick, until) = (text_in(&nodes), text_in(&tick), text_in(&until));
-            let options = import_options(alloc, nodes, tick, until, spread)?;
-            let (mut log, mut notes) = (input(rt, file.as_str())?, Counting::new(rt.stderr()));
-            run_import(alloc, &options, &mut log, &mut output, &mut notes)?;
+            let options = import_options(
+                rt.alloc(),
+                text_in(&nodes),
+                text_in(&tick),
+                text_in(&until),
+                spread,
+            )?;
+            import(rt, file.as_str(), &options)?;
         }
-        Job::Help(text) => print(text.as_str(), &mut output)?,
+        Job::Help(text) => print(text.as_str(), &mut Counting::new(rt.stdout()))?,
     }
     Ok(0)
 }
@@ -158,22 +153,102 @@ fn run_of<T: Threads + Wait + Clock + Sync>(
     )
 }
 
-/// The reader of a file, or of standard input where that is what the name says.
-fn input(rt: &HostRuntime, file: &str) -> Result<Counting<Box<dyn Read + Drop>>, Fault> {
+/// Opens a file to be read.
+fn open(rt: &HostRuntime, file: &str) -> Result<File, Fault> {
+    match File::open(rt, file) {
+        Ok(opened) => Ok(opened),
+        Err(error) => Err(unopened(error)),
+    }
+}
+
+/// Prints the report of the trace in a file. `threads` starts the threads of the workers.
+fn report<T: Threads + Wait + Sync>(
+    rt: &HostRuntime,
+    threads: &T,
+    file: &str,
+    set: ProcSet,
+    workers: u64,
+) -> Result<(), Fault>
+    requires some { 1 ≤ workers }
+    requires few { workers ≤ MAX_WORKERS }
+{
     if names_standard_input(file) {
-        return match Box::new(rt.alloc(), rt.stdin()) {
-            Ok(boxed) => Ok(Counting::new(boxed)),
-            Err(_) => Err(Fault::Memory),
-        };
+        return report_read(rt, threads, rt.stdin(), set, workers);
     }
-    let opened = match File::open(rt, file) {
-        Ok(opened) => opened,
-        Err(error) => return Err(unopened(error)),
-    };
-    match Box::new(rt.alloc(), opened) {
-        Ok(boxed) => Ok(Counting::new(boxed)),
-        Err(_) => Err(Fault::Memory),
+    let opened = open(rt, file)?;
+    report_read(rt, threads, opened, set, workers)
+}
+
+/// Prints the report of the trace that a reader gives.
+fn report_read<T: Threads + Wait + Sync, R: Read + Drop>(
+    rt: &HostRuntime,
+    threads: &T,
+    trace: R,
+    set: ProcSet,
+    workers: u64,
+) -> Result<(), Fault>
+    requires some { 1 ≤ workers }
+    requires few { workers ≤ MAX_WORKERS }
+{
+    run_report(
+        threads,
+        rt.alloc(),
+        &mut Counting::new(trace),
+        &mut Counting::new(rt.stdout()),
+        set,
+        workers,
+        &OpenGate,
+    )
+}
+
+/// Prints a part of the report of the trace in a file.
+fn report_part(rt: &HostRuntime, file: &str, part: &ReportPart) -> Result<(), Fault> {
+    let mut output = Counting::new(rt.stdout());
+    if names_standard_input(file) {
+        return run_report_part(
+            rt.alloc(),
+            part,
+            &mut Counting::new(rt.stdin()),
+            &mut output,
+        );
     }
+    let opened = open(rt, file)?;
+    run_report_part(rt.alloc(), part, &mut Counting::new(opened), &mut output)
+}
+
+/// Prints the replay of the trace in a file.
+fn replay(rt: &HostRuntime, file: &str) -> Result<(), Fault> {
+    let mut output = Counting::new(rt.stdout());
+    if names_standard_input(file) {
+        return run_replay(rt.alloc(), &mut Counting::new(rt.stdin()), &mut output);
+    }
+    let opened = open(rt, file)?;
+    run_replay(rt.alloc(), &mut Counting::new(opened), &mut output)
+}
+
+/// Prints the version 2 text of the trace in a file.
+fn upgrade(rt: &HostRuntime, file: &str) -> Result<(), Fault> {
+    let mut output = Counting::new(rt.stdout());
+    if names_standard_input(file) {
+        return run_upgrade(rt.alloc(), &mut Counting::new(rt.stdin()), &mut output);
+    }
+    let opened = open(rt, file)?;
+    run_upgrade(rt.alloc(), &mut Counting::new(opened), &mut output)
+}
+
+/// Prints the picture of the trace in a file.
+fn draw(rt: &HostRuntime, file: &str, drawing: &Drawing) -> Result<(), Fault> {
+    let mut output = Counting::new(rt.stdout());
+    if names_standard_input(file) {
+        return run_draw(
+            rt.alloc(),
+            drawing,
+            &mut Counting::new(rt.stdin()),
+            &mut output,
+        );
+    }
+    let opened = open(rt, file)?;
+    run_draw(rt.alloc(), drawing, &mut Counting::new(opened), &mut output)
 }
 
 /// The text, where there is one.
@@ -182,4 +257,58 @@ fn text_in(text: &Option<String>) -> Option<&str> {
         Some(text) => Some(text.as_str()),
         None => None,
     }
+}
+
+/// Prints the trace of the log in a file, and tells on standard error how it was read.
+fn import(rt: &HostRuntime, file: &str, options: &Options) -> Result<(), Fault> {
+    let mut output = Counting::new(rt.stdout());
+    let mut notes = Counting::new(rt.stderr());
+    if names_standard_input(file) {
+        return run_import(
+            rt.alloc(),
+            options,
+            &mut Counting::new(rt.stdin()),
+            &mut output,
+            &mut notes,
+        );
+    }
+    let opened = open(rt, file)?;
+    run_import(
+        rt.alloc(),
+        options,
+        &mut Counting::new(opened),
+        &mut output,
+        &mut notes,
+    )
+}
+
+/// Prints the verdict on the certificate in a file, for the trace in another. Both files are opened before one is
+/// read.
+fn check(rt: &HostRuntime, file: &str, certificate: &str, set: ProcSet) -> Result<Verdict, Fault> {
+    if names_standard_input(file) {
+        let opened = open(rt, certificate)?;
+        return check_read(rt, rt.stdin(), opened, set);
+    }
+    let opened = open(rt, file)?;
+    if names_standard_input(certificate) {
+        return check_read(rt, opened, rt.stdin(), set);
+    }
+    let other = open(rt, certificate)?;
+    check_read(rt, opened, other, set)
+}
+
+/// Prints the verdict on what one reader gives, for the trace that another gives.
+fn check_read<R: Read + Drop, S: Read + Drop>(
+    rt: &HostRuntime,
+    trace: R,
+    certificate: S,
+    set: ProcSet,
+) -> Result<Verdict, Fault> {
+    run_check(
+        rt.alloc(),
+        &mut Counting::new(trace),
+        &mut Counting::new(certificate),
+        &mut Counting::new(rt.stdout()),
+        set,
+    )
 }
