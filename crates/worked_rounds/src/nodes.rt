@@ -21,22 +21,19 @@ pub enum Says<'a> {
 /// A message: its sender, what it says, and its PROPER.
 pub type Told<'a> = (u64, Says<'a>, &'a [u64]);
 
-/// What a node has.
+/// What a node has at times: a proposal, an acknowledgement that it owes, and a decision.
 #[derive(Clone, Copy)]
-pub struct State<'a> {
-    pub proper: &'a [u64],
-    pub locks: &'a [(u64, u64)],
-    pub proposal: Option<u64>,
-    pub ack: bool,
-    pub decision: Option<u64>,
+pub enum Has {
+    Proposal(u64),
+    Ack,
+    Decision(u64),
 }
 
+/// What a node has: its PROPER values, its locks, and what of the other things.
+pub type State<'a> = (&'a [u64], &'a [(u64, u64)], &'a [Has]);
+
 /// A round of a node: its number, what the node hears in it, and what it has then.
-pub struct Round<'a> {
-    pub number: u64,
-    pub heard: &'a [Told<'a>],
-    pub then: State<'a>,
-}
+pub type Round<'a> = (u64, &'a [Told<'a>], State<'a>);
 
 /// `n` processors, of which at most `t` are faulty, with initial values that no test looks at.
 pub fn config(alloc: Global, n: u64, t: u64) -> Result<Config, Fail>
@@ -80,17 +77,26 @@ fn is_kind(kind: &Kind, says: Says) -> bool {
     }
 }
 
+/// Whether the node has just these things.
+fn has_just(node: &Node, things: &[Has]) -> bool {
+    let (mut proposal, mut ack, mut decision) = (None, false, None);
+    for &thing in things {
+        match thing {
+            Has::Proposal(value) => proposal = Some(value),
+            Has::Ack => ack = true,
+            Has::Decision(value) => decision = Some(value),
+        }
+    }
+    node.proposal() == proposal && node.ack() == ack && node.decision() == decision
+}
+
 /// Whether the node has this.
-pub fn has_state(node: &Node, state: &State) -> bool {
-    node.proper() == state.proper
-        && node.locks() == state.locks
-        && node.proposal() == state.proposal
-        && node.ack() == state.ack
-        && node.decision() == state.decision
+pub fn has_state(node: &Node, (proper, locks, things): State) -> bool {
+    node.proper() == proper && node.locks() == locks && has_just(node, things)
 }
 
 /// Whether the node has this, and its copy too.
-pub fn is_copied(node: &Node, alloc: Global, state: &State) -> Result<bool, AllocError> {
+pub fn is_copied(node: &Node, alloc: Global, state: State) -> Result<bool, AllocError> {
     Ok(has_state(node, state) && has_state(&node.copy(alloc)?, state))
 }
 
@@ -211,7 +217,7 @@ fn compute_two(
     Ok(node.compute(alloc, config, me, round, &[first, second])?)
 }
 
-// The processors 1, 2 and 3 are heard.
+/// The processors 1, 2 and 3 are heard.
 fn hear_three(
     node: &mut Node,
     alloc: Global,

@@ -4,7 +4,7 @@ ghost use Rattle.std.specs.Prelude.{◌≤◌, ◌+◌};
 ghost use Rattle.step_trace.specs.declared.configurations.TheConstants.{MAX_PROCESSORS};
 ghost use Rattle.round_model.specs.declared.heard_sets.TheConstants.{MAX_ROUNDS};
 
-use crate::nodes::{Says, State, body, config, hear, is_body, is_copied};
+use crate::nodes::{Says, body, config, hear, is_body, is_copied};
 use crate::tables::{all_decide, all_heard, hold, run};
 use lock_phases::Node;
 use round_model::{Heard, MAX_ROUNDS};
@@ -50,20 +50,10 @@ fn bodies_are_cloned(rt: HostRuntime) -> Result<(), Fail> {
     Ok(())
 }
 
-fn holding(proper: &[u64]) -> State {
-    State {
-        proper,
-        locks: &[],
-        proposal: None,
-        ack: false,
-        decision: None,
-    }
-}
-
 #[test]
 fn the_greatest_value_is_copied(rt: HostRuntime) -> Result<(), Fail> {
     let node = Node::new(rt.alloc(), GREATEST)?;
-    assert!(rt; is_copied(&node, rt.alloc(), &holding(&[GREATEST]))?);
+    assert!(rt; is_copied(&node, rt.alloc(), (&[GREATEST], &[], &[]))?);
     Ok(())
 }
 
@@ -80,7 +70,7 @@ fn learner(alloc: Global) -> Result<Node, Fail> {
 fn sixty_five_values_are_copied(rt: HostRuntime) -> Result<(), Fail> {
     let all = numbers_to(rt.alloc(), 65)?;
     let node = learner(rt.alloc())?;
-    assert!(rt; is_copied(&node, rt.alloc(), &holding(&all))?);
+    assert!(rt; is_copied(&node, rt.alloc(), (&all, &[], &[]))?);
     Ok(())
 }
 
@@ -112,7 +102,7 @@ fn sixteen_decide(
     all_decide(rt, alloc, (7, SIXTEEN), &heard, &decisions)
 }
 
-// All in touch from round 1 on: all have decided by round 67, which is 4 (1 + 16) - 1.
+/// All in touch from round 1 on: all have decided by round 67, which is 4 (1 + 16) - 1.
 #[test]
 fn sixteen_decide_by_the_bound(rt: HostRuntime) -> Result<(), Fail> {
     for (rounds, first) in [(66, None), (67, Some(1)), (100_001, Some(1))] {

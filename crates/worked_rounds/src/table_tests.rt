@@ -137,7 +137,7 @@ fn worked_tables(rt: HostRuntime) -> Result<(), Fail> {
 
 const DIFFERENT: &[u64] = &[5, 7, 9];
 
-// With N = 3 and all in touch from round 1 on, all have decided by round 15: 4 (1 + 3) - 1.
+/// With N = 3 and all in touch from round 1 on, all have decided by round 15: 4 (1 + 3) - 1.
 #[test]
 fn all_decide_by_the_bound(rt: HostRuntime) -> Result<(), Fail> {
     for (rounds, first) in [(14, None), (15, Some(5))] {
@@ -148,8 +148,8 @@ fn all_decide_by_the_bound(rt: HostRuntime) -> Result<(), Fail> {
     Ok(())
 }
 
-// Those who are in touch from round 2 on have decided by round 15, and who isn't heard has not. They decide in
-// their own phases, 2 and 3.
+/// Those who are in touch from round 2 on have decided by round 15, and who isn't heard has not. They decide in
+/// their own phases, 2 and 3.
 #[test]
 fn a_pair_decides_by_the_bound(rt: HostRuntime) -> Result<(), Fail> {
     for (rounds, last) in [(10, None), (11, Some(7)), (15, Some(7))] {

@@ -1,6 +1,6 @@
 //! Worked nodes as tables: the rounds of a node, what it has after each, and what it sends then.
 
-use crate::nodes::{Round, Says, State, config, hear, is_copied, sends};
+use crate::nodes::{Round, Says, config, hear, is_copied, sends};
 use lock_phases::Node;
 use std::alloc::Global;
 use std::test::Fail;
@@ -18,38 +18,34 @@ pub struct Worked<'a> {
     pub sends: &'a [(u64, u64, Option<(Says<'a>, &'a [u64])>)],
 }
 
+/// What most rows have in common: processor 1 of three, of which one may be faulty, and the initial value 5.
+pub const OWNER: Worked = Worked {
+    name: "",
+    n: 3,
+    t: 1,
+    me: 1,
+    value: 5,
+    rounds: &[],
+    sends: &[],
+};
+
+/// The same of processor 3.
+pub const LOCKER: Worked = Worked { me: 3, ..OWNER };
+
 /// Whether the node goes through its rounds so, and sends that after them. Each of its states is copied, too.
 pub fn goes(alloc: Global, worked: &Worked) -> Result<bool, Fail> {
     let config = config(alloc, worked.n, worked.t)?;
     let mut node = Node::new(alloc, worked.value)?;
-    if !is_opening(&node, alloc, worked.value)? {
+    if !is_copied(&node, alloc, (&[worked.value], &[], &[]))? {
         return Ok(false);
     }
-    for round in worked.rounds {
-        hear(
-            &mut node,
-            alloc,
-            &config,
-            worked.me,
-            round.number,
-            round.heard,
-        )?;
-        if !is_copied(&node, alloc, &round.then)? {
+    for &(number, heard, then) in worked.rounds {
+        hear(&mut node, alloc, &config, worked.me, number, heard)?;
+        if !is_copied(&node, alloc, then)? {
             return Ok(false);
         }
     }
     sends_all(&node, alloc, &config, worked)
-}
-
-fn is_opening(node: &Node, alloc: Global, value: u64) -> Result<bool, Fail> {
-    let state = State {
-        proper: &[value],
-        locks: &[],
-        proposal: None,
-        ack: false,
-        decision: None,
-    };
-    Ok(is_copied(node, alloc, &state)?)
 }
 
 fn sends_all(node: &Node, alloc: Global, config: &Config, worked: &Worked) -> Result<bool, Fail> {
