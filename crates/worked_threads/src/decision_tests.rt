@@ -10,7 +10,7 @@ use std::thread;
 use std::thread::Threads;
 use step_buffers::{Move, StepError, Take, World};
 
-// Sends all that a processor has to send in its round.
+/// Sends all that a processor has to send in its round.
 fn sends_all<R: Wait>(rt: &R, alloc: Global, recorder: &Recorder, seat: &mut Seat) -> bool {
     for _ in 0..4 {
         match seat.step(rt, alloc, recorder, Move::Send) {
@@ -22,14 +22,14 @@ fn sends_all<R: Wait>(rt: &R, alloc: Global, recorder: &Recorder, seat: &mut Sea
     false
 }
 
-// Receives all that waits, and ends the round.
+/// Receives all that waits, and ends the round.
 fn ends<R: Wait>(rt: &R, alloc: Global, recorder: &Recorder, seat: &mut Seat) -> bool {
     let take = Take::All;
     seat.step(rt, alloc, recorder, Move::Receive { take, ends: true })
         .is_ok()
 }
 
-// Whether the prefix that is shown to a seat has what the seat did last.
+/// Whether the prefix that is shown to a seat has what the seat did last.
 fn shows_last<R: Wait>(rt: &R, alloc: Global, recorder: &Recorder, seat: &Seat) -> bool {
     let Ok(trace) = recorder.prefix_mine(rt, alloc, seat) else {
         return false;
@@ -43,7 +43,7 @@ fn shows_last<R: Wait>(rt: &R, alloc: Global, recorder: &Recorder, seat: &Seat) 
     }
 }
 
-// Passes three rounds. All have sent before any ends a round; each comes to the barrier whatever happened.
+/// Passes three rounds. All have sent before any ends a round; each comes to the barrier whatever happened.
 fn passes<R: Wait>(
     rt: &R,
     alloc: Global,
@@ -60,7 +60,7 @@ fn passes<R: Wait>(
     all
 }
 
-// Three rounds from each seat, in a thread of its own.
+/// Three rounds from each seat, in a thread of its own.
 fn all_pass<R: Threads + Wait + Sync>(
     rt: &R,
     alloc: Global,
@@ -87,7 +87,7 @@ fn all_pass<R: Threads + Wait + Sync>(
     })
 }
 
-// Whether an audit of the seats finds so many steps, and the decision of 1.
+/// Whether an audit of the seats finds so many steps, and the decision of 1.
 fn decides<R: Wait + Abort>(
     rt: &R,
     alloc: Global,

@@ -9,7 +9,7 @@ use std::test::Fail;
 use step_buffers::{Done, StepError};
 use step_trace::{Act, Gate};
 
-// A gate that holds everybody back.
+/// A gate that holds everybody back.
 struct ClosedGate;
 
 impl Gate for ClosedGate {
@@ -18,7 +18,7 @@ impl Gate for ClosedGate {
     }
 }
 
-// A gate that lets everybody in, and counts how often it is entered.
+/// A gate that lets everybody in, and counts how often it is entered.
 #[derive(Drop)]
 struct CountingGate {
     entered: AtomicU64,
@@ -31,7 +31,7 @@ impl Gate for CountingGate {
     }
 }
 
-// Whether a drive stops so.
+/// Whether a drive stops so.
 fn stops<R: Wait, G: Gate>(
     rt: &R,
     alloc: Global,
@@ -47,7 +47,7 @@ fn stops<R: Wait, G: Gate>(
     }
 }
 
-// Whether this was a Receive of these messages, which ended its round or not.
+/// Whether this was a Receive of these messages, which ended its round or not.
 fn received(done: &Done, ends_round: bool, taken: &[u64]) -> bool {
     match &done.step.act {
         Act::Send { .. } => false,
@@ -62,7 +62,7 @@ fn sent(done: &Done, destination: u64) -> bool {
     }
 }
 
-// Whether the seat sent to 1, received that message, and ended its round.
+/// Whether the seat sent to 1, received that message, and ended its round.
 fn went_round(seat: &Seat) -> bool {
     let done = seat.done();
     done.len() == 3
@@ -71,7 +71,7 @@ fn went_round(seat: &Seat) -> bool {
         && received(&done[2], true, &[])
 }
 
-// No clause counts how often a gate is entered: this refuses a drive that enters it before each step.
+/// No clause counts how often a gate is entered: this refuses a drive that enters it before each step.
 #[test]
 fn a_drive_goes_round(rt: HostRuntime) -> Result<(), Fail> {
     let alloc = rt.alloc();

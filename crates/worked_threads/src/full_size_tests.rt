@@ -7,7 +7,7 @@ use std::sync::Wait;
 use std::test::Fail;
 use step_trace::OpenGate;
 
-// Whether one step is made from each seat.
+/// Whether one step is made from each seat.
 fn all_wait<R: Wait>(rt: &R, alloc: Global, recorder: &Recorder, seats: &mut [Seat]) -> bool {
     for seat in seats {
         if !waits(rt, alloc, recorder, seat, 1) {
@@ -17,7 +17,7 @@ fn all_wait<R: Wait>(rt: &R, alloc: Global, recorder: &Recorder, seats: &mut [Se
     true
 }
 
-// Whether so many steps are made from a seat, in one round.
+/// Whether so many steps are made from a seat, in one round.
 fn drives<R: Wait>(
     rt: &R,
     alloc: Global,
@@ -30,7 +30,7 @@ fn drives<R: Wait>(
         .is_ok()
 }
 
-// Whether a view, and a seat that made all steps, are shown so many.
+/// Whether a view, and a seat that made all steps, are shown so many.
 fn is_shown<R: Wait>(
     rt: &R,
     alloc: Global,
@@ -48,7 +48,7 @@ fn is_shown<R: Wait>(
     }
 }
 
-// Whether both audits find so many steps.
+/// Whether both audits find so many steps.
 fn is_audited_twice<R: Wait>(
     rt: &R,
     alloc: Global,
@@ -56,7 +56,7 @@ fn is_audited_twice<R: Wait>(
     seats: &[Seat],
     steps: usize,
 ) -> bool {
-    if !is_audited(rt, alloc, &recorder, seats, steps) {
+    if !is_audited(rt, alloc, &recorder, seats, &[], steps) {
         return false;
     }
     match recorder.into_audited(alloc, seats, &[]) {
@@ -74,8 +74,8 @@ fn sixty_four_seats_are_audited(rt: HostRuntime) -> Result<(), Fail> {
     Ok(())
 }
 
-// No clause says under which limit the World of a new recorder is: this refuses one of fewer steps than it was opened
-// with.
+/// No clause says under which limit the World of a new recorder is: this refuses one of fewer steps than it was opened
+/// with.
 #[test]
 fn a_million_steps_are_driven(rt: HostRuntime) -> Result<(), Fail> {
     let alloc = rt.alloc();

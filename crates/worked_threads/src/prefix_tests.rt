@@ -1,6 +1,6 @@
 //! Prefixes that are shown, and followed by an analyst, while three threads go on.
 
-use crate::seats::{opened, waits};
+use crate::seats::{is_audited, opened, waits};
 use chunk_join::Analyst;
 use locked_recorder::{Recorder, Seat, View};
 use std::alloc::Global;
@@ -11,8 +11,9 @@ use std::thread;
 use std::thread::Threads;
 use step_trace::{Config, OpenGate, ProcSet, Trace};
 use suffix_staircase::Stairs;
+use test_support::stair_levels::same_stairs;
 
-// Makes twenty steps.
+/// Makes twenty steps.
 fn drives<R: Wait>(rt: &R, alloc: Global, recorder: &Recorder, seat: &mut Seat) -> bool {
     match recorder.drive(rt, alloc, seat, &OpenGate, 1, 20) {
         Ok(made) => made == 20,
@@ -20,25 +21,12 @@ fn drives<R: Wait>(rt: &R, alloc: Global, recorder: &Recorder, seat: &mut Seat) 
     }
 }
 
-// The processors that count as correct.
+/// The processors that count as correct.
 fn all_three() -> ProcSet {
     ProcSet::empty().with(1).with(2).with(3)
 }
 
-// Whether two have the same levels.
-fn same_stairs(a: &Stairs, b: &Stairs) -> bool {
-    if a.len() != b.len() {
-        return false;
-    }
-    for g in 1..a.len() as u64 + 1 {
-        if a.at(g) != b.at(g) {
-            return false;
-        }
-    }
-    true
-}
-
-// Whether an analyst's answer to this trace is the one from scratch.
+/// Whether an analyst's answer to this trace is the one from scratch.
 fn is_followed(alloc: Global, analyst: &mut Analyst, trace: &Trace) -> bool {
     let set = all_three();
     if !set.within(trace.config().n()) {
@@ -53,14 +41,14 @@ fn is_followed(alloc: Global, analyst: &mut Analyst, trace: &Trace) -> bool {
     }
 }
 
-// A view with an analyst who is fed all that it is shown.
+/// A view with an analyst who is fed all that it is shown.
 #[derive(Drop)]
 struct Watcher {
     view: View,
     analyst: Analyst,
 }
 
-// A watcher who was shown nothing yet, of this recorder's configuration.
+/// A watcher who was shown nothing yet, of this recorder's configuration.
 fn watcher_of(alloc: Global, recorder: &Recorder) -> Result<Watcher, Fail> {
     let config = Config::new(3, 1, Vec::from_slice(alloc, &[5, 7, 7])?)?;
     Ok(Watcher {
@@ -69,7 +57,7 @@ fn watcher_of(alloc: Global, recorder: &Recorder) -> Result<Watcher, Fail> {
     })
 }
 
-// Whether the trace is shown and followed, with as many steps as before or more.
+/// Whether the trace is shown and followed, with as many steps as before or more.
 fn grows<R: Wait>(rt: &R, alloc: Global, recorder: &Recorder, watcher: &mut Watcher) -> bool {
     let seen = match watcher.view.seen() {
         Some(trace) => trace.len(),
@@ -81,7 +69,7 @@ fn grows<R: Wait>(rt: &R, alloc: Global, recorder: &Recorder, watcher: &mut Watc
     }
 }
 
-// Shows the trace again and again.
+/// Shows the trace again and again.
 fn watches<R: Wait>(rt: &R, alloc: Global, recorder: &Recorder, watcher: &mut Watcher) -> bool {
     let mut all = true;
     for _ in 0..20 {
@@ -90,7 +78,7 @@ fn watches<R: Wait>(rt: &R, alloc: Global, recorder: &Recorder, watcher: &mut Wa
     all
 }
 
-// Drives each seat in a thread of its own, while one more thread watches.
+/// Drives each seat in a thread of its own, while one more thread watches.
 fn all_go<R: Threads + Wait + Sync>(
     rt: &R,
     alloc: Global,
@@ -119,7 +107,7 @@ fn all_go<R: Threads + Wait + Sync>(
     })
 }
 
-// Whether the trace that is shown has so many steps, and is followed.
+/// Whether the trace that is shown has so many steps, and is followed.
 fn shows<R: Wait>(
     rt: &R,
     alloc: Global,
@@ -133,21 +121,7 @@ fn shows<R: Wait>(
     }
 }
 
-// Whether an audit finds that all was as it was shown.
-fn fits<R: Wait>(
-    rt: &R,
-    alloc: Global,
-    recorder: &Recorder,
-    seats: &[Seat],
-    views: &[View],
-) -> bool {
-    match recorder.audit(rt, alloc, seats, views) {
-        Ok(world) => world.trace().len() == 60,
-        Err(_) => false,
-    }
-}
-
-// Whether the view has seen nothing, and is shown the opening trace, then the growing one, then the whole.
+/// Whether the view has seen nothing, and is shown the opening trace, then the growing one, then the whole.
 fn all_shown<R: Threads + Wait + Sync>(
     rt: &R,
     alloc: Global,
@@ -167,11 +141,11 @@ fn prefixes_grow(rt: HostRuntime) -> Result<(), Fail> {
     let (recorder, mut seats) = opened(&rt, alloc, 1, 1, &[5, 7, 7], 100)?;
     let mut watcher = watcher_of(alloc, &recorder)?;
     assert!(rt; all_shown(&rt, alloc, &recorder, seats.as_mut_slice(), &mut watcher));
-    assert!(rt; fits(&rt, alloc, &recorder, &seats, from_ref(&watcher.view)));
+    assert!(rt; is_audited(&rt, alloc, &recorder, &seats, from_ref(&watcher.view), 60));
     Ok(())
 }
 
-// Whether a seat is shown so many steps.
+/// Whether a seat is shown so many steps.
 fn shows_mine<R: Wait>(
     rt: &R,
     alloc: Global,
@@ -185,7 +159,7 @@ fn shows_mine<R: Wait>(
     }
 }
 
-// ForeignSeat shows nothing: this refuses it as the answer to a seat from which nothing was done.
+/// ForeignSeat shows nothing: this refuses it as the answer to a seat from which nothing was done.
 #[test]
 fn an_idle_seat_is_shown_what_others_did(rt: HostRuntime) -> Result<(), Fail> {
     let alloc = rt.alloc();

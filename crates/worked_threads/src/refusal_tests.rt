@@ -7,7 +7,7 @@ use std::sync::Wait;
 use std::test::Fail;
 use step_buffers::{Move, StepError};
 
-// Whether a Send is refused for this reason, by the call of the seat and by that of the recorder.
+/// Whether a Send is refused for this reason, by the call of the seat and by that of the recorder.
 fn refuses<R: Wait>(
     rt: &R,
     alloc: Global,

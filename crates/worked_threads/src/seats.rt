@@ -1,6 +1,6 @@
 //! Recorders with their seats, and what is done from a seat.
 
-use locked_recorder::{Recorder, Seat};
+use locked_recorder::{Recorder, Seat, View};
 use std::alloc::Global;
 use std::process::Abort;
 use std::sync::Wait;
@@ -48,15 +48,16 @@ pub fn did(seat: &Seat, count: usize) -> bool {
     seat.done().len() == count
 }
 
-/// Whether an audit of the seats finds so many steps.
+/// Whether an audit of the seats and of views finds so many steps.
 pub fn is_audited<R: Wait>(
     rt: &R,
     alloc: Global,
     recorder: &Recorder,
     seats: &[Seat],
+    views: &[View],
     steps: usize,
 ) -> bool {
-    match recorder.audit(rt, alloc, seats, &[]) {
+    match recorder.audit(rt, alloc, seats, views) {
         Ok(world) => world.trace().len() == steps,
         Err(_) => false,
     }

@@ -7,9 +7,9 @@ use std::sync::Wait;
 use std::test::Fail;
 use step_buffers::{Done, Move, Take};
 
-// What 1 does, one thing after the other: the number of its step, whether it sends, or else whether it ends its
-// round, and the round in which it is afterwards. It sends its list to itself, the owner of phase 1, and has nothing
-// more to send, since it hears no other list.
+/// What 1 does, one thing after the other: the number of its step, whether it sends, or else whether it ends its
+/// round, and the round in which it is afterwards. It sends its list to itself, the owner of phase 1, and has nothing
+/// more to send, since it hears no other list.
 const ROUNDS: &[(u64, bool, bool, u64)] = &[
     (1, true, false, 1),
     (2, false, false, 1),
@@ -26,7 +26,7 @@ fn move_of(sends: bool, ends: bool) -> Move<'static> {
     Move::Receive { take, ends }
 }
 
-// Whether this is what was done in the step of this number, and says that its processor is in this round.
+/// Whether this is what was done in the step of this number, and says that its processor is in this round.
 fn tells(answer: Result<&Done, RecordError>, no: u64, round: u64) -> bool {
     match answer {
         Ok(done) => done.no == no && done.round == round,
@@ -34,7 +34,7 @@ fn tells(answer: Result<&Done, RecordError>, no: u64, round: u64) -> bool {
     }
 }
 
-// Whether the seat makes these steps by its own call, and has all that it did.
+/// Whether the seat makes these steps by its own call, and has all that it did.
 fn seat_makes<R: Wait>(rt: &R, alloc: Global, recorder: &Recorder, seat: &mut Seat) -> bool {
     for &(no, sends, ends, round) in ROUNDS {
         let told = tells(
@@ -49,7 +49,7 @@ fn seat_makes<R: Wait>(rt: &R, alloc: Global, recorder: &Recorder, seat: &mut Se
     true
 }
 
-// The same by the call of the recorder.
+/// The same by the call of the recorder.
 fn recorder_makes<R: Wait>(rt: &R, alloc: Global, recorder: &Recorder, seat: &mut Seat) -> bool {
     for &(no, sends, ends, round) in ROUNDS {
         let told = tells(
@@ -64,8 +64,8 @@ fn recorder_makes<R: Wait>(rt: &R, alloc: Global, recorder: &Recorder, seat: &mu
     true
 }
 
-// No clause says of `Recorder::step` what the seat is afterwards: this refuses one that steps twice and lends the
-// second answer, and one that forgets what the seat did before.
+/// No clause says of `Recorder::step` what the seat is afterwards: this refuses one that steps twice and lends the
+/// second answer, and one that forgets what the seat did before.
 #[test]
 fn each_step_is_made_once(rt: HostRuntime) -> Result<(), Fail> {
     let alloc = rt.alloc();
@@ -77,7 +77,7 @@ fn each_step_is_made_once(rt: HostRuntime) -> Result<(), Fail> {
         } else {
             seat_makes(&rt, alloc, &recorder, &mut seats[0])
         };
-        assert!(rt; makes && is_audited(&rt, alloc, &recorder, &seats, 5));
+        assert!(rt; makes && is_audited(&rt, alloc, &recorder, &seats, &[], 5));
     }
     Ok(())
 }

@@ -9,7 +9,7 @@ use std::sync::Wait;
 use std::test::Fail;
 use step_buffers::Move;
 
-// A recorder of two processors with this tag, whose second initial value is this, and its seats. No step was made.
+/// A recorder of two processors with this tag, whose second initial value is this, and its seats. No step was made.
 fn stranger(
     rt: &impl Abort,
     alloc: Global,
@@ -19,7 +19,7 @@ fn stranger(
     opened(rt, alloc, tag, 0, &[5, value], 100)
 }
 
-// The seats of a recorder with tag 1, from the first of which three steps were made.
+/// The seats of a recorder with tag 1, from the first of which three steps were made.
 fn stepped_seats<R: Wait + Abort>(rt: &R, alloc: Global) -> Result<Vec<Seat>, Fail> {
     let (recorder, mut seats) = stranger(rt, alloc, 1, 7)?;
     assert!(rt; seats.len() == 2);
@@ -27,7 +27,7 @@ fn stepped_seats<R: Wait + Abort>(rt: &R, alloc: Global) -> Result<Vec<Seat>, Fa
     Ok(seats)
 }
 
-// Shows the trace of a recorder to a view, once a step was made.
+/// Shows the trace of a recorder to a view, once a step was made.
 fn shows_a_step<R: Wait + Abort>(
     rt: &R,
     alloc: Global,
@@ -39,7 +39,7 @@ fn shows_a_step<R: Wait + Abort>(
     waits(rt, alloc, recorder, &mut seats[0], 1) && recorder.prefix(rt, alloc, view).is_ok()
 }
 
-// A view that has seen the one step of a recorder with tag 1.
+/// A view that has seen the one step of a recorder with tag 1.
 fn seen_step<R: Wait + Abort>(rt: &R, alloc: Global) -> Result<View, Fail> {
     let (recorder, mut seats) = stranger(rt, alloc, 1, 7)?;
     let mut view = recorder.view();
@@ -47,7 +47,7 @@ fn seen_step<R: Wait + Abort>(rt: &R, alloc: Global) -> Result<View, Fail> {
     Ok(view)
 }
 
-// Whether nothing is shown to the view, since the trace has no step of this number.
+/// Whether nothing is shown to the view, since the trace has no step of this number.
 fn is_off_at<R: Wait>(
     rt: &R,
     alloc: Global,
@@ -61,7 +61,7 @@ fn is_off_at<R: Wait>(
     }
 }
 
-// The same of a stranger.
+/// The same of a stranger.
 fn lacks<R: Wait + Abort>(
     rt: &R,
     alloc: Global,
@@ -74,7 +74,7 @@ fn lacks<R: Wait + Abort>(
     Ok(is_off)
 }
 
-// Whether the trace of a recorder has a step of 2 in tick 1, where the view has seen another one.
+/// Whether the trace of a recorder has a step of 2 in tick 1, where the view has seen another one.
 fn has_another_first<R: Wait>(rt: &R, alloc: Global, recorder: &Recorder, view: &mut View) -> bool {
     match recorder.prefix(rt, alloc, view) {
         Err(
@@ -87,7 +87,7 @@ fn has_another_first<R: Wait>(rt: &R, alloc: Global, recorder: &Recorder, view: 
     }
 }
 
-// The same of a stranger, whose second seat did one step.
+/// The same of a stranger, whose second seat did one step.
 fn goes_another_way<R: Wait + Abort>(rt: &R, alloc: Global, view: &mut View) -> Result<bool, Fail> {
     let (recorder, mut seats) = stranger(rt, alloc, 1, 7)?;
     assert!(rt; seats.len() == 2);
@@ -96,7 +96,7 @@ fn goes_another_way<R: Wait + Abort>(rt: &R, alloc: Global, view: &mut View) -> 
     Ok(goes)
 }
 
-// Whether a stranger, from whose first seat so many steps were made, shows no prefix to the seat, for this reason.
+/// Whether a stranger, from whose first seat so many steps were made, shows no prefix to the seat, for this reason.
 fn refuses_mine<R: Wait + Abort>(
     rt: &R,
     alloc: Global,
@@ -114,7 +114,7 @@ fn refuses_mine<R: Wait + Abort>(
     })
 }
 
-// Whether a stranger's audit of the seats refuses for this reason.
+/// Whether a stranger's audit of the seats refuses for this reason.
 fn refuses_seats<R: Wait + Abort>(
     rt: &R,
     alloc: Global,
@@ -129,7 +129,7 @@ fn refuses_seats<R: Wait + Abort>(
     })
 }
 
-// Whether a stranger's audit of its own seats and of a view names the view.
+/// Whether a stranger's audit of its own seats and of a view names the view.
 fn refuses_view<R: Wait + Abort>(rt: &R, alloc: Global, views: &[View]) -> Result<bool, Fail> {
     let (recorder, seats) = stranger(rt, alloc, 1, 7)?;
     Ok(match recorder.audit(rt, alloc, &seats, views) {
@@ -138,7 +138,7 @@ fn refuses_view<R: Wait + Abort>(rt: &R, alloc: Global, views: &[View]) -> Resul
     })
 }
 
-// Whether the seat is foreign to a recorder of tag 2.
+/// Whether the seat is foreign to a recorder of tag 2.
 fn is_foreign<R: Wait + Abort>(rt: &R, alloc: Global, seat: &mut Seat) -> Result<bool, Fail> {
     let (recorder, _) = stranger(rt, alloc, 2, 7)?;
     Ok(match seat.step(rt, alloc, &recorder, Move::Send) {
@@ -172,7 +172,7 @@ fn a_view_of_another_configuration(rt: HostRuntime) -> Result<(), Fail> {
     Ok(())
 }
 
-// After so many of the same steps of its own, the least that a stranger misses of the three.
+/// After so many of the same steps of its own, the least that a stranger misses of the three.
 const LEAST_MISSING: &[(u64, u64)] = &[(0, 1), (1, 2), (2, 3)];
 
 #[test]
