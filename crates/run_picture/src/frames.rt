@@ -133,7 +133,7 @@ impl Frame {
     }
 }
 
-// What lies so many parts of the whole from the one height to the other.
+/// What lies so many parts of the whole from the one height to the other.
 fn between(y: u64, y_end: u64, part: u64, whole: u64) -> u64
     ensures { result ≤ 100_000 }
 {

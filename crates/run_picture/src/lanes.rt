@@ -68,7 +68,7 @@ fn put_lane(
     put(out, format!(in alloc; "</text></g>\n")?)
 }
 
-// Round numbers of ticks.
+/// Round numbers of ticks.
 fn put_ticks(
     alloc: Global,
     out: &mut Vec<u8>,

@@ -36,7 +36,7 @@ pub(crate) fn put_message(
     )
 }
 
-// A message that nobody takes: a short dashed end, towards the lane of its receiver.
+/// A message that nobody takes: a short dashed end, towards the lane of its receiver.
 fn put_lost(
     alloc: Global,
     out: &mut Vec<u8>,
@@ -55,7 +55,7 @@ fn put_lost(
     )
 }
 
-// A message to its own sender: up, along and down again, as far as it lies in the window.
+/// A message to its own sender: up, along and down again, as far as it lies in the window.
 fn put_arc(
     alloc: Global,
     out: &mut Vec<u8>,

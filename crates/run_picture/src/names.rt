@@ -35,7 +35,7 @@ pub fn names_of(alloc: Global, list: &str, count: u64) -> Result<Vec<&str>, Name
     }
 }
 
-// The parts of a text between its commas.
+/// The parts of a text between its commas.
 fn parts_of(alloc: Global, list: &str) -> Result<Vec<&str>, AllocError>
     ensures { IfOk result (λ parts. map (λ x. x.now) parts.items ≡ parts_of list.now) }
 {
@@ -46,7 +46,7 @@ fn parts_of(alloc: Global, list: &str) -> Result<Vec<&str>, AllocError>
     Ok(parts)
 }
 
-// Whether no name before this one is the same.
+/// Whether no name before this one is the same.
 fn is_new(names: &[&str], i: usize) -> bool
     requires { i < length names.now }
     ensures { IsTrue result ↔ IsNew (map (λ x. x.now) names.now) i }
@@ -59,7 +59,7 @@ fn is_new(names: &[&str], i: usize) -> bool
     true
 }
 
-// Whether a name has 1 to `MAX_NAME_BYTES` bytes, and each of them may stand in it.
+/// Whether a name has 1 to `MAX_NAME_BYTES` bytes, and each of them may stand in it.
 fn is_name(name: &[u8]) -> bool
     ensures { IsTrue result ↔ IsName name.now }
 {
@@ -74,7 +74,7 @@ fn is_name(name: &[u8]) -> bool
     true
 }
 
-// Whether a control character stands at this place, or one of those that XML doesn't hold begins there.
+/// Whether a control character stands at this place, or one of those that XML doesn't hold begins there.
 fn is_refused_at(name: &[u8], i: usize) -> bool
     requires { i < length name.now }
     ensures { result ≡ is_refused_at name.now i }
@@ -86,14 +86,14 @@ fn is_refused_at(name: &[u8], i: usize) -> bool
     byte == 239 && byte_at(name, i + 1) == 191 && byte_at(name, i + 2) >= 190
 }
 
-// The byte at this place; 0 after the last.
+/// The byte at this place; 0 after the last.
 fn byte_at(name: &[u8], i: usize) -> u8
     ensures { result ≡ byte_at name.now i }
 {
     name.get(i).copied().unwrap_or(0)
 }
 
-// Whether these are so many different names.
+/// Whether these are so many different names.
 fn are_names(names: &[&str], count: u64) -> bool
     ensures { IsTrue result ↔ AreNames count (map (λ x. x.now) names.now) }
 {

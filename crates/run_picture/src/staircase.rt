@@ -19,19 +19,19 @@ struct Axes {
 }
 
 impl Axes {
-    // The left edge of a tick, or the right edge of all where the tick is after the last.
+    /// The left edge of a tick, or the right edge of all where the tick is after the last.
     fn edge(self, tick: u64) -> u64 {
         let last = self.last.clamp(1, MAX_TICKS);
         LEFT + tick.saturating_sub(1).min(last) * WIDTH / last
     }
 
-    // The middle of a tick.
+    /// The middle of a tick.
     fn middle(self, tick: u64) -> u64 {
         let last = self.last.clamp(1, MAX_TICKS);
         LEFT + (tick.clamp(1, last) * 2 - 1) * WIDTH / (last * 2)
     }
 
-    // The height of a bound.
+    /// The height of a bound.
     fn y(self, bound: u64) -> u64 {
         let high = self.high.clamp(1, MAX_TICKS);
         (TOP + HEIGHT).saturating_sub(bound.min(high) * HEIGHT / high)
@@ -60,7 +60,7 @@ impl Bound {
         }
     }
 
-    // How far its line lies below its height, so that equal bounds are both seen.
+    /// How far its line lies below its height, so that equal bounds are both seen.
     fn shift(self) -> u64 {
         match self {
             Bound::Communication => 0,
@@ -116,7 +116,7 @@ fn put_heading(alloc: Global, out: &mut Vec<u8>, picture: &Picture) -> Result<()
     )
 }
 
-// The ticks that are drawn below.
+/// The ticks that are drawn below.
 fn put_shade(
     alloc: Global,
     out: &mut Vec<u8>,
@@ -197,7 +197,7 @@ fn put_line(
     put(out, format!(in alloc; "H10900\"/>\n")?)
 }
 
-// What the bounds are from each corner on, for whoever points there.
+/// What the bounds are from each corner on, for whoever points there.
 fn put_titles(
     alloc: Global,
     out: &mut Vec<u8>,

@@ -48,7 +48,7 @@ pub(crate) fn put_step(
     }
 }
 
-// How far a mark goes from its middle.
+/// How far a mark goes from its middle.
 fn radius(frame: Frame) -> u64
     ensures { result ≤ 60 }
 {
@@ -74,7 +74,7 @@ fn put_square(
     )
 }
 
-// The first ids, and how many more there are.
+/// The first ids, and how many more there are.
 fn put_ids(alloc: Global, out: &mut Vec<u8>, ids: &[u64]) -> Result<(), AllocError> {
     if ids.len() == 0 {
         return put(out, format!(in alloc; "nothing")?);
@@ -95,7 +95,7 @@ fn put_ids(alloc: Global, out: &mut Vec<u8>, ids: &[u64]) -> Result<(), AllocErr
     Ok(())
 }
 
-// The end of the words and of the mark, with a bar beside it where the round ends.
+/// The end of the words and of the mark, with a bar beside it where the round ends.
 fn put_end(
     alloc: Global,
     out: &mut Vec<u8>,

@@ -54,7 +54,7 @@ pub(crate) fn put(out: &mut Vec<u8>, text: String) -> Result<(), AllocError> {
     out.extend_from_slice(text.as_bytes())
 }
 
-// The page is wider by what names reach beyond its left edge.
+/// The page is wider by what names reach beyond its left edge.
 fn put_head(alloc: Global, out: &mut Vec<u8>, frame: Frame, overhang: u64) -> Result<(), AllocError>
     requires { overhang ≤ 4_320 }
 {
@@ -73,7 +73,7 @@ fn put_head(alloc: Global, out: &mut Vec<u8>, frame: Frame, overhang: u64) -> Re
     )
 }
 
-// Gaps below messages, misses above them, and steps on top.
+/// Gaps below messages, misses above them, and steps on top.
 fn put_marks(
     alloc: Global,
     out: &mut Vec<u8>,
@@ -127,21 +127,21 @@ fn put_steps(
     Ok(())
 }
 
-// The last of these, so many at most.
+/// The last of these, so many at most.
 fn latest<T>(list: &[T], most: usize) -> &[T]
     ensures { result.now ≡ drop (length list.now - most) list.now }
 {
     &list[list.len().saturating_sub(most)..]
 }
 
-// The first of these, so many at most: in a report the witnesses of the greatest bounds.
+/// The first of these, so many at most: in a report the witnesses of the greatest bounds.
 fn earliest(rows: &[Row], most: usize) -> &[Row]
     ensures { result.now ≡ take most rows.now }
 {
     &rows[..most.min(rows.len())]
 }
 
-// What the marks mean, and how many are left out.
+/// What the marks mean, and how many are left out.
 fn put_foot(
     alloc: Global,
     out: &mut Vec<u8>,

@@ -33,7 +33,7 @@ pub(crate) fn put_miss(
     )
 }
 
-// The processor of the step of this number; 0 where there is no such step.
+/// The processor of the step of this number; 0 where there is no such step.
 fn processor_at(trace: &Trace, no: u64) -> u64 {
     match trace.step(no) {
         Some(step) => step.proc,
