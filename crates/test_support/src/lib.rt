@@ -1,6 +1,8 @@
-//! What tests of several crates share: traces and levels from plain numbers, and random traces of a fixed seed.
+//! What tests of several crates share: worked texts, traces and levels from plain numbers, and random traces of a
+//! fixed seed.
 #![tactic(auto)]
 
 pub mod random_traces;
 pub mod stair_levels;
+pub mod texts;
 pub mod traces;

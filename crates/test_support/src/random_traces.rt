@@ -37,7 +37,7 @@ fn is_sent_to(trace: &Trace, s: u64, proc: u64) -> bool {
     }
 }
 
-// About a quarter of the messages to a processor, whether they were taken or not.
+/// About a quarter of the messages to a processor, whether they were taken or not.
 fn some_ids(alloc: Global, draws: &mut Draws, trace: &Trace, proc: u64) -> Result<Vec<u64>, Fail> {
     let mut ids = Vec::new(alloc);
     for s in 1..trace.len() as u64 + 1 {

@@ -1,6 +1,7 @@
-//! Levels as plain numbers. A level is written [delta, sent, missed, phi, proc, from, to], with 0 for none.
+//! Levels and rows as plain numbers. A level is written [delta, sent, missed, phi, proc, from, to], and a row as in a
+//! report, [gst, delta, phi, sent, missed, proc, from, to], with 0 for none.
 
-use step_trace::{Gap, Miss};
+use step_trace::{Gap, Miss, Row};
 use suffix_staircase::{Level, Stairs};
 
 /// The level that is so written.
@@ -12,6 +13,36 @@ pub fn level_of(numbers: [u64; 7]) -> Level {
         phi,
         gap: (proc != 0).then_some(Gap { proc, from, to }),
     }
+}
+
+/// The row that is so written.
+pub fn row_of(numbers: [u64; 8]) -> Row {
+    let [gst, delta, phi, sent, missed, proc, from, to] = numbers;
+    Row {
+        gst,
+        delta,
+        phi,
+        miss: (sent != 0).then_some(Miss { sent, missed }),
+        gap: (proc != 0).then_some(Gap { proc, from, to }),
+    }
+}
+
+/// The rows of the report of one-miss where both processors are correct.
+pub fn one_miss_rows() -> [Row; 3] {
+    [
+        row_of([1, 2, 3, 1, 2, 1, 2, 3]),
+        row_of([2, 1, 3, 0, 0, 1, 2, 3]),
+        row_of([3, 1, 2, 0, 0, 1, 3, 3]),
+    ]
+}
+
+/// The rows of the report of never-delivered where both processors are correct.
+pub fn never_delivered_rows() -> [Row; 3] {
+    [
+        row_of([1, 5, 3, 1, 5, 1, 4, 5]),
+        row_of([2, 1, 3, 0, 0, 1, 4, 5]),
+        row_of([5, 1, 2, 0, 0, 1, 5, 5]),
+    ]
 }
 
 /// Whether the stairs have exactly these levels.

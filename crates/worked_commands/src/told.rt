@@ -2,44 +2,37 @@
 
 use crate::commands::Command::{Check, Part, Replay, Report, Upgrade};
 use crate::commands::{Command, ended, has_refused, whole};
-use crate::traces::{
-    DECIDES_SEVEN, DECIDES_SEVEN_REPLAY, ENDS_A_ROUND, NEVER_DELIVERED, NEVER_DELIVERED_REPORT,
-    NO_STEPS, ONE_MISS, ONE_MISS_REPORT, ONE_MISS_UPGRADE, REDELIVERED, SAME_TICK, SENDS_TWICE,
-};
+use crate::traces::{ENDS_A_ROUND, REDELIVERED, SAME_TICK, SENDS_TWICE};
 use std::test::Fail;
+use test_support::report_text;
+use test_support::texts::{
+    DECIDES_SEVEN, DECIDES_SEVEN_REPLAY, NEVER_DELIVERED, NEVER_DELIVERED_REPORT, NO_STEPS,
+    ONE_MISS, ONE_MISS_REPORT, ONE_MISS_UPGRADE, REPORT_HEADER, SMALL_PHI, UNTIL_THREE_AT_TWO,
+};
 use trace_text::failing_devices::{FailingWriter, WriteFailure};
 
-const NO_ROWS: &str = "gst,delta,phi,sent,missed,proc,from,to\n";
+const UNTIL_THREE: &str = report_text!("1,2,2,1,2,2,3,3\n2,1,2,,,2,3,3\n");
 
-const UNTIL_THREE: &str =
-    "gst,delta,phi,sent,missed,proc,from,to\n1,2,2,1,2,2,3,3\n2,1,2,,,2,3,3\n";
+const AT_FOUR: &str = report_text!("2,1,3,,,1,4,5\n");
 
-const UNTIL_THREE_AT_TWO: &str = "gst,delta,phi,sent,missed,proc,from,to\n2,1,2,,,2,3,3\n";
+const FOR_TWO: &str = report_text!("1,1,2,,,2,1,1\n2,1,1,,,,,\n");
 
-const AT_FOUR: &str = "gst,delta,phi,sent,missed,proc,from,to\n2,1,3,,,1,4,5\n";
-
-const FOR_TWO: &str = "gst,delta,phi,sent,missed,proc,from,to\n1,1,2,,,2,1,1\n2,1,1,,,,,\n";
-
-const FOR_NOBODY: &str = "gst,delta,phi,sent,missed,proc,from,to\n1,1,1,,,,,\n";
+const FOR_NOBODY: &str = report_text!("1,1,1,,,,,\n");
 
 const NO_HEADER: &str = "1,5,3,1,5,1,4,5\n";
 
-const HALF_A_MISS: &str = "gst,delta,phi,sent,missed,proc,from,to\n1,5,3,1,,1,4,5\n";
+const HALF_A_MISS: &str = report_text!("1,5,3,1,,1,4,5\n");
 
-const SMALL_DELTA: &str =
-    "gst,delta,phi,sent,missed,proc,from,to\n1,4,3,1,4,1,4,5\n2,1,3,,,1,4,5\n5,1,2,,,1,5,5\n";
-
-const SMALL_PHI: &str =
-    "gst,delta,phi,sent,missed,proc,from,to\n1,5,3,1,5,1,4,5\n2,1,3,,,1,4,5\n5,1,1,,,,,\n";
+const SMALL_DELTA: &str = report_text!("1,4,3,1,4,1,4,5\n2,1,3,,,1,4,5\n5,1,2,,,1,5,5\n");
 
 const PHI_FAILS: &str = "no PhiFails 3 1 5 5\n";
 
-const TWICE: &str = "gst,delta,phi,sent,missed,proc,from,to\n1,5,3,1,5,1,4,5\n1,5,3,1,5,1,4,5\n";
+const TWICE: &str = report_text!("1,5,3,1,5,1,4,5\n1,5,3,1,5,1,4,5\n");
 
 /// A command, its trace text, its status, and what it writes.
 const TOLD: &[(Command, &str, u8, &str)] = &[
     (Report("1,2"), ONE_MISS, 0, ONE_MISS_REPORT),
-    (Report("1,2"), NO_STEPS, 0, NO_ROWS),
+    (Report("1,2"), NO_STEPS, 0, REPORT_HEADER),
     (Report("1,2"), NEVER_DELIVERED, 0, NEVER_DELIVERED_REPORT),
     (Report("2"), ONE_MISS, 0, FOR_TWO),
     (Report("none"), ONE_MISS, 0, FOR_NOBODY),
@@ -74,7 +67,12 @@ const TOLD: &[(Command, &str, u8, &str)] = &[
         0,
         "yes\n",
     ),
-    (Check("1,2", NO_ROWS), NEVER_DELIVERED, 1, "no NoRows\n"),
+    (
+        Check("1,2", REPORT_HEADER),
+        NEVER_DELIVERED,
+        1,
+        "no NoRows\n",
+    ),
     (Check("1,2", TWICE), NEVER_DELIVERED, 1, "no NotRising 2\n"),
     (
         Check("1,2", SMALL_DELTA),

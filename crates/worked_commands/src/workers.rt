@@ -1,16 +1,15 @@
 //! Reports by several workers, through gates, and of a long trace.
 
 use crate::commands::{reported, whole};
-use crate::traces::{
-    LATE, LATE_REPORT, NEVER_DELIVERED, NEVER_DELIVERED_REPORT, ONE_MISS, ONE_MISS_REPORT,
-    SHARED_TICKS, SHARED_TICKS_REPORT,
-};
+use crate::traces::{LATE, LATE_REPORT, SHARED_TICKS, SHARED_TICKS_REPORT};
 use std::alloc::{AllocError, Global};
 use std::sync::Wait;
 use std::test::Fail;
 use std::thread::Threads;
 use step_trace::meeting::MeetingGate;
 use step_trace::{Gate, OpenGate};
+use test_support::report_text;
+use test_support::texts::{NEVER_DELIVERED, NEVER_DELIVERED_REPORT, ONE_MISS, ONE_MISS_REPORT};
 use text_commands::status;
 use trace_text::failing_devices::{FailingWriter, WriteFailure};
 
@@ -103,8 +102,9 @@ fn long_trace(alloc: Global) -> Result<String, AllocError> {
 
 /// Message 1 is missed from step 2 on, last at step 99,998, so Δ is 99,998 from step 1 and 1 from
 /// step 2. No processor is silent for more than one step, the last one that is being 1 at step 100,000.
-const LONG_REPORT: &str = "gst,delta,phi,sent,missed,proc,from,to\n\
-    1,99998,2,1,99998,1,100000,100000\n2,1,2,,,1,100000,100000\n";
+const LONG_REPORT: &str = report_text!(
+    "1,99998,2,1,99998,1,100000,100000\n2,1,2,,,1,100000,100000\n"
+);
 
 #[test]
 fn reports_100_000_steps(rt: HostRuntime) -> Result<(), Fail> {

@@ -2,22 +2,16 @@
 
 use std::alloc::{AllocError, Global};
 use std::io::ErrorKind;
+use test_support::texts::{ONE_MISS, ONE_MISS_REPORT};
 use trace_text::failing_devices::{AfterBytes, FailingReader, FailingWriter, WriteFailure};
 use trace_text::{Counting, MAX_TEXT_BYTES, TextError, WriteError, read_all, write_text};
-
-/// A trace text of 54 bytes.
-const TRACE: &[u8] = b"dls-trace,1,2,0\ninit,5,7\n1,1,S,2\n2,2,R,\n3,2,R,1\nend,3\n";
-
-/// A report text of 83 bytes.
-const REPORT: &[u8] =
-    b"gst,delta,phi,sent,missed,proc,from,to\n1,2,3,1,2,1,2,3\n2,1,3,,,1,2,3\n3,1,2,,,1,3,3\n";
 
 /// Whether the report stops after `count` bytes, and those are on the device.
 fn stops_after(alloc: Global, piece: usize, failure: WriteFailure, count: usize) -> bool {
     let mut device = FailingWriter::new(alloc, piece, failure);
-    let answer = write_text(REPORT, &mut Counting::new(&mut device));
+    let answer = write_text(ONE_MISS_REPORT.as_bytes(), &mut Counting::new(&mut device));
     let is_refused = matches!(&answer, Err(WriteError::Write(written)) if *written == count as u64);
-    is_refused && Some(device.taken()) == REPORT.get(..count)
+    is_refused && Some(device.taken()) == ONE_MISS_REPORT.as_bytes().get(..count)
 }
 
 /// Whether the text is written whole, in pieces of at most `piece` bytes.
@@ -30,15 +24,12 @@ fn is_written(alloc: Global, text: &[u8], piece: usize) -> bool {
 /// Whether the text is read whole, in pieces of at most `piece` bytes.
 fn is_read(alloc: Global, text: &[u8], piece: usize) -> bool {
     let device = FailingReader::new(text, piece, AfterBytes::End);
-    match read_all(alloc, &mut Counting::new(device)) {
-        Ok(read) => read.as_slice() == text,
-        Err(_) => false,
-    }
+    read_all(alloc, &mut Counting::new(device)).is_ok_and(|read| read.as_slice() == text)
 }
 
 /// Whether the trace's first `count` bytes, and then faults of this kind, are refused as Read.
 fn fails_after(alloc: Global, count: usize, kind: ErrorKind) -> bool {
-    let Some(bytes) = TRACE.get(..count) else {
+    let Some(bytes) = ONE_MISS.as_bytes().get(..count) else {
         return false;
     };
     let device = FailingReader::new(bytes, 5, AfterBytes::Fail(kind));
@@ -82,7 +73,7 @@ fn writers_that_fail_at_the_flush(rt: HostRuntime) {
 fn writers_that_take_all(rt: HostRuntime) {
     for piece in [0, 1, 2, 82, 83, 84] {
         assert!(rt;
-            is_written(rt.alloc(), REPORT, piece),
+            is_written(rt.alloc(), ONE_MISS_REPORT.as_bytes(), piece),
             "in pieces of {piece}"
         );
     }
@@ -101,14 +92,17 @@ fn readers_that_fail(rt: HostRuntime) {
 #[test]
 fn readers_that_end(rt: HostRuntime) {
     for piece in [0, 1, 53, 54, 55] {
-        assert!(rt; is_read(rt.alloc(), TRACE, piece), "in pieces of {piece}");
+        assert!(rt;
+            is_read(rt.alloc(), ONE_MISS.as_bytes(), piece),
+            "in pieces of {piece}"
+        );
     }
     assert!(rt; is_read(rt.alloc(), b"", 1));
 }
 
 #[test]
 fn readers_that_never_end(rt: HostRuntime) {
-    let device = FailingReader::new(TRACE, 65_536, AfterBytes::Repeat(b'\n'));
+    let device = FailingReader::new(ONE_MISS.as_bytes(), 65_536, AfterBytes::Repeat(b'\n'));
     let answer = read_all(rt.alloc(), &mut Counting::new(device));
     assert!(rt; matches!(&answer, Err(TextError::TooLarge)));
 }

@@ -11,12 +11,12 @@ use trace_text::failing_devices::{AfterBytes, FailingReader};
 
 const WORKERS: [u64; 3] = [1, 2, 7];
 
-// How many bytes a read brings at most.
+/// How many bytes a read brings at most.
 const PIECES: [usize; 2] = [7_919, 65_536];
 
 const FAILS: AfterBytes = AfterBytes::Fail(ErrorKind::Other);
 
-// Nine megabytes: more than several threads read at once.
+/// Nine megabytes: more than several threads read at once.
 const LONGER: Row = Row {
     steps: 520_000,
     end: "end,520000\n",
@@ -30,7 +30,7 @@ const REFUSED: Row = Row {
     ..LONG
 };
 
-// Texts, and what the device does behind their bytes.
+/// Texts, and what the device does behind their bytes.
 const ROWS: &[(Row, AfterBytes)] = &[
     (LONG, AfterBytes::End),
     (LONGER, AfterBytes::End),
@@ -131,7 +131,7 @@ fn is_told<R: Threads + Sync>(
     Ok(found.as_str() == wanted)
 }
 
-// The first number of workers and size of pieces with which a text is told of otherwise, if there are some.
+/// The first number of workers and size of pieces with which a text is told of otherwise, if there are some.
 fn first_wrong<R: Threads + Sync>(
     rt: &R,
     alloc: Global,

@@ -5,51 +5,10 @@ use std::alloc::{AllocError, Global};
 use std::io::ErrorKind;
 use std::test::Fail;
 use step_trace::{Gap, Miss, Row};
+use test_support::stair_levels::one_miss_rows;
+use test_support::texts::{ONE_MISS_REPORT, REPORT_HEADER};
 use trace_text::failing_devices::{AfterBytes, FailingReader, FailingWriter, WriteFailure};
 use trace_text::{Counting, MAX_TEXT_BYTES, WriteError};
-
-/// The report of a trace with one miss, 83 bytes.
-const ONE_MISS: &str =
-    "gst,delta,phi,sent,missed,proc,from,to\n1,2,3,1,2,1,2,3\n2,1,3,,,1,2,3\n3,1,2,,,1,3,3\n";
-
-const HEADER: &str = "gst,delta,phi,sent,missed,proc,from,to\n";
-
-/// The rows of that report.
-const ONE_MISS_ROWS: [Row; 3] = [
-    Row {
-        gst: 1,
-        delta: 2,
-        phi: 3,
-        miss: Some(Miss { sent: 1, missed: 2 }),
-        gap: Some(Gap {
-            proc: 1,
-            from: 2,
-            to: 3,
-        }),
-    },
-    Row {
-        gst: 2,
-        delta: 1,
-        phi: 3,
-        miss: None,
-        gap: Some(Gap {
-            proc: 1,
-            from: 2,
-            to: 3,
-        }),
-    },
-    Row {
-        gst: 3,
-        delta: 1,
-        phi: 2,
-        miss: None,
-        gap: Some(Gap {
-            proc: 1,
-            from: 3,
-            to: 3,
-        }),
-    },
-];
 
 /// Whether the answer for a text is this: how many rows are read, or the name of the refusal.
 fn is_answer(alloc: Global, text: &[u8], wanted: &str) -> Result<bool, AllocError> {
@@ -62,16 +21,13 @@ fn is_answer(alloc: Global, text: &[u8], wanted: &str) -> Result<bool, AllocErro
 
 /// The same for a text that begins with the header.
 fn is_answer_after_header(alloc: Global, records: &str, wanted: &str) -> Result<bool, AllocError> {
-    let text = format!(in alloc; "{HEADER}{records}")?;
+    let text = format!(in alloc; "{REPORT_HEADER}{records}")?;
     is_answer(alloc, text.as_bytes(), wanted)
 }
 
 /// Whether these rows are read from a text.
 fn is_read_as(alloc: Global, text: &[u8], rows: &[Row]) -> bool {
-    match read_report(alloc, &mut Counting::new(text)) {
-        Ok(read) => read.as_slice() == rows,
-        Err(_) => false,
-    }
+    read_report(alloc, &mut Counting::new(text)).is_ok_and(|read| read.as_slice() == rows)
 }
 
 /// The text that is written of these rows.
@@ -82,7 +38,7 @@ fn written(alloc: Global, rows: &[Row]) -> Result<Vec<u8>, Fail> {
 }
 
 /// A row of large numbers, with each kind of evidence or without.
-fn row_of(no: u64) -> Row {
+fn large_row(no: u64) -> Row {
     let number = u64::MAX - no;
     Row {
         gst: no,
@@ -104,17 +60,17 @@ fn row_of(no: u64) -> Row {
 fn many_rows(alloc: Global, count: u64) -> Result<Vec<Row>, AllocError> {
     let mut rows = Vec::new(alloc);
     for no in 0..count {
-        rows.push(row_of(no))?;
+        rows.push(large_row(no))?;
     }
     Ok(rows)
 }
 
 #[test]
 fn one_miss(rt: HostRuntime) -> Result<(), Fail> {
-    assert!(rt; ONE_MISS.len() == 83);
-    assert!(rt; is_read_as(rt.alloc(), ONE_MISS.as_bytes(), &ONE_MISS_ROWS));
-    let text = written(rt.alloc(), &ONE_MISS_ROWS)?;
-    assert!(rt; text.as_slice() == ONE_MISS.as_bytes());
+    assert!(rt; ONE_MISS_REPORT.len() == 83);
+    assert!(rt; is_read_as(rt.alloc(), ONE_MISS_REPORT.as_bytes(), &one_miss_rows()));
+    let text = written(rt.alloc(), &one_miss_rows())?;
+    assert!(rt; text.as_slice() == ONE_MISS_REPORT.as_bytes());
     Ok(())
 }
 
@@ -196,7 +152,7 @@ fn answer_of_cut(k: usize) -> &'static str {
 
 #[test]
 fn cut_reports(rt: HostRuntime) -> Result<(), AllocError> {
-    let text = ONE_MISS.as_bytes();
+    let text = ONE_MISS_REPORT.as_bytes();
     for k in 0..84 {
         let cut = text.get(..k).unwrap_or(text);
         assert!(rt; is_answer(rt.alloc(), cut, answer_of_cut(k))?, "{k}");
@@ -206,7 +162,7 @@ fn cut_reports(rt: HostRuntime) -> Result<(), AllocError> {
 
 /// Whether the report's first `count` bytes, and then faults of this kind, are refused as Read.
 fn fails_after(alloc: Global, count: usize, kind: ErrorKind) -> bool {
-    let Some(bytes) = ONE_MISS.as_bytes().get(..count) else {
+    let Some(bytes) = ONE_MISS_REPORT.as_bytes().get(..count) else {
         return false;
     };
     let device = FailingReader::new(bytes, 7, AfterBytes::Fail(kind));
@@ -227,7 +183,7 @@ fn readers_that_fail(rt: HostRuntime) {
 
 #[test]
 fn readers_that_never_end(rt: HostRuntime) {
-    let device = FailingReader::new(ONE_MISS.as_bytes(), 65_536, AfterBytes::Repeat(b'x'));
+    let device = FailingReader::new(ONE_MISS_REPORT.as_bytes(), 65_536, AfterBytes::Repeat(b'x'));
     let answer = read_report(rt.alloc(), &mut Counting::new(device));
     assert!(rt; matches!(&answer, Err(ReportError::TooLarge)));
 }
@@ -235,9 +191,9 @@ fn readers_that_never_end(rt: HostRuntime) {
 /// Whether the report stops after `count` bytes, and those are on the device.
 fn stops_after(alloc: Global, failure: WriteFailure, count: usize) -> bool {
     let mut device = FailingWriter::new(alloc, 7, failure);
-    let answer = write_report(alloc, &ONE_MISS_ROWS, &mut Counting::new(&mut device));
+    let answer = write_report(alloc, &one_miss_rows(), &mut Counting::new(&mut device));
     let is_refused = matches!(&answer, Err(WriteError::Write(written)) if *written == count as u64);
-    is_refused && Some(device.taken()) == ONE_MISS.as_bytes().get(..count)
+    is_refused && Some(device.taken()) == ONE_MISS_REPORT.as_bytes().get(..count)
 }
 
 #[test]

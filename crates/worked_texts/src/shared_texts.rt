@@ -9,20 +9,20 @@ use trace_text::{TextError, read_trace};
 
 const WORKERS: [u64; 6] = [0, 1, 2, 3, 7, 64];
 
-// A text in which 1 sends a message and 2 takes it, in turns.
+/// A text in which 1 sends a message and 2 takes it, in turns.
 #[derive(Clone, Copy)]
 pub(crate) struct Row {
     pub(crate) steps: u64,
-    // What stands before it all.
+    /// What stands before it all.
     pub(crate) start: &'static str,
-    // What stands in the place of the record of one step, by its number.
+    /// What stands in the place of the record of one step, by its number.
     pub(crate) odd: (u64, &'static str),
-    // What stands after the steps.
+    /// What stands after the steps.
     pub(crate) end: &'static str,
     pub(crate) told: &'static str,
 }
 
-// With which all is told.
+/// With which all is told.
 const USUAL: Row = Row {
     steps: 2_000,
     start: "",
@@ -31,7 +31,7 @@ const USUAL: Row = Row {
     told: "2000 steps",
 };
 
-// Three megabytes, which are read in stretches.
+/// Three megabytes, which are read in stretches.
 pub(crate) const LONG: Row = Row {
     steps: 200_000,
     end: "end,200000\n",
@@ -76,7 +76,7 @@ const ROWS: &[Row] = &[
     },
 ];
 
-// The record of a step, by its number, and what is told.
+/// The record of a step, by its number, and what is told.
 const ODD: &[(u64, &str, &str)] = &[
     (1_501, "1501,1,S,2\r\n\n\n", "2000 steps"),
     (1_501, "\"1501\",1,S,2\n", "2000 steps"),
@@ -133,7 +133,7 @@ pub(crate) fn text_of(alloc: Global, row: &Row) -> Result<String, AllocError> {
     Ok(text)
 }
 
-// How many steps were read, or why the text is refused.
+/// How many steps were read, or why the text is refused.
 pub(crate) fn told(alloc: Global, answer: Result<Trace, TextError>) -> Result<String, AllocError> {
     match answer {
         Ok(trace) => format!(in alloc; "{} steps", trace.len()),
@@ -152,7 +152,7 @@ fn is_told<R: Threads + Sync>(
     Ok(found.as_str() == wanted)
 }
 
-// The first number of workers that tells of a text otherwise, if there is one.
+/// The first number of workers that tells of a text otherwise, if there is one.
 fn first_wrong<R: Threads + Sync>(
     rt: &R,
     alloc: Global,
@@ -185,7 +185,7 @@ fn odd_records_in_pieces(rt: HostRuntime) -> Result<(), Fail> {
     Ok(())
 }
 
-// Whether so many workers read the trace that is read of a text by one.
+/// Whether so many workers read the trace that is read of a text by one.
 fn read_the_same<R: Threads + Sync>(rt: &R, alloc: Global, text: &[u8], trace: &Trace) -> bool {
     for workers in WORKERS {
         match read_trace_by(rt, alloc, text, workers) {

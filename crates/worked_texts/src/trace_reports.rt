@@ -5,9 +5,8 @@ use std::alloc::{AllocError, Global};
 use std::test::Fail;
 use step_trace::{Gap, ProcSet, Row, Trace};
 use suffix_staircase::Stairs;
+use test_support::texts::REPORT_HEADER;
 use trace_text::{Counting, read_trace};
-
-const HEADER: &str = "gst,delta,phi,sent,missed,proc,from,to\n";
 
 /// The beginning of a trace of two processors.
 const TWO: &str = "dls-trace,1,2,0\ninit,5,7\n";
@@ -38,7 +37,7 @@ fn report_of(alloc: Global, trace: &Trace, list: &str) -> Result<Option<Report>,
 fn is_text_of(alloc: Global, rows: &[Row], records: &str) -> Result<bool, Fail> {
     let mut text = Vec::new(alloc);
     write_report(alloc, rows, &mut Counting::new(&mut text))?;
-    let wanted = format!(in alloc; "{HEADER}{records}")?;
+    let wanted = format!(in alloc; "{REPORT_HEADER}{records}")?;
     Ok(text.as_slice() == wanted.as_bytes())
 }
 

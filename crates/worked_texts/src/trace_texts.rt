@@ -3,9 +3,8 @@
 use std::alloc::{AllocError, Global};
 use std::test::Fail;
 use step_trace::{Act, Trace};
+use test_support::texts::ONE_MISS;
 use trace_text::{MAX_TEXT_BYTES, read_trace};
-
-pub(crate) const ONE_MISS: &str = "dls-trace,1,2,0\ninit,5,7\n1,1,S,2\n2,2,R,\n3,2,R,1\nend,3\n";
 
 /// Whether the answer for a text is this: `accepted`, or the name of the refusal.
 fn is_answer(alloc: Global, text: &[u8], wanted: &str) -> Result<bool, AllocError> {

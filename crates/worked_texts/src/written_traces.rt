@@ -1,10 +1,11 @@
 //! Traces written: what is written of a trace is its text, in plain form.
 
-use crate::trace_texts::{FORMS_OF_ONE_MISS, ONE_MISS, empty_receives};
+use crate::trace_texts::{FORMS_OF_ONE_MISS, empty_receives};
 use std::alloc::Global;
 use std::io::ErrorKind;
 use std::test::Fail;
 use step_trace::Trace;
+use test_support::texts::ONE_MISS;
 use trace_text::failing_devices::{FailingWriter, WriteFailure};
 use trace_text::{Counting, TextError, WriteError, read_trace, write_trace};
 
