@@ -12,7 +12,7 @@ pub trait LentCall: Drop {
     fn is_as_before(&self) -> bool;
 }
 
-// A call that is swept, and how many of its growths were refused.
+/// A call that is swept, and how many of its growths were refused.
 #[derive(Drop)]
 struct Swept<'a, C> {
     call: &'a C,
@@ -40,7 +40,7 @@ pub fn first_wrong_lent<C: LentCall>(alloc: Global, call: &C) -> Option<usize> {
     if is_swept { wrong } else { wrong.or(Some(0)) }
 }
 
-// Whether the refusing library is loaded: it refuses the message that the next growth is to be refused.
+/// Whether the refusing library is loaded: it refuses the message that the next growth is to be refused.
 fn is_refusing(alloc: Global) -> bool {
     let refuses = is_refused(alloc, 1);
     let _ = is_refused(alloc, 0);

@@ -2,10 +2,10 @@
 
 use std::alloc::{AllocError, Global};
 
-// The size that begins the messages to the refusing library, in bytes. `tests/refusing.c` has the same number.
+/// The size that begins the messages to the refusing library, in bytes. `tests/refusing.c` has the same number.
 const MESSAGE: usize = 7_700_000;
 
-// The most growths of one call.
+/// The most growths of one call.
 const MOST: usize = 100_000;
 
 /// What came of a call.

@@ -10,7 +10,7 @@ use std::alloc::{AllocError, Global};
 use step_trace::Miss;
 use suffix_staircase::{Level, StairBuilder};
 
-// Puts a level before those so far, and puts it again where there was no memory for it; says whether there was none.
+/// Puts a level before those so far, and puts it again where there was no memory for it; says whether there was none.
 fn put(builder: &mut StairBuilder, level: Level) -> Result<bool, AllocError>
     requires room { length builder.old < MAX_TICKS }
     requires falling { CanStandBefore level builder.old }
@@ -23,7 +23,7 @@ fn put(builder: &mut StairBuilder, level: Level) -> Result<bool, AllocError>
     Ok(true)
 }
 
-// The level of this communication bound, which message 1 refutes smaller ones of.
+/// The level of this communication bound, which message 1 refutes smaller ones of.
 fn level_of(delta: u32) -> Level
     ensures delta { result.delta ≡ delta }
     ensures phi { result.phi ≡ 1 }
@@ -41,7 +41,7 @@ fn level_of(delta: u32) -> Level
     }
 }
 
-// Puts five levels of rising bounds, and says whether one was put again.
+/// Puts five levels of rising bounds, and says whether one was put again.
 fn put_five(builder: &mut StairBuilder) -> Result<bool, AllocError>
     requires { builder.old ≡ [] }
 {

@@ -1,13 +1,15 @@
 //! Analysts that are fed.
 
 use crate::levels::{LEVELS, Levels, has_levels};
-use crate::worked::{NEVER_DELIVERED, both, trace_of};
+use crate::worked::trace_of;
 use chunk_join::{Analyst, FeedError};
 use refused_growths::{Call, Outcome, Refusal, first_wrong, judged};
 use std::alloc::{AllocError, Global};
 use step_trace::Trace;
+use test_support::texts::NEVER_DELIVERED;
+use test_support::traces::both;
 
-// Whether the answer to a trace has these levels.
+/// Whether the answer to a trace has these levels.
 fn follows(
     alloc: Global,
     analyst: &mut Analyst,
@@ -21,7 +23,7 @@ fn follows(
     }
 }
 
-// Whether a trace is refused for step 2, which takes message 1 in tick 2.
+/// Whether a trace is refused for step 2, which takes message 1 in tick 2.
 fn differs(alloc: Global, analyst: &mut Analyst, trace: &Trace) -> Result<bool, AllocError> {
     match analyst.feed(alloc, trace) {
         Err(
@@ -35,7 +37,8 @@ fn differs(alloc: Global, analyst: &mut Analyst, trace: &Trace) -> Result<bool, 
     }
 }
 
-// The first two steps of never-delivered, and then a trace which extends them and has these levels, or differs from them.
+/// The first two steps of never-delivered, and then a trace which extends them and has these levels, or differs from
+/// them.
 #[derive(Drop)]
 struct Feed {
     two: Trace,
@@ -46,12 +49,12 @@ struct Feed {
 const LEVELS_OF_TWO: Levels = &[(1, [2, 1, 2, 2, 1, 2, 2]), (2, [1, 0, 0, 2, 1, 2, 2])];
 
 impl Feed {
-    // Whether the answer to the first two is right.
+    /// Whether the answer to the first two is right.
     fn follows_two(&self, alloc: Global, analyst: &mut Analyst) -> bool {
         follows(alloc, analyst, &self.two, LEVELS_OF_TWO) == Ok(true)
     }
 
-    // Whether the answer to what comes next is right.
+    /// Whether the answer to what comes next is right.
     fn is_right(&self, alloc: Global, analyst: &mut Analyst) -> Result<bool, AllocError> {
         match self.levels {
             Some(levels) => follows(alloc, analyst, &self.next, levels),
@@ -59,7 +62,7 @@ impl Feed {
         }
     }
 
-    // What comes of feeding it to an analyst after the first two; where it is refused, both are fed again.
+    /// What comes of feeding it to an analyst after the first two; where it is refused, both are fed again.
     fn fed(&self, alloc: Global, refusal: Refusal, analyst: &mut Analyst) -> Outcome {
         let first = self.follows_two(alloc, analyst);
         refusal.begin(alloc);
@@ -83,7 +86,7 @@ impl Call for Feed {
 
 const FIRST_TWO: &str = "dls-trace,1,2,0\ninit,5,7\n1,1,S,2\n2,2,R,\nend,2\n";
 
-// Never-delivered with idle ticks after it.
+/// Never-delivered with idle ticks after it.
 const IDLE: &str = "dls-trace,2,2,0\ninit,5,7\n\
     1,1,1,S,2\n2,2,2,R,\n3,3,1,S,2\n4,4,2,R,3\n5,5,2,R,\nend,40\n";
 
@@ -102,7 +105,7 @@ const FEEDS: &[(&str, Option<Levels>)] = &[
     (OTHER, None),
 ];
 
-// The first growth of which the outcome was wrong, if there was one.
+/// The first growth of which the outcome was wrong, if there was one.
 fn first_wrong_feed(alloc: Global, text: &str, levels: Option<Levels>) -> Option<usize> {
     match (trace_of(alloc, FIRST_TWO), trace_of(alloc, text)) {
         (Ok(two), Ok(next)) => first_wrong(alloc, &mut Feed { two, next, levels }),

@@ -1,11 +1,13 @@
 //! Pieces of never-delivered that are joined.
 
 use crate::stairs::is_whole;
-use crate::worked::{NEVER_DELIVERED, both, trace_of};
+use crate::worked::trace_of;
 use chunk_join::{JoinRefused, Joined, Piece, Why, join_all};
 use refused_growths::{Call, Outcome, Refusal, first_wrong, judged};
 use std::alloc::{AllocError, Global};
 use step_trace::Trace;
+use test_support::texts::NEVER_DELIVERED;
+use test_support::traces::both;
 
 /// The piece of these ticks, where the trace has them.
 pub(crate) fn piece_of(
@@ -20,7 +22,7 @@ pub(crate) fn piece_of(
     Piece::of(alloc, trace, both(), from, to)
 }
 
-// Whether two pieces that were handed back for want of memory join to the whole one.
+/// Whether two pieces that were handed back for want of memory join to the whole one.
 fn is_handed_back(alloc: Global, refused: JoinRefused<Piece>) -> bool {
     let is_memory = refused.why == Why::Memory;
     match refused.left.join(refused.right) {
@@ -29,7 +31,7 @@ fn is_handed_back(alloc: Global, refused: JoinRefused<Piece>) -> bool {
     }
 }
 
-// What comes of joining two pieces.
+/// What comes of joining two pieces.
 fn joined(alloc: Global, refusal: Refusal, left: Piece, right: Piece) -> Outcome {
     refusal.begin(alloc);
     let answer = left.join(right);
@@ -40,7 +42,7 @@ fn joined(alloc: Global, refusal: Refusal, left: Piece, right: Piece) -> Outcome
     }
 }
 
-// The pieces up to a cut and after it.
+/// The pieces up to a cut and after it.
 #[derive(Drop)]
 struct JoinAt {
     trace: Trace,
@@ -58,7 +60,7 @@ impl Call for JoinAt {
     }
 }
 
-// The first growth of which the outcome was wrong, if there was one.
+/// The first growth of which the outcome was wrong, if there was one.
 fn first_wrong_cut(alloc: Global, cut: u64) -> Option<usize> {
     match trace_of(alloc, NEVER_DELIVERED) {
         Ok(trace) => first_wrong(alloc, &mut JoinAt { trace, cut }),
@@ -74,7 +76,7 @@ fn two_are_joined(rt: HostRuntime) {
     }
 }
 
-// The piece of each tick.
+/// The piece of each tick.
 fn pieces_of(alloc: Global, trace: &Trace) -> Result<Vec<Piece>, AllocError> {
     let mut pieces = Vec::new(alloc);
     for tick in 1..6u64 {
@@ -83,7 +85,7 @@ fn pieces_of(alloc: Global, trace: &Trace) -> Result<Vec<Piece>, AllocError> {
     Ok(pieces)
 }
 
-// Whether new pieces are joined to the whole one: those of a call that was refused are gone.
+/// Whether new pieces are joined to the whole one: those of a call that was refused are gone.
 fn are_joined_anew(alloc: Global, trace: &Trace) -> bool {
     let Ok(pieces) = pieces_of(alloc, trace) else {
         return false;
@@ -124,7 +126,7 @@ impl Call for JoinEach {
     }
 }
 
-// The first growth of which the outcome was wrong, if there was one.
+/// The first growth of which the outcome was wrong, if there was one.
 fn first_wrong_of_five(alloc: Global) -> Option<usize> {
     match trace_of(alloc, NEVER_DELIVERED) {
         Ok(trace) => first_wrong(alloc, &mut JoinEach { trace }),

@@ -1,9 +1,10 @@
 //! Calls that are lent a trace, swept one after the other.
 
-use crate::worked::{is_same, trace_of};
+use crate::worked::trace_of;
 use refused_growths::{LentCall, first_wrong_lent};
 use std::alloc::{AllocError, Global};
 use step_trace::Trace;
+use test_support::traces::are_equal;
 
 /// A call that is lent a trace.
 pub(crate) trait TraceCall: Copy {
@@ -11,7 +12,7 @@ pub(crate) trait TraceCall: Copy {
     fn is_right(self, alloc: Global, trace: &Trace) -> Result<bool, AllocError>;
 }
 
-// A call, the trace that it is lent, and a copy of that from before.
+/// A call, the trace that it is lent, and a copy of that from before.
 #[derive(Drop)]
 struct Lent<'a, C> {
     call: C,
@@ -25,7 +26,7 @@ impl<C: TraceCall> LentCall for Lent<'_, C> {
     }
 
     fn is_as_before(&self) -> bool {
-        is_same(self.trace, self.before)
+        are_equal(self.trace, self.before)
     }
 }
 

@@ -1,11 +1,12 @@
 //! Steps that are pushed.
 
-use crate::worked::{is_same, receive, silence};
+use crate::worked::{receive, silence};
 use refused_growths::{Call, Outcome, Refusal, first_wrong, judged};
 use std::alloc::Global;
 use step_trace::{PushError, Step, Trace};
+use test_support::traces::are_equal;
 
-// Processor 2 takes message 1 in a tick after the last.
+/// Processor 2 takes message 1 in a tick after the last.
 #[derive(Drop)]
 struct Push {
     trace: Trace,
@@ -13,7 +14,7 @@ struct Push {
 }
 
 impl Push {
-    // The step is pushed by number where its tick is the next.
+    /// The step is pushed by number where its tick is the next.
     fn push(&self, trace: &mut Trace, step: Step) -> Result<(), PushError> {
         if self.tick == self.trace.last_tick() + 1 {
             trace.push(step)
@@ -22,7 +23,7 @@ impl Push {
         }
     }
 
-    // Whether the trace has that step more.
+    /// Whether the trace has that step more.
     fn is_pushed(&self, trace: &Trace) -> bool {
         let no = self.trace.len() as u64 + 1;
         let is_taken =
@@ -38,7 +39,7 @@ impl Push {
         }
     }
 
-    // What comes of pushing the step.
+    /// What comes of pushing the step.
     fn pushed(&self, alloc: Global, refusal: Refusal, trace: &mut Trace, step: Step) -> Outcome {
         refusal.begin(alloc);
         let answer = self.push(trace, step);
@@ -46,7 +47,7 @@ impl Push {
         if answer.is_ok() {
             return judged(was_refused, self.is_pushed(trace), false);
         }
-        let is_kept = answer == Err(PushError::Memory) && is_same(trace, &self.trace);
+        let is_kept = answer == Err(PushError::Memory) && are_equal(trace, &self.trace);
         judged(
             was_refused,
             false,
@@ -56,7 +57,7 @@ impl Push {
 }
 
 impl Call for Push {
-    // On a copy, in which no list has room to spare.
+    /// On a copy, in which no list has room to spare.
     fn attempt(&mut self, alloc: Global, refusal: Refusal) -> Outcome {
         match (self.trace.copy(alloc), receive(alloc, 2, &[1])) {
             (Ok(mut trace), Ok(step)) => self.pushed(alloc, refusal, &mut trace, step),
@@ -65,7 +66,7 @@ impl Call for Push {
     }
 }
 
-// After how many steps, and in which tick. The page of 256 steps is not yet full, filled, and full.
+/// After how many steps, and in which tick. The page of 256 steps is not yet full, filled, and full.
 const PUSHES: &[(u64, u64)] = &[
     (1, 2),
     (1, 4),
@@ -75,7 +76,7 @@ const PUSHES: &[(u64, u64)] = &[
     (256, 257),
 ];
 
-// The first growth of which the outcome was wrong, if there was one.
+/// The first growth of which the outcome was wrong, if there was one.
 fn first_wrong_push(alloc: Global, count: u64, tick: u64) -> Option<usize> {
     match silence(alloc, count) {
         Some(trace) => first_wrong(alloc, &mut Push { trace, tick }),

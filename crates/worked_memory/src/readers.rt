@@ -9,25 +9,25 @@ use step_trace::Trace;
 use trace_text::failing_devices::{AfterBytes, FailingReader};
 use trace_text::{Counting, TextError};
 
-// So many that the text is longer than what one thread reads before the others begin.
+/// So many that the text is longer than what one thread reads before the others begin.
 const STEPS: u64 = 700;
 
 const WORKERS: u64 = 2;
 
-// More growths than they make.
+/// More growths than they make.
 const MOST_GROWTHS: usize = 10_000;
 
-// So many blank lines that the text is longer than a part.
+/// So many blank lines that the text is longer than a part.
 const BLANK_LINES: usize = 1_100_000;
 
-// How a text is read.
+/// How a text is read.
 #[derive(Clone, Copy)]
 enum Way {
     Whole,
     FromDevice,
 }
 
-// A text with so many blank lines after its first step.
+/// A text with so many blank lines after its first step.
 fn text_of(alloc: Global, blank_lines: usize) -> Result<String, AllocError> {
     let mut text = format!(in alloc; "dls-trace,1,2,0\ninit,5,7\n1,1,S,2\n")?;
     for _ in 0..blank_lines {
@@ -57,7 +57,7 @@ fn answer<R: Threads + Sync>(
     }
 }
 
-// Whether the trace of the text is read. Fails where the answer is want of memory.
+/// Whether the trace of the text is read. Fails where the answer is want of memory.
 fn is_read<R: Threads + Sync>(
     rt: &R,
     alloc: Global,
@@ -71,14 +71,14 @@ fn is_read<R: Threads + Sync>(
     }
 }
 
-// What became of a reading in which a growth was to be refused.
+/// What became of a reading in which a growth was to be refused.
 #[derive(Clone, Copy)]
 enum Outcome {
-    // It ended without that growth.
+    /// It ended without that growth.
     Read,
-    // It answered want of memory, and the text was read afterwards.
+    /// It answered want of memory, and the text was read afterwards.
     Refused,
-    // The text was read without it: the other thread wasn't started, and its piece was read by this one.
+    /// The text was read without it: the other thread wasn't started, and its piece was read by this one.
     ReadAlone,
     Wrong,
 }
@@ -102,7 +102,8 @@ fn read_with<R: Threads + Sync>(
     }
 }
 
-// The first growth of which the outcome was wrong, if there was one. One growth at most is that of a thread which starts.
+/// The first growth of which the outcome was wrong, if there was one. One growth at most is that of a thread which
+/// starts.
 fn first_wrong<R: Threads + Sync>(rt: &R, alloc: Global, text: &[u8], way: Way) -> Option<usize> {
     let mut read_alone = false;
     for growth in 1..MOST_GROWTHS {

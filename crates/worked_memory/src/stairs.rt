@@ -2,14 +2,15 @@
 
 use crate::joins::piece_of;
 use crate::levels::{LEVELS, has_levels};
-use crate::worked::{ROWS, both};
 use chunk_join::{FinishError, Piece};
 use front::front;
 use std::alloc::{AllocError, Global};
 use step_trace::Trace;
 use suffix_staircase::Stairs;
+use test_support::stair_levels::never_delivered_rows;
+use test_support::traces::both;
 
-// The stairs of a trace of processors 1 and 2.
+/// The stairs of a trace of processors 1 and 2.
 fn stairs_of(alloc: Global, trace: &Trace) -> Result<Stairs, AllocError> {
     let set = both();
     if !set.within(trace.config().n()) {
@@ -50,5 +51,5 @@ pub(crate) fn is_reported(alloc: Global, trace: &Trace) -> Result<bool, AllocErr
 
 fn is_report(alloc: Global, stairs: &Stairs) -> Result<bool, AllocError> {
     let report = front(alloc, stairs)?;
-    Ok(report.rows() == ROWS && report.len() == 5)
+    Ok(report.rows() == never_delivered_rows().as_slice() && report.len() == 5)
 }

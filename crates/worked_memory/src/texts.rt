@@ -1,10 +1,13 @@
 //! Texts of a trace and of its report that are read and written.
 
 use crate::lent::{TraceCall, first_wrong_of_text};
-use crate::worked::{NEVER_DELIVERED, ROWS, TAKEN_TOGETHER, is_same};
+use crate::worked::TAKEN_TOGETHER;
 use front::{ReportError, read_report, write_report};
 use std::alloc::{AllocError, Global};
 use step_trace::Trace;
+use test_support::stair_levels::never_delivered_rows;
+use test_support::texts::{NEVER_DELIVERED, NEVER_DELIVERED_REPORT};
+use test_support::traces::are_equal;
 use trace_text::failing_devices::{AfterBytes, FailingReader};
 use trace_text::{
     Counting, TextError, WriteError, read_all, read_trace, trace_text_2_of, write_trace,
@@ -13,9 +16,6 @@ use trace_text::{
 
 const NEVER_DELIVERED_2: &str = "dls-trace,2,2,0\ninit,5,7\n\
     1,1,1,S,2\n2,2,2,R,\n3,3,1,S,2\n4,4,2,R,3\n5,5,2,R,\nend,5\n";
-
-const REPORT: &str = "gst,delta,phi,sent,missed,proc,from,to\n\
-    1,5,3,1,5,1,4,5\n2,1,3,,,1,4,5\n5,1,2,,,1,5,5\n";
 
 #[derive(Clone, Copy)]
 enum Passage {
@@ -37,16 +37,16 @@ impl TraceCall for Passage {
             Passage::TraceText2 => is_text_2(alloc, trace),
             Passage::WriteTrace => is_written(alloc, self, trace, NEVER_DELIVERED),
             Passage::WriteTrace2 => is_written(alloc, self, trace, NEVER_DELIVERED_2),
-            Passage::WriteReport => is_written(alloc, self, trace, REPORT),
+            Passage::WriteReport => is_written(alloc, self, trace, NEVER_DELIVERED_REPORT),
         }
     }
 }
 
-// Read in pieces, so that what was read grows again and again.
+/// Read in pieces, so that what was read grows again and again.
 fn is_read(alloc: Global) -> Result<bool, AllocError> {
-    let device = FailingReader::new(REPORT.as_bytes(), 7, AfterBytes::End);
+    let device = FailingReader::new(NEVER_DELIVERED_REPORT.as_bytes(), 7, AfterBytes::End);
     match read_all(alloc, &mut Counting::new(device)) {
-        Ok(text) => Ok(text.as_slice() == REPORT.as_bytes()),
+        Ok(text) => Ok(text.as_slice() == NEVER_DELIVERED_REPORT.as_bytes()),
         Err(TextError::Memory) => Err(AllocError),
         Err(_) => Ok(false),
     }
@@ -54,15 +54,15 @@ fn is_read(alloc: Global) -> Result<bool, AllocError> {
 
 fn is_trace_read(alloc: Global, text: &str, wanted: &Trace) -> Result<bool, AllocError> {
     match read_trace(alloc, text.as_bytes()) {
-        Ok(trace) => Ok(is_same(&trace, wanted)),
+        Ok(trace) => Ok(are_equal(&trace, wanted)),
         Err(TextError::Memory) => Err(AllocError),
         Err(_) => Ok(false),
     }
 }
 
 fn is_report_read(alloc: Global) -> Result<bool, AllocError> {
-    match read_report(alloc, &mut Counting::new(REPORT.as_bytes())) {
-        Ok(rows) => Ok(rows.as_slice() == ROWS),
+    match read_report(alloc, &mut Counting::new(NEVER_DELIVERED_REPORT.as_bytes())) {
+        Ok(rows) => Ok(rows.as_slice() == never_delivered_rows().as_slice()),
         Err(ReportError::Memory) => Err(AllocError),
         Err(_) => Ok(false),
     }
@@ -72,8 +72,8 @@ fn is_text_2(alloc: Global, trace: &Trace) -> Result<bool, AllocError> {
     Ok(trace_text_2_of(alloc, trace)?.as_slice() == NEVER_DELIVERED_2.as_bytes())
 }
 
-// Whether this text is written. Want of memory is answered only where nothing is; the writer has room for all, and takes
-// no memory.
+/// Whether this text is written. Want of memory is answered only where nothing is; the writer has room for all, and
+/// takes no memory.
 fn is_written(
     alloc: Global,
     passage: Passage,
@@ -85,7 +85,7 @@ fn is_written(
     let answer = match passage {
         Passage::WriteTrace => write_trace(alloc, trace, &mut writer),
         Passage::WriteTrace2 => write_trace_2(alloc, trace, &mut writer),
-        _ => write_report(alloc, ROWS, &mut writer),
+        _ => write_report(alloc, &never_delivered_rows(), &mut writer),
     };
     match answer {
         Ok(()) => Ok(has_only(&room, text)),
@@ -94,12 +94,10 @@ fn is_written(
     }
 }
 
-// Whether a room has this text and then no byte.
+/// Whether a room has this text and then no byte.
 fn has_only(room: &[u8], text: &str) -> bool {
-    match room.strip_prefix(text.as_bytes()) {
-        Some(rest) => rest.iter().all(|byte| *byte == 0),
-        None => false,
-    }
+    room.strip_prefix(text.as_bytes())
+        .is_some_and(|rest| rest.iter().all(|byte| *byte == 0))
 }
 
 const PASSAGES: &[(&str, Passage)] = &[

@@ -2,11 +2,14 @@
 
 use crate::lent::{TraceCall, first_wrong_of, first_wrong_of_text};
 use crate::stairs::{is_part, is_reported};
-use crate::worked::{NEVER_DELIVERED, ROWS, TAKEN_TOGETHER, both, is_same, silence};
+use crate::worked::{TAKEN_TOGETHER, silence};
 use bound_witness::gaps;
 use certificate_checker::{ClaimedRows, Verdict, check, check_claimed};
 use std::alloc::{AllocError, Global};
 use step_trace::{Gap, Step, Trace};
+use test_support::stair_levels::never_delivered_rows;
+use test_support::texts::NEVER_DELIVERED;
+use test_support::traces::{are_equal, both};
 
 #[derive(Clone, Copy)]
 enum Look {
@@ -44,14 +47,14 @@ fn is_config_copied(alloc: Global, trace: &Trace) -> Result<bool, AllocError> {
 }
 
 fn is_copied(alloc: Global, trace: &Trace) -> Result<bool, AllocError> {
-    Ok(is_same(&trace.copy(alloc)?, trace))
+    Ok(are_equal(&trace.copy(alloc)?, trace))
 }
 
 fn are_own_steps(alloc: Global, trace: &Trace) -> Result<bool, AllocError> {
     Ok(are_steps(trace, &trace.restrict(alloc, 2)?, &[2, 4, 5]))
 }
 
-// Whether these are the steps of these numbers.
+/// Whether these are the steps of these numbers.
 fn are_steps(trace: &Trace, steps: &[(u64, Step)], numbers: &[u64]) -> bool {
     for (i, (no, step)) in steps.iter().enumerate() {
         let is_step = matches!(trace.step(*no), Some(there) if there.is_same(step));
@@ -62,7 +65,7 @@ fn are_steps(trace: &Trace, steps: &[(u64, Step)], numbers: &[u64]) -> bool {
     steps.len() == numbers.len()
 }
 
-// Whether step 3 takes messages 1 and 2 in tick 3.
+/// Whether step 3 takes messages 1 and 2 in tick 3.
 fn is_placed(trace: &Trace) -> Result<bool, AllocError> {
     match trace.placed(3)? {
         Some((tick, step)) => Ok(tick == 3 && step.act.ids() == [1, 2].as_slice()),
@@ -113,18 +116,18 @@ fn is_certified(alloc: Global, trace: &Trace) -> Result<bool, AllocError> {
     if !set.within(trace.config().n()) {
         return Ok(false);
     }
-    Ok(check(alloc, trace, set, ROWS)? == Verdict::Yes)
+    Ok(check(alloc, trace, set, &never_delivered_rows())? == Verdict::Yes)
 }
 
-// The same where the rows are claimed one after the other.
+/// The same where the rows are claimed one after the other.
 fn is_certified_as_claimed(alloc: Global, trace: &Trace) -> Result<bool, AllocError> {
     let set = both();
     if !set.within(trace.config().n()) {
         return Ok(false);
     }
     let mut claimed = ClaimedRows::new(alloc);
-    for row in ROWS {
-        claimed = claimed.with(trace.last_tick(), *row)?;
+    for row in never_delivered_rows() {
+        claimed = claimed.with(trace.last_tick(), row)?;
     }
     Ok(check_claimed(alloc, trace, set, &claimed)? == Verdict::Yes)
 }
@@ -146,7 +149,7 @@ fn looks_at_a_trace(rt: HostRuntime) {
     assert!(rt; wrong.is_none(), "{wrong:?}");
 }
 
-// One id takes no memory of its own, so these look at a step that takes two.
+/// One id takes no memory of its own, so these look at a step that takes two.
 const STEP_LOOKS: &[(&str, Look)] = &[
     ("Trace::placed", Look::Placed),
     ("Step::clone", Look::CopyOfStep),
@@ -160,7 +163,7 @@ fn looks_at_a_step(rt: HostRuntime) {
 
 const COPY: &[(&str, Look)] = &[("Trace::copy", Look::Copy)];
 
-// The first growth of a copy of so many steps of which the outcome was wrong, if there was one.
+/// The first growth of a copy of so many steps of which the outcome was wrong, if there was one.
 fn first_wrong_copy(alloc: Global, count: u64) -> Option<(&'static str, usize)> {
     match silence(alloc, count) {
         Some(trace) => first_wrong_of(alloc, &trace, COPY),
@@ -168,7 +171,7 @@ fn first_wrong_copy(alloc: Global, count: u64) -> Option<(&'static str, usize)> 
     }
 }
 
-// A page has 256 steps.
+/// A page has 256 steps.
 #[test]
 fn copies_of_pages(rt: HostRuntime) {
     for count in [255, 256, 257] {

@@ -1,15 +1,17 @@
 //! Stairs that are found by workers, each in a thread of its own.
 
 use crate::levels::{LEVELS, has_levels};
-use crate::worked::{NEVER_DELIVERED, both, trace_of};
+use crate::worked::trace_of;
 use chunk_join::{AnalyseError, analyse};
 use refused_growths::{Outcome, Refusal, judged};
 use std::alloc::Global;
 use std::sync::Wait;
 use std::thread::Threads;
 use step_trace::{OpenGate, Trace};
+use test_support::texts::NEVER_DELIVERED;
+use test_support::traces::both;
 
-// Whether so many workers find the levels of never-delivered, or why they found nothing.
+/// Whether so many workers find the levels of never-delivered, or why they found nothing.
 fn find<R: Threads + Wait + Sync>(
     rt: &R,
     alloc: Global,
@@ -24,7 +26,7 @@ fn find<R: Threads + Wait + Sync>(
     Ok(has_levels(&stairs, LEVELS))
 }
 
-// A thread takes memory to be started, so where memory is refused it may not be started.
+/// A thread takes memory to be started, so where memory is refused it may not be started.
 fn found<R: Threads + Wait + Sync>(
     rt: &R,
     alloc: Global,
@@ -44,10 +46,10 @@ fn found<R: Threads + Wait + Sync>(
     )
 }
 
-// More growths than so many workers make.
+/// More growths than so many workers make.
 const MOST_GROWTHS: usize = 1_000;
 
-// The first growth of which the outcome was wrong, if there was one.
+/// The first growth of which the outcome was wrong, if there was one.
 fn first_wrong<R: Threads + Wait + Sync>(rt: &R, alloc: Global, workers: u64) -> Option<usize> {
     let Ok(trace) = trace_of(alloc, NEVER_DELIVERED) else {
         return Some(0);
