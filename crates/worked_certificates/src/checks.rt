@@ -1,30 +1,10 @@
-//! Checks of rows that are written as in a report: `gst,delta,phi,sent,missed,proc,from,to`, where 0 stands for a
-//! witness that isn't there.
+//! Checks of rows that are written as numbers.
 
-use certificate_checker::{ClaimedRows, Gap, Miss, Row, Verdict, check, check_claimed};
+use certificate_checker::{ClaimedRows, Verdict, check, check_claimed};
 use std::alloc::Global;
 use std::test::Fail;
-use step_trace::{ProcSet, Trace};
-
-/// The row that is so written.
-pub(crate) fn row_of(fields: [u64; 8]) -> Row {
-    let [gst, delta, phi, sent, missed, proc, from, to] = fields;
-    Row {
-        gst,
-        delta,
-        phi,
-        miss: if sent == 0 {
-            None
-        } else {
-            Some(Miss { sent, missed })
-        },
-        gap: if proc == 0 {
-            None
-        } else {
-            Some(Gap { proc, from, to })
-        },
-    }
-}
+use step_trace::{ProcSet, Row, Trace};
+use test_support::stair_levels::row_of;
 
 /// Whether the check of these rows, at once and where they are claimed one after the other, gives this verdict where
 /// the processors of a list are correct.
@@ -55,7 +35,7 @@ fn rows_of(alloc: Global, rows: &[[u64; 8]]) -> Result<Vec<Row>, Fail> {
     Ok(list)
 }
 
-// These rows, claimed one after the other of a trace with this last tick.
+/// These rows, claimed one after the other of a trace with this last tick.
 fn claimed_of(alloc: Global, last: u64, rows: &[[u64; 8]]) -> Result<ClaimedRows, Fail> {
     let mut claimed = ClaimedRows::new(alloc);
     for fields in rows {

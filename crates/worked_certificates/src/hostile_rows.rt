@@ -11,7 +11,7 @@ const TOP: u64 = u64::MAX;
 
 const SELF_SEND: [(u64, u64, &[u64]); 2] = [(1, 1, &[]), (2, 0, &[])];
 
-// Whether this one row of a trace of two steps is refused for this reason.
+/// Whether this one row of a trace of two steps is refused for this reason.
 fn refuses(alloc: Global, row: [u64; 8], why: Reason) -> Result<bool, Fail> {
     let trace = trace_of(alloc, 2, &SELF_SEND)?;
     says(alloc, &trace, "1,2", &[row], Verdict::No(why))
@@ -53,7 +53,7 @@ fn refused_rows(rt: HostRuntime) -> Result<(), Fail> {
 
 const FAR: [u64; 8] = [1, TOP, TOP, 0, 0, 0, 0, 0];
 
-// The two ticks have rows beyond them; a row that doesn't rise decides even after these.
+/// The two ticks have rows beyond them; a row that doesn't rise decides even after these.
 const BEYOND: &[(&[[u64; 8]], Reason)] = &[
     (&[FAR, [TOP, TOP, 1, 0, 0, 0, 0, 0]], Reason::BeyondEnd(2)),
     (
@@ -88,7 +88,7 @@ fn rows_beyond_the_end(rt: HostRuntime) -> Result<(), Fail> {
     Ok(())
 }
 
-// Processor 1 alone steps, 300 times.
+/// Processor 1 alone steps, 300 times.
 fn lone_steps(alloc: Global) -> Result<Trace, Fail> {
     let mut trace = empty_trace(alloc, 2)?;
     for _ in 0..300 {
@@ -105,7 +105,7 @@ fn lone_rows(alloc: Global) -> Result<Vec<[u64; 8]>, AllocError> {
     Ok(rows)
 }
 
-// Each tick is a row of its own, where one processor alone steps.
+/// Each tick is a row of its own, where one processor alone steps.
 #[test]
 fn as_many_rows_as_ticks(rt: HostRuntime) -> Result<(), Fail> {
     let trace = lone_steps(rt.alloc())?;

@@ -4,13 +4,13 @@ use crate::checks::says;
 use certificate_checker::{Gap, Reason, Verdict};
 use std::alloc::Global;
 use std::test::Fail;
-use test_support::traces::ticked;
+use test_support::traces::{TickedSteps, ticked};
 
-// A Receive in the tick of a Send.
-const AT_ONCE: &[(u64, u64, u64, &[u64])] = &[(1, 1, 2, &[]), (1, 2, 0, &[])];
+/// A Receive in the tick of a Send.
+const AT_ONCE: TickedSteps = &[(1, 1, 2, &[]), (1, 2, 0, &[])];
 
-// Processor 1 steps in ticks 2, 3 and 6, processor 2 in ticks 2 and 6.
-const SILENT_IN_TURN: &[(u64, u64, u64, &[u64])] = &[
+/// Processor 1 steps in ticks 2, 3 and 6, processor 2 in ticks 2 and 6.
+const SILENT_IN_TURN: TickedSteps = &[
     (2, 1, 0, &[]),
     (2, 2, 0, &[]),
     (3, 1, 0, &[]),
@@ -19,7 +19,7 @@ const SILENT_IN_TURN: &[(u64, u64, u64, &[u64])] = &[
 ];
 
 /// Steps, the last tick, the correct processors, rows, and the verdict.
-const CHECKS: &[(&[(u64, u64, u64, &[u64])], u64, &str, &[[u64; 8]], Verdict)] = &[
+const CHECKS: &[(TickedSteps, u64, &str, &[[u64; 8]], Verdict)] = &[
     // A miss is sent in its Send's tick, and not at its Send's number.
     (
         &[(2, 1, 2, &[]), (3, 2, 0, &[]), (4, 2, 0, &[1])],

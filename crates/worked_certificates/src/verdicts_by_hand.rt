@@ -3,27 +3,7 @@
 use crate::checks::says;
 use certificate_checker::{Gap, Miss, Reason, Verdict};
 use std::test::Fail;
-use test_support::traces::trace_of;
-
-type Steps<'a> = &'a [(u64, u64, &'a [u64])];
-
-const ONE_MISS: Steps<'static> = &[(1, 2, &[]), (2, 0, &[]), (2, 0, &[1])];
-
-const NEVER_DELIVERED: Steps<'static> = &[
-    (1, 2, &[]),
-    (2, 0, &[]),
-    (1, 2, &[]),
-    (2, 0, &[3]),
-    (2, 0, &[]),
-];
-
-const TWO_MISSES: Steps<'static> = &[
-    (1, 2, &[]),
-    (1, 2, &[]),
-    (2, 0, &[]),
-    (2, 0, &[1]),
-    (2, 0, &[2]),
-];
+use test_support::traces::{NEVER_DELIVERED, ONE_MISS, Steps, TWO_MISSES, trace_of};
 
 const FIRST: [u64; 8] = [1, 5, 3, 1, 5, 1, 4, 5];
 
