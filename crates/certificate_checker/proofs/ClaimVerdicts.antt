@@ -17,7 +17,7 @@ use Rattle.certificate_checker.specs.Certificates.{row_at}
 use Rattle.certificate_checker.specs.Claims.{claimed, count_of, last_gst, next_beyond, next_in_order, risen, with_row, with_rows}
 use Rattle.certificate_checker.specs.Searches.{IsFirst, IsFirstReason}
 use Rattle.certificate_checker.specs.Verdicts.{HasRow, HasTwoRows, IsVerdict}
-use Rattle.certificate_checker.proofs.ListEnds.{slice_get-push, slice_get-push-kept, slice_get-push-new}
+use Rattle.step_trace.proofs.StepPositions.{slice_get-push_cases, slice_get-push_old, slice_get-last}
 use Rattle.certificate_checker.proofs.ReasonOrder.{first_after, first_in, none_in, some_rows, verdict_some}
 use Rattle.certificate_checker.proofs.RowSearches.{no_row, row_at_next, row_at_within}
 
@@ -53,17 +53,17 @@ Tells last (Refuted why count) rows = (count ≡ length rows) × (1 ≤ count) �
 -- a row of rows with one more is one of them, or the new one
 row_at-push : (rows : List Row) (new x : Row) (k : ℕ) → row_at (rows ++ new ∷ []) k ≡ Some x → (row_at rows k ≡ Some x) ⊎ ((k ≡ length rows + 1) × (new ≡ x))
 row_at-push rows new x zero e = absurd (none-some x e)
-row_at-push rows new x (suc k) e = elim (slice_get-push rows new x k e) [
+row_at-push rows new x (suc k) e = elim (slice_get-push_cases rows new x k e) [
   | inl h ↦ inl h
   | inr h ↦ (let at = h.0 in inr (omega (arith, at), h.1))
 ]
 
 row_at-push-kept : (rows : List Row) (new x : Row) (k : ℕ) → row_at rows k ≡ Some x → row_at (rows ++ new ∷ []) k ≡ Some x
 row_at-push-kept rows new x zero e = absurd (none-some x e)
-row_at-push-kept rows new x (suc k) e = slice_get-push-kept rows new x k e
+row_at-push-kept rows new x (suc k) e = slice_get-push_old rows new x k e
 
 row_at-push-new : (rows : List Row) (new : Row) → row_at (rows ++ new ∷ []) (length rows + 1) ≡ Some new
-row_at-push-new rows new = let e : length rows + 1 ≡ suc (length rows) = omega arith in rw e (slice_get-push-new rows new)
+row_at-push-new rows new = let e : length rows + 1 ≡ suc (length rows) = omega arith in rw e (slice_get-last rows new)
 
 -- the stabilization time of the last row
 last_gst-at : (rows : List Row) (r : Row) → row_at rows (length rows) ≡ Some r → last_gst rows ≡ r.gst

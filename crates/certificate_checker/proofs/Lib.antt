@@ -1,4 +1,3 @@
-pub mod ListEnds
 pub mod RowSearches
 pub mod ReasonOrder
 pub mod StepFacts

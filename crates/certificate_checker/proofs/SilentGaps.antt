@@ -10,7 +10,7 @@ use Rattle.step_trace.specs.Traces.{Recorded}
 use Rattle.step_trace.specs.Witnesses.{IsGap}
 use Rattle.certificate_checker.specs.declared.silences.Silence.{Silence}
 use Rattle.certificate_checker.specs.Silences.{IsNextStep, IsSilence, AreSilences}
-use Rattle.certificate_checker.proofs.ListEnds.{slice_get-push}
+use Rattle.step_trace.proofs.StepPositions.{slice_get-push_cases}
 
 -- the silence of a member, where it is read
 pub silence_of : (set : ℕ) (t : Recorded) (silences : List Silence) (p : ℕ) (s : Silence) → AreSilences set t silences → IsTrue (has_proc set p) → p ≤ t.config.n → s ≡ get_or silences p s → IsSilence t p s
@@ -22,7 +22,7 @@ pushed_long list new s p e long = ap (λ (xs : List Silence). length xs) e ∙ l
 
 pub pushed_each : (Holds : ℕ → Silence → Type 0) (list new : List Silence) (s : Silence) (p : ℕ) → new ≡ list ++ s ∷ [] → length list ≡ p → ((q : ℕ) (x : Silence) → slice_get list q ≡ Some x → Holds q x) → Holds p s
     → (q : ℕ) (x : Silence) → slice_get new q ≡ Some x → Holds q x
-pushed_each Holds list new s p e long each here q x h = elim (slice_get-push list s x q (subst (λ (xs : List Silence). slice_get xs q ≡ Some x) e h)) [
+pushed_each Holds list new s p e long each here q x h = elim (slice_get-push_cases list s x q (subst (λ (xs : List Silence). slice_get xs q ≡ Some x) e h)) [
   | inl old ↦ each q x old
   | inr last ↦ subst (λ (m : ℕ). Holds m x) (sym (last.0 ∙ long)) (subst (λ (y : Silence). Holds p y) last.1 here)
 ]

@@ -1,11 +1,10 @@
 -- A buffer with one step more: without the messages that the step takes, and with the one that it sends there.
-use Rattle.std.proofs.Common.{ℕ, suc, ◌≡◌, ◌≢◌, ◌+◌, ◌<◌, ◌≤◌, List, [], ◌∷◌, ◌++◌, length, filter, Option, Some, None, Bool, true, false, cond, not, ◌&&◌, ◌||◌, ◌==◌, refl, sym, ap, ◌∙◌, subst, arith, eq-eqb}
+use Rattle.std.proofs.Common.{ℕ, suc, ◌≡◌, ◌≢◌, ◌+◌, ◌<◌, ◌≤◌, List, [], ◌∷◌, ◌++◌, length, filter, Bool, true, false, cond, not, ◌&&◌, ◌||◌, ◌==◌, refl, sym, ap, ◌∙◌, subst, arith, eq-eqb}
 use Rattle.std.specs.Prelude.{Contains}
-use Rattle.std.specs.Option.{option_map_or}
 use Rattle.std.specs.List.{list_any, range_with_len}
 use Rattle.std.specs.List.Sorted.{IsStrictlyIncreasing}
 use Rattle.std.proofs.Math.Bool.{and-true, or-false}
-use Rattle.std.proofs.lemmas.Bool.{eqb-true, ne_eqb}
+use Rattle.std.proofs.lemmas.Bool.{ne_eqb}
 use Rattle.std.proofs.lemmas.Option.{same_Some}
 use Rattle.std.proofs.lemmas.List.{length-append, append-nil}
 use Rattle.std.proofs.lemmas.List.Elements.{filter-append}
@@ -28,6 +27,7 @@ use Rattle.step_buffers.specs.NextSteps.{sending, receiving}
 use Rattle.step_buffers.proofs.StepPrefixes.{step_at-prefix, IsWellFormed-prefix}
 use Rattle.step_buffers.proofs.RemovedIds.{filter-agree, filter-all, Contains-from_is_in}
 use Rattle.step_trace.proofs.FittingSteps.{Fits-from_well_formed}
+use Rattle.step_trace.proofs.Refusals.{sent_from}
 
 -- two filters one after the other
 filter-twice : (f g : ℕ → Bool) (xs : List ℕ) → filter (λ x. f x && g x) xs ≡ filter g (filter f xs)
@@ -126,14 +126,6 @@ pub record IsWaiting (steps : List Step) (p s : ℕ) : Type 0 where
   pub sender : ℕ
   pub sent : IsSend steps sender p s
   pub fresh : is_taken steps s ≡ false
-
-sent_from : (o : Option Step) (p : ℕ) → option_map_or (λ x. act_sends_to x.act p) o false ≡ true → (a : ℕ) × (o ≡ Some (record { proc = a; act = Send p }))
-sent_from None p h = absurd (let e : false ≡ true = h in cc)
-sent_from (Some x) p h = (x.proc, ap (λ (a : Act). let y : Step = record { proc = x.proc; act = a } in Some y) (send_from x.act h))
-  where
-    send_from : (a : Act) → act_sends_to a p ≡ true → a ≡ Send p
-    send_from (Send to) e = ap (λ (q : ℕ). Send q) (eqb-true to p e)
-    send_from (Receive ends ids) e = cc
 
 pub IsWaiting-from_buffer : (steps : List Step) (p s : ℕ) → Contains (buffer steps p) s → IsWaiting steps p s
 IsWaiting-from_buffer steps p s d = go (is_sent_to steps s p) (is_taken steps s) refl refl (Contains-from_filter (λ i. waits_for steps p i) (numbers steps) s d).1

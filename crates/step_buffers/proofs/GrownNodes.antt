@@ -9,12 +9,13 @@ use Rattle.step_trace.specs.declared.steps.Step.{Step}
 use Rattle.round_model.proofs.ProcessorRanges.{range_with_len-more}
 use Rattle.step_buffers.specs.HeardTables.{is_sent_in, passed, before, round_at, act_ends, heard_table}
 use Rattle.step_buffers.specs.Runs.{sent_before, next_destination, IsDue, IsRun, node_at, body_of, destinations}
-use Rattle.step_buffers.proofs.HeardSenders.{IsSentIn-from_test, is_sent_in-from_send, same_tests, IsSentIn-longer, IsSentIn-prefix, state_after-prefix, and_both, IsHeard-from_table}
+use Rattle.step_buffers.proofs.HeardSenders.{IsSentIn-from_test, is_sent_in-from_send, same_tests, IsSentIn-longer, IsSentIn-prefix, state_after-prefix, IsHeard-from_table}
 use Rattle.step_trace.specs.Configurations.{Setup}
 use Rattle.step_trace.specs.Traces.{step_at, IsWellFormed}
 use Rattle.step_trace.proofs.StepPositions.{step_at_within, step_at-push_cases}
 use Rattle.step_buffers.proofs.StepPrefixes.{step_at-prefix_old, before-prefix, passed-before, IsWellFormed-prefix, passed-append, round_at-prefix}
 use Rattle.std.proofs.lemmas.List.{length-append}
+use Rattle.std.proofs.lemmas.Bool.{and_from}
 use Rattle.std.proofs.Math.Seq.{take-length}
 use Rattle.lock_phases.specs.NodeFunctions.{out, next}
 use Rattle.round_model.specs.RoundStates.{messages_heard, state_after}
@@ -103,7 +104,7 @@ passed-within steps p = count_by-le-length (λ (x : Step). x.proc == p && act_en
 pub passed-ends : (steps : List Step) (x : Step) → act_ends x.act ≡ true → passed (steps ++ x ∷ []) x.proc ≡ suc (passed steps x.proc)
 passed-ends steps x ends =
     let all = passed-append steps (x ∷ []) x.proc in
-    let one : passed (x ∷ []) x.proc ≡ 1 = passed-one x x.proc ∙ ap (λ b. cond {A = ℕ} b 1 0) (and_both (x.proc == x.proc) (act_ends x.act) (eq-eqb x.proc x.proc refl) ends) in
+    let one : passed (x ∷ []) x.proc ≡ 1 = passed-one x x.proc ∙ ap (λ b. cond {A = ℕ} b 1 0) (and_from (x.proc == x.proc) (act_ends x.act) (eq-eqb x.proc x.proc refl) ends) in
     omega arith
 
 -- any other step, and the step of another

@@ -4,7 +4,7 @@ use Rattle.std.proofs.Common.{ℕ, ◌≡◌, ◌+◌, ◌-◌, ◌≤◌, List,
 use Rattle.std.specs.Prelude.{Contains, nat_le}
 use Rattle.std.specs.List.{list_any}
 use Rattle.std.specs.Option.{option_map_or}
-use Rattle.std.proofs.lemmas.Bool.{eqb-true, leb-true, le-leb, and_parts, cases_lt}
+use Rattle.std.proofs.lemmas.Bool.{eqb-true, leb-true, le-leb, and_parts, and_from, cases_lt}
 use Rattle.std.proofs.lemmas.List.FromFn.{length-range_with_len, get_or-range_with_len}
 use Rattle.step_trace.specs.declared.steps.Step.{Step}
 use Rattle.step_trace.specs.Steps.{act_ids, act_sends}
@@ -33,9 +33,6 @@ IsStepWith-from_test test steps k h = go (step_at steps k) refl h
 test-from_step : (test : Step → Bool) (steps : List Step) (k : ℕ) (x : Step) → step_at steps k ≡ Some x → test x ≡ true → option_map_or test (step_at steps k) false ≡ true
 test-from_step test steps k x e t = rw e t
 
-pub and_both : (a b : Bool) → a ≡ true → b ≡ true → (a && b) ≡ true
-and_both a b h l = rw (h, l) refl
-
 -- s is a message that q sent in its round r
 pub record IsSentIn (steps : List Step) (q r s : ℕ) : Type 0 where
   pub round : round_at steps q s ≡ r
@@ -59,10 +56,10 @@ IsSentIn-from_test steps q r s h =
 
 pub is_sent_in-from_send : (steps : List Step) (q r s : ℕ) → IsSentIn steps q r s → is_sent_in steps q r s ≡ true
 is_sent_in-from_send steps q r s is =
-    and_both (round_at steps q s == r) (option_map_or (λ x. x.proc == q && act_sends x.act) (step_at steps s) false)
+    and_from (round_at steps q s == r) (option_map_or (λ x. x.proc == q && act_sends x.act) (step_at steps s) false)
     (eq-eqb (round_at steps q s) r is.round)
     (test-from_step (λ x. x.proc == q && act_sends x.act) steps s is.step is.stands
-    (and_both (is.step.proc == q) (act_sends is.step.act) (eq-eqb is.step.proc q is.sender) is.sends))
+    (and_from (is.step.proc == q) (act_sends is.step.act) (eq-eqb is.step.proc q is.sender) is.sends))
 
 -- a step of p took message s
 pub record IsTakenBy (steps : List Step) (p s : ℕ) : Type 0 where
@@ -111,13 +108,13 @@ heard_table-from_heard steps p r q is =
     let t = is.take in
     let takes : Step → Bool = λ x. x.proc == p && list_any (λ s. is_sent_in steps q r s) (act_ids x.act) in
     let within = step_at_within steps t.place t.step t.stands in
-    and_both (nat_le r (passed steps p)) (list_any (λ k. hears_at steps p r q k) (numbers steps))
+    and_from (nat_le r (passed steps p)) (list_any (λ k. hears_at steps p r q k) (numbers steps))
     (le-leb r (passed steps p) is.over)
     (list_any-at (λ k. hears_at steps p r q k) (numbers steps) t.place (Contains-numbers steps t.place (omega arith) within.1)
-    (and_both (nat_le (round_at steps p t.place) r) (option_map_or takes (step_at steps t.place) false)
+    (and_from (nat_le (round_at steps p t.place) r) (option_map_or takes (step_at steps t.place) false)
     (le-leb (round_at steps p t.place) r is.in_time)
     (test-from_step takes steps t.place t.step t.stands
-    (and_both (t.step.proc == p) (list_any (λ s. is_sent_in steps q r s) (act_ids t.step.act))
+    (and_from (t.step.proc == p) (list_any (λ s. is_sent_in steps q r s) (act_ids t.step.act))
     (eq-eqb t.step.proc p t.taker)
     (list_any-at (λ s. is_sent_in steps q r s) (act_ids t.step.act) is.message t.taken (is_sent_in-from_send steps q r is.message is.sent))))))
 
@@ -126,24 +123,22 @@ same_tests true b f g = sym (f refl)
 same_tests false true f g = g refl
 same_tests false false f g = refl
 
--- a message of a prefix
-pub IsSentIn-longer : (steps more : List Step) (q r s : ℕ) → s ≤ length steps → IsSentIn steps q r s → IsSentIn (steps ++ more) q r s
-IsSentIn-longer steps more q r s l is = record {
-  round = round_at-prefix steps more q s (omega arith) ∙ is.round;
+-- a message of a prefix, and of the whole
+IsSentIn-same : (steps other : List Step) (q r s : ℕ) → round_at other q s ≡ round_at steps q s → step_at other s ≡ step_at steps s → IsSentIn steps q r s → IsSentIn other q r s
+IsSentIn-same steps other q r s round step is = record {
+  round = round ∙ is.round;
   step = is.step;
-  stands = step_at-prefix steps more s l ∙ is.stands;
+  stands = step ∙ is.stands;
   sender = is.sender;
   sends = is.sends;
 }
 
+pub IsSentIn-longer : (steps more : List Step) (q r s : ℕ) → s ≤ length steps → IsSentIn steps q r s → IsSentIn (steps ++ more) q r s
+IsSentIn-longer steps more q r s l = IsSentIn-same steps (steps ++ more) q r s (round_at-prefix steps more q s (omega arith)) (step_at-prefix steps more s l)
+
 pub IsSentIn-prefix : (steps more : List Step) (q r s : ℕ) → s ≤ length steps → IsSentIn (steps ++ more) q r s → IsSentIn steps q r s
-IsSentIn-prefix steps more q r s l is = record {
-  round = sym (round_at-prefix steps more q s (omega arith)) ∙ is.round;
-  step = is.step;
-  stands = sym (step_at-prefix steps more s l) ∙ is.stands;
-  sender = is.sender;
-  sends = is.sends;
-}
+IsSentIn-prefix steps more q r s l =
+    IsSentIn-same (steps ++ more) steps q r s (sym (round_at-prefix steps more q s (omega arith))) (sym (step_at-prefix steps more s l))
 
 -- what was heard stays heard
 IsHeard-longer : (c : Setup) (steps more : List Step) (p r q : ℕ) → IsWellFormed c steps → IsHeard steps p r q → IsHeard (steps ++ more) p r q

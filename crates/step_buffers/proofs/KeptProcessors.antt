@@ -6,7 +6,7 @@ use Rattle.step_trace.specs.declared.steps.Act.TheVariants.{Send}
 use Rattle.step_trace.specs.declared.steps.Step.{Step}
 use Rattle.step_trace.specs.Configurations.{Setup, IsProc}
 use Rattle.step_trace.specs.Traces.{step_at, Recorded, IsWellFormed}
-use Rattle.step_trace.proofs.StepPositions.{step_at_within}
+use Rattle.step_trace.proofs.StepPositions.{step_at_within, slice_get-push_cases}
 use Rattle.lock_phases.specs.Nodes.{opening, State}
 use Rattle.round_model.specs.RoundStates.{initial_value}
 use Rattle.round_model.proofs.RoundEquations.{state_after-opening}
@@ -59,19 +59,12 @@ IsProcessor-opening c p x is = record {
     node : x.node ≡ node_at c [] p
     node = is.node ∙ sym (state_after-opening c (heard_table []) p)
 
--- what stands in a list with one more at its end
-pub slice_get-push : {X : Type 0} (xs : List X) (x y : X) (k : ℕ) → slice_get (xs ++ x ∷ []) k ≡ Some y → (slice_get xs k ≡ Some y) ⊎ ((k ≡ length xs) × (x ≡ y))
-slice_get-push [] x y zero h = inr (refl, same_Some x y h)
-slice_get-push [] x y (suc k) h = absurd (none-some y h)
-slice_get-push (z ∷ xs) x y zero h = inl h
-slice_get-push (z ∷ xs) x y (suc k) h = elim (slice_get-push xs x y k h) [ inl e ↦ inl e | inr e ↦ inr (ap suc e.0, e.1) ]
-
 -- one more of them
 abbrev pub AreOpening : Setup → List Processor → Type 0
 AreOpening c kept = (k : ℕ) (x : Processor) → slice_get kept k ≡ Some x → IsOpening c (suc k) x
 
 pub AreOpening-push : (c : Setup) (kept : List Processor) (y : Processor) → AreOpening c kept → IsOpening c (suc (length kept)) y → AreOpening c (kept ++ y ∷ [])
-AreOpening-push c kept y are is k x h = elim (slice_get-push kept y x k h) [
+AreOpening-push c kept y are is k x h = elim (slice_get-push_cases kept y x k h) [
   | inl e ↦ are k x e
   | inr e ↦ subst (λ n. IsOpening c (suc n) x) (sym e.0) (subst (IsOpening c (suc (length kept))) e.1 is)
 ]
@@ -127,7 +120,7 @@ abbrev pub AreCopied : List Processor → List Processor → Type 0
 AreCopied kept copies = (k : ℕ) (y : Processor) → slice_get copies k ≡ Some y → (x : Processor) × (slice_get kept k ≡ Some x) × Serves x y
 
 pub AreCopied-push : (kept copies : List Processor) (x y : Processor) → AreCopied kept copies → slice_get kept (length copies) ≡ Some x → Serves x y → AreCopied kept (copies ++ y ∷ [])
-AreCopied-push kept copies x y are at serves k z h = elim (slice_get-push copies y z k h) [
+AreCopied-push kept copies x y are at serves k z h = elim (slice_get-push_cases copies y z k h) [
   | inl e ↦ are k z e
   | inr e ↦ (x, ap (slice_get kept) e.0 ∙ at, subst (Serves x) e.1 serves)
 ]

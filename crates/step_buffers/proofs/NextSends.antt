@@ -28,6 +28,7 @@ use Rattle.step_trace.specs.Traces.{IsWellFormed}
 use Rattle.step_trace.specs.PushRefusals.{refusal}
 use Rattle.step_trace.proofs.StepPositions.{step_at_last, step_at_within}
 use Rattle.step_trace.proofs.FittingSteps.{none_from_Fits}
+use Rattle.step_trace.proofs.NamedReasons.{found}
 use Rattle.round_model.proofs.HeardMessages.{IsProc-from_processors}
 use Rattle.step_buffers.specs.HeardTables.{act_ends, passed, round_at, is_sent_in}
 use Rattle.step_buffers.specs.Moves.{next_send}
@@ -125,15 +126,6 @@ pub destination_after-none : (c : Setup) (node : State) (p round last : ℕ) →
 destination_after-none c node p round last none =
     find-none (λ t. nat_lt last t && is_some (out c node p round t)) 1 c.n (λ t b h. unsent c node p round last t (λ m. none t m (omega arith)))
 
--- what is found passes the test
-find-passes : (test : ℕ → Bool) (xs : List ℕ) (x : ℕ) → find test xs ≡ Some x → test x ≡ true
-find-passes test [] x h = cc
-find-passes test (y ∷ ys) x h = go (test y) refl h (find-passes test ys x)
-  where
-    go : (b : Bool) → test y ≡ b → cond b (Some y) (find test ys) ≡ Some x → (find test ys ≡ Some x → test x ≡ true) → test x ≡ true
-    go true e f rest = subst (λ z. test z ≡ true) (same_Some y x f) e
-    go false e f rest = rest f
-
 present : (o : Option Body) → is_some o ≡ true → IsSome o
 present (Some x) h = refl
 present None h = cc
@@ -141,7 +133,7 @@ present None h = cc
 -- so there is something to send to the next destination
 pub destination_after-sends : (c : Setup) (node : State) (p round last to : ℕ) → destination_after c node p round last ≡ Some to → IsSome (out c node p round to)
 destination_after-sends c node p round last to h =
-    present (out c node p round to) (and_parts (nat_lt last to) (is_some (out c node p round to)) (find-passes (λ t. nat_lt last t && is_some (out c node p round t)) (processors c) to h)).1
+    present (out c node p round to) (and_parts (nat_lt last to) (is_some (out c node p round to)) (found (λ t. nat_lt last t && is_some (out c node p round t)) (processors c) to (IsStrictlyIncreasing-range_with_len 1 c.n) h).passes).1
 
 -- in the rounds of lists and of acknowledgements nobody but the owner is sent anything
 pub sent-to_owner : (c : Setup) (s : State) (me round to : ℕ) → (part_of round ≡ 1) ⊎ (part_of round ≡ 3) → to ≢ owner c.n (phase_of round)

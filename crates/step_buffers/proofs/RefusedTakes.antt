@@ -1,21 +1,20 @@
 -- What a Receive takes out of a buffer, where nothing is against it: ids that rise, of messages that wait; and the
 -- message that it is refused for.
-use Rattle.std.proofs.Common.{ℕ, zero, suc, ◌≡◌, ◌+◌, ◌<◌, List, [], ◌∷◌, length, take, Option, Some, None, Bool, true, false, not, cond, ◌&&◌, inl, inr, refl, subst, arith}
-use Rattle.step_trace.proofs.Refusals.{find_all}
-use Rattle.std.proofs.lemmas.List.Elements.{All-contains}
+use Rattle.std.proofs.Common.{ℕ, zero, suc, ◌≡◌, ◌<◌, List, [], ◌∷◌, length, take, Option, Some, None, Bool, true, false, not, cond, ◌&&◌, inl, inr, refl, subst, arith}
+use Rattle.step_trace.proofs.Refusals.{find_all, is_rising-true}
 use Rattle.std.specs.Prelude.{Contains, find, nat_lt, is_some, option_map, is_none}
 use Rattle.std.specs.List.Sorted.{IsStrictlyIncreasing}
-use Rattle.std.proofs.lemmas.Bool.{ltb-true, not-false}
-use Rattle.std.proofs.lemmas.Option.{none-some}
+use Rattle.std.proofs.lemmas.Bool.{not-false}
+use Rattle.std.proofs.lemmas.Option.{none-some, same_Some}
 use Rattle.step_trace.specs.declared.traces.TheConstants.{MAX_STEPS}
 use Rattle.step_trace.specs.declared.steps.Act.TheVariants.{Receive}
 use Rattle.step_trace.specs.declared.steps.Step.{Step}
 use Rattle.step_trace.specs.Configurations.{Setup, IsProc, is_proc}
-use Rattle.step_trace.specs.PushRefusals.{is_rising, is_rising_from, refusal, IsLeastFailing}
+use Rattle.step_trace.specs.PushRefusals.{is_rising, refusal, IsLeastFailing}
 use Rattle.step_trace.proofs.FittingSteps.{none_from_Fits}
 use Rattle.step_trace.proofs.ListMembers.{Contains-nil, Contains-head, Contains-rest, Contains-cons_cases}
 use Rattle.step_buffers.specs.declared.moves.StepError.{StepError}
-use Rattle.step_buffers.specs.declared.moves.StepError.TheVariants.{Full, BadProc, NothingToSend, StillSending, IdsNotRising, NotInBuffer, Memory}
+use Rattle.step_buffers.specs.declared.moves.StepError.TheVariants.{Full, BadProc, NothingToSend, StillSending, IdsNotRising, NotInBuffer}
 use Rattle.step_buffers.specs.declared.moves.Take.{Take}
 use Rattle.step_buffers.specs.declared.moves.Take.TheVariants.{All, Nothing, Oldest, These}
 use Rattle.step_buffers.specs.Runs.{IsDue}
@@ -26,23 +25,6 @@ use Rattle.step_buffers.proofs.BufferSteps.{buffer-rises, IsWaiting-from_buffer}
 use Rattle.step_trace.proofs.NamedReasons.{found, failing}
 use Rattle.step_buffers.specs.declared.moves.Move.{Move}
 use Rattle.step_buffers.specs.declared.moves.Move.TheVariants.{Send as SendMove, Receive as ReceiveMove}
-
--- ids that rise by the test rise
-rising-from_test : (x : ℕ) (xs : List ℕ) → is_rising_from x xs ≡ true → IsStrictlyIncreasing (x ∷ xs)
-rising-from_test x [] h = λ k l. absurd (omega arith)
-rising-from_test x (y ∷ ys) h = go (nat_lt x y) refl h (rising-from_test y ys)
-  where
-    later : x < y → IsStrictlyIncreasing (y ∷ ys) → IsStrictlyIncreasing (x ∷ y ∷ ys)
-    later first rest zero l = first
-    later first rest (suc k) l = let e : suc k + 1 ≡ suc (k + 1) = omega arith in let m : k + 1 < length (y ∷ ys) = omega arith in rw e (rest k m)
-
-    go : (b : Bool) → nat_lt x y ≡ b → (b && is_rising_from y ys) ≡ true → (is_rising_from y ys ≡ true → IsStrictlyIncreasing (y ∷ ys)) → IsStrictlyIncreasing (x ∷ y ∷ ys)
-    go false e f rest = cc
-    go true e f rest = later (ltb-true x y e) (rest f)
-
-rising-from_list : (xs : List ℕ) → is_rising xs ≡ true → IsStrictlyIncreasing xs
-rising-from_list [] h = λ k l. absurd (omega arith)
-rising-from_list (x ∷ xs) h = rising-from_test x xs h
 
 -- the first ones are among all
 Contains-take : (n : ℕ) (xs : List ℕ) (s : ℕ) → Contains (take n xs) s → Contains xs s
@@ -56,8 +38,7 @@ Contains-take (suc n) (x ∷ xs) s d = elim (Contains-cons_cases x s (take n xs)
 -- where none is missing all are there
 none_missing : (waiting ids : List ℕ) (s : ℕ) → find (λ i. not (is_in waiting i)) ids ≡ None → Contains ids s → Contains waiting s
 none_missing waiting ids s h d =
-    let none = All-contains (λ i. not (is_in waiting i) ≡ false) ids s (find_all (λ i. not (is_in waiting i)) ids h) d in
-    Contains-from_is_in waiting s (not-false (is_in waiting s) none)
+    Contains-from_is_in waiting s (not-false (is_in waiting s) (find_all (λ i. not (is_in waiting i)) ids h s d))
 
 -- ids that may be taken out of a buffer: they rise and wait there
 record AreTakeable (waiting ids : List ℕ) : Type 0 where
@@ -72,7 +53,7 @@ AreTakeable-these waiting ids h = go (is_rising ids) refl (find (λ s. not (is_i
         → cond {A = Option StepError} b (option_map (λ s. NotInBuffer s) o) (Some IdsNotRising) ≡ None → AreTakeable waiting ids
     go false e o f h = cc
     go true e (Some s) f h = cc
-    go true e None f h = record { rising = rising-from_list ids e; waits = λ s d. none_missing waiting ids s f d }
+    go true e None f h = record { rising = is_rising-true ids e; waits = λ s d. none_missing waiting ids s f d }
 
 AreTakeable-from_none : (chosen : Take) (waiting : List ℕ) → IsStrictlyIncreasing waiting → take_refusal chosen waiting ≡ None → AreTakeable waiting (taken_ids chosen waiting)
 AreTakeable-from_none All waiting rise h = record { rising = rise; waits = λ s d. d }
@@ -94,27 +75,17 @@ refusal-taken c steps p ends chosen room is h =
       fresh = λ s d. (IsWaiting-from_buffer steps p s (may.waits s d)).fresh;
     })
 
--- want of memory is no reason against taking messages
-take_refusal-not_memory : (chosen : Take) (waiting : List ℕ) → take_refusal chosen waiting ≡ Some Memory → ⊥
-take_refusal-not_memory All waiting h = none-some Memory h
-take_refusal-not_memory Nothing waiting h = none-some Memory h
-take_refusal-not_memory (Oldest n) waiting h = none-some Memory h
-take_refusal-not_memory (These ids) waiting h = go (is_rising ids.now) (find (λ s. not (is_in waiting s)) ids.now) h
-  where
-    go : (b : Bool) (o : Option ℕ) → cond {A = Option StepError} b (option_map (λ s. NotInBuffer s) o) (Some IdsNotRising) ≡ Some Memory → ⊥
-    go false o h = cc
-    go true None h = cc
-    go true (Some s) h = cc
-
--- so a reason against taking them is answered as it is
+-- a reason against taking them is answered as it is, since want of memory is none
 pub IsStepRefusal-take : (chosen : Take) (waiting : List ℕ) (why : StepError) → take_refusal chosen waiting ≡ Some why → IsStepRefusal why (Some why)
-IsStepRefusal-take chosen waiting Full h = refl
-IsStepRefusal-take chosen waiting BadProc h = refl
-IsStepRefusal-take chosen waiting NothingToSend h = refl
-IsStepRefusal-take chosen waiting StillSending h = refl
-IsStepRefusal-take chosen waiting IdsNotRising h = refl
-IsStepRefusal-take chosen waiting (NotInBuffer s) h = refl
-IsStepRefusal-take chosen waiting Memory h = absurd (take_refusal-not_memory chosen waiting h)
+IsStepRefusal-take All waiting why h = absurd (none-some why h)
+IsStepRefusal-take Nothing waiting why h = absurd (none-some why h)
+IsStepRefusal-take (Oldest n) waiting why h = absurd (none-some why h)
+IsStepRefusal-take (These ids) waiting why h = go (is_rising ids.now) (find (λ s. not (is_in waiting s)) ids.now) h
+  where
+    go : (b : Bool) (o : Option ℕ) → cond {A = Option StepError} b (option_map (λ s. NotInBuffer s) o) (Some IdsNotRising) ≡ Some why → IsStepRefusal why (Some why)
+    go false o e = subst (λ (z : StepError). IsStepRefusal z (Some z)) (same_Some IdsNotRising why e) refl
+    go true None e = absurd (none-some why e)
+    go true (Some s) e = subst (λ (z : StepError). IsStepRefusal z (Some z)) (same_Some (NotInBuffer s) why e) refl
 
 -- and it is due where it ends no round too early
 pub IsDue-received : (next : Option ℕ) (ends : Bool) (ids : List ℕ) (other : Option StepError) → cond (ends && is_some next) (Some StillSending) other ≡ None → IsDue next (Receive ends ids)
@@ -125,7 +96,7 @@ IsDue-received (Some to) true ids other h = cc
 -- among ids that are to be taken
 least-these : (waiting ids : List ℕ) (s : ℕ) (rising : Bool) (missing : Option ℕ) → is_rising ids ≡ rising → find (λ i. not (is_in waiting i)) ids ≡ missing
     → cond {A = Option StepError} rising (option_map (λ i. NotInBuffer i) missing) (Some IdsNotRising) ≡ Some (NotInBuffer s) → IsLeastFailing (is_in waiting) ids s
-least-these waiting ids s true (Some i) r f h = failing (is_in waiting) ids s (found _ ids s r (let e : i ≡ s = cc in subst (λ n. find (λ i. not (is_in waiting i)) ids ≡ Some n) e f))
+least-these waiting ids s true (Some i) r f h = failing (is_in waiting) ids s (found _ ids s (is_rising-true ids r) (let e : i ≡ s = cc in subst (λ n. find (λ i. not (is_in waiting i)) ids ≡ Some n) e f))
 least-these waiting ids s true None r f h = cc
 least-these waiting ids s false missing r f h = cc
 

@@ -1,6 +1,6 @@
 -- Rising ids: their parts, and searches of them; ids that are taken out of a rising list, from its front, from its back, or
 -- from between others.
-use Rattle.std.proofs.Common.{ℕ, ◌≡◌, ◌+◌, ◌-◌, ◌<◌, ◌≤◌, ◌⊎◌, inl, inr, suc, List, length, get_or, take, drop, Bool, true, false, ◌==◌, Result, Ok, Err, refl, sym, ◌∙◌, subst, arith, eq-eqb, [], ◌∷◌, ◌++◌, filter, min, not, ◌||◌, ap}
+use Rattle.std.proofs.Common.{ℕ, ◌≡◌, ◌≢◌, ◌+◌, ◌-◌, ◌<◌, ◌≤◌, ◌⊎◌, inl, inr, suc, List, length, get_or, take, drop, Bool, true, false, ◌==◌, Result, Ok, Err, refl, sym, ◌∙◌, subst, arith, eq-eqb, [], ◌∷◌, ◌++◌, filter, min, not, ◌||◌, ap}
 use Rattle.std.specs.Prelude.{MatchResult, Contains}
 use Rattle.std.specs.Result.{is_ok}
 use Rattle.std.specs.List.Sorted.{IsStrictlyIncreasing}
@@ -78,17 +78,17 @@ pub filter-all : (f : ℕ → Bool) (xs : List ℕ) → ((x : ℕ) → Contains 
 filter-all f [] pass = refl
 filter-all f (x ∷ xs) pass = rw (pass x (Contains-head x xs), filter-all f xs (λ y d. pass y (Contains-rest x y xs d))) refl
 
--- what is less than the first of rising ids is none of them
-below-first : (ids : List ℕ) (s : ℕ) → IsStrictlyIncreasing ids → s < get_or ids 0 0 → not (is_in ids s) ≡ true
-below-first ids s rise low = go (is_in ids s) refl
+-- what no element is isn't in a list
+not_in : (ids : List ℕ) (s : ℕ) → ((k : ℕ) → k < length ids → get_or ids k 0 ≢ s) → not (is_in ids s) ≡ true
+not_in ids s other = go (is_in ids s) refl
   where
     go : (b : Bool) → is_in ids s ≡ b → not b ≡ true
     go false e = refl
-    go true e =
-        let d = Contains-from_is_in ids s e in
-        let at : get_or ids d.0 0 ≡ s = sym (get_or_default ids d.0 s 0 d.1) ∙ d.2 in
-        let later = rising-nondecreasing ids rise 0 d.0 (omega arith) d.1 in
-        absurd (omega arith)
+    go true e = let d = Contains-from_is_in ids s e in absurd (other d.0 d.1 (sym (get_or_default ids d.0 s 0 d.1) ∙ d.2))
+
+-- what is less than the first of rising ids is none of them
+below-first : (ids : List ℕ) (s : ℕ) → IsStrictlyIncreasing ids → s < get_or ids 0 0 → not (is_in ids s) ≡ true
+below-first ids s rise low = not_in ids s (λ k l at. let later = rising-nondecreasing ids rise 0 k (omega arith) l in omega arith)
 
 -- the elements of the front of a list that are below a bound
 front-below : (xs : List ℕ) (n bound s : ℕ) → n ≤ length xs → ((k : ℕ) → k < n → get_or xs k 0 < bound) → Contains (take n xs) s → s < bound
@@ -160,16 +160,8 @@ shared-last ids xs n m rise a b same =
 
 -- what is above the last of rising ids is none of them
 above-last : (ids : List ℕ) (s : ℕ) → IsStrictlyIncreasing ids → get_or ids (length ids - 1) 0 < s → not (is_in ids s) ≡ true
-above-last ids s rise high = go (is_in ids s) refl
-  where
-    go : (b : Bool) → is_in ids s ≡ b → not b ≡ true
-    go false e = refl
-    go true e =
-        let d = Contains-from_is_in ids s e in
-        let inside = d.1 in
-        let at : get_or ids d.0 0 ≡ s = sym (get_or_default ids d.0 s 0 d.1) ∙ d.2 in
-        let later = rising-nondecreasing ids rise d.0 (length ids - 1) (omega arith) (omega arith) in
-        absurd (omega arith)
+above-last ids s rise high =
+    not_in ids s (λ k l at. let later = rising-nondecreasing ids rise k (length ids - 1) (omega arith) (omega arith) in omega arith)
 
 -- what is left of a list: what is below the first id taken, what is left up to the last, and what is above it
 pub left-between : (ids xs : List ℕ) (n m : ℕ) → IsStrictlyIncreasing ids → n ≤ length xs → ((k : ℕ) → k < n → get_or xs k 0 < get_or ids 0 0)

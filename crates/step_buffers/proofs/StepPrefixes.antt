@@ -1,24 +1,20 @@
 -- A prefix of a list of steps: what is known of a step of the prefix is known of the same step of the longer list.
 use Rattle.std.proofs.Common.{ℕ, zero, suc, ◌≡◌, ◌+◌, ◌-◌, ◌<◌, ◌≤◌, List, [], ◌∷◌, ◌++◌, length, take, Some, refl, sym, ap, ◌∙◌, arith}
-use Rattle.std.specs.Prelude.{slice_get, cond, ◌==◌, ◌&&◌}
+use Rattle.std.specs.Prelude.{cond, ◌==◌, ◌&&◌}
 use Rattle.std.proofs.lemmas.List.{take-append-le, length-append, length_push}
 use Rattle.std.proofs.lemmas.List.Sums.{sum_by-append, sum_by-take-le}
 use Rattle.std.proofs.Math.Seq.{take-append-add}
 use Rattle.step_trace.specs.declared.steps.Step.{Step}
 use Rattle.step_trace.specs.Configurations.{Setup}
 use Rattle.step_trace.specs.Traces.{step_at, IsSentTo, TakesAt, IsWellFormed}
+use Rattle.step_trace.proofs.PagePlaces.{slice_get-left}
 use Rattle.step_trace.proofs.StepPositions.{step_at_within, step_at_last}
 use Rattle.step_buffers.specs.HeardTables.{act_ends, passed, before, round_at}
-
-slice_get-append : {X : Type 0} (xs ys : List X) (k : ℕ) → k < length xs → slice_get (xs ++ ys) k ≡ slice_get xs k
-slice_get-append [] ys k h = absurd (omega arith)
-slice_get-append (x ∷ xs) ys zero h = refl
-slice_get-append (x ∷ xs) ys (suc k) h = slice_get-append xs ys k (omega arith)
 
 -- a step of a prefix
 pub step_at-prefix : (steps more : List Step) (k : ℕ) → k ≤ length steps → step_at (steps ++ more) k ≡ step_at steps k
 step_at-prefix steps more zero h = refl
-step_at-prefix steps more (suc k) h = slice_get-append steps more k (omega arith)
+step_at-prefix steps more (suc k) h = slice_get-left steps more k (omega arith)
 
 pub step_at-prefix_old : (steps more : List Step) (k : ℕ) (x : Step) → step_at steps k ≡ Some x → step_at (steps ++ more) k ≡ Some x
 step_at-prefix_old steps more k x h = let b = step_at_within steps k x h in step_at-prefix steps more k b.1 ∙ h

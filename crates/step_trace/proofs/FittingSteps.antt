@@ -84,16 +84,17 @@ Fits-from_well_formed c steps x w =
           let same = w.once m.0 (suc (length steps)) s (m.1.0, step_at-push_old steps x m.1.0 m.0 m.1.1, m.1.2) (x, step_at_last steps x, d) in
           absurd (omega (arith, same, within.1))
 
--- no reason stands against an act that has all that is asked of it
-act_refusal-none : (c : Setup) (steps : List Step) (p : ℕ) (a : Act) → IfSome (act_dest a) (IsProc c) → IsStrictlyIncreasing (act_ids a)
-    → ((s : ℕ) → Contains (act_ids a) s → IsSentTo steps s p) → ((s : ℕ) → Contains (act_ids a) s → is_taken steps s ≡ false) → act_refusal c steps p a ≡ None
-act_refusal-none c steps p (Send to) dest rising sent fresh = rw (is_proc-true c to dest) refl
-act_refusal-none c steps p (Receive ends ids) dest rising sent fresh =
-    let known = find-none (λ s. not (is_message steps s)) ids (λ s d. not_from_true _ (is_message-true steps s p (sent s d))) in
-    let addressed = find-none (λ s. not (is_sent_to steps s p)) ids (λ s d. not_from_true _ (is_sent_to-true steps s p (sent s d))) in
-    let untaken = find-none (is_taken steps) ids fresh in
-    rw (is_rising-from_increasing ids rising, known, addressed, untaken) refl
+-- no reason stands against the act of a step that fits, where no message that it takes was sent in its tick
+pub act_refusal-none : (c : Setup) (steps : List Step) (now : ℕ → Bool) (p : ℕ) (a : Act) → Fits c steps (record { proc = p; act = a })
+    → ((s : ℕ) → Contains (act_ids a) s → now s ≡ false) → act_refusal c steps now p a ≡ None
+act_refusal-none c steps now p (Send to) f earlier = rw (is_proc-true c to f.dest) refl
+act_refusal-none c steps now p (Receive ends ids) f earlier =
+    let known = find-none (λ s. not (is_message steps s)) ids (λ s d. not_from_true _ (is_message-true steps s p (f.sent s d))) in
+    let addressed = find-none (λ s. not (is_sent_to steps s p)) ids (λ s d. not_from_true _ (is_sent_to-true steps s p (f.sent s d))) in
+    let before = find-none now ids earlier in
+    let untaken = find-none (is_taken steps) ids f.fresh in
+    rw (is_rising-from_increasing ids f.rising, known, addressed, before, untaken) refl
 
 -- no reason stands against a step that fits
 pub none_from_Fits : (c : Setup) (steps : List Step) (x : Step) → Fits c steps x → refusal c steps x ≡ None
-none_from_Fits c steps x f = rw (true_if (length steps) MAX_STEPS f.room, is_proc-true c x.proc f.proc) (act_refusal-none c steps x.proc x.act f.dest f.rising f.sent f.fresh)
+none_from_Fits c steps x f = rw (true_if (length steps) MAX_STEPS f.room, is_proc-true c x.proc f.proc) (act_refusal-none c steps (λ s. false) x.proc x.act f (λ s d. refl))

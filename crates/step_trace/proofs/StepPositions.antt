@@ -13,14 +13,14 @@ use Rattle.step_trace.specs.Traces.{step_at, TakesAt}
 use Rattle.step_trace.specs.PushRefusals.{is_taken}
 
 -- an element of the longer list is one of the shorter, or the new one
-slice_get-push_cases : {X : Type 0} (xs : List X) (x y : X) (k : ℕ) → slice_get (xs ++ x ∷ []) k ≡ Some y → (slice_get xs k ≡ Some y) ⊎ ((k ≡ length xs) × (x ≡ y))
+pub slice_get-push_cases : {X : Type 0} (xs : List X) (x y : X) (k : ℕ) → slice_get (xs ++ x ∷ []) k ≡ Some y → (slice_get xs k ≡ Some y) ⊎ ((k ≡ length xs) × (x ≡ y))
 slice_get-push_cases [] x y zero h = inr (refl, same_Some x y h)
 slice_get-push_cases [] x y (suc k) h = absurd (none-some y h)
 slice_get-push_cases (z ∷ xs) x y zero h = inl h
 slice_get-push_cases (z ∷ xs) x y (suc k) h = elim (slice_get-push_cases xs x y k h) [ inl e ↦ inl e | inr e ↦ inr (ap suc e.0, e.1) ]
 
 -- an element keeps its place as the list grows
-slice_get-push_old : {X : Type 0} (xs : List X) (x y : X) (k : ℕ) → slice_get xs k ≡ Some y → slice_get (xs ++ x ∷ []) k ≡ Some y
+pub slice_get-push_old : {X : Type 0} (xs : List X) (x y : X) (k : ℕ) → slice_get xs k ≡ Some y → slice_get (xs ++ x ∷ []) k ≡ Some y
 slice_get-push_old [] x y k h = absurd (none-some y h)
 slice_get-push_old (z ∷ xs) x y zero h = h
 slice_get-push_old (z ∷ xs) x y (suc k) h = slice_get-push_old xs x y k h
@@ -50,7 +50,7 @@ taken_from_at steps zero s h = absurd (none-some h.0 h.1)
 taken_from_at steps (suc m) s h = any_passes_from_place (λ x. act_takes x.act s) steps m h.0 h.1 (act_takes-from_Contains h.0.act s h.2)
 
 -- the step that was pushed stands at the next number
-slice_get-last : {X : Type 0} (xs : List X) (x : X) → slice_get (xs ++ x ∷ []) (length xs) ≡ Some x
+pub slice_get-last : {X : Type 0} (xs : List X) (x : X) → slice_get (xs ++ x ∷ []) (length xs) ≡ Some x
 slice_get-last [] x = refl
 slice_get-last (y ∷ xs) x = slice_get-last xs x
 

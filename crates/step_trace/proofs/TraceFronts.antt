@@ -1,18 +1,15 @@
 -- The first steps of a trace: they are a trace, each follows from the one before, and where a trace is cut.
-use Rattle.std.proofs.Common.{ℕ, ◌≡◌, ◌+◌, ◌-◌, ◌<◌, ◌≤◌, inl, inr, Option, None, List, [], ◌∷◌, ◌++◌, length, get_or, take, drop, Some, refl, sym, ap, ◌∙◌, subst, suc, zero, arith}
+use Rattle.std.proofs.Common.{ℕ, ◌≡◌, ◌+◌, ◌-◌, ◌<◌, ◌≤◌, inl, inr, None, List, [], ◌∷◌, ◌++◌, length, get_or, take, drop, Some, refl, sym, ap, ◌∙◌, subst, suc, zero, arith}
 use Rattle.std.specs.Prelude.{slice_get}
 use Rattle.std.proofs.lemmas.Bool.{cases_lt}
 use Rattle.std.proofs.lemmas.List.{take_more, take-append-drop, length-take-le, get_or-take}
 use Rattle.std.proofs.lemmas.Option.{slice_get-get_or, slice_get_within, get_or_from_slice_get, none-some}
 use Rattle.std.proofs.Math.Seq.{take-append_seam}
 use Rattle.step_trace.specs.declared.traces.TheConstants.{MAX_TICKS}
-use Rattle.step_trace.specs.declared.traces.PushError.{PushError}
-use Rattle.step_trace.specs.declared.traces.PushError.TheVariants.{Full, BadTick, BadProc, ProcOrder, BadDest, IdsNotRising, UnknownMessage, NotAddressed, SameTick, Redelivered, Memory}
 use Rattle.step_trace.specs.declared.steps.Step.{Step}
 use Rattle.step_trace.specs.Traces.{Recorded, step_at, TakesAt, IsWellFormed}
 use Rattle.step_trace.specs.Ticks.{tick_at, tick_of, ComesBefore, IsTimed, IsTrace, with_step, CanAppend}
 use Rattle.step_trace.specs.Cuts.{IsCutAt, front_to, first_steps}
-use Rattle.step_trace.specs.PushRefusals.{IsRefusal}
 use Rattle.step_trace.specs.TickRefusals.{refusal_in}
 use Rattle.step_trace.proofs.PagePlaces.{slice_get-left}
 use Rattle.step_trace.proofs.FittingTicks.{FitsIn-from_append}
@@ -168,20 +165,6 @@ next_fits trace front (suc k) tick x sound l h same at =
       none_from_FitsIn (first_steps trace k) (tick_of trace (suc k)) x (FitsIn-from_append (first_steps trace k) (tick_of trace (suc k)) x first append),
       rw next at (first_steps-next trace k x sound (sym h)),
     )
-
--- where no reason stands, a refusal is for want of memory
-pub only_memory : (e : PushError) (why : Option PushError) → why ≡ None → IsRefusal e why → e ≡ Memory
-only_memory Memory why h r = refl
-only_memory Full why h r = absurd (none-some Full (sym h ∙ r))
-only_memory BadTick why h r = absurd (none-some BadTick (sym h ∙ r))
-only_memory BadProc why h r = absurd (none-some BadProc (sym h ∙ r))
-only_memory ProcOrder why h r = absurd (none-some ProcOrder (sym h ∙ r))
-only_memory BadDest why h r = absurd (none-some BadDest (sym h ∙ r))
-only_memory IdsNotRising why h r = absurd (none-some IdsNotRising (sym h ∙ r))
-only_memory (UnknownMessage s) why h r = absurd (none-some (UnknownMessage s) (sym h ∙ r))
-only_memory (NotAddressed s) why h r = absurd (none-some (NotAddressed s) (sym h ∙ r))
-only_memory (SameTick s) why h r = absurd (none-some (SameTick s) (sym h ∙ r))
-only_memory (Redelivered s) why h r = absurd (none-some (Redelivered s) (sym h ∙ r))
 
 -- a shorter list that a longer one begins with, by numbers
 begun : (list first more : List Step) → list ≡ first ++ more → (k : ℕ) (x : Step) → step_at first k ≡ Some x → step_at list k ≡ Some x

@@ -7,9 +7,9 @@ use Rattle.step_trace.specs.declared.steps.Act.TheVariants.{Send, Receive}
 use Rattle.step_trace.specs.declared.steps.Step.{Step}
 use Rattle.step_trace.specs.declared.traces.TheConstants.{MAX_STEPS}
 use Rattle.step_trace.specs.declared.traces.PushError.{PushError}
-use Rattle.step_trace.specs.declared.traces.PushError.TheVariants.{Full, BadProc, BadDest, IdsNotRising, UnknownMessage, NotAddressed, Redelivered, Memory}
+use Rattle.step_trace.specs.declared.traces.PushError.TheVariants.{Full, BadProc, BadDest, IdsNotRising, UnknownMessage, NotAddressed, SameTick, Redelivered, Memory}
 use Rattle.step_trace.specs.Configurations.{Setup, is_proc}
-use Rattle.step_trace.specs.Steps.{act_ids, act_sends_to, act_sends, act_takes}
+use Rattle.step_trace.specs.Steps.{act_sends_to, act_sends, act_takes}
 use Rattle.step_trace.specs.Traces.{step_at}
 
 -- whether some step takes message s
@@ -38,24 +38,27 @@ abbrev pub first_id : Option ℕ → (ℕ → PushError) → Option PushError �
 first_id None why next = next
 first_id (Some s) why next = Some (why s)
 
--- the first reason against a Receive of these ids by p, by a test of which messages were taken
-abbrev pub ids_refusal : List Step → (ℕ → Bool) → ℕ → List ℕ → Option PushError
-ids_refusal steps taken p ids =
+-- the first reason against a Receive of these ids by p, by tests of which messages were sent in its tick and
+-- which were taken
+abbrev pub ids_refusal : List Step → (ℕ → Bool) → (ℕ → Bool) → ℕ → List ℕ → Option PushError
+ids_refusal steps now taken p ids =
     if is_rising ids then
     first_id (find (λ s. not (is_message steps s)) ids) (λ s. UnknownMessage s)
     (first_id (find (λ s. not (is_sent_to steps s p)) ids) (λ s. NotAddressed s)
-    (first_id (find taken ids) (λ s. Redelivered s) None))
+    (first_id (find now ids) (λ s. SameTick s)
+    (first_id (find taken ids) (λ s. Redelivered s) None)))
     else Some IdsNotRising
 
-abbrev pub act_refusal : Setup → List Step → ℕ → Act → Option PushError
-act_refusal c steps p (Send to) = if is_proc c to then None else Some BadDest
-act_refusal c steps p (Receive ends ids) = ids_refusal steps (is_taken steps) p ids
+-- the first reason against an act of p, by a test of which messages were sent in its tick
+abbrev pub act_refusal : Setup → List Step → (ℕ → Bool) → ℕ → Act → Option PushError
+act_refusal c steps now p (Send to) = if is_proc c to then None else Some BadDest
+act_refusal c steps now p (Receive ends ids) = ids_refusal steps now (is_taken steps) p ids
 
--- the first reason against one more step, want of memory aside
+-- the first reason against one more step in a tick of its own, in which no message was sent, want of memory aside
 abbrev pub refusal : Setup → List Step → Step → Option PushError
 refusal c steps x =
     if nat_lt (length steps) MAX_STEPS then
-    (if is_proc c x.proc then act_refusal c steps x.proc x.act else Some BadProc)
+    (if is_proc c x.proc then act_refusal c steps (λ s. false) x.proc x.act else Some BadProc)
     else Some Full
 
 -- the answer is this reason, or want of memory where there is none
@@ -68,10 +71,3 @@ pub record IsLeastFailing (test : ℕ → Bool) (ids : List ℕ) (s : ℕ) : Typ
   pub member : Contains ids s
   pub fails : test s ≡ false
   pub least : (i : ℕ) → Contains ids i → i < s → test i ≡ true
-
--- the id that a reason names is the least of its kind
-abbrev pub NamesLeast : List Step → Step → PushError → Type 0
-NamesLeast steps x (UnknownMessage s) = IsLeastFailing (is_message steps) (act_ids x.act) s
-NamesLeast steps x (NotAddressed s) = IsLeastFailing (λ i. is_sent_to steps i x.proc) (act_ids x.act) s
-NamesLeast steps x (Redelivered s) = IsLeastFailing (λ i. not (is_taken steps i)) (act_ids x.act) s
-NamesLeast steps x e = Unit {0}

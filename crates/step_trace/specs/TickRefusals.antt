@@ -1,17 +1,15 @@
 -- The reasons against one more step in a tick, in their order.
-use Rattle.std.specs.Prelude.{ℕ, ◌+◌, List, length, Option, Some, None, Bool, true, ◌&&◌, ◌==◌, nat_lt, nat_le, not, find, if◌then◌else◌}
+use Rattle.std.specs.Prelude.{ℕ, ◌+◌, List, length, Option, Some, Bool, true, ◌&&◌, ◌==◌, nat_lt, nat_le, not, if◌then◌else◌}
 use Rattle.std.specs.Option.{option_map_or}
-use Rattle.step_trace.specs.declared.steps.Act.{Act}
-use Rattle.step_trace.specs.declared.steps.Act.TheVariants.{Send, Receive}
 use Rattle.step_trace.specs.declared.steps.Step.{Step}
 use Rattle.step_trace.specs.declared.traces.TheConstants.{MAX_STEPS, MAX_TICKS}
 use Rattle.step_trace.specs.declared.traces.PushError.{PushError}
-use Rattle.step_trace.specs.declared.traces.PushError.TheVariants.{Full, BadTick, BadProc, ProcOrder, BadDest, IdsNotRising, UnknownMessage, NotAddressed, SameTick, Redelivered, Memory}
+use Rattle.step_trace.specs.declared.traces.PushError.TheVariants.{Full, BadTick, BadProc, ProcOrder, UnknownMessage, NotAddressed, SameTick, Redelivered, Memory}
 use Rattle.step_trace.specs.Configurations.{is_proc}
 use Rattle.step_trace.specs.Steps.{act_ids}
 use Rattle.step_trace.specs.Traces.{Recorded, step_at}
 use Rattle.step_trace.specs.Ticks.{tick_at, CanAppend}
-use Rattle.step_trace.specs.PushRefusals.{is_taken, is_message, is_sent_to, is_rising, first_id, IsLeastFailing}
+use Rattle.step_trace.specs.PushRefusals.{is_taken, is_message, is_sent_to, act_refusal, IsLeastFailing}
 
 -- whether a trace may end in this tick
 abbrev pub may_end_in : Recorded → ℕ → Bool
@@ -26,28 +24,14 @@ comes_after_last steps ticks tick p =
 abbrev pub is_sent_in : List ℕ → ℕ → ℕ → Bool
 is_sent_in ticks tick s = tick_at ticks s == tick
 
--- the first reason against a Receive of these ids by p, by tests of which messages were sent in its tick and
--- which were taken
-abbrev pub ids_refusal_in : List Step → (ℕ → Bool) → (ℕ → Bool) → ℕ → List ℕ → Option PushError
-ids_refusal_in steps now taken p ids =
-    if is_rising ids then
-    first_id (find (λ s. not (is_message steps s)) ids) (λ s. UnknownMessage s)
-    (first_id (find (λ s. not (is_sent_to steps s p)) ids) (λ s. NotAddressed s)
-    (first_id (find now ids) (λ s. SameTick s)
-    (first_id (find taken ids) (λ s. Redelivered s) None)))
-    else Some IdsNotRising
-
-abbrev pub act_refusal_in : Recorded → ℕ → ℕ → Act → Option PushError
-act_refusal_in trace tick p (Send to) = if is_proc trace.config to then None else Some BadDest
-act_refusal_in trace tick p (Receive ends ids) = ids_refusal_in trace.steps (is_sent_in trace.ticks tick) (is_taken trace.steps) p ids
-
 -- the first reason against one more step in this tick, want of memory aside
 abbrev pub refusal_in : Recorded → ℕ → Step → Option PushError
 refusal_in trace tick x =
     if nat_lt (length trace.steps) MAX_STEPS then
     (if nat_lt 0 tick && may_end_in trace tick then
     (if is_proc trace.config x.proc then
-    (if comes_after_last trace.steps trace.ticks tick x.proc then act_refusal_in trace tick x.proc x.act
+    (if comes_after_last trace.steps trace.ticks tick x.proc
+    then act_refusal trace.config trace.steps (is_sent_in trace.ticks tick) x.proc x.act
     else Some ProcOrder) else Some BadProc) else Some BadTick) else Some Full
 
 -- the first reason against one more step in the tick after the last

@@ -1,5 +1,6 @@
 use Rattle.std.proofs.Common.{◌∙◌, sym}
-use Rattle.step_trace.proofs.TraceFronts.{no_missing, next_fits, only_memory}
+use Rattle.step_trace.proofs.TraceFronts.{no_missing, next_fits}
+use Rattle.step_trace.proofs.NamedReasons.{only_memory}
 use Rattle.step_trace.proofs.traces.Trace.take_next.Goals as goal
 
 pub unreachable-requires : goal.unreachable-requires
