@@ -8,8 +8,8 @@ ghost use Rattle.step_trace.specs.Witnesses.{IsMiss, IsNamedMiss, MissRefutes, N
 ghost use Rattle.bound_witness.specs.LastMisses.{HasNoMiss, IsLastMiss};
 ghost use Rattle.bound_witness.specs.WitnessSearches.{HasNoMissOf, SentHasNoMissOf, IsMissOfSent, IsSteadyMiss};
 
-use crate::step_facts::{is_receive_between, receiver, takes};
-use step_trace::{Miss, ProcSet, Trace};
+use crate::step_facts::{is_receive_between, takes};
+use step_trace::{Miss, ProcSet, Trace, receiver};
 
 /// The tick in which message `s` is taken; the tick after the last one where it isn't.
 fn delivery(trace: &Trace, s: u64) -> u64

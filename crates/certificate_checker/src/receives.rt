@@ -9,9 +9,9 @@ ghost use Rattle.step_trace.specs.Witnesses.{IsMiss};
 ghost use Rattle.certificate_checker.specs.Receives.{KnowsReceives, IsLastWaited, NotesTakes, last_waited};
 ghost use Rattle.certificate_checker.specs.LongestWitnesses.{HasNoMiss, IsLastMiss};
 
-use crate::step_facts::{is_receive_of, receiver, step_of};
+use crate::step_facts::step_of;
 use std::alloc::{AllocError, Global};
-use step_trace::{Act, Miss, ProcSet, Trace};
+use step_trace::{Act, Miss, ProcSet, Trace, is_receive_of, receiver};
 
 /// What stands for a message that no Receive takes: no step has this number.
 const UNTAKEN: u32 = 4_294_967_295;

@@ -2,12 +2,11 @@
 
 ghost use Rattle.std.specs.Prelude.{◌≡◌, IfOk, find, not};
 ghost use Rattle.std.specs.List.Sorted.{IsStrictlyIncreasing};
-ghost use Rattle.step_trace.specs.PushRefusals.{is_rising, is_rising_from};
 ghost use Rattle.step_buffers.specs.Moves.{is_in, taken_ids, take_refusal};
 
 use crate::moves::{StepError, Take};
 use std::alloc::{AllocError, Global};
-use step_trace::MessageIds;
+use step_trace::{MessageIds, is_rising};
 
 /// The first reason against taking these messages of a buffer, want of memory aside.
 pub(crate) fn take_refusal(buffer: &[u64], take: Take) -> Option<StepError>
@@ -63,25 +62,4 @@ pub(crate) fn is_in(ids: &[u64], id: u64) -> bool
     ensures { result ≡ is_in ids.now id }
 {
     ids.binary_search(&id).is_ok()
-}
-
-fn is_rising(ids: &[u64]) -> bool
-    ensures { result ≡ is_rising ids.now }
-{
-    match ids {
-        [] => true,
-        [first, rest @ ..] => is_rising_from(*first, rest),
-    }
-}
-
-fn is_rising_from(mut last: u64, ids: &[u64]) -> bool
-    ensures { result ≡ is_rising_from last ids.now }
-{
-    for id in ids {
-        if *id <= last {
-            return false;
-        }
-        last = *id;
-    }
-    true
 }

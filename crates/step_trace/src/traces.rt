@@ -202,6 +202,7 @@ impl Trace {
         ensures value { result ≡ tick_of self.now no }
         ensures limit { result ≤ MAX_TICKS }
         ensures timed { IsTimed self.now }
+        ensures well_formed { IsTrace self.now }
     {
         self.placed.tick(no)
     }
@@ -211,6 +212,7 @@ impl Trace {
         ensures value { result ≡ self.now.last }
         ensures limit { result ≤ MAX_TICKS }
         ensures timed { IsTimed self.now }
+        ensures well_formed { IsTrace self.now }
     {
         self.last
     }

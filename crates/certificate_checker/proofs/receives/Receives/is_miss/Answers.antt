@@ -6,10 +6,10 @@ use Rattle.certificate_checker.proofs.WaitedReceives.{IsLastWaited-from_known, I
 use Rattle.certificate_checker.proofs.receives.Receives.is_miss.Goals as goal
 
 pub returns-in_default : goal.returns-in_default
-returns-in_default c = (λ h. cc, λ m. absurd (c.in_default.ensures.found m.to m.message))
+returns-in_default c = (λ h. cc, λ m. absurd (c.in_default.ensures m.to m.message))
 
 pub tick-requires-clause-high : goal.tick-requires-clause-high
-tick-requires-clause-high c = (step_at_within c.args.trace.now.steps c.args.miss.sent _ c.in-Some.ensures.found.sent).1
+tick-requires-clause-high c = (step_at_within c.args.trace.now.steps c.args.miss.sent _ c.in-Some.ensures.sent).1
 
 pub tick-requires-2-clause-high : goal.tick-requires-2-clause-high
 tick-requires-2-clause-high c = (step_at_within c.args.trace.now.steps c.args.miss.missed _ (c.is_receive_of.ensures.0 c.if-not-is_receive_of.false).step).1
@@ -17,10 +17,10 @@ tick-requires-2-clause-high c = (step_at_within c.args.trace.now.steps c.args.mi
 pub returns-then-tick : goal.returns-then-tick
 returns-then-tick c =
     let t = c.args.trace.now in
-    let message = c.in-Some.ensures.found in
+    let message = c.in-Some.ensures in
     let waited = subst (λ (r : ℕ). IsLastWaited t.steps c.args.miss.sent c.in-Some.to r) (sym c.last_waited.ensures)
-    (IsLastWaited-from_known c.args.set t c.args.miss.sent c.in-Some.to c.args.self.now c.in-Some.ensures.sound message (c.requires.set c.in-Some.to message.receiver) c.requires.known) in
-    let exact = IsMiss-by_waited c.args.set t (record { steps = c.in-Some.ensures.sound; time = c.tick.ensures.timed }) c.args.miss c.in-Some.to c.last_waited.result message (c.is_receive_of.ensures.0 c.if-not-is_receive_of.false) waited in
+    (IsLastWaited-from_known c.args.set t c.args.miss.sent c.in-Some.to c.args.self.now c.tick.ensures.well_formed.steps message (c.requires.set c.in-Some.to message.receiver) c.requires.known) in
+    let exact = IsMiss-by_waited c.args.set t c.tick.ensures.well_formed c.args.miss c.in-Some.to c.last_waited.result message (c.is_receive_of.ensures.0 c.if-not-is_receive_of.false) waited in
     let late = c.if-tick.true in
     let sent = c.tick.ensures.value in
     let missed = c.tick-2.ensures.value in (
