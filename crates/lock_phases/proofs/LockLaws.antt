@@ -4,7 +4,7 @@ use Rattle.std.specs.Prelude.{Contains}
 use Rattle.std.specs.List.{list_any}
 use Rattle.std.specs.List.Sorted.{IsStrictlyIncreasing}
 use Rattle.std.proofs.lemmas.Bool.{eqb-true, ne_eqb, leb-true, le-leb, and_parts, not-true}
-use Rattle.step_trace.proofs.ListMembers.{Contains-head, Contains-rest, Contains-nil, Contains-filter, Contains-from_filter, Contains-map, list_any-found, list_any-at}
+use Rattle.step_trace.proofs.ListMembers.{Contains-head, Contains-rest, Contains-nil, Contains-filter, Contains-from_filter, Contains-map, list_any-found, list_any-at, rising-tail, rising-first}
 use Rattle.lock_phases.specs.declared.bodies.Kind.{Kind}
 use Rattle.lock_phases.specs.declared.bodies.Kind.TheVariants.{List as Listed, Lock, Ack, Locks}
 use Rattle.lock_phases.specs.Nodes.{LockPair, value_of, phase_of_lock}
@@ -12,7 +12,6 @@ use Rattle.lock_phases.specs.Messages.{Message, sender_of, body_of, locked_value
 use Rattle.lock_phases.specs.Locks.{is_acceptable, heard_lock, put_lock, releases, is_released, kept_locks}
 use Rattle.lock_phases.specs.Hearing.{IsToldToLock, IsTold, IsReleasedByTold}
 use Rattle.lock_phases.proofs.Membership.{Contains-cons_cases}
-use Rattle.lock_phases.proofs.Rising.{IsStrictlyIncreasing-tail, IsStrictlyIncreasing-above}
 
 -- a lock that is held after v was locked is that one, or was held before
 pub Contains-put_lock_cases : (v p : ℕ) (locks : List LockPair) (z : LockPair) → Contains (put_lock v p locks) z → (z ≡ (v, p)) ⊎ Contains locks z
@@ -94,10 +93,10 @@ pub heard_lock-told : (owner : ℕ) (heard : List Message) (v : ℕ) → IsStric
 heard_lock-told owner [] v rise told = absurd (Contains-nil told.message told.is_heard)
 heard_lock-told owner (m ∷ rest) v rise told =
     go (eqb (sender_of m) owner) refl (Contains-cons_cases m told.message rest told.is_heard)
-    (λ d. heard_lock-told owner rest v (IsStrictlyIncreasing-tail (sender_of m) (map sender_of rest) rise) (record { message = told.message; is_heard = d; sender = told.sender; kind = told.kind }))
+    (λ d. heard_lock-told owner rest v (rising-tail (sender_of m) (map sender_of rest) rise) (record { message = told.message; is_heard = d; sender = told.sender; kind = told.kind }))
   where
     below : Contains rest told.message → sender_of m < sender_of told.message
-    below d = IsStrictlyIncreasing-above (sender_of m) (map sender_of rest) rise (sender_of told.message) (Contains-map sender_of rest told.message d)
+    below d = rising-first (sender_of m) (map sender_of rest) rise (sender_of told.message) (Contains-map sender_of rest told.message d)
 
     go : (b : Bool) → eqb (sender_of m) owner ≡ b → (told.message ≡ m) ⊎ Contains rest told.message → (Contains rest told.message → heard_lock owner rest ≡ Some v)
         → cond b (locked_value (body_of m).kind) (heard_lock owner rest) ≡ Some v
