@@ -1,7 +1,7 @@
 -- A listing round: the owner proposes a value that enough processors list.
-use Rattle.std.proofs.Common.{ℕ, ◌≡◌, ◌≢◌, ◌-◌, ◌≤◌, inl, inr, Bool, true, false, not, List, Option, Some, None, is_some, refl, sym, ap, subst, ◌∙◌, eq-eqb, arith}
+use Rattle.std.proofs.Common.{ℕ, ◌≡◌, ◌≢◌, ◌-◌, ◌≤◌, inl, inr, true, not, List, Option, Some, None, is_some, refl, sym, ap, subst, ◌∙◌, eq-eqb, arith}
 use Rattle.std.specs.List.{range_with_len}
-use Rattle.std.proofs.lemmas.Bool.{not-true, ne_eqb, cases_lt}
+use Rattle.std.proofs.lemmas.Bool.{not-true, ne_eqb, cases_lt, false_from_ne_true}
 use Rattle.std.proofs.lemmas.List.FromFn.{length-range_with_len}
 use Rattle.step_trace.specs.Configurations.{Setup, IsSetup}
 use Rattle.lock_phases.specs.Rounds.{phase_of, part_of, owner, Listing}
@@ -9,7 +9,7 @@ use Rattle.lock_phases.specs.Nodes.{State}
 use Rattle.lock_phases.specs.Messages.{Message}
 use Rattle.lock_phases.specs.Quorums.{least_listed}
 use Rattle.lock_phases.specs.NodeFunctions.{next}
-use Rattle.lock_phases.specs.Hearing.{heard_from, lists_with, IsHeardToSay, listing}
+use Rattle.lock_phases.specs.Hearing.{heard_from, lists_with, listing}
 use Rattle.lock_phases.specs.NodeLaws.{ListingKeeps, IsProposal, IsMadeByQuorum, IsRefusedByFew}
 use Rattle.lock_phases.proofs.Counting.{count_by-disjoint}
 use Rattle.lock_phases.proofs.RoundLaws.{part_at-listing, next-in}
@@ -80,11 +80,7 @@ pub listing-refused : (c : Setup) (s : State) (round : ℕ) (heard_of : ℕ → 
     → IsRefusedByFew c heard_of (next c s (owner c.n (phase_of round)) round (heard_from c.n heard_of)).proposal
 listing-refused c s round heard_of setup e w refuses proposes silent =
     let quorum = (subst (IsProposal (c.n - c.t) (heard_from c.n heard_of)) proposes (listing-proposal c s round (heard_from c.n heard_of) setup e)).quorum_lists in
-    let listed = heard-few c.n heard_of (listing w) (λ j. not (refuses j)) (λ j h. lister j h (refuses j) refl) in
+    let listed = heard-few c.n heard_of (listing w) (λ j. not (refuses j)) (λ j h. ap not (false_from_ne_true (refuses j) (λ r. silent j r h))) in
     let apart = count_by-disjoint (λ j. not (refuses j)) refuses (range_with_len 1 c.n) (λ j a b. let clash = sym (not-true (refuses j) a) ∙ b in cc) in
     let faults = setup.faults in
     omega (arith, length-range_with_len 1 c.n)
-  where
-    lister : (j : ℕ) → IsHeardToSay heard_of (listing w) j → (b : Bool) → refuses j ≡ b → not b ≡ true
-    lister j h true r = absurd (silent j r h)
-    lister j h false r = refl

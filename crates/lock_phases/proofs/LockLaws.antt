@@ -22,14 +22,13 @@ Contains-put_lock_cases v p (x ∷ xs) z c = go (ltb v (value_of x)) (eqb v (val
     rest (inl h) = inl h
     rest (inr h) = inr (Contains-rest x z xs h)
 
-    below : (Contains (put_lock v p xs) z → (z ≡ (v, p)) ⊎ Contains xs z) → (z ≡ x) ⊎ Contains (put_lock v p xs) z → (z ≡ (v, p)) ⊎ Contains (x ∷ xs) z
-    below f (inl h) = inr (zero, omega arith, sym h)
-    below f (inr h) = rest (f h)
-
     go : (b d : Bool) → Contains (cond b ((v, p) ∷ x ∷ xs) (cond d ((v, p) ∷ xs) (x ∷ put_lock v p xs))) z → (Contains (put_lock v p xs) z → (z ≡ (v, p)) ⊎ Contains xs z) → (z ≡ (v, p)) ⊎ Contains (x ∷ xs) z
     go true d h f = Contains-cons_cases (v, p) z (x ∷ xs) h
     go false true h f = rest (Contains-cons_cases (v, p) z xs h)
-    go false false h f = below f (Contains-cons_cases x z (put_lock v p xs) h)
+    go false false h f = elim (Contains-cons_cases x z (put_lock v p xs) h) [
+      | inl first ↦ inr (zero, omega arith, sym first)
+      | inr later ↦ rest (f later)
+    ]
 
 -- the lock that was put is held
 pub Contains-put_lock_new : (v p : ℕ) (locks : List LockPair) → Contains (put_lock v p locks) (v, p)

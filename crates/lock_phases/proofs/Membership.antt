@@ -1,5 +1,5 @@
 -- Elements of a list by its head and its rest, of joined lists, of what a function gives, and found by a count.
-use Rattle.std.proofs.Common.{ℕ, ◌≡◌, ◌<◌, ◌≤◌, ◌⊎◌, inl, inr, Bool, true, List, [], ◌∷◌, ◌++◌, length, get_or, filter, Option, Some, None, refl, sym, ap, subst, ◌∙◌, zero, suc, arith}
+use Rattle.std.proofs.Common.{ℕ, ◌≡◌, ◌<◌, ◌≤◌, ◌⊎◌, inl, inr, Bool, true, List, [], ◌∷◌, length, get_or, filter, Option, Some, None, refl, sym, ap, subst, ◌∙◌, zero, suc, arith}
 use Rattle.std.specs.Prelude.{Contains, count_by, filter_map}
 use Rattle.std.specs.List.{flat_map, cons_option}
 use Rattle.std.proofs.lemmas.List.Elements.{Contains-append_left, Contains-append_right, Contains-append_cases}
@@ -25,11 +25,10 @@ count_by-found {X} p xs l = go (filter p xs) refl (rw (length-filter p xs) l)
 -- what stands in the list of an element stands in the joined lists
 pub Contains-flat_map : {X A : Type 0} (f : X → List A) (xs : List X) (x : X) (a : A) → Contains xs x → Contains (f x) a → Contains (flat_map f xs) a
 Contains-flat_map f [] x a c d = absurd (Contains-nil x c)
-Contains-flat_map {A = A} f (y ∷ ys) x a c d = go (Contains-cons_cases y x ys c) (λ rest. Contains-flat_map f ys x a rest d)
-  where
-    go : (x ≡ y) ⊎ Contains ys x → (Contains ys x → Contains (flat_map f ys) a) → Contains (f y ++ flat_map f ys) a
-    go (inl e) g = Contains-append_left (f y) (flat_map f ys) a (subst (λ z. Contains (f z) a) e d)
-    go (inr h) g = Contains-append_right (f y) (flat_map f ys) a (g h)
+Contains-flat_map f (y ∷ ys) x a c d = elim (Contains-cons_cases y x ys c) [
+  | inl e ↦ Contains-append_left (f y) (flat_map f ys) a (subst (λ z. Contains (f z) a) e d)
+  | inr rest ↦ Contains-append_right (f y) (flat_map f ys) a (Contains-flat_map f ys x a rest d)
+]
 
 -- what is given comes from an element
 pub Contains-from_filter_map : {X Y : Type 0} (h : X → Option Y) (xs : List X) (y : Y) → Contains (filter_map h xs) y → (x : X) × Contains xs x × (h x ≡ Some y)

@@ -1,15 +1,15 @@
 -- A lock-release round: a lock goes exactly where a lock on another value, of no lower phase, is told.
-use Rattle.std.proofs.Common.{ℕ, ◌≡◌, ◌∙◌, Bool, true, false, List, refl, sym, subst}
+use Rattle.std.proofs.Common.{ℕ, ◌≡◌, ◌∙◌, List, refl, sym, subst}
 use Rattle.step_trace.specs.Configurations.{Setup}
 use Rattle.lock_phases.specs.Rounds.{phase_of, part_of, Releasing}
-use Rattle.lock_phases.specs.Nodes.{State, LockPair}
+use Rattle.lock_phases.specs.Nodes.{State}
 use Rattle.lock_phases.specs.Messages.{Message}
 use Rattle.lock_phases.specs.Locks.{is_released}
 use Rattle.lock_phases.specs.NodeFunctions.{next_in, next}
-use Rattle.lock_phases.specs.Hearing.{IsReleasedByTold}
 use Rattle.lock_phases.specs.NodeLaws.{ReleasingKeeps}
 use Rattle.lock_phases.proofs.RoundLaws.{part_at-releasing, next-in, with_proper_heard}
 use Rattle.lock_phases.proofs.LockLaws.{Contains-from_kept_locks, Contains-kept_locks, is_released-by, is_released-told}
+use Rattle.std.proofs.lemmas.Bool.{false_from_ne_true}
 
 -- A lock-release round changes nothing but the locks, of which it keeps exactly those that no lock told releases.
 pub releasing-keeps : (c : Setup) (s : State) (me round : ℕ) (heard : List Message) → part_of round ≡ 4 → ReleasingKeeps s (next c s me round heard) heard
@@ -18,13 +18,9 @@ releasing-keeps c s me round heard e = subst (λ x. ReleasingKeeps s x heard) (s
   owes_ack = refl;
   decision = refl;
   locks = λ lock d. (Contains-from_kept_locks heard s.locks lock d).0;
-  held = λ lock d f. Contains-kept_locks heard s.locks lock d (unreleased lock f (is_released heard lock) refl);
+  held = λ lock d f. Contains-kept_locks heard s.locks lock d (false_from_ne_true (is_released heard lock) (λ t. f (is_released-by heard lock t)));
   released = λ lock r d. let clash = sym (is_released-told heard lock r.releasing r.told r.other r.later) ∙ (Contains-from_kept_locks heard s.locks lock d).1 in cc;
 })
   where
     n : next c s me round heard ≡ next_in Releasing c (with_proper_heard s heard) me (phase_of round) heard
     n = next-in Releasing c s me round heard (part_at-releasing round e)
-
-    unreleased : (lock : LockPair) → (IsReleasedByTold heard lock → ⊥) → (b : Bool) → is_released heard lock ≡ b → is_released heard lock ≡ false
-    unreleased lock f true t = absurd (f (is_released-by heard lock t))
-    unreleased lock f false t = t

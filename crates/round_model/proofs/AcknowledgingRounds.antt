@@ -13,7 +13,7 @@ use Rattle.lock_phases.proofs.AcknowledgingLaws.{acknowledging-keeps, acknowledg
 use Rattle.lock_phases.proofs.SentBodies.{ack-said_by}
 use Rattle.round_model.specs.RoundStates.{Table, processors, messages_heard}
 use Rattle.round_model.proofs.HeardMessages.{heard_of, heard_of-sender, nodes_after}
-use Rattle.round_model.proofs.Invariants.{is_locked_since, is_locked_since-lock, IsAnchored, holders-kept, IsSafe}
+use Rattle.round_model.proofs.Invariants.{is_locked_since, is_locked_since-lock, IsAnchored, holders-kept, IsSafe, FlagsMeanFreshLocks-unset}
 
 -- the invariants after an acknowledging round
 pub IsSafe-acknowledging : (c : Setup) (table : Table) (nodes : ℕ → State) (round : ℕ) → part_of round ≡ 3 → IsSafe c nodes (phase_of round) 3
@@ -24,10 +24,7 @@ IsSafe-acknowledging c table nodes round e safe = record {
     earlier = λ l. absurd (omega arith);
   };
   fresh = record { proposed = λ h. absurd (omega arith) };
-  flags = record {
-    acknowledging = λ j f. absurd (unflagged j f);
-    locked = λ j f. absurd (unflagged j f);
-  };
+  flags = FlagsMeanFreshLocks-unset _ _ _ unflagged;
   decisions = record { each = λ j v d. anchored j v (decided j v d) };
 }
   where

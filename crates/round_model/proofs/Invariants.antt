@@ -26,6 +26,10 @@ pub record FlagsMeanFreshLocks (nodes : ℕ → State) (phase part : ℕ) : Type
   pub acknowledging : (j : ℕ) → (nodes j).owes_ack ≡ true → part ≡ 3
   pub locked : (j : ℕ) → (nodes j).owes_ack ≡ true → (v : ℕ) × Contains (nodes j).locks (v, phase)
 
+-- where none is set
+pub FlagsMeanFreshLocks-unset : (nodes : ℕ → State) (phase part : ℕ) → ((j : ℕ) → (nodes j).owes_ack ≡ true → ⊥) → FlagsMeanFreshLocks nodes phase part
+FlagsMeanFreshLocks-unset nodes phase part unset = record { acknowledging = λ j f. absurd (unset j f); locked = λ j f. absurd (unset j f) }
+
 -- whether v is locked, with this phase or a later one
 abbrev pub is_locked_since : ℕ → ℕ → List LockPair → Bool
 is_locked_since phase v locks = list_any (λ lock. value_of lock == v && nat_le phase (phase_of_lock lock)) locks

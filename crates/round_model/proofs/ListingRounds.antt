@@ -1,7 +1,7 @@
 -- A listing round keeps the invariants: no value is proposed beside one that is anchored.
-use Rattle.std.proofs.Common.{ℕ, ◌≡◌, Bool, true, false, eqb, Some, refl, sym, ap, subst, ◌∙◌, eq-eqb, arith}
+use Rattle.std.proofs.Common.{inl, inr, ℕ, ◌≡◌, true, Some, sym, ap, subst, ◌∙◌, arith}
 use Rattle.std.specs.Prelude.{Contains}
-use Rattle.std.proofs.lemmas.Bool.{eqb-true}
+use Rattle.std.proofs.lemmas.Bool.{cases_eq}
 use Rattle.step_trace.specs.Configurations.{Setup, IsSetup}
 use Rattle.lock_phases.specs.Rounds.{phase_of, part_of, owner}
 use Rattle.lock_phases.specs.Nodes.{State, LockPair}
@@ -14,13 +14,19 @@ use Rattle.lock_phases.proofs.ListingLaws.{listing-keeps, listing-refused}
 use Rattle.lock_phases.proofs.SentBodies.{listed-said_by}
 use Rattle.round_model.specs.RoundStates.{Table, messages_heard}
 use Rattle.round_model.proofs.HeardMessages.{heard_of, heard_of-sender, nodes_after}
-use Rattle.round_model.proofs.Invariants.{is_locked_since, IsLockSince-from_test, IsAnchored, holders-kept, IsSafe}
+use Rattle.round_model.proofs.Invariants.{is_locked_since, IsLockSince-from_test, IsAnchored, holders-kept, IsSafe, FlagsMeanFreshLocks-unset}
 
 -- an owner proposes no other value than one that is anchored
 proposed-anchored : (c : Setup) (table : Table) (nodes : ℕ → State) (round v w : ℕ) → IsSetup c → part_of round ≡ 1
     → IsAnchored c nodes (phase_of round) 1 v
     → (nodes_after c table nodes round (owner c.n (phase_of round))).proposal ≡ Some w → w ≡ v
-proposed-anchored c table nodes round v w setup e a proposes = go (eqb w v) refl
+proposed-anchored c table nodes round v w setup e a proposes = elim (cases_eq w v) [
+  | inl same ↦ same
+  | inr other ↦ (
+      let few = listing-refused c (nodes o) round (heard_of c table nodes o round) setup e w (λ j. is_locked_since a.anchor v (nodes j).locks) proposes (silent other) in
+      let many = a.holders in
+      absurd (omega arith))
+]
   where
     o : ℕ
     o = owner c.n (phase_of round)
@@ -33,14 +39,6 @@ proposed-anchored c table nodes round v w setup e a proposes = go (eqb w v) refl
         let lock = IsLockSince-from_test a.anchor v (nodes j).locks s in
         other (sym (is_acceptable-locked (nodes j).locks w lock.lock acceptable lock.held) ∙ lock.value)
 
-    go : (b : Bool) → eqb w v ≡ b → w ≡ v
-    go true t = eqb-true w v t
-    go false t =
-        let quiet = silent (λ s. let clash = sym (eq-eqb w v s) ∙ t in cc) in
-        let few = listing-refused c (nodes o) round (heard_of c table nodes o round) setup e w (λ j. is_locked_since a.anchor v (nodes j).locks) proposes quiet in
-        let many = a.holders in
-        absurd (omega arith)
-
 -- the invariants after a listing round
 pub IsSafe-listing : (c : Setup) (table : Table) (nodes : ℕ → State) (round : ℕ) → IsSetup c → part_of round ≡ 1 → IsSafe c nodes (phase_of round) 1
     → IsSafe c (nodes_after c table nodes round) (phase_of round) 2
@@ -50,10 +48,7 @@ IsSafe-listing c table nodes round setup e safe = record {
     earlier = λ l j lock d. safe.past.earlier (omega arith) j lock (held j lock d);
   };
   fresh = record { proposed = λ h. absurd (omega arith) };
-  flags = record {
-    acknowledging = λ j f. absurd (unflagged j f);
-    locked = λ j f. absurd (unflagged j f);
-  };
+  flags = FlagsMeanFreshLocks-unset _ _ _ unflagged;
   decisions = record { each = λ j v d. anchored v (safe.decisions.each j v (sym (keeps j).decision ∙ d)) };
 }
   where

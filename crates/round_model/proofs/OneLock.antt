@@ -1,8 +1,8 @@
 -- After a lock-release round in which the members of a set hear one another they hold locks on at most one value, which is in the
 -- PROPER of each of them; and what one of them had in its PROPER, all have.
-use Rattle.std.proofs.Common.{ℕ, ◌≡◌, ◌≤◌, inl, inr, Bool, true, false, eqb, List, refl, sym, ◌∙◌, eq-eqb, arith}
+use Rattle.std.proofs.Common.{ℕ, ◌≡◌, ◌≤◌, inl, inr, Bool, true, List, sym, arith}
 use Rattle.std.specs.Prelude.{Contains}
-use Rattle.std.proofs.lemmas.Bool.{eqb-true, cases_lt}
+use Rattle.std.proofs.lemmas.Bool.{cases_lt, cases_eq}
 use Rattle.step_trace.specs.Configurations.{Setup, IsProc}
 use Rattle.lock_phases.specs.declared.bodies.Kind.TheVariants.{Locks}
 use Rattle.lock_phases.specs.Rounds.{part_of}
@@ -43,18 +43,17 @@ proper-passed_on c table nodes p q round v e is heard d =
 kept-later : (c : Setup) (table : Table) (nodes : ℕ → State) (p q round : ℕ) (lock other : LockPair) → part_of round ≡ 4 → IsProc c q → table p round q ≡ true
     → Contains (nodes_after c table nodes round p).locks lock → Contains (nodes q).locks other → phase_of_lock lock ≤ phase_of_lock other
     → value_of other ≡ value_of lock
-kept-later c table nodes p q round lock other e is heard held told later = go (eqb (value_of other) (value_of lock)) refl
+kept-later c table nodes p q round lock other e is heard held told later = elim (cases_eq (value_of other) (value_of lock)) [
+  | inl same ↦ same
+  | inr apart ↦ absurd ((releasing-keeps c (nodes p) p round messages e).released lock
+      (record { releasing = other; told = is_told; other = apart; later = later }) held)
+]
   where
     messages : List Message
     messages = messages_heard c table nodes p round
 
     is_told : IsTold messages other
     is_told = record { message = releasing_message nodes q; is_heard = releasing_message-heard c table nodes p q round e is heard; tells = told }
-
-    go : (b : Bool) → eqb (value_of other) (value_of lock) ≡ b → value_of other ≡ value_of lock
-    go true t = eqb-true (value_of other) (value_of lock) t
-    go false t = absurd ((releasing-keeps c (nodes p) p round messages e).released lock
-        (record { releasing = other; told = is_told; other = λ s. let clash = sym (eq-eqb (value_of other) (value_of lock) s) ∙ t in cc; later = later }) held)
 
 -- One lock value: by one lock-release round.
 pub held-one_value : (c : Setup) (member : ℕ → Bool) (table : Table) (nodes : ℕ → State) (round : ℕ) → part_of round ≡ 4 → HearOneAnother c member table round

@@ -9,7 +9,7 @@ use Rattle.lock_phases.proofs.ReleasingLaws.{releasing-keeps}
 use Rattle.lock_phases.proofs.SentBodies.{told-said_by}
 use Rattle.round_model.specs.RoundStates.{Table, messages_heard}
 use Rattle.round_model.proofs.HeardMessages.{nodes_after, messages_heard-said}
-use Rattle.round_model.proofs.Invariants.{is_locked_since, IsLockSince-from_test, is_locked_since-lock, IsAnchored, holders-kept, IsSafe}
+use Rattle.round_model.proofs.Invariants.{is_locked_since, IsLockSince-from_test, is_locked_since-lock, IsAnchored, holders-kept, IsSafe, FlagsMeanFreshLocks-unset}
 use Rattle.lock_phases.specs.Messages.{sender_of, body_of}
 
 -- the invariants after a lock-release round
@@ -21,10 +21,7 @@ IsSafe-releasing c table nodes round e safe = record {
     earlier = λ _ j lock d. let l = safe.past.begun j lock ((keeps j).locks lock d) in omega arith;
   };
   fresh = record { proposed = λ h. absurd (omega arith) };
-  flags = record {
-    acknowledging = λ j f. absurd (unflagged j f);
-    locked = λ j f. absurd (unflagged j f);
-  };
+  flags = FlagsMeanFreshLocks-unset _ _ _ unflagged;
   decisions = record { each = λ j v d. anchored v (safe.decisions.each j v (sym (keeps j).decision ∙ d)) };
 }
   where

@@ -4,7 +4,7 @@ use Rattle.std.specs.Prelude.{Contains}
 use Rattle.std.specs.List.{list_any, range_with_len}
 use Rattle.std.specs.List.Sorted.{IsStrictlyIncreasing}
 use Rattle.std.proofs.Math.Bool.{and-true, or-false}
-use Rattle.std.proofs.lemmas.Bool.{ne_eqb}
+use Rattle.std.proofs.lemmas.Bool.{ne_eqb, false_from_ne_true}
 use Rattle.std.proofs.lemmas.Option.{same_Some}
 use Rattle.std.proofs.lemmas.List.{length-append, append-nil}
 use Rattle.std.proofs.lemmas.List.Elements.{filter-append}
@@ -60,17 +60,11 @@ is_taken-push steps x s = list_any-append (λ y. act_takes y.act s) steps (x ∷
 
 -- no later number is taken
 not_taken-later : (c : Setup) (steps : List Step) (s : ℕ) → IsWellFormed c steps → length steps < s → is_taken steps s ≡ false
-not_taken-later c steps s w late = go (is_taken steps s) refl
-  where
-    go : (b : Bool) → is_taken steps s ≡ b → b ≡ false
-    go false e = refl
-    go true e =
-        let t = taken_at-from_is_taken steps s e in
-        let within = step_at_within steps t.0 t.1.0 t.1.1 in
-        let high = within.1 in
-        let earlier = w.earlier t.0 s t.1.0 t.1.1 t.1.2 in
-        let low = earlier.0 in
-        absurd (omega arith)
+not_taken-later c steps s w late = false_from_ne_true (is_taken steps s) (λ e.
+    let t = taken_at-from_is_taken steps s e in
+    let within = step_at_within steps t.0 t.1.0 t.1.1 in
+    let earlier = w.earlier t.0 s t.1.0 t.1.1 t.1.2 in
+    omega (arith, within.1, earlier.0))
 
 waits_for-old : (steps : List Step) (x : Step) (p s : ℕ) → s ≤ length steps → waits_for (steps ++ x ∷ []) p s ≡ (waits_for steps p s && not (act_takes x.act s))
 waits_for-old steps x p s l =
@@ -140,16 +134,15 @@ pub buffer-received_elsewhere : (c : Setup) (steps : List Step) (p q : ℕ) (end
     → buffer (steps ++ receiving p ends ids ∷ []) q ≡ buffer steps q
 buffer-received_elsewhere c steps p q ends ids w other =
     buffer-received c steps p q ends ids (IsWellFormed-prefix c steps (receiving p ends ids ∷ []) w)
-    ∙ filter-all (λ s. not (list_any (λ i. i == s) ids)) (buffer steps q) (λ s d. go s d (list_any (λ i. i == s) ids) refl)
+    ∙ filter-all (λ s. not (list_any (λ i. i == s) ids)) (buffer steps q) (λ s d. ap not (false_from_ne_true (list_any (λ i. i == s) ids) (no_other s d)))
   where
-    go : (s : ℕ) → Contains (buffer steps q) s → (b : Bool) → list_any (λ i. i == s) ids ≡ b → not b ≡ true
-    go s d false e = refl
-    go s d true e =
+    no_other : (s : ℕ) → Contains (buffer steps q) s → list_any (λ i. i == s) ids ≡ true → ⊥
+    no_other s d e =
         let waits = IsWaiting-from_buffer steps q s d in
         let sent = (Fits-from_well_formed c steps (receiving p ends ids) w).sent s (Contains-from_is_in ids s e) in
         let one : Step = record { proc = sent.0; act = Send p } in
         let two : Step = record { proc = waits.sender; act = Send q } in
-        absurd (other (same_Some p q (ap (λ (z : Step). act_dest z.act) (same_Some one two (sym sent.1 ∙ waits.sent)))))
+        other (same_Some p q (ap (λ (z : Step). act_dest z.act) (same_Some one two (sym sent.1 ∙ waits.sent))))
 
 -- a buffer rises
 pub buffer-rises : (steps : List Step) (p : ℕ) → IsStrictlyIncreasing (buffer steps p)

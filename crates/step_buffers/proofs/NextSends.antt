@@ -1,11 +1,11 @@
 -- Where a processor sends next: the least destination above the last one to which there is something to send, found by
 -- trying one processor, since of those above the last one none before it is sent anything, nor any after it where it isn't;
 -- and as the trace grows by a step.
-use Rattle.std.proofs.Common.{ℕ, zero, suc, ◌≡◌, ◌+◌, ◌<◌, ◌≤◌, List, [], ◌∷◌, Some, Bool, true, false, cond, ltb, ◌&&◌, refl, sym, ap, ◌∙◌, subst, arith, ◌⊎◌, inl, inr, Option, None, ◌≢◌, eqb, eq-eqb, ◌-◌, ◌++◌, length, ◌==◌}
+use Rattle.std.proofs.Common.{ℕ, zero, suc, ◌≡◌, ◌+◌, ◌<◌, ◌≤◌, List, [], ◌∷◌, Some, Bool, true, false, cond, ltb, ◌&&◌, refl, sym, ap, ◌∙◌, subst, arith, ◌⊎◌, inl, inr, Option, None, ◌≢◌, eq-eqb, ◌-◌, ◌++◌, length, ◌==◌}
 use Rattle.std.specs.Prelude.{slice_get, filter, find, nat_lt, is_some, Contains, IsSome, option_map, count_by}
 use Rattle.std.specs.List.Sorted.{IsStrictlyIncreasing}
 use Rattle.std.proofs.lemmas.Option.{same_Some, none-some, slice_get_within, get_or_from_slice_get}
-use Rattle.std.proofs.lemmas.Bool.{lt-ltb, le-ltb, cases_lt, and_parts, eqb-true, ne_eqb, false≢true}
+use Rattle.std.proofs.lemmas.Bool.{lt-ltb, le-ltb, cases_lt, and_parts, ne_eqb, false_from_ne_true, cases_eq}
 use Rattle.step_trace.specs.Configurations.{Setup, IsProc}
 use Rattle.step_trace.proofs.ListMembers.{Contains-from_filter, Contains-head, Contains-rest, rising-tail, rising-first, Contains-nil}
 use Rattle.lock_phases.specs.Nodes.{State}
@@ -95,12 +95,10 @@ later-destination c node p round last k h =
 -- the first number of a range that passes a test
 find-first : (test : ℕ → Bool) (a n k : ℕ) → a ≤ k → k < a + n → ((j : ℕ) → a ≤ j → j < k → test j ≡ false) → test k ≡ true → find test (range_with_len a n) ≡ Some k
 find-first test a zero k low high none at = absurd (omega arith)
-find-first test a (suc n) k low high none at =
-    go (cases_lt a k) (λ l. find-first test (a + 1) n k (omega arith) (omega arith) (λ j b h. none j (omega arith) h) at)
-  where
-    go : (a < k) ⊎ (k ≤ a) → (a < k → find test (range_with_len (a + 1) n) ≡ Some k) → find test (range_with_len a (suc n)) ≡ Some k
-    go (inl l) rest = rw (none a (omega arith) l) (rest l)
-    go (inr l) rest = let e : a ≡ k = omega arith in rw (ap test e ∙ at) (ap (λ (x : ℕ). Some x) e)
+find-first test a (suc n) k low high none at = elim (cases_lt a k) [
+  | inl l ↦ rw (none a (omega arith) l) (find-first test (a + 1) n k (omega arith) (omega arith) (λ j b h. none j (omega arith) h) at)
+  | inr l ↦ (let e : a ≡ k = omega arith in rw (ap test e ∙ at) (ap (λ (x : ℕ). Some x) e))
+]
 
 -- where none passes
 find-none : (test : ℕ → Bool) (a n : ℕ) → ((j : ℕ) → a ≤ j → j < a + n → test j ≡ false) → find test (range_with_len a n) ≡ None
@@ -108,11 +106,7 @@ find-none test a zero none = refl
 find-none test a (suc n) none = rw (none a (omega arith) (omega arith)) (find-none test (a + 1) n (λ j b h. none j (omega arith) (omega arith)))
 
 unsent : (c : Setup) (node : State) (p round last to : ℕ) → (last < to → is_some (out c node p round to) ≡ false) → (nat_lt last to && is_some (out c node p round to)) ≡ false
-unsent c node p round last to none = go (cases_lt last to)
-  where
-    go : (last < to) ⊎ (to ≤ last) → (nat_lt last to && is_some (out c node p round to)) ≡ false
-    go (inl l) = rw (lt-ltb last to l, none l) refl
-    go (inr l) = rw (le-ltb last to l) refl
+unsent c node p round last to none = elim (cases_lt last to) [ inl l ↦ rw (lt-ltb last to l, none l) refl | inr l ↦ rw (le-ltb last to l) refl ]
 
 pub destination_after-found : (c : Setup) (node : State) (p round last to : ℕ) → last < to → to < c.n + 1
     → ((t : ℕ) → last < t → t < to → is_some (out c node p round t) ≡ false) → is_some (out c node p round to) ≡ true → destination_after c node p round last ≡ Some to
@@ -150,11 +144,10 @@ sent-to_owner c s me round to (inr e) other =
 -- so where the owner is sent nothing nobody is
 pub sent-to_none : (c : Setup) (s : State) (me round r to : ℕ) → (part_of round ≡ 1) ⊎ (part_of round ≡ 3) → (to ≡ owner c.n (phase_of round) → to ≡ r)
     → is_some (out c s me round r) ≡ false → is_some (out c s me round to) ≡ false
-sent-to_none c s me round r to part same none = go (eqb to (owner c.n (phase_of round))) refl
-  where
-    go : (b : Bool) → eqb to (owner c.n (phase_of round)) ≡ b → is_some (out c s me round to) ≡ false
-    go true e = subst (λ t. is_some (out c s me round t) ≡ false) (sym (same (eqb-true to (owner c.n (phase_of round)) e))) none
-    go false e = sent-to_owner c s me round to part (λ o. false≢true (sym e ∙ eq-eqb to (owner c.n (phase_of round)) o))
+sent-to_none c s me round r to part same none = elim (cases_eq to (owner c.n (phase_of round))) [
+  | inl e ↦ subst (λ t. is_some (out c s me round t) ≡ false) (sym (same e)) none
+  | inr other ↦ sent-to_owner c s me round to part other
+]
 
 -- in the other rounds all are sent something, or none is
 pub sent-alike : (c : Setup) (s : State) (me round t u : ℕ) → (part_of round ≢ 1) → (part_of round ≢ 3) → is_some (out c s me round t) ≡ is_some (out c s me round u)
@@ -244,14 +237,13 @@ module _ (steps : List Step) (x : Step) where
 
   -- a new round begins with none
   sent_now-ends : act_ends x.act ≡ true → sent_now (steps ++ x ∷ []) x.proc ≡ 0
-  sent_now-ends ends = count_by-none test (length (steps ++ x ∷ []) + 1 - 1) (λ s. none s (test s) refl)
+  sent_now-ends ends = count_by-none test (length (steps ++ x ∷ []) + 1 - 1) (λ s. false_from_ne_true (test s) (none s))
     where
       test : ℕ → Bool
       test s = is_sent_in (steps ++ x ∷ []) x.proc (passed (steps ++ x ∷ []) x.proc + 1) s
 
-      none : (s : ℕ) (b : Bool) → test s ≡ b → b ≡ false
-      none s false e = refl
-      none s true e =
+      none : (s : ℕ) → test s ≡ true → ⊥
+      none s e =
           let is = IsSentIn-from_test (steps ++ x ∷ []) x.proc (passed (steps ++ x ∷ []) x.proc + 1) s e in
           let b = step_at_within (steps ++ x ∷ []) s is.step is.stands in
           let high = b.1 in
@@ -260,7 +252,7 @@ module _ (steps : List Step) (x : Step) where
           let less = passed-before steps x.proc s in
           let all = passed-ends steps x ends in
           let round = is.round in
-          absurd (omega arith)
+          omega arith
 
   -- after the end of its round
   pub next_send-ended : (c : Setup) → act_ends x.act ≡ true

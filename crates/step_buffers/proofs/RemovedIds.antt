@@ -1,10 +1,10 @@
 -- Rising ids: their parts, and searches of them; ids that are taken out of a rising list, from its front, from its back, or
 -- from between others.
-use Rattle.std.proofs.Common.{ℕ, ◌≡◌, ◌≢◌, ◌+◌, ◌-◌, ◌<◌, ◌≤◌, ◌⊎◌, inl, inr, suc, List, length, get_or, take, drop, Bool, true, false, ◌==◌, Result, Ok, Err, refl, sym, ◌∙◌, subst, arith, eq-eqb, [], ◌∷◌, ◌++◌, filter, min, not, ◌||◌, ap}
+use Rattle.std.proofs.Common.{ℕ, ◌≡◌, ◌≢◌, ◌+◌, ◌-◌, ◌<◌, ◌≤◌, inl, inr, suc, List, length, get_or, take, drop, Bool, true, ◌==◌, Result, Ok, Err, refl, sym, ◌∙◌, subst, arith, eq-eqb, [], ◌∷◌, ◌++◌, filter, min, not, ◌||◌, ap}
 use Rattle.std.specs.Prelude.{MatchResult, Contains}
 use Rattle.std.specs.Result.{is_ok}
 use Rattle.std.specs.List.Sorted.{IsStrictlyIncreasing}
-use Rattle.std.proofs.lemmas.Bool.{cases_lt, eqb-true, ne_eqb}
+use Rattle.std.proofs.lemmas.Bool.{cases_lt, eqb-true, ne_eqb, false_from_ne_true}
 use Rattle.std.proofs.lemmas.List.{length-take, length-drop, get_or-take, get_or-drop, get_or_default, length-append, length-take-le, take-append-drop, append-nil, drop_at, drop_more, take_more, append_assoc, take-append-le, drop-append-le, drop-take, drop-drop}
 use Rattle.step_trace.proofs.ListMembers.{list_any-found, list_any-at, Contains-head, Contains-rest}
 use Rattle.round_model.proofs.RisingLists.{rising-later}
@@ -39,22 +39,14 @@ Contains-from_is_in xs x h =
 not-found : (xs : List ℕ) (x i : ℕ) → ((k : ℕ) → k < i → get_or xs k 0 < x) → ((k : ℕ) → i ≤ k → k < length xs → x < get_or xs k 0) → Contains xs x → ⊥
 not-found xs x i below above d =
     let at : get_or xs d.0 0 ≡ x = sym (get_or_default xs d.0 x 0 d.1) ∙ d.2 in
-    go at (cases_lt d.0 i)
-  where
-    go : get_or xs d.0 0 ≡ x → (d.0 < i) ⊎ (i ≤ d.0) → ⊥
-    go at (inl l) = let b = below d.0 l in omega arith
-    go at (inr l) = let b = above d.0 l d.1 in omega arith
+    elim (cases_lt d.0 i) [ inl l ↦ (let b = below d.0 l in omega arith) | inr l ↦ (let b = above d.0 l d.1 in omega arith) ]
 
 -- a binary search finds just the members
 pub is_in-searched : (xs : List ℕ) (x : ℕ) (r : Result ℕ ℕ)
     → MatchResult r (λ i. (i < length xs) × (get_or xs i 0 ≡ x)) (λ i. (i ≤ length xs) × ((k : ℕ) → k < i → get_or xs k 0 < x) × ((k : ℕ) → i ≤ k → k < length xs → x < get_or xs k 0))
     → is_ok r ≡ is_in xs x
 is_in-searched xs x (Ok i) h = sym (is_in-member xs x (i, h.0, get_or_default xs i x 0 h.0 ∙ h.1))
-is_in-searched xs x (Err i) h = go (is_in xs x) refl
-  where
-    go : (b : Bool) → is_in xs x ≡ b → false ≡ is_in xs x
-    go true e = absurd (not-found xs x i h.1 h.2 (Contains-from_is_in xs x e))
-    go false e = sym e
+is_in-searched xs x (Err i) h = sym (false_from_ne_true (is_in xs x) (λ e. not-found xs x i h.1 h.2 (Contains-from_is_in xs x e)))
 
 -- the parts of a rising list rise
 pub rising-drop : (xs : List ℕ) (n : ℕ) → IsStrictlyIncreasing xs → IsStrictlyIncreasing (drop n xs)
@@ -80,11 +72,8 @@ filter-all f (x ∷ xs) pass = rw (pass x (Contains-head x xs), filter-all f xs 
 
 -- what no element is isn't in a list
 not_in : (ids : List ℕ) (s : ℕ) → ((k : ℕ) → k < length ids → get_or ids k 0 ≢ s) → not (is_in ids s) ≡ true
-not_in ids s other = go (is_in ids s) refl
-  where
-    go : (b : Bool) → is_in ids s ≡ b → not b ≡ true
-    go false e = refl
-    go true e = let d = Contains-from_is_in ids s e in absurd (other d.0 d.1 (sym (get_or_default ids d.0 s 0 d.1) ∙ d.2))
+not_in ids s other = ap not (false_from_ne_true (is_in ids s) (λ e.
+    let d = Contains-from_is_in ids s e in other d.0 d.1 (sym (get_or_default ids d.0 s 0 d.1) ∙ d.2)))
 
 -- what is less than the first of rising ids is none of them
 below-first : (ids : List ℕ) (s : ℕ) → IsStrictlyIncreasing ids → s < get_or ids 0 0 → not (is_in ids s) ≡ true

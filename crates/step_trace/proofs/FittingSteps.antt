@@ -3,7 +3,7 @@ use Rattle.std.proofs.Common.{ℕ, ◌≡◌, ◌+◌, ◌<◌, inl, inr, List, 
 use Rattle.std.specs.Prelude.{Contains, nat_lt, nat_le, IfSome, find}
 use Rattle.std.specs.List.Sorted.{IsStrictlyIncreasing}
 use Rattle.std.proofs.lemmas.Grind.{common_steps}
-use Rattle.std.proofs.lemmas.Bool.{not_from_true}
+use Rattle.std.proofs.lemmas.Bool.{not_from_true, false_from_ne_true}
 use Rattle.std.proofs.lemmas.Bool.Decides.{nat_tests}
 use Rattle.step_trace.specs.declared.traces.TheConstants.{MAX_STEPS}
 use Rattle.step_trace.specs.declared.steps.Act.{Act}
@@ -71,18 +71,17 @@ Fits-from_well_formed c steps x w =
       dest = w.dests (suc (length steps)) x last;
       rising = w.rising (suc (length steps)) x last;
       sent = λ s d. sent s d (w.earlier (suc (length steps)) s x last d);
-      fresh = λ s d. fresh s d (is_taken steps s) refl;
+      fresh = λ s d. false_from_ne_true (is_taken steps s) (fresh s d);
     } where
       sent : (s : ℕ) → Contains (act_ids x.act) s → (s < suc (length steps)) × IsSentTo (steps ++ x ∷ []) s x.proc → IsSentTo steps s x.proc
       sent s d e = (e.1.0, elim (step_at-push_cases steps x _ s e.1.1) [ inl f ↦ f | inr f ↦ absurd (let l = e.0 in let q = f.0 in omega arith) ])
 
-      fresh : (s : ℕ) → Contains (act_ids x.act) s → (t : Bool) → is_taken steps s ≡ t → t ≡ false
-      fresh s d false e = refl
-      fresh s d true e =
+      fresh : (s : ℕ) → Contains (act_ids x.act) s → is_taken steps s ≡ true → ⊥
+      fresh s d e =
           let m = taken_at-from_is_taken steps s e in
           let within = step_at_within steps m.0 _ m.1.1 in
           let same = w.once m.0 (suc (length steps)) s (m.1.0, step_at-push_old steps x m.1.0 m.0 m.1.1, m.1.2) (x, step_at_last steps x, d) in
-          absurd (omega (arith, same, within.1))
+          omega (arith, same, within.1)
 
 -- no reason stands against the act of a step that fits, where no message that it takes was sent in its tick
 pub act_refusal-none : (c : Setup) (steps : List Step) (now : ℕ → Bool) (p : ℕ) (a : Act) → Fits c steps (record { proc = p; act = a })
