@@ -14,7 +14,7 @@ use Rattle.step_trace.specs.Witnesses.{IsGap}
 use Rattle.step_trace.proofs.StepPositions.{step_at_within}
 use Rattle.step_trace.proofs.TickOrder.{own_ticks_rise}
 use Rattle.bound_witness.specs.LongestGaps.{IsLongestGap, Precedes, BeginsBy, ListsGapsBy, gap_between}
-use Rattle.bound_witness.proofs.GapsBetween.{IsEdge, IsEdge-start, IsEdge-end, IsEdge-step, SilentBetween, between, between-IsLongestGap, same_between}
+use Rattle.bound_witness.proofs.GapsBetween.{IsEdge, IsEdge-end, IsEdge-step, SilentBetween, between, between-IsLongestGap, same_between}
 
 -- what begins by step k begins by each later step
 later : (w : Gap) (p k j : ℕ) → k ≤ j → BeginsBy w p k → BeginsBy w p j
@@ -94,16 +94,6 @@ pub record IsScanned (set : ℕ) (trace : Recorded) (p last k : ℕ) (ws : List 
   pub behind : (j : ℕ) → j < k → IsStepOf trace.steps j p → tick_of trace j ≤ last
   pub ahead : (j : ℕ) → k ≤ j → IsStepOf trace.steps j p → last < tick_of trace j
   pub listed : ListsGapsBy set trace p last ws
-
--- before the first step nothing was read
-pub IsScanned-begin : (set : ℕ) (trace : Recorded) (p : ℕ) (ws : List Gap) → IsTimed trace → ListsGapsBy set trace p 0 ws → IsScanned set trace p 0 1 ws
-IsScanned-begin set trace p ws time l = record {
-  inside = omega arith;
-  edge = IsEdge-start set trace p;
-  behind = λ j b s. absurd (let w = (step_at_within trace.steps j _ s.1).0 in omega arith);
-  ahead = λ j b s. (let i = (time.inside j _ s.1).0 in omega arith);
-  listed = l;
-}
 
 -- between the last step of p that was read and the next one, p is silent
 silent_before : (set : ℕ) (trace : Recorded) (p last k : ℕ) (ws : List Gap) → IsTimed trace → IsTrue (has_proc set p) → IsStepOf trace.steps k p → IsScanned set trace p last k ws → SilentBetween set trace p last (tick_of trace k)

@@ -13,10 +13,6 @@ use Rattle.step_trace.proofs.BoundLaws.{Gap-same}
 pub record IsEdge (set : ℕ) (trace : Recorded) (p x : ℕ) : Type 0 where
   pub apart : (o : Gap) → IsGap set trace o → o.proc ≡ p → o.from ≤ x → x ≤ o.to → ⊥
 
--- no gap has tick 0 in it
-pub IsEdge-start : (set : ℕ) (trace : Recorded) (p : ℕ) → IsEdge set trace p 0
-IsEdge-start set trace p = record { apart = λ o i q a b. absurd (let s = i.start in omega arith) }
-
 -- no gap has a tick past the last in it
 pub IsEdge-end : (set : ℕ) (trace : Recorded) (p x : ℕ) → trace.last < x → IsEdge set trace p x
 IsEdge-end set trace p x l = record { apart = λ o i q a b. absurd (let s = i.inside in omega arith) }

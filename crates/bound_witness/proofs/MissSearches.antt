@@ -1,6 +1,6 @@
 -- The miss of one length that a search has found so far, and the named miss at its end.
 use Rattle.std.proofs.Common.{ℕ, ◌≡◌, ◌≢◌, ◌+◌, ◌-◌, ◌<◌, ◌≤◌, inl, inr, length, Option, Some, None, refl, arith, subst}
-use Rattle.std.proofs.lemmas.Bool.{cases_eq}
+use Rattle.std.proofs.lemmas.Bool.{cases_eq, cases_lt}
 use Rattle.std.specs.Prelude.{MatchOption}
 use Rattle.step_trace.specs.declared.rows.Miss.{Miss}
 use Rattle.step_trace.specs.Traces.{Recorded}
@@ -13,77 +13,63 @@ use Rattle.step_trace.proofs.BoundLaws.{Miss-same, MissRefutes-sound}
 use Rattle.step_trace.proofs.BoundDecisions.{DeltaHolds-unrefuted}
 use Rattle.bound_witness.specs.WitnessSearches.{IsMissOf, HasNoMissOf, SentHasNoMissOf, IsMissOfSent}
 
--- no message of a number below `until` has such a miss
-pub record NoMissBelow (set : ℕ) (trace : Recorded) (g span until : ℕ) : Type 0 where
-  pub none : (o : Miss) → IsMissOf set trace g span o → o.sent < until → ⊥
+-- no message of number s or a greater one has such a miss
+pub record NoMissFrom (set : ℕ) (trace : Recorded) (g span s : ℕ) : Type 0 where
+  pub none : (o : Miss) → IsMissOf set trace g span o → s ≤ o.sent → ⊥
 
--- of the misses of this length of the messages of numbers below `until`, one of the last message
-pub record IsLastMissBelow (set : ℕ) (trace : Recorded) (g span until : ℕ) (m : Miss) : Type 0 where
-  pub miss : IsMissOf set trace g span m
-  pub last : (o : Miss) → IsMissOf set trace g span o → o.sent < until → o.sent ≤ m.sent
-
--- what was found below `until`: the last such miss, or that there is none
-abbrev pub LastMissBelow : ℕ → Recorded → ℕ → ℕ → ℕ → Option Miss → Type 0
-LastMissBelow set trace g span until None = NoMissBelow set trace g span until
-LastMissBelow set trace g span until (Some m) = IsLastMissBelow set trace g span until m
-
--- a miss of this length of message `until` is the last one found
-pub LastMissBelow-hit : (set : ℕ) (trace : Recorded) (g span until : ℕ) (m : Miss) → IsMissOfSent set trace g span until m → LastMissBelow set trace g span (until + 1) (Some m)
-LastMissBelow-hit set trace g span until m i = let q = i.sent in record { miss = i.miss; last = λ o j b. omega arith }
-
--- where message `until` has no miss of this length, what was found stays the last
-pub LastMissBelow-pass : (set : ℕ) (trace : Recorded) (g span until : ℕ) (found : Option Miss) → SentHasNoMissOf set trace g span until → LastMissBelow set trace g span until found → LastMissBelow set trace g span (until + 1) found
-LastMissBelow-pass set trace g span until None n b = record {
-  none = λ o i l. elim (cases_eq o.sent until) [ inl q ↦ n.none o q i | inr q ↦ b.none o i (omega arith) ];
-}
-LastMissBelow-pass set trace g span until (Some m) n b = record {
-  miss = b.miss;
-  last = λ o i l. elim (cases_eq o.sent until) [ inl q ↦ absurd (n.none o q i) | inr q ↦ b.last o i (omega arith) ];
-}
-
--- a search up to the trace's end finds the named miss: since ticks don't fall, the greatest number of a Send is
--- in the greatest tick
-pub LastMissBelow-end : (set : ℕ) (trace : Recorded) (g span until : ℕ) (found : Option Miss) → IsTimed trace → length trace.steps < until → LastMissBelow set trace g span until found
-    → MatchOption found (HasNoMissOf set trace g span) (IsNamedMiss set trace g (span + 1))
-LastMissBelow-end set trace g span until None time u b = record {
-  none = λ o i. b.none o i (let w = step_at_within trace.steps o.sent _ i.miss.message.sent in omega arith);
-}
-LastMissBelow-end set trace g span until (Some m) time u b =
-    let z = b.miss.long in
-    let f = b.miss.from in record {
-      miss = b.miss.miss;
-      from = b.miss.from;
+-- before these messages, a miss of message k is the named one: since ticks don't fall, the greatest number of a Send is in
+-- the greatest tick
+pub IsNamedMiss-found : (set : ℕ) (trace : Recorded) (g span k s : ℕ) (m : Miss) → IsTimed trace → s ≤ k + 1
+    → IsMissOfSent set trace g span k m → NoMissFrom set trace g span s → IsNamedMiss set trace g (span + 1) m
+IsNamedMiss-found set trace g span k s m time next found b =
+    let z = found.miss.long in
+    let f = found.miss.from in record {
+      miss = found.miss.miss;
+      from = found.miss.from;
       long = omega arith;
-      latest = λ o i l e. ticks_rise trace time o.sent m.sent _ _ i.message.sent b.miss.miss.message.sent (below o i l e);
+      latest = λ o i l e. ticks_rise trace time o.sent m.sent _ _ i.message.sent found.miss.miss.message.sent
+          (below o i l e);
       greatest = λ o i q e. below o i (omega arith) e;
     } where
-      below : (o : Miss) → IsMiss set trace o → g ≤ tick_of trace o.sent → tick_of trace o.sent + (span + 1) ≡ tick_of trace o.missed + 1 → o.sent ≤ m.sent
-      below o i l e = b.last o (record { miss = i; from = l; long = omega arith }) (let w = step_at_within trace.steps o.sent _ i.message.sent in omega arith)
+      below : (o : Miss) → IsMiss set trace o → g ≤ tick_of trace o.sent
+          → tick_of trace o.sent + (span + 1) ≡ tick_of trace o.missed + 1 → o.sent ≤ m.sent
+      below o i l e = elim (cases_lt m.sent o.sent) [
+        | inl above ↦ absurd (let at = found.sent in b.none o (record { miss = i; from = l; long = omega arith }) (omega arith))
+        | inr low ↦ low
+      ]
 
 -- the receives before number `until` end no miss of message s of this length
 pub record NoMissUntil (set : ℕ) (trace : Recorded) (span s until : ℕ) : Type 0 where
-  pub none : (r : ℕ) → r < until → IsMiss set trace (record { sent = s; missed = r }) → tick_of trace s + span ≡ tick_of trace r → ⊥
+  pub none : (r : ℕ) → r < until → IsMiss set trace (record { sent = s; missed = r })
+      → tick_of trace s + span ≡ tick_of trace r → ⊥
 
 -- where the step `until` ends no such miss, none is ended before the next number
-pub NoMissUntil-pass : (set : ℕ) (trace : Recorded) (span s until : ℕ) → (IsMiss set trace (record { sent = s; missed = until }) → tick_of trace s + span ≡ tick_of trace until → ⊥) → NoMissUntil set trace span s until → NoMissUntil set trace span s (until + 1)
+pub NoMissUntil-pass : (set : ℕ) (trace : Recorded) (span s until : ℕ)
+    → (IsMiss set trace (record { sent = s; missed = until }) → tick_of trace s + span ≡ tick_of trace until → ⊥)
+    → NoMissUntil set trace span s until → NoMissUntil set trace span s (until + 1)
 NoMissUntil-pass set trace span s until n b = record {
   none = λ r l i e. elim (cases_eq r until) [
-    | inl q ↦ n (subst (λ k. IsMiss set trace (record { sent = s; missed = k })) q i) (subst (λ k. tick_of trace s + span ≡ tick_of trace k) q e)
+    | inl q ↦ n (subst (λ k. IsMiss set trace (record { sent = s; missed = k })) q i)
+        (subst (λ k. tick_of trace s + span ≡ tick_of trace k) q e)
     | inr q ↦ b.none r (omega arith) i e
   ];
 }
 
 -- a search over all receives shows that the message has no such miss
-pub NoMissUntil-end : (set : ℕ) (trace : Recorded) (g span s until : ℕ) → length trace.steps < until → NoMissUntil set trace span s until → SentHasNoMissOf set trace g span s
+pub NoMissUntil-end : (set : ℕ) (trace : Recorded) (g span s until : ℕ) → length trace.steps < until
+    → NoMissUntil set trace span s until → SentHasNoMissOf set trace g span s
 NoMissUntil-end set trace g span s until u b = record {
   none = λ m q i.
       let same = Miss-same m (record { sent = s; missed = m.missed }) q refl in
       let w = step_at_within trace.steps m.missed _ i.miss.receive.step in
-      b.none m.missed (omega arith) (subst (λ (o : Miss). IsMiss set trace o) same i.miss) (subst (λ k. tick_of trace k + span ≡ tick_of trace m.missed) q i.long);
+      b.none m.missed (omega arith) (subst (λ (o : Miss). IsMiss set trace o) same i.miss)
+      (subst (λ k. tick_of trace k + span ≡ tick_of trace m.missed) q i.long);
 }
 
 -- beside a least bound above 1 there is a witness one tick shorter
-pub NamesMiss-found : (set : ℕ) (trace : Recorded) (g d : ℕ) (found : Option Miss) → IsDelta set trace g d → d ≢ 1 → MatchOption found (HasNoMissOf set trace g (d - 1)) (IsNamedMiss set trace g (d - 1 + 1)) → NamesMiss set trace g d found
+pub NamesMiss-found : (set : ℕ) (trace : Recorded) (g d : ℕ) (found : Option Miss) → IsDelta set trace g d → d ≢ 1
+    → MatchOption found (HasNoMissOf set trace g (d - 1)) (IsNamedMiss set trace g (d - 1 + 1))
+    → NamesMiss set trace g d found
 NamesMiss-found set trace g d None h k n =
     let p = h.positive in
     let e : d ≤ d - 1 = h.least (d - 1) (omega arith) (DeltaHolds-unrefuted set trace g (d - 1) (omega arith) (λ m r. elim (cases_eq (tick_of trace m.sent + (d - 1)) (tick_of trace m.missed)) [

@@ -6,6 +6,7 @@ ghost use Rattle.step_trace.specs.Ticks.{tick_of, IsTimed};
 ghost use Rattle.step_trace.specs.Bounds.{IsDelivered, DeltaHolds, DeltaHoldsFor, IsDelta};
 ghost use Rattle.step_trace.specs.Witnesses.{IsMiss, IsNamedMiss, MissRefutes, NamesMiss};
 ghost use Rattle.bound_witness.specs.LastMisses.{HasNoMiss, IsLastMiss};
+ghost use Rattle.bound_witness.specs.TickWindows.{NoReceiveBetween, IsLastReceiveBetween};
 ghost use Rattle.bound_witness.specs.WitnessSearches.{HasNoMissOf, SentHasNoMissOf, IsMissOfSent, IsSteadyMiss};
 
 use crate::step_facts::{is_receive_between, takes};
@@ -25,6 +26,18 @@ fn delivery(trace: &Trace, s: u64) -> u64
         }
     }
     end
+}
+
+/// The last Receive of processor `p` in a tick from `from` on and before `before`.
+fn last_receive_between(trace: &Trace, p: u64, from: u64, before: u64) -> Option<u64>
+    ensures { MatchOption result (NoReceiveBetween trace.now p from before) (IsLastReceiveBetween trace.now p from before) }
+{
+    for no in (1..trace.len() as u64 + 1).rev() {
+        if is_receive_between(trace, no, p, from, before) {
+            return Some(no);
+        }
+    }
+    None
 }
 
 /// Whether this is a miss of the trace and the set.
@@ -50,13 +63,8 @@ pub fn last_miss(trace: &Trace, set: ProcSet, sent: u64) -> Option<Miss>
     };
     let first = trace.tick(sent) + 1;
     let delivered = delivery(trace, sent);
-    let mut found = None;
-    for missed in 1..trace.len() as u64 + 1 {
-        if is_receive_between(trace, missed, to, first, delivered) {
-            found = Some(Miss { sent, missed });
-        }
-    }
-    found
+    let missed = last_receive_between(trace, to, first, delivered)?;
+    Some(Miss { sent, missed })
 }
 
 /// Whether the communication bound `d` holds for message `s`.
@@ -69,12 +77,10 @@ fn delta_holds_for(trace: &Trace, set: ProcSet, s: u64, d: u64) -> bool
     };
     let first = trace.tick(s) + d;
     let delivered = delivery(trace, s);
-    for no in 1..trace.len() as u64 + 1 {
-        if is_receive_between(trace, no, to, first, delivered) {
-            return false;
-        }
+    match last_receive_between(trace, to, first, delivered) {
+        None => true,
+        Some(_) => false,
     }
-    true
 }
 
 /// Whether the communication bound `d` holds from tick `g`.
@@ -131,13 +137,12 @@ fn last_miss_of_length(trace: &Trace, set: ProcSet, g: u64, span: u64) -> Option
     requires timed { IsTimed trace.now }
     ensures { MatchOption result (HasNoMissOf set trace.now g span) (IsNamedMiss set trace.now g (span + 1)) }
 {
-    let mut found = None;
-    for sent in 1..trace.len() as u64 + 1 {
+    for sent in (1..trace.len() as u64 + 1).rev() {
         if let Some(miss) = miss_of_length(trace, set, g, span, sent) {
-            found = Some(miss);
+            return Some(miss);
         }
     }
-    found
+    None
 }
 
 /// The least positive communication bound that holds from tick `g`, in ticks, which are the real-time

@@ -75,17 +75,16 @@ fn last_gap_of_length(trace: &Trace, set: ProcSet, g: u64, span: u64) -> Option<
     requires bound { span ≤ trace.now.last }
     ensures { MatchOption result (PhiHolds set trace.now g span) (IsNamedGap set trace.now g (span + 1)) }
 {
-    let mut found = None;
-    for from in g..trace.last_tick() - span + 2 {
+    for from in (g..trace.last_tick() - span + 2).rev() {
         if let Some(proc) = first_silent(trace, set, from, span) {
-            found = Some(Gap {
+            return Some(Gap {
                 proc,
                 from,
                 to: from + span - 1,
             });
         }
     }
-    found
+    None
 }
 
 /// The least positive processor bound that holds from tick `g` to the last tick, in ticks, which are

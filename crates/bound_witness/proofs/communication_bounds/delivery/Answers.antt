@@ -5,17 +5,8 @@ use Rattle.step_trace.proofs.StepPositions.{step_at_within}
 use Rattle.step_trace.proofs.TickPositions.{tick_of-limit}
 use Rattle.bound_witness.proofs.communication_bounds.delivery.Goals as goal
 
-pub loop-no-init : goal.loop-no-init
-loop-no-init c = λ r l t. absurd (let w = (step_at_within c.args.trace.now.steps r t.0 t.1).0 in omega (arith, l, w))
-
 pub loop-no-preserved : goal.loop-no-preserved
 loop-no-preserved c = below_more (λ r. TakesAt c.args.trace.now.steps r c.args.s → ⊥) _ c.loop-no.invariant (λ t. let e = c.if-takes.ensures.1 t in cc)
-
-pub returns-then-takes-clause-after : goal.returns-then-takes-clause-after
-returns-then-takes-clause-after c =
-    let l = c.tick.ensures.timed.later c.loop-no.no c.args.s (c.if-takes.ensures.0 refl) in
-    let v = c.tick.ensures.value in
-    omega (arith, l, v)
 
 pub returns-then-takes-clause-exact : goal.returns-then-takes-clause-exact
 returns-then-takes-clause-exact c =

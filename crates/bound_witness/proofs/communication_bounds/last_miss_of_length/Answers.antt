@@ -1,16 +1,17 @@
-use Rattle.std.proofs.Common.{◌+◌, Option, arith, subst, sym}
-use Rattle.step_trace.specs.declared.rows.Miss.{Miss}
-use Rattle.bound_witness.proofs.MissSearches.{LastMissBelow, LastMissBelow-hit, LastMissBelow-pass, LastMissBelow-end}
+use Rattle.std.proofs.Common.{◌-◌, inl, inr, arith}
+use Rattle.std.proofs.lemmas.Bool.{cases_eq}
+use Rattle.bound_witness.proofs.MissSearches.{IsNamedMiss-found}
 use Rattle.bound_witness.proofs.communication_bounds.last_miss_of_length.Goals as goal
-use Rattle.bound_witness.proofs.communication_bounds.last_miss_of_length.Goals.{in-Some, in_default}
 
 pub loop-sent-preserved : goal.loop-sent-preserved
-loop-sent-preserved c = elim c.match-miss_of_length.branch [
-  | in-Some w ↦ subst (λ (o : Option Miss). LastMissBelow c.args.set c.args.trace.now c.args.g c.args.span (c.loop-sent.sent + 1) o) (sym w.found-is)
-      (LastMissBelow-hit c.args.set c.args.trace.now c.args.g c.args.span c.loop-sent.sent w.in-Some.miss w.in-Some.ensures)
-  | in_default w ↦ subst (λ (o : Option Miss). LastMissBelow c.args.set c.args.trace.now c.args.g c.args.span (c.loop-sent.sent + 1) o) (sym w.found-is)
-      (LastMissBelow-pass c.args.set c.args.trace.now c.args.g c.args.span c.loop-sent.sent c.loop-sent.found w.in_default.ensures c.loop-sent.invariant)
-]
+loop-sent-preserved c = record {
+  none = λ o i l. elim (cases_eq o.sent (c.loop-sent.sent - 1)) [
+    | inl q ↦ c.in_default.ensures.none o q i
+    | inr q ↦ c.loop-sent.invariant.none o i (omega arith)
+  ];
+}
 
-pub returns : goal.returns
-returns c = LastMissBelow-end c.args.set c.args.trace.now c.args.g c.args.span c.loop-sent.sent c.loop-sent.found c.requires.timed (omega arith) c.loop-sent.invariant
+pub returns-in-Some : goal.returns-in-Some
+returns-in-Some c =
+    IsNamedMiss-found c.args.set c.args.trace.now c.args.g c.args.span _ c.loop-sent.sent c.in-Some.miss
+    c.requires.timed (omega arith) c.in-Some.ensures c.loop-sent.invariant

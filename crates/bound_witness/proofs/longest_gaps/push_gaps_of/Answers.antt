@@ -1,14 +1,11 @@
 use Rattle.std.proofs.Common.{arith, refl, sym}
 use Rattle.std.proofs.lemmas.Result.{on_ok_weaker, on_err_weaker, err_from_is_err_and}
-use Rattle.bound_witness.proofs.GapLists.{IsScanned-begin, IsScanned-gap, IsScanned-last_gap, IsScanned-step, IsScanned-pass, IsScanned-end, ListsGapsBy-pass}
+use Rattle.bound_witness.proofs.GapLists.{IsScanned-gap, IsScanned-last_gap, IsScanned-step, IsScanned-pass, IsScanned-end, ListsGapsBy-pass}
 use Rattle.bound_witness.proofs.longest_gaps.push_gaps_of.Goals as goal
 use Rattle.bound_witness.proofs.longest_gaps.push_gaps_of.Goals.{then-is_step_of+in_ok-push_gap_between, else-is_step_of}
 
 pub returns-then-not-contains-clause-listed : goal.returns-then-not-contains-clause-listed
 returns-then-not-contains-clause-listed c = ListsGapsBy-pass c.args.set c.args.trace.now c.args.p c.args.found.now.items (sym c.if-not-contains.ensures) c.requires
-
-pub loop-no-init : goal.loop-no-init
-loop-no-init c = IsScanned-begin c.args.set c.args.trace.now c.args.p c.args.found.now.items c.last_tick-end.ensures.timed c.requires
 
 pub loop-no-preserved : goal.loop-no-preserved
 loop-no-preserved c = elim c.if-is_step_of.branch [

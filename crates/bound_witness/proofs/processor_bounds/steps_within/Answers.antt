@@ -1,11 +1,7 @@
-use Rattle.std.proofs.Common.{◌+◌, ◌≤◌, below_more, arith, refl, sym, subst}
+use Rattle.std.proofs.Common.{◌≤◌, arith, refl, sym, subst}
 use Rattle.step_trace.specs.Ticks.{tick_of}
 use Rattle.step_trace.proofs.StepPositions.{step_at_within}
-use Rattle.bound_witness.specs.TickWindows.{IsStepBetween}
 use Rattle.bound_witness.proofs.processor_bounds.steps_within.Goals as goal
-
-pub loop-no-preserved : goal.loop-no-preserved
-loop-no-preserved c = below_more (λ k. IsStepBetween c.args.trace.now k c.args.p c.args.x (c.args.x + c.args.f) → ⊥) _ c.loop-no.invariant (λ s. let e = c.if-is_step_between.ensures.1 s in cc)
 
 pub returns-then-is_step_between : goal.returns-then-is_step_between
 returns-then-is_step_between c = (
