@@ -80,7 +80,8 @@ pub listing-refused : (c : Setup) (s : State) (round : ℕ) (heard_of : ℕ → 
     → IsRefusedByFew c heard_of (next c s (owner c.n (phase_of round)) round (heard_from c.n heard_of)).proposal
 listing-refused c s round heard_of setup e w refuses proposes silent =
     let quorum = (subst (IsProposal (c.n - c.t) (heard_from c.n heard_of)) proposes (listing-proposal c s round (heard_from c.n heard_of) setup e)).quorum_lists in
-    let listed = heard-few c.n heard_of (listing w) (λ j. not (refuses j)) (λ j h. ap not (false_from_ne_true (refuses j) (λ r. silent j r h))) in
+    let listed = heard-few c.n heard_of (listing w) (λ j. not (refuses j))
+    (λ j h. ap not (false_from_ne_true (refuses j) (λ r. silent j r h))) in
     let apart = count_by-disjoint (λ j. not (refuses j)) refuses (range_with_len 1 c.n) (λ j a b. let clash = sym (not-true (refuses j) a) ∙ b in cc) in
     let faults = setup.faults in
     omega (arith, length-range_with_len 1 c.n)

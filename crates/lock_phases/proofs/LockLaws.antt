@@ -14,7 +14,8 @@ use Rattle.lock_phases.specs.Hearing.{IsToldToLock, IsTold, IsReleasedByTold}
 use Rattle.lock_phases.proofs.Membership.{Contains-cons_cases}
 
 -- a lock that is held after v was locked is that one, or was held before
-pub Contains-put_lock_cases : (v p : ℕ) (locks : List LockPair) (z : LockPair) → Contains (put_lock v p locks) z → (z ≡ (v, p)) ⊎ Contains locks z
+pub Contains-put_lock_cases : (v p : ℕ) (locks : List LockPair) (z : LockPair) → Contains (put_lock v p locks) z
+    → (z ≡ (v, p)) ⊎ Contains locks z
 Contains-put_lock_cases v p [] z c = Contains-cons_cases (v, p) z [] c
 Contains-put_lock_cases v p (x ∷ xs) z c = go (ltb v (value_of x)) (eqb v (value_of x)) c (Contains-put_lock_cases v p xs z)
   where
@@ -22,7 +23,8 @@ Contains-put_lock_cases v p (x ∷ xs) z c = go (ltb v (value_of x)) (eqb v (val
     rest (inl h) = inl h
     rest (inr h) = inr (Contains-rest x z xs h)
 
-    go : (b d : Bool) → Contains (cond b ((v, p) ∷ x ∷ xs) (cond d ((v, p) ∷ xs) (x ∷ put_lock v p xs))) z → (Contains (put_lock v p xs) z → (z ≡ (v, p)) ⊎ Contains xs z) → (z ≡ (v, p)) ⊎ Contains (x ∷ xs) z
+    go : (b d : Bool) → Contains (cond b ((v, p) ∷ x ∷ xs) (cond d ((v, p) ∷ xs) (x ∷ put_lock v p xs))) z
+        → (Contains (put_lock v p xs) z → (z ≡ (v, p)) ⊎ Contains xs z) → (z ≡ (v, p)) ⊎ Contains (x ∷ xs) z
     go true d h f = Contains-cons_cases (v, p) z (x ∷ xs) h
     go false true h f = rest (Contains-cons_cases (v, p) z xs h)
     go false false h f = elim (Contains-cons_cases x z (put_lock v p xs) h) [
@@ -35,17 +37,21 @@ pub Contains-put_lock_new : (v p : ℕ) (locks : List LockPair) → Contains (pu
 Contains-put_lock_new v p [] = Contains-head (v, p) []
 Contains-put_lock_new v p (x ∷ xs) = go (ltb v (value_of x)) (eqb v (value_of x)) (Contains-put_lock_new v p xs)
   where
-    go : (b d : Bool) → Contains (put_lock v p xs) (v, p) → Contains (cond b ((v, p) ∷ x ∷ xs) (cond d ((v, p) ∷ xs) (x ∷ put_lock v p xs))) (v, p)
+    go : (b d : Bool) → Contains (put_lock v p xs) (v, p)
+        → Contains (cond b ((v, p) ∷ x ∷ xs) (cond d ((v, p) ∷ xs) (x ∷ put_lock v p xs))) (v, p)
     go true d f = Contains-head (v, p) (x ∷ xs)
     go false true f = Contains-head (v, p) xs
     go false false f = Contains-rest x (v, p) (put_lock v p xs) f
 
 -- a lock on another value stays
-pub Contains-put_lock_old : (v p : ℕ) (locks : List LockPair) (z : LockPair) → Contains locks z → (value_of z ≡ v → ⊥) → Contains (put_lock v p locks) z
+pub Contains-put_lock_old : (v p : ℕ) (locks : List LockPair) (z : LockPair) → Contains locks z → (value_of z ≡ v → ⊥)
+    → Contains (put_lock v p locks) z
 Contains-put_lock_old v p [] z c n = absurd (Contains-nil z c)
 Contains-put_lock_old v p (x ∷ xs) z c n = go (ltb v (value_of x)) (eqb v (value_of x)) refl (Contains-cons_cases x z xs c) (λ h. Contains-put_lock_old v p xs z h n)
   where
-    go : (b d : Bool) → eqb v (value_of x) ≡ d → (z ≡ x) ⊎ Contains xs z → (Contains xs z → Contains (put_lock v p xs) z) → Contains (cond b ((v, p) ∷ x ∷ xs) (cond d ((v, p) ∷ xs) (x ∷ put_lock v p xs))) z
+    go : (b d : Bool) → eqb v (value_of x) ≡ d → (z ≡ x) ⊎ Contains xs z
+        → (Contains xs z → Contains (put_lock v p xs) z)
+        → Contains (cond b ((v, p) ∷ x ∷ xs) (cond d ((v, p) ∷ xs) (x ∷ put_lock v p xs))) z
     go true d e (inl h) f = Contains-rest (v, p) z (x ∷ xs) (zero, omega arith, sym h)
     go true d e (inr h) f = Contains-rest (v, p) z (x ∷ xs) (Contains-rest x z xs h)
     go false true e (inl h) f = absurd (n (ap value_of h ∙ sym (eqb-true v (value_of x) e)))
@@ -54,23 +60,27 @@ Contains-put_lock_old v p (x ∷ xs) z c n = go (ltb v (value_of x)) (eqb v (val
     go false false e (inr h) f = Contains-rest x z (put_lock v p xs) (f h)
 
 -- beside an acceptable value no other is locked
-pub is_acceptable-locked : (locks : List LockPair) (v : ℕ) (z : LockPair) → is_acceptable locks v ≡ true → Contains locks z → value_of z ≡ v
+pub is_acceptable-locked : (locks : List LockPair) (v : ℕ) (z : LockPair) → is_acceptable locks v ≡ true
+    → Contains locks z → value_of z ≡ v
 is_acceptable-locked [] v z a c = absurd (Contains-nil z c)
 is_acceptable-locked (x ∷ xs) v z a c = go (eqb (value_of x) v) refl a (Contains-cons_cases x z xs c) (λ t h. is_acceptable-locked xs v z t h)
   where
-    go : (b : Bool) → eqb (value_of x) v ≡ b → (b && is_acceptable xs v) ≡ true → (z ≡ x) ⊎ Contains xs z → (is_acceptable xs v ≡ true → Contains xs z → value_of z ≡ v) → value_of z ≡ v
+    go : (b : Bool) → eqb (value_of x) v ≡ b → (b && is_acceptable xs v) ≡ true → (z ≡ x) ⊎ Contains xs z
+        → (is_acceptable xs v ≡ true → Contains xs z → value_of z ≡ v) → value_of z ≡ v
     go true e t (inl h) f = ap value_of h ∙ eqb-true (value_of x) v e
     go true e t (inr h) f = f t h
     go false e t h f = cc
 
 -- a value is acceptable where no other is locked
-pub is_acceptable-from_locks : (locks : List LockPair) (v : ℕ) → ((z : LockPair) → Contains locks z → value_of z ≡ v) → is_acceptable locks v ≡ true
+pub is_acceptable-from_locks : (locks : List LockPair) (v : ℕ) → ((z : LockPair) → Contains locks z → value_of z ≡ v)
+    → is_acceptable locks v ≡ true
 is_acceptable-from_locks [] v f = refl
 is_acceptable-from_locks (x ∷ xs) v f =
     rw (eq-eqb (value_of x) v (f x (Contains-head x xs))) (is_acceptable-from_locks xs v (λ z h. f z (Contains-rest x z xs h)))
 
 -- a value that was asked to be locked comes from a Lock of the owner
-pub heard_lock-from_owner : (owner : ℕ) (heard : List Message) (v : ℕ) → heard_lock owner heard ≡ Some v → IsToldToLock owner heard v
+pub heard_lock-from_owner : (owner : ℕ) (heard : List Message) (v : ℕ) → heard_lock owner heard ≡ Some v
+    → IsToldToLock owner heard v
 heard_lock-from_owner owner [] v e = cc
 heard_lock-from_owner owner (m ∷ rest) v e = go (eqb (sender_of m) owner) refl e (heard_lock-from_owner owner rest v)
   where
@@ -80,37 +90,49 @@ heard_lock-from_owner owner (m ∷ rest) v e = go (eqb (sender_of m) owner) refl
     lock_is Ack e = cc
     lock_is (Locks ps) e = cc
 
-    go : (b : Bool) → eqb (sender_of m) owner ≡ b → cond b (locked_value (body_of m).kind) (heard_lock owner rest) ≡ Some v
+    go : (b : Bool) → eqb (sender_of m) owner ≡ b
+        → cond b (locked_value (body_of m).kind) (heard_lock owner rest) ≡ Some v
         → (heard_lock owner rest ≡ Some v → IsToldToLock owner rest v) → IsToldToLock owner (m ∷ rest) v
     go true t h f = record { message = m; is_heard = Contains-head m rest; sender = eqb-true (sender_of m) owner t; kind = lock_is (body_of m).kind h }
     go false t h f =
         let told = f h in
-        record { message = told.message; is_heard = Contains-rest m told.message rest told.is_heard; sender = told.sender; kind = told.kind }
+        record {
+          message = told.message;
+          is_heard = Contains-rest m told.message rest told.is_heard;
+          sender = told.sender;
+          kind = told.kind;
+        }
 
 -- the value of the owner's Lock that is heard was asked to be locked, where the senders rise
-pub heard_lock-told : (owner : ℕ) (heard : List Message) (v : ℕ) → IsStrictlyIncreasing (map sender_of heard) → IsToldToLock owner heard v → heard_lock owner heard ≡ Some v
+pub heard_lock-told : (owner : ℕ) (heard : List Message) (v : ℕ) → IsStrictlyIncreasing (map sender_of heard)
+    → IsToldToLock owner heard v → heard_lock owner heard ≡ Some v
 heard_lock-told owner [] v rise told = absurd (Contains-nil told.message told.is_heard)
 heard_lock-told owner (m ∷ rest) v rise told =
     go (eqb (sender_of m) owner) refl (Contains-cons_cases m told.message rest told.is_heard)
-    (λ d. heard_lock-told owner rest v (rising-tail (sender_of m) (map sender_of rest) rise) (record { message = told.message; is_heard = d; sender = told.sender; kind = told.kind }))
+    (λ d. heard_lock-told owner rest v (rising-tail (sender_of m) (map sender_of rest) rise)
+    (record { message = told.message; is_heard = d; sender = told.sender; kind = told.kind }))
   where
     below : Contains rest told.message → sender_of m < sender_of told.message
     below d = rising-first (sender_of m) (map sender_of rest) rise (sender_of told.message) (Contains-map sender_of rest told.message d)
 
-    go : (b : Bool) → eqb (sender_of m) owner ≡ b → (told.message ≡ m) ⊎ Contains rest told.message → (Contains rest told.message → heard_lock owner rest ≡ Some v)
+    go : (b : Bool) → eqb (sender_of m) owner ≡ b → (told.message ≡ m) ⊎ Contains rest told.message
+        → (Contains rest told.message → heard_lock owner rest ≡ Some v)
         → cond b (locked_value (body_of m).kind) (heard_lock owner rest) ≡ Some v
     go true t (inl h) f = ap (λ (x : Message). locked_value (body_of x).kind) (sym h) ∙ ap locked_value told.kind
-    go true t (inr d) f = let l = below d in let mine = eqb-true (sender_of m) owner t in let theirs = told.sender in absurd (omega arith)
+    go true t (inr d) f =
+        let l = below d in let mine = eqb-true (sender_of m) owner t in let theirs = told.sender in absurd (omega arith)
     go false t (inl h) f = let clash = sym (eq-eqb (sender_of m) owner (ap sender_of (sym h) ∙ told.sender)) ∙ t in cc
     go false t (inr d) f = f d
 
 -- a lock that is kept was held, and no lock heard releases it
-pub Contains-from_kept_locks : (heard : List Message) (locks : List LockPair) (z : LockPair) → Contains (kept_locks heard locks) z → Contains locks z × (is_released heard z ≡ false)
+pub Contains-from_kept_locks : (heard : List Message) (locks : List LockPair) (z : LockPair)
+    → Contains (kept_locks heard locks) z → Contains locks z × (is_released heard z ≡ false)
 Contains-from_kept_locks heard locks z c =
     let r = Contains-from_filter (λ lock. not (is_released heard lock)) locks z c in (r.0, not-true (is_released heard z) r.1)
 
 -- a lock that no lock heard releases is kept
-pub Contains-kept_locks : (heard : List Message) (locks : List LockPair) (z : LockPair) → Contains locks z → is_released heard z ≡ false → Contains (kept_locks heard locks) z
+pub Contains-kept_locks : (heard : List Message) (locks : List LockPair) (z : LockPair) → Contains locks z
+    → is_released heard z ≡ false → Contains (kept_locks heard locks) z
 Contains-kept_locks heard locks z c e = Contains-filter (λ lock. not (is_released heard lock)) locks z c (ap not e)
 
 -- what is released is released by a lock that is told
@@ -131,7 +153,9 @@ is_released-by heard z e =
     not_false false e f = cc
 
 -- a lock that is told releases each lock on another value of no higher phase
-pub is_released-told : (heard : List Message) (z told : LockPair) → IsTold heard told → (value_of told ≡ value_of z → ⊥) → phase_of_lock z ≤ phase_of_lock told → is_released heard z ≡ true
+pub is_released-told : (heard : List Message) (z told : LockPair) → IsTold heard told → (value_of told ≡ value_of z → ⊥)
+    → phase_of_lock z ≤ phase_of_lock told → is_released heard z ≡ true
 is_released-told heard z told t n l =
     list_any-at (λ m. list_any (λ x. releases x z) (told_locks (body_of m).kind)) heard t.message t.is_heard
-    (list_any-at (λ x. releases x z) (told_locks (body_of t.message).kind) told t.tells (rw (ne_eqb (value_of told) (value_of z) n, le-leb (phase_of_lock z) (phase_of_lock told) l) refl))
+    (list_any-at (λ x. releases x z) (told_locks (body_of t.message).kind) told t.tells
+    (rw (ne_eqb (value_of told) (value_of z) n, le-leb (phase_of_lock z) (phase_of_lock told) l) refl))

@@ -18,7 +18,8 @@ releasing-keeps c s me round heard e = subst (λ x. ReleasingKeeps s x heard) (s
   owes_ack = refl;
   decision = refl;
   locks = λ lock d. (Contains-from_kept_locks heard s.locks lock d).0;
-  held = λ lock d f. Contains-kept_locks heard s.locks lock d (false_from_ne_true (is_released heard lock) (λ t. f (is_released-by heard lock t)));
+  held = λ lock d f. Contains-kept_locks heard s.locks lock d
+      (false_from_ne_true (is_released heard lock) (λ t. f (is_released-by heard lock t)));
   released = λ lock r d. let clash = sym (is_released-told heard lock r.releasing r.told r.other r.later) ∙ (Contains-from_kept_locks heard s.locks lock d).1 in cc;
 })
   where

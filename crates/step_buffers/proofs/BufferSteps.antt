@@ -134,7 +134,8 @@ pub buffer-received_elsewhere : (c : Setup) (steps : List Step) (p q : ℕ) (end
     → buffer (steps ++ receiving p ends ids ∷ []) q ≡ buffer steps q
 buffer-received_elsewhere c steps p q ends ids w other =
     buffer-received c steps p q ends ids (IsWellFormed-prefix c steps (receiving p ends ids ∷ []) w)
-    ∙ filter-all (λ s. not (list_any (λ i. i == s) ids)) (buffer steps q) (λ s d. ap not (false_from_ne_true (list_any (λ i. i == s) ids) (no_other s d)))
+    ∙ filter-all (λ s. not (list_any (λ i. i == s) ids)) (buffer steps q)
+    (λ s d. ap not (false_from_ne_true (list_any (λ i. i == s) ids) (no_other s d)))
   where
     no_other : (s : ℕ) → Contains (buffer steps q) s → list_any (λ i. i == s) ids ≡ true → ⊥
     no_other s d e =

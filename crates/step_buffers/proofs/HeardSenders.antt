@@ -23,14 +23,16 @@ pub record IsStepWith (test : Step → Bool) (steps : List Step) (k : ℕ) : Typ
   pub stands : step_at steps k ≡ Some step
   pub passes : test step ≡ true
 
-IsStepWith-from_test : (test : Step → Bool) (steps : List Step) (k : ℕ) → option_map_or test (step_at steps k) false ≡ true → IsStepWith test steps k
+IsStepWith-from_test : (test : Step → Bool) (steps : List Step) (k : ℕ)
+    → option_map_or test (step_at steps k) false ≡ true → IsStepWith test steps k
 IsStepWith-from_test test steps k h = go (step_at steps k) refl h
   where
     go : (o : Option Step) → step_at steps k ≡ o → option_map_or test o false ≡ true → IsStepWith test steps k
     go None e t = cc
     go (Some x) e t = record { step = x; stands = e; passes = t }
 
-test-from_step : (test : Step → Bool) (steps : List Step) (k : ℕ) (x : Step) → step_at steps k ≡ Some x → test x ≡ true → option_map_or test (step_at steps k) false ≡ true
+test-from_step : (test : Step → Bool) (steps : List Step) (k : ℕ) (x : Step) → step_at steps k ≡ Some x → test x ≡ true
+    → option_map_or test (step_at steps k) false ≡ true
 test-from_step test steps k x e t = rw e t
 
 -- s is a message that q sent in its round r
@@ -90,7 +92,13 @@ IsHeard-from_table steps p r q h =
     record {
       over = leb-true r (passed steps p) parts.0;
       message = s.0;
-      take = record { place = k.0; step = x.step; stands = x.stands; taker = eqb-true x.step.proc p does.0; taken = s.1 };
+      take = record {
+        place = k.0;
+        step = x.step;
+        stands = x.stands;
+        taker = eqb-true x.step.proc p does.0;
+        taken = s.1;
+      };
       in_time = leb-true (round_at steps p k.0) r at.0;
       sent = IsSentIn-from_test steps q r s.0 s.2;
     }
@@ -110,13 +118,15 @@ heard_table-from_heard steps p r q is =
     let within = step_at_within steps t.place t.step t.stands in
     and_from (nat_le r (passed steps p)) (list_any (λ k. hears_at steps p r q k) (numbers steps))
     (le-leb r (passed steps p) is.over)
-    (list_any-at (λ k. hears_at steps p r q k) (numbers steps) t.place (Contains-numbers steps t.place (omega arith) within.1)
+    (list_any-at (λ k. hears_at steps p r q k) (numbers steps) t.place
+    (Contains-numbers steps t.place (omega arith) within.1)
     (and_from (nat_le (round_at steps p t.place) r) (option_map_or takes (step_at steps t.place) false)
     (le-leb (round_at steps p t.place) r is.in_time)
     (test-from_step takes steps t.place t.step t.stands
     (and_from (t.step.proc == p) (list_any (λ s. is_sent_in steps q r s) (act_ids t.step.act))
     (eq-eqb t.step.proc p t.taker)
-    (list_any-at (λ s. is_sent_in steps q r s) (act_ids t.step.act) is.message t.taken (is_sent_in-from_send steps q r is.message is.sent))))))
+    (list_any-at (λ s. is_sent_in steps q r s) (act_ids t.step.act) is.message t.taken
+    (is_sent_in-from_send steps q r is.message is.sent))))))
 
 pub same_tests : (a b : Bool) → (a ≡ true → b ≡ true) → (b ≡ true → a ≡ true) → a ≡ b
 same_tests true b f g = sym (f refl)
@@ -124,7 +134,8 @@ same_tests false true f g = g refl
 same_tests false false f g = refl
 
 -- a message of a prefix, and of the whole
-IsSentIn-same : (steps other : List Step) (q r s : ℕ) → round_at other q s ≡ round_at steps q s → step_at other s ≡ step_at steps s → IsSentIn steps q r s → IsSentIn other q r s
+IsSentIn-same : (steps other : List Step) (q r s : ℕ) → round_at other q s ≡ round_at steps q s
+    → step_at other s ≡ step_at steps s → IsSentIn steps q r s → IsSentIn other q r s
 IsSentIn-same steps other q r s round step is = record {
   round = round ∙ is.round;
   step = is.step;
@@ -133,15 +144,19 @@ IsSentIn-same steps other q r s round step is = record {
   sends = is.sends;
 }
 
-pub IsSentIn-longer : (steps more : List Step) (q r s : ℕ) → s ≤ length steps → IsSentIn steps q r s → IsSentIn (steps ++ more) q r s
+pub IsSentIn-longer : (steps more : List Step) (q r s : ℕ) → s ≤ length steps → IsSentIn steps q r s
+    → IsSentIn (steps ++ more) q r s
 IsSentIn-longer steps more q r s l = IsSentIn-same steps (steps ++ more) q r s (round_at-prefix steps more q s (omega arith)) (step_at-prefix steps more s l)
 
-pub IsSentIn-prefix : (steps more : List Step) (q r s : ℕ) → s ≤ length steps → IsSentIn (steps ++ more) q r s → IsSentIn steps q r s
+pub IsSentIn-prefix : (steps more : List Step) (q r s : ℕ) → s ≤ length steps → IsSentIn (steps ++ more) q r s
+    → IsSentIn steps q r s
 IsSentIn-prefix steps more q r s l =
-    IsSentIn-same (steps ++ more) steps q r s (sym (round_at-prefix steps more q s (omega arith))) (sym (step_at-prefix steps more s l))
+    IsSentIn-same (steps ++ more) steps q r s (sym (round_at-prefix steps more q s (omega arith)))
+    (sym (step_at-prefix steps more s l))
 
 -- what was heard stays heard
-IsHeard-longer : (c : Setup) (steps more : List Step) (p r q : ℕ) → IsWellFormed c steps → IsHeard steps p r q → IsHeard (steps ++ more) p r q
+IsHeard-longer : (c : Setup) (steps more : List Step) (p r q : ℕ) → IsWellFormed c steps → IsHeard steps p r q
+    → IsHeard (steps ++ more) p r q
 IsHeard-longer c steps more p r q w is =
     let t = is.take in
     let b = step_at_within steps t.place t.step t.stands in
@@ -151,16 +166,24 @@ IsHeard-longer c steps more p r q w is =
     record {
       over = (let o = is.over in let m = passed-append steps more p in omega arith);
       message = is.message;
-      take = record { place = t.place; step = t.step; stands = step_at-prefix steps more t.place within ∙ t.stands; taker = t.taker; taken = t.taken };
+      take = record {
+        place = t.place;
+        step = t.step;
+        stands = step_at-prefix steps more t.place within ∙ t.stands;
+        taker = t.taker;
+        taken = t.taken;
+      };
       in_time = (let same = round_at-prefix steps more p t.place (omega arith) in let i = is.in_time in omega arith);
       sent = IsSentIn-longer steps more q r is.message (omega arith) is.sent;
     }
 
 -- and in a round that is over nothing more is heard
-IsHeard-prefix : (c : Setup) (steps more : List Step) (p r q : ℕ) → IsWellFormed c steps → r ≤ passed steps p → IsHeard (steps ++ more) p r q → IsHeard steps p r q
+IsHeard-prefix : (c : Setup) (steps more : List Step) (p r q : ℕ) → IsWellFormed c steps → r ≤ passed steps p
+    → IsHeard (steps ++ more) p r q → IsHeard steps p r q
 IsHeard-prefix c steps more p r q w over is = go is.take is.in_time (cases_lt (length steps) is.take.place)
   where
-    go : (t : IsTakenBy (steps ++ more) p is.message) → round_at (steps ++ more) p t.place ≤ r → (length steps < t.place) ⊎ (t.place ≤ length steps) → IsHeard steps p r q
+    go : (t : IsTakenBy (steps ++ more) p is.message) → round_at (steps ++ more) p t.place ≤ r
+        → (length steps < t.place) ⊎ (t.place ≤ length steps) → IsHeard steps p r q
     go t early (inl late) = absurd (let past = round_at-past steps more p t.place late in omega arith)
     go t early (inr within) =
         let stands : step_at steps t.place ≡ Some t.step = sym (step_at-prefix steps more t.place within) ∙ t.stands in
@@ -184,7 +207,8 @@ heard_table-prefix c steps more p r q w over =
     (λ h. heard_table-from_heard steps p r q (IsHeard-prefix c steps more p r q w over (IsHeard-from_table (steps ++ more) p r q h)))
 
 -- who is heard in a round had passed all rounds before it
-pub heard_table-sender : (steps : List Step) (p rounds q : ℕ) → heard_table steps p (suc rounds) q ≡ true → rounds ≤ passed steps q
+pub heard_table-sender : (steps : List Step) (p rounds q : ℕ) → heard_table steps p (suc rounds) q ≡ true
+    → rounds ≤ passed steps q
 heard_table-sender steps p rounds q h =
     let is = IsHeard-from_table steps p (suc rounds) q h in
     let sent = is.sent.round in
@@ -192,7 +216,8 @@ heard_table-sender steps p rounds q h =
     omega arith
 
 -- the nodes of the rounds that their processors have passed are settled
-pub passed-settled : (c : Setup) (steps more : List Step) → IsWellFormed c steps → IsSettled c (heard_table steps) (heard_table (steps ++ more)) (λ p r. r ≤ passed steps p)
+pub passed-settled : (c : Setup) (steps more : List Step) → IsWellFormed c steps
+    → IsSettled c (heard_table steps) (heard_table (steps ++ more)) (λ p r. r ≤ passed steps p)
 passed-settled c steps more w = record {
   earlier = λ p rounds s. omega arith;
   rows = λ p rounds q s is. heard_table-prefix c steps more p (suc rounds) q w s;
@@ -200,7 +225,9 @@ passed-settled c steps more w = record {
 }
 
 -- so they are the same in each longer trace
-pub state_after-prefix : (c : Setup) (steps more : List Step) (rounds p : ℕ) → IsWellFormed c steps → rounds ≤ passed steps p
+pub state_after-prefix : (c : Setup) (steps more : List Step) (rounds p : ℕ) → IsWellFormed c steps
+    → rounds ≤ passed steps p
     → state_after c (heard_table steps) rounds p ≡ state_after c (heard_table (steps ++ more)) rounds p
 state_after-prefix c steps more rounds p w over =
-    state_after-settled c (heard_table steps) (heard_table (steps ++ more)) (λ p r. r ≤ passed steps p) (passed-settled c steps more w) rounds p over
+    state_after-settled c (heard_table steps) (heard_table (steps ++ more)) (λ p r. r ≤ passed steps p)
+    (passed-settled c steps more w) rounds p over

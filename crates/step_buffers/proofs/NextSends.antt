@@ -96,7 +96,8 @@ later-destination c node p round last k h =
 find-first : (test : ℕ → Bool) (a n k : ℕ) → a ≤ k → k < a + n → ((j : ℕ) → a ≤ j → j < k → test j ≡ false) → test k ≡ true → find test (range_with_len a n) ≡ Some k
 find-first test a zero k low high none at = absurd (omega arith)
 find-first test a (suc n) k low high none at = elim (cases_lt a k) [
-  | inl l ↦ rw (none a (omega arith) l) (find-first test (a + 1) n k (omega arith) (omega arith) (λ j b h. none j (omega arith) h) at)
+  | inl l ↦ rw (none a (omega arith) l)
+      (find-first test (a + 1) n k (omega arith) (omega arith) (λ j b h. none j (omega arith) h) at)
   | inr l ↦ (let e : a ≡ k = omega arith in rw (ap test e ∙ at) (ap (λ (x : ℕ). Some x) e))
 ]
 
@@ -106,7 +107,10 @@ find-none test a zero none = refl
 find-none test a (suc n) none = rw (none a (omega arith) (omega arith)) (find-none test (a + 1) n (λ j b h. none j (omega arith) (omega arith)))
 
 unsent : (c : Setup) (node : State) (p round last to : ℕ) → (last < to → is_some (out c node p round to) ≡ false) → (nat_lt last to && is_some (out c node p round to)) ≡ false
-unsent c node p round last to none = elim (cases_lt last to) [ inl l ↦ rw (lt-ltb last to l, none l) refl | inr l ↦ rw (le-ltb last to l) refl ]
+unsent c node p round last to none = elim (cases_lt last to) [
+  | inl l ↦ rw (lt-ltb last to l, none l) refl
+  | inr l ↦ rw (le-ltb last to l) refl
+]
 
 pub destination_after-found : (c : Setup) (node : State) (p round last to : ℕ) → last < to → to < c.n + 1
     → ((t : ℕ) → last < t → t < to → is_some (out c node p round t) ≡ false) → is_some (out c node p round to) ≡ true → destination_after c node p round last ≡ Some to
@@ -127,7 +131,9 @@ present None h = cc
 -- so there is something to send to the next destination
 pub destination_after-sends : (c : Setup) (node : State) (p round last to : ℕ) → destination_after c node p round last ≡ Some to → IsSome (out c node p round to)
 destination_after-sends c node p round last to h =
-    present (out c node p round to) (and_parts (nat_lt last to) (is_some (out c node p round to)) (found (λ t. nat_lt last t && is_some (out c node p round t)) (processors c) to (IsStrictlyIncreasing-range_with_len 1 c.n) h).passes).1
+    let first = found (λ t. nat_lt last t && is_some (out c node p round t)) (processors c) to
+    (IsStrictlyIncreasing-range_with_len 1 c.n) h in
+    present (out c node p round to) (and_parts (nat_lt last to) (is_some (out c node p round to)) first.passes).1
 
 -- in the rounds of lists and of acknowledgements nobody but the owner is sent anything
 pub sent-to_owner : (c : Setup) (s : State) (me round to : ℕ) → (part_of round ≡ 1) ⊎ (part_of round ≡ 3) → to ≢ owner c.n (phase_of round)

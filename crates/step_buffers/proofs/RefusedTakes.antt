@@ -36,7 +36,8 @@ Contains-take (suc n) (x ∷ xs) s d = elim (Contains-cons_cases x s (take n xs)
 ]
 
 -- where none is missing all are there
-none_missing : (waiting ids : List ℕ) (s : ℕ) → find (λ i. not (is_in waiting i)) ids ≡ None → Contains ids s → Contains waiting s
+none_missing : (waiting ids : List ℕ) (s : ℕ) → find (λ i. not (is_in waiting i)) ids ≡ None → Contains ids s
+    → Contains waiting s
 none_missing waiting ids s h d =
     Contains-from_is_in waiting s (not-false (is_in waiting s) (find_all (λ i. not (is_in waiting i)) ids h s d))
 
@@ -46,23 +47,29 @@ record AreTakeable (waiting ids : List ℕ) : Type 0 where
   pub waits : (s : ℕ) → Contains ids s → Contains waiting s
 
 AreTakeable-these : (waiting ids : List ℕ)
-    → cond (is_rising ids) (option_map (λ s. NotInBuffer s) (find (λ s. not (is_in waiting s)) ids)) (Some IdsNotRising) ≡ None → AreTakeable waiting ids
+    → cond (is_rising ids) (option_map (λ s. NotInBuffer s) (find (λ s. not (is_in waiting s)) ids)) (Some IdsNotRising) ≡ None
+    → AreTakeable waiting ids
 AreTakeable-these waiting ids h = go (is_rising ids) refl (find (λ s. not (is_in waiting s)) ids) refl h
   where
     go : (b : Bool) → is_rising ids ≡ b → (o : Option ℕ) → find (λ s. not (is_in waiting s)) ids ≡ o
-        → cond {A = Option StepError} b (option_map (λ s. NotInBuffer s) o) (Some IdsNotRising) ≡ None → AreTakeable waiting ids
+        → cond {A = Option StepError} b (option_map (λ s. NotInBuffer s) o) (Some IdsNotRising) ≡ None
+        → AreTakeable waiting ids
     go false e o f h = cc
     go true e (Some s) f h = cc
     go true e None f h = record { rising = is_rising-true ids e; waits = λ s d. none_missing waiting ids s f d }
 
-AreTakeable-from_none : (chosen : Take) (waiting : List ℕ) → IsStrictlyIncreasing waiting → take_refusal chosen waiting ≡ None → AreTakeable waiting (taken_ids chosen waiting)
+AreTakeable-from_none : (chosen : Take) (waiting : List ℕ) → IsStrictlyIncreasing waiting
+    → take_refusal chosen waiting ≡ None → AreTakeable waiting (taken_ids chosen waiting)
 AreTakeable-from_none All waiting rise h = record { rising = rise; waits = λ s d. d }
-AreTakeable-from_none Nothing waiting rise h = record { rising = λ k l. absurd (omega arith); waits = λ s d. absurd (Contains-nil s d) }
-AreTakeable-from_none (Oldest n) waiting rise h = record { rising = rising-take waiting n rise; waits = λ s d. Contains-take n waiting s d }
+AreTakeable-from_none Nothing waiting rise h =
+    record { rising = λ k l. absurd (omega arith); waits = λ s d. absurd (Contains-nil s d) }
+AreTakeable-from_none (Oldest n) waiting rise h =
+    record { rising = rising-take waiting n rise; waits = λ s d. Contains-take n waiting s d }
 AreTakeable-from_none (These ids) waiting rise h = AreTakeable-these waiting ids.now h
 
 -- so nothing is against a Receive of them
-pub refusal-taken : (c : Setup) (steps : List Step) (p : ℕ) (ends : Bool) (chosen : Take) → length steps < MAX_STEPS → IsProc c p → take_refusal chosen (buffer steps p) ≡ None
+pub refusal-taken : (c : Setup) (steps : List Step) (p : ℕ) (ends : Bool) (chosen : Take) → length steps < MAX_STEPS
+    → IsProc c p → take_refusal chosen (buffer steps p) ≡ None
     → refusal c steps (record { proc = p; act = Receive ends (taken_ids chosen (buffer steps p)) }) ≡ None
 refusal-taken c steps p ends chosen room is h =
     let may = AreTakeable-from_none chosen (buffer steps p) (buffer-rises steps p) h in
@@ -76,40 +83,50 @@ refusal-taken c steps p ends chosen room is h =
     })
 
 -- a reason against taking them is answered as it is, since want of memory is none
-pub IsStepRefusal-take : (chosen : Take) (waiting : List ℕ) (why : StepError) → take_refusal chosen waiting ≡ Some why → IsStepRefusal why (Some why)
+pub IsStepRefusal-take : (chosen : Take) (waiting : List ℕ) (why : StepError) → take_refusal chosen waiting ≡ Some why
+    → IsStepRefusal why (Some why)
 IsStepRefusal-take All waiting why h = absurd (none-some why h)
 IsStepRefusal-take Nothing waiting why h = absurd (none-some why h)
 IsStepRefusal-take (Oldest n) waiting why h = absurd (none-some why h)
 IsStepRefusal-take (These ids) waiting why h = go (is_rising ids.now) (find (λ s. not (is_in waiting s)) ids.now) h
   where
-    go : (b : Bool) (o : Option ℕ) → cond {A = Option StepError} b (option_map (λ s. NotInBuffer s) o) (Some IdsNotRising) ≡ Some why → IsStepRefusal why (Some why)
+    go : (b : Bool) (o : Option ℕ)
+        → cond {A = Option StepError} b (option_map (λ s. NotInBuffer s) o) (Some IdsNotRising) ≡ Some why
+        → IsStepRefusal why (Some why)
     go false o e = subst (λ (z : StepError). IsStepRefusal z (Some z)) (same_Some IdsNotRising why e) refl
     go true None e = absurd (none-some why e)
     go true (Some s) e = subst (λ (z : StepError). IsStepRefusal z (Some z)) (same_Some (NotInBuffer s) why e) refl
 
 -- and it is due where it ends no round too early
-pub IsDue-received : (next : Option ℕ) (ends : Bool) (ids : List ℕ) (other : Option StepError) → cond (ends && is_some next) (Some StillSending) other ≡ None → IsDue next (Receive ends ids)
+pub IsDue-received : (next : Option ℕ) (ends : Bool) (ids : List ℕ) (other : Option StepError)
+    → cond (ends && is_some next) (Some StillSending) other ≡ None → IsDue next (Receive ends ids)
 IsDue-received next false ids other h = tt
 IsDue-received None true ids other h = refl
 IsDue-received (Some to) true ids other h = cc
 
 -- among ids that are to be taken
-least-these : (waiting ids : List ℕ) (s : ℕ) (rising : Bool) (missing : Option ℕ) → is_rising ids ≡ rising → find (λ i. not (is_in waiting i)) ids ≡ missing
-    → cond {A = Option StepError} rising (option_map (λ i. NotInBuffer i) missing) (Some IdsNotRising) ≡ Some (NotInBuffer s) → IsLeastFailing (is_in waiting) ids s
+least-these : (waiting ids : List ℕ) (s : ℕ) (rising : Bool) (missing : Option ℕ) → is_rising ids ≡ rising
+    → find (λ i. not (is_in waiting i)) ids ≡ missing
+    → cond {A = Option StepError} rising (option_map (λ i. NotInBuffer i) missing) (Some IdsNotRising)
+    ≡ Some (NotInBuffer s)
+    → IsLeastFailing (is_in waiting) ids s
 least-these waiting ids s true (Some i) r f h = failing (is_in waiting) ids s (found _ ids s (is_rising-true ids r) (let e : i ≡ s = cc in subst (λ n. find (λ i. not (is_in waiting i)) ids ≡ Some n) e f))
 least-these waiting ids s true None r f h = cc
 least-these waiting ids s false missing r f h = cc
 
 -- so of a move
-least-move : (c : Setup) (steps : List Step) (p : ℕ) (move : Move) (s : ℕ) → move_refusal c steps p move ≡ Some (NotInBuffer s) → IsLeastFailing (is_in (buffer steps p)) (named_ids move) s
+least-move : (c : Setup) (steps : List Step) (p : ℕ) (move : Move) (s : ℕ)
+    → move_refusal c steps p move ≡ Some (NotInBuffer s) → IsLeastFailing (is_in (buffer steps p)) (named_ids move) s
 least-move c steps p SendMove s h = go (is_none (next_send c steps p)) h
   where
-    go : (b : Bool) → cond {A = Option StepError} b (Some NothingToSend) None ≡ Some (NotInBuffer s) → IsLeastFailing (is_in (buffer steps p)) [] s
+    go : (b : Bool) → cond {A = Option StepError} b (Some NothingToSend) None ≡ Some (NotInBuffer s)
+        → IsLeastFailing (is_in (buffer steps p)) [] s
     go true f = cc
     go false f = cc
 least-move c steps p (ReceiveMove taken ends) s h = go (ends && is_some (next_send c steps p)) taken h
   where
-    go : (b : Bool) (taken : Take) → cond b (Some StillSending) (take_refusal taken (buffer steps p)) ≡ Some (NotInBuffer s)
+    go : (b : Bool) (taken : Take)
+        → cond b (Some StillSending) (take_refusal taken (buffer steps p)) ≡ Some (NotInBuffer s)
         → IsLeastFailing (is_in (buffer steps p)) (named_ids (ReceiveMove taken ends)) s
     go true taken f = cc
     go false All f = cc
@@ -118,11 +135,14 @@ least-move c steps p (ReceiveMove taken ends) s h = go (ends && is_some (next_se
     go false (These ids) f = least-these (buffer steps p) ids.now s _ _ refl refl f
 
 -- and of a World
-pub least-missing : (c : Setup) (limit : ℕ) (steps : List Step) (p : ℕ) (move : Move) (s : ℕ) → step_refusal c limit steps p move ≡ Some (NotInBuffer s)
+pub least-missing : (c : Setup) (limit : ℕ) (steps : List Step) (p : ℕ) (move : Move) (s : ℕ)
+    → step_refusal c limit steps p move ≡ Some (NotInBuffer s)
     → IsLeastFailing (is_in (buffer steps p)) (named_ids move) s
 least-missing c limit steps p move s h = go (nat_lt (length steps) limit) (is_proc c p) h
   where
-    go : (room is : Bool) → cond room (cond is (move_refusal c steps p move) (Some BadProc)) (Some Full) ≡ Some (NotInBuffer s) → IsLeastFailing (is_in (buffer steps p)) (named_ids move) s
+    go : (room is : Bool)
+        → cond room (cond is (move_refusal c steps p move) (Some BadProc)) (Some Full) ≡ Some (NotInBuffer s)
+        → IsLeastFailing (is_in (buffer steps p)) (named_ids move) s
     go true true f = least-move c steps p move s f
     go true false f = cc
     go false is f = cc
