@@ -9,39 +9,18 @@ use Rattle.step_trace.specs.Bounds.{DeltaHolds, PhiHolds, IsDelta, IsPhi}
 use Rattle.step_trace.specs.Witnesses.{MissRefutes, GapRefutes}
 use Rattle.step_trace.proofs.BoundLaws.{MissRefutes-sound, GapRefutes-sound}
 use Rattle.certificate_checker.specs.Certificates.{ShowsDelta, ShowsPhi}
-use Rattle.certificate_checker.proofs.WitnessDecisions.{miss_or_not, gap_or_not}
+use Rattle.certificate_checker.proofs.WitnessDecisions.{all_or_not, below_or_not, at_most_or_not, miss_or_not, gap_or_not}
 
 pub ShowsDelta-or_not : (set : ℕ) (trace : Recorded) (after d : ℕ) (o : Option Miss) → ShowsDelta set trace after d o ⊎ (¬ ShowsDelta set trace after d o)
 ShowsDelta-or_not set trace after d None = cases_eq d 1
-ShowsDelta-or_not set trace after d (Some m) = elim (cases_lt 1 d) [
-  | inr n ↦ inr (λ s. let l = s.0 in absurd (omega (arith, l, n)))
-  | inl more ↦ elim (miss_or_not set trace m) [
-    | inr n ↦ inr (λ s. n s.1)
-    | inl miss ↦ elim (cases_eq (tick_of trace m.sent + d) (tick_of trace m.missed + 1)) [
-      | inr n ↦ inr (λ s. n s.2)
-      | inl long ↦ elim (cases_lt (tick_of trace m.sent + 1) after) [
-        | inl n ↦ inr (λ s. let l = s.3 in absurd (omega (arith, l, n)))
-        | inr reaches ↦ inl (more, miss, long, reaches)
-      ]
-    ]
-  ]
-]
+ShowsDelta-or_not set trace after d (Some m) =
+    all_or_not (below_or_not 1 d) (miss_or_not set trace m)
+    (cases_eq (tick_of trace m.sent + d) (tick_of trace m.missed + 1)) (at_most_or_not after (tick_of trace m.sent + 1))
 
 pub ShowsPhi-or_not : (set : ℕ) (trace : Recorded) (after f : ℕ) (o : Option Gap) → ShowsPhi set trace after f o ⊎ (¬ ShowsPhi set trace after f o)
 ShowsPhi-or_not set trace after f None = cases_eq f 1
-ShowsPhi-or_not set trace after f (Some w) = elim (cases_lt 1 f) [
-  | inr n ↦ inr (λ s. let l = s.0 in absurd (omega (arith, l, n)))
-  | inl more ↦ elim (gap_or_not set trace w) [
-    | inr n ↦ inr (λ s. n s.1)
-    | inl gap ↦ elim (cases_eq (w.from + f) (w.to + 2)) [
-      | inr n ↦ inr (λ s. n s.2)
-      | inl long ↦ elim (cases_lt (w.from + 1) after) [
-        | inl n ↦ inr (λ s. let l = s.3 in absurd (omega (arith, l, n)))
-        | inr reaches ↦ inl (more, gap, long, reaches)
-      ]
-    ]
-  ]
-]
+ShowsPhi-or_not set trace after f (Some w) =
+    all_or_not (below_or_not 1 f) (gap_or_not set trace w) (cases_eq (w.from + f) (w.to + 2)) (at_most_or_not after (w.from + 1))
 
 -- a bound beside which something shows so is positive
 pub ShowsDelta-positive : (set : ℕ) (trace : Recorded) (after d : ℕ) (o : Option Miss) → ShowsDelta set trace after d o → 1 ≤ d

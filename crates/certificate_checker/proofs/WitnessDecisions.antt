@@ -1,5 +1,5 @@
 -- Whether something is a miss, or a gap, can be decided.
-use Rattle.std.proofs.Common.{ℕ, ◌≡◌, ◌+◌, ◌-◌, ◌⊎◌, inl, inr, List, Option, Some, None, refl, ap, sym, ◌∙◌, subst, arith}
+use Rattle.std.proofs.Common.{ℕ, ◌≡◌, ◌+◌, ◌-◌, ◌<◌, ◌≤◌, ◌⊎◌, inl, inr, List, Option, Some, None, refl, ap, sym, ◌∙◌, subst, arith}
 use Rattle.std.specs.Prelude.{IsTrue}
 use Rattle.std.proofs.lemmas.Bool.{cases_lt, cases_eq, cases_Bool, both_ways}
 use Rattle.std.proofs.lemmas.Option.{none-some, same_Some}
@@ -15,6 +15,21 @@ use Rattle.step_trace.specs.Bounds.{IsMessage}
 use Rattle.step_trace.specs.Witnesses.{IsMiss, IsGap}
 use Rattle.step_trace.proofs.BoundLaws.{IsMessage-receiver}
 use Rattle.step_trace.proofs.BoundDecisions.{delivered_or_not, steps_within_or_not}
+
+-- what may be decided of each of four may be decided of all
+pub all_or_not : {P Q R S : Type 0} → P ⊎ (¬ P) → Q ⊎ (¬ Q) → R ⊎ (¬ R) → S ⊎ (¬ S) → (P × Q × R × S) ⊎ (¬ (P × Q × R × S))
+all_or_not (inl p) (inl q) (inl r) (inl s) = inl (p, q, r, s)
+all_or_not (inl p) (inl q) (inl r) (inr n) = inr (λ all. n all.3)
+all_or_not (inl p) (inl q) (inr n) s = inr (λ all. n all.2)
+all_or_not (inl p) (inr n) r s = inr (λ all. n all.1)
+all_or_not (inr n) q r s = inr (λ all. n all.0)
+
+-- as may the order of two numbers
+pub below_or_not : (a b : ℕ) → (a < b) ⊎ (¬ (a < b))
+below_or_not a b = elim (cases_lt a b) [ inl l ↦ inl l | inr m ↦ inr (λ l. omega (arith, l, m)) ]
+
+pub at_most_or_not : (a b : ℕ) → (a ≤ b) ⊎ (¬ (a ≤ b))
+at_most_or_not a b = elim (cases_lt b a) [ inl l ↦ inr (λ m. omega (arith, l, m)) | inr m ↦ inl m ]
 
 -- p is a member of the set, or it isn't
 member_or_not : (set p : ℕ) → IsTrue (has_proc set p) ⊎ (¬ IsTrue (has_proc set p))
@@ -77,25 +92,17 @@ miss_or_not set trace m = elim (message_or_not set trace.steps m.sent) [
 
 -- this is a gap, or it isn't
 pub gap_or_not : (set : ℕ) (trace : Recorded) (w : Gap) → IsGap set trace w ⊎ (¬ IsGap set trace w)
-gap_or_not set trace w = elim (member_or_not set w.proc) [
-  | inr n ↦ inr (λ i. n i.member)
-  | inl member ↦ elim (cases_lt 0 w.from) [
-    | inr n ↦ inr (λ i. let l = i.start in absurd (omega (arith, l, n)))
-    | inl start ↦ elim (cases_lt w.to w.from) [
-      | inl n ↦ inr (λ i. let l = i.order in absurd (omega (arith, l, n)))
-      | inr order ↦ elim (cases_lt trace.last w.to) [
-        | inl n ↦ inr (λ i. let l = i.inside in absurd (omega (arith, l, n)))
-        | inr inside ↦ elim (steps_within_or_not trace w.proc w.from (w.to + 1 - w.from)) [
-          | inl s ↦ inr (λ i. let u = s.until in i.silent s.tick s.from (omega (arith, u, order)) s.step)
-          | inr n ↦ inl (record {
-            member = member;
-            start = start;
-            order = order;
-            inside = inside;
-            silent = λ x a b s. n (record { tick = x; from = a; until = omega (arith, a, b, order); step = s });
-          })
-        ]
+gap_or_not set trace w =
+    elim (all_or_not (member_or_not set w.proc) (below_or_not 0 w.from) (at_most_or_not w.from w.to) (at_most_or_not w.to trace.last)) [
+      | inr n ↦ inr (λ i. n (i.member, i.start, i.order, i.inside))
+      | inl k ↦ elim (steps_within_or_not trace w.proc w.from (w.to + 1 - w.from)) [
+        | inl s ↦ inr (λ i. let u = s.until in let order = k.2 in i.silent s.tick s.from (omega (arith, u, order)) s.step)
+        | inr n ↦ inl (record {
+          member = k.0;
+          start = k.1;
+          order = k.2;
+          inside = k.3;
+          silent = λ x a b s. n (record { tick = x; from = a; until = (let order = k.2 in omega (arith, a, b, order)); step = s });
+        })
       ]
     ]
-  ]
-]

@@ -27,8 +27,10 @@ pub record FlagsMeanFreshLocks (nodes : ℕ → State) (phase part : ℕ) : Type
   pub locked : (j : ℕ) → (nodes j).owes_ack ≡ true → (v : ℕ) × Contains (nodes j).locks (v, phase)
 
 -- where none is set
-pub FlagsMeanFreshLocks-unset : (nodes : ℕ → State) (phase part : ℕ) → ((j : ℕ) → (nodes j).owes_ack ≡ true → ⊥) → FlagsMeanFreshLocks nodes phase part
-FlagsMeanFreshLocks-unset nodes phase part unset = record { acknowledging = λ j f. absurd (unset j f); locked = λ j f. absurd (unset j f) }
+pub FlagsMeanFreshLocks-unset : (nodes : ℕ → State) (phase part : ℕ) → ((j : ℕ) → (nodes j).owes_ack ≡ true → ⊥)
+    → FlagsMeanFreshLocks nodes phase part
+FlagsMeanFreshLocks-unset nodes phase part unset =
+    record { acknowledging = λ j f. absurd (unset j f); locked = λ j f. absurd (unset j f) }
 
 -- whether v is locked, with this phase or a later one
 abbrev pub is_locked_since : ℕ → ℕ → List LockPair → Bool

@@ -23,7 +23,8 @@ proposed-anchored : (c : Setup) (table : Table) (nodes : ℕ → State) (round v
 proposed-anchored c table nodes round v w setup e a proposes = elim (cases_eq w v) [
   | inl same ↦ same
   | inr other ↦ (
-      let few = listing-refused c (nodes o) round (heard_of c table nodes o round) setup e w (λ j. is_locked_since a.anchor v (nodes j).locks) proposes (silent other) in
+      let few = listing-refused c (nodes o) round (heard_of c table nodes o round) setup e w
+      (λ j. is_locked_since a.anchor v (nodes j).locks) proposes (silent other) in
       let many = a.holders in
       absurd (omega arith))
 ]
@@ -32,7 +33,8 @@ proposed-anchored c table nodes round v w setup e a proposes = elim (cases_eq w 
     o = owner c.n (phase_of round)
 
     -- who holds v since its anchor lists no other value
-    silent : (w ≡ v → ⊥) → (j : ℕ) → is_locked_since a.anchor v (nodes j).locks ≡ true → IsHeardToSay (heard_of c table nodes o round) (listing w) j → ⊥
+    silent : (w ≡ v → ⊥) → (j : ℕ) → is_locked_since a.anchor v (nodes j).locks ≡ true
+        → IsHeardToSay (heard_of c table nodes o round) (listing w) j → ⊥
     silent other j s h =
         let said = (heard_of-sender c table nodes o round j h.message h.is_heard).said in
         let acceptable = (listed-said_by (nodes j) (body_of h.message) w said (Contains-from_lists h.message w h.said)).1 in
@@ -40,8 +42,8 @@ proposed-anchored c table nodes round v w setup e a proposes = elim (cases_eq w 
         other (sym (is_acceptable-locked (nodes j).locks w lock.lock acceptable lock.held) ∙ lock.value)
 
 -- the invariants after a listing round
-pub IsSafe-listing : (c : Setup) (table : Table) (nodes : ℕ → State) (round : ℕ) → IsSetup c → part_of round ≡ 1 → IsSafe c nodes (phase_of round) 1
-    → IsSafe c (nodes_after c table nodes round) (phase_of round) 2
+pub IsSafe-listing : (c : Setup) (table : Table) (nodes : ℕ → State) (round : ℕ) → IsSetup c → part_of round ≡ 1
+    → IsSafe c nodes (phase_of round) 1 → IsSafe c (nodes_after c table nodes round) (phase_of round) 2
 IsSafe-listing c table nodes round setup e safe = record {
   past = record {
     begun = λ j lock d. safe.past.begun j lock (held j lock d);
@@ -69,7 +71,8 @@ IsSafe-listing c table nodes round setup e safe = record {
       anchor = a.anchor;
       begun = a.begun;
       earlier = λ l. a.earlier (omega arith);
-      holders = holders-kept c nodes after a.anchor v (λ j h. ap (is_locked_since a.anchor v) (keeps j).locks ∙ h) a.holders;
+      holders = holders-kept c nodes after a.anchor v (λ j h. ap (is_locked_since a.anchor v) (keeps j).locks ∙ h)
+          a.holders;
       sole = λ j lock d l. a.sole j lock (held j lock d) l;
       proposed = λ l h w p. proposed-anchored c table nodes round v w setup e a p;
     }
