@@ -8,6 +8,7 @@ ghost use Rattle.chunk_join.specs.declared.analyses.TheConstants.{MAX_WORKERS};
 ghost use Rattle.step_trace.specs.declared.traces.TheConstants.{MAX_STEPS};
 
 mod followers;
+mod inputs;
 mod line_faults;
 #[cfg(test)]
 mod memory_tests;
@@ -16,14 +17,13 @@ mod run_tests;
 mod runs;
 
 use crate::followers::follower_for;
+use crate::inputs::open;
 use crate::line_faults::refused_line;
 use crate::runs::run_nodes;
 use certificate_checker::Verdict;
-use command_line::{Job, names_standard_input, read_command, refuse_words};
+use command_line::{Job, read_command, refuse_words};
 use event_log::Options;
 use std::env;
-use std::fs::File;
-use std::io::Read;
 use std::process::ExitCode;
 use std::sync::Wait;
 use std::thread::Threads;
@@ -31,7 +31,7 @@ use std::time::Clock;
 use step_trace::{Config, OpenGate, ProcSet};
 use text_commands::{
     Drawing, Fault, ReportPart, import_options, print, run_check, run_draw, run_import, run_replay,
-    run_report, run_report_part, run_upgrade, status, tell, unopened, verdict_status,
+    run_report, run_report_part, run_upgrade, status, tell, verdict_status,
 };
 use trace_text::Counting;
 
@@ -153,14 +153,6 @@ fn run_of<T: Threads + Wait + Clock + Sync>(
     )
 }
 
-/// Opens a file to be read.
-fn open(rt: &HostRuntime, file: &str) -> Result<File, Fault> {
-    match File::open(rt, file) {
-        Ok(opened) => Ok(opened),
-        Err(error) => Err(unopened(error)),
-    }
-}
-
 /// Prints the report of the trace in a file. `threads` starts the threads of the workers.
 fn report<T: Threads + Wait + Sync>(
     rt: &HostRuntime,
@@ -172,29 +164,13 @@ fn report<T: Threads + Wait + Sync>(
     requires some { 1 ≤ workers }
     requires few { workers ≤ MAX_WORKERS }
 {
-    if names_standard_input(file) {
-        return report_read(rt, threads, rt.stdin(), set, workers);
-    }
-    let opened = open(rt, file)?;
-    report_read(rt, threads, opened, set, workers)
-}
-
-/// Prints the report of the trace that a reader gives.
-fn report_read<T: Threads + Wait + Sync, R: Read + Drop>(
-    rt: &HostRuntime,
-    threads: &T,
-    trace: R,
-    set: ProcSet,
-    workers: u64,
-) -> Result<(), Fault>
-    requires some { 1 ≤ workers }
-    requires few { workers ≤ MAX_WORKERS }
-{
+    let mut trace = open(rt, file)?;
+    let mut output = Counting::new(rt.stdout());
     run_report(
         threads,
         rt.alloc(),
-        &mut Counting::new(trace),
-        &mut Counting::new(rt.stdout()),
+        &mut trace,
+        &mut output,
         set,
         workers,
         &OpenGate,
@@ -203,52 +179,36 @@ fn report_read<T: Threads + Wait + Sync, R: Read + Drop>(
 
 /// Prints a part of the report of the trace in a file.
 fn report_part(rt: &HostRuntime, file: &str, part: &ReportPart) -> Result<(), Fault> {
-    let mut output = Counting::new(rt.stdout());
-    if names_standard_input(file) {
-        return run_report_part(
-            rt.alloc(),
-            part,
-            &mut Counting::new(rt.stdin()),
-            &mut output,
-        );
-    }
-    let opened = open(rt, file)?;
-    run_report_part(rt.alloc(), part, &mut Counting::new(opened), &mut output)
+    let mut trace = open(rt, file)?;
+    run_report_part(
+        rt.alloc(),
+        part,
+        &mut trace,
+        &mut Counting::new(rt.stdout()),
+    )
 }
 
 /// Prints the replay of the trace in a file.
 fn replay(rt: &HostRuntime, file: &str) -> Result<(), Fault> {
-    let mut output = Counting::new(rt.stdout());
-    if names_standard_input(file) {
-        return run_replay(rt.alloc(), &mut Counting::new(rt.stdin()), &mut output);
-    }
-    let opened = open(rt, file)?;
-    run_replay(rt.alloc(), &mut Counting::new(opened), &mut output)
+    let mut trace = open(rt, file)?;
+    run_replay(rt.alloc(), &mut trace, &mut Counting::new(rt.stdout()))
 }
 
 /// Prints the version 2 text of the trace in a file.
 fn upgrade(rt: &HostRuntime, file: &str) -> Result<(), Fault> {
-    let mut output = Counting::new(rt.stdout());
-    if names_standard_input(file) {
-        return run_upgrade(rt.alloc(), &mut Counting::new(rt.stdin()), &mut output);
-    }
-    let opened = open(rt, file)?;
-    run_upgrade(rt.alloc(), &mut Counting::new(opened), &mut output)
+    let mut trace = open(rt, file)?;
+    run_upgrade(rt.alloc(), &mut trace, &mut Counting::new(rt.stdout()))
 }
 
 /// Prints the picture of the trace in a file.
 fn draw(rt: &HostRuntime, file: &str, drawing: &Drawing) -> Result<(), Fault> {
-    let mut output = Counting::new(rt.stdout());
-    if names_standard_input(file) {
-        return run_draw(
-            rt.alloc(),
-            drawing,
-            &mut Counting::new(rt.stdin()),
-            &mut output,
-        );
-    }
-    let opened = open(rt, file)?;
-    run_draw(rt.alloc(), drawing, &mut Counting::new(opened), &mut output)
+    let mut trace = open(rt, file)?;
+    run_draw(
+        rt.alloc(),
+        drawing,
+        &mut trace,
+        &mut Counting::new(rt.stdout()),
+    )
 }
 
 /// The text, where there is one.
@@ -261,54 +221,17 @@ fn text_in(text: &Option<String>) -> Option<&str> {
 
 /// Prints the trace of the log in a file, and tells on standard error how it was read.
 fn import(rt: &HostRuntime, file: &str, options: &Options) -> Result<(), Fault> {
+    let mut log = open(rt, file)?;
     let mut output = Counting::new(rt.stdout());
     let mut notes = Counting::new(rt.stderr());
-    if names_standard_input(file) {
-        return run_import(
-            rt.alloc(),
-            options,
-            &mut Counting::new(rt.stdin()),
-            &mut output,
-            &mut notes,
-        );
-    }
-    let opened = open(rt, file)?;
-    run_import(
-        rt.alloc(),
-        options,
-        &mut Counting::new(opened),
-        &mut output,
-        &mut notes,
-    )
+    run_import(rt.alloc(), options, &mut log, &mut output, &mut notes)
 }
 
 /// Prints the verdict on the certificate in a file, for the trace in another. Both files are opened before one is
 /// read.
 fn check(rt: &HostRuntime, file: &str, certificate: &str, set: ProcSet) -> Result<Verdict, Fault> {
-    if names_standard_input(file) {
-        let opened = open(rt, certificate)?;
-        return check_read(rt, rt.stdin(), opened, set);
-    }
-    let opened = open(rt, file)?;
-    if names_standard_input(certificate) {
-        return check_read(rt, opened, rt.stdin(), set);
-    }
-    let other = open(rt, certificate)?;
-    check_read(rt, opened, other, set)
-}
-
-/// Prints the verdict on what one reader gives, for the trace that another gives.
-fn check_read<R: Read + Drop, S: Read + Drop>(
-    rt: &HostRuntime,
-    trace: R,
-    certificate: S,
-    set: ProcSet,
-) -> Result<Verdict, Fault> {
-    run_check(
-        rt.alloc(),
-        &mut Counting::new(trace),
-        &mut Counting::new(certificate),
-        &mut Counting::new(rt.stdout()),
-        set,
-    )
+    let mut trace = open(rt, file)?;
+    let mut claimed = open(rt, certificate)?;
+    let mut output = Counting::new(rt.stdout());
+    run_check(rt.alloc(), &mut trace, &mut claimed, &mut output, set)
 }
