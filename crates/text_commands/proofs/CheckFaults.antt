@@ -17,12 +17,11 @@ use Rattle.text_report.specs.Checks.{IsLineOn, IsVerdictOn}
 use Rattle.text_report.specs.VerdictLines.{told_verdict}
 use Rattle.text_commands.specs.Checks.{IsFaultBefore, IsUnchecked, check_kinds}
 use Rattle.text_commands.specs.Faults.{fault_of_certificate, fault_of_text}
-use Rattle.text_commands.specs.Inputs.{too_large}
 use Rattle.text_commands.specs.Printing.{IsUntold, IsWriteFault}
 use Rattle.text_commands.specs.Reports.{IsTextFault}
 use Rattle.text_commands.specs.Serving.{IsFaultOf, IsServeFault}
 use Rattle.text_commands.proofs.ReportFaults.{own_text}
-use Rattle.text_commands.proofs.ServeFaults.{cut, of_all, of_known, unanswered, unread}
+use Rattle.text_commands.proofs.ServeFaults.{cut, of_all, of_known, too_large, unanswered, unread}
 
 -- a fault of the trace text, or of the set, comes before anything is written
 pub text_before : (set : ℕ) (text : List ℕ) (w : Fault) → IsTextFault set text w → IsFaultBefore w

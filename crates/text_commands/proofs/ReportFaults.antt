@@ -8,7 +8,7 @@ use Rattle.shared_reading.specs.DeviceTexts.{IsRefusalOf, IsTraceRead}
 use Rattle.text_commands.specs.declared.faults.Fault.{Fault}
 use Rattle.text_commands.specs.declared.faults.Fault.TheVariants as fault
 use Rattle.text_commands.specs.Faults.{fault_of_text}
-use Rattle.text_commands.specs.Inputs.{IsTraceFault, own_trace}
+use Rattle.text_commands.specs.Inputs.{IsTraceFault}
 use Rattle.text_commands.specs.Reports.{IsFaultFor, IsTextFault, IsUnreported, report_kinds}
 use Rattle.text_report.specs.Reports.{IsReportOf}
 use Rattle.text_report.specs.Texts.{IsTextOf}
@@ -43,7 +43,9 @@ set_fault set text t n w read same told =
 -- both are faults of a command that may refuse a set
 pub own_text : (k : Kinds) (set : ℕ) (text : List ℕ) (w : Fault) → IsTrue k.set → IsTextFault set text w → IsFaultOf k w
 own_text k set text fault.Set may h = may
-own_text k set text w may h = own_trace k text w h
+own_text k set text (fault.Trace reason) may h = (h.1, h.2)
+own_text k set text fault.Memory may h = tt
+own_text k set text w may h = absurd h
 
 -- a fault for the trace that a text stands for is one where there is no report of the text
 pub unreported : (set : ℕ) (text : List ℕ) (t : Recorded) (w : Fault) → IsTextOf text t → IsFaultFor set t w → IsUnreported set text w

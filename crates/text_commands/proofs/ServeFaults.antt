@@ -1,5 +1,6 @@
 -- The causes of the faults of any command: where its reading ends, where it refuses, and where its writing ends.
-use Rattle.std.proofs.Common.{◌<◌, ℕ, List, length, Option, Some, None, IfSome, subst, ◌≡◌}
+use Rattle.std.proofs.Common.{◌<◌, ℕ, List, length, Option, Some, None, IfSome, subst, ◌≡◌, refl, false, arith, nat_le}
+use Rattle.std.proofs.lemmas.Bool.Decides.{nat_tests}
 use Rattle.trace_text.specs.declared.byte_loops.TheConstants.{MAX_TEXT_BYTES}
 use Rattle.trace_text.specs.declared.refusals.TextError.{TextError}
 use Rattle.trace_text.specs.declared.refusals.TextError.TheVariants as why
@@ -10,6 +11,7 @@ use Rattle.trace_text.specs.TextWriting.{WroteBefore}
 use Rattle.text_commands.specs.declared.faults.Fault.{Fault}
 use Rattle.text_commands.specs.declared.faults.Fault.TheVariants as fault
 use Rattle.text_commands.specs.Faults.{fault_of_text, fault_of_write}
+use Rattle.text_commands.specs.Inputs.{IsTraceFault}
 use Rattle.text_commands.specs.Printing.{IsUntold}
 use Rattle.text_commands.specs.Serving.{IsFaultOf, IsServeFault, Kinds}
 
@@ -28,6 +30,10 @@ served_known Gives Refuses before after w = of_known (λ xs. IsServeFault Gives 
 pub of_all : (P : List ℕ → Type 0) (known : Option (List ℕ)) → ((xs : List ℕ) → P xs) → IfSome known P
 of_all P None p = tt
 of_all P (Some xs) p = p xs
+
+-- a text that is too large has that as its first refusal
+pub too_large : (text : List ℕ) → MAX_TEXT_BYTES < length text → IsTraceFault text (fault.Trace why.TooLarge)
+too_large text h = let e : nat_le (length text) MAX_TEXT_BYTES ≡ false = grind (arith, nat_tests) in (rw e refl, λ r. cc, λ r. cc)
 
 -- a text isn't read: it is too large, a read failed, or there was no memory
 pub unread : (P : List ℕ → Fault → Type 0) (old new : ℕ) (known : Option (List ℕ)) (e : TextError)

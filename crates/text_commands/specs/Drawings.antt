@@ -1,11 +1,9 @@
 -- What the program makes of a trace text in a picture (own).
-use Rattle.std.specs.Prelude.{ℕ, ◌≡◌, ◌<◌, List, [], length, Option, Some, None, Result, Ok, Err, String, string_bytes, true, false, refl, ⊤}
+use Rattle.std.specs.Prelude.{ℕ, ◌≡◌, List, [], Option, Some, None, Result, Ok, Err, String, string_bytes, true, false, ⊤}
 use Rattle.step_trace.specs.declared.rows.Row.{Row}
 use Rattle.step_trace.specs.Processors.{IsWithin}
 use Rattle.step_trace.specs.Traces.{Recorded}
 use Rattle.step_trace.specs.Fronts.{IsReport}
-use Rattle.trace_text.specs.declared.byte_loops.TheConstants.{MAX_TEXT_BYTES}
-use Rattle.trace_text.specs.declared.refusals.TextError.TheVariants as why
 use Rattle.run_picture.specs.declared.pictures.Picture.{Picture}
 use Rattle.run_picture.specs.declared.windows.Window.{Window}
 use Rattle.run_picture.specs.declared.windows.WindowError.{WindowError}
@@ -19,10 +17,8 @@ use Rattle.text_commands.specs.declared.faults.Fault.{Fault}
 use Rattle.text_commands.specs.declared.faults.Fault.TheVariants as fault
 use Rattle.text_commands.specs.declared.faults.PictureOption.{PictureOption}
 use Rattle.text_commands.specs.declared.faults.PictureOption.TheVariants as option
-use Rattle.text_commands.specs.Inputs.{too_large}
-use Rattle.text_report.specs.Texts.{IsTextOf}
-use Rattle.text_commands.specs.Reports.{IsTextFault}
-use Rattle.text_commands.specs.Serving.{IsFaultOf, Kinds}
+use Rattle.text_report.specs.Texts.{IsSetOutside, IsTextOf}
+use Rattle.text_commands.specs.Serving.{IsRefusal, Kinds}
 
 abbrev pub are_names_in : {B : Type 0} → Option (String B) → ℕ → Type 0
 are_names_in None count = ⊤
@@ -106,21 +102,17 @@ pub record IsTraceUndrawn (d : Drawing) (text : List ℕ) (o : PictureOption) : 
   pub within : IsWithin d.set trace.config.n
   pub undrawn : IsUndrawnFor d trace o
 
--- The fault has its cause in the text: its first refusal, a member of the set that its trace hasn't, or an option.
-abbrev pub IsUndrawable : Drawing → List ℕ → Fault → Type 0
-IsUndrawable d text (fault.Picture o) = IsTraceUndrawn d text o
-IsUndrawable d text w = IsTextFault d.set text w
-
 -- it may refuse a set, and an option of a picture
 abbrev pub drawing_kinds : Kinds
 drawing_kinds = record { set = true; certificate = false; run = false; threads = false; picture = true; part = false; log = false }
 
-pub too_large_to_draw : (d : Drawing) (text : List ℕ) → MAX_TEXT_BYTES < length text → IsUndrawable d text (fault.Trace why.TooLarge)
-too_large_to_draw d text h = too_large text h
+-- for what the text has no picture, beside the refusals of a trace text: a member of the set that its trace hasn't, or an
+-- option
+abbrev pub IsUndrawnText : Drawing → List ℕ → Fault → Type 0
+IsUndrawnText d text fault.Set = IsSetOutside d.set text
+IsUndrawnText d text (fault.Picture o) = IsTraceUndrawn d text o
+IsUndrawnText d text _ = ⊥
 
-pub own_undrawable : (d : Drawing) (text : List ℕ) (w : Fault) → IsUndrawable d text w → IsFaultOf drawing_kinds w
-own_undrawable d text (fault.Picture o) h = refl
-own_undrawable d text fault.Set h = refl
-own_undrawable d text (fault.Trace e) h = (h.1, h.2)
-own_undrawable d text fault.Memory h = tt
-own_undrawable d text w h = absurd h
+-- why there is no picture of the text
+abbrev pub IsUndrawable : Drawing → List ℕ → Fault → Type 0
+IsUndrawable d = IsRefusal drawing_kinds (IsUndrawnText d)

@@ -1,5 +1,5 @@
 -- What the program makes of a trace text in a replay.
-use Rattle.std.specs.Prelude.{ℕ, ◌≡◌, List, true, false, refl}
+use Rattle.std.specs.Prelude.{ℕ, ◌≡◌, List, true, false}
 use Rattle.step_trace.specs.declared.steps.Step.{Step}
 use Rattle.step_trace.specs.Configurations.{Setup}
 use Rattle.step_trace.specs.Traces.{Recorded}
@@ -7,10 +7,9 @@ use Rattle.step_buffers.specs.Runs.{IsRun}
 use Rattle.step_buffers.specs.Replays.{IsFirstOff}
 use Rattle.text_commands.specs.declared.faults.Fault.{Fault}
 use Rattle.text_commands.specs.declared.faults.Fault.TheVariants as fault
-use Rattle.text_commands.specs.Inputs.{IsTraceFault, own_trace}
 use Rattle.text_report.specs.Texts.{IsTextOf}
 use Rattle.text_commands.specs.ReplayTexts.{replay_text}
-use Rattle.text_commands.specs.Serving.{IsFaultOf, Kinds}
+use Rattle.text_commands.specs.Serving.{IsRefusal, Kinds}
 
 -- The text stands for a trace with this configuration and these steps.
 pub record IsTextOfSteps (text : List ℕ) (c : Setup) (steps : List Step) : Type 0 where
@@ -36,11 +35,11 @@ pub record IsTextOffRun (text : List ℕ) (number : ℕ) : Type 0 where
 abbrev pub replay_kinds : Kinds
 replay_kinds = record { set = false; certificate = false; run = true; threads = false; picture = false; part = false; log = false }
 
--- The fault has its cause in the text: its first refusal, or a first step that is none of a run.
-abbrev pub IsUnreplayed : List ℕ → Fault → Type 0
-IsUnreplayed text (fault.NotARun number) = IsTextOffRun text number
-IsUnreplayed text w = IsTraceFault text w
+-- for what the text has no replay, beside the refusals of a trace text: a first step that is none of a run
+abbrev pub IsOffRun : List ℕ → Fault → Type 0
+IsOffRun text (fault.NotARun number) = IsTextOffRun text number
+IsOffRun text _ = ⊥
 
-pub own_replay : (text : List ℕ) (w : Fault) → IsUnreplayed text w → IsFaultOf replay_kinds w
-own_replay text (fault.NotARun number) h = refl
-own_replay text w h = own_trace replay_kinds text w h
+-- why there is no replay of the text
+abbrev pub IsUnreplayed : List ℕ → Fault → Type 0
+IsUnreplayed = IsRefusal replay_kinds IsOffRun

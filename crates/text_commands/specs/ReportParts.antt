@@ -1,23 +1,19 @@
 -- What the program makes of a trace text in a part of its report (own).
-use Rattle.std.specs.Prelude.{ℕ, ◌≡◌, ◌<◌, ◌≤◌, List, [], ◌∷◌, length, Option, Some, None, true, false, refl, ⊤}
+use Rattle.std.specs.Prelude.{ℕ, ◌≡◌, ◌≤◌, List, [], ◌∷◌, Option, Some, None, true, false, ⊤}
 use Rattle.step_trace.specs.declared.rows.Row.{Row}
 use Rattle.step_trace.specs.Processors.{IsWithin}
 use Rattle.step_trace.specs.Traces.{Recorded}
 use Rattle.step_trace.specs.Cuts.{IsCutAt}
 use Rattle.step_trace.specs.Fronts.{IsReport}
-use Rattle.trace_text.specs.declared.byte_loops.TheConstants.{MAX_TEXT_BYTES}
-use Rattle.trace_text.specs.declared.refusals.TextError.TheVariants as why
 use Rattle.front.specs.Reports.{Serves, row_at}
 use Rattle.front.specs.ReportTexts.{report_text}
-use Rattle.text_report.specs.Texts.{IsTextOf}
+use Rattle.text_report.specs.Texts.{IsSetOutside, IsTextOf}
 use Rattle.text_commands.specs.declared.faults.Fault.{Fault}
 use Rattle.text_commands.specs.declared.faults.Fault.TheVariants as fault
 use Rattle.text_commands.specs.declared.faults.ReportOption.{ReportOption}
 use Rattle.text_commands.specs.declared.faults.ReportOption.TheVariants as option
 use Rattle.text_commands.specs.declared.report_parts.ReportPart.{ReportPart}
-use Rattle.text_commands.specs.Inputs.{too_large}
-use Rattle.text_commands.specs.Reports.{IsTextFault}
-use Rattle.text_commands.specs.Serving.{IsFaultOf, Kinds}
+use Rattle.text_commands.specs.Serving.{IsRefusal, Kinds}
 
 -- the tick is one of the trace
 abbrev pub IsTickOf : Recorded → ℕ → Type 0
@@ -86,21 +82,17 @@ IsAtFault at t (fault.Report option.At) = IsNoTickOf at t
 IsAtFault at t fault.Memory = ⊤
 IsAtFault at t _ = ⊥
 
--- The fault has its cause in the text: its first refusal, a member of the set that its trace hasn't, or a tick.
-abbrev pub IsPartUnreported : ReportPart → List ℕ → Fault → Type 0
-IsPartUnreported part text (fault.Report o) = IsTickOutside part text o
-IsPartUnreported part text w = IsTextFault part.set text w
-
 -- it may refuse a set, and a tick
 abbrev pub part_kinds : Kinds
 part_kinds = record { set = true; certificate = false; run = false; threads = false; picture = false; part = true; log = false }
 
-pub too_large_for_part : (part : ReportPart) (text : List ℕ) → MAX_TEXT_BYTES < length text → IsPartUnreported part text (fault.Trace why.TooLarge)
-too_large_for_part part text h = too_large text h
+-- for what there is no part of a report of the text, beside the refusals of a trace text: a member of the set that its trace
+-- hasn't, or a tick
+abbrev pub IsUntoldPart : ReportPart → List ℕ → Fault → Type 0
+IsUntoldPart part text fault.Set = IsSetOutside part.set text
+IsUntoldPart part text (fault.Report o) = IsTickOutside part text o
+IsUntoldPart part text _ = ⊥
 
-pub own_part : (part : ReportPart) (text : List ℕ) (w : Fault) → IsPartUnreported part text w → IsFaultOf part_kinds w
-own_part part text (fault.Report o) h = refl
-own_part part text fault.Set h = refl
-own_part part text (fault.Trace e) h = (h.1, h.2)
-own_part part text fault.Memory h = tt
-own_part part text w h = absurd h
+-- why there is no part of a report of the text
+abbrev pub IsPartUnreported : ReportPart → List ℕ → Fault → Type 0
+IsPartUnreported part = IsRefusal part_kinds (IsUntoldPart part)

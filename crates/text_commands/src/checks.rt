@@ -1,18 +1,13 @@
 //! The check of a certificate against a trace text, from two readers to a writer.
 
 ghost use Rattle.std.specs.Prelude.{◌≡◌, ◌≤◌, ℕ, List, OnOk, IfOk, IfErr, IfSome, IsTrue, length};
-ghost use Rattle.std.specs.Io.KnownBytes.{IsAtEnd, Appends};
 ghost use Rattle.step_trace.specs.Processors.{IsWithin};
 ghost use Rattle.step_trace.specs.declared.rows.Row.{Row};
-ghost use Rattle.trace_text.specs.ByteLoops.{WasFaultless};
-ghost use Rattle.trace_text.specs.Faults.{inner_of, faults_of, is_flushed};
 ghost use Rattle.trace_text.specs.declared.byte_loops.TheConstants.{MAX_TEXT_BYTES};
 ghost use Rattle.front.specs.ReportTexts.{StandsFor};
 ghost use Rattle.text_commands.specs.Checks.{IsEitherReadFault, IsFaultBefore, IsUnchecked, check_kinds};
-ghost use Rattle.text_commands.specs.Inputs.{IsReadFault};
 ghost use Rattle.text_commands.specs.Reports.{IsTextFault};
-ghost use Rattle.text_commands.specs.Printing.{IsWriteFault};
-ghost use Rattle.text_commands.specs.Serving.{IsFaultOf, IsServeFault};
+ghost use Rattle.text_commands.specs.Serving.{Appends, IsAtEnd, IsFaultOf, IsReadFault, IsServeFault, IsWriteFault, WasFaultless, faults_of, inner_of, is_flushed};
 ghost use Rattle.text_report.specs.Checks.{IsLineOn, IsVerdictOn};
 ghost use Rattle.text_report.specs.Texts.{IsTextOf};
 ghost use Rattle.text_report.specs.VerdictLines.{told_verdict};

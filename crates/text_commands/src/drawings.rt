@@ -1,14 +1,9 @@
 //! The picture of a run as SVG, from a reader to a writer.
 
-ghost use Rattle.std.specs.Prelude.{◌≡◌, ℕ, List, IfErr, IfOk, IfSome, IsTrue, MatchResult, OnOk, map};
-ghost use Rattle.std.specs.Io.KnownBytes.{Appends, IsAtEnd};
+ghost use Rattle.std.specs.Prelude.{◌≡◌, IfErr, IfOk, IsTrue, MatchResult, OnOk, map};
 ghost use Rattle.step_trace.specs.Processors.{IsWithin};
-ghost use Rattle.trace_text.specs.ByteLoops.{WasFaultless};
-ghost use Rattle.trace_text.specs.Faults.{faults_of, inner_of, is_flushed};
 ghost use Rattle.text_commands.specs.Drawings.{AreNamesFor, IsDrawable, IsDrawingOf, IsMarksFault, IsNamesFault, IsPictureFor, IsUndrawable, IsUndrawn, IsWindowFault, drawing_kinds, names_of_list, window_for};
-ghost use Rattle.text_commands.specs.Inputs.{IsReadFault};
-ghost use Rattle.text_commands.specs.Printing.{IsWriteFault};
-ghost use Rattle.text_commands.specs.Serving.{IsFaultOf, IsServeFault};
+ghost use Rattle.text_commands.specs.Serving.{HasServed, IsAtEnd, IsFaultOf, IsReadFault, IsUnserved, IsWriteFault, WasFaultless, faults_of, inner_of, is_flushed};
 
 use crate::checks::trace_within;
 use crate::faults::{Fault, PictureOption};
@@ -50,14 +45,11 @@ pub fn run_draw<R: Read, W: Write>(
     writer: &mut Counting<W>,
 ) -> Result<(), Fault>
     ensures end { OnOk result (IsAtEnd (R.remaining (inner_of reader.new))) }
-    ensures drawing { OnOk result ((text : List ℕ) × (picture : List ℕ)
-        × IfSome (R.remaining (inner_of reader.old)) (λ known. text ≡ known)
-        × IsDrawingOf drawing.now text picture
-        × Appends (W.contents (inner_of writer.old)) (W.contents (inner_of writer.new)) picture) }
+    ensures drawing { OnOk result (HasServed (IsDrawingOf drawing.now) (R.remaining (inner_of reader.old)) (W.contents (inner_of writer.old)) (W.contents (inner_of writer.new))) }
     ensures flushed { OnOk result (IsTrue (is_flushed writer.new)) }
     ensures faultless { OnOk result ((faults_of reader.new ≡ faults_of reader.old) × WasFaultless writer.old writer.new) }
-    ensures refused { IfErr result (λ why. IfSome (R.remaining (inner_of reader.old)) (λ text.
-        IsServeFault (IsDrawingOf drawing.now) (IsUndrawable drawing.now) text (W.contents (inner_of writer.old)) (W.contents (inner_of writer.new)) why)) }
+    ensures refused { IfErr result (IsUnserved (IsDrawingOf drawing.now) (IsUndrawable drawing.now)
+        (R.remaining (inner_of reader.old)) (W.contents (inner_of writer.old)) (W.contents (inner_of writer.new))) }
     ensures own { IfErr result (IsFaultOf drawing_kinds) }
     ensures read { IfErr result (IsReadFault (faults_of reader.old) (faults_of reader.new)) }
     ensures unwritten { IfErr result (IsWriteFault writer.old writer.new) }
@@ -66,28 +58,18 @@ pub fn run_draw<R: Read, W: Write>(
 }
 
 impl Answer for Drawing {
-    ghost use Rattle.text_commands.specs.Drawings.{IsDrawingOf, IsUndrawable, drawing_kinds, own_undrawable, too_large_to_draw};
+    ghost use Rattle.text_commands.specs.Drawings.{IsDrawingOf, IsUndrawnText, drawing_kinds};
 
     ghost Gives = { λ d. IsDrawingOf d };
 
-    ghost Refuses = { λ d. IsUndrawable d };
-
     ghost kinds = { λ _. drawing_kinds };
+
+    ghost Declines = { λ d. IsUndrawnText d };
 
     fn answer(&self, alloc: Global, text: Vec<u8>) -> Result<Vec<u8>, Fault> {
         let trace = trace_within(alloc, text, self.set)?;
         drawn(alloc, &trace, self)
     }
-
-    ghost too_large = { λ d text l. too_large_to_draw d text l };
-
-    ghost memory = { λ _ text. tt };
-
-    ghost own = { λ d text w h. own_undrawable d text w h };
-
-    ghost no_read = { λ _ text h. h };
-
-    ghost no_write = { λ _ text n h. h };
 }
 
 /// The picture of a trace, as SVG.

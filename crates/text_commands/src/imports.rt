@@ -1,15 +1,10 @@
 //! The trace of a log, from a reader to a writer.
 
-ghost use Rattle.std.specs.Prelude.{◌≡◌, ◌≤◌, ℕ, List, OnOk, IfOk, IfErr, IfSome, IsTrue, length, option_map, string_bytes, vec_len};
-ghost use Rattle.std.specs.Io.KnownBytes.{IsAtEnd, Appends};
-ghost use Rattle.trace_text.specs.ByteLoops.{WasFaultless};
-ghost use Rattle.trace_text.specs.Faults.{inner_of, faults_of, is_flushed};
+ghost use Rattle.std.specs.Prelude.{◌≡◌, OnOk, IfOk, IfErr, IfSome, IsTrue, option_map, string_bytes};
 ghost use Rattle.event_log.specs.Imports.{IsImportOf};
 ghost use Rattle.event_log.specs.Options.{AreOptions};
 ghost use Rattle.text_commands.specs.Imports.{IsFaultOfImport, IsImportOptionFault, IsImportTold, IsQuietFault, IsUnimported, IsUnreadLog, WentOut};
-ghost use Rattle.text_commands.specs.Inputs.{IsReadFault};
-ghost use Rattle.text_commands.specs.Printing.{IsWriteFault};
-ghost use Rattle.text_commands.specs.Serving.{IsServeFault};
+ghost use Rattle.text_commands.specs.Serving.{HasServed, IsAtEnd, IsReadFault, IsUnserved, IsWriteFault, WasFaultless, faults_of, inner_of, is_flushed};
 
 use crate::faults::Fault;
 use crate::import_lines::notes_text;
@@ -50,15 +45,12 @@ pub fn run_import<R: Read, W: Write, N: Write>(
     notes: &mut Counting<N>,
 ) -> Result<(), Fault>
     ensures end { OnOk result (IsAtEnd (R.remaining (inner_of reader.new))) }
-    ensures import { OnOk result ((text : List ℕ) × (out : List ℕ)
-        × IfSome (R.remaining (inner_of reader.old)) (λ known. text ≡ known)
-        × IsImportTold options.now (WentOut N.contents notes.old notes.new) text out
-        × Appends (W.contents (inner_of writer.old)) (W.contents (inner_of writer.new)) out) }
+    ensures import { OnOk result (HasServed (IsImportTold options.now (WentOut N.contents notes.old notes.new))
+        (R.remaining (inner_of reader.old)) (W.contents (inner_of writer.old)) (W.contents (inner_of writer.new))) }
     ensures flushed { OnOk result (IsTrue (is_flushed writer.new)) }
     ensures faultless { OnOk result ((faults_of reader.new ≡ faults_of reader.old) × WasFaultless writer.old writer.new) }
-    ensures refused { IfErr result (λ why. IfSome (R.remaining (inner_of reader.old)) (λ text.
-        IsServeFault (IsImportTold options.now (WentOut N.contents notes.old notes.new)) (IsUnimported options.now) text
-        (W.contents (inner_of writer.old)) (W.contents (inner_of writer.new)) why)) }
+    ensures refused { IfErr result (IsUnserved (IsImportTold options.now (WentOut N.contents notes.old notes.new)) (IsUnimported options.now)
+        (R.remaining (inner_of reader.old)) (W.contents (inner_of writer.old)) (W.contents (inner_of writer.new))) }
     ensures own { IfErr result IsFaultOfImport }
     ensures read { IfErr result (IsReadFault (faults_of reader.old) (faults_of reader.new)) }
     ensures unwritten { IfErr result (IsWriteFault writer.old writer.new) }

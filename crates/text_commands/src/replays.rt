@@ -1,14 +1,9 @@
 //! The replay of a trace text, from a reader to a writer.
 
-ghost use Rattle.std.specs.Prelude.{◌≡◌, ℕ, List, OnOk, IfOk, IfErr, IfSome, IsTrue};
-ghost use Rattle.std.specs.Io.KnownBytes.{IsAtEnd, Appends};
-ghost use Rattle.trace_text.specs.ByteLoops.{WasFaultless};
-ghost use Rattle.trace_text.specs.Faults.{inner_of, faults_of, is_flushed};
+ghost use Rattle.std.specs.Prelude.{◌≡◌, OnOk, IfOk, IfErr, IsTrue};
 ghost use Rattle.step_buffers.specs.Runs.{IsRun};
-ghost use Rattle.text_commands.specs.Inputs.{IsReadFault};
-ghost use Rattle.text_commands.specs.Printing.{IsWriteFault};
 ghost use Rattle.text_commands.specs.Replays.{IsReplayOf, IsTextOfSteps, IsUnreplayed, replay_kinds};
-ghost use Rattle.text_commands.specs.Serving.{IsFaultOf, IsServeFault};
+ghost use Rattle.text_commands.specs.Serving.{HasServed, IsAtEnd, IsFaultOf, IsReadFault, IsUnserved, IsWriteFault, WasFaultless, faults_of, inner_of, is_flushed};
 
 use crate::faults::Fault;
 use crate::inputs::trace_of;
@@ -31,14 +26,11 @@ pub fn run_replay<R: Read, W: Write>(
     writer: &mut Counting<W>,
 ) -> Result<(), Fault>
     ensures end { OnOk result (IsAtEnd (R.remaining (inner_of reader.new))) }
-    ensures replay { OnOk result ((text : List ℕ) × (replay : List ℕ)
-        × IfSome (R.remaining (inner_of reader.old)) (λ known. text ≡ known)
-        × IsReplayOf text replay
-        × Appends (W.contents (inner_of writer.old)) (W.contents (inner_of writer.new)) replay) }
+    ensures replay { OnOk result (HasServed IsReplayOf (R.remaining (inner_of reader.old)) (W.contents (inner_of writer.old)) (W.contents (inner_of writer.new))) }
     ensures flushed { OnOk result (IsTrue (is_flushed writer.new)) }
     ensures faultless { OnOk result ((faults_of reader.new ≡ faults_of reader.old) × WasFaultless writer.old writer.new) }
-    ensures refused { IfErr result (λ why. IfSome (R.remaining (inner_of reader.old)) (λ text.
-        IsServeFault IsReplayOf IsUnreplayed text (W.contents (inner_of writer.old)) (W.contents (inner_of writer.new)) why)) }
+    ensures refused { IfErr result (IsUnserved IsReplayOf IsUnreplayed
+        (R.remaining (inner_of reader.old)) (W.contents (inner_of writer.old)) (W.contents (inner_of writer.new))) }
     ensures own { IfErr result (IsFaultOf replay_kinds) }
     ensures read { IfErr result (IsReadFault (faults_of reader.old) (faults_of reader.new)) }
     ensures unwritten { IfErr result (IsWriteFault writer.old writer.new) }
@@ -51,29 +43,18 @@ pub fn run_replay<R: Read, W: Write>(
 struct Replay;
 
 impl Answer for Replay {
-    ghost use Rattle.text_commands.specs.Inputs.{too_large};
-    ghost use Rattle.text_commands.specs.Replays.{IsReplayOf, IsUnreplayed, own_replay, replay_kinds};
+    ghost use Rattle.text_commands.specs.Replays.{IsOffRun, IsReplayOf, replay_kinds};
 
     ghost Gives = { λ _. IsReplayOf };
 
-    ghost Refuses = { λ _. IsUnreplayed };
-
     ghost kinds = { λ _. replay_kinds };
+
+    ghost Declines = { λ _. IsOffRun };
 
     fn answer(&self, alloc: Global, text: Vec<u8>) -> Result<Vec<u8>, Fault> {
         let world = world_of(alloc, text)?;
         Ok(replay_text_of(alloc, &world)?)
     }
-
-    ghost too_large = { λ _ text l. too_large text l };
-
-    ghost memory = { λ _ text. tt };
-
-    ghost own = { λ _ text w h. own_replay text w h };
-
-    ghost no_read = { λ _ text h. h };
-
-    ghost no_write = { λ _ text n h. h };
 }
 
 /// The World that made the steps of what a text stands for, whatever their ticks. It lets go of the trace,

@@ -1,17 +1,12 @@
 //! A part of the report of a trace text, from a reader to a writer: the row that serves a tick, of the report of the
 //! trace up to a tick.
 
-ghost use Rattle.std.specs.Prelude.{◌≡◌, ◌↔◌, ℕ, List, Some, OnOk, IfOk, IfErr, IfSome, IsTrue};
-ghost use Rattle.std.specs.Io.KnownBytes.{IsAtEnd, Appends};
+ghost use Rattle.std.specs.Prelude.{◌≡◌, ◌↔◌, Some, OnOk, IfOk, IfErr, IsTrue};
 ghost use Rattle.step_trace.specs.Fronts.{IsReport};
 ghost use Rattle.step_trace.specs.Processors.{IsWithin};
 ghost use Rattle.step_trace.specs.Ticks.{IsTimed};
-ghost use Rattle.trace_text.specs.ByteLoops.{WasFaultless};
-ghost use Rattle.trace_text.specs.Faults.{inner_of, faults_of, is_flushed};
-ghost use Rattle.text_commands.specs.Inputs.{IsReadFault};
-ghost use Rattle.text_commands.specs.Printing.{IsWriteFault};
 ghost use Rattle.text_commands.specs.ReportParts.{IsAtFault, IsPartOfReport, IsPartUnreported, IsReportedTo, IsRowAt, IsTextFor, IsTickOf, IsUntilFault, part_kinds};
-ghost use Rattle.text_commands.specs.Serving.{IsFaultOf, IsServeFault};
+ghost use Rattle.text_commands.specs.Serving.{HasServed, IsAtEnd, IsFaultOf, IsReadFault, IsUnserved, IsWriteFault, WasFaultless, faults_of, inner_of, is_flushed};
 
 use crate::checks::trace_within;
 use crate::faults::{Fault, ReportOption};
@@ -49,14 +44,11 @@ pub fn run_report_part<R: Read, W: Write>(
     writer: &mut Counting<W>,
 ) -> Result<(), Fault>
     ensures end { OnOk result (IsAtEnd (R.remaining (inner_of reader.new))) }
-    ensures part { OnOk result ((text : List ℕ) × (out : List ℕ)
-        × IfSome (R.remaining (inner_of reader.old)) (λ known. text ≡ known)
-        × IsPartOfReport part.now text out
-        × Appends (W.contents (inner_of writer.old)) (W.contents (inner_of writer.new)) out) }
+    ensures part { OnOk result (HasServed (IsPartOfReport part.now) (R.remaining (inner_of reader.old)) (W.contents (inner_of writer.old)) (W.contents (inner_of writer.new))) }
     ensures flushed { OnOk result (IsTrue (is_flushed writer.new)) }
     ensures faultless { OnOk result ((faults_of reader.new ≡ faults_of reader.old) × WasFaultless writer.old writer.new) }
-    ensures refused { IfErr result (λ why. IfSome (R.remaining (inner_of reader.old)) (λ text.
-        IsServeFault (IsPartOfReport part.now) (IsPartUnreported part.now) text (W.contents (inner_of writer.old)) (W.contents (inner_of writer.new)) why)) }
+    ensures refused { IfErr result (IsUnserved (IsPartOfReport part.now) (IsPartUnreported part.now)
+        (R.remaining (inner_of reader.old)) (W.contents (inner_of writer.old)) (W.contents (inner_of writer.new))) }
     ensures own { IfErr result (IsFaultOf part_kinds) }
     ensures read { IfErr result (IsReadFault (faults_of reader.old) (faults_of reader.new)) }
     ensures unwritten { IfErr result (IsWriteFault writer.old writer.new) }
@@ -65,29 +57,19 @@ pub fn run_report_part<R: Read, W: Write>(
 }
 
 impl Answer for ReportPart {
-    ghost use Rattle.text_commands.specs.ReportParts.{IsPartOfReport, IsPartUnreported, own_part, part_kinds, too_large_for_part};
+    ghost use Rattle.text_commands.specs.ReportParts.{IsPartOfReport, IsUntoldPart, part_kinds};
 
     ghost Gives = { λ p. IsPartOfReport p };
 
-    ghost Refuses = { λ p. IsPartUnreported p };
-
     ghost kinds = { λ _. part_kinds };
+
+    ghost Declines = { λ p. IsUntoldPart p };
 
     fn answer(&self, alloc: Global, text: Vec<u8>) -> Result<Vec<u8>, Fault> {
         let trace = trace_within(alloc, text, self.set)?;
         let reported = reported_to(alloc, trace, self.until)?;
         text_for(alloc, &reported, self.set, self.at)
     }
-
-    ghost too_large = { λ p text l. too_large_for_part p text l };
-
-    ghost memory = { λ _ text. tt };
-
-    ghost own = { λ p text w h. own_part p text w h };
-
-    ghost no_read = { λ _ text h. h };
-
-    ghost no_write = { λ _ text n h. h };
 }
 
 /// The trace that is reported: this one, or this one up to a tick.

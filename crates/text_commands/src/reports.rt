@@ -1,16 +1,11 @@
 //! The report of a trace text, from a reader to a writer.
 
-ghost use Rattle.std.specs.Prelude.{◌≡◌, ◌≢◌, ◌≤◌, ℕ, List, OnOk, IfOk, IfErr, IfSome, IsTrue, MatchResult};
-ghost use Rattle.std.specs.Io.KnownBytes.{IsAtEnd, Appends};
+ghost use Rattle.std.specs.Prelude.{◌≡◌, ◌≢◌, ◌≤◌, OnOk, IfOk, IfErr, IsTrue, MatchResult};
 ghost use Rattle.step_trace.specs.Fronts.{IsReport};
 ghost use Rattle.step_trace.specs.Processors.{IsWithin};
-ghost use Rattle.trace_text.specs.ByteLoops.{WasFaultless};
-ghost use Rattle.trace_text.specs.Faults.{inner_of, faults_of, is_flushed};
 ghost use Rattle.chunk_join.specs.declared.analyses.TheConstants.{MAX_WORKERS};
-ghost use Rattle.text_commands.specs.Inputs.{IsReadFault};
-ghost use Rattle.text_commands.specs.Printing.{IsWriteFault};
 ghost use Rattle.text_commands.specs.Reports.{IsFaultFor, IsFaultOfWorkers, IsUnreported, TellsAnalysis, report_kinds};
-ghost use Rattle.text_commands.specs.Serving.{IsFaultOf, IsServeFault};
+ghost use Rattle.text_commands.specs.Serving.{HasServed, IsAtEnd, IsFaultOf, IsReadFault, IsUnserved, IsWriteFault, WasFaultless, faults_of, inner_of, is_flushed};
 ghost use Rattle.text_report.specs.Reports.{IsReportOf};
 
 use crate::faults::Fault;
@@ -46,14 +41,11 @@ pub fn run_report<T: Threads + Wait + Sync, R: Read, W: Write, G: Gate>(
     requires some { 1 ≤ workers }
     requires few { workers ≤ MAX_WORKERS }
     ensures end { OnOk result (IsAtEnd (R.remaining (inner_of reader.new))) }
-    ensures report { OnOk result ((text : List ℕ) × (report : List ℕ)
-        × IfSome (R.remaining (inner_of reader.old)) (λ known. text ≡ known)
-        × IsReportOf set text report
-        × Appends (W.contents (inner_of writer.old)) (W.contents (inner_of writer.new)) report) }
+    ensures report { OnOk result (HasServed (IsReportOf set) (R.remaining (inner_of reader.old)) (W.contents (inner_of writer.old)) (W.contents (inner_of writer.new))) }
     ensures flushed { OnOk result (IsTrue (is_flushed writer.new)) }
     ensures faultless { OnOk result ((faults_of reader.new ≡ faults_of reader.old) × WasFaultless writer.old writer.new) }
-    ensures refused { IfErr result (λ why. IfSome (R.remaining (inner_of reader.old)) (λ text.
-        IsServeFault (IsReportOf set) (IsUnreported set) text (W.contents (inner_of writer.old)) (W.contents (inner_of writer.new)) why)) }
+    ensures refused { IfErr result (IsUnserved (IsReportOf set) (IsUnreported set)
+        (R.remaining (inner_of reader.old)) (W.contents (inner_of writer.old)) (W.contents (inner_of writer.new))) }
     ensures own { IfErr result (IsFaultOf report_kinds) }
     ensures read { IfErr result (IsReadFault (faults_of reader.old) (faults_of reader.new)) }
     ensures unwritten { IfErr result (IsWriteFault writer.old writer.new) }
