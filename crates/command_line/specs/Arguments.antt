@@ -21,21 +21,21 @@ pub record IsCommand (app : App) (c : Command) : Type 0 where
   pub app_is : app_of c ≡ app
   pub local : (out-Command c).has_globals ≡ false
 
--- FILE
-abbrev pub file_rule : Rule
-file_rule = record (new_rule (codes "file")) { action = Some Set; value_names = 1; required = true }
-
--- --NAME VALUE
-abbrev pub option_rule : Text → Rule
-option_rule name = record (new_rule name) { long = Some name; action = Some Set; value_names = 1; required = true }
-
--- the same, for a number within these bounds
-abbrev pub number_rule : Text → ℕ → ℕ → Rule
-number_rule name least most = record (option_rule name) { parser = Some (vp.Unsigned least most) }
+-- an argument that is known by its place
+abbrev pub positional_rule : Text → Rule
+positional_rule name = record (new_rule name) { action = Some Set; value_names = 1; required = true }
 
 -- --NAME VALUE, which may be left out
 abbrev pub optional_rule : Text → Rule
 optional_rule name = record (new_rule name) { long = Some name; action = Some Set; value_names = 1 }
+
+-- --NAME VALUE, which is required
+abbrev pub option_rule : Text → Rule
+option_rule name = record (optional_rule name) { required = true }
+
+-- the same, for a number within these bounds
+abbrev pub number_rule : Text → ℕ → ℕ → Rule
+number_rule name least most = record (option_rule name) { parser = Some (vp.Unsigned least most) }
 
 -- --NAME TICK, which may be left out
 abbrev pub tick_rule : Text → Rule
@@ -44,6 +44,10 @@ tick_rule name = record (optional_rule name) { parser = Some (vp.Unsigned 0 (2 ^
 -- --NAME, which takes no value
 abbrev pub flag_rule : Text → Rule
 flag_rule name = record (new_rule name) { long = Some name; action = Some SetTrue }
+
+-- FILE
+abbrev pub file_rule : Rule
+file_rule = positional_rule (codes "file")
 
 -- --correct LIST
 abbrev pub correct_rule : Rule

@@ -3,7 +3,7 @@
 ghost use Rattle.std.specs.Prelude.{◌≡◌, ◌≢◌, ◌↔◌, ℕ, List, Option, IfOk, IfErr, IfSome, IfNone, IsTrue, Bool, codes, option_map, string_bytes};
 ghost use Rattle.clap.specs.Words.{first_of, found_of, rows_of};
 ghost use Rattle.step_trace.specs.ProcessorLists.{IsSetIn};
-ghost use Rattle.command_line.specs.Arguments.{HasFlag, HasNumber, HasOptionalNumber, IsArgument, IsLineFault, IsListFault, correct_rule, file_rule, tick_rule};
+ghost use Rattle.command_line.specs.Arguments.{HasFlag, HasNumber, HasOptionalNumber, IsArgument, IsLineFault, IsListFault, correct_rule, file_rule, option_rule, optional_rule, positional_rule, tick_rule};
 
 use crate::line_errors::LineError;
 use clap::builder::ValueParser;
@@ -11,26 +11,65 @@ use clap::{Arg, ArgAction, ArgMatches};
 use std::alloc::{AllocError, Global};
 use step_trace::ProcSet;
 
+const FILE_HELP: &str = "The trace text; - is standard input";
+
+const CORRECT_HELP: &str = "The correct processors, from 1 to 64: 1,2,5, or none";
+
 /// The argument FILE.
 pub fn file_argument<'a>(alloc: Global) -> Arg<'a>
     ensures { IsArgument file_rule result }
 {
-    Arg::new(alloc, "file")
-        .value_name("FILE")
-        .help("The trace text; - is standard input")
-        .required(true)
-        .action(ArgAction::Set)
+    positional_argument(alloc, "file", "FILE", FILE_HELP)
 }
 
 /// The option --correct LIST.
 pub fn correct_argument<'a>(alloc: Global) -> Arg<'a>
     ensures { IsArgument correct_rule result }
 {
-    Arg::new(alloc, "correct")
-        .long("correct")
-        .value_name("LIST")
-        .help("The correct processors, from 1 to 64: 1,2,5, or none")
+    option_argument(alloc, "correct", "LIST", CORRECT_HELP)
+}
+
+/// A required argument that is known by its place, and not by `--NAME`.
+pub fn positional_argument<'a>(
+    alloc: Global,
+    name: &'a str,
+    value_name: &'a str,
+    help: &'a str,
+) -> Arg<'a>
+    ensures { IsArgument (positional_rule name.entry.now) result }
+{
+    Arg::new(alloc, name)
+        .value_name(value_name)
+        .help(help)
         .required(true)
+        .action(ArgAction::Set)
+}
+
+/// A required option `--NAME VALUE`.
+pub fn option_argument<'a>(
+    alloc: Global,
+    name: &'a str,
+    value_name: &'a str,
+    help: &'a str,
+) -> Arg<'a>
+    ensures { IsArgument (option_rule name.entry.now) result }
+{
+    optional_argument(alloc, name, value_name, help).required(true)
+}
+
+/// An option `--NAME VALUE`, which may be left out.
+pub fn optional_argument<'a>(
+    alloc: Global,
+    name: &'a str,
+    value_name: &'a str,
+    help: &'a str,
+) -> Arg<'a>
+    ensures { IsArgument (optional_rule name.entry.now) result }
+{
+    Arg::new(alloc, name)
+        .long(name)
+        .value_name(value_name)
+        .help(help)
         .action(ArgAction::Set)
 }
 
@@ -38,12 +77,7 @@ pub fn correct_argument<'a>(alloc: Global) -> Arg<'a>
 pub fn tick_argument<'a>(alloc: Global, name: &'a str, help: &'a str) -> Arg<'a>
     ensures { IsArgument (tick_rule name.entry.now) result }
 {
-    Arg::new(alloc, name)
-        .long(name)
-        .value_name("TICK")
-        .help(help)
-        .value_parser(ValueParser::unsigned(0, u64::MAX))
-        .action(ArgAction::Set)
+    optional_argument(alloc, name, "TICK", help).value_parser(ValueParser::unsigned(0, u64::MAX))
 }
 
 /// The text of this name, where the matches have one.

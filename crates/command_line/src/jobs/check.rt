@@ -2,17 +2,20 @@
 
 ghost use Rattle.std.specs.Prelude.{◌≡◌, List, ℕ, None, IfOk, IfErr, IfSome, codes};
 ghost use Rattle.clap.specs.Words.{found_of, rows_of};
-ghost use Rattle.command_line.specs.Arguments.{IsArgument, IsCommand};
-ghost use Rattle.command_line.specs.Commands.{AreCheckRows, IsCheck, IsFilesFault, certificate_rule, check_app};
+ghost use Rattle.command_line.specs.Arguments.{IsCommand};
+ghost use Rattle.command_line.specs.Commands.{AreCheckRows, IsCheck, IsFilesFault, check_app};
 ghost use Rattle.command_line.specs.Jobs.{IsAnswerIn};
 
 use crate::jobs::Job;
 use crate::jobs::arguments::{
-    correct_argument, file_argument, names_standard_input, set_in, text, unknown,
+    correct_argument, file_argument, names_standard_input, positional_argument, set_in, text,
+    unknown,
 };
 use crate::line_errors::LineError;
-use clap::{Arg, ArgAction, ArgMatches, Command};
+use clap::{ArgMatches, Command};
 use std::alloc::{AllocError, Global};
+
+const CERTIFICATE_HELP: &str = "The report to check; - is standard input";
 
 /// What the words after `check` say.
 #[derive(Clone, Copy)]
@@ -33,19 +36,8 @@ pub fn command<'a>(alloc: Global) -> Result<Command<'a>, AllocError>
         .about("Checks a report of a trace by the trace, and prints the verdict")
         .after_help(help())
         .arg(file_argument(alloc))?
-        .arg(certificate_argument(alloc))?
+        .arg(positional_argument(alloc, "certificate", "CERT", CERTIFICATE_HELP))?
         .arg(correct_argument(alloc))
-}
-
-/// The argument CERT.
-fn certificate_argument<'a>(alloc: Global) -> Arg<'a>
-    ensures { IsArgument certificate_rule result }
-{
-    Arg::new(alloc, "certificate")
-        .value_name("CERT")
-        .help("The report to check; - is standard input")
-        .required(true)
-        .action(ArgAction::Set)
 }
 
 /// The job that the words after `check` ask for.

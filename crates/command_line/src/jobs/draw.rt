@@ -2,23 +2,26 @@
 
 ghost use Rattle.std.specs.Prelude.{◌≡◌, List, ℕ, None, Option, IfOk, IfErr, IfSome, codes, option_map};
 ghost use Rattle.clap.specs.Words.{found_of, rows_of};
-ghost use Rattle.command_line.specs.Arguments.{IsArgument, IsCommand, IsListFault};
-ghost use Rattle.command_line.specs.Commands.{AreDrawRows, IsDraw, draw_app, names_rule};
+ghost use Rattle.command_line.specs.Arguments.{IsCommand, IsListFault};
+ghost use Rattle.command_line.specs.Commands.{AreDrawRows, IsDraw, draw_app};
 ghost use Rattle.command_line.specs.Jobs.{IsAnswerIn};
 
 use crate::jobs::Job;
 use crate::jobs::arguments::{
-    correct_argument, file_argument, kept, optional_number, optional_text, set_in, text,
-    tick_argument, unknown,
+    correct_argument, file_argument, kept, optional_argument, optional_number, optional_text,
+    set_in, text, tick_argument, unknown,
 };
 use crate::line_errors::LineError;
-use clap::{Arg, ArgAction, ArgMatches, Command};
+use clap::{ArgMatches, Command};
 use std::alloc::{AllocError, Global};
 
 const FROM_HELP: &str = "The first tick to draw; 1 where it is left out";
 
 const TO_HELP: &str =
     "The last tick to draw, at most 999 after the first; 99 after it where it is left out";
+
+const NAMES_HELP: &str =
+    "The names of all processors, in their order; their numbers where it is left out";
 
 /// What the words after `draw` say.
 #[derive(Clone, Copy)]
@@ -46,18 +49,7 @@ pub fn command<'a>(alloc: Global) -> Result<Command<'a>, AllocError>
         .arg(correct_argument(alloc))?
         .arg(tick_argument(alloc, "from", FROM_HELP))?
         .arg(tick_argument(alloc, "to", TO_HELP))?
-        .arg(names_argument(alloc))
-}
-
-/// The option `--names A,B,C`, which may be left out.
-fn names_argument<'a>(alloc: Global) -> Arg<'a>
-    ensures { IsArgument names_rule result }
-{
-    Arg::new(alloc, "names")
-        .long("names")
-        .value_name("A,B,C")
-        .help("The names of all processors, in their order; their numbers where it is left out")
-        .action(ArgAction::Set)
+        .arg(optional_argument(alloc, "names", "A,B,C", NAMES_HELP))
 }
 
 /// The job that the words after `draw` ask for.

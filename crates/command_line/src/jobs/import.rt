@@ -2,15 +2,19 @@
 
 ghost use Rattle.std.specs.Prelude.{◌≡◌, Bool, List, ℕ, None, Option, IfOk, IfErr, IfSome, codes, option_map};
 ghost use Rattle.clap.specs.Words.{found_of, rows_of};
-ghost use Rattle.command_line.specs.Arguments.{IsArgument, IsCommand, IsMemory, flag_rule, optional_rule};
-ghost use Rattle.command_line.specs.Commands.{AreImportRows, IsImport, import_app, log_rule};
+ghost use Rattle.command_line.specs.Arguments.{IsArgument, IsCommand, IsMemory, flag_rule};
+ghost use Rattle.command_line.specs.Commands.{AreImportRows, IsImport, import_app};
 ghost use Rattle.command_line.specs.Jobs.{IsAnswerIn};
 
 use crate::jobs::Job;
-use crate::jobs::arguments::{flag, kept, optional_text, text, unknown};
+use crate::jobs::arguments::{
+    flag, kept, optional_argument, optional_text, positional_argument, text, unknown,
+};
 use crate::line_errors::LineError;
 use clap::{Arg, ArgAction, ArgMatches, Command};
 use std::alloc::{AllocError, Global};
+
+const LOG_HELP: &str = "The log; - is standard input";
 
 const NODES_HELP: &str = "The nodes in their order; LOG's where it is left out";
 
@@ -40,33 +44,11 @@ pub fn command<'a>(alloc: Global) -> Result<Command<'a>, AllocError>
     Command::new(alloc, "import")
         .about("Makes a trace of a log with time stamps")
         .after_help(help())
-        .arg(log_argument(alloc))?
-        .arg(text_option(alloc, "nodes", "A,B,C", NODES_HELP))?
-        .arg(text_option(alloc, "tick", "W", TICK_HELP))?
-        .arg(text_option(alloc, "until", "X", UNTIL_HELP))?
+        .arg(positional_argument(alloc, "log", "LOG", LOG_HELP))?
+        .arg(optional_argument(alloc, "nodes", "A,B,C", NODES_HELP))?
+        .arg(optional_argument(alloc, "tick", "W", TICK_HELP))?
+        .arg(optional_argument(alloc, "until", "X", UNTIL_HELP))?
         .arg(spread_argument(alloc))
-}
-
-/// The argument LOG.
-fn log_argument<'a>(alloc: Global) -> Arg<'a>
-    ensures { IsArgument log_rule result }
-{
-    Arg::new(alloc, "log")
-        .value_name("LOG")
-        .help("The log; - is standard input")
-        .required(true)
-        .action(ArgAction::Set)
-}
-
-/// An option `--NAME VALUE`, which may be left out.
-fn text_option<'a>(alloc: Global, name: &'a str, value: &'a str, help: &'a str) -> Arg<'a>
-    ensures { IsArgument (optional_rule name.entry.now) result }
-{
-    Arg::new(alloc, name)
-        .long(name)
-        .value_name(value)
-        .help(help)
-        .action(ArgAction::Set)
 }
 
 /// The flag --spread.

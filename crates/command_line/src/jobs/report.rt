@@ -8,15 +8,18 @@ ghost use Rattle.command_line.specs.Jobs.{IsAnswerIn};
 
 use crate::jobs::Job;
 use crate::jobs::arguments::{
-    correct_argument, file_argument, number, optional_number, set_in, text, tick_argument, unknown,
+    correct_argument, file_argument, number, optional_argument, optional_number, set_in, text,
+    tick_argument, unknown,
 };
 use crate::line_errors::LineError;
 use clap::builder::ValueParser;
-use clap::{Arg, ArgAction, ArgMatches, Command};
+use clap::{Arg, ArgMatches, Command};
 use std::alloc::{AllocError, Global};
 
 /// The greatest number of workers that a command line may ask for.
 pub const MAX_WORKERS: u64 = 64;
+
+const WORKERS_HELP: &str = "How many threads read and analyse it, from 1 to 64";
 
 const UNTIL_HELP: &str = "Reports the trace as if it had ended at this tick";
 
@@ -55,13 +58,9 @@ pub fn command<'a>(alloc: Global) -> Result<Command<'a>, AllocError>
 fn workers_argument<'a>(alloc: Global) -> Arg<'a>
     ensures { IsArgument workers_rule result }
 {
-    Arg::new(alloc, "workers")
-        .long("workers")
-        .value_name("W")
-        .help("How many threads read and analyse it, from 1 to 64")
+    optional_argument(alloc, "workers", "W", WORKERS_HELP)
         .default_value("1")
         .value_parser(ValueParser::unsigned(1, MAX_WORKERS))
-        .action(ArgAction::Set)
 }
 
 /// The job that the words after `report` ask for.

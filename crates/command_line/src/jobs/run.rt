@@ -3,17 +3,19 @@
 ghost use Rattle.std.specs.Prelude.{◌≡◌, ◌↔◌, ◌*◌, ◌<◌, ◌≤◌, ℕ, List, Option, None, IfOk, IfErr, IfSome, IsTrue, codes, option_map};
 ghost use Rattle.clap.specs.Words.{found_of, rows_of};
 ghost use Rattle.step_trace.specs.declared.traces.TheConstants.{MAX_STEPS};
-ghost use Rattle.command_line.specs.Arguments.{IsArgument, IsCommand, number_rule, option_rule};
-ghost use Rattle.command_line.specs.Commands.{AreRunRows, follow_rule, plain_run_app, run_app};
+ghost use Rattle.command_line.specs.Arguments.{IsArgument, IsCommand, number_rule};
+ghost use Rattle.command_line.specs.Commands.{AreRunRows, plain_run_app, run_app};
 ghost use Rattle.command_line.specs.Jobs.{IsAnswerIn};
 ghost use Rattle.command_line.specs.RunJobs.{AreListed, IsConfigFault, IsConfigOf, IsFollowFault, IsFollowed, IsLimitFault, IsRunFault, IsRunJob, TellsConfig};
 
 use crate::jobs::Job;
-use crate::jobs::arguments::{number, optional_text, set_in, text, unknown};
+use crate::jobs::arguments::{
+    number, option_argument, optional_argument, optional_text, set_in, text, unknown,
+};
 use crate::jobs::value_lists::read_values;
 use crate::line_errors::LineError;
 use clap::builder::ValueParser;
-use clap::{Arg, ArgAction, ArgMatches, Command};
+use clap::{Arg, ArgMatches, Command};
 use std::alloc::{AllocError, Global};
 use step_trace::{Config, ConfigError, MAX_STEPS, ProcSet};
 
@@ -53,7 +55,7 @@ struct RunWords<'a> {
 pub fn command<'a>(alloc: Global) -> Result<Command<'a>, AllocError>
     ensures { IfOk result (IsCommand run_app) }
 {
-    plain_command(alloc)?.arg(follow_argument(alloc))
+    plain_command(alloc)?.arg(optional_argument(alloc, "follow", "LIST", FOLLOW_HELP))
 }
 
 /// The command with the options that it requires.
@@ -65,20 +67,9 @@ fn plain_command<'a>(alloc: Global) -> Result<Command<'a>, AllocError>
         .after_help(help())
         .arg(number_option(alloc, "nodes", "N", NODES_HELP, 0, u64::MAX))?
         .arg(number_option(alloc, "faults", "T", FAULTS_HELP, 0, u64::MAX))?
-        .arg(option(alloc, "values", "V1,..,VN", VALUES_HELP))?
+        .arg(option_argument(alloc, "values", "V1,..,VN", VALUES_HELP))?
         .arg(number_option(alloc, "patience", "P", PATIENCE_HELP, 1, MAX_PATIENCE))?
         .arg(number_option(alloc, "steps", "S", STEPS_HELP, 0, MAX_STEPS as u64))
-}
-
-/// The option `--follow LIST`, which may be left out.
-fn follow_argument<'a>(alloc: Global) -> Arg<'a>
-    ensures { IsArgument follow_rule result }
-{
-    Arg::new(alloc, "follow")
-        .long("follow")
-        .value_name("LIST")
-        .help(FOLLOW_HELP)
-        .action(ArgAction::Set)
 }
 
 /// A required option `--NAME VALUE`, whose value is a number within these bounds.
@@ -92,19 +83,7 @@ fn number_option<'a>(
 ) -> Arg<'a>
     ensures { IsArgument (number_rule name.entry.now least most) result }
 {
-    option(alloc, name, value_name, help).value_parser(ValueParser::unsigned(least, most))
-}
-
-/// A required option `--NAME VALUE`.
-fn option<'a>(alloc: Global, name: &'a str, value_name: &'a str, help: &'a str) -> Arg<'a>
-    ensures { IsArgument (option_rule name.entry.now) result }
-{
-    Arg::new(alloc, name)
-        .long(name)
-        .value_name(value_name)
-        .help(help)
-        .required(true)
-        .action(ArgAction::Set)
+    option_argument(alloc, name, value_name, help).value_parser(ValueParser::unsigned(least, most))
 }
 
 /// The job that the words after `run` ask for.

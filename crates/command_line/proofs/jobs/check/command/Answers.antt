@@ -9,5 +9,5 @@ pub returns : goal.returns
 returns c =
     let opening : IsCommand (new_app (codes "check")) c.after_help.result = search rules in
     let first = one_argument _ _ _ _ _ opening c.file_argument.ensures c.in_ok-arg.ensures in
-    let second = one_argument _ _ _ _ _ first c.certificate_argument.ensures c.in_ok-arg-2.ensures in
+    let second = one_argument _ _ _ _ _ first c.positional_argument.ensures c.in_ok-arg-2.ensures in
     IfOk-weaker c.arg-3.result _ _ (λ r h. one_argument _ _ _ _ _ second c.correct_argument.ensures h) c.arg-3.ensures

@@ -12,4 +12,4 @@ returns c =
     let second = one_argument _ _ _ _ _ first c.correct_argument.ensures c.in_ok-arg-2.ensures in
     let third = one_argument _ _ _ _ _ second c.tick_argument.ensures c.in_ok-arg-3.ensures in
     let fourth = one_argument _ _ _ _ _ third c.tick_argument-2.ensures c.in_ok-arg-4.ensures in
-    IfOk-weaker c.arg-5.result _ _ (λ r h. one_argument _ _ _ _ _ fourth c.names_argument.ensures h) c.arg-5.ensures
+    IfOk-weaker c.arg-5.result _ _ (λ r h. one_argument _ _ _ _ _ fourth c.optional_argument.ensures h) c.arg-5.ensures

@@ -10,6 +10,6 @@ returns c =
     let opening : IsCommand (new_app (codes "run")) c.after_help.result = search rules in
     let first = one_argument _ _ _ _ _ opening c.number_option.ensures c.in_ok-arg.ensures in
     let second = one_argument _ _ _ _ _ first c.number_option-2.ensures c.in_ok-arg-2.ensures in
-    let third = one_argument _ _ _ _ _ second c.option.ensures c.in_ok-arg-3.ensures in
+    let third = one_argument _ _ _ _ _ second c.option_argument.ensures c.in_ok-arg-3.ensures in
     let fourth = one_argument _ _ _ _ _ third c.number_option-3.ensures c.in_ok-arg-4.ensures in
     IfOk-weaker c.arg-5.result _ _ (λ r h. one_argument _ _ _ _ _ fourth c.number_option-4.ensures h) c.arg-5.ensures
