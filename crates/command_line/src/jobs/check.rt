@@ -29,6 +29,7 @@ struct CheckWords<'a> {
 }
 
 /// The command `check`, as the command line's reader takes it.
+#[tactic(auto, using(crate::proofs::Shapes::one_argument))]
 pub fn command<'a>(alloc: Global) -> Result<Command<'a>, AllocError>
     ensures { IfOk result (IsCommand check_app) }
 {

@@ -52,6 +52,7 @@ struct RunWords<'a> {
 }
 
 /// The command `run`, as the command line's reader takes it.
+#[tactic(auto, using(crate::proofs::Shapes::one_argument))]
 pub fn command<'a>(alloc: Global) -> Result<Command<'a>, AllocError>
     ensures { IfOk result (IsCommand run_app) }
 {
