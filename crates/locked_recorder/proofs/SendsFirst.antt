@@ -1,4 +1,4 @@
--- A Send where there is something to send, and else another move: what a World answers to the two.
+-- A Send, where sends come first and there is something to send, and else a move: what a World answers.
 use Rattle.std.proofs.Common.{ℕ, ◌≡◌, Bool, true, false, Option, Some, None, is_none, if◌then◌else◌, nat_lt, List, length, refl, sym, ap, subst, ◌∙◌}
 use Rattle.step_trace.specs.Configurations.{Setup, is_proc}
 use Rattle.step_trace.specs.declared.steps.Step.{Step}
@@ -14,7 +14,7 @@ use Rattle.locked_recorder.specs.declared.errors.RecordError.{RecordError}
 use Rattle.locked_recorder.specs.declared.errors.RecordError.TheVariants as record_error
 use Rattle.locked_recorder.specs.Seats.{Turns, with_done}
 use Rattle.locked_recorder.specs.Recorders.{Identity}
-use Rattle.locked_recorder.specs.Choices.{send_or, IsChosenAgainst, IsChosenStepReason, IsChoiceRefused, IsChoiceRefusal, IsSendAnswer, IsSendRecorded}
+use Rattle.locked_recorder.specs.Choices.{chosen, IsChosen, IsChosenAgainst, IsChosenAnswer, IsChosenStepReason, IsChoiceRefused, IsChoiceRefusal}
 use Rattle.locked_recorder.proofs.Answered.{IsShown, IsAgainst-shown}
 
 -- the first reason against a move, where the reason against it alone is `own`
@@ -62,58 +62,60 @@ any_move c limit steps p move why other = go (nat_lt (length steps) limit) (is_p
     go true false to own h = h
     go false b to own h = h
 
--- a Send that is refused for another reason than NothingToSend
-pub IsChosenStepReason-send : (r : Identity) (w : Progress) (p : ℕ) (otherwise : Move) (why : StepError) → IsShown r w → (why ≡ NothingToSend → ⊥)
-    → IsStepRefusal why (step_refusal w.trace.config w.limit w.trace.steps p Send) → IsChosenStepReason r p (send_or otherwise) why
-IsChosenStepReason-send r w p otherwise Memory shown other h = tt
-IsChosenStepReason-send r w p otherwise why shown other h = by_choice (IsAgainst-shown r w p Send why shown h).0
+-- what stands against the first move that is tried, unless that is a Send where there is nothing to send
+pub IsChosenStepReason-first : (r : Identity) (w : Progress) (p : ℕ) (sends : Bool) (step : Move) (why : StepError) → IsShown r w
+    → (sends ≡ true → why ≡ NothingToSend → ⊥) → IsStepRefusal why (step_refusal w.trace.config w.limit w.trace.steps p (if sends then Send else step))
+    → IsChosenStepReason r p (chosen sends step) why
+IsChosenStepReason-first r w p sends step Memory shown other h = tt
+IsChosenStepReason-first r w p sends step why shown other h = by_choice sends other (IsAgainst-shown r w p (if sends then Send else step) why shown h).0
   where
-    by_choice : IsAgainst r p Send why → IsChosenAgainst r p (send_or otherwise) why
-    by_choice against =
+    by_choice : (sends : Bool) → (sends ≡ true → why ≡ NothingToSend → ⊥) → IsAgainst r p (if sends then Send else step) why → IsChosenAgainst r p (chosen sends step) why
+    by_choice false other against = record { to = next_send r.config against.before p; against = against; next = refl }
+    by_choice true other against =
         let to = next_send r.config against.before p in
         record {
           to = to;
           against = record {
             before = against.before;
             world = against.world;
-            reason = any_move r.config r.limit against.before p (send_or otherwise to) why other against.reason;
+            reason = any_move r.config r.limit against.before p (chosen true step to) why (other refl) against.reason;
           };
           next = refl;
         }
 
--- the other move, refused where there is nothing to send
-pub IsChosenStepReason-otherwise : (r : Identity) (w : Progress) (p : ℕ) (otherwise : Move) (why : StepError) → IsShown r w
-    → next_send r.config w.trace.steps p ≡ None → IsStepRefusal why (step_refusal w.trace.config w.limit w.trace.steps p otherwise) → IsChosenStepReason r p (send_or otherwise) why
-IsChosenStepReason-otherwise r w p otherwise Memory shown nothing h = tt
-IsChosenStepReason-otherwise r w p otherwise why shown nothing h =
-    let against = IsAgainst-shown r w p otherwise why shown h in
+-- this move, refused where there is nothing to send
+pub IsChosenStepReason-otherwise : (r : Identity) (w : Progress) (p : ℕ) (step : Move) (why : StepError) → IsShown r w → next_send r.config w.trace.steps p ≡ None
+    → IsStepRefusal why (step_refusal w.trace.config w.limit w.trace.steps p step) → IsChosenStepReason r p (chosen true step) why
+IsChosenStepReason-otherwise r w p step Memory shown nothing h = tt
+IsChosenStepReason-otherwise r w p step why shown nothing h =
+    let against = IsAgainst-shown r w p step why shown h in
     record {
       to = None;
       against = against.0;
       next = ap (λ steps. next_send r.config steps p) against.1 ∙ nothing;
     }
 
--- a Send that was made
-pub IsSendAnswer-sent : (r : Identity) (p : ℕ) (otherwise : Move) (done : Done) → IsAnswer r p Send done → IsSendAnswer r p otherwise done true
-IsSendAnswer-sent r p otherwise done answer = go (next_send r.config answer.before p) refl
+-- the first move that is tried was made
+pub IsChosenAnswer-first : (r : Identity) (p : ℕ) (sends : Bool) (step : Move) (done : Done) → IsAnswer r p (if sends then Send else step) done
+    → IsChosenAnswer r p (chosen sends step) done
+IsChosenAnswer-first r p false step done answer = record { to = next_send r.config answer.before p; answer = answer; next = refl }
+IsChosenAnswer-first r p true step done answer = go (next_send r.config answer.before p) refl
   where
-    go : (to : Option ℕ) → next_send r.config answer.before p ≡ to → IsSendAnswer r p otherwise done true
+    go : (to : Option ℕ) → next_send r.config answer.before p ≡ to → IsChosenAnswer r p (chosen true step) done
     go None next = absurd (no_send r.config r.limit answer.before p next answer.allowed)
-    go (Some to) next = record { chosen = record { to = Some to; answer = answer; next = next }; told = refl }
+    go (Some to) next = record { to = Some to; answer = answer; next = next }
 
--- the other move, made where there is nothing to send
-pub IsSendAnswer-otherwise : (r : Identity) (p : ℕ) (otherwise : Move) (done : Done) (steps : List Step) → next_send r.config steps p ≡ None
-    → (answer : IsAnswer r p otherwise done) × (answer.before ≡ steps) → IsSendAnswer r p otherwise done false
-IsSendAnswer-otherwise r p otherwise done steps nothing made =
-    let next = ap (λ (before : List Step). next_send r.config before p) made.1 ∙ nothing in
-    record { chosen = record { to = None; answer = made.0; next = next }; told = refl }
+-- this move was made where there is nothing to send
+pub IsChosenAnswer-otherwise : (r : Identity) (p : ℕ) (step : Move) (done : Done) (steps : List Step) → next_send r.config steps p ≡ None
+    → (answer : IsAnswer r p step done) × (answer.before ≡ steps) → IsChosenAnswer r p (chosen true step) done
+IsChosenAnswer-otherwise r p step done steps nothing made =
+    record { to = None; answer = made.0; next = ap (λ (before : List Step). next_send r.config before p) made.1 ∙ nothing }
 
--- what is kept of either
-pub IsSendRecorded-kept : (r : Identity) (p : ℕ) (otherwise : Move) (old new : Turns) (done : Done) (sent : Bool) → old.proc ≡ p → new ≡ with_done old done
-    → IsSendAnswer r p otherwise done sent → IsSendRecorded r otherwise old new sent
-IsSendRecorded-kept r p otherwise old new done sent own kept answer =
-    let mine = subst (λ (q : ℕ). IsSendAnswer r q otherwise done sent) (sym own) answer in
-    record { chosen = record { done = done; appended = kept; answer = mine.chosen }; told = mine.told }
+-- what a seat keeps of either
+pub IsChosen-kept : (r : Identity) (p : ℕ) (choice : Option ℕ → Move) (old new : Turns) (done : Done) → old.proc ≡ p → new ≡ with_done old done
+    → IsChosenAnswer r p choice done → IsChosen r choice old new
+IsChosen-kept r p choice old new done own kept answer =
+    record { done = done; appended = kept; answer = subst (λ (q : ℕ). IsChosenAnswer r q choice done) (sym own) answer }
 
 -- a refusal, asked for by a seat
 pub IsChoiceRefusal-refused : (r : Identity) (s : Turns) (p : ℕ) (choice : Option ℕ → Move) (why : RecordError) → s.proc ≡ p → s.tag ≡ r.tag

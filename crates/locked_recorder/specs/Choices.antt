@@ -1,5 +1,5 @@
 -- Choices: moves that hang on where a processor sends next. Which World it was, under the lock, is not seen.
-use Rattle.std.specs.Prelude.{ℕ, ◌≡◌, Bool, Option, Some, None, is_some}
+use Rattle.std.specs.Prelude.{ℕ, ◌≡◌, ◌&&◌, if◌then◌else◌, Bool, Option, is_some}
 use Rattle.step_buffers.specs.declared.moves.Done.{Done}
 use Rattle.step_buffers.specs.declared.moves.Move.{Move}
 use Rattle.step_buffers.specs.declared.moves.Move.TheVariants.{Send}
@@ -12,10 +12,9 @@ use Rattle.locked_recorder.specs.Seats.{Turns, with_done}
 use Rattle.locked_recorder.specs.Recorders.{Identity}
 use Rattle.locked_recorder.specs.Recordings.{IsAnswer, IsAgainst}
 
--- a Send where there is something to send, and else this move
-abbrev pub send_or : Move → Option ℕ → Move
-send_or otherwise None = otherwise
-send_or otherwise (Some to) = Send
+-- a Send, where sends come first and there is something to send; and else this move
+abbrev pub chosen : Bool → Move → Option ℕ → Move
+chosen sends step to = if sends && is_some to then Send else step
 
 -- This was done on a World of a recorder, in which p sends next to `to`, that p was told to move as the choice
 -- says.
@@ -50,13 +49,3 @@ pub record IsChosen (r : Identity) (choice : Option ℕ → Move) (old new : Tur
   pub done : Done
   pub appended : new ≡ with_done old done
   pub answer : IsChosenAnswer r old.proc choice done
-
--- what is answered to a Send where there is something to send, and else to this move; and whether it was a Send
-pub record IsSendAnswer (r : Identity) (p : ℕ) (otherwise : Move) (done : Done) (sent : Bool) : Type 0 where
-  pub chosen : IsChosenAnswer r p (send_or otherwise) done
-  pub told : sent ≡ is_some chosen.to
-
--- a seat after such a step was recorded, and whether it was a Send
-pub record IsSendRecorded (r : Identity) (otherwise : Move) (old new : Turns) (sent : Bool) : Type 0 where
-  pub chosen : IsChosen r (send_or otherwise) old new
-  pub told : sent ≡ is_some chosen.answer.to

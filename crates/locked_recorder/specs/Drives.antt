@@ -11,7 +11,7 @@ use Rattle.locked_recorder.specs.declared.errors.DriveStop.{DriveStop}
 use Rattle.locked_recorder.specs.declared.errors.DriveStop.TheVariants.{Held, Record}
 use Rattle.locked_recorder.specs.Seats.{Turns}
 use Rattle.locked_recorder.specs.Recorders.{Identity}
-use Rattle.locked_recorder.specs.Choices.{send_or, IsChosenAnswer, IsChosen, IsChoiceRefusal}
+use Rattle.locked_recorder.specs.Choices.{chosen, IsChosenAnswer, IsChosen, IsChoiceRefusal}
 
 -- How many Receives a processor made in its round, after one act more. One that ends the round leaves none.
 abbrev pub received_with : ℕ → Act → ℕ
@@ -29,7 +29,7 @@ drive_receive patience before = Receive All (before + 1 == patience)
 -- The move of a drive that made so many Receives in the round: before the first of them it sends where there is something
 -- to send, and else it receives.
 abbrev pub drive_move : ℕ → ℕ → Option ℕ → Move
-drive_move patience before to = if before == 0 then send_or (drive_receive patience before) to else drive_receive patience before
+drive_move patience before = chosen (before == 0) (drive_receive patience before)
 
 -- a seat after one step of a drive that made `before` Receives in the round, and then `after`
 pub record IsMoved (r : Identity) (patience before after : ℕ) (old new : Turns) : Type 0 where

@@ -11,7 +11,7 @@ use Rattle.step_buffers.specs.Runs.{node_at, IsRun}
 use Rattle.step_buffers.specs.Moves.{step_of, step_refusal}
 use Rattle.locked_recorder.specs.declared.errors.RecordError.{RecordError}
 use Rattle.locked_recorder.specs.declared.errors.RecordError.TheVariants as record_error
-use Rattle.locked_recorder.specs.Seats.{Turns, with_done}
+use Rattle.locked_recorder.specs.Seats.{Turns}
 use Rattle.locked_recorder.specs.Recorders.{Identity}
 
 -- The steps of a World of a recorder: a run of its configuration, of no more steps than may be made in it, of which
@@ -43,11 +43,6 @@ abbrev pub IsStepReason : Identity → ℕ → Move → StepError → Type 0
 IsStepReason r p move Memory = Unit {0}
 IsStepReason r p move why = IsAgainst r p move why
 
--- why a recorder refuses to move p so
-abbrev pub IsRefused : Identity → ℕ → Move → RecordError → Type 0
-IsRefused r p move record_error.ForeignSeat = Unit {0}
-IsRefused r p move (record_error.Step why) = IsStepReason r p move why
-
 -- Why a recorder refuses a move from a seat. ForeignSeat shows nothing; any other reason is answered to a seat
 -- of the recorder's tag alone.
 abbrev pub IsRecordRefusal : Identity → Turns → Move → RecordError → Type 0
@@ -59,9 +54,3 @@ pub record IsStepCount (r : Identity) (count : ℕ) : Type 0 where
   pub steps : List Step
   pub world : IsWorldOf r steps
   pub count_is : count ≡ length steps
-
--- a seat after a recorded step: one more thing is done, which is what a World of the recorder answers
-pub record IsRecorded (r : Identity) (move : Move) (old new : Turns) : Type 0 where
-  pub done : Done
-  pub appended : new ≡ with_done old done
-  pub answer : IsAnswer r old.proc move done

@@ -1,16 +1,16 @@
 //! Drives: the loop of a thread that makes the steps of one processor.
 
 ghost use Rattle.std.specs.Prelude.{◌≡◌, ◌+◌, ◌<◌, ◌≤◌, ◌==◌, if◌then◌else◌, true, MatchResult, IfOk, IfErr, OnOk, OnErr};
-ghost use Rattle.locked_recorder.specs.Choices.{send_or, IsSendAnswer, IsSendRecorded, IsChoiceRefused, IsChoiceRefusal};
+ghost use Rattle.locked_recorder.specs.Choices.{IsChoiceRefusal};
 ghost use Rattle.locked_recorder.specs.Drives.{drive_move, was_let_in, IsMoved, IsDriven, IsStopped};
 
 use crate::errors::{DriveError, DriveStop, RecordError};
-use crate::recorders::{Recorder, is_world_of};
+use crate::recorders::Recorder;
 use crate::seats::Seat;
 use std::alloc::Global;
 use std::sync::Wait;
-use step_buffers::{Done, Move, StepError, Take};
-use step_trace::Gate;
+use step_buffers::{Move, Take};
+use step_trace::{Act, Gate};
 
 /// How a drive stands in the round of its processor.
 #[derive(Debug, Drop)]
@@ -76,75 +76,16 @@ impl Recorder {
         ensures patience { pace.new.patience ≡ pace.old.patience }
         ensures err { OnErr result (seat.new ≡ seat.old) }
     {
-        let ends = pace.is_over();
-        let take = Take::All;
-        let receive = Move::Receive { take, ends };
-        if pace.received == 0 {
-            if seat.record_send_or(rt, alloc, self, receive)? {
-                return Ok(());
-            }
-        } else {
-            seat.record(rt, alloc, self, receive)?;
+        let receive = Move::Receive {
+            take: Take::All,
+            ends: pace.is_over(),
+        };
+        seat.record(rt, alloc, self, pace.received == 0, receive)?;
+        match seat.last().step.act {
+            Act::Send { .. } => {}
+            Act::Receive { .. } => pace.receive(),
         }
-        pace.receive();
         Ok(())
-    }
-
-    /// Makes one step of processor `p` under the lock: a Send where there is something to send, and else by this move;
-    /// and says whether it was a Send.
-    fn make_send_or<R: Wait>(
-        &self,
-        rt: &R,
-        alloc: Global,
-        p: u64,
-        otherwise: Move,
-    ) -> Result<(Done, bool), RecordError>
-        ensures answered { IfOk result (λ made. IsSendAnswer self.now p otherwise.entry made.0 made.1) }
-        ensures refused { IfErr result (IsChoiceRefused self.now p (send_or otherwise.entry)) }
-    {
-        let mut world = self.world.lock(rt);
-        if !is_world_of(&world, &self.config, self.limit) {
-            return Err(RecordError::ForeignSeat);
-        }
-        match world.step(alloc, p, Move::Send) {
-            Ok(done) => return Ok((done, true)),
-            Err(why) => {
-                if why != StepError::NothingToSend {
-                    return Err(RecordError::Step(why));
-                }
-            }
-        }
-        match world.step(alloc, p, otherwise) {
-            Ok(done) => Ok((done, false)),
-            Err(why) => Err(RecordError::Step(why)),
-        }
-    }
-}
-
-impl Seat {
-    /// Makes one step, taking the lock once: a Send where there is something to send, and else by this move. Keeps
-    /// what was done, and says whether it was a Send. The list grows before the lock is taken.
-    fn record_send_or<R: Wait>(
-        &mut self,
-        rt: &R,
-        alloc: Global,
-        recorder: &Recorder,
-        otherwise: Move,
-    ) -> Result<bool, RecordError>
-        ensures tag { OnOk result (self.old.tag ≡ recorder.now.tag) }
-        ensures recorded { IfOk result (IsSendRecorded recorder.now otherwise.entry self.old self.new) }
-        ensures refused { IfErr result (IsChoiceRefusal recorder.now self.old (send_or otherwise.entry)) }
-        ensures err { OnErr result (self.new ≡ self.old) }
-    {
-        if self.tag != recorder.tag {
-            return Err(RecordError::ForeignSeat);
-        }
-        if self.done.reserve(1).is_err() {
-            return Err(RecordError::Step(StepError::Memory));
-        }
-        let (done, sent) = recorder.make_send_or(rt, alloc, self.proc, otherwise)?;
-        self.done.push(done).unwrap();
-        Ok(sent)
     }
 }
 

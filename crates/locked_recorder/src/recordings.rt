@@ -1,9 +1,10 @@
 //! Recorded steps: a step from a seat, made under the lock.
 
-ghost use Rattle.std.specs.Prelude.{◌≡◌, IfOk, IfErr, OnOk, OnErr};
+ghost use Rattle.std.specs.Prelude.{◌≡◌, if◌then◌else◌, IfOk, IfErr, OnOk, OnErr};
 ghost use Rattle.std.specs.Borrow.{sem};
 ghost use Rattle.locked_recorder.specs.Lent.{Appends};
-ghost use Rattle.locked_recorder.specs.Recordings.{IsAnswer, IsRefused, IsRecorded, IsRecordRefusal};
+ghost use Rattle.locked_recorder.specs.Choices.{chosen, IsChosenAnswer, IsChosen, IsChoiceRefused, IsChoiceRefusal};
+ghost use Rattle.locked_recorder.specs.Recordings.{IsAnswer, IsRecordRefusal};
 
 use crate::errors::RecordError;
 use crate::recorders::{Recorder, is_world_of};
@@ -29,14 +30,34 @@ impl Recorder {
         seat.step(rt, alloc, self, step)
     }
 
-    /// Makes one step of processor `p` under the lock.
-    fn make<R: Wait>(&self, rt: &R, alloc: Global, p: u64, step: Move) -> Result<Done, RecordError>
-        ensures answered { IfOk result (λ done. IsAnswer self.now p step.entry done) }
-        ensures refused { IfErr result (λ e. IsRefused self.now p step.entry e) }
+    /// Makes one step of processor `p` under the lock: a Send, where sends come first and there is something to send;
+    /// and else by this move.
+    fn make<R: Wait>(
+        &self,
+        rt: &R,
+        alloc: Global,
+        p: u64,
+        sends: bool,
+        step: Move,
+    ) -> Result<Done, RecordError>
+        ensures answered { IfOk result (IsChosenAnswer self.now p (chosen sends step.entry)) }
+        ensures refused { IfErr result (IsChoiceRefused self.now p (chosen sends step.entry)) }
     {
         let mut world = self.world.lock(rt);
         if !is_world_of(&world, &self.config, self.limit) {
             return Err(RecordError::ForeignSeat);
+        }
+        let first = first_move(sends, step);
+        match world.step(alloc, p, first) {
+            Ok(done) => return Ok(done),
+            Err(why) => {
+                if !sends {
+                    return Err(RecordError::Step(why));
+                }
+                if why != StepError::NothingToSend {
+                    return Err(RecordError::Step(why));
+                }
+            }
         }
         match world.step(alloc, p, step) {
             Ok(done) => Ok(done),
@@ -63,21 +84,23 @@ impl Seat {
         ensures answered { IfOk result (λ done. IsAnswer recorder.now self.old.proc step.entry done.now) }
         ensures refused { IfErr result (λ e. IsRecordRefusal recorder.now self.old step.entry e) }
     {
-        self.record(rt, alloc, recorder, step)?;
+        self.record(rt, alloc, recorder, false, step)?;
         Ok(self.last())
     }
 
-    /// Makes one step, and keeps what was done. The list grows before the lock is taken.
+    /// Makes one step, taking the lock once: a Send, where sends come first and there is something to send; and else by
+    /// this move. Keeps what was done. The list grows before the lock is taken.
     pub(crate) fn record<R: Wait>(
         &mut self,
         rt: &R,
         alloc: Global,
         recorder: &Recorder,
+        sends: bool,
         step: Move,
     ) -> Result<(), RecordError>
         ensures tag { OnOk result (self.old.tag ≡ recorder.now.tag) }
-        ensures recorded { OnOk result (IsRecorded recorder.now step.entry self.old self.new) }
-        ensures refused { IfErr result (λ e. IsRecordRefusal recorder.now self.old step.entry e) }
+        ensures recorded { OnOk result (IsChosen recorder.now (chosen sends step.entry) self.old self.new) }
+        ensures refused { IfErr result (IsChoiceRefusal recorder.now self.old (chosen sends step.entry)) }
         ensures err { OnErr result (self.new ≡ self.old) }
     {
         if self.tag != recorder.tag {
@@ -86,8 +109,15 @@ impl Seat {
         if self.done.reserve(1).is_err() {
             return Err(RecordError::Step(StepError::Memory));
         }
-        let done = recorder.make(rt, alloc, self.proc, step)?;
+        let done = recorder.make(rt, alloc, self.proc, sends, step)?;
         self.done.push(done).unwrap();
         Ok(())
     }
+}
+
+/// The move that is tried first: a Send, where sends come first, and else this one.
+fn first_move<'a>(sends: bool, step: Move<'a>) -> Move<'a>
+    ensures { result ≡ (if sends then Move.Send else step.entry) }
+{
+    if sends { Move::Send } else { step }
 }
