@@ -1,13 +1,12 @@
 -- The causes of the faults of an import.
-use Rattle.std.proofs.Common.{◌≡◌, ◌<◌, ℕ, List, length, Option, Some, None, Bor, IfSome, inl, refl, false, arith, subst}
-use Rattle.std.specs.Prelude.{nat_le, option_map}
-use Rattle.std.proofs.lemmas.Bool.Decides.{nat_tests}
+use Rattle.std.proofs.Common.{◌≡◌, ◌<◌, ℕ, List, length, Option, Some, None, IfSome, inl, subst}
 use Rattle.trace_text.specs.declared.byte_loops.TheConstants.{MAX_TEXT_BYTES}
 use Rattle.trace_text.specs.declared.refusals.WriteError.{WriteError}
 use Rattle.trace_text.specs.declared.refusals.WriteError.TheVariants as unwritten
 use Rattle.trace_text.specs.ByteLoops.{WroteFront}
 use Rattle.event_log.specs.declared.options.Options.{Options}
 use Rattle.event_log.specs.declared.refusals.LogError.TheVariants as no_log
+use Rattle.event_log.proofs.LogRefusals.{large-text}
 use Rattle.text_commands.specs.declared.faults.Fault.{Fault}
 use Rattle.text_commands.specs.declared.faults.Fault.TheVariants as fault
 use Rattle.text_commands.specs.Faults.{fault_of_write}
@@ -15,17 +14,9 @@ use Rattle.text_commands.specs.Imports.{IsImportTold, IsUnimported, IsUnreadLog}
 use Rattle.text_commands.specs.Printing.{IsUntold}
 use Rattle.text_commands.specs.Serving.{IsServeFault}
 
--- listed nodes, as they are lent
-lent : (nodes : Option (List (List ℕ))) → (lent : Option (Bor (List (List ℕ)))) × (option_map (λ n. n.now) lent ≡ nodes)
-lent None = (None, refl)
-lent (Some nodes) = (Some (record { ref_ptr = (0, 0); now = nodes }), refl)
-
 -- a log that is too large is refused for that
 too_large_log : (o : Options) (text : List ℕ) → MAX_TEXT_BYTES < length text → IsUnimported o text (fault.Log no_log.TooLarge)
-too_large_log o text h =
-    let e : nat_le (length text) MAX_TEXT_BYTES ≡ false = grind (arith, nat_tests) in
-    let listed = lent o.nodes in
-    (inl (record { listed = listed.0; same = listed.1; staged = rw e refl }), λ r. cc)
+too_large_log o text h = (inl (large-text o text h), λ r. cc)
 
 -- a log isn't read to its end
 pub unread_log : (o : Options) (Told : List ℕ → Type 0) (before after known : Option (List ℕ)) (w : Fault) → IsUnreadLog known w
