@@ -9,7 +9,7 @@ use trace_text::Counting;
 
 /// Standard input, or an open file.
 #[derive(Drop)]
-pub enum Input {
+pub(crate) enum Input {
     /// Standard input.
     Standard(Stdin),
     /// A file.
@@ -26,7 +26,7 @@ impl Read for Input {
 }
 
 /// Opens what a command line names, to be read: the file `-` is standard input.
-pub fn open(rt: &HostRuntime, file: &str) -> Result<Counting<Input>, Fault> {
+pub(crate) fn open(rt: &HostRuntime, file: &str) -> Result<Counting<Input>, Fault> {
     if names_standard_input(file) {
         return Ok(Counting::new(Input::Standard(rt.stdin())));
     }
