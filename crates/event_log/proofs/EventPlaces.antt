@@ -103,16 +103,8 @@ pub place-within : (spread : Bool) (events : List Event) (clock : Clock) (why : 
 place-within spread events clock refused.UntilTooEarly some h = some
 place-within spread events clock refused.TooManyTicks some h = some
 place-within spread events clock refused.Memory some h = some
-place-within false events clock (refused.NeverSent i k) some h = all-within events clock (time_ticks events clock) (refused.NeverSent i k) some (sym h)
-place-within false events clock (refused.WrongReceiver i k) some h = all-within events clock (time_ticks events clock) (refused.WrongReceiver i k) some (sym h)
-place-within false events clock (refused.ReceivedBefore i k) some h = all-within events clock (time_ticks events clock) (refused.ReceivedBefore i k) some (sym h)
-place-within false events clock (refused.NotLater i k hint) some h = all-within events clock (time_ticks events clock) (refused.NotLater i k hint) some (sym h)
-place-within false events clock (refused.SecondEvent i tick hint) some h = all-within events clock (time_ticks events clock) (refused.SecondEvent i tick hint) some (sym h)
-place-within true events clock (refused.NeverSent i k) some h = spread-within events clock (refused.NeverSent i k) some h
-place-within true events clock (refused.WrongReceiver i k) some h = spread-within events clock (refused.WrongReceiver i k) some h
-place-within true events clock (refused.ReceivedBefore i k) some h = spread-within events clock (refused.ReceivedBefore i k) some h
-place-within true events clock (refused.NotLater i k hint) some h = spread-within events clock (refused.NotLater i k hint) some h
-place-within true events clock (refused.SecondEvent i tick hint) some h = spread-within events clock (refused.SecondEvent i tick hint) some h
+place-within false events clock why some h = all-within events clock (time_ticks events clock) why some (sym h)
+place-within true events clock why some h = spread-within events clock why some h
 
 -- the same of an answer, where events aren't too many
 pub places-within : (spread : Bool) (events : List Event) (clock : Clock) (result : Result TimedTrace EventError) → 0 < length events → length events ≤ MAX_EVENTS

@@ -6,34 +6,14 @@ use Rattle.std.proofs.lemmas.Bool.Decides.{nat_tests}
 use Rattle.trace_text.specs.declared.byte_loops.TheConstants.{MAX_TEXT_BYTES}
 use Rattle.event_log.specs.declared.options.Options.{Options}
 use Rattle.event_log.specs.declared.refusals.LogError.{LogError}
-use Rattle.event_log.specs.declared.refusals.LogError.TheVariants.{TooLarge, NoColumn, TwoColumns, TooManyEvents, BadFields, BadTime, BadEvent, BadNode, BadMessage, NoEvents, TooManyNodes, SentBefore, TooFewNodes, TickUnfit, UntilUnfit, TooManyTicks, NeverSent, WrongReceiver, ReceivedBefore, NotLater, SecondEvent, Memory}
+use Rattle.event_log.specs.declared.refusals.LogError.TheVariants.{TooLarge, Memory}
 use Rattle.event_log.specs.Imports.{IsLogRefusal, IsRead, IsUnfit, IsUntimed}
 use Rattle.event_log.specs.Naming.{IsUnless, is_memory}
 
 -- any refusal but want of memory
 refusal-unless_memory : (o : Options) (text : List ℕ) (why : LogError) → (is_memory why ≡ false → IsRead o text (Err why) ⊎ (IsUnfit o text why ⊎ IsUntimed o text why)) → IsLogRefusal o text why
 refusal-unless_memory o text Memory f = tt
-refusal-unless_memory o text TooLarge f = f refl
-refusal-unless_memory o text (NoColumn column) f = f refl
-refusal-unless_memory o text (TwoColumns column) f = f refl
-refusal-unless_memory o text TooManyEvents f = f refl
-refusal-unless_memory o text (BadFields n) f = f refl
-refusal-unless_memory o text (BadTime n) f = f refl
-refusal-unless_memory o text (BadEvent n) f = f refl
-refusal-unless_memory o text (BadNode n) f = f refl
-refusal-unless_memory o text (BadMessage n) f = f refl
-refusal-unless_memory o text NoEvents f = f refl
-refusal-unless_memory o text (TooManyNodes n) f = f refl
-refusal-unless_memory o text (SentBefore n message) f = f refl
-refusal-unless_memory o text TooFewNodes f = f refl
-refusal-unless_memory o text TickUnfit f = f refl
-refusal-unless_memory o text UntilUnfit f = f refl
-refusal-unless_memory o text TooManyTicks f = f refl
-refusal-unless_memory o text (NeverSent n message) f = f refl
-refusal-unless_memory o text (WrongReceiver n message node) f = f refl
-refusal-unless_memory o text (ReceivedBefore n message) f = f refl
-refusal-unless_memory o text (NotLater n message hint) f = f refl
-refusal-unless_memory o text (SecondEvent n node tick hint) f = f refl
+refusal-unless_memory o text why f = f refl
 
 due : (t : Bool) (why e : LogError) → t ≡ false → MatchBool t ⊤ (why ≡ e) → why ≡ e
 due true why e n h = absurd (cc)
