@@ -1,11 +1,9 @@
 -- A trace and a set have one report.
-use Rattle.std.proofs.Common.{ℕ, ◌≡◌, List, [], ◌∷◌, map, Contains, Option, refl, sym, subst, ap, inl, inr, arith}
+use Rattle.std.proofs.Common.{ℕ, ◌≡◌, List, [], ◌∷◌, map, Contains, refl, sym, subst, ap, inl, inr, arith}
 use Rattle.std.specs.List.Sorted.{IsStrictlyIncreasing}
 use Rattle.step_trace.proofs.BoundLaws.{NamesMiss-steady, NamesGap-steady}
 use Rattle.step_trace.specs.Traces.{Recorded}
 use Rattle.step_trace.specs.Ticks.{IsTimed}
-use Rattle.step_trace.specs.declared.rows.Miss.{Miss}
-use Rattle.step_trace.specs.declared.rows.Gap.{Gap}
 use Rattle.step_trace.specs.declared.rows.Row.{Row}
 use Rattle.step_trace.specs.Fronts.{Triple, IsReport, IsReportRow, triple_of}
 use Rattle.step_trace.proofs.ListMembers.{Contains-nil, Contains-head, Contains-rest, Contains-map, Contains-cons_cases, Contains-from_map, rising-tail, rising-first}
@@ -38,21 +36,20 @@ rising-same (x ∷ xs) (y ∷ ys) a b into back =
     ]) in
     rw (first, rest) refl
 
-row-parts : (a b : Row) → a.gst ≡ b.gst → a.delta ≡ b.delta → a.phi ≡ b.phi → a.miss ≡ b.miss → a.gap ≡ b.gap → a ≡ b
-row-parts a b gst delta phi miss gap = go a.gst a.delta a.phi a.miss a.gap gst delta phi miss gap where
-  go : (g d f : ℕ) (m : Option Miss) (w : Option Gap) → g ≡ b.gst → d ≡ b.delta → f ≡ b.phi → m ≡ b.miss → w ≡ b.gap
-      → record { gst = g; delta = d; phi = f; miss = m; gap = w } ≡ b
-  go g d f m w i j k l n = rw (i, j, k, l, n) refl
-
 -- rows of one triple, with its named witnesses, are one
-row-same : (set : ℕ) (trace : Recorded) (a b : Row) → IsTimed trace → IsReportRow set trace a → IsReportRow set trace b → triple_of a ≡ triple_of b → a ≡ b
+row-same : (set : ℕ) (trace : Recorded) (a b : Row) → IsTimed trace → IsReportRow set trace a → IsReportRow set trace b
+    → triple_of a ≡ triple_of b → a ≡ b
 row-same set trace a b time x y e =
     let gst : a.gst ≡ b.gst = ap (λ (t : Triple). t.gst) e in
     let delta : a.delta ≡ b.delta = ap (λ (t : Triple). t.delta) e in
     let phi : a.phi ≡ b.phi = ap (λ (t : Triple). t.phi) e in
-    row-parts a b gst delta phi
-    (NamesMiss-steady set trace b.gst b.gst b.delta b.miss a.miss time (omega arith) y.miss (rw (gst, delta) at x.miss))
-    (NamesGap-steady set trace b.gst b.gst b.phi b.gap a.gap (omega arith) y.gap (rw (gst, phi) at x.gap))
+    let miss =
+    NamesMiss-steady set trace b.gst b.gst b.delta b.miss a.miss time (omega arith) y.miss
+    (rw (gst, delta) at x.miss) in
+    let gap = NamesGap-steady set trace b.gst b.gst b.phi b.gap a.gap (omega arith) y.gap (rw (gst, phi) at x.gap) in
+    let same : record { gst = a.gst; delta = a.delta; phi = a.phi; miss = a.miss; gap = a.gap } ≡ b =
+    rw (gst, delta, phi, miss, gap) refl in
+    same
 
 report-has : (set : ℕ) (trace : Recorded) (xs ys : List Row) → IsTimed trace → IsReport set trace xs → IsReport set trace ys → (r : Row) → Contains xs r → Contains ys r
 report-has set trace xs ys time a b r c =

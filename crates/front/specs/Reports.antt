@@ -1,10 +1,9 @@
 -- What a report is to its readers, and what a row says of the ticks that it serves.
-use Rattle.std.specs.Prelude.{ℕ, ◌≡◌, ◌<◌, ◌≤◌, ◌-◌, List, [], ◌∷◌, map, Contains, slice_get, Option, Some, None, IsSomeAnd, nat_le, ◌&&◌, if◌then◌else◌}
+use Rattle.std.specs.Prelude.{ℕ, ◌<◌, ◌≤◌, List, [], ◌∷◌, Option, Some, None, IsSomeAnd, nat_le, ◌&&◌, if◌then◌else◌}
 use Rattle.step_trace.specs.Traces.{Recorded}
 use Rattle.step_trace.specs.declared.rows.Row.{Row}
 use Rattle.step_trace.specs.Bounds.{IsDelta, IsPhi}
 use Rattle.step_trace.specs.Witnesses.{MissRefutes, GapRefutes}
-use Rattle.suffix_staircase.specs.declared.levels.Level.{Level}
 
 -- the last tick, and the rows in rising stabilization time
 pub record Reported : Type 0 where
@@ -31,12 +30,3 @@ pub record Serves (set : ℕ) (trace : Recorded) (g : ℕ) (r : Row) : Type 0 wh
   pub phi : IsPhi set trace g r.phi
   pub miss : (d : ℕ) → 1 ≤ d → d < r.delta → IsSomeAnd r.miss (λ m. MissRefutes set trace g d m)
   pub gap : (f : ℕ) → 1 ≤ f → f < r.phi → IsSomeAnd r.gap (λ w. GapRefutes set trace g f w)
-
--- the level that a row has from its stabilization time on
-abbrev pub level_of : Row → Level
-level_of r = record { delta = r.delta; miss = r.miss; phi = r.phi; gap = r.gap }
-
--- the rows begin at these numbers, and each has the level that stands there
-pub record AreRowsAt (levels : List Level) (numbers : List ℕ) (rows : List Row) : Type 0 where
-  pub begin : map (λ r. r.gst) rows ≡ numbers
-  pub each : (r : Row) → Contains rows r → slice_get levels (r.gst - 1) ≡ Some (level_of r)

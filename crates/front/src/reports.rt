@@ -1,18 +1,18 @@
 //! Reports: the rows of the front, and the row that serves each tick.
 
-ghost use Rattle.std.specs.Prelude.{◌≡◌, ◌-◌, ◌≤◌, length, map, slice_get, Some, IfOk, IsSomeAnd, ℕ, List};
+ghost use Rattle.std.specs.Prelude.{◌≡◌, ◌≤◌, length, map, IfOk, IsSomeAnd, ℕ, List};
 ghost use Rattle.std.specs.List.Sorted.{IsStrictlyIncreasing};
 ghost use Rattle.step_trace.specs.Traces.{Recorded};
 ghost use Rattle.step_trace.specs.Ticks.{IsTimed};
 ghost use Rattle.step_trace.specs.Fronts.{IsReport};
-ghost use Rattle.suffix_staircase.specs.Levels.{starts, AreStarts};
+ghost use Rattle.suffix_staircase.specs.Levels.{rows_of};
 ghost use Rattle.suffix_staircase.specs.Analysis.{AreLevels};
-ghost use Rattle.front.specs.Reports.{level_of, AreRowsAt, last_begun};
+ghost use Rattle.front.specs.Reports.{last_begun};
 
 use std::alloc::{AllocError, Global};
 use std::marker::Model;
 use step_trace::Row;
-use suffix_staircase::{Level, Stairs};
+use suffix_staircase::Stairs;
 
 /// The report of a trace and of a set of processors that are named as correct: the triples of a
 /// stabilization time, a communication bound and a processor bound that no other triple betters,
@@ -95,37 +95,14 @@ pub fn front(alloc: Global, stairs: &Stairs) -> Result<Report, AllocError>
 
 /// The rows of all starts.
 fn rows_of(alloc: Global, stairs: &Stairs) -> Result<Vec<Row>, AllocError>
-    ensures { IfOk result
-        (λ v. AreRowsAt stairs.now (starts stairs.now) v.items
-        × AreStarts stairs.now (starts stairs.now)) }
+    ensures items { IfOk result (λ v. v.items ≡ rows_of stairs.now) }
+    ensures rising { IfOk result (λ v. IsStrictlyIncreasing (map (λ row. row.gst) v.items)) }
 {
     let mut rows = Vec::new(alloc);
-    while let Some(gst) = stairs.start(rows.len()) {
-        rows.push(row_at(stairs, gst))?;
+    while let Some(row) = stairs.row(rows.len()) {
+        rows.push(row)?;
     }
     Ok(rows)
-}
-
-/// The row of a stretch that begins at `gst`.
-fn row_at(stairs: &Stairs, gst: u64) -> Row
-    requires low { 1 ≤ gst }
-    requires high { gst ≤ length stairs.now }
-    ensures gst { result.gst ≡ gst }
-    ensures level { slice_get stairs.now (gst - 1) ≡ Some (level_of result) }
-{
-    let Level {
-        delta,
-        miss,
-        phi,
-        gap,
-    } = stairs.at(gst);
-    Row {
-        gst,
-        delta,
-        phi,
-        miss,
-        gap,
-    }
 }
 
 /// The last row that begins at `g` or before, of rows in rising stabilization time.

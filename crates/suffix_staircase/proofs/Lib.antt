@@ -1,8 +1,6 @@
-pub mod StretchTops
-pub mod StretchGrowth
-pub mod StretchDepths
-pub mod StartNumbers
-pub mod StartLaws
+pub mod KeptStretches
+pub mod RowLaws
+pub mod StretchRows
 pub mod MissNumbers
 pub mod MissBounds
 pub mod NextSteps

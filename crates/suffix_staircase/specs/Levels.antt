@@ -1,6 +1,7 @@
 -- The levels of a trace: the least bounds from each tick on, which fall from tick to tick.
-use Rattle.std.specs.Prelude.{ℕ, ◌≡◌, ◌+◌, ◌-◌, ◌≤◌, List, [], ◌∷◌, Some, Bool, true, false, not, ◌==◌, ◌&&◌, slice_get, Contains, if◌then◌else◌}
+use Rattle.std.specs.Prelude.{ℕ, ◌≡◌, ◌+◌, ◌-◌, ◌≤◌, List, [], ◌∷◌, map, Option, None, Some, Bool, true, false, not, ◌==◌, ◌&&◌, slice_get, Contains, if◌then◌else◌}
 use Rattle.std.specs.List.Sorted.{IsStrictlyIncreasing}
+use Rattle.step_trace.specs.declared.rows.Row.{Row}
 use Rattle.suffix_staircase.specs.declared.levels.Level.{Level}
 
 -- a level may stand right before the next: neither bound is below the next one's, and an equal bound
@@ -29,20 +30,33 @@ abbrev pub begins : Level → List Level → Bool
 begins level [] = true
 begins level (next ∷ rest) = not (same_bounds next level)
 
--- the starts among levels whose first has the number g, where this level stands before them
-abbrev pub starts_after : ℕ → Level → List Level → List ℕ
-starts_after g last [] = []
-starts_after g last (level ∷ rest) =
-    if same_bounds level last then starts_after (g + 1) level rest else g ∷ starts_after (g + 1) level rest
+-- whether a level has another bound than the one before, if there is one
+abbrev pub is_other : Option Level → Level → Bool
+is_other None level = true
+is_other (Some last) level = not (same_bounds level last)
 
--- the starts among levels whose first is a start and has the number g
-abbrev pub starts_from : ℕ → List Level → List ℕ
-starts_from g [] = []
-starts_from g (level ∷ rest) = g ∷ starts_after (g + 1) level rest
+-- the row of a level that begins at g
+abbrev pub row_from : ℕ → Level → Row
+row_from g level = record { gst = g; delta = level.delta; phi = level.phi; miss = level.miss; gap = level.gap }
 
--- the numbers, from 1, of the levels that have another bound than the level before
+-- the level that a row has
+abbrev pub level_of : Row → Level
+level_of r = record { delta = r.delta; miss = r.miss; phi = r.phi; gap = r.gap }
+
+-- the rows of those of these levels, the first of which has the number g, that have another bound than the one before
+abbrev pub rows_after : Option Level → ℕ → List Level → List Row
+rows_after last g [] = []
+rows_after last g (level ∷ rest) =
+    let more = rows_after (Some level) (g + 1) rest in
+    if is_other last level then row_from g level ∷ more else more
+
+-- the rows of the levels of a trace, which have numbers from 1
+abbrev pub rows_of : List Level → List Row
+rows_of levels = rows_after None 1 levels
+
+-- the numbers of the levels that have another bound than the level before
 abbrev pub starts : List Level → List ℕ
-starts levels = starts_from 1 levels
+starts levels = map (λ r. r.gst) (rows_of levels)
 
 -- level g is the first, or it has another bound than the level before
 pub record IsStart (levels : List Level) (g : ℕ) : Type 0 where

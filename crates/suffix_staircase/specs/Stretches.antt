@@ -1,29 +1,31 @@
--- Levels as stretches of equal bounds, from the last stretch to the first.
-use Rattle.std.specs.Prelude.{◌-◌, ◌<◌, ◌≤◌, List, [], ◌∷◌, ◌++◌, length, replicate, IsTrue}
+-- Levels as stretches of equal bounds.
+use Rattle.std.specs.Prelude.{ℕ, ◌-◌, ◌<◌, ◌≤◌, List, [], ◌∷◌, ◌++◌, length, replicate, reverse, IsTrue}
 use Rattle.suffix_staircase.specs.declared.levels.Level.{Level}
 use Rattle.suffix_staircase.specs.declared.stretches.Stretch.{Stretch}
 use Rattle.step_trace.specs.declared.traces.TheConstants.{MAX_TICKS}
 use Rattle.suffix_staircase.specs.Levels.{begins, IsStaircase}
 
--- the levels of a stretch, put before these
-abbrev pub with_stretch : List Level → Stretch → List Level
-with_stretch after s = replicate (s.reach - length after) s.level ++ after
+-- how many levels there are from the first of these stretches to the last of all
+abbrev pub height : List Stretch → ℕ
+height [] = 0
+height (s ∷ rest) = s.reach
 
--- the levels of stretches, each put before those so far
-abbrev pub levels_from : List Level → List Stretch → List Level
-levels_from after [] = after
-levels_from after (s ∷ rest) = levels_from (with_stretch after s) rest
-
-abbrev pub levels_of : List Stretch → List Level
-levels_of stretches = levels_from [] stretches
+-- the levels of stretches in their order
+abbrev pub levels_in : List Stretch → List Level
+levels_in [] = []
+levels_in (s ∷ rest) = replicate (s.reach - height rest) s.level ++ levels_in rest
 
 -- each stretch has a level, and another bound than what stands after it
-abbrev pub AreStretchesFrom : List Level → List Stretch → Type 0
-AreStretchesFrom after [] = Unit {0}
-AreStretchesFrom after (s ∷ rest) = (length after < s.reach) × IsTrue (begins s.level after) × AreStretchesFrom (with_stretch after s) rest
+abbrev pub AreInOrder : List Stretch → Type 0
+AreInOrder [] = Unit {0}
+AreInOrder (s ∷ rest) = (height rest < s.reach) × IsTrue (begins s.level (levels_in rest)) × AreInOrder rest
+
+-- the levels of stretches as they are kept, from the last to the first
+abbrev pub levels_of : List Stretch → List Level
+levels_of stretches = levels_in (reverse stretches)
 
 abbrev pub AreStretches : List Stretch → Type 0
-AreStretches stretches = AreStretchesFrom [] stretches
+AreStretches stretches = AreInOrder (reverse stretches)
 
 -- stretches that are stairs: their levels fall, and are no more than a trace has ticks
 abbrev pub AreStairs : List Stretch → Type 0

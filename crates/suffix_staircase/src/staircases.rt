@@ -4,14 +4,14 @@ ghost use Rattle.std.specs.Prelude.{◌≡◌, ◌∷◌, [], ◌-◌, ◌<◌, 
 ghost use Rattle.step_trace.specs.declared.traces.TheConstants.{MAX_TICKS};
 ghost use Rattle.step_trace.specs.Processors.{IsWithin};
 ghost use Rattle.suffix_staircase.specs.Analysis.{AreLevels};
-ghost use Rattle.suffix_staircase.specs.Levels.{CanStandBefore, IsStaircase, begins, starts, AreStarts};
+ghost use Rattle.suffix_staircase.specs.Levels.{CanStandBefore, IsStaircase, begins, starts, rows_of, AreStarts};
 
 use crate::backward_pass::Pass;
 use crate::levels::Level;
-use crate::stretches::{Stretch, height, level_at, put_before, start_of};
+use crate::stretches::{Stretch, height, level_at, put_before, row_at};
 use std::alloc::{AllocError, Global};
 use std::marker::Model;
-use step_trace::{ProcSet, Trace};
+use step_trace::{ProcSet, Row, Trace};
 
 /// The level of each tick g of a trace, from 1 to its last. Neither bound rises with g, and a bound that
 /// stays keeps its witness.
@@ -75,7 +75,14 @@ impl Stairs {
         ensures value { result ≡ slice_get (starts self.now) i }
         ensures starts { AreStarts self.now (starts self.now) }
     {
-        start_of(&self.stretches, i)
+        self.row(i).map(|row| row.gst)
+    }
+
+    /// The row of the start of number `i`: the start, with its level. Takes no memory.
+    pub fn row(&self, i: usize) -> Option<Row>
+        ensures { result ≡ slice_get (rows_of self.now) i }
+    {
+        row_at(&self.stretches, i)
     }
 }
 

@@ -1,13 +1,14 @@
 //! Levels kept as stretches of equal bounds, in the order in which they are built: from the last
 //! level to the first.
 
-ghost use Rattle.std.specs.Prelude.{◌≡◌, ◌∷◌, [], ◌+◌, ◌-◌, ◌<◌, ◌≤◌, length, Some, slice_get, OnOk, OnErr, IsTrue};
+ghost use Rattle.std.specs.Prelude.{◌≡◌, ◌∷◌, [], ◌+◌, ◌-◌, ◌<◌, ◌≤◌, length, reverse, Some, slice_get, OnOk, OnErr, IsTrue};
 ghost use Rattle.step_trace.specs.declared.traces.TheConstants.{MAX_TICKS};
-ghost use Rattle.suffix_staircase.specs.Levels.{CanStandBefore, begins, starts};
+ghost use Rattle.suffix_staircase.specs.Levels.{CanStandBefore, begins, rows_of};
 ghost use Rattle.suffix_staircase.specs.Stretches.{levels_of, AreStretches};
 
 use crate::levels::Level;
 use std::alloc::AllocError;
+use step_trace::Row;
 
 /// A stretch of equal levels.
 #[derive(Clone, Copy, Debug)]
@@ -30,7 +31,7 @@ pub(crate) fn height(stretches: &[Stretch]) -> u64
 
 /// The stretch that was put before all others.
 fn top(stretches: &[Stretch]) -> Option<Stretch>
-    ensures { result ≡ slice_get stretches.now (length stretches.now - 1) }
+    ensures { result ≡ slice_get (reverse stretches.now) 0 }
 {
     stretches.last().copied()
 }
@@ -47,16 +48,22 @@ pub(crate) fn level_at(stretches: &[Stretch], g: u64) -> Level
     stretches[holder].level
 }
 
-/// The number of the level at which the stretch begins that is number `i` from 0, in rising order.
-pub(crate) fn start_of(stretches: &[Stretch], i: usize) -> Option<u64>
+/// The row of the stretch of number `i` from 0, in rising order.
+pub(crate) fn row_at(stretches: &[Stretch], i: usize) -> Option<Row>
     requires { AreStretches stretches.now }
-    ensures { result ≡ slice_get (starts (levels_of stretches.now)) i }
+    ensures { result ≡ slice_get (rows_of (levels_of stretches.now)) i }
 {
     if i >= stretches.len() {
         return None;
     }
-    let stretch = stretches[stretches.len() - 1 - i];
-    Some(height(stretches) - stretch.reach + 1)
+    let Stretch { level, reach } = stretches[stretches.len() - 1 - i];
+    Some(Row {
+        gst: height(stretches) - reach + 1,
+        delta: level.delta,
+        phi: level.phi,
+        miss: level.miss,
+        gap: level.gap,
+    })
 }
 
 /// Puts a level before the others.

@@ -1,10 +1,9 @@
-use Rattle.std.proofs.Common.{◌-◌, take, length, vec_len}
-use Rattle.suffix_staircase.specs.Levels.{starts}
-use Rattle.front.specs.Reports.{AreRowsAt}
+use Rattle.std.proofs.Common.{◌≡◌, ◌-◌, take, length, vec_len}
+use Rattle.suffix_staircase.specs.Levels.{rows_of}
 use Rattle.front.proofs.reports.rows_of.Given as goal
 
-abbrev pub invariant-loop-gst : goal.invariant-loop-gst
-invariant-loop-gst l = AreRowsAt l.stairs (take (vec_len l.rows) (starts l.stairs)) l.rows.items
+abbrev pub invariant-loop-row : goal.invariant-loop-row
+invariant-loop-row l = l.rows.items ≡ take (vec_len l.rows) (rows_of l.stairs)
 
-abbrev pub decreases-loop-gst : goal.decreases-loop-gst
-decreases-loop-gst l = length (starts l.stairs) - vec_len l.rows
+abbrev pub decreases-loop-row : goal.decreases-loop-row
+decreases-loop-row l = length (rows_of l.stairs) - vec_len l.rows

@@ -1,4 +1,4 @@
-use Rattle.suffix_staircase.proofs.StartLaws.{AreStarts-starts}
+use Rattle.suffix_staircase.proofs.RowLaws.{AreStarts-starts}
 use Rattle.suffix_staircase.proofs.staircases.Stairs.start.Goals as goal
 
 pub returns-clause-starts : goal.returns-clause-starts
