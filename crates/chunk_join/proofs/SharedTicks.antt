@@ -1,8 +1,9 @@
 -- Traces with the same steps up to a tick have the same summary of the ticks up to it.
-use Rattle.std.proofs.Common.{ℕ, ◌≡◌, ◌+◌, ◌-◌, ◌<◌, ◌≤◌, inl, inr, List, [], ◌∷◌, ◌++◌, length, Option, Some, None, zero, suc, refl, sym, ap, subst, ◌∙◌, arith}
+use Rattle.std.proofs.Common.{ℕ, ◌≡◌, ◌+◌, ◌-◌, ◌<◌, ◌≤◌, inl, inr, List, length, Option, Some, None, zero, suc, refl, sym, ap, subst, ◌∙◌, arith}
 use Rattle.std.specs.Prelude.{slice_get}
 use Rattle.std.proofs.lemmas.Bool.{cases_lt}
 use Rattle.std.proofs.lemmas.List.{get_or_append_left}
+use Rattle.step_trace.proofs.PagePlaces.{slice_get-left}
 use Rattle.step_trace.specs.declared.steps.Step.{Step}
 use Rattle.step_trace.specs.declared.rows.Gap.{Gap}
 use Rattle.step_trace.specs.Traces.{Recorded, step_at, TakesAt, IsReceiveOf}
@@ -130,14 +131,9 @@ IsSummary-shared t p k a sound is low high set s h = record {
 
 -- A trace that goes on shares the ticks before its further steps.
 
-get-left : {X : Type 0} (xs ys : List X) (k : ℕ) → k < length xs → slice_get (xs ++ ys) k ≡ slice_get xs k
-get-left [] ys k l = absurd (omega (arith, l))
-get-left (x ∷ xs) ys zero l = refl
-get-left (x ∷ xs) ys (suc k) l = get-left xs ys k (let m : suc k < suc (length xs) = l in omega (arith, m))
-
 step_kept : (list first : List Step) → BeginsWith list first → (s : ℕ) → s ≤ length first → step_at list s ≡ step_at first s
 step_kept list first b zero l = refl
-step_kept list first b (suc s) l = ap (λ xs. slice_get xs s) b.whole ∙ get-left first b.more s (omega (arith, l))
+step_kept list first b (suc s) l = ap (λ xs. slice_get xs s) b.whole ∙ slice_get-left first b.more s (omega (arith, l))
 
 tick_kept : (list first : List ℕ) → BeginsWith list first → (s : ℕ) → s ≤ length first → tick_at list s ≡ tick_at first s
 tick_kept list first b zero l = refl

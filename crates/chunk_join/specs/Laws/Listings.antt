@@ -1,9 +1,11 @@
 -- Lists in a strict order, and what a search or a test finds in a list.
-use Rattle.std.proofs.Common.{◌≡◌, ◌⊎◌, List, [], ◌∷◌, ◌++◌, ◌||◌, Bool, true, false, cond, Option, Some, None, map, filter, find, Contains, refl, sym, ap, ap₂, subst, ◌∙◌, inl, inr, true≢false}
+use Rattle.std.proofs.Common.{◌≡◌, List, [], ◌∷◌, ◌++◌, ◌||◌, Bool, true, false, cond, Some, None, map, filter, find, Contains, refl, sym, ap, ap₂, subst, ◌∙◌, inl, inr, true≢false}
 use Rattle.std.specs.List.{list_any}
 use Rattle.std.proofs.lemmas.Option.{same_Some, none-some}
-use Rattle.std.proofs.lemmas.List.Elements.{Contains-append_cases}
-use Rattle.step_trace.proofs.ListMembers.{Contains-head, Contains-rest, Contains-cons_cases, Contains-nil, Contains-from_map, Contains-from_filter}
+use Rattle.std.proofs.lemmas.Bool.{false_from_ne_true}
+use Rattle.std.proofs.lemmas.List.Elements.{All-contains, Contains-append_cases}
+use Rattle.step_trace.proofs.Refusals.{find_all}
+use Rattle.step_trace.proofs.ListMembers.{list_any-at, Contains-head, Contains-rest, Contains-cons_cases, Contains-nil, Contains-from_map, Contains-from_filter}
 use Rattle.chunk_join.specs.Summaries.{Rises, IsListing}
 
 -- what a search finds is an element that passes
@@ -16,27 +18,13 @@ Contains-found {X} p (z ∷ xs) x h = go (λ k. (let r = Contains-found p xs x k
 
 -- where it finds none, none passes
 pub none_found : {X : Type 0} (p : X → Bool) (xs : List X) (x : X) → find p xs ≡ None → Contains xs x → p x ≡ false
-none_found p [] x h k = absurd (Contains-nil x k)
-none_found {X} p (z ∷ xs) x h k = go (λ n l. none_found p xs x n l) (p z) refl h (Contains-cons_cases z x xs k) where
-  go : (find p xs ≡ None → Contains xs x → p x ≡ false) → (b : Bool) → p z ≡ b → cond b (Some z) (find p xs) ≡ None → (z ≡ x) ⊎ Contains xs x → p x ≡ false
-  go rest true e n r = absurd (none-some z (sym n))
-  go rest false e n (inl same) = ap p (sym same) ∙ e
-  go rest false e n (inr later) = rest n later
+none_found p xs x h = All-contains (λ y. p y ≡ false) xs x (find_all p xs h)
 
 -- where a test finds none, none passes
 pub none_passes : {X : Type 0} (p : X → Bool) (xs : List X) (x : X) → list_any p xs ≡ false → Contains xs x → p x ≡ false
-none_passes p [] x h k = absurd (Contains-nil x k)
-none_passes {X} p (z ∷ xs) x h k = go (λ n l. none_passes p xs x n l) (p z) refl h (Contains-cons_cases z x xs k) where
-  go : (list_any p xs ≡ false → Contains xs x → p x ≡ false) → (b : Bool) → p z ≡ b → (b || list_any p xs) ≡ false → (z ≡ x) ⊎ Contains xs x → p x ≡ false
-  go rest true e n r = absurd (true≢false n)
-  go rest false e n (inl same) = ap p (sym same) ∙ e
-  go rest false e n (inr later) = rest n later
+none_passes p xs x h c = false_from_ne_true (p x) (λ t. true≢false (sym (list_any-at p xs x c t) ∙ h))
 
--- where none passes, a search and a test find none
-pub find_none : {X : Type 0} (p : X → Bool) (xs : List X) → ((x : X) → p x ≡ false) → find p xs ≡ None
-find_none p [] h = refl
-find_none {X} p (x ∷ xs) h = ap₂ (λ (b : Bool) (o : Option X). cond b (Some x) o) (h x) (find_none p xs h)
-
+-- where none passes, a test finds none
 pub none_any : {X : Type 0} (p : X → Bool) (xs : List X) → ((x : X) → p x ≡ false) → list_any p xs ≡ false
 none_any p [] h = refl
 none_any p (x ∷ xs) h = ap₂ (λ (b c : Bool). b || c) (h x) (none_any p xs h)

@@ -183,10 +183,6 @@ flat_map-filter {X} p (x ∷ xs) = go (flat_map-filter p xs) (p x) where
   go rest true = ap (λ (ys : List X). x ∷ ys) rest
   go rest false = rest
 
-pub filter-alike : {X : Type 0} (p q : X → Bool) (xs : List X) → ((x : X) → p x ≡ q x) → filter p xs ≡ filter q xs
-filter-alike p q [] h = refl
-filter-alike {X} p q (x ∷ xs) h = ap₂ (λ (b : Bool) (ys : List X). cond b (x ∷ ys) ys) (h x) (filter-alike p q xs h)
-
 pub map-alike : {X Y : Type 0} (f g : X → Y) (xs : List X) → ((x : X) → Contains xs x → f x ≡ g x) → map f xs ≡ map g xs
 map-alike f g [] h = refl
 map-alike f g (x ∷ xs) h = ap₂ (λ y ys. y ∷ ys) (h x (Contains-head x xs)) (map-alike f g xs (λ y k. h y (Contains-rest x y xs k)))
