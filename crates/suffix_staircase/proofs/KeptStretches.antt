@@ -9,6 +9,7 @@ use Rattle.std.proofs.lemmas.Grind.{reverse_onto}
 use Rattle.std.proofs.lemmas.List.{length-replicate, length-reverse, get_or-reverse, reverse-append, reverse-reverse}
 use Rattle.std.proofs.lemmas.List.Sorted.{IsNonDecreasingBy-push}
 use Rattle.std.proofs.lemmas.Option.{slice_get-get_or}
+use Rattle.step_trace.proofs.PagePlaces.{slice_get-right}
 use Rattle.suffix_staircase.specs.declared.levels.Level.{Level}
 use Rattle.suffix_staircase.specs.declared.stretches.Stretch.{Stretch}
 use Rattle.suffix_staircase.specs.Levels.{CanStandBefore, StandsBefore, begins, same_bounds}
@@ -140,14 +141,7 @@ reaches-rise (s ∷ rest) a =
 pub kept-rise : (kept : List Stretch) → AreStretches kept → IsNonDecreasingBy (λ s. s.reach) kept
 kept-rise kept a = rw (← reverse-reverse kept) (reaches-rise (reverse kept) a)
 
--- past the levels of a stretch are those after it
-past_stretch : (n : ℕ) (level : Level) (after : List Level) (j : ℕ)
-    → slice_get (replicate n level ++ after) (j + n) ≡ slice_get after j
-past_stretch zero level after j = let e : j + 0 ≡ j = omega arith in rw e refl
-past_stretch (suc n) level after j =
-    let e : j + suc n ≡ suc (j + n) = omega arith in rw e (past_stretch n level after j)
-
--- each of these is its level
+-- each level of a stretch is its level
 in_stretch : (n : ℕ) (level : Level) (after : List Level) (j : ℕ) → j < n
     → slice_get (replicate n level ++ after) j ≡ Some level
 in_stretch zero level after j h = absurd (omega arith)
@@ -167,8 +161,10 @@ level_at_depth (s ∷ t ∷ rest) zero depth d a h low high after =
     in_stretch (s.reach - t.reach) s.level (levels_in (t ∷ rest)) (s.reach - depth) (omega arith)
 level_at_depth (s ∷ rest) (suc k) depth d a h low high after =
     let within = (reach_within rest k d a.2 (omega arith)).1 in
-    let place : s.reach - depth ≡ height rest - depth + (s.reach - height rest) = let first = a.0 in omega arith in
-    rw place (past_stretch (s.reach - height rest) s.level (levels_in rest) (height rest - depth)
+    let n = s.reach - height rest in
+    let place : s.reach - depth ≡ n + (height rest - depth) = let first = a.0 in omega arith in
+    let long = sym (length-replicate n s.level) in
+    rw place (slice_get-right (replicate n s.level) (levels_in rest) n (height rest - depth) long
     ∙ level_at_depth rest k depth d a.2 (omega arith) low high (λ i l m. after (suc i) (omega arith) (omega arith)))
 
 -- the place that a search for a level gives
