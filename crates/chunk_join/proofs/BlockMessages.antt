@@ -21,7 +21,8 @@ use Rattle.chunk_join.specs.Summaries.{IsLastReceive, AreLastReceives, SentBefor
 use Rattle.chunk_join.specs.TickSteps.{AreStepsBefore}
 use Rattle.chunk_join.specs.BlockSteps.{IsOpenBy, AreFated, fated, IsLastBy, AreLastBy, AreOpenBy}
 use Rattle.chunk_join.proofs.ListingGrowth.{IsListing-same, IsListing-push}
-use Rattle.chunk_join.proofs.LastEntries.{member_high, last_of-replicate, last_of-set}
+use Rattle.suffix_staircase.proofs.LongestGaps.{member_range}
+use Rattle.chunk_join.proofs.LastEntries.{last_of-replicate, last_of-set}
 
 -- a step of the first ones is in an early tick, and one that isn't, isn't
 pub step_early : (t : Recorded) (x a k : ℕ) (s : Step) → AreStepsBefore t x a → step_at t.steps k ≡ Some s → k ≤ a → tick_of t k < x
@@ -157,7 +158,7 @@ last_more set t i k q last m r low a = record {
   ];
 } where
   cases : (p : ℕ) → ((p ≡ q) × (last_of (set_at last q (Some (record { no = k + 1; tick = tick_of t (k + 1) }))) p ≡ Some (record { no = k + 1; tick = tick_of t (k + 1) }))) ⊎ ((p ≢ q) × (last_of (set_at last q (Some (record { no = k + 1; tick = tick_of t (k + 1) }))) p ≡ last_of last p))
-  cases p = last_of-set last q p _ (omega (arith, member_high set q m, a.long))
+  cases p = last_of-set last q p _ (omega (arith, (member_range set q m).1, a.long))
 
 -- another step changes nothing
 pub last_same : (set : ℕ) (t : Recorded) (i k : ℕ) (last : List (Option Place)) → ((p : ℕ) → IsTrue (has_proc set p) → IsReceiveOf t.steps (k + 1) p → ⊥) → AreLastBy set t i k last → AreLastBy set t i (k + 1) last

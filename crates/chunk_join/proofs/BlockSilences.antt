@@ -18,7 +18,7 @@ use Rattle.chunk_join.specs.TickSteps.{AreStepsBefore}
 use Rattle.chunk_join.specs.BlockSteps.{IsDone, StepsDone, IsBegun, IsEnded, AreEnded, IsLongestFrom, AreLongestFrom}
 use Rattle.chunk_join.proofs.ListingGrowth.{IsListing-same, IsListing-push}
 use Rattle.chunk_join.proofs.BlockMessages.{step_early}
-use Rattle.chunk_join.proofs.LastEntries.{member_low, member_high}
+use Rattle.suffix_staircase.proofs.LongestGaps.{member_range}
 
 steps_in : (t : Recorded) (x n p y : ℕ) → StepsDone t x n p y → StepsIn t y p
 steps_in t x n p y s = record { place = s.place; step = s.step; tick = s.tick }
@@ -144,7 +144,7 @@ module _ (set : ℕ) (t : Recorded) (time : IsTimed t) (i x n p : ℕ) (low : i 
 
   begun_all : (begun : List ℕ) → length begun ≡ MAX_MEMBER + 1 → ((q : ℕ) → IsTrue (has_proc set q) → IsBegun t i x (n + 1) q (get_or begun q 0)) → (q : ℕ) → IsTrue (has_proc set q) → IsBegun t i x n q (get_or (set_at begun p (x + 1)) q 0)
   begun_all begun long all q m = elim (cases_eq q p) [
-    | inl e ↦ subst (λ r. IsBegun t i x n r (get_or (set_at begun p (x + 1)) r 0)) (sym e) (subst (λ v. IsBegun t i x n p v) (sym (get_or-set_same begun p (x + 1) 0 (omega (arith, member_high set p member, long)))) begun_own)
+    | inl e ↦ subst (λ r. IsBegun t i x n r (get_or (set_at begun p (x + 1)) r 0)) (sym e) (subst (λ v. IsBegun t i x n p v) (sym (get_or-set_same begun p (x + 1) 0 (omega (arith, (member_range set p member).1, long)))) begun_own)
     | inr d ↦ subst (λ v. IsBegun t i x n q v) (sym (get_or-set_other begun p q (x + 1) 0 d)) (begun_other q (get_or begun q 0) d (all q m))
   ]
 
@@ -256,12 +256,12 @@ module _ (set : ℕ) (t : Recorded) (i j : ℕ) (low : i < j) (high : j ≤ t.la
             | inl e ↦ absurd (omega (arith, e, l))
             | inr s ↦ record { place = s.place; step = s.step; tick = s.tick; done = inl (omega (arith, s.tick, l)) }
           ]
-          | inr l ↦ absurd (omega (arith, l, member_high set w.proc h.longest.gap.member))
+          | inr l ↦ absurd (omega (arith, l, (member_range set w.proc h.longest.gap.member).1))
         ];
       }) a.ended
 
   pub tails_all : (silent : List Gap) → AreLongestFrom set t i j 1 silent → IsListing EndsBefore (IsLongest set t i j) silent
-  tails_all silent l = IsListing-same EndsBefore (IsLongestFrom set t i j 1) (IsLongest set t i j) silent (λ w h. h.longest) (λ w h. record { longest = h; from = inr (member_low set w.proc h.gap.member) }) l
+  tails_all silent l = IsListing-same EndsBefore (IsLongestFrom set t i j 1) (IsLongest set t i j) silent (λ w h. h.longest) (λ w h. record { longest = h; from = inr (member_range set w.proc h.gap.member).0 }) l
 
   -- a silence of p up to the last tick begins where p's next one does
   tail_one : (p v : ℕ) → IsBegun t i (j + 1) (length t.steps) p v → (w : Gap) → IsLongest set t i j w → w.proc ≡ p → w.to ≡ j → v ≡ w.from

@@ -1,9 +1,5 @@
 -- The last Receives of members, place by place, and those of two parts.
-use Rattle.std.proofs.Common.{ℕ, ◌≡◌, ◌≢◌, ◌+◌, ◌<◌, ◌≤◌, ◌⊎◌, inl, inr, List, [], ◌∷◌, length, replicate, get_or, set, take, Option, None, IsTrue, zero, suc, refl, sym, ap, ◌&&◌, arith, add-one}
-use Rattle.std.specs.Prelude.{nat_le, nat_lt}
-use Rattle.std.proofs.lemmas.Bool.{ltb-true, leb-true, and_parts}
-use Rattle.step_trace.specs.declared.processors.TheConstants.{MAX_MEMBER}
-use Rattle.step_trace.specs.Processors.{has_proc}
+use Rattle.std.proofs.Common.{ℕ, ◌≡◌, ◌≢◌, ◌+◌, ◌<◌, ◌⊎◌, inl, inr, List, [], ◌∷◌, length, replicate, get_or, set, take, Option, None, zero, suc, refl, sym, ap, arith, add-one}
 use Rattle.chunk_join.specs.declared.summaries.Place.{Place}
 use Rattle.chunk_join.specs.Summaries.{last_of}
 use Rattle.chunk_join.specs.Parts.{later_of, later_each}
@@ -22,18 +18,6 @@ more (x ∷ xs) (y ∷ ys) (suc p) d l e = ap (λ zs. later_of x y ∷ zs) (more
 pub later_each-more : (xs ys : List (Option Place)) (p : ℕ) (zs : List (Option Place)) (v d : Option Place) → p < length xs → length xs ≡ length ys → zs ≡ later_each xs (take p ys) → v ≡ later_of (get_or zs p d) (get_or ys p d)
     → set zs p v ≡ later_each xs (take (p + 1) ys)
 later_each-more xs ys p zs v d l e f g = rw (add-one, g, f) (more xs ys p d l e)
-
--- members are numbered from 1 to MAX_MEMBER
-member_range : (set p : ℕ) → IsTrue (has_proc set p) → (1 ≤ p) × (p ≤ MAX_MEMBER)
-member_range mask p m =
-    let range = and_parts (nat_lt 0 p) (nat_le p MAX_MEMBER) (and_parts (nat_lt 0 p && nat_le p MAX_MEMBER) _ m).0 in
-    (omega (arith, ltb-true 0 p range.0), leb-true p MAX_MEMBER range.1)
-
-pub member_low : (set p : ℕ) → IsTrue (has_proc set p) → 1 ≤ p
-member_low set p m = (member_range set p m).0
-
-pub member_high : (set p : ℕ) → IsTrue (has_proc set p) → p ≤ MAX_MEMBER
-member_high set p m = (member_range set p m).1
 
 -- where no place has a Receive, and where one is set
 pub last_of-replicate : (n p : ℕ) → last_of (replicate n None) p ≡ None

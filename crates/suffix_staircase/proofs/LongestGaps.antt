@@ -1,7 +1,7 @@
 -- The longest of the gaps that begin at a tick is that of the member whose next step comes last.
 use Rattle.std.proofs.Common.{ℕ, ◌≡◌, ◌+◌, ◌-◌, ◌<◌, ◌≤◌, inl, inr, List, length, get_or, set, IsTrue, ◌&&◌, suc, zero, arith}
 use Rattle.std.specs.Prelude.{nat_le, nat_lt}
-use Rattle.std.proofs.lemmas.Bool.{cases_lt, ltb-true, and_parts}
+use Rattle.std.proofs.lemmas.Bool.{cases_lt, leb-true, ltb-true, and_parts}
 use Rattle.step_trace.specs.declared.rows.Gap.{Gap}
 use Rattle.step_trace.specs.Processors.{has_proc, IsWithin}
 use Rattle.step_trace.specs.Traces.{Recorded}
@@ -9,18 +9,17 @@ use Rattle.step_trace.specs.Witnesses.{IsGap}
 use Rattle.suffix_staircase.specs.NextSteps.{AreNextSteps, IsLatest}
 use Rattle.step_trace.specs.declared.processors.TheConstants.{MAX_MEMBER}
 
--- members are numbered from 1
-member_low : (set p : ℕ) → IsTrue (has_proc set p) → 1 ≤ p
-member_low mask p m =
-    let range = (and_parts (nat_lt 0 p && nat_le p MAX_MEMBER) _ m).0 in
-    let low = ltb-true 0 p (and_parts (nat_lt 0 p) _ range).0 in
-    omega arith
+-- members are numbered from 1 to MAX_MEMBER
+pub member_range : (set p : ℕ) → IsTrue (has_proc set p) → (1 ≤ p) × (p ≤ MAX_MEMBER)
+member_range mask p m =
+    let range = and_parts (nat_lt 0 p) (nat_le p MAX_MEMBER) (and_parts (nat_lt 0 p && nat_le p MAX_MEMBER) _ m).0 in
+    (omega (arith, ltb-true 0 p range.0), leb-true p MAX_MEMBER range.1)
 
 -- a gap from x on ends before the next step of its processor
 gap_until : (set : ℕ) (t : Recorded) (x : ℕ) (next : List ℕ) (w : Gap) → IsWithin set t.config.n → AreNextSteps t x next → IsGap set t w → w.from ≡ x → w.to < get_or next w.proc 0
 gap_until set t x next w within k gap e = elim (cases_lt w.to (get_or next w.proc 0)) [
   | inl l ↦ l
-  | inr h ↦ (let own = k.each w.proc (member_low set w.proc gap.member) (within w.proc gap.member) in
+  | inr h ↦ (let own = k.each w.proc (member_range set w.proc gap.member).0 (within w.proc gap.member) in
       absurd (gap.silent (get_or next w.proc 0) (omega (arith, own.from, e)) h (own.step (omega (arith, h, gap.inside)))))
 ]
 
@@ -37,10 +36,10 @@ IsLongest-from_latest set t x q next start within k latest = record {
   gap = gap q latest;
   longest = λ w i e.
       let high = within w.proc i.member in
-      let most = latest.greatest w.proc (omega (arith, high, k.long)) (member_low set w.proc i.member) i.member in
+      let most = latest.greatest w.proc (omega (arith, high, k.long)) (member_range set w.proc i.member).0 i.member in
       omega (arith, gap_until set t x next w within k i e, most);
   least = λ w i e until. elim (cases_lt w.proc q) [
-    | inl below ↦ absurd (let less = latest.least w.proc below (member_low set w.proc i.member) i.member in
+    | inl below ↦ absurd (let less = latest.least w.proc below (member_range set w.proc i.member).0 i.member in
         omega (arith, gap_until set t x next w within k i e, less, until))
     | inr h ↦ h
   ];

@@ -5,7 +5,7 @@ use Rattle.step_trace.specs.declared.processors.TheConstants.{MAX_MEMBER}
 use Rattle.chunk_join.specs.BlockSteps.{AreEnded}
 use Rattle.chunk_join.proofs.BlockSilences.{ended_push_at, ended_step, ended_same}
 use Rattle.chunk_join.proofs.TickSearches.{steps_inside, steps_order}
-use Rattle.chunk_join.proofs.LastEntries.{member_high}
+use Rattle.suffix_staircase.proofs.LongestGaps.{member_range}
 use Rattle.chunk_join.proofs.block_silences.end_silences.Goals as goal
 use Rattle.chunk_join.proofs.block_silences.end_silences.Goals.{then-from-span+in_ok-push, else-from-span}
 
@@ -23,7 +23,7 @@ loop-no-preserved-in-Some c =
     let next : c.loop-no.no ≡ n + 1 = omega (arith, test) in
     let tick = steps_inside t x c.args.span.before c.args.span.end n c.requires.steps (omega (arith, test)) (omega (arith, test, c.loop-no.auto.no)) in
     let long : length (slice_set c.loop-no.begun.items p (x + 1)) ≡ MAX_MEMBER + 1 = length-set c.loop-no.begun.items p (x + 1) ∙ known.0 in
-    let high = member_high c.args.set p c.in-Some.ensures.0 in
+    let high = (member_range c.args.set p c.in-Some.ensures.0).1 in
     let value : c.index-from.result.now ≡ get_or c.loop-no.begun.items p 0 = c.index-from.ensures ∙ get_or_default c.loop-no.begun.items p c.index-from.result.now 0 (omega (arith, high, known.0)) in
     elim c.if-from-span.branch [
       | then-from-span+in_ok-push w ↦ rw w.silent-is (
