@@ -1,24 +1,20 @@
 -- Where the rows that have begun end, in rows that rise.
-use Rattle.std.proofs.Common.{ℕ, ◌≡◌, ◌<◌, ◌≤◌, List, [], ◌∷◌, length, map, get_or, slice_get, None, true, false, refl, suc, zero, arith}
+use Rattle.std.proofs.Common.{ℕ, ◌≡◌, ◌+◌, ◌≤◌, List, [], ◌∷◌, length, map, slice_get, None, true, false, refl, suc, zero, arith}
 use Rattle.std.specs.Prelude.{nat_le}
 use Rattle.std.specs.List.Sorted.{IsStrictlyIncreasing, IsNonDecreasingBy, IsPartitionPoint}
-use Rattle.std.proofs.lemmas.List.Elements.{Contains-get_or}
+use Rattle.std.proofs.lemmas.List.{length-map, get_or-map}
+use Rattle.std.proofs.lemmas.List.Sorted.{IsNonDecreasingBy-from_all_adjacent}
 use Rattle.std.proofs.lemmas.Option.{slice_get-get_or}
 use Rattle.step_trace.specs.declared.rows.Row.{Row}
 use Rattle.front.specs.Reports.{last_begun}
-use Rattle.step_trace.proofs.ListMembers.{Contains-map, rising-tail, rising-first}
 
 -- what rises doesn't fall
-pub IsNonDecreasingBy-rising : (rows : List Row) → IsStrictlyIncreasing (map (λ r. r.gst) rows) → IsNonDecreasingBy (λ r. r.gst) rows
-IsNonDecreasingBy-rising [] rising = λ i j d l m. absurd (omega arith)
-IsNonDecreasingBy-rising (x ∷ rest) rising = λ i j d l m. go (IsNonDecreasingBy-rising rest (rising-tail x.gst (map (λ r. r.gst) rest) rising)) i j d l m where
-  go : IsNonDecreasingBy (λ r. r.gst) rest → (i j : ℕ) (d : Row) → i ≤ j → j < length (x ∷ rest) → (get_or (x ∷ rest) i d).gst ≤ (get_or (x ∷ rest) j d).gst
-  go more zero zero d l m = omega arith
-  go more zero (suc j) d l m =
-      let above : x.gst < (get_or rest j d).gst = rising-first x.gst (map (λ r. r.gst) rest) rising _ (Contains-map (λ (r : Row). r.gst) rest (get_or rest j d) (Contains-get_or rest j d (omega arith))) in
-      omega arith
-  go more (suc i) zero d l m = absurd (omega arith)
-  go more (suc i) (suc j) d l m = more i j d (omega arith) (omega arith)
+pub IsNonDecreasingBy-rising : (rows : List Row) → IsStrictlyIncreasing (map (λ r. r.gst) rows)
+    → IsNonDecreasingBy (λ r. r.gst) rows
+IsNonDecreasingBy-rising rows rising = IsNonDecreasingBy-from_all_adjacent (λ r. r.gst) rows (λ k d l.
+    let gst = λ (r : Row). r.gst in
+    let next = rising k (omega (arith, length-map rows gst, l)) in
+    omega (arith, next, get_or-map gst rows k d 0 (omega arith), get_or-map gst rows (k + 1) d 0 l))
 
 -- the rows before a place begin at g or before, and those from it on after g
 abbrev pub IsPlace : List Row → ℕ → ℕ → Type 0
