@@ -95,22 +95,11 @@ pub fn analyse<R: Threads + Wait + Sync, G: Gate>(
             Err(stop) => Err(refused(stop)),
         };
     }
-    let ticks = ticks_of(trace);
+    let ticks = trace.last_tick();
     match digest_of_all(rt, alloc, trace, ticks, &set, workers, gate) {
         Ok(whole) => stairs_of_whole(alloc, trace, set, &whole),
         Err(stop) => Err(refused(stop)),
     }
-}
-
-/// The number of a trace's ticks.
-fn ticks_of(trace: &Trace) -> u64
-    ensures value { result ≡ trace.now.last }
-    ensures limit { result ≤ MAX_TICKS }
-    ensures sound { IsTrace trace.now }
-{
-    // Both calls together say that the trace is one.
-    let _steps = trace.len();
-    trace.last_tick()
 }
 
 /// The stairs of the digest of all ticks.

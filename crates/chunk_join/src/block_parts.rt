@@ -23,8 +23,7 @@ pub(crate) fn part_of_block(
     requires high { to ≤ trace.now.last }
     ensures { IfOk result (λ part. IsSummary set trace.now (from - 1) to part) }
 {
-    // Both calls together say that the trace is one.
-    let _steps = trace.len();
+    // It says that the trace is one.
     let _ticks = trace.last_tick();
     let before = steps_before(trace, from);
     let end = steps_before(trace, to + 1);

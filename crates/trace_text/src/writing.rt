@@ -103,7 +103,6 @@ fn trace_text_of(alloc: Global, version: Version, trace: &Trace) -> Result<Vec<u
 {
     let config = trace.config();
     let n = config.n();
-    let _ = trace.len();
     let last = trace.last_tick();
     let init = init_fields(alloc, config.init())?;
     let mut writer = record_writer(alloc);

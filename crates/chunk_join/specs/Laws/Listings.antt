@@ -3,7 +3,7 @@ use Rattle.std.proofs.Common.{◌≡◌, List, [], ◌∷◌, ◌++◌, ◌||◌
 use Rattle.std.specs.List.{list_any}
 use Rattle.std.proofs.lemmas.Option.{same_Some, none-some}
 use Rattle.std.proofs.lemmas.Bool.{false_from_ne_true}
-use Rattle.std.proofs.lemmas.List.Elements.{All-contains, Contains-append_cases}
+use Rattle.std.proofs.lemmas.List.Elements.{Contains-append_cases}
 use Rattle.step_trace.proofs.Refusals.{find_all}
 use Rattle.step_trace.proofs.ListMembers.{list_any-at, Contains-head, Contains-rest, Contains-cons_cases, Contains-nil, Contains-from_map, Contains-from_filter}
 use Rattle.chunk_join.specs.Summaries.{Rises, IsListing}
@@ -18,7 +18,7 @@ Contains-found {X} p (z ∷ xs) x h = go (λ k. (let r = Contains-found p xs x k
 
 -- where it finds none, none passes
 pub none_found : {X : Type 0} (p : X → Bool) (xs : List X) (x : X) → find p xs ≡ None → Contains xs x → p x ≡ false
-none_found p xs x h = All-contains (λ y. p y ≡ false) xs x (find_all p xs h)
+none_found p xs x h = find_all p xs h x
 
 -- where a test finds none, none passes
 pub none_passes : {X : Type 0} (p : X → Bool) (xs : List X) (x : X) → list_any p xs ≡ false → Contains xs x → p x ≡ false

@@ -1,5 +1,4 @@
 use Rattle.std.proofs.Common.{◌≡◌, ◌<◌, ◌-◌, filter, refl, arith, rules}
-use Rattle.step_trace.specs.Ticks.{IsTrace}
 use Rattle.chunk_join.specs.Parts.{is_older}
 use Rattle.chunk_join.specs.BlockSteps.{AreFates, AreFated}
 use Rattle.chunk_join.proofs.BlockParts.{IsSummary-block}
@@ -9,7 +8,7 @@ use Rattle.chunk_join.proofs.block_parts.part_of_block.Goals as goal
 pub returns : goal.returns
 returns c =
     let t = c.args.trace.now in
-    let sound : IsTrace t = record { steps = c.len-steps.ensures.sound; time = c.last_tick-ticks.ensures.timed } in
+    let sound = c.last_tick-ticks.ensures.well_formed in
     let each : AreFates c.steps_before-before.result c.in_ok-taken.field-0.taken.items c.in_ok-fates.fates.items = search rules in
     let sent : AreFated c.args.set t (c.args.from - 1) c.steps_before-before.result c.steps_before-end.result c.in_ok-fates.fates.items c.in_ok-sent.sent.items = search rules in
     let old : c.keep_older.new.taken.items ≡ filter (is_older c.args.from) c.in_ok-taken.field-0.taken.items = search rules in
@@ -19,7 +18,7 @@ returns c =
 pub invariant_of-result : goal.invariant_of-result
 invariant_of-result c =
     let t = c.args.trace.now in
-    let sound : IsTrace t = record { steps = c.len-steps.ensures.sound; time = c.last_tick-ticks.ensures.timed } in
+    let sound = c.last_tick-ticks.ensures.well_formed in
     let each : AreFates c.steps_before-before.result c.in_ok-taken.field-0.taken.items c.in_ok-fates.fates.items = search rules in
     let sent : AreFated c.args.set t (c.args.from - 1) c.steps_before-before.result c.steps_before-end.result c.in_ok-fates.fates.items c.in_ok-sent.sent.items = search rules in
     let old : c.keep_older.new.taken.items ≡ filter (is_older c.args.from) c.in_ok-taken.field-0.taken.items = search rules in

@@ -32,5 +32,5 @@ returns-clause-sound c =
     record {
       setup = rw config at c.n-n.ensures.sound;
       values = rw (c.init.ensures, config) at c.init_fields.ensures.numbers;
-      well_formed = record { steps = c.len.ensures.sound; time = c.last_tick-last.ensures.timed };
+      well_formed = c.last_tick-last.ensures.well_formed;
     }
