@@ -6,32 +6,15 @@ use std::alloc::{AllocError, Global};
 use std::sync::Wait;
 use std::thread::Threads;
 use step_trace::{OpenGate, ProcSet};
+use test_support::texts::{
+    DECIDES_SEVEN, DECIDES_SEVEN_REPLAY, NEVER_DELIVERED, NEVER_DELIVERED_REPORT, ONE_MISS,
+    ONE_MISS_UPGRADE, SMALL_PHI, UNTIL_THREE_AT_TWO,
+};
 use text_commands::{
     Drawing, Fault, ReportPart, import_options, run_check, run_draw, run_import, run_replay,
     run_report, run_report_part, run_upgrade,
 };
 use trace_text::Counting;
-
-const NEVER_DELIVERED: &str =
-    "dls-trace,1,2,0\ninit,5,7\n1,1,S,2\n2,2,R,\n3,1,S,2\n4,2,R,3\n5,2,R,\nend,5\n";
-
-const NEVER_DELIVERED_REPORT: &str =
-    "gst,delta,phi,sent,missed,proc,from,to\n1,5,3,1,5,1,4,5\n2,1,3,,,1,4,5\n5,1,2,,,1,5,5\n";
-
-const UNTIL_THREE_AT_TWO: &str = "gst,delta,phi,sent,missed,proc,from,to\n2,1,2,,,2,3,3\n";
-
-const SMALL_PHI: &str =
-    "gst,delta,phi,sent,missed,proc,from,to\n1,5,3,1,5,1,4,5\n2,1,3,,,1,4,5\n5,1,1,,,,,\n";
-
-const ONE_MISS: &str = "dls-trace,1,2,0\ninit,5,7\n1,1,S,2\n2,2,R,\n3,2,R,1\nend,3\n";
-
-const ONE_MISS_UPGRADE: &str = "dls-trace,2,2,0\ninit,5,7\n1,1,1,S,2\n2,2,2,R,\n3,3,2,R,1\nend,3\n";
-
-const DECIDES_SEVEN: &str = "dls-trace,1,3,1\ninit,5,7,7\n1,1,S,1\n2,2,S,1\n3,3,S,1\n\
-    4,1,E,1 2 3\n5,2,E,\n6,3,E,\n7,1,S,1\n8,1,S,2\n9,1,S,3\n10,1,E,7\n11,2,E,8\n12,3,E,9\n13,1,S,1\n\
-    14,2,S,1\n15,3,S,1\n16,1,E,13 14 15\n17,2,E,\n18,3,E,\nend,18\n";
-
-const DECIDES_SEVEN_REPLAY: &str = "proc,round,decision\n1,4,7\n2,4,\n3,4,\n";
 
 /// A log of two nodes, of which b is named first.
 const TWO_NODES: &str =
