@@ -7,7 +7,7 @@ use step_trace::{ProcSet, Step, Trace};
 use suffix_staircase::Stairs;
 use test_support::random_traces::{Draws, empty_trace_of_three, push_near, some_set};
 use test_support::stair_levels::{has_levels, has_one_level, same_stairs};
-use test_support::traces::{both, empty_trace, step_of, ticked};
+use test_support::traces::{both, empty_trace, silent_alternation, step_of, ticked};
 
 /// An analyst for processors 1 and 2 of two, who was fed nothing yet.
 pub(crate) fn new_analyst(alloc: Global) -> Result<Analyst, Fail> {
@@ -80,14 +80,6 @@ fn made(fed: Fed, alloc: Global) -> Result<Trace, Fail> {
         Fed::Steps(n, steps, last) => ticked(alloc, n, steps, last),
         Fed::Silence(count) => silent_alternation(alloc, count),
     }
-}
-
-fn silent_alternation(alloc: Global, count: u64) -> Result<Trace, Fail> {
-    let mut trace = empty_trace(alloc, 2)?;
-    for before in 0..count {
-        trace.push(step_of(alloc, before % 2 + 1, 0, &[])?)?;
-    }
-    Ok(trace)
 }
 
 // What an analyst answers to a trace that it is fed.
