@@ -21,7 +21,7 @@ use step_trace::Row;
 use trace_text::records::{TakeRecords, read_records};
 use trace_text::{Counting, MAX_TEXT_BYTES, TextError, read_all};
 
-// What the records of a report give so far.
+/// What the records of a report give so far.
 #[derive(Drop)]
 struct ReportRows {
     // None before the header.

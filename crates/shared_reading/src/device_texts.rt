@@ -19,15 +19,15 @@ use step_trace::Trace;
 use trace_text::reading::{Stage, trace_at_end};
 use trace_text::{Counting, MAX_TEXT_BYTES, TextError};
 
-// The number of bytes that one read asks for.
+/// The number of bytes that one read asks for.
 const PIECE_BYTES: usize = 65_536;
 
-// How many bytes one thread takes at once, and how many several threads do: these wait for one another at the end of each.
+/// How many bytes one thread takes at once, and how many several threads do: these wait for one another at the end of each.
 const PART_BYTES: usize = 1_048_576;
 
 const SHARED_PART_BYTES: usize = 8_388_608;
 
-// How far a text was read from a device.
+/// How far a text was read from a device.
 #[derive(Drop)]
 struct Progress {
     // Where the records of the bytes that were let go of led.

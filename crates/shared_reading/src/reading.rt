@@ -19,7 +19,7 @@ use trace_text::records::read_records;
 use trace_text::versions::Version;
 use trace_text::{MAX_TEXT_BYTES, TextError};
 
-// The bytes that one thread reads before the others begin: the header and the initial values are among them.
+/// The bytes that one thread reads before the others begin: the header and the initial values are among them.
 const HEAD_BYTES: usize = 4096;
 
 /// The trace that a text stands for, of which so many threads read parts. Answers as `read_trace` does,

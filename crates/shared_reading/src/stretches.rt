@@ -4,10 +4,10 @@ ghost use Rattle.std.specs.Prelude.{◌≤◌, length};
 
 use crate::pieces::tail;
 
-// The greatest number of bytes of a stretch. The steps of two stretches at most are kept beside the trace.
+/// The greatest number of bytes of a stretch. The steps of two stretches at most are kept beside the trace.
 const STRETCH_BYTES: usize = 1_048_576;
 
-// The bytes that are left to one thread at the end: the record of the end is among them.
+/// The bytes that are left to one thread at the end: the record of the end is among them.
 const TAIL_BYTES: usize = 64;
 
 /// The stretches of what a text has from a place on, for so many threads: all of so many bytes.

@@ -19,7 +19,7 @@ use std::io::Read;
 use trace_text::records::{TakeRecords, read_records};
 use trace_text::{Counting, MAX_TEXT_BYTES, TextError, read_all};
 
-// What the records of a certificate give so far.
+/// What the records of a certificate give so far.
 #[derive(Drop)]
 struct Certificate {
     // The last tick of the trace of which it is claimed.

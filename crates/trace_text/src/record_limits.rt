@@ -13,13 +13,13 @@ use step_trace::MAX_PROCESSORS;
 /// The greatest number of fields of a record that may be accepted: a word, and a value for each processor.
 pub const MAX_FIELDS: usize = MAX_PROCESSORS as usize + 1;
 
-// A record is short enough to be read where it ends within so many bytes, or within as many more.
+/// A record is short enough to be read where it ends within so many bytes, or within as many more.
 const PAGE_BYTES: usize = 65_536;
 
-// csv's reader goes past it at the start of a text.
+/// csv's reader goes past it at the start of a text.
 const BYTE_ORDER_MARK: [u8; 3] = [0xEF, 0xBB, 0xBF];
 
-// Where csv's reader stands in a text.
+/// Where csv's reader stands in a text.
 #[derive(Clone, Copy)]
 enum Place {
     StartRecord,
@@ -32,7 +32,7 @@ enum Place {
     AfterReturn,
 }
 
-// A place, and how many fields of its record are whole.
+/// A place, and how many fields of its record are whole.
 #[derive(Clone, Copy)]
 struct Progress {
     place: Place,

@@ -17,13 +17,13 @@ struct Difference<'a> {
     found: Option<(u64, u64, u64, &'a [u64])>,
 }
 
-// One-miss: message 1 goes from 1 to 2, which receives nothing at first, and then the message.
+/// One-miss: message 1 goes from 1 to 2, which receives nothing at first, and then the message.
 const ONE_MISS: &[(u64, u64, u64, &[u64])] = &[(1, 1, 2, &[]), (2, 2, 0, &[]), (3, 2, 0, &[1])];
 
-// The same, but that the message is never taken.
+/// The same, but that the message is never taken.
 const LOST: &[(u64, u64, u64, &[u64])] = &[(1, 1, 2, &[]), (2, 2, 0, &[]), (3, 2, 0, &[])];
 
-// One-miss, with an idle tick before its second step.
+/// One-miss, with an idle tick before its second step.
 const LATER: &[(u64, u64, u64, &[u64])] = &[(1, 1, 2, &[]), (3, 2, 0, &[]), (4, 2, 0, &[1])];
 
 const DIFFERENCES: &[Difference] = &[
@@ -110,7 +110,7 @@ const DIFFERENCES: &[Difference] = &[
     },
 ];
 
-// Whether the step with its tick is the one that is so written.
+/// Whether the step with its tick is the one that is so written.
 fn is_written(
     alloc: Global,
     there: &(u64, Step),
@@ -120,7 +120,7 @@ fn is_written(
     Ok(there.0 == tick && there.1.is_same(&step_of(alloc, proc, to, ids)?))
 }
 
-// Whether the trace has what is wanted at this number.
+/// Whether the trace has what is wanted at this number.
 fn has_at(
     alloc: Global,
     trace: &Trace,
@@ -146,7 +146,7 @@ fn first_differences(rt: HostRuntime) -> Result<(), Fail> {
     Ok(())
 }
 
-// There is no step 0, so what is found there is none.
+/// There is no step 0, so what is found there is none.
 #[test]
 fn nothing_stands_at_zero(rt: HostRuntime) -> Result<(), Fail> {
     let trace = ticked(rt.alloc(), 2, ONE_MISS, 3)?;
@@ -154,7 +154,7 @@ fn nothing_stands_at_zero(rt: HostRuntime) -> Result<(), Fail> {
     Ok(())
 }
 
-// The same steps of three processors: only their configuration is another.
+/// The same steps of three processors: only their configuration is another.
 #[test]
 fn configurations_are_not_compared(rt: HostRuntime) -> Result<(), Fail> {
     let trace = ticked(rt.alloc(), 2, ONE_MISS, 3)?;

@@ -5,10 +5,10 @@ use std::test::Fail;
 use step_trace::{Config, Step, Trace};
 use test_support::traces::{step_of, trace_of};
 
-// One-miss: message 1 goes from 1 to 2, which receives nothing at first, and then the message.
+/// One-miss: message 1 goes from 1 to 2, which receives nothing at first, and then the message.
 const ONE_MISS: &[(u64, u64, &[u64])] = &[(1, 2, &[]), (2, 0, &[]), (2, 0, &[1])];
 
-// Whether the trace of two processors with these steps extends the one with those.
+/// Whether the trace of two processors with these steps extends the one with those.
 fn extends(
     alloc: Global,
     longer: &[(u64, u64, &[u64])],
@@ -19,7 +19,7 @@ fn extends(
     Ok(longer.begins(&shorter))
 }
 
-// Traces, others, and whether the first extend those: prefixes of one-miss, and traces that differ in one step.
+/// Traces, others, and whether the first extend those: prefixes of one-miss, and traces that differ in one step.
 const EXTENSIONS: &[(&[(u64, u64, &[u64])], &[(u64, u64, &[u64])], bool)] = &[
     (ONE_MISS, ONE_MISS, true),
     (ONE_MISS, &[(1, 2, &[]), (2, 0, &[])], true),
@@ -43,26 +43,26 @@ fn traces_that_extend_others(rt: HostRuntime) -> Result<(), Fail> {
     Ok(())
 }
 
-// The configuration with these initial values of which so many processors may be faulty.
+/// The configuration with these initial values of which so many processors may be faulty.
 fn config_of(alloc: Global, t: u64, init: &[u64]) -> Result<Config, Fail> {
     let init = Vec::from_slice(alloc, init)?;
     Ok(Config::new(init.len() as u64, t, init)?)
 }
 
-// The trace of a configuration in which processor 1 sends one message to itself.
+/// The trace of a configuration in which processor 1 sends one message to itself.
 fn sends_once(alloc: Global, config: Config) -> Result<Trace, Fail> {
     let mut trace = Trace::new(alloc, config);
     trace.push(step_of(alloc, 1, 1, &[])?)?;
     Ok(trace)
 }
 
-// The same of the configuration with these initial values.
+/// The same of the configuration with these initial values.
 fn trace_under(alloc: Global, t: u64, init: &[u64]) -> Result<Trace, Fail> {
     let config = config_of(alloc, t, init)?;
     sends_once(alloc, config)
 }
 
-// Whether that of three processors of which none may be faulty extends that of another configuration.
+/// Whether that of three processors of which none may be faulty extends that of another configuration.
 fn extends_under(alloc: Global, t: u64, init: &[u64]) -> Result<bool, Fail> {
     let trace = trace_under(alloc, 0, &[5, 7, 7])?;
     let other = trace_under(alloc, t, init)?;
@@ -87,7 +87,7 @@ fn another_configuration_differs(rt: HostRuntime) -> Result<(), Fail> {
     Ok(())
 }
 
-// Whether these are the steps of the trace with these numbers.
+/// Whether these are the steps of the trace with these numbers.
 fn are_steps(trace: &Trace, steps: &[(u64, Step)], numbers: &[u64]) -> bool {
     for i in 0..numbers.len() {
         if i >= steps.len() || steps[i].0 != numbers[i] || !is_step(trace, &steps[i]) {
@@ -104,7 +104,7 @@ fn is_step(trace: &Trace, numbered: &(u64, Step)) -> bool {
     }
 }
 
-// Whether processor `p` has the steps of one-miss with these numbers for its own.
+/// Whether processor `p` has the steps of one-miss with these numbers for its own.
 fn has_own_steps(alloc: Global, p: u64, numbers: &[u64]) -> Result<bool, Fail> {
     let trace = trace_of(alloc, 2, ONE_MISS)?;
     let own = trace.restrict(alloc, p)?;

@@ -6,7 +6,7 @@ use std::test::Fail;
 use step_trace::{Act, Gap, MAX_STEPS, MessageIds, PushError, Step, Trace};
 use test_support::traces::{both, empty_trace, step_of};
 
-// Two processors take turns, but for 20,000 steps in the middle, which are all of processor 1.
+/// Two processors take turns, but for 20,000 steps in the middle, which are all of processor 1.
 fn processor_of(no: u64) -> u64 {
     if no % 2 == 1 || (40_000 < no && no <= 60_000) {
         1
@@ -15,7 +15,7 @@ fn processor_of(no: u64) -> u64 {
     }
 }
 
-// Pushes so many Receives of these processors that take nothing.
+/// Pushes so many Receives of these processors that take nothing.
 fn push_turns(alloc: Global, trace: &mut Trace, count: u64) -> Result<(), Fail> {
     for before in 0..count {
         trace.push(step_of(alloc, processor_of(before + 1), 0, &[])?)?;
@@ -38,7 +38,7 @@ fn is_copied(alloc: Global, trace: &Trace) -> Result<bool, AllocError> {
     Ok(copy.begins(trace) && trace.begins(&copy))
 }
 
-// Whether a trace of so many steps is copied whole, and as many of its steps are those of processor 1.
+/// Whether a trace of so many steps is copied whole, and as many of its steps are those of processor 1.
 fn copies_turns(alloc: Global, count: u64, own: usize) -> Result<bool, Fail> {
     let mut trace = empty_trace(alloc, 2)?;
     push_turns(alloc, &mut trace, count)?;
@@ -46,14 +46,14 @@ fn copies_turns(alloc: Global, count: u64, own: usize) -> Result<bool, Fail> {
     Ok(is_copied(alloc, &trace)? && listed == own)
 }
 
-// Processor 1 has the odd steps, and the 10,000 even ones in the middle.
+/// Processor 1 has the odd steps, and the 10,000 even ones in the middle.
 #[test]
 fn copy_of_the_greatest_trace(rt: HostRuntime) -> Result<(), Fail> {
     assert!(rt; copies_turns(rt.alloc(), MAX_STEPS as u64, 510_000)?);
     Ok(())
 }
 
-// The longest gaps of both processors in such a trace; none where it hasn't both.
+/// The longest gaps of both processors in such a trace; none where it hasn't both.
 fn gaps_of_turns(alloc: Global, count: u64) -> Result<Vec<Gap>, Fail> {
     let mut trace = empty_trace(alloc, 2)?;
     push_turns(alloc, &mut trace, count)?;
@@ -71,9 +71,9 @@ fn has_gap_at(listed: &[Gap], place: usize, proc: u64, from: u64, to: u64) -> bo
     }
 }
 
-// Of 100,000 steps, processor 1 misses the even ones outside the middle: 20,000 before it, and
-// 20,000 after. Processor 2 misses the 20,000 odd ones before the middle, then the middle and the
-// step after it in one gap, and the 19,999 odd ones from there on.
+/// Of 100,000 steps, processor 1 misses the even ones outside the middle: 20,000 before it, and
+/// 20,000 after. Processor 2 misses the 20,000 odd ones before the middle, then the middle and the
+/// step after it in one gap, and the 19,999 odd ones from there on.
 #[test]
 fn gaps_of_a_long_trace(rt: HostRuntime) -> Result<(), Fail> {
     let listed = gaps_of_turns(rt.alloc(), 100_000)?;
@@ -110,7 +110,7 @@ fn is_same_act(a: &Act, b: &Act) -> bool {
     }
 }
 
-// Whether the step of these values and its act are cloned.
+/// Whether the step of these values and its act are cloned.
 fn clones(alloc: Global, to: u64, ids: &[u64]) -> Result<bool, AllocError> {
     let step = step_of(alloc, 1, to, ids)?;
     let copy = step.clone()?;

@@ -6,8 +6,8 @@ use std::test::Fail;
 use step_trace::{Gap, Miss, ProcSet, Trace};
 use test_support::traces::{both, trace_of};
 
-// Whether these are the longest gaps of the processors of a list, each as its processor, its first and its last
-// tick.
+/// Whether these are the longest gaps of the processors of a list, each as its processor, its first and its last
+/// tick.
 pub(crate) fn lists_gaps(
     alloc: Global,
     trace: &Trace,
@@ -33,7 +33,7 @@ fn are_gaps(listed: &[Gap], want: &[(u64, u64, u64)]) -> bool {
     listed.len() == want.len()
 }
 
-// Whether the last miss of the message is at this Receive; None stands for no miss.
+/// Whether the last miss of the message is at this Receive; None stands for no miss.
 pub(crate) fn misses_at(trace: &Trace, set: ProcSet, sent: u64, missed: Option<u64>) -> bool {
     let want = missed.map(|missed| Miss { sent, missed });
     set.within(trace.config().n()) && last_miss(trace, set, sent) == want

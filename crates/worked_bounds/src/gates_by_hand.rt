@@ -14,7 +14,7 @@ fn two_workers_meet(rt: HostRuntime) -> Result<(), AllocError> {
     Ok(())
 }
 
-// The one who comes first goes when nobody comes; the other then finds that the first was there.
+/// The one who comes first goes when nobody comes; the other then finds that the first was there.
 #[test]
 fn one_worker_waits_in_vain(rt: HostRuntime) -> Result<(), AllocError> {
     let gate = MeetingGate::new();

@@ -7,8 +7,8 @@ use suffix_staircase::Stairs;
 use test_support::stair_levels::level_of;
 use test_support::traces::{both, empty_trace, step_of};
 
-// Two processors that take turns, but from 40,001 to 60,000 only the first takes steps. Step 1 is a
-// Send from the first to the second, which takes it at 70,000; the others are Receives.
+/// Two processors that take turns, but from 40,001 to 60,000 only the first takes steps. Step 1 is a
+/// Send from the first to the second, which takes it at 70,000; the others are Receives.
 fn push_step(alloc: Global, trace: &mut Trace, no: u64) -> Result<(), Fail> {
     let first = no % 2 == 1 || (40_000 < no && no <= 60_000);
     let proc = if first { 1 } else { 2 };
@@ -26,8 +26,8 @@ fn long_trace(alloc: Global) -> Result<Trace, Fail> {
     Ok(trace)
 }
 
-// The message is last missed at 69,998. The gap of the second goes to 60,001, and the one of the
-// first in the last step is as long as what is left of it from there.
+/// The message is last missed at 69,998. The gap of the second goes to 60,001, and the one of the
+/// first in the last step is as long as what is left of it from there.
 fn numbers_of(g: u64) -> [u64; 7] {
     if g == 1 {
         [69_998, 1, 69_998, 20_002, 2, 40_001, 60_001]
@@ -52,7 +52,7 @@ fn has_long_levels(stairs: &Stairs) -> bool {
     true
 }
 
-// The starts are 1, 2, each number from 40,002 to 60,000, and 60,001.
+/// The starts are 1, 2, each number from 40,002 to 60,000, and 60,001.
 fn has_long_starts(stairs: &Stairs) -> bool {
     for i in 2..20_002 {
         if stairs.start(i) != Some(40_000 + i as u64) {

@@ -6,7 +6,7 @@ use std::test::Fail;
 use step_trace::{PushError, Trace};
 use test_support::traces::{empty_trace, step_of, trace_of};
 
-// Goes on to so many steps with Receives that take nothing, of 1 and 2 in turns.
+/// Goes on to so many steps with Receives that take nothing, of 1 and 2 in turns.
 fn go_on(alloc: Global, trace: &mut Trace, count: u64) -> Result<(), Fail> {
     for before in trace.len() as u64..count {
         trace.push(step_of(alloc, before % 2 + 1, 0, &[])?)?;
@@ -14,14 +14,14 @@ fn go_on(alloc: Global, trace: &mut Trace, count: u64) -> Result<(), Fail> {
     Ok(())
 }
 
-// The silent alternation of so many steps.
+/// The silent alternation of so many steps.
 fn silent(alloc: Global, count: u64) -> Result<Trace, Fail> {
     let mut trace = empty_trace(alloc, 2)?;
     go_on(alloc, &mut trace, count)?;
     Ok(trace)
 }
 
-// The same, but that the step after so many is a Send.
+/// The same, but that the step after so many is a Send.
 fn with_a_send(alloc: Global, before: u64, count: u64) -> Result<Trace, Fail> {
     let mut trace = silent(alloc, before)?;
     trace.push(step_of(alloc, 1, 2, &[])?)?;
@@ -29,7 +29,7 @@ fn with_a_send(alloc: Global, before: u64, count: u64) -> Result<Trace, Fail> {
     Ok(trace)
 }
 
-// A trace of so many steps in which message 1 goes from 1 to 2, which takes it at once; then all is silent.
+/// A trace of so many steps in which message 1 goes from 1 to 2, which takes it at once; then all is silent.
 fn delivered(alloc: Global, count: u64) -> Result<Trace, Fail> {
     let mut trace = trace_of(alloc, 2, &[(1, 2, &[]), (2, 0, &[1])])?;
     go_on(alloc, &mut trace, count)?;
@@ -40,19 +40,19 @@ fn are_equal(one: &Trace, other: &Trace) -> bool {
     one.begins(other) && other.begins(one)
 }
 
-// Whether it is the silent alternation.
+/// Whether it is the silent alternation.
 fn is_silent(alloc: Global, trace: &Trace) -> Result<bool, Fail> {
     let silent = silent(alloc, trace.len() as u64)?;
     Ok(are_equal(trace, &silent))
 }
 
-// Whether message 1 is delivered at once in it, and then all is silent.
+/// Whether message 1 is delivered at once in it, and then all is silent.
 fn is_delivered(alloc: Global, trace: &Trace) -> Result<bool, Fail> {
     let delivered = delivered(alloc, trace.len() as u64)?;
     Ok(are_equal(trace, &delivered))
 }
 
-// Whether the silent alternation is equal to its copy, and that to the one that is made anew.
+/// Whether the silent alternation is equal to its copy, and that to the one that is made anew.
 fn is_copied(alloc: Global, trace: &Trace) -> Result<bool, Fail> {
     let copy = trace.copy(alloc)?;
     Ok(are_equal(&copy, trace) && is_silent(alloc, &copy)?)
@@ -70,7 +70,7 @@ fn copies_of_prefixes(rt: HostRuntime) -> Result<(), Fail> {
     Ok(())
 }
 
-// Whether a trace of 600 steps that has a Send after so many differs from what was seen first at this number.
+/// Whether a trace of 600 steps that has a Send after so many differs from what was seen first at this number.
 fn differs_at(alloc: Global, before: u64, at: u64, seen: &Trace) -> Result<bool, Fail> {
     let trace = with_a_send(alloc, before, 600)?;
     Ok(trace.first_difference(seen) == at && seen.first_difference(&trace) == at)
@@ -96,11 +96,11 @@ fn differences_in_pages(rt: HostRuntime) -> Result<(), Fail> {
     Ok(())
 }
 
-// How many steps a trace has when it is copied, and how many it gets: one less than a page, a page, and one less
-// than two.
+/// How many steps a trace has when it is copied, and how many it gets: one less than a page, a page, and one less
+/// than two.
 const COPIED: &[(u64, u64)] = &[(255, 257), (256, 258), (511, 513)];
 
-// Whether a copy refuses the message that was taken before it was made, and stays as it was.
+/// Whether a copy refuses the message that was taken before it was made, and stays as it was.
 fn knows_what_was_taken(alloc: Global, count: u64) -> Result<bool, Fail> {
     let mut copy = delivered(alloc, count)?.copy(alloc)?;
     let again = copy.push(step_of(alloc, 2, 0, &[1])?);
@@ -115,7 +115,7 @@ fn copies_know_what_was_taken(rt: HostRuntime) -> Result<(), Fail> {
     Ok(())
 }
 
-// Whether a copy is as it was where the trace goes on.
+/// Whether a copy is as it was where the trace goes on.
 fn stays(alloc: Global, count: u64, after: u64) -> Result<bool, Fail> {
     let mut trace = delivered(alloc, count)?;
     let copy = trace.copy(alloc)?;
@@ -131,7 +131,7 @@ fn copies_stay_as_they_were(rt: HostRuntime) -> Result<(), Fail> {
     Ok(())
 }
 
-// Whether the trace goes on as if nothing were shared where its copy has another step.
+/// Whether the trace goes on as if nothing were shared where its copy has another step.
 fn goes_on_alone(alloc: Global, count: u64, after: u64) -> Result<bool, Fail> {
     let mut trace = silent(alloc, count)?;
     let mut copy = trace.copy(alloc)?;

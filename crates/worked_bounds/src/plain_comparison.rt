@@ -12,7 +12,7 @@ use test_support::random_traces::{Draws, empty_trace_of_three, some_act, some_se
 use test_support::stair_levels::level_of;
 use test_support::traces::step_of;
 
-// Appends a step of this act, or where it is refused an empty Receive.
+/// Appends a step of this act, or where it is refused an empty Receive.
 fn push_or_receive(alloc: Global, trace: &mut Trace, proc: u64, act: Act) -> Result<(), Fail> {
     if trace.push(Step { proc, act }).is_err() {
         trace.push(step_of(alloc, proc, 0, &[])?)?;
@@ -20,7 +20,7 @@ fn push_or_receive(alloc: Global, trace: &mut Trace, proc: u64, act: Act) -> Res
     Ok(())
 }
 
-// Up to 13 steps of three processors.
+/// Up to 13 steps of three processors.
 fn some_trace(alloc: Global, draws: &mut Draws) -> Result<Trace, Fail> {
     let mut trace = empty_trace_of_three(alloc)?;
     for _ in 0..2 + draws.below(12) {
@@ -31,7 +31,7 @@ fn some_trace(alloc: Global, draws: &mut Draws) -> Result<Trace, Fail> {
     Ok(trace)
 }
 
-// Whether a level is the one that the plain searches give.
+/// Whether a level is the one that the plain searches give.
 fn is_searched(trace: &Trace, set: ProcSet, g: u64, level: Level) -> bool
     requires set { IsWithin set trace.now.config.n }
     requires start { 1 ≤ g }
@@ -65,7 +65,7 @@ pub(crate) fn have_levels(trace: &Trace, correct: &str, levels: &[[u64; 7]]) -> 
     true
 }
 
-// Whether each level is the one that the plain searches give.
+/// Whether each level is the one that the plain searches give.
 fn all_searched(stairs: &Stairs, trace: &Trace, set: ProcSet) -> bool
     requires set { IsWithin set trace.now.config.n }
 {
@@ -89,7 +89,7 @@ pub(crate) fn stairs_agree(alloc: Global, trace: &Trace, set: ProcSet) -> Result
     Ok(all_searched(&stairs, trace, set))
 }
 
-// Whether it does on one more trace and set.
+/// Whether it does on one more trace and set.
 fn agrees(alloc: Global, draws: &mut Draws) -> Result<bool, Fail> {
     let trace = some_trace(alloc, draws)?;
     stairs_agree(alloc, &trace, some_set(draws))

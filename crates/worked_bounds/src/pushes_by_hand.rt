@@ -5,13 +5,13 @@ use std::test::Fail;
 use step_trace::{Act, BadTick, Config, ConfigError, MAX_TICKS, PushError, Trace};
 use test_support::traces::{empty_trace, step_of, trace_of};
 
-// The reason against a configuration with so many initial values.
+/// The reason against a configuration with so many initial values.
 fn reason(alloc: Global, n: u64, t: u64, values: usize) -> Result<Option<ConfigError>, AllocError> {
     let init = vec![in alloc; 0u64; values]?;
     Ok(Config::new(n, t, init).err())
 }
 
-// N, t and how many initial values there are.
+/// N, t and how many initial values there are.
 const CONFIGURATIONS: &[(u64, u64, usize, Option<ConfigError>)] = &[
     (1, 0, 1, Some(ConfigError::BadSize)),
     (65, 0, 65, Some(ConfigError::BadSize)),
@@ -37,7 +37,7 @@ fn limits_of_a_configuration(rt: HostRuntime) -> Result<(), AllocError> {
     Ok(())
 }
 
-// Whether the trace has these steps and no others.
+/// Whether the trace has these steps and no others.
 fn has_steps(trace: &Trace, steps: &[(u64, u64, &[u64])]) -> bool {
     for i in 0..steps.len() {
         let (proc, to, ids) = steps[i];
@@ -55,7 +55,7 @@ fn is_step(trace: &Trace, no: u64, proc: u64, to: u64, ids: &[u64]) -> bool {
     }
 }
 
-// The destination of a Send, and 0 for a Receive.
+/// The destination of a Send, and 0 for a Receive.
 fn sends_to(act: &Act) -> u64 {
     match act {
         Act::Send { to } => *to,
@@ -80,7 +80,7 @@ fn no_steps(rt: HostRuntime) -> Result<(), Fail> {
     Ok(())
 }
 
-// Whether the trace takes or refuses one more step so. It keeps the step that it takes.
+/// Whether the trace takes or refuses one more step so. It keeps the step that it takes.
 fn answers(
     alloc: Global,
     trace: &mut Trace,
@@ -93,10 +93,10 @@ fn answers(
     Ok(answer == why && trace.len() == length + added)
 }
 
-// Messages 1 and 2 go to processor 2, message 3 to processor 1; 1 was taken at step 4.
+/// Messages 1 and 2 go to processor 2, message 3 to processor 1; 1 was taken at step 4.
 const FOUR_STEPS: &[(u64, u64, &[u64])] = &[(1, 2, &[]), (1, 2, &[]), (2, 1, &[]), (2, 0, &[1])];
 
-// What follows them, first what is refused and then what is taken.
+/// What follows them, first what is refused and then what is taken.
 const ANSWERS: &[((u64, u64, &[u64]), Option<PushError>)] = &[
     ((0, 0, &[]), Some(PushError::BadProc)),
     ((3, 0, &[]), Some(PushError::BadProc)),
@@ -122,7 +122,7 @@ fn refused_and_taken_steps(rt: HostRuntime) -> Result<(), Fail> {
     Ok(())
 }
 
-// Whether a Receive of nothing is taken in this tick, or refused so.
+/// Whether a Receive of nothing is taken in this tick, or refused so.
 fn answers_in(
     alloc: Global,
     trace: &mut Trace,
@@ -133,7 +133,7 @@ fn answers_in(
     Ok(answer == why && trace.last_tick() == MAX_TICKS)
 }
 
-// What a trace with no steps whose last tick is 1,000,000 says to one.
+/// What a trace with no steps whose last tick is 1,000,000 says to one.
 const IN_TICKS: &[(u64, Option<PushError>)] = &[
     (999_999, Some(PushError::BadTick)),
     (1_000_001, Some(PushError::BadTick)),
@@ -150,7 +150,7 @@ fn steps_in_the_greatest_tick(rt: HostRuntime) -> Result<(), Fail> {
     Ok(())
 }
 
-// There is no tick after the greatest, and none before it is left.
+/// There is no tick after the greatest, and none before it is left.
 #[test]
 fn the_greatest_tick_is_the_last(rt: HostRuntime) -> Result<(), Fail> {
     let mut trace = empty_trace(rt.alloc(), 2)?;

@@ -15,7 +15,7 @@ const NEVER_DELIVERED: [[u64; 7]; 5] = [
     [1, 0, 0, 2, 1, 5, 5],
 ];
 
-// The levels of never-delivered, each once.
+/// The levels of never-delivered, each once.
 const FIRST: Level = Level {
     delta: 5,
     miss: Some(Miss { sent: 1, missed: 5 }),
@@ -62,7 +62,7 @@ pub(crate) fn climbs(
     Ok(has_levels(&stairs, levels) && has_starts(&stairs, starts))
 }
 
-// So many empty Receives, by processor 1 at odd and by 2 at even numbers.
+/// So many empty Receives, by processor 1 at odd and by 2 at even numbers.
 fn alternation(alloc: Global, count: u64) -> Result<Trace, Fail> {
     let mut trace = empty_trace(alloc, 2)?;
     for no in 0..count {
@@ -80,7 +80,7 @@ fn silent_alternation(rt: HostRuntime) -> Result<(), Fail> {
     Ok(())
 }
 
-// The stairs of never-delivered, built from the last level to the first.
+/// The stairs of never-delivered, built from the last level to the first.
 fn built(alloc: Global) -> Result<Stairs, AllocError> {
     let mut builder = StairBuilder::new(alloc);
     builder.lower(LAST)?;

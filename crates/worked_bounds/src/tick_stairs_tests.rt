@@ -10,7 +10,7 @@ use test_support::random_traces::{Draws, some_set, some_trace};
 use test_support::stair_levels::level_of;
 use test_support::traces::ticked;
 
-// Whether the stairs of a trace are as many levels as this, in which no bound is above 1.
+/// Whether the stairs of a trace are as many levels as this, in which no bound is above 1.
 fn is_flat(alloc: Global, trace: &Trace, set: ProcSet, len: u64) -> Result<bool, Fail> {
     if !set.within(trace.config().n()) {
         return Ok(false);
@@ -30,7 +30,7 @@ fn a_million_idle_ticks(rt: HostRuntime) -> Result<(), Fail> {
     Ok(())
 }
 
-// Whether the pass agrees with the plain searches on one more trace and set.
+/// Whether the pass agrees with the plain searches on one more trace and set.
 fn agrees(alloc: Global, draws: &mut Draws) -> Result<bool, Fail> {
     let trace = some_trace(alloc, draws)?;
     stairs_agree(alloc, &trace, some_set(draws))

@@ -190,7 +190,7 @@ fn stairs_of_worked_ticks(rt: HostRuntime) -> Result<(), Fail> {
     Ok(())
 }
 
-// Steps, the last tick, the correct processors, and their longest gaps.
+/// Steps, the last tick, the correct processors, and their longest gaps.
 const GAPS: &[(&[(u64, u64, u64, &[u64])], u64, &str, &[(u64, u64, u64)])] = &[
     (SHARED, 2, "1,2", &[]),
     (IDLE_END, 3, "1", &[(1, 2, 3)]),

@@ -59,7 +59,7 @@ impl<R: Wait> LentCall for Looks<'_, R> {
     }
 }
 
-// The recorder of a script after its rows.
+/// The recorder of a script after its rows.
 fn looks_at<'a, R: Wait>(
     rt: &'a R,
     alloc: Global,

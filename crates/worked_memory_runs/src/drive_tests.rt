@@ -76,7 +76,7 @@ impl<'a, R: Wait> Change for Drive<'a, R> {
 }
 
 impl<R: Wait> Drives<'_, R> {
-    // Drives the seat of 1 on to the last step.
+    /// Drives the seat of 1 on to the last step.
     fn drive(&mut self, alloc: Global) -> Result<u64, DriveError> {
         let left = self.driven.steps.saturating_sub(self.made) as u64;
         let patience = self.driven.patience.max(1);
@@ -91,7 +91,7 @@ impl<R: Wait> Drives<'_, R> {
         }
     }
 
-    // Whether the seat and the trace have the steps that were made.
+    /// Whether the seat and the trace have the steps that were made.
     fn has_made(&self, alloc: Global) -> bool {
         self.bench
             .has_steps(alloc, self.before.saturating_add(self.made))
@@ -119,7 +119,7 @@ impl<R: Wait> Lent for Drives<'_, R> {
         self.has_made(alloc)
     }
 
-    // (the Receives before a drive that goes on don't count in it)
+    /// (the Receives before a drive that goes on don't count in it)
     fn is_made(&self, alloc: Global) -> bool {
         let steps = self.before.saturating_add(self.driven.steps);
         if self.made > 0 && self.driven.patience > 1 {

@@ -23,7 +23,7 @@ struct Asks {
     asked: Asked,
 }
 
-// Whether 1 sends such a message to 2 in a round.
+/// Whether 1 sends such a message to 2 in a round.
 fn sends(alloc: Global, world: &World, round: u64, asked: Asked) -> Result<bool, AllocError> {
     let config = world.trace().config();
     if !config.is_processor(1) || !config.is_processor(2) || round == 0 {
@@ -61,7 +61,7 @@ impl LentCall for Asks {
     }
 }
 
-// Of the node that has proposed 7 and locked it, with the proper values 5 and 7.
+/// Of the node that has proposed 7 and locked it, with the proper values 5 and 7.
 const ASKED: &[Asked] = &[
     Asked::Copy,
     Asked::Locks(4, &[(7, 1)]),
@@ -139,7 +139,7 @@ struct Computes {
     hearing: Hearing,
 }
 
-// What a processor of a World sends to another one in a round.
+/// What a processor of a World sends to another one in a round.
 fn body_of(alloc: Global, world: &World, hearing: Hearing) -> Option<Body> {
     let (me, sender, round, ..) = hearing;
     let config = world.trace().config();

@@ -20,7 +20,7 @@ enum Seen {
 
 const SEEN: &[Seen] = &[Seen::Nothing, Seen::Own, Seen::Foreign];
 
-// The steps that a view was shown, and those that it is shown then. The last of those takes the three lists.
+/// The steps that a view was shown, and those that it is shown then. The last of those takes the three lists.
 const BEFORE: usize = 3;
 
 const NOW: usize = 4;
@@ -42,7 +42,7 @@ struct Shows<'a, R> {
     seen: Seen,
 }
 
-// A view of a recorder that was shown nothing, or all that was done.
+/// A view of a recorder that was shown nothing, or all that was done.
 fn shown<R: Wait>(bench: &Bench<'_, R>, alloc: Global, seen: Seen) -> Option<View> {
     let mut view = bench.recorder.view();
     if seen != Seen::Nothing && bench.recorder.prefix(bench.rt, alloc, &mut view).is_err() {
@@ -51,7 +51,7 @@ fn shown<R: Wait>(bench: &Bench<'_, R>, alloc: Global, seen: Seen) -> Option<Vie
     Some(view)
 }
 
-// A view that was shown this.
+/// A view that was shown this.
 fn view_of<R: Wait>(rt: &R, alloc: Global, seen: Seen) -> Option<View> {
     let mut bench = bench_before(rt, alloc, script_of(Name::Decides), BEFORE)?;
     if seen == Seen::Foreign && !bench.makes(alloc, FOREIGN) {
@@ -60,7 +60,7 @@ fn view_of<R: Wait>(rt: &R, alloc: Global, seen: Seen) -> Option<View> {
     shown(&bench, alloc, seen)
 }
 
-// A copy of what a view was shown.
+/// A copy of what a view was shown.
 fn copied(alloc: Global, view: &View) -> Option<Trace> {
     view.seen()?.copy(alloc).ok()
 }
@@ -81,7 +81,7 @@ impl<'a, R: Wait> Change for Prefix<'a, R> {
     }
 }
 
-// Whether a view is refused for the step that takes the three lists.
+/// Whether a view is refused for the step that takes the three lists.
 fn is_foreign(why: &PrefixError) -> bool {
     match why {
         PrefixError::NotAnExtension {

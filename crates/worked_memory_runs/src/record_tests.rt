@@ -41,7 +41,7 @@ impl<'a, R: Wait> Change for SeatStep<'a, R> {
     }
 }
 
-// Makes the step from its seat.
+/// Makes the step from its seat.
 fn record<R: Wait>(
     rt: &R,
     alloc: Global,
@@ -86,7 +86,7 @@ impl<R: Wait> Lent for Records<'_, R> {
     }
 }
 
-// The first row of a script and the growth of its step at which something goes wrong.
+/// The first row of a script and the growth of its step at which something goes wrong.
 fn first_wrong_row<R: Wait>(
     rt: &R,
     alloc: Global,

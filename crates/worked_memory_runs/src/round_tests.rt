@@ -47,7 +47,7 @@ impl LentCall for Runs {
     }
 }
 
-// The table of three processors and eight rounds in which all hear all.
+/// The table of three processors and eight rounds in which all hear all.
 fn all_heard(alloc: Global) -> Option<Heard> {
     let mut heard = Heard::new(alloc, 3, 8).ok()?;
     let all = ProcSet::empty().with(1).with(2).with(3);

@@ -61,8 +61,8 @@ const TAKE_LAST: Move = Move::Receive {
 
 pub const SEND: Move = Move::Send;
 
-// Three rounds in which all send and hear all: lists, the lock on 7, and acknowledgements; and locks, which 1 sends to
-// itself.
+/// Three rounds in which all send and hear all: lists, the lock on 7, and acknowledgements; and locks, which 1 sends to
+/// itself.
 const DECIDING: &[Row] = &[
     ((1, SEND), &[1], 1, None, &[1]),
     ((2, SEND), &[1], 1, None, &[]),
@@ -85,7 +85,7 @@ const DECIDING: &[Row] = &[
     ((1, SEND), &[1], 4, Some(7), &[19]),
 ];
 
-// 2 goes alone through a phase that another owns, or through its own: one list to the owner, and locks to both.
+/// 2 goes alone through a phase that another owns, or through its own: one list to the owner, and locks to both.
 const PHASE: &[Step] = &[
     (2, SEND),
     (2, END),
@@ -96,9 +96,9 @@ const PHASE: &[Step] = &[
     (2, END),
 ];
 
-// After three phases of 2 there wait for 1 the lists of rounds 1 and 9, 1 and 15, and the locks of rounds 4, 8 and 12, 5, 12
-// and 19. It takes one from the middle, the last, and the first two, so that more are gone than wait as it sends to itself.
-// It ends its rounds, and hears message 5 in the round of that message.
+/// After three phases of 2 there wait for 1 the lists of rounds 1 and 9, 1 and 15, and the locks of rounds 4, 8 and 12, 5, 12
+/// and 19. It takes one from the middle, the last, and the first two, so that more are gone than wait as it sends to itself.
+/// It ends its rounds, and hears message 5 in the round of that message.
 const BUFFERED: &[Row] = &[
     ((1, TAKE_TWELVE), &[12], 1, None, &[1, 5, 15, 19]),
     ((1, TAKE_LAST), &[19], 1, None, &[1, 5, 15]),
@@ -113,14 +113,14 @@ const BUFFERED: &[Row] = &[
     ((1, END), &[], 5, None, &[30]),
 ];
 
-// After 254 steps that take nothing. The page of 256 steps is full with the second of these.
+/// After 254 steps that take nothing. The page of 256 steps is full with the second of these.
 const PAGED: &[Row] = &[
     ((2, SEND), &[1], 1, None, &[]),
     ((1, TAKE_ALL), &[255], 1, None, &[]),
     ((1, SEND), &[1], 1, None, &[257]),
 ];
 
-// Three processors that decide 7.
+/// Three processors that decide 7.
 static DECIDES: Script = Script {
     name: "decides",
     t: 1,
@@ -130,7 +130,7 @@ static DECIDES: Script = Script {
     rows: DECIDING,
 };
 
-// Messages that are taken in any order, long before their round.
+/// Messages that are taken in any order, long before their round.
 static BUFFERS: Script = Script {
     name: "buffers",
     t: 0,
@@ -140,7 +140,7 @@ static BUFFERS: Script = Script {
     rows: BUFFERED,
 };
 
-// A page of steps that becomes full.
+/// A page of steps that becomes full.
 static PAGES: Script = Script {
     name: "pages",
     t: 0,
@@ -194,7 +194,7 @@ fn all_made<M: MakeSteps>(alloc: Global, maker: &mut M, steps: &[Step]) -> bool 
     true
 }
 
-// Whether the steps of so many rows are made.
+/// Whether the steps of so many rows are made.
 fn rows_made<M: MakeSteps>(alloc: Global, maker: &mut M, rows: &[Row], count: usize) -> bool {
     for row in rows.iter().take(count) {
         if !maker.makes(alloc, row.0) {

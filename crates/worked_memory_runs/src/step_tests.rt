@@ -75,7 +75,7 @@ impl Lent for StepsOn {
     }
 }
 
-// The first row of a script and the growth of its step at which something goes wrong.
+/// The first row of a script and the growth of its step at which something goes wrong.
 fn first_wrong_row(
     alloc: Global,
     script: &'static Script,

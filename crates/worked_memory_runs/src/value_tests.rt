@@ -18,19 +18,19 @@ enum Made {
     Recorder,
 }
 
-// The configuration of two processors, which is a right one.
+/// The configuration of two processors, which is a right one.
 fn config(alloc: Global) -> Result<Config, AllocError> {
     let init = Vec::from_slice(alloc, &[5, 7])?;
     Config::new(2, 0, init).map_err(|_| AllocError)
 }
 
-// Whether a recorder of two seats is made.
+/// Whether a recorder of two seats is made.
 fn is_recorder_made(alloc: Global) -> Result<bool, AllocError> {
     let (_, seats) = Recorder::new(alloc, config(alloc)?, 1, 1_000)?;
     Ok(seats.len() == 2 && seats.iter().all(|seat| seat.done().is_empty()))
 }
 
-// Whether the World of two processors is made.
+/// Whether the World of two processors is made.
 fn is_world_made(alloc: Global) -> Result<bool, AllocError> {
     let config = config(alloc)?;
     let world = World::new(alloc, config, 1_000)?;

@@ -44,7 +44,7 @@ impl LentCall for Replays {
     }
 }
 
-// The World of a script after all its rows.
+/// The World of a script after all its rows.
 fn whole(alloc: Global, script: &Script) -> Option<World> {
     world_before(alloc, script, script.rows.len())
 }
@@ -54,7 +54,7 @@ fn copies_of(alloc: Global, script: &Script) -> Option<Copies> {
     Some(Copies { world })
 }
 
-// The trace of a script; or the trace with one more step, which is none of a run, since 1 doesn't send to itself next.
+/// The trace of a script; or the trace with one more step, which is none of a run, since 1 doesn't send to itself next.
 fn replays_of(alloc: Global, script: &Script, is_off: bool) -> Option<Replays> {
     let world = whole(alloc, script)?;
     let mut trace = world.trace().copy(alloc).ok()?;

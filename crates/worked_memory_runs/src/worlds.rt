@@ -45,7 +45,7 @@ pub fn is_same_node(one: &Node, other: &Node) -> bool {
         && one.decision() == other.decision()
 }
 
-// Whether two Worlds tell the same of a processor.
+/// Whether two Worlds tell the same of a processor.
 fn is_same_processor(one: &World, other: &World, p: u64) -> bool {
     if !one.trace().config().is_processor(p) || !other.trace().config().is_processor(p) {
         return false;
@@ -93,7 +93,7 @@ pub fn is_done(done: &Done, no: usize, ((p, step), ids, round, decision, _): &Ro
         && done.decision == *decision
 }
 
-// Whether an act is that of a move which takes these ids, or sends there.
+/// Whether an act is that of a move which takes these ids, or sends there.
 fn does(act: &Act, step: Move, wanted: &[u64]) -> bool {
     match (act, step) {
         (Act::Send { to }, Move::Send) => [*to].as_slice() == wanted,

@@ -22,7 +22,7 @@ pub(crate) fn piece_of(
     Ok(Piece::of(alloc, trace, set, from, to)?)
 }
 
-// Each tick's piece.
+/// Each tick's piece.
 fn pieces_of(alloc: Global, trace: &Trace, set: ProcSet) -> Result<Vec<Piece>, Fail> {
     let mut pieces = Vec::new(alloc);
     for tick in 1..trace.last_tick() + 1 {
@@ -61,7 +61,7 @@ pub(crate) fn are_stairs_of(
     }
 }
 
-// Whether a piece has stairs of these levels.
+/// Whether a piece has stairs of these levels.
 fn climbs(alloc: Global, whole: &Piece, levels: &[[u64; 7]]) -> bool {
     match whole.finish(alloc) {
         Ok(stairs) => has_levels(&stairs, levels),
@@ -69,7 +69,7 @@ fn climbs(alloc: Global, whole: &Piece, levels: &[[u64; 7]]) -> bool {
     }
 }
 
-// Whether the pieces of the four ticks of a trace, joined at these places one after the other, have these levels.
+/// Whether the pieces of the four ticks of a trace, joined at these places one after the other, have these levels.
 fn climbs_joined_at(
     alloc: Global,
     trace: &Trace,
@@ -95,7 +95,7 @@ const FOUR_LEVELS: &[[u64; 7]] = &[
     [1, 0, 0, 2, 1, 4, 4],
 ];
 
-// The five ways to join four pieces in their order.
+/// The five ways to join four pieces in their order.
 const TREES: &[[usize; 3]] = &[[0, 0, 0], [0, 1, 0], [1, 0, 0], [1, 1, 0], [2, 1, 0]];
 
 #[test]
@@ -129,7 +129,7 @@ fn cut_in_two(rt: HostRuntime) -> Result<(), Fail> {
     Ok(())
 }
 
-// Whether the pieces of its ticks, all joined, have the stairs of a trace.
+/// Whether the pieces of its ticks, all joined, have the stairs of a trace.
 fn is_whole_of_ticks(alloc: Global, trace: &Trace) -> Result<bool, Fail> {
     match join_all(pieces_of(alloc, trace, both())?) {
         Ok(whole) => are_stairs_of(alloc, &whole, trace, both()),
@@ -137,7 +137,7 @@ fn is_whole_of_ticks(alloc: Global, trace: &Trace) -> Result<bool, Fail> {
     }
 }
 
-// Two messages that are missed.
+/// Two messages that are missed.
 const TWO_MISSES: &[(u64, u64, &[u64])] = &[
     (1, 2, &[]),
     (1, 2, &[]),
@@ -153,7 +153,7 @@ fn cut_in_five(rt: HostRuntime) -> Result<(), Fail> {
     Ok(())
 }
 
-// Whether no pieces at all, joined, have stairs without levels.
+/// Whether no pieces at all, joined, have stairs without levels.
 fn is_unit_of_none(alloc: Global) -> bool {
     let none: Vec<Piece> = Vec::new(alloc);
     match join_all(none) {

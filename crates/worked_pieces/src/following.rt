@@ -15,12 +15,12 @@ pub(crate) fn new_analyst(alloc: Global) -> Result<Analyst, Fail> {
     Ok(Analyst::new(alloc, opening.config().copy(alloc)?, both()))
 }
 
-// Whether the answer of an analyst for 1 and 2 to this trace is the one from scratch.
+/// Whether the answer of an analyst for 1 and 2 to this trace is the one from scratch.
 fn follows(alloc: Global, analyst: &mut Analyst, trace: &Trace) -> Result<bool, Fail> {
     follows_for(alloc, analyst, trace, both())
 }
 
-// The same of an analyst for any set.
+/// The same of an analyst for any set.
 fn follows_for(
     alloc: Global,
     analyst: &mut Analyst,
@@ -37,7 +37,7 @@ fn follows_for(
     }
 }
 
-// A step with its tick before it, or none.
+/// A step with its tick before it, or none.
 type Found = Option<(u64, u64, u64, &'static [u64])>;
 
 fn is_found(alloc: Global, found: &Option<(u64, Step)>, expected: Found) -> Result<bool, Fail> {
@@ -50,7 +50,7 @@ fn is_found(alloc: Global, found: &Option<(u64, Step)>, expected: Found) -> Resu
     }
 }
 
-// Whether the trace is refused for its first difference, which is this.
+/// Whether the trace is refused for its first difference, which is this.
 fn differs(
     alloc: Global,
     analyst: &mut Analyst,
@@ -66,7 +66,7 @@ fn differs(
     }
 }
 
-// A trace that an analyst is fed.
+/// A trace that an analyst is fed.
 #[derive(Clone, Copy)]
 enum Fed {
     // Of so many processors, these steps, each with its tick before it, and this last tick.
@@ -82,7 +82,7 @@ fn made(fed: Fed, alloc: Global) -> Result<Trace, Fail> {
     }
 }
 
-// What an analyst answers to a trace that it is fed.
+/// What an analyst answers to a trace that it is fed.
 #[derive(Clone, Copy)]
 enum Answer {
     // The stairs from scratch.
@@ -95,7 +95,7 @@ enum Answer {
     Differs(u64, Found),
 }
 
-// Whether the answer has these levels.
+/// Whether the answer has these levels.
 fn climbs(alloc: Global, analyst: &mut Analyst, trace: &Trace, levels: &[[u64; 7]]) -> bool {
     match analyst.feed(alloc, trace) {
         Ok(stairs) => has_levels(&stairs, levels),
@@ -103,7 +103,7 @@ fn climbs(alloc: Global, analyst: &mut Analyst, trace: &Trace, levels: &[[u64; 7
     }
 }
 
-// Whether the answer has this level at each of so many ticks.
+/// Whether the answer has this level at each of so many ticks.
 fn is_level(alloc: Global, analyst: &mut Analyst, trace: &Trace, level: [u64; 7]) -> bool {
     match analyst.feed(alloc, trace) {
         Ok(stairs) => has_one_level(&stairs, trace.len(), level),
@@ -126,7 +126,7 @@ fn is_answered(
     }
 }
 
-// The place of the first feed of a new analyst that is answered otherwise, if there is one.
+/// The place of the first feed of a new analyst that is answered otherwise, if there is one.
 fn first_wrong(alloc: Global, feeds: &[(Fed, Answer)]) -> Result<Option<usize>, Fail> {
     let mut analyst = new_analyst(alloc)?;
     for (place, &(fed, answer)) in feeds.iter().enumerate() {
@@ -137,7 +137,7 @@ fn first_wrong(alloc: Global, feeds: &[(Fed, Answer)]) -> Result<Option<usize>, 
     Ok(None)
 }
 
-// Prefixes of never-delivered.
+/// Prefixes of never-delivered.
 const NO_STEPS: Fed = Fed::Steps(2, &[], 0);
 
 const TWO_STEPS: Fed = Fed::Steps(2, &[(1, 1, 2, &[]), (2, 2, 0, &[])], 2);
@@ -171,10 +171,10 @@ fn prefixes_are_followed(rt: HostRuntime) -> Result<(), Fail> {
     Ok(())
 }
 
-// Processor 1 steps in tick 1, and there are three ticks.
+/// Processor 1 steps in tick 1, and there are three ticks.
 const SEEN: Fed = Fed::Steps(2, &[(1, 1, 0, &[])], 3);
 
-// What differs from that, where, and what stands there.
+/// What differs from that, where, and what stands there.
 const DIFFERENCES: &[(Fed, Answer)] = &[
     (SEEN, Answer::Stairs),
     // Another configuration.
@@ -218,7 +218,7 @@ fn first_differences(rt: HostRuntime) -> Result<(), Fail> {
     Ok(())
 }
 
-// Tick 3 is the last, and then processor 2 steps in it.
+/// Tick 3 is the last, and then processor 2 steps in it.
 const OPEN_TICK: &[(Fed, Answer)] = &[
     (
         SEEN,
@@ -245,8 +245,8 @@ fn a_last_tick_stays_open(rt: HostRuntime) -> Result<(), Fail> {
     Ok(())
 }
 
-// Their only level: the last tick is the last in which a processor is silent. Fewer steps than before differ after
-// their last.
+/// Their only level: the last tick is the last in which a processor is silent. Fewer steps than before differ after
+/// their last.
 const ALTERNATIONS: &[(Fed, Answer)] = &[
     (Fed::Silence(255), Answer::Level([1, 0, 0, 2, 2, 255, 255])),
     (Fed::Silence(255), Answer::Stairs),
@@ -269,7 +269,7 @@ fn pages_are_followed(rt: HostRuntime) -> Result<(), Fail> {
     Ok(())
 }
 
-// A growing trace, and the analyst who is fed it.
+/// A growing trace, and the analyst who is fed it.
 #[derive(Drop)]
 struct Followed {
     trace: Trace,
@@ -288,14 +288,14 @@ impl Followed {
         })
     }
 
-    // Whether the analyst follows one more step.
+    /// Whether the analyst follows one more step.
     fn goes_on(&mut self, alloc: Global, draws: &mut Draws) -> Result<bool, Fail> {
         push_near(alloc, draws, &mut self.trace)?;
         follows_for(alloc, &mut self.analyst, &self.trace, self.set)
     }
 }
 
-// Whether an analyst follows one more trace from step to step.
+/// Whether an analyst follows one more trace from step to step.
 fn follows_some(alloc: Global, draws: &mut Draws) -> Result<bool, Fail> {
     let mut followed = Followed::opened(alloc, some_set(draws))?;
     for _ in 0..2 + draws.below(12) {

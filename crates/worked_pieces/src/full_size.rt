@@ -9,7 +9,7 @@ use step_trace::Trace;
 use test_support::stair_levels::has_levels_at;
 use test_support::traces::{both, empty_trace, step_of};
 
-// So many steps, in which 1 and 2 take turns to send to each other.
+/// So many steps, in which 1 and 2 take turns to send to each other.
 fn sent_in_turns(alloc: Global, count: u64) -> Result<Trace, Fail> {
     let mut trace = empty_trace(alloc, 2)?;
     for before in 0..count {
@@ -20,7 +20,7 @@ fn sent_in_turns(alloc: Global, count: u64) -> Result<Trace, Fail> {
     Ok(trace)
 }
 
-// So many messages go from 1 to 2.
+/// So many messages go from 1 to 2.
 fn sent(alloc: Global, count: u64) -> Result<Trace, Fail> {
     let mut trace = empty_trace(alloc, 2)?;
     for _ in 0..count {
@@ -50,13 +50,13 @@ fn climbs_at(alloc: Global, whole: &Piece, levels: &[(u64, [u64; 7])]) -> bool {
     }
 }
 
-// Whether the piece of all its ticks has the stairs of a trace, and these levels at these ticks.
+/// Whether the piece of all its ticks has the stairs of a trace, and these levels at these ticks.
 fn is_summarised(alloc: Global, trace: &Trace, levels: &[(u64, [u64; 7])]) -> Result<bool, Fail> {
     let whole = piece_of(alloc, trace, both(), 1, trace.last_tick())?;
     Ok(are_stairs_of(alloc, &whole, trace, both())? && climbs_at(alloc, &whole, levels))
 }
 
-// No message is missed, since nobody receives. Both are silent in every other tick, and 1 in the last one.
+/// No message is missed, since nobody receives. Both are silent in every other tick, and 1 in the last one.
 const IN_TURNS: &[(u64, [u64; 7])] = &[
     (1, [1, 0, 0, 2, 1, 1_000_000, 1_000_000]),
     (1_000_000, [1, 0, 0, 2, 1, 1_000_000, 1_000_000]),
@@ -69,7 +69,7 @@ fn a_piece_of_a_million_sends(rt: HostRuntime) -> Result<(), Fail> {
     Ok(())
 }
 
-// All messages but the first are last missed 499,999 ticks after they were sent. Each processor is silent in one half.
+/// All messages but the first are last missed 499,999 ticks after they were sent. Each processor is silent in one half.
 const BY_HALVES: &[(u64, [u64; 7])] = &[
     (
         1,
@@ -84,7 +84,7 @@ const BY_HALVES: &[(u64, [u64; 7])] = &[
     (1_000_000, [1, 0, 0, 2, 1, 1_000_000, 1_000_000]),
 ];
 
-// The piece of all ticks, and those of the two halves, over whose seam each message goes.
+/// The piece of all ticks, and those of the two halves, over whose seam each message goes.
 #[test]
 fn pieces_of_half_a_million_messages(rt: HostRuntime) -> Result<(), Fail> {
     let trace = sent_and_then_taken(rt.alloc(), 500_000)?;
@@ -93,7 +93,7 @@ fn pieces_of_half_a_million_messages(rt: HostRuntime) -> Result<(), Fail> {
     Ok(())
 }
 
-// Nobody receives, and 2 doesn't step.
+/// Nobody receives, and 2 doesn't step.
 const ALL_SENT: &[(u64, [u64; 7])] = &[
     (1, [1, 0, 0, 500_001, 2, 1, 500_000]),
     (500_000, [1, 0, 0, 2, 2, 500_000, 500_000]),
@@ -111,7 +111,7 @@ fn climbs_fed(
     }
 }
 
-// Whether an analyst who is fed the messages, and then that all were taken, finds the levels of both.
+/// Whether an analyst who is fed the messages, and then that all were taken, finds the levels of both.
 fn follows_messages(alloc: Global, analyst: &mut Analyst, trace: &mut Trace) -> Result<bool, Fail> {
     let is_sent = climbs_fed(alloc, analyst, trace, ALL_SENT);
     take_all(alloc, trace, 500_000)?;
@@ -123,7 +123,7 @@ fn are_messages_followed(alloc: Global) -> Result<bool, Fail> {
     follows_messages(alloc, &mut analyst, &mut sent(alloc, 500_000)?)
 }
 
-// All messages are open when the analyst is fed first.
+/// All messages are open when the analyst is fed first.
 #[test]
 fn a_million_steps_are_followed(rt: HostRuntime) -> Result<(), Fail> {
     assert!(rt; are_messages_followed(rt.alloc())?);

@@ -9,7 +9,7 @@ use step_trace::Gate;
 use step_trace::meeting::MeetingGate;
 use test_support::traces::{both, never_delivered};
 
-// A gate that holds one worker back.
+/// A gate that holds one worker back.
 #[derive(Drop)]
 struct GateShutTo(u64);
 
@@ -19,7 +19,7 @@ impl Gate for GateShutTo {
     }
 }
 
-// Why never-delivered is not analysed.
+/// Why never-delivered is not analysed.
 fn why<R: Threads + Wait + Sync, G: Gate>(
     rt: &R,
     alloc: Global,
@@ -43,7 +43,7 @@ fn two_meet(rt: HostRuntime) -> Result<(), Fail> {
     Ok(())
 }
 
-// How many workers there are, whom the gate holds back, and what is told.
+/// How many workers there are, whom the gate holds back, and what is told.
 const HELD: &[(u64, u64, Option<AnalyseError>)] = &[
     (1, 1, Some(AnalyseError::Held)),
     (3, 1, Some(AnalyseError::Held)),

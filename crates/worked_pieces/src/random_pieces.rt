@@ -7,7 +7,7 @@ use std::test::Fail;
 use step_trace::{ProcSet, Trace};
 use test_support::random_traces::{Draws, some_set, some_trace};
 
-// The pieces of a trace that is cut after about a third of its ticks.
+/// The pieces of a trace that is cut after about a third of its ticks.
 fn some_pieces(
     alloc: Global,
     draws: &mut Draws,
@@ -26,7 +26,7 @@ fn some_pieces(
     Ok(pieces)
 }
 
-// Joins neighbours that are drawn, until two pieces are left or one.
+/// Joins neighbours that are drawn, until two pieces are left or one.
 fn join_some(draws: &mut Draws, pieces: &mut Vec<Piece>) -> Result<(), Fail> {
     for _ in 0..pieces.len() {
         if pieces.len() <= 2 {
@@ -38,7 +38,7 @@ fn join_some(draws: &mut Draws, pieces: &mut Vec<Piece>) -> Result<(), Fail> {
     Ok(())
 }
 
-// Whether a trace that is cut and joined has its stairs.
+/// Whether a trace that is cut and joined has its stairs.
 fn agrees_on(alloc: Global, draws: &mut Draws, trace: &Trace) -> Result<bool, Fail> {
     let set = some_set(draws);
     let mut pieces = some_pieces(alloc, draws, trace, set)?;
@@ -49,7 +49,7 @@ fn agrees_on(alloc: Global, draws: &mut Draws, trace: &Trace) -> Result<bool, Fa
     }
 }
 
-// The same of one more trace.
+/// The same of one more trace.
 fn agrees(alloc: Global, draws: &mut Draws) -> Result<bool, Fail> {
     let trace = some_trace(alloc, draws)?;
     agrees_on(alloc, draws, &trace)

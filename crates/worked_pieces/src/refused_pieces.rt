@@ -7,7 +7,7 @@ use std::test::Fail;
 use step_trace::ProcSet;
 use test_support::traces::{both, trace_of};
 
-// Message 1 goes from 1 to 2, which receives nothing at first, and then the message.
+/// Message 1 goes from 1 to 2, which receives nothing at first, and then the message.
 const ONE_MISS: &[(u64, u64, &[u64])] = &[(1, 2, &[]), (2, 0, &[]), (2, 0, &[1])];
 
 fn why(left: Piece, right: Piece) -> Option<Why> {
@@ -20,13 +20,13 @@ fn why(left: Piece, right: Piece) -> Option<Why> {
     }
 }
 
-// The piece of these ticks of that.
+/// The piece of these ticks of that.
 fn piece_between(alloc: Global, set: ProcSet, from: u64, to: u64) -> Result<Piece, Fail> {
     let trace = trace_of(alloc, 2, ONE_MISS)?;
     piece_of(alloc, &trace, set, from, to)
 }
 
-// Why the piece of the first tick for 1 and 2, and that of the ticks from here to the last for a set, don't join.
+/// Why the piece of the first tick for 1 and 2, and that of the ticks from here to the last for a set, don't join.
 fn why_after_the_first(alloc: Global, list: &str, from: u64) -> Result<Option<Why>, Fail> {
     let Some(set) = ProcSet::parse_list(list) else {
         return Err(Fail::new("no list"));
@@ -35,7 +35,7 @@ fn why_after_the_first(alloc: Global, list: &str, from: u64) -> Result<Option<Wh
     Ok(why(first, piece_between(alloc, set, from, 3)?))
 }
 
-// The set of the second piece, its first tick, and why the first isn't joined with it.
+/// The set of the second piece, its first tick, and why the first isn't joined with it.
 const NEIGHBOURS: &[(&str, u64, Option<Why>)] = &[
     ("1,2", 2, None),
     ("1,2", 3, Some(Why::NotAdjacent)),
@@ -53,7 +53,7 @@ fn pieces_that_do_not_join(rt: HostRuntime) -> Result<(), Fail> {
     Ok(())
 }
 
-// Why the piece of the ticks from here to the last has no stairs.
+/// Why the piece of the ticks from here to the last has no stairs.
 fn why_not_whole(alloc: Global, from: u64) -> Result<Option<FinishError>, Fail> {
     match piece_between(alloc, both(), from, 3)?.finish(alloc) {
         Ok(_) => Ok(None),

@@ -16,7 +16,7 @@ use test_support::traces::{both, never_delivered, ticked};
 
 const WORKERS: [u64; 5] = [1, 2, 3, 5, 64];
 
-// Whether so many workers find these stairs.
+/// Whether so many workers find these stairs.
 fn find<R: Threads + Wait + Sync>(
     rt: &R,
     alloc: Global,
@@ -33,7 +33,7 @@ fn find<R: Threads + Wait + Sync>(
     }
 }
 
-// Whether any number of workers finds the stairs of a trace.
+/// Whether any number of workers finds the stairs of a trace.
 fn all_find<R: Threads + Wait + Sync>(
     rt: &R,
     alloc: Global,
@@ -59,7 +59,7 @@ fn any_workers(rt: HostRuntime) -> Result<(), Fail> {
     Ok(())
 }
 
-// A worker goes by blocks of 4,096 ticks: here each message is taken three blocks after it was sent.
+/// A worker goes by blocks of 4,096 ticks: here each message is taken three blocks after it was sent.
 #[test]
 fn ticks_of_many_blocks(rt: HostRuntime) -> Result<(), Fail> {
     let trace = sent_and_then_taken(rt.alloc(), 12_288)?;
@@ -67,7 +67,7 @@ fn ticks_of_many_blocks(rt: HostRuntime) -> Result<(), Fail> {
     Ok(())
 }
 
-// Whether any number of workers finds the stairs of one more trace.
+/// Whether any number of workers finds the stairs of one more trace.
 fn all_find_some<R: Threads + Wait + Sync>(
     rt: &R,
     alloc: Global,
@@ -88,7 +88,7 @@ fn random_traces(rt: HostRuntime) -> Result<(), Fail> {
     Ok(())
 }
 
-// Whether so many workers find stairs of these levels.
+/// Whether so many workers find stairs of these levels.
 fn climb<R: Threads + Wait + Sync>(
     rt: &R,
     alloc: Global,
@@ -106,7 +106,7 @@ fn climb<R: Threads + Wait + Sync>(
     }
 }
 
-// Two ticks of two steps each, and two idle ticks. Message 1 is missed in tick 3.
+/// Two ticks of two steps each, and two idle ticks. Message 1 is missed in tick 3.
 const TICKS: &[(u64, u64, u64, &[u64])] = &[
     (1, 1, 2, &[]),
     (1, 2, 1, &[]),

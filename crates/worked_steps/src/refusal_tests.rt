@@ -7,7 +7,7 @@ use std::test::Fail;
 use step_buffers::{Move, StepError, Take, World};
 use step_trace::Config;
 
-// Whether a move is refused for this reason, told or not, and the trace stays as it was.
+/// Whether a move is refused for this reason, told or not, and the trace stays as it was.
 fn refuses(alloc: Global, world: &mut World, p: u64, step: Move, why: StepError) -> bool {
     let steps = world.trace().len();
     match (world.step(alloc, p, step), world.advance(alloc, p, step)) {
@@ -16,7 +16,7 @@ fn refuses(alloc: Global, world: &mut World, p: u64, step: Move, why: StepError)
     }
 }
 
-// Whether 1 takes messages in the step of this number, and then waits for these.
+/// Whether 1 takes messages in the step of this number, and then waits for these.
 fn leaves(
     rt: &impl Abort,
     alloc: Global,
@@ -36,12 +36,12 @@ fn waits_for(rt: &impl Abort, world: &World, ids: &[u64]) -> bool {
     world.waiting(1) == ids
 }
 
-// Both send to 1 in their first round; or only 1 itself does.
+/// Both send to 1 in their first round; or only 1 itself does.
 const BOTH_SEND: [Row; 2] = [(1, S, 0, [0; 3]), (2, S, 0, [0; 3])];
 
 const ONE_SENDS: [Row; 1] = [(1, S, 0, [0; 3])];
 
-// Receives of all that waits, or of these messages, that end a round or don't.
+/// Receives of all that waits, or of these messages, that end a round or don't.
 const END_ALL: Move = Move::Receive {
     take: Take::All,
     ends: true,
@@ -62,7 +62,7 @@ const TAKE_TWICE: Move = Move::Receive {
     ends: false,
 };
 
-// What is refused of a processor after these steps, why, and for which messages 1 waits.
+/// What is refused of a processor after these steps, why, and for which messages 1 waits.
 const REFUSALS: &[(&[Row], u64, Move, StepError, &[u64])] = &[
     (&[], 1, END_ALL, StepError::StillSending, &[]),
     (&ONE_SENDS, 2, END_SEVEN, StepError::StillSending, &[1]),
@@ -83,7 +83,7 @@ fn refuses_in_order(rt: HostRuntime) -> Result<(), Fail> {
     Ok(())
 }
 
-// What 1 takes one after the other of messages 1 and 2, in the step of which number, and what it leaves.
+/// What 1 takes one after the other of messages 1 and 2, in the step of which number, and what it leaves.
 const TAKES: &[(Take, u64, &[u64])] = &[
     (Take::Oldest(1), 3, &[2]),
     (Take::Nothing, 4, &[2]),

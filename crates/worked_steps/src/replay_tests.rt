@@ -8,7 +8,7 @@ use std::test::Fail;
 use step_buffers::{Move, ReplayError, StepError, replay};
 use step_trace::{Act, MAX_STEPS, MessageIds, Step, Trace};
 
-// Whether a World makes all steps of a trace, and its processors then stand so.
+/// Whether a World makes all steps of a trace, and its processors then stand so.
 fn replays(rt: &impl Abort, alloc: Global, trace: &Trace, rows: &[Stand]) -> bool {
     match replay(alloc, trace) {
         Ok(world) => world.trace().len() == trace.len() && all_stand(rt, &world, rows),
@@ -16,7 +16,7 @@ fn replays(rt: &impl Abort, alloc: Global, trace: &Trace, rows: &[Stand]) -> boo
     }
 }
 
-// Whether the step of this number is the first of a trace that isn't one of a run.
+/// Whether the step of this number is the first of a trace that isn't one of a run.
 fn is_off_at(alloc: Global, trace: &Trace, no: u64) -> bool {
     match replay(alloc, trace) {
         Ok(_) => false,
@@ -24,7 +24,7 @@ fn is_off_at(alloc: Global, trace: &Trace, no: u64) -> bool {
     }
 }
 
-// Whether this step is the first that isn't one of a run, after so many of the script that decides 7.
+/// Whether this step is the first that isn't one of a run, after so many of the script that decides 7.
 fn is_off_after(rt: &impl Abort, alloc: Global, steps: usize, row: Row) -> Result<bool, Fail> {
     assert!(rt; steps <= DECIDES_SEVEN.len());
     let mut trace = recorded(rt, alloc, 1, &[5, 7, 7], &[&DECIDES_SEVEN[..steps]])?;
@@ -33,7 +33,7 @@ fn is_off_after(rt: &impl Abort, alloc: Global, steps: usize, row: Row) -> Resul
     Ok(is_off_at(alloc, &trace, steps as u64 + 1))
 }
 
-// A run: how many may be faulty and the initial values, its steps, and how its processors then stand.
+/// A run: how many may be faulty and the initial values, its steps, and how its processors then stand.
 type Run = (
     u64,
     &'static [u64],
@@ -67,7 +67,7 @@ fn runs_are_made_again(rt: HostRuntime) -> Result<(), Fail> {
     Ok(())
 }
 
-// 1 is the owner of phase 1, and sends its list to itself.
+/// 1 is the owner of phase 1, and sends its list to itself.
 const ONE_MISS: [Row; 3] = [
     (1, S, 1, [2, 0, 0]),
     (2, R, 0, [0; 3]),
@@ -82,8 +82,8 @@ fn one_miss_is_no_run(rt: HostRuntime) -> Result<(), Fail> {
     Ok(())
 }
 
-// After so many steps of the script: a destination passed over, a Send of who has nothing to send, and an end while
-// messages are still to be sent.
+/// After so many steps of the script: a destination passed over, a Send of who has nothing to send, and an end while
+/// messages are still to be sent.
 const OFF: &[(usize, Row)] = &[
     (7, (1, S, 1, [3, 0, 0])),
     (8, (2, S, 1, [1, 0, 0])),
@@ -101,7 +101,7 @@ fn a_later_step_is_no_run(rt: HostRuntime) -> Result<(), Fail> {
     Ok(())
 }
 
-// The number of the step that 1 makes next in the World of a trace.
+/// The number of the step that 1 makes next in the World of a trace.
 fn next_number(alloc: Global, trace: &Trace) -> Option<u64> {
     let Ok(mut world) = replay(alloc, trace) else {
         return None;
@@ -120,7 +120,7 @@ fn a_run_goes_on(rt: HostRuntime) -> Result<(), Fail> {
     Ok(())
 }
 
-// A run of so many steps: 1 receives nothing, and ends no round.
+/// A run of so many steps: 1 receives nothing, and ends no round.
 fn idle_run(rt: &impl Abort, alloc: Global, count: usize) -> Result<Trace, Fail> {
     let mut trace = recorded(rt, alloc, 0, &[5, 7], &[])?;
     for _ in 0..count {
@@ -135,7 +135,7 @@ fn idle_run(rt: &impl Abort, alloc: Global, count: usize) -> Result<Trace, Fail>
     Ok(trace)
 }
 
-// Whether the World of a trace is copied, and the copy may make no further step.
+/// Whether the World of a trace is copied, and the copy may make no further step.
 fn is_full(alloc: Global, trace: &Trace) -> bool {
     let Ok(world) = replay(alloc, trace) else {
         return false;
@@ -149,7 +149,7 @@ fn is_full(alloc: Global, trace: &Trace) -> bool {
     }
 }
 
-// No clause refuses a replay or a copy that gives up past a size for want of memory: these are of the greatest.
+/// No clause refuses a replay or a copy that gives up past a size for want of memory: these are of the greatest.
 #[test]
 fn the_longest_trace_is_made_again(rt: HostRuntime) -> Result<(), Fail> {
     let alloc = rt.alloc();
@@ -158,7 +158,7 @@ fn the_longest_trace_is_made_again(rt: HostRuntime) -> Result<(), Fail> {
     Ok(())
 }
 
-// Whether a trace has so many steps, one in each tick.
+/// Whether a trace has so many steps, one in each tick.
 fn is_one_per_tick(trace: &Trace, count: usize) -> bool {
     if trace.len() != count || trace.last_tick() != count as u64 {
         return false;
@@ -171,7 +171,7 @@ fn is_one_per_tick(trace: &Trace, count: usize) -> bool {
     true
 }
 
-// Whether a World makes so many steps of a trace, one in each tick.
+/// Whether a World makes so many steps of a trace, one in each tick.
 fn replays_in_own_ticks(alloc: Global, trace: &Trace, count: usize) -> bool {
     match replay(alloc, trace) {
         Ok(world) => is_one_per_tick(world.trace(), count),
@@ -179,7 +179,7 @@ fn replays_in_own_ticks(alloc: Global, trace: &Trace, count: usize) -> bool {
     }
 }
 
-// A run in which 1 and 2 receive nothing in one tick, after idle ticks and before some more.
+/// A run in which 1 and 2 receive nothing in one tick, after idle ticks and before some more.
 fn shared_tick(rt: &impl Abort, alloc: Global) -> Result<Trace, Fail> {
     let mut trace = recorded(rt, alloc, 0, &[5, 7], &[])?;
     for p in 1..3 {

@@ -4,7 +4,7 @@ use crate::long_scripts::{DECIDES_SEVEN, LOST_LOCK, NO_PROPOSAL};
 use crate::scripts::{E, R, Row, S, Stand, advances, all_hold, all_stand, copy_holds, ran, world};
 use std::test::Fail;
 
-// Message 1 is of 2, and comes after the end of round 1; message 2 is of 1 itself.
+/// Message 1 is of 2, and comes after the end of round 1; message 2 is of 1 itself.
 const LATE: [Row; 4] = [
     (2, S, 0, [0; 3]),
     (1, S, 0, [0; 3]),
@@ -12,7 +12,7 @@ const LATE: [Row; 4] = [
     (1, E, 1, [1, 0, 0]),
 ];
 
-// 1 takes message 5, which 2 sent in its round 4, in its round 1, and then goes on to its round 4; and to its end.
+/// 1 takes message 5, which 2 sent in its round 4, in its round 1, and then goes on to its round 4; and to its end.
 const EARLY: [Row; 13] = [
     (2, S, 0, [0; 3]),
     (2, E, 0, [0; 3]),
@@ -31,8 +31,8 @@ const EARLY: [Row; 13] = [
 
 const EARLY_HEARD: [Row; 1] = [(1, E, 0, [0; 3])];
 
-// A run: how many may be faulty and the initial values, its steps, how its processors then stand, and what the nodes
-// of some of them then hold: the proper values, and of each its locks.
+/// A run: how many may be faulty and the initial values, its steps, how its processors then stand, and what the nodes
+/// of some of them then hold: the proper values, and of each its locks.
 type Run = (
     u64,
     &'static [u64],

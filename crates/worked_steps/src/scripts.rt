@@ -27,7 +27,7 @@ pub fn world(alloc: Global, t: u64, init: &[u64]) -> Result<World, Fail> {
     Ok(World::new(alloc, config, 100)?)
 }
 
-// What a row tells its processor to do.
+/// What a row tells its processor to do.
 fn move_of<'a>(rt: &impl Abort, row: &'a Row) -> Move<'a> {
     let (_, does, count, ids) = row;
     assert!(rt; *count <= 3);
