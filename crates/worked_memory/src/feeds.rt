@@ -1,4 +1,4 @@
-//! Analysts that are fed.
+//! Analysts that are fed, and that follow what is known to extend what they were fed.
 
 use crate::levels::{LEVELS, Levels, has_levels};
 use crate::worked::trace_of;
@@ -23,6 +23,19 @@ fn follows(
     }
 }
 
+/// The same of a trace that was compared with what the analyst has seen.
+fn follows_known(
+    alloc: Global,
+    analyst: &mut Analyst,
+    trace: &Trace,
+    levels: Levels,
+) -> Result<bool, AllocError> {
+    if !trace.begins(analyst.seen()) {
+        return Ok(false);
+    }
+    Ok(has_levels(&analyst.follow(alloc, trace)?, levels))
+}
+
 /// Whether a trace is refused for step 2, which takes message 1 in tick 2.
 fn differs(alloc: Global, analyst: &mut Analyst, trace: &Trace) -> Result<bool, AllocError> {
     match analyst.feed(alloc, trace) {
@@ -37,13 +50,23 @@ fn differs(alloc: Global, analyst: &mut Analyst, trace: &Trace) -> Result<bool, 
     }
 }
 
-/// The first two steps of never-delivered, and then a trace which extends them and has these levels, or differs from
-/// them.
+/// What comes of a trace after the first two steps of never-delivered.
+#[derive(Clone, Copy)]
+enum Next {
+    /// It is fed, and has these levels.
+    Fed(Levels),
+    /// It is known to extend them, and has these levels.
+    Known(Levels),
+    /// It differs from them.
+    Differs,
+}
+
+/// The first two steps of never-delivered, and then a trace.
 #[derive(Drop)]
 struct Feed {
     two: Trace,
     next: Trace,
-    levels: Option<Levels>,
+    comes: Next,
 }
 
 const LEVELS_OF_TWO: Levels = &[(1, [2, 1, 2, 2, 1, 2, 2]), (2, [1, 0, 0, 2, 1, 2, 2])];
@@ -56,9 +79,10 @@ impl Feed {
 
     /// Whether the answer to what comes next is right.
     fn is_right(&self, alloc: Global, analyst: &mut Analyst) -> Result<bool, AllocError> {
-        match self.levels {
-            Some(levels) => follows(alloc, analyst, &self.next, levels),
-            None => differs(alloc, analyst, &self.next),
+        match self.comes {
+            Next::Fed(levels) => follows(alloc, analyst, &self.next, levels),
+            Next::Known(levels) => follows_known(alloc, analyst, &self.next, levels),
+            Next::Differs => differs(alloc, analyst, &self.next),
         }
     }
 
@@ -99,24 +123,26 @@ const IDLE_LEVELS: Levels = &[
 
 const OTHER: &str = "dls-trace,1,2,0\ninit,5,7\n1,1,S,2\n2,2,R,1\nend,2\n";
 
-const FEEDS: &[(&str, Option<Levels>)] = &[
-    (NEVER_DELIVERED, Some(LEVELS)),
-    (IDLE, Some(IDLE_LEVELS)),
-    (OTHER, None),
+const FEEDS: &[(&str, Next)] = &[
+    (NEVER_DELIVERED, Next::Fed(LEVELS)),
+    (IDLE, Next::Fed(IDLE_LEVELS)),
+    (NEVER_DELIVERED, Next::Known(LEVELS)),
+    (IDLE, Next::Known(IDLE_LEVELS)),
+    (OTHER, Next::Differs),
 ];
 
 /// The first growth of which the outcome was wrong, if there was one.
-fn first_wrong_feed(alloc: Global, text: &str, levels: Option<Levels>) -> Option<usize> {
+fn first_wrong_feed(alloc: Global, text: &str, comes: Next) -> Option<usize> {
     match (trace_of(alloc, FIRST_TWO), trace_of(alloc, text)) {
-        (Ok(two), Ok(next)) => first_wrong(alloc, &mut Feed { two, next, levels }),
+        (Ok(two), Ok(next)) => first_wrong(alloc, &mut Feed { two, next, comes }),
         _ => Some(0),
     }
 }
 
 #[test]
 fn analysts_are_fed(rt: HostRuntime) {
-    for &(text, levels) in FEEDS {
-        let wrong = first_wrong_feed(rt.alloc(), text, levels);
+    for &(text, comes) in FEEDS {
+        let wrong = first_wrong_feed(rt.alloc(), text, comes);
         assert!(rt; wrong.is_none(), "{text}: {wrong:?}");
     }
 }

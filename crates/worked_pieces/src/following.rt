@@ -37,6 +37,21 @@ fn follows_for(
     }
 }
 
+/// Whether an analyst for a set follows a trace that was compared with what it has seen, and its answer is the one from
+/// scratch.
+fn follows_known(
+    alloc: Global,
+    analyst: &mut Analyst,
+    trace: &Trace,
+    set: ProcSet,
+) -> Result<bool, Fail> {
+    if !set.within(trace.config().n()) || !trace.begins(analyst.seen()) {
+        return Ok(false);
+    }
+    let stairs = Stairs::of_trace(alloc, trace, set)?;
+    Ok(same_stairs(&analyst.follow(alloc, trace)?, &stairs))
+}
+
 /// A step with its tick before it, or none.
 type Found = Option<(u64, u64, u64, &'static [u64])>;
 
@@ -288,10 +303,14 @@ impl Followed {
         })
     }
 
-    /// Whether the analyst follows one more step.
+    /// Whether the analyst follows one more step, which it compares itself or which was compared.
     fn goes_on(&mut self, alloc: Global, draws: &mut Draws) -> Result<bool, Fail> {
         push_near(alloc, draws, &mut self.trace)?;
-        follows_for(alloc, &mut self.analyst, &self.trace, self.set)
+        if draws.below(2) == 0 {
+            follows_for(alloc, &mut self.analyst, &self.trace, self.set)
+        } else {
+            follows_known(alloc, &mut self.analyst, &self.trace, self.set)
+        }
     }
 }
 
