@@ -59,12 +59,12 @@ impl Stretches {
     }
 
     /// The bytes of the share of the thread that takes the pieces: such that it is done when the others are. To read a
-    /// step of its own takes it three times as long as to take one that another thread has read, and somewhat longer
-    /// than that thread takes to read it.
+    /// step into a list takes another thread three times as long as this one takes to take it out, and to read one of its
+    /// own takes this one somewhat less.
     fn own_bytes(&self) -> usize {
         match self.workers {
-            2 => self.bytes / 3,
-            3 => self.bytes / 13,
+            2 => self.bytes / 2,
+            3 => self.bytes / 6,
             _ => 0,
         }
     }
