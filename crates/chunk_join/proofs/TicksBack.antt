@@ -1,11 +1,11 @@
 -- One tick back: the level of the tick from that of the next one, and the levels of all.
-use Rattle.std.proofs.Common.{ℕ, ◌≡◌, ◌+◌, ◌<◌, ◌≤◌, List, [], ◌∷◌, length, Option, Some, None, refl, subst, arith}
+use Rattle.std.proofs.Common.{ℕ, ◌≡◌, ◌+◌, ◌<◌, ◌≤◌, List, [], ◌∷◌, ◌++◌, length, replicate, suc, zero, Option, Some, None, refl, subst, arith}
 use Rattle.std.proofs.lemmas.Option.{slice_get_within}
 use Rattle.step_trace.specs.declared.rows.Gap.{Gap}
 use Rattle.step_trace.specs.Traces.{Recorded}
 use Rattle.step_trace.specs.Ticks.{IsTrace}
 use Rattle.suffix_staircase.specs.declared.levels.Level.{Level}
-use Rattle.suffix_staircase.specs.Levels.{StandsBefore, CanStandBefore}
+use Rattle.suffix_staircase.specs.Levels.{StandsBefore, CanStandBefore, repeated}
 use Rattle.suffix_staircase.specs.Analysis.{KnowsGaps, AreLevels}
 use Rattle.suffix_staircase.proofs.GapBounds.{GapsLowered}
 use Rattle.suffix_staircase.proofs.LevelBounds.{StandsBefore-itself, CanStandBefore-through, IsLevelAt-from_known, AreLevelsFrom-before, AreLevelsFrom-after_all, AreLevels-from_first, KnowsGaps-after_all}
@@ -115,6 +115,15 @@ IsGoneOver-quiet part x low m s level levels above known quiet =
       silent = λ k w l h. omega (arith, known.silent k w l h);
       begun = λ w e. omega (arith, quiet.begun w e, above);
     })).known
+
+-- so the levels of ticks down to which it is quiet are that of the tick after them
+pub IsGoneOver-repeated : (part : Summary) (k low m s : ℕ) (level : Level) (levels : List Level) → IsGoneOver part (low + k) m s level (level ∷ levels) → IsQuietFrom part low m s level.phi → IsGoneOver part low m s level (repeated k (level ∷ levels))
+IsGoneOver-repeated part k low m s level levels known quiet = down k low (omega arith) known where
+  down : (n x : ℕ) → low ≤ x → IsGoneOver part (x + n) m s level (level ∷ levels) → IsGoneOver part x m s level (replicate n level ++ level ∷ levels)
+  down zero x above here = let same : x + 0 ≡ x = omega arith in rw same at here
+  down (suc n) x above here =
+      let next : x + suc n ≡ x + 1 + n = omega arith in
+      IsGoneOver-quiet part x low m s level (replicate n level ++ level ∷ levels) above (down n (x + 1) (omega (arith, above)) (rw next at here)) quiet
 
 -- From the first tick on they are the levels of the trace.
 pub AreLevels-gone_over : (part : Summary) (messages silences : ℕ) (level : Level) (levels : List Level) → IsGoneOver part 1 messages silences level levels → (set : ℕ) (t : Recorded) → IsTrace t → Suffices set t part → AreLevels set t levels

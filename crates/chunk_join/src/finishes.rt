@@ -79,7 +79,7 @@ pub(crate) fn stairs_of(alloc: Global, part: &Part) -> Result<Stairs, AllocError
         note_silence(&mut level, last_at(&part.silent, silences), g);
         builder.lower(level)?;
         next = quiet_from(part, messages, silences, level.phi, g);
-        repeat_down(&mut builder, part, level, messages, silences, g, next)?;
+        builder.repeat(g - next);
     }
     Ok(builder.build())
 }
@@ -118,28 +118,6 @@ fn after_last(sent: &[Message], count: usize, g: u64) -> u64
     } else {
         u64::from(sent[count - 1].sent.tick) + 1
     }
-}
-
-/// Puts the level of tick `g` before the others for the ticks before it too, down to tick `low`.
-fn repeat_down(
-    builder: &mut StairBuilder,
-    part: &Part,
-    level: Level,
-    messages: usize,
-    silences: usize,
-    g: u64,
-    low: u64,
-) -> Result<(), AllocError>
-    requires order { low ≤ g }
-    requires quiet { IsQuietFrom part.now low messages silences level.phi }
-    requires known { IsGoneOver part.now g messages silences level builder.old }
-    requires end { part.now.to ≤ MAX_TICKS }
-    ensures { OnOk result (IsGoneOver part.now low messages silences level builder.new) }
-{
-    for _x in (low..g).rev() {
-        builder.lower(level)?;
-    }
-    Ok(())
 }
 
 /// Takes the misses of the messages of tick `g`, which are the last of the first `count`, into the level, and gives how

@@ -12,7 +12,7 @@ use Rattle.std.proofs.lemmas.Option.{slice_get-get_or}
 use Rattle.step_trace.proofs.PagePlaces.{slice_get-right}
 use Rattle.suffix_staircase.specs.declared.levels.Level.{Level}
 use Rattle.suffix_staircase.specs.declared.stretches.Stretch.{Stretch}
-use Rattle.suffix_staircase.specs.Levels.{CanStandBefore, StandsBefore, begins, same_bounds}
+use Rattle.suffix_staircase.specs.Levels.{CanStandBefore, StandsBefore, begins, repeated, same_bounds}
 use Rattle.suffix_staircase.specs.Stretches.{height, levels_in, AreInOrder, levels_of, AreStretches}
 
 -- there are as many levels as the first stretch says
@@ -105,6 +105,42 @@ IsRaised-same kept level last reach top none a n f b r here = go (reverse kept) 
       rw (here, seam, place, get_or-append_seam (reverse rest) s [] none, same)
       (rw (set-append_seam (reverse rest) s [] new, reverse-append (reverse rest) (new ∷ []), reverse-reverse rest)
       (record { levels = rw more refl; stretches = (omega arith, a.1, a.2) }))
+
+-- these are the stretches of the levels with the first of them so many times more
+pub record IsRepeated (old : List Stretch) (count : ℕ) (new : List Stretch) : Type 0 where
+  pub levels : levels_in new ≡ repeated count (levels_in old)
+  pub stretches : AreInOrder new
+
+replicate_onto : (k n : ℕ) (level : Level) (rest : List Level) → replicate (k + n) level ++ rest ≡ replicate k level ++ (replicate n level ++ rest)
+replicate_onto zero n level rest = let none : 0 + n ≡ n = omega arith in rw none refl
+replicate_onto (suc k) n level rest =
+    let next : suc k + n ≡ suc (k + n) = omega arith in
+    rw next (ap (λ (xs : List Level). level ∷ xs) (replicate_onto k n level rest))
+
+-- the stretch that is kept last reaches further by as many levels
+pub IsRepeated-last : (kept : List Stretch) (count last reach : ℕ) (top none : Stretch) → AreStretches kept
+    → last ≡ length kept → 0 < length kept → reach ≡ length (levels_of kept) + count → top ≡ get_or kept (last - 1) none
+    → IsRepeated (reverse kept) count (reverse (set kept (last - 1) (record { level = top.level; reach = reach })))
+IsRepeated-last kept count last reach top none a n some r here = go (reverse kept) (reverse-reverse kept) a r where
+  go : (stretches : List Stretch) → reverse stretches ≡ kept → AreInOrder stretches
+      → reach ≡ length (levels_in stretches) + count
+      → IsRepeated stretches count (reverse (set kept (last - 1) (record { level = top.level; reach = reach })))
+  go [] e a r = absurd (omega (arith, rw (← e) at some))
+  go (s ∷ rest) e a r =
+      let low = a.0 in
+      let seam : kept ≡ reverse rest ++ s ∷ [] = sym e ∙ reverse_onto rest s [] in
+      let place : last - 1 ≡ length (reverse rest) =
+      omega (arith, rw seam at n, length-append (reverse rest) (s ∷ [])) in
+      let first : s.reach - height rest ≡ suc (s.reach - height rest - 1) = omega arith in
+      let long = length-levels_in (s ∷ rest) a in
+      let more : reach - height rest ≡ count + (s.reach - height rest) = omega arith in
+      let new : Stretch = record { level = s.level; reach = reach } in
+      rw (here, seam, place, get_or-append_seam (reverse rest) s [] none)
+      (rw (set-append_seam (reverse rest) s [] new, reverse-append (reverse rest) (new ∷ []), reverse-reverse rest)
+      (record {
+        levels = rw more (rw first (replicate_onto count (suc (s.reach - height rest - 1)) s.level (levels_in rest)));
+        stretches = (omega arith, a.1, a.2);
+      }))
 
 -- each stretch reaches to a level, and none further than the first
 pub reach_within : (stretches : List Stretch) (k : ℕ) (d : Stretch) → AreInOrder stretches → k < length stretches

@@ -1,4 +1,5 @@
 pub mod KeptStretches
+pub mod RepeatedLevels
 pub mod RowLaws
 pub mod StretchRows
 pub mod MissNumbers

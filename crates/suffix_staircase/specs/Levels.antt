@@ -1,5 +1,5 @@
 -- The levels of a trace: the least bounds from each tick on, which fall from tick to tick.
-use Rattle.std.specs.Prelude.{ℕ, ◌≡◌, ◌+◌, ◌-◌, ◌≤◌, List, [], ◌∷◌, map, Option, None, Some, Bool, true, false, not, ◌==◌, ◌&&◌, slice_get, Contains, if◌then◌else◌}
+use Rattle.std.specs.Prelude.{ℕ, ◌≡◌, ◌+◌, ◌-◌, ◌≤◌, List, [], ◌∷◌, ◌++◌, map, replicate, Option, None, Some, Bool, true, false, not, ◌==◌, ◌&&◌, slice_get, Contains, if◌then◌else◌}
 use Rattle.std.specs.List.Sorted.{IsStrictlyIncreasing}
 use Rattle.step_trace.specs.declared.rows.Row.{Row}
 use Rattle.suffix_staircase.specs.declared.levels.Level.{Level}
@@ -24,6 +24,11 @@ IsStaircase (level ∷ rest) = CanStandBefore level rest × IsStaircase rest
 
 abbrev pub same_bounds : Level → Level → Bool
 same_bounds a b = a.delta == b.delta && a.phi == b.phi
+
+-- the first of these levels so many times more, and then these
+abbrev pub repeated : ℕ → List Level → List Level
+repeated count [] = []
+repeated count (level ∷ rest) = replicate count level ++ level ∷ rest
 
 -- whether a level that is put before these has another bound than the first of them
 abbrev pub begins : Level → List Level → Bool

@@ -1,14 +1,14 @@
 //! The levels of a whole trace.
 
-ghost use Rattle.std.specs.Prelude.{◌≡◌, ◌∷◌, [], ◌-◌, ◌<◌, ◌≤◌, length, Some, slice_get, IfOk, OnOk, OnErr, IsTrue};
+ghost use Rattle.std.specs.Prelude.{◌≡◌, ◌∷◌, [], ◌+◌, ◌-◌, ◌<◌, ◌≤◌, length, Some, slice_get, IfOk, OnOk, OnErr, IsTrue};
 ghost use Rattle.step_trace.specs.declared.traces.TheConstants.{MAX_TICKS};
 ghost use Rattle.step_trace.specs.Processors.{IsWithin};
 ghost use Rattle.suffix_staircase.specs.Analysis.{AreLevels};
-ghost use Rattle.suffix_staircase.specs.Levels.{CanStandBefore, IsStaircase, begins, starts, rows_of, AreStarts};
+ghost use Rattle.suffix_staircase.specs.Levels.{CanStandBefore, IsStaircase, begins, repeated, starts, rows_of, AreStarts};
 
 use crate::backward_pass::Pass;
 use crate::levels::Level;
-use crate::stretches::{Stretch, height, level_at, put_before, row_at};
+use crate::stretches::{Stretch, height, level_at, put_before, repeat_first, row_at};
 use std::alloc::{AllocError, Global};
 use std::marker::Model;
 use step_trace::{ProcSet, Row, Trace};
@@ -124,6 +124,15 @@ impl StairBuilder {
         ensures more { OnErr result (IsTrue (begins level self.old)) }
     {
         put_before(&mut self.stairs.stretches, level)
+    }
+
+    /// Puts the level that stands first before the others so many times more, in time that doesn't grow with their
+    /// number; where no level stands first, it changes nothing. Takes no memory.
+    pub fn repeat(&mut self, count: u64)
+        requires room { length self.old + count ≤ MAX_TICKS }
+        ensures { self.new ≡ repeated count self.old }
+    {
+        repeat_first(&mut self.stairs.stretches, count);
     }
 
     /// The stairs of these levels. Takes no memory.

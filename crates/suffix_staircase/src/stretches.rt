@@ -3,7 +3,7 @@
 
 ghost use Rattle.std.specs.Prelude.{◌≡◌, ◌∷◌, [], ◌+◌, ◌-◌, ◌<◌, ◌≤◌, length, reverse, Some, slice_get, OnOk, OnErr, IsTrue};
 ghost use Rattle.step_trace.specs.declared.traces.TheConstants.{MAX_TICKS};
-ghost use Rattle.suffix_staircase.specs.Levels.{CanStandBefore, begins, rows_of};
+ghost use Rattle.suffix_staircase.specs.Levels.{CanStandBefore, begins, repeated, rows_of};
 ghost use Rattle.suffix_staircase.specs.Stretches.{levels_of, AreStretches};
 
 use crate::levels::Level;
@@ -85,6 +85,21 @@ pub(crate) fn put_before(stretches: &mut Vec<Stretch>, level: Level) -> Result<(
         stretches[last].reach = reach;
     }
     Ok(())
+}
+
+/// Puts the first level before the others so many times more; where there is none, it changes nothing.
+pub(crate) fn repeat_first(stretches: &mut Vec<Stretch>, count: u64)
+    requires room { length (levels_of stretches.old.items) + count ≤ MAX_TICKS }
+    requires stretches { AreStretches stretches.old.items }
+    ensures levels { levels_of stretches.new.items ≡ repeated count (levels_of stretches.old.items) }
+    ensures stretches { AreStretches stretches.new.items }
+{
+    if stretches.len() == 0 {
+        return;
+    }
+    let reach = height(stretches) + count;
+    let last = stretches.len() - 1;
+    stretches[last].reach = reach;
 }
 
 /// Whether a level that is put before the others has another bound than the first of them.

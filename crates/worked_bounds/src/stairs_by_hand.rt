@@ -83,10 +83,11 @@ fn silent_alternation(rt: HostRuntime) -> Result<(), Fail> {
 /// The stairs of never-delivered, built from the last level to the first.
 fn built(alloc: Global) -> Result<Stairs, AllocError> {
     let mut builder = StairBuilder::new(alloc);
+    // No level stands first yet.
+    builder.repeat(7);
     builder.lower(LAST)?;
     builder.lower(MIDDLE)?;
-    builder.lower(MIDDLE)?;
-    builder.lower(MIDDLE)?;
+    builder.repeat(2);
     builder.lower(FIRST)?;
     Ok(builder.build())
 }

@@ -5,7 +5,7 @@ use Rattle.step_trace.specs.declared.rows.Gap.{Gap}
 use Rattle.chunk_join.specs.Summaries.{Summary}
 use Rattle.chunk_join.specs.Finishes.{last_at, with_silence, IsGoneOver}
 use Rattle.chunk_join.proofs.MessagesBack.{last_at-Contains}
-use Rattle.chunk_join.proofs.TicksBack.{IsGoneOver-none, IsTickBack, IsTickBack-read, AreLevels-gone_over}
+use Rattle.chunk_join.proofs.TicksBack.{IsGoneOver-none, IsGoneOver-repeated, IsTickBack, IsTickBack-read, AreLevels-gone_over}
 use Rattle.chunk_join.proofs.finishes.stairs_of.Goals as goal
 use Rattle.chunk_join.proofs.finishes.stairs_of.Goals.{After-note_silence}
 
@@ -66,14 +66,17 @@ quiet_from-next-requires-clause-end c = λ w e.
     let high = (c.part.invariant.silent_inside w (last_at-Contains c.part.inside.silent.items c.begun_by-silences.result w top)).1 in
     omega (arith, high, c.part.invariant.end))
 
-pub repeat_down-requires-clause-known : goal.repeat_down-requires-clause-known
-repeat_down-requires-clause-known c = rw c.in_ok-lower.ensures.ok (back (goal.at.repeat_down-requires-clause-known c).After-note_silence).known
-
 pub loop-next-preserved : goal.loop-next-preserved
-loop-next-preserved c = record {
-  low = c.quiet_from-next.ensures.quiet.start;
-  known = c.in_ok-repeat_down.ensures;
-}
+loop-next-preserved c =
+    let part = c.args.part.now in
+    let quiet = c.quiet_from-next.ensures.quiet in
+    let g : c.quiet_from-next.result + (c.loop-next.next - 1 - c.quiet_from-next.result) ≡ c.loop-next.next - 1 = omega (arith, c.quiet_from-next.ensures.high) in
+    let known = (back (goal.at.loop-next-preserved c).After-note_silence).known in
+    record {
+      low = quiet.start;
+      known = rw (c.repeat.ensures, c.in_ok-lower.ensures.ok)
+          (IsGoneOver-repeated part (c.loop-next.next - 1 - c.quiet_from-next.result) c.quiet_from-next.result _ _ _ c.loop-next.builder (rw g known) quiet);
+    }
 
 pub returns : goal.returns
 returns c = λ set t sound a.
