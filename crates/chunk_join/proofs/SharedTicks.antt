@@ -1,23 +1,28 @@
 -- Traces with the same steps up to a tick have the same summary of the ticks up to it.
-use Rattle.std.proofs.Common.{ℕ, ◌≡◌, ◌+◌, ◌-◌, ◌<◌, ◌≤◌, inl, inr, List, length, Option, Some, None, zero, suc, refl, sym, ap, subst, ◌∙◌, arith}
-use Rattle.std.specs.Prelude.{slice_get}
+use Rattle.std.proofs.Common.{ℕ, ◌≡◌, ◌+◌, ◌-◌, ◌<◌, ◌≤◌, inl, inr, List, [], ◌∷◌, ◌++◌, length, length-append, append-nil, Option, Some, None, zero, suc, refl, sym, ap, subst, ◌∙◌, arith}
+use Rattle.std.specs.Prelude.{slice_get, Result, Ok, Err, OnOk, OnErr}
 use Rattle.std.proofs.lemmas.Bool.{cases_lt}
 use Rattle.std.proofs.lemmas.List.{get_or_append_left}
 use Rattle.step_trace.proofs.PagePlaces.{slice_get-left}
 use Rattle.step_trace.specs.declared.steps.Step.{Step}
 use Rattle.step_trace.specs.declared.rows.Gap.{Gap}
+use Rattle.step_trace.specs.declared.traces.TheConstants.{MAX_TICKS}
 use Rattle.step_trace.specs.Traces.{Recorded, step_at, TakesAt, IsReceiveOf}
-use Rattle.step_trace.specs.Ticks.{tick_at, tick_of, StepsIn, IsTimed, IsTrace}
+use Rattle.step_trace.specs.Ticks.{tick_at, tick_of, StepsIn, IsTimed, IsTrace, with_step, with_last}
+use Rattle.step_trace.specs.TickRefusals.{refusal_in}
 use Rattle.step_trace.specs.Extensions.{BeginsWith, Extends}
 use Rattle.step_trace.specs.Cuts.{IsCutAt}
 use Rattle.step_trace.proofs.StepPositions.{step_at_within}
+use Rattle.step_trace.proofs.TickPositions.{tick_at-push_last}
+use Rattle.step_trace.proofs.TickReasons.{CanAppend-from_none}
 use Rattle.chunk_join.specs.declared.summaries.Place.{Place}
 use Rattle.chunk_join.specs.declared.summaries.Fate.{Fate}
 use Rattle.chunk_join.specs.declared.summaries.Fate.TheVariants.{Open, Taken}
 use Rattle.chunk_join.specs.declared.summaries.Message.{Message}
 use Rattle.chunk_join.specs.declared.summaries.Take.{Take}
 use Rattle.chunk_join.specs.Summaries.{IsLastReceive, IsFate, IsSent, IsTake, IsLongest, SentBefore, TakenBefore, EndsBefore, Summary, IsSummary, last_of}
-use Rattle.chunk_join.specs.Digests.{IsDigestOf}
+use Rattle.chunk_join.specs.Digests.{IsDigestOf, joined_digests}
+use Rattle.chunk_join.specs.Laws.DigestsJoined.{digests_join}
 use Rattle.chunk_join.specs.Analysts.{IsDigestUpTo}
 use Rattle.chunk_join.proofs.ListingGrowth.{IsListing-same}
 
@@ -158,12 +163,54 @@ IsSummary-cut set t cut k s sound is at low h =
     subst (λ n. IsSummary set cut 0 n s) (sym at.last)
     (IsSummary-shared t cut k (back cut t k (ShareTicks-extended t cut k at.extends is.time at.after)) sound is low (omega (arith, at.last)) set s h)
 
--- the digest of the ticks before the one that was last
-pub IsDigestUpTo-extended : (set : ℕ) (t seen : Recorded) (digest : Option Summary) → IsTrace seen → Extends t seen → IsDigestUpTo set seen (seen.last - 1) digest → IsDigestUpTo set t (seen.last - 1) digest
-IsDigestUpTo-extended set t seen None w e h = λ sound. h w
-IsDigestUpTo-extended set t seen (Some d) w e h = λ sound. extended sound (h w) where
-  extended : (sound : IsTrace t) → IsDigestOf (record { set = set; trace = seen; sound = w }) 0 (seen.last - 1) (Some d) → IsDigestOf (record { set = set; trace = t; sound = sound }) 0 (seen.last - 1) (Some d)
+-- the digest of ticks before the one that was last
+pub IsDigestUpTo-extended : (set : ℕ) (t seen : Recorded) (k : ℕ) (digest : Option Summary) → IsTrace seen → Extends t seen → k ≤ seen.last - 1 → IsDigestUpTo set seen k digest → IsDigestUpTo set t k digest
+IsDigestUpTo-extended set t seen k None w e l h = λ sound. h w
+IsDigestUpTo-extended set t seen k (Some d) w e l h = λ sound. extended sound (h w) where
+  extended : (sound : IsTrace t) → IsDigestOf (record { set = set; trace = seen; sound = w }) 0 k (Some d) → IsDigestOf (record { set = set; trace = t; sound = sound }) 0 k (Some d)
   extended sound (some, high, (s, is, same)) =
-      let inside : seen.last - 1 ≤ t.last = omega (arith, e.last) in
-      let shared = ShareTicks-extended t seen (seen.last - 1) e w.time (λ n x past at. omega (arith, e.later n x past at, some)) in
-      (some, inside, (s, IsSummary-shared seen t (seen.last - 1) shared w sound high inside set s is, same))
+      let inside : k ≤ t.last = omega (arith, e.last, high) in
+      let shared = ShareTicks-extended t seen k e w.time (λ n x past at. omega (arith, e.later n x past at, some, l)) in
+      (some, inside, (s, IsSummary-shared seen t k shared w sound high inside set s is, same))
+
+-- Steps that are pushed and ticks that pass make a trace that goes on.
+
+Extends-with_step : (seen : Recorded) (tick : ℕ) (x : Step) → IsTimed seen → seen.last ≤ tick → Extends (with_step seen tick x) seen
+Extends-with_step seen tick x time forward = record {
+  config = refl;
+  steps = record { more = x ∷ []; whole = refl };
+  ticks = record { more = tick ∷ []; whole = refl };
+  last = forward;
+  later = λ k y past at. (
+      let end = (step_at_within (seen.steps ++ x ∷ []) k y at).1 in
+      let place : k ≡ suc (length seen.ticks) = omega (arith, rw (length-append seen.steps (x ∷ [])) at end, past, time.each) in
+      rw (place, tick_at-push_last seen.ticks tick) forward);
+}
+
+Extends-with_last : (seen : Recorded) (tick : ℕ) → seen.last ≤ tick → Extends (with_last seen tick) seen
+Extends-with_last seen tick forward = record {
+  config = refl;
+  steps = record { more = []; whole = sym (append-nil seen.steps) };
+  ticks = record { more = []; whole = sym (append-nil seen.ticks) };
+  last = forward;
+  later = λ k y past at. (let end = (step_at_within seen.steps k y at).1 in absurd (omega (arith, end, past)));
+}
+
+closed_by : (set : ℕ) (t seen : Recorded) (k : ℕ) (digest : Option Summary) → IsTrace seen → Extends t seen → k ≤ seen.last - 1 → IsDigestUpTo set seen k digest → (k ≤ t.last - 1) × IsDigestUpTo set t k digest
+closed_by set t seen k digest w e l h = (omega (arith, e.last, l), IsDigestUpTo-extended set t seen k digest w e l h)
+
+-- what is known of a digest of closed ticks, once a step was pushed, or refused
+pub closed-pushed : {A E : Type 0} (set : ℕ) (seen new : Recorded) (k tick : ℕ) (x : Step) (digest : Option Summary) (r : Result A E) → IsTrace seen → OnOk r (new ≡ with_step seen tick x) → OnOk r (refusal_in seen tick x ≡ None) → OnErr r (new ≡ seen)
+    → k ≤ seen.last - 1 → IsDigestUpTo set seen k digest → (k ≤ new.last - 1) × IsDigestUpTo set new k digest
+closed-pushed set seen new k tick x digest (Ok a) w pushed none err l h = rw pushed (closed_by set (with_step seen tick x) seen k digest w (Extends-with_step seen tick x w.time (CanAppend-from_none seen tick x w none).forward) l h)
+closed-pushed set seen new k tick x digest (Err e) w pushed none err l h = rw err (l, h)
+
+-- and once ticks passed, or not
+pub closed-passed : {A E : Type 0} (set : ℕ) (seen new : Recorded) (k tick : ℕ) (digest : Option Summary) (r : Result A E) → IsTrace seen → OnOk r (new ≡ with_last seen tick) → OnOk r ((seen.last ≤ tick) × (tick ≤ MAX_TICKS)) → OnErr r (new ≡ seen)
+    → k ≤ seen.last - 1 → IsDigestUpTo set seen k digest → (k ≤ new.last - 1) × IsDigestUpTo set new k digest
+closed-passed set seen new k tick digest (Ok a) w passed ok err l h = rw passed (closed_by set (with_last seen tick) seen k digest w (Extends-with_last seen tick ok.0) l h)
+closed-passed set seen new k tick digest (Err e) w passed ok err l h = rw err (l, h)
+
+-- the digests of ticks and of those that follow make one
+pub IsDigestUpTo-joined : (set : ℕ) (t : Recorded) (k l : ℕ) (left right : Option Summary) → IsDigestUpTo set t k left → ((sound : IsTrace t) → IsDigestOf (record { set = set; trace = t; sound = sound }) k l right) → IsDigestUpTo set t l (joined_digests left right)
+IsDigestUpTo-joined set t k l left right h more = λ sound. digests_join.part (record { set = set; trace = t; sound = sound }) 0 k l left right (h sound) (more sound)

@@ -9,7 +9,7 @@ use step_trace::{Step, Trace};
 /// Why a trace was not followed, in the order in which the reasons are tested.
 #[derive(Debug, Drop)]
 pub enum FeedError {
-    /// The trace doesn't extend the one that was fed last. At number `at` it differs from it first, and has `found`,
+    /// The trace doesn't extend the one that is followed. At number `at` it differs from it first, and has `found`,
     /// a step with its tick before it; where it has all steps of that one, `at` is the number after them. At 0 it is
     /// of another configuration.
     NotAnExtension { at: u64, found: Option<(u64, Step)> },

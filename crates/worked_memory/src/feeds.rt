@@ -1,13 +1,16 @@
-//! Analysts that are fed, and that follow what is known to extend what they were fed.
+//! Analysts that are fed, and to whom steps are pushed.
 
 use crate::levels::{LEVELS, Levels, has_levels};
-use crate::worked::trace_of;
+use crate::pushes::PUSHES;
+use crate::worked::{receive, silence, trace_of};
 use chunk_join::{Analyst, FeedError};
 use refused_growths::{Call, Outcome, Refusal, first_wrong, judged};
 use std::alloc::{AllocError, Global};
-use step_trace::Trace;
+use step_trace::{PushError, Step, Trace};
+use suffix_staircase::Stairs;
+use test_support::stair_levels::same_stairs;
 use test_support::texts::NEVER_DELIVERED;
-use test_support::traces::both;
+use test_support::traces::{are_equal, both};
 
 /// Whether the answer to a trace has these levels.
 fn follows(
@@ -21,19 +24,6 @@ fn follows(
         Err(FeedError::Memory) => Err(AllocError),
         Err(_) => Ok(false),
     }
-}
-
-/// The same of a trace that was compared with what the analyst has seen.
-fn follows_known(
-    alloc: Global,
-    analyst: &mut Analyst,
-    trace: &Trace,
-    levels: Levels,
-) -> Result<bool, AllocError> {
-    if !trace.begins(analyst.seen()) {
-        return Ok(false);
-    }
-    Ok(has_levels(&analyst.follow(alloc, trace)?, levels))
 }
 
 /// Whether a trace is refused for step 2, which takes message 1 in tick 2.
@@ -55,8 +45,6 @@ fn differs(alloc: Global, analyst: &mut Analyst, trace: &Trace) -> Result<bool, 
 enum Next {
     /// It is fed, and has these levels.
     Fed(Levels),
-    /// It is known to extend them, and has these levels.
-    Known(Levels),
     /// It differs from them.
     Differs,
 }
@@ -81,7 +69,6 @@ impl Feed {
     fn is_right(&self, alloc: Global, analyst: &mut Analyst) -> Result<bool, AllocError> {
         match self.comes {
             Next::Fed(levels) => follows(alloc, analyst, &self.next, levels),
-            Next::Known(levels) => follows_known(alloc, analyst, &self.next, levels),
             Next::Differs => differs(alloc, analyst, &self.next),
         }
     }
@@ -126,8 +113,6 @@ const OTHER: &str = "dls-trace,1,2,0\ninit,5,7\n1,1,S,2\n2,2,R,1\nend,2\n";
 const FEEDS: &[(&str, Next)] = &[
     (NEVER_DELIVERED, Next::Fed(LEVELS)),
     (IDLE, Next::Fed(IDLE_LEVELS)),
-    (NEVER_DELIVERED, Next::Known(LEVELS)),
-    (IDLE, Next::Known(IDLE_LEVELS)),
     (OTHER, Next::Differs),
 ];
 
@@ -144,5 +129,115 @@ fn analysts_are_fed(rt: HostRuntime) {
     for &(text, comes) in FEEDS {
         let wrong = first_wrong_feed(rt.alloc(), text, comes);
         assert!(rt; wrong.is_none(), "{text}: {wrong:?}");
+    }
+}
+
+/// Whether these are the stairs of a trace from scratch.
+fn are_stairs_of(alloc: Global, stairs: &Stairs, trace: &Trace) -> bool {
+    let set = both();
+    if !set.within(trace.config().n()) {
+        return false;
+    }
+    match Stairs::of_trace(alloc, trace, set) {
+        Ok(expected) => same_stairs(stairs, &expected),
+        Err(AllocError) => false,
+    }
+}
+
+/// Whether the analyst follows this trace, and tells its stairs.
+fn stands(alloc: Global, analyst: &mut Analyst, trace: &Trace) -> bool {
+    match analyst.stairs(alloc) {
+        Ok(stairs) => are_equal(analyst.seen(), trace) && are_stairs_of(alloc, &stairs, trace),
+        Err(AllocError) => false,
+    }
+}
+
+/// Processor 2 takes message 1 in a tick after the last of a trace.
+#[derive(Drop)]
+struct Push {
+    before: Trace,
+    tick: u64,
+    whole: Trace,
+}
+
+impl Push {
+    /// Whether the step is pushed to an analyst who has seen the steps before it.
+    fn is_pushed(&self, alloc: Global, analyst: &mut Analyst) -> bool {
+        let Ok(step) = receive(alloc, 2, &[1]) else {
+            return false;
+        };
+        analyst.push_at(self.tick, step).is_ok() && stands(alloc, analyst, &self.whole)
+    }
+
+    /// What comes of pushing the step and asking for the stairs, of which one may be refused.
+    fn pushed(
+        &self,
+        alloc: Global,
+        refusal: Refusal,
+        analyst: &mut Analyst,
+        step: Step,
+    ) -> Outcome {
+        refusal.begin(alloc);
+        let pushed = analyst.push_at(self.tick, step);
+        let asked = analyst.stairs(alloc);
+        let was_refused = refusal.end(alloc);
+        match (pushed, asked) {
+            (Ok(()), Ok(stairs)) => {
+                let right = are_stairs_of(alloc, &stairs, &self.whole);
+                judged(
+                    was_refused,
+                    right && stands(alloc, analyst, &self.whole),
+                    false,
+                )
+            }
+            (Ok(()), Err(AllocError)) => {
+                judged(was_refused, false, stands(alloc, analyst, &self.whole))
+            }
+            (Err(PushError::Memory), Ok(stairs)) => {
+                let kept = are_stairs_of(alloc, &stairs, &self.before)
+                    && are_equal(analyst.seen(), &self.before);
+                judged(was_refused, false, kept && self.is_pushed(alloc, analyst))
+            }
+            _ => Outcome::Wrong,
+        }
+    }
+}
+
+impl Call for Push {
+    /// To an analyst who was fed the steps before: of its trace, a copy, no list has room to spare.
+    fn attempt(&mut self, alloc: Global, refusal: Refusal) -> Outcome {
+        let (Ok(config), Ok(step)) = (self.before.config().copy(alloc), receive(alloc, 2, &[1]))
+        else {
+            return Outcome::Wrong;
+        };
+        let mut analyst = Analyst::new(alloc, config, both());
+        if analyst.feed(alloc, &self.before).is_err() {
+            return Outcome::Wrong;
+        }
+        self.pushed(alloc, refusal, &mut analyst, step)
+    }
+}
+
+/// The trace after so many steps, with that step more.
+fn push_after(alloc: Global, count: u64, tick: u64) -> Option<Push> {
+    let before = silence(alloc, count)?;
+    let mut whole = before.copy(alloc).ok()?;
+    let step = receive(alloc, 2, &[1]).ok()?;
+    whole.push_at(tick, step).ok()?;
+    Some(Push {
+        before,
+        tick,
+        whole,
+    })
+}
+
+#[test]
+fn analysts_are_pushed_steps(rt: HostRuntime) {
+    for &(count, tick) in PUSHES {
+        let wrong = match push_after(rt.alloc(), count, tick) {
+            Some(mut push) => first_wrong(rt.alloc(), &mut push),
+            None => Some(0),
+        };
+        assert!(rt; wrong.is_none(), "after {count} steps: {wrong:?}");
     }
 }

@@ -67,7 +67,7 @@ impl Call for Push {
 }
 
 /// After how many steps, and in which tick. The page of 256 steps is not yet full, filled, and full.
-const PUSHES: &[(u64, u64)] = &[
+pub(crate) const PUSHES: &[(u64, u64)] = &[
     (1, 2),
     (1, 4),
     (254, 256),

@@ -1,13 +1,13 @@
-//! An analyst that is fed longer and longer traces, and traces that don't extend those.
+//! An analyst that is fed longer and longer traces, and traces that don't extend those, and one to whom steps are pushed.
 
 use chunk_join::{Analyst, FeedError};
 use std::alloc::Global;
 use std::test::Fail;
-use step_trace::{ProcSet, Step, Trace};
+use step_trace::{BadTick, ProcSet, PushError, Step, Trace};
 use suffix_staircase::Stairs;
-use test_support::random_traces::{Draws, empty_trace_of_three, push_near, some_set};
+use test_support::random_traces::{Draws, empty_trace_of_three, push_near, some_act, some_set};
 use test_support::stair_levels::{has_levels, has_one_level, same_stairs};
-use test_support::traces::{both, empty_trace, silent_alternation, step_of, ticked};
+use test_support::traces::{are_equal, both, empty_trace, silent_alternation, step_of, ticked};
 
 /// An analyst for processors 1 and 2 of two, who was fed nothing yet.
 pub(crate) fn new_analyst(alloc: Global) -> Result<Analyst, Fail> {
@@ -37,19 +37,14 @@ fn follows_for(
     }
 }
 
-/// Whether an analyst for a set follows a trace that was compared with what it has seen, and its answer is the one from
-/// scratch.
-fn follows_known(
-    alloc: Global,
-    analyst: &mut Analyst,
-    trace: &Trace,
-    set: ProcSet,
-) -> Result<bool, Fail> {
-    if !set.within(trace.config().n()) || !trace.begins(analyst.seen()) {
+/// Whether the stairs of the trace that an analyst for any set follows are those from scratch.
+fn stands(alloc: Global, analyst: &mut Analyst) -> Result<bool, Fail> {
+    let set = analyst.set();
+    if !set.within(analyst.seen().config().n()) {
         return Ok(false);
     }
-    let stairs = Stairs::of_trace(alloc, trace, set)?;
-    Ok(same_stairs(&analyst.follow(alloc, trace)?, &stairs))
+    let stairs = Stairs::of_trace(alloc, analyst.seen(), set)?;
+    Ok(same_stairs(&analyst.stairs(alloc)?, &stairs))
 }
 
 /// A step with its tick before it, or none.
@@ -284,11 +279,57 @@ fn pages_are_followed(rt: HostRuntime) -> Result<(), Fail> {
     Ok(())
 }
 
-/// A growing trace, and the analyst who is fed it.
+/// Processor 1 steps in tick 1, there are three ticks, and then processor 2 steps in the last of them.
+fn pushed_into_open_tick(alloc: Global, analyst: &mut Analyst) -> Result<bool, Fail> {
+    let fresh = analyst.stairs(alloc)?.len() == 0;
+    let first = analyst.push_at(1, step_of(alloc, 1, 0, &[])?).is_ok();
+    let passed = analyst.idle_to(3).is_ok();
+    let before = has_levels(
+        &analyst.stairs(alloc)?,
+        &[
+            [1, 0, 0, 4, 2, 1, 3],
+            [1, 0, 0, 3, 1, 2, 3],
+            [1, 0, 0, 2, 1, 3, 3],
+        ],
+    );
+    let last = analyst.push_at(3, step_of(alloc, 2, 0, &[])?).is_ok();
+    let after = has_levels(
+        &analyst.stairs(alloc)?,
+        &[
+            [1, 0, 0, 3, 1, 2, 3],
+            [1, 0, 0, 3, 1, 2, 3],
+            [1, 0, 0, 2, 1, 3, 3],
+        ],
+    );
+    Ok(fresh && first && passed && before && last && after)
+}
+
+/// What such an analyst refuses, after which it stands as before.
+fn are_refused(alloc: Global, analyst: &mut Analyst) -> Result<bool, Fail> {
+    let early = analyst.push_at(2, step_of(alloc, 1, 0, &[])?);
+    let lower = analyst.push_at(3, step_of(alloc, 1, 0, &[])?);
+    let unknown = analyst.push_at(4, step_of(alloc, 1, 0, &[1])?);
+    let back = analyst.idle_to(2);
+    let right = early == Err(PushError::BadTick)
+        && lower == Err(PushError::ProcOrder)
+        && unknown == Err(PushError::UnknownMessage(1))
+        && back == Err(BadTick);
+    let whole = analyst.seen().len() == 2 && analyst.seen().last_tick() == 3;
+    Ok(right && whole && stands(alloc, analyst)?)
+}
+
+#[test]
+fn steps_are_pushed(rt: HostRuntime) -> Result<(), Fail> {
+    let mut analyst = new_analyst(rt.alloc())?;
+    assert!(rt; pushed_into_open_tick(rt.alloc(), &mut analyst)?);
+    assert!(rt; are_refused(rt.alloc(), &mut analyst)?);
+    Ok(())
+}
+
+/// A growing trace, and the analyst who follows it.
 #[derive(Drop)]
 struct Followed {
     trace: Trace,
-    set: ProcSet,
     analyst: Analyst,
 }
 
@@ -298,31 +339,54 @@ impl Followed {
         let config = trace.config().copy(alloc)?;
         Ok(Followed {
             trace,
-            set,
             analyst: Analyst::new(alloc, config, set),
         })
     }
 
-    /// Whether the analyst follows one more step, which it compares itself or which was compared.
-    fn goes_on(&mut self, alloc: Global, draws: &mut Draws) -> Result<bool, Fail> {
+    /// Whether the analyst follows one more step that it is fed.
+    fn is_fed(&mut self, alloc: Global, draws: &mut Draws) -> Result<bool, Fail> {
         push_near(alloc, draws, &mut self.trace)?;
-        if draws.below(2) == 0 {
-            follows_for(alloc, &mut self.analyst, &self.trace, self.set)
-        } else {
-            follows_known(alloc, &mut self.analyst, &self.trace, self.set)
-        }
+        let set = self.analyst.set();
+        follows_for(alloc, &mut self.analyst, &self.trace, set)
+    }
+
+    /// Whether the analyst takes a step as the trace does, and refuses it where and why that does.
+    fn is_pushed(&mut self, alloc: Global, draws: &mut Draws) -> Result<bool, Fail> {
+        let proc = 1 + draws.below(3);
+        let tick = (self.trace.last_tick() + draws.below(4)).saturating_sub(1);
+        let act = some_act(alloc, draws, &self.trace, proc)?;
+        let step = Step { proc, act };
+        let same = step.clone()?;
+        Ok(self.analyst.push_at(tick, step) == self.trace.push_at(tick, same))
+    }
+
+    /// Whether the analyst goes on to a tick as the trace does.
+    fn is_idle(&mut self, draws: &mut Draws) -> bool {
+        let tick = (self.trace.last_tick() + draws.below(4)).saturating_sub(1);
+        self.analyst.idle_to(tick) == self.trace.idle_to(tick)
+    }
+
+    /// Whether the trace goes on, and the analyst follows it; now and then it is asked for the stairs.
+    fn goes_on(&mut self, alloc: Global, draws: &mut Draws) -> Result<bool, Fail> {
+        let same = match draws.below(6) {
+            0 => self.is_fed(alloc, draws)?,
+            1 => self.is_idle(draws),
+            _ => self.is_pushed(alloc, draws)?,
+        };
+        let seen = are_equal(self.analyst.seen(), &self.trace);
+        Ok(same && seen && (draws.below(3) > 0 || stands(alloc, &mut self.analyst)?))
     }
 }
 
 /// Whether an analyst follows one more trace from step to step.
 fn follows_some(alloc: Global, draws: &mut Draws) -> Result<bool, Fail> {
     let mut followed = Followed::opened(alloc, some_set(draws))?;
-    for _ in 0..2 + draws.below(12) {
+    for _ in 0..4 + draws.below(16) {
         if !followed.goes_on(alloc, draws)? {
             return Ok(false);
         }
     }
-    Ok(true)
+    stands(alloc, &mut followed.analyst)
 }
 
 #[test]
