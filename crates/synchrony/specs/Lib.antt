@@ -1,3 +1,1 @@
-pub mod Followers
 pub mod LineFaults
-pub mod Runs

@@ -1,10 +1,10 @@
 //! What a command reads: standard input, or a file.
 
+use command_faults::{Fault, unopened};
 use command_line::names_standard_input;
 use std::fs::File;
 use std::io;
 use std::io::{Read, Stdin};
-use text_commands::{Fault, unopened};
 use trace_text::Counting;
 
 /// Standard input, or an open file.

@@ -3,8 +3,8 @@
 ghost use Rattle.std.specs.Prelude.{◌≡◌};
 ghost use Rattle.synchrony.specs.LineFaults.{fault_of_line};
 
+use command_faults::Fault;
 use command_line::LineError;
-use text_commands::Fault;
 
 /// The fault of a command line that gives no job.
 pub fn refused_line(why: LineError) -> Fault

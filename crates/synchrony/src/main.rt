@@ -7,22 +7,16 @@ ghost use Rattle.std.specs.Prelude.{◌*◌, ◌≤◌};
 ghost use Rattle.chunk_join.specs.declared.analyses.TheConstants.{MAX_WORKERS};
 ghost use Rattle.step_trace.specs.declared.traces.TheConstants.{MAX_STEPS};
 
-mod followers;
 mod inputs;
 mod line_faults;
-#[cfg(test)]
-mod memory_tests;
-#[cfg(test)]
-mod run_tests;
-mod runs;
 
-use crate::followers::follower_for;
 use crate::inputs::open;
 use crate::line_faults::refused_line;
-use crate::runs::run_nodes;
 use certificate_checker::Verdict;
+use command_faults::{Fault, print, status, tell};
 use command_line::{Job, read_command, refuse_words};
 use event_log::Options;
+use node_runs::{follower_for, run_nodes};
 use std::env;
 use std::process::ExitCode;
 use std::sync::Wait;
@@ -30,8 +24,8 @@ use std::thread::Threads;
 use std::time::Clock;
 use step_trace::{Config, OpenGate, ProcSet};
 use text_commands::{
-    Drawing, Fault, ReportPart, import_options, print, run_check, run_draw, run_import, run_replay,
-    run_report, run_report_part, run_upgrade, status, tell, verdict_status,
+    Drawing, ReportPart, import_options, run_check, run_draw, run_import, run_replay, run_report,
+    run_report_part, run_upgrade, verdict_status,
 };
 use trace_text::Counting;
 

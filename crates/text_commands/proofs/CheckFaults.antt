@@ -11,13 +11,13 @@ use Rattle.trace_text.specs.ByteLoops.{ReadRefusedFor}
 use Rattle.front.specs.declared.refusals.ReportError.{ReportError}
 use Rattle.front.specs.declared.refusals.ReportError.TheVariants as uncertified
 use Rattle.front.specs.ReportTexts.{StandsFor}
-use Rattle.text_commands.specs.declared.faults.Fault.{Fault}
-use Rattle.text_commands.specs.declared.faults.Fault.TheVariants as fault
+use Rattle.command_faults.specs.declared.faults.Fault.{Fault}
+use Rattle.command_faults.specs.declared.faults.Fault.TheVariants as fault
 use Rattle.text_report.specs.Checks.{IsLineOn, IsVerdictOn}
 use Rattle.text_report.specs.VerdictLines.{told_verdict}
 use Rattle.text_commands.specs.Checks.{IsFaultBefore, IsUnchecked, check_kinds}
-use Rattle.text_commands.specs.Faults.{fault_of_certificate, fault_of_text}
-use Rattle.text_commands.specs.Printing.{IsUntold, IsWriteFault}
+use Rattle.command_faults.specs.Faults.{fault_of_certificate, fault_of_text}
+use Rattle.command_faults.specs.Printing.{IsUntold, IsWriteFault}
 use Rattle.text_commands.specs.Reports.{IsTextFault}
 use Rattle.text_commands.specs.Serving.{IsFaultOf, IsServeFault}
 use Rattle.text_commands.proofs.ReportFaults.{own_text}

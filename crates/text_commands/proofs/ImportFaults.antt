@@ -7,11 +7,11 @@ use Rattle.trace_text.specs.ByteLoops.{WroteFront}
 use Rattle.event_log.specs.declared.options.Options.{Options}
 use Rattle.event_log.specs.declared.refusals.LogError.TheVariants as no_log
 use Rattle.event_log.proofs.LogRefusals.{large-text}
-use Rattle.text_commands.specs.declared.faults.Fault.{Fault}
-use Rattle.text_commands.specs.declared.faults.Fault.TheVariants as fault
-use Rattle.text_commands.specs.Faults.{fault_of_write}
+use Rattle.command_faults.specs.declared.faults.Fault.{Fault}
+use Rattle.command_faults.specs.declared.faults.Fault.TheVariants as fault
+use Rattle.command_faults.specs.Faults.{fault_of_write}
 use Rattle.text_commands.specs.Imports.{IsImportTold, IsUnimported, IsUnreadLog}
-use Rattle.text_commands.specs.Printing.{IsUntold}
+use Rattle.command_faults.specs.Printing.{IsUntold}
 use Rattle.text_commands.specs.Serving.{IsServeFault}
 
 -- a log that is too large is refused for that

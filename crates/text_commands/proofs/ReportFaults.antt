@@ -5,9 +5,9 @@ use Rattle.step_trace.specs.Traces.{Recorded}
 use Rattle.trace_text.specs.declared.refusals.TextError.{TextError}
 use Rattle.trace_text.specs.declared.refusals.TextError.TheVariants as why
 use Rattle.shared_reading.specs.DeviceTexts.{IsRefusalOf, IsTraceRead}
-use Rattle.text_commands.specs.declared.faults.Fault.{Fault}
-use Rattle.text_commands.specs.declared.faults.Fault.TheVariants as fault
-use Rattle.text_commands.specs.Faults.{fault_of_text}
+use Rattle.command_faults.specs.declared.faults.Fault.{Fault}
+use Rattle.command_faults.specs.declared.faults.Fault.TheVariants as fault
+use Rattle.command_faults.specs.Faults.{fault_of_text}
 use Rattle.text_commands.specs.Inputs.{IsTraceFault}
 use Rattle.text_commands.specs.Reports.{IsFaultFor, IsTextFault, IsUnreported, report_kinds}
 use Rattle.text_report.specs.Reports.{IsReportOf}

@@ -8,11 +8,11 @@ use Rattle.trace_text.specs.declared.refusals.WriteError.{WriteError}
 use Rattle.trace_text.specs.declared.refusals.WriteError.TheVariants as unwritten
 use Rattle.trace_text.specs.ByteLoops.{ReadRefusedFor}
 use Rattle.trace_text.specs.TextWriting.{WroteBefore}
-use Rattle.text_commands.specs.declared.faults.Fault.{Fault}
-use Rattle.text_commands.specs.declared.faults.Fault.TheVariants as fault
-use Rattle.text_commands.specs.Faults.{fault_of_text, fault_of_write}
+use Rattle.command_faults.specs.declared.faults.Fault.{Fault}
+use Rattle.command_faults.specs.declared.faults.Fault.TheVariants as fault
+use Rattle.command_faults.specs.Faults.{fault_of_text, fault_of_write}
 use Rattle.text_commands.specs.Inputs.{IsTraceFault}
-use Rattle.text_commands.specs.Printing.{IsUntold}
+use Rattle.command_faults.specs.Printing.{IsUntold}
 use Rattle.text_commands.specs.Serving.{IsFaultOf, IsServeFault, Kinds}
 
 -- what holds of the text that was read holds of the bytes that are known

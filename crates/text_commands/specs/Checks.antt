@@ -2,8 +2,8 @@
 use Rattle.std.specs.Prelude.{ℕ, ◌≡◌, ◌⊎◌, List, true, false, ⊤}
 use Rattle.trace_text.specs.Faults.{Rose}
 use Rattle.text_report.specs.Checks.{IsUncertified}
-use Rattle.text_commands.specs.declared.faults.Fault.{Fault}
-use Rattle.text_commands.specs.declared.faults.Fault.TheVariants as fault
+use Rattle.command_faults.specs.declared.faults.Fault.{Fault}
+use Rattle.command_faults.specs.declared.faults.Fault.TheVariants as fault
 use Rattle.text_commands.specs.Reports.{IsTextFault}
 use Rattle.text_commands.specs.Serving.{IsFaultOf, Kinds}
 

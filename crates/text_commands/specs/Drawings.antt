@@ -13,10 +13,10 @@ use Rattle.run_picture.specs.Names.{AreNames, parts_of}
 use Rattle.run_picture.specs.Pictures.{Shows}
 use Rattle.run_picture.specs.Windows.{window_of}
 use Rattle.text_commands.specs.declared.drawings.Drawing.{Drawing}
-use Rattle.text_commands.specs.declared.faults.Fault.{Fault}
-use Rattle.text_commands.specs.declared.faults.Fault.TheVariants as fault
-use Rattle.text_commands.specs.declared.faults.PictureOption.{PictureOption}
-use Rattle.text_commands.specs.declared.faults.PictureOption.TheVariants as option
+use Rattle.command_faults.specs.declared.faults.Fault.{Fault}
+use Rattle.command_faults.specs.declared.faults.Fault.TheVariants as fault
+use Rattle.command_faults.specs.declared.faults.PictureOption.{PictureOption}
+use Rattle.command_faults.specs.declared.faults.PictureOption.TheVariants as option
 use Rattle.text_report.specs.Texts.{IsSetOutside, IsTextOf}
 use Rattle.text_commands.specs.Serving.{IsRefusal, Kinds}
 

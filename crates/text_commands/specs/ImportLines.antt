@@ -1,34 +1,11 @@
--- What is told of a log beside its trace: the lines of a refusal, and the notes on a trace.
+-- What is told of a log beside its trace: the notes on it.
 use Rattle.std.specs.Prelude.{ℕ, List, [], ◌∷◌, ◌++◌, length, codes, decimal, Bool, true, false, Option, Some, None}
 use Rattle.std.specs.List.{flat_map, range_with_len}
-use Rattle.timed_events.specs.declared.events.Hint.{Hint}
-use Rattle.timed_events.specs.declared.events.Hint.TheVariants.{ShorterTick, Spread}
 use Rattle.timed_events.specs.declared.spread_traces.Moved.{Moved}
 use Rattle.event_log.specs.declared.imports.Import.{Import}
 use Rattle.event_log.specs.declared.options.Options.{Options}
-use Rattle.event_log.specs.declared.refusals.LogError.{LogError}
-use Rattle.event_log.specs.declared.refusals.LogError.TheVariants.{TickUnfit, UntilUnfit, TooManyTicks, NotLater, SecondEvent}
 use Rattle.event_log.specs.Imports.{node_name}
 use Rattle.event_log.specs.RefusalTexts.{printed}
-
--- what stands before the reason of a refused log: nothing where it begins with an option that doesn't fit
-abbrev pub log_lead : LogError → List ℕ
-log_lead TickUnfit = []
-log_lead UntilUnfit = []
-log_lead why = codes "log: "
-
--- a line of what helps, with the line feed before it
-abbrev pub hint_line : Option Hint → List ℕ
-hint_line None = []
-hint_line (Some ShorterTick) = 10 ∷ codes "synchrony: a shorter --tick sets them apart"
-hint_line (Some Spread) = 10 ∷ codes "synchrony: --spread sets them apart"
-
--- the same for a refused log; nothing where nothing helps
-abbrev pub help_line : LogError → List ℕ
-help_line TooManyTicks = 10 ∷ codes "synchrony: a greater --tick makes fewer"
-help_line (NotLater number message hint) = hint_line hint
-help_line (SecondEvent number node tick hint) = hint_line hint
-help_line why = []
 
 -- the line that tells which node the processor of this number is
 abbrev pub node_line : ℕ → List ℕ → List ℕ

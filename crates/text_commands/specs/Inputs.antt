@@ -1,8 +1,8 @@
 -- Why the program reads no trace.
 use Rattle.std.specs.Prelude.{ℕ, List, ⊤}
 use Rattle.text_report.specs.Texts.{IsRefusedFor}
-use Rattle.text_commands.specs.declared.faults.Fault.{Fault}
-use Rattle.text_commands.specs.declared.faults.Fault.TheVariants as fault
+use Rattle.command_faults.specs.declared.faults.Fault.{Fault}
+use Rattle.command_faults.specs.declared.faults.Fault.TheVariants as fault
 
 -- The fault is the first refusal of the text; want of memory and a failed read are faults of their own, and
 -- no refusals of it.

@@ -1,7 +1,4 @@
-pub mod Faults
 pub mod ImportLines
-pub mod FaultLines
-pub mod Printing
 pub mod Serving
 pub mod Inputs
 pub mod Reports
@@ -11,6 +8,4 @@ pub mod ReplayTexts
 pub mod Replays
 pub mod Upgrades
 pub mod Checks
-pub mod Standings
-pub mod StandingLines
 pub mod Imports

@@ -8,10 +8,10 @@ use Rattle.step_trace.specs.Fronts.{IsReport}
 use Rattle.front.specs.Reports.{Serves, row_at}
 use Rattle.front.specs.ReportTexts.{report_text}
 use Rattle.text_report.specs.Texts.{IsSetOutside, IsTextOf}
-use Rattle.text_commands.specs.declared.faults.Fault.{Fault}
-use Rattle.text_commands.specs.declared.faults.Fault.TheVariants as fault
-use Rattle.text_commands.specs.declared.faults.ReportOption.{ReportOption}
-use Rattle.text_commands.specs.declared.faults.ReportOption.TheVariants as option
+use Rattle.command_faults.specs.declared.faults.Fault.{Fault}
+use Rattle.command_faults.specs.declared.faults.Fault.TheVariants as fault
+use Rattle.command_faults.specs.declared.faults.ReportOption.{ReportOption}
+use Rattle.command_faults.specs.declared.faults.ReportOption.TheVariants as option
 use Rattle.text_commands.specs.declared.report_parts.ReportPart.{ReportPart}
 use Rattle.text_commands.specs.Serving.{IsRefusal, Kinds}
 

@@ -3,14 +3,14 @@
 pub use Rattle.std.specs.Io.KnownBytes.{Appends, IsAtEnd}
 pub use Rattle.trace_text.specs.ByteLoops.{WasFaultless}
 pub use Rattle.trace_text.specs.Faults.{faults_of, inner_of, is_flushed}
-pub use Rattle.text_commands.specs.Printing.{IsWriteFault}
+pub use Rattle.command_faults.specs.Printing.{IsWriteFault}
 use Rattle.std.specs.Prelude.{ℕ, ◌≡◌, ◌≢◌, ◌≤◌, List, length, take, Option, IfSome, Bool, IsTrue, ⊤}
 use Rattle.trace_text.specs.Faults.{Rose}
 use Rattle.trace_text.specs.declared.refusals.TextError.TheVariants as why
 use Rattle.front.specs.declared.refusals.ReportError.TheVariants as uncertified
 use Rattle.event_log.specs.declared.refusals.LogError.TheVariants as no_log
-use Rattle.text_commands.specs.declared.faults.Fault.{Fault}
-use Rattle.text_commands.specs.declared.faults.Fault.TheVariants as fault
+use Rattle.command_faults.specs.declared.faults.Fault.{Fault}
+use Rattle.command_faults.specs.declared.faults.Fault.TheVariants as fault
 use Rattle.text_commands.specs.Inputs.{IsTraceFault}
 
 -- For what a command may refuse, beside a trace text: a set, a certificate, a trace that is no run, a thread, an

@@ -12,11 +12,10 @@ ghost use Rattle.text_report.specs.Checks.{IsLineOn, IsVerdictOn};
 ghost use Rattle.text_report.specs.Texts.{IsTextOf};
 ghost use Rattle.text_report.specs.VerdictLines.{told_verdict};
 
-use crate::faults::Fault;
 use crate::inputs::trace_of;
-use crate::reports::test_set;
 use crate::verdict_lines::tell_verdict;
 use certificate_checker::{Verdict, check_claimed};
+use command_faults::{Fault, test_set};
 use std::alloc::Global;
 use std::io::{Read, Write};
 use step_trace::{ProcSet, Trace};

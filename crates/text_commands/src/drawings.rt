@@ -6,9 +6,9 @@ ghost use Rattle.text_commands.specs.Drawings.{AreNamesFor, IsDrawable, IsDrawin
 ghost use Rattle.text_commands.specs.Serving.{HasServed, IsAtEnd, IsFaultOf, IsReadFault, IsUnserved, IsWriteFault, WasFaultless, faults_of, inner_of, is_flushed};
 
 use crate::checks::trace_within;
-use crate::faults::{Fault, PictureOption};
 use crate::report_parts::report_of;
 use crate::serving::{Answer, serve};
+use command_faults::{Fault, PictureOption};
 use run_picture::{
     NamesError, Picture, Window, WindowError, names_of, picture_of, svg_text, window_of,
 };

@@ -1,12 +1,12 @@
-//! The lines in which it is told how a log was read, and what helps where it is refused.
+//! The lines in which it is told how a log was read.
 
 ghost use Rattle.std.specs.Prelude.{◌≡◌, IfOk, length, string_bytes};
-ghost use Rattle.text_commands.specs.ImportLines.{hint_line, node_lines, notes_of};
+ghost use Rattle.text_commands.specs.ImportLines.{node_lines, notes_of};
 
-use event_log::{Import, LogError, NameSet, Options, printed};
+use event_log::{Import, NameSet, Options, printed};
 use std::alloc::{AllocError, Global};
 use std::fmt;
-use timed_events::{Hint, Moved};
+use timed_events::Moved;
 
 /// What is told of a log that was read as a trace: which processor each node is, where the nodes weren't listed; and how far
 /// events went, where they might.
@@ -92,54 +92,5 @@ impl fmt::Display for MovedLine {
             "synchrony: {} of {} events moved, by at most {} ticks",
             self.moved.events, self.count, self.moved.ticks
         )
-    }
-}
-
-/// What stands before the reason of a refused log: nothing where it begins with an option that doesn't fit.
-#[derive(Clone, Copy)]
-pub(crate) struct LogLead<'a>(pub(crate) &'a LogError);
-
-impl fmt::Display for LogLead<'_> {
-    ghost use Rattle.std.specs.Prelude.{Some};
-    ghost use Rattle.text_commands.specs.ImportLines.{log_lead};
-
-    ghost output = { λ lead. Some (log_lead lead.0.now) };
-
-    fn fmt<W: fmt::Write>(&self, f: &mut fmt::Formatter<W>) -> fmt::Result {
-        match self.0 {
-            LogError::TickUnfit | LogError::UntilUnfit => f.write_str(""),
-            _ => f.write_str("log: "),
-        }
-    }
-}
-
-/// What helps where a log is refused, after a line feed; nothing where nothing does.
-#[derive(Clone, Copy)]
-pub(crate) struct HelpLine<'a>(pub(crate) &'a LogError);
-
-impl fmt::Display for HelpLine<'_> {
-    ghost use Rattle.std.specs.Prelude.{Some};
-    ghost use Rattle.text_commands.specs.ImportLines.{help_line};
-
-    ghost output = { λ line. Some (help_line line.0.now) };
-
-    fn fmt<W: fmt::Write>(&self, f: &mut fmt::Formatter<W>) -> fmt::Result {
-        match self.0 {
-            LogError::TooManyTicks => f.write_str("\nsynchrony: a greater --tick makes fewer"),
-            LogError::NotLater(_, _, hint) => f.write_str(hint_line(*hint)),
-            LogError::SecondEvent(_, _, _, hint) => f.write_str(hint_line(*hint)),
-            _ => f.write_str(""),
-        }
-    }
-}
-
-/// A line of what helps, after a line feed.
-fn hint_line(hint: Option<Hint>) -> &'static str
-    ensures { result.now ≡ hint_line hint }
-{
-    match hint {
-        None => "",
-        Some(Hint::ShorterTick) => "\nsynchrony: a shorter --tick sets them apart",
-        Some(Hint::Spread) => "\nsynchrony: --spread sets them apart",
     }
 }

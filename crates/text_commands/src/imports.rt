@@ -6,9 +6,9 @@ ghost use Rattle.event_log.specs.Options.{AreOptions};
 ghost use Rattle.text_commands.specs.Imports.{IsFaultOfImport, IsImportOptionFault, IsImportTold, IsQuietFault, IsUnimported, IsUnreadLog, WentOut};
 ghost use Rattle.text_commands.specs.Serving.{HasServed, IsAtEnd, IsReadFault, IsUnserved, IsWriteFault, WasFaultless, faults_of, inner_of, is_flushed};
 
-use crate::faults::Fault;
 use crate::import_lines::notes_text;
 use crate::upgrades::text_2_of;
+use command_faults::Fault;
 use event_log::{Import, LogError, Options, read_log, read_options};
 use std::alloc::Global;
 use std::io::{Read, Write};

@@ -4,7 +4,7 @@ ghost use Rattle.std.specs.Prelude.{IfOk, IfErr};
 ghost use Rattle.text_commands.specs.Inputs.{IsTraceFault};
 ghost use Rattle.text_report.specs.Texts.{IsTextOf};
 
-use crate::faults::Fault;
+use command_faults::Fault;
 use std::alloc::Global;
 use step_trace::Trace;
 use trace_text::read_trace;

@@ -5,10 +5,10 @@ ghost use Rattle.step_buffers.specs.Runs.{IsRun};
 ghost use Rattle.text_commands.specs.Replays.{IsReplayOf, IsTextOfSteps, IsUnreplayed, replay_kinds};
 ghost use Rattle.text_commands.specs.Serving.{HasServed, IsAtEnd, IsFaultOf, IsReadFault, IsUnserved, IsWriteFault, WasFaultless, faults_of, inner_of, is_flushed};
 
-use crate::faults::Fault;
 use crate::inputs::trace_of;
 use crate::replay_texts::replay_text_of;
 use crate::serving::{Answer, serve};
+use command_faults::Fault;
 use std::alloc::Global;
 use std::io::{Read, Write};
 use step_buffers::{World, replay};

@@ -9,8 +9,8 @@ ghost use Rattle.text_commands.specs.ReportParts.{IsAtFault, IsPartOfReport, IsP
 ghost use Rattle.text_commands.specs.Serving.{HasServed, IsAtEnd, IsFaultOf, IsReadFault, IsUnserved, IsWriteFault, WasFaultless, faults_of, inner_of, is_flushed};
 
 use crate::checks::trace_within;
-use crate::faults::{Fault, ReportOption};
 use crate::serving::{Answer, serve};
+use command_faults::{Fault, ReportOption};
 use front::{Report, front, report_text_of};
 use std::alloc::{AllocError, Global};
 use std::io::{Read, Write};

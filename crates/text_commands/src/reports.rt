@@ -1,6 +1,6 @@
 //! The report of a trace text, from a reader to a writer.
 
-ghost use Rattle.std.specs.Prelude.{◌≡◌, ◌≢◌, ◌≤◌, OnOk, IfOk, IfErr, IsTrue, MatchResult};
+ghost use Rattle.std.specs.Prelude.{◌≡◌, ◌≢◌, ◌≤◌, OnOk, IfOk, IfErr, IsTrue};
 ghost use Rattle.step_trace.specs.Fronts.{IsReport};
 ghost use Rattle.step_trace.specs.Processors.{IsWithin};
 ghost use Rattle.chunk_join.specs.declared.analyses.TheConstants.{MAX_WORKERS};
@@ -8,8 +8,8 @@ ghost use Rattle.text_commands.specs.Reports.{IsFaultFor, IsFaultOfWorkers, IsUn
 ghost use Rattle.text_commands.specs.Serving.{HasServed, IsAtEnd, IsFaultOf, IsReadFault, IsUnserved, IsWriteFault, WasFaultless, faults_of, inner_of, is_flushed};
 ghost use Rattle.text_report.specs.Reports.{IsReportOf};
 
-use crate::faults::Fault;
 use chunk_join::{AnalyseError, analyse};
+use command_faults::{Fault, test_set};
 use front::{Report, front, write_report};
 use shared_reading::read_trace_from;
 use std::alloc::Global;
@@ -104,16 +104,5 @@ fn unanalysed(why: AnalyseError) -> Fault
         AnalyseError::Held | AnalyseError::Start => Fault::Threads,
         AnalyseError::Memory => Fault::Memory,
         AnalyseError::BadWorkers => unreachable!(),
-    }
-}
-
-/// Refuses a set that has a member above `n`, and no other.
-pub fn test_set(set: ProcSet, n: u64) -> Result<(), Fault>
-    ensures { MatchResult result (λ _. IsWithin set n) (λ why. (why ≡ Fault.Set) × (¬ IsWithin set n)) }
-{
-    if set.within(n) {
-        Ok(())
-    } else {
-        Err(Fault::Set)
     }
 }

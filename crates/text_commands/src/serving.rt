@@ -1,10 +1,10 @@
 //! Commands that make one text of another, from a reader to a writer.
 
 ghost use Rattle.std.specs.Prelude.{◌≡◌, ℕ, List, OnOk, IfOk, IfErr, IsTrue};
-ghost use Rattle.text_commands.specs.declared.faults.Fault.{Fault};
+ghost use Rattle.command_faults.specs.declared.faults.Fault.{Fault};
 ghost use Rattle.text_commands.specs.Serving.{HasServed, IsAtEnd, IsFaultOf, IsReadFault, IsRefusal, IsUnserved, IsWriteFault, Kinds, WasFaultless, faults_of, inner_of, is_flushed};
 
-use crate::faults::Fault;
+use command_faults::Fault;
 use std::alloc::Global;
 use std::io::{Read, Write};
 use trace_text::{Counting, read_all, write_text};

@@ -4,12 +4,11 @@ ghost use Rattle.std.specs.Prelude.{OnOk, IfErr, IsTrue};
 ghost use Rattle.std.specs.Io.KnownBytes.{Appends};
 ghost use Rattle.trace_text.specs.ByteLoops.{WasFaultless};
 ghost use Rattle.trace_text.specs.Faults.{inner_of, is_flushed};
-ghost use Rattle.text_commands.specs.Printing.{IsUntold, IsWriteFault};
+ghost use Rattle.command_faults.specs.Printing.{IsUntold, IsWriteFault};
 ghost use Rattle.text_report.specs.VerdictLines.{told_verdict};
 
-use crate::faults::Fault;
-use crate::printing::print;
 use certificate_checker::Verdict;
+use command_faults::{Fault, print};
 use std::alloc::Global;
 use std::io::Write;
 use text_report::verdict_text;

@@ -1,13 +1,13 @@
 //! A command as a row of a table, and what is looked at when it has ended.
 
 use chunk_join::MAX_WORKERS;
+use command_faults::{Fault, fault_text, status};
 use std::alloc::{AllocError, Global};
 use std::sync::Wait;
 use std::thread::Threads;
 use step_trace::{Gate, OpenGate, ProcSet};
 use text_commands::{
-    Fault, ReportPart, fault_text, run_check, run_replay, run_report, run_report_part, run_upgrade,
-    status, verdict_status,
+    ReportPart, run_check, run_replay, run_report, run_report_part, run_upgrade, verdict_status,
 };
 use trace_text::Counting;
 use trace_text::failing_devices::{AfterBytes, FailingReader, FailingWriter};

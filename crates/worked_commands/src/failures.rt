@@ -2,6 +2,7 @@
 
 use crate::commands::Command::{Check, Part, Replay, Report, Upgrade};
 use crate::commands::{Command, Cut, Input, WHOLE, ended, has_refused, whole};
+use command_faults::{Fault, status};
 use std::alloc::{AllocError, Global};
 use std::io::ErrorKind;
 use std::sync::Wait;
@@ -11,7 +12,6 @@ use test_support::texts::{
     DECIDES_SEVEN, DECIDES_SEVEN_REPLAY, NEVER_DELIVERED, NEVER_DELIVERED_REPORT, ONE_MISS,
     ONE_MISS_REPORT, ONE_MISS_UPGRADE,
 };
-use text_commands::{Fault, status};
 use trace_text::failing_devices::{AfterBytes, FailingWriter, WriteFailure};
 
 /// The kinds of faults that devices answer.

@@ -1,10 +1,11 @@
 //! What an import of a log writes and tells, on worked logs.
 
+use command_faults::{Fault, fault_text, status};
 use event_log::Options;
 use std::alloc::{AllocError, Global};
 use std::io::ErrorKind;
 use std::test::Fail;
-use text_commands::{Fault, fault_text, import_options, run_import, status};
+use text_commands::{import_options, run_import};
 use trace_text::Counting;
 use trace_text::failing_devices::{AfterBytes, FailingReader, FailingWriter, WriteFailure};
 

@@ -1,11 +1,12 @@
 //! What an import refuses before it has a whole log.
 
 use crate::commands::Cut;
+use command_faults::{fault_text, status};
 use event_log::{Options, Width};
 use std::alloc::{AllocError, Global};
 use std::io::ErrorKind;
 use std::test::Fail;
-use text_commands::{fault_text, run_import, status};
+use text_commands::run_import;
 use trace_text::Counting;
 use trace_text::failing_devices::{AfterBytes, FailingReader, FailingWriter, WriteFailure};
 

@@ -1,9 +1,9 @@
 //! The lines and the statuses of refused logs, and of options by which none is read.
 
+use command_faults::{Fault, ImportOption, fault_text, status, told_line};
 use event_log::{Column, LogError, Name, OptionError};
 use std::alloc::{AllocError, Global};
 use std::test::Fail;
-use text_commands::{Fault, ImportOption, fault_text, status, told_line};
 use timed_events::Hint;
 
 /// Why a log is refused: record 4 where it is for one, whose message is m2 and whose nodes are a and b.

@@ -2,6 +2,7 @@
 
 use crate::commands::{reported, whole};
 use crate::traces::{LATE, LATE_REPORT, SHARED_TICKS, SHARED_TICKS_REPORT};
+use command_faults::status;
 use std::alloc::{AllocError, Global};
 use std::sync::Wait;
 use std::test::Fail;
@@ -10,7 +11,6 @@ use step_trace::meeting::MeetingGate;
 use step_trace::{Gate, OpenGate};
 use test_support::report_text;
 use test_support::texts::{NEVER_DELIVERED, NEVER_DELIVERED_REPORT, ONE_MISS, ONE_MISS_REPORT};
-use text_commands::status;
 use trace_text::failing_devices::{FailingWriter, WriteFailure};
 
 /// A gate that lets in everybody but 2.

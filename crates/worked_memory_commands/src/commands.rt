@@ -1,6 +1,7 @@
 //! The commands that make text of text.
 
 use chunk_join::MAX_WORKERS;
+use command_faults::Fault;
 use refused_growths::{Outcome, Refusal, judged};
 use std::alloc::{AllocError, Global};
 use std::sync::Wait;
@@ -11,8 +12,8 @@ use test_support::texts::{
     ONE_MISS_UPGRADE, SMALL_PHI, UNTIL_THREE_AT_TWO,
 };
 use text_commands::{
-    Drawing, Fault, ReportPart, import_options, run_check, run_draw, run_import, run_replay,
-    run_report, run_report_part, run_upgrade,
+    Drawing, ReportPart, import_options, run_check, run_draw, run_import, run_replay, run_report,
+    run_report_part, run_upgrade,
 };
 use trace_text::Counting;
 

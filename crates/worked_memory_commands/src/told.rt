@@ -1,10 +1,10 @@
 //! The lines in which faults are told, and the texts that they have.
 
+use command_faults::{Fault, told_line};
 use front::ReportError;
 use refused_growths::{Call, Outcome, Refusal, first_wrong, judged};
 use std::alloc::{AllocError, Global};
 use step_trace::PushError;
-use text_commands::{Fault, told_line};
 use trace_text::TextError;
 
 /// A fault, and its text.

@@ -1,6 +1,6 @@
 //! Want of memory in runs of Algorithm 1 (section 3 of Dwork, Lynch and Stockmeyer, "Consensus in the Presence of
-//! Partial Synchrony", 1988): each call of nodes, tables, Worlds and recorders is made again and again, with its first
-//! growth of memory refused, then its second, and so on.
+//! Partial Synchrony", 1988): each call of nodes, tables, Worlds and recorders, and each run of all of them on threads,
+//! is made again and again, with its first growth of memory refused, then its second, and so on.
 #![tactic(auto)]
 
 #[cfg(test)]
@@ -19,6 +19,8 @@ mod record_tests;
 mod recorders;
 #[cfg(test)]
 mod round_tests;
+#[cfg(test)]
+mod run_tests;
 #[cfg(test)]
 mod scripts;
 #[cfg(test)]

@@ -1,0 +1,51 @@
+-- The lines in which faults are told (docs/FORMATS.md), without their line feeds.
+use Rattle.std.specs.Prelude.{ℕ, ◌-◌, List, [], ◌∷◌, ◌++◌, length, ◌==◌, if◌then◌else◌, slice_index, codes, decimal, string_bytes}
+use Rattle.text_report.specs.RefusalWords.{certificate_words, trace_words}
+use Rattle.event_log.specs.RefusalTexts.{log_error_text}
+use Rattle.command_faults.specs.declared.faults.Fault.{Fault}
+use Rattle.command_faults.specs.declared.faults.Fault.TheVariants as fault
+use Rattle.command_faults.specs.declared.faults.PictureOption.{PictureOption}
+use Rattle.command_faults.specs.declared.faults.PictureOption.TheVariants as option
+use Rattle.command_faults.specs.declared.faults.ReportOption.{ReportOption}
+use Rattle.command_faults.specs.declared.faults.ReportOption.TheVariants as report_option
+use Rattle.command_faults.specs.declared.faults.ImportOption.{ImportOption}
+use Rattle.command_faults.specs.declared.faults.ImportOption.TheVariants as import_option
+use Rattle.command_faults.specs.LogFaultLines.{help_line, log_lead}
+
+-- an option of a picture, as the command line has it
+abbrev pub option_words : PictureOption → List ℕ
+option_words option.Names = codes "--names"
+option_words option.From = codes "--from"
+option_words option.To = codes "--to"
+
+-- an option of a part of a report, likewise
+abbrev pub report_option_words : ReportOption → List ℕ
+report_option_words report_option.Until = codes "--until"
+report_option_words report_option.At = codes "--at"
+
+-- an option of a log, likewise
+abbrev pub import_option_words : ImportOption → List ℕ
+import_option_words import_option.Nodes = codes "--nodes"
+import_option_words import_option.Tick = codes "--tick"
+import_option_words import_option.Until = codes "--until"
+
+-- the line of a fault; that of a refused command line is in its reader's words, and that of a refused log may have one
+-- more line, of what helps
+abbrev pub fault_line : Fault → List ℕ
+fault_line (fault.Command words) = string_bytes words
+fault_line fault.Set = codes "synchrony: no such processor in --correct"
+fault_line (fault.Trace reason) = codes "synchrony: trace: " ++ trace_words reason
+fault_line (fault.Certificate reason) = codes "synchrony: certificate: " ++ certificate_words reason
+fault_line fault.Memory = codes "synchrony: out of memory"
+fault_line fault.Read = codes "synchrony: cannot read"
+fault_line (fault.Write written) = codes "synchrony: cannot write"
+fault_line (fault.NotARun number) = codes "synchrony: not a run: step " ++ decimal number
+fault_line fault.Threads = codes "synchrony: worker not started or held"
+fault_line (fault.Picture option) = codes "synchrony: bad " ++ option_words option
+fault_line (fault.Report option) = codes "synchrony: bad " ++ report_option_words option
+fault_line (fault.Log reason) = codes "synchrony: " ++ (log_lead reason ++ (log_error_text reason ++ help_line reason))
+fault_line (fault.Import option) = codes "synchrony: bad " ++ import_option_words option
+
+-- the text with a line feed at its end, where it has none there
+abbrev pub ended_line : List ℕ → List ℕ
+ended_line text = if slice_index text (length text - 1) == 10 then text else text ++ 10 ∷ []

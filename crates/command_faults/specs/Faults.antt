@@ -1,0 +1,80 @@
+-- The faults that end the program.
+use Rattle.std.specs.Prelude.{ℕ}
+use Rattle.std.specs.declared.io.ErrorKind.{ErrorKind}
+use Rattle.std.specs.declared.io.ErrorKind.TheVariants.{OutOfMemory}
+use Rattle.trace_text.specs.declared.refusals.TextError.{TextError}
+use Rattle.trace_text.specs.declared.refusals.TextError.TheVariants as why
+use Rattle.trace_text.specs.declared.refusals.WriteError.{WriteError}
+use Rattle.trace_text.specs.declared.refusals.WriteError.TheVariants as unwritten
+use Rattle.step_buffers.specs.declared.replays.ReplayError.{ReplayError}
+use Rattle.step_buffers.specs.declared.replays.ReplayError.TheVariants as unreplayed
+use Rattle.front.specs.declared.refusals.ReportError.{ReportError}
+use Rattle.front.specs.declared.refusals.ReportError.TheVariants as uncertified
+use Rattle.event_log.specs.declared.options.OptionError.{OptionError}
+use Rattle.event_log.specs.declared.options.OptionError.TheVariants as no_options
+use Rattle.event_log.specs.declared.refusals.LogError.{LogError}
+use Rattle.event_log.specs.declared.refusals.LogError.TheVariants as no_log
+use Rattle.command_faults.specs.declared.faults.Fault.{Fault}
+use Rattle.command_faults.specs.declared.faults.Fault.TheVariants as fault
+use Rattle.command_faults.specs.declared.faults.ImportOption.TheVariants as option
+
+-- the exit status of a refused log: that of the command line, where an option doesn't fit the times
+abbrev pub status_of_log : LogError → ℕ
+status_of_log no_log.TickUnfit = 2
+status_of_log no_log.UntilUnfit = 2
+status_of_log e = 3
+
+-- the exit status of each fault
+abbrev pub status_of : Fault → ℕ
+status_of (fault.Command text) = 2
+status_of fault.Set = 2
+status_of (fault.Trace e) = 3
+status_of (fault.Certificate e) = 4
+status_of fault.Memory = 5
+status_of fault.Read = 6
+status_of (fault.Write written) = 6
+status_of (fault.NotARun number) = 7
+status_of fault.Threads = 8
+status_of (fault.Picture option) = 2
+status_of (fault.Report option) = 2
+status_of (fault.Log e) = status_of_log e
+status_of (fault.Import option) = 2
+
+-- the fault that a refusal of a text is: want of memory and a failed read are faults of their own
+abbrev pub fault_of_text : TextError → Fault
+fault_of_text why.Read = fault.Read
+fault_of_text why.Memory = fault.Memory
+fault_of_text e = fault.Trace e
+
+-- the fault that a refusal of a certificate is, likewise
+abbrev pub fault_of_certificate : ReportError → Fault
+fault_of_certificate uncertified.Read = fault.Read
+fault_of_certificate uncertified.Memory = fault.Memory
+fault_of_certificate e = fault.Certificate e
+
+-- the fault that a trace which wasn't replayed is
+abbrev pub fault_of_replay : ReplayError → Fault
+fault_of_replay (unreplayed.NotARun number) = fault.NotARun number
+fault_of_replay unreplayed.Memory = fault.Memory
+
+-- the fault that a refusal of a log is, likewise
+abbrev pub fault_of_log : LogError → Fault
+fault_of_log no_log.Memory = fault.Memory
+fault_of_log e = fault.Log e
+
+-- the fault that options of a log which aren't told are
+abbrev pub fault_of_options : OptionError → Fault
+fault_of_options no_options.Nodes = fault.Import option.Nodes
+fault_of_options no_options.Tick = fault.Import option.Tick
+fault_of_options no_options.Until = fault.Import option.Until
+fault_of_options no_options.Memory = fault.Memory
+
+-- the fault that a text which wasn't written whole is
+abbrev pub fault_of_write : WriteError → Fault
+fault_of_write (unwritten.Write written) = fault.Write written
+fault_of_write unwritten.Memory = fault.Memory
+
+-- the fault that a file which can't be opened is, by the kind of the error
+abbrev pub fault_of_opening : ErrorKind → Fault
+fault_of_opening OutOfMemory = fault.Memory
+fault_of_opening kind = fault.Read

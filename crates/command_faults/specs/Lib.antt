@@ -1,0 +1,4 @@
+pub mod Faults
+pub mod LogFaultLines
+pub mod FaultLines
+pub mod Printing

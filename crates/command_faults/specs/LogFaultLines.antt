@@ -1,0 +1,25 @@
+-- What the line of a refused log has beside the words of the refusal.
+use Rattle.std.specs.Prelude.{ℕ, List, [], ◌∷◌, codes, Option, Some, None}
+use Rattle.timed_events.specs.declared.events.Hint.{Hint}
+use Rattle.timed_events.specs.declared.events.Hint.TheVariants.{ShorterTick, Spread}
+use Rattle.event_log.specs.declared.refusals.LogError.{LogError}
+use Rattle.event_log.specs.declared.refusals.LogError.TheVariants.{TickUnfit, UntilUnfit, TooManyTicks, NotLater, SecondEvent}
+
+-- what stands before the reason of a refused log: nothing where it begins with an option that doesn't fit
+abbrev pub log_lead : LogError → List ℕ
+log_lead TickUnfit = []
+log_lead UntilUnfit = []
+log_lead why = codes "log: "
+
+-- a line of what helps, with the line feed before it
+abbrev pub hint_line : Option Hint → List ℕ
+hint_line None = []
+hint_line (Some ShorterTick) = 10 ∷ codes "synchrony: a shorter --tick sets them apart"
+hint_line (Some Spread) = 10 ∷ codes "synchrony: --spread sets them apart"
+
+-- the same for a refused log; nothing where nothing helps
+abbrev pub help_line : LogError → List ℕ
+help_line TooManyTicks = 10 ∷ codes "synchrony: a greater --tick makes fewer"
+help_line (NotLater number message hint) = hint_line hint
+help_line (SecondEvent number node tick hint) = hint_line hint
+help_line why = []

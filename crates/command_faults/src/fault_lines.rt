@@ -1,0 +1,103 @@
+//! The lines in which faults are told.
+
+ghost use Rattle.std.specs.Prelude.{◌≡◌, IfOk, string_bytes};
+ghost use Rattle.command_faults.specs.FaultLines.{fault_line, ended_line};
+
+use crate::faults::{Fault, ImportOption, PictureOption, ReportOption};
+use crate::log_fault_lines::{HelpLine, LogLead};
+use std::alloc::{AllocError, Global};
+use std::fmt;
+use text_report::{CertificateWords, TraceWords};
+
+/// The line of a fault without its line feed, with one more line where something helps; or the words of the command
+/// line's reader, which end in one.
+pub fn fault_text(alloc: Global, fault: &Fault) -> Result<String, AllocError>
+    ensures { IfOk result (λ text. string_bytes text ≡ fault_line fault.now) }
+{
+    fault.to_string(alloc)
+}
+
+/// The line of a fault, with one line feed at its end.
+pub fn told_line(alloc: Global, fault: &Fault) -> Result<String, AllocError>
+    ensures { IfOk result (λ line. string_bytes line ≡ ended_line (fault_line fault.now)) }
+{
+    let mut line = fault_text(alloc, fault)?;
+    if !line.as_str().ends_with('\n') {
+        line.push_str("\n")?;
+    }
+    Ok(line)
+}
+
+impl fmt::Display for Fault {
+    ghost use Rattle.std.specs.Prelude.{Some};
+    ghost use Rattle.command_faults.specs.FaultLines.{fault_line};
+
+    ghost output = { λ fault. Some (fault_line fault) };
+
+    fn fmt<W: fmt::Write>(&self, f: &mut fmt::Formatter<W>) -> fmt::Result {
+        match self {
+            Fault::Command(words) => f.write_str(words.as_str()),
+            Fault::Set => f.write_str("synchrony: no such processor in --correct"),
+            Fault::Trace(why) => write!(f, "synchrony: trace: {}", TraceWords(why)),
+            Fault::Certificate(why) => {
+                write!(f, "synchrony: certificate: {}", CertificateWords(why))
+            }
+            Fault::Memory => f.write_str("synchrony: out of memory"),
+            Fault::Read => f.write_str("synchrony: cannot read"),
+            Fault::Write(_) => f.write_str("synchrony: cannot write"),
+            Fault::NotARun(no) => write!(f, "synchrony: not a run: step {no}"),
+            Fault::Threads => f.write_str("synchrony: worker not started or held"),
+            Fault::Picture(option) => write!(f, "synchrony: bad {option}"),
+            Fault::Report(option) => write!(f, "synchrony: bad {option}"),
+            Fault::Log(why) => write!(f, "synchrony: {}{why}{}", LogLead(why), HelpLine(why)),
+            Fault::Import(option) => write!(f, "synchrony: bad {option}"),
+        }
+    }
+}
+
+/// The option, as the command line has it.
+impl fmt::Display for PictureOption {
+    ghost use Rattle.std.specs.Prelude.{Some};
+    ghost use Rattle.command_faults.specs.FaultLines.{option_words};
+
+    ghost output = { λ option. Some (option_words option) };
+
+    fn fmt<W: fmt::Write>(&self, f: &mut fmt::Formatter<W>) -> fmt::Result {
+        match self {
+            PictureOption::Names => f.write_str("--names"),
+            PictureOption::From => f.write_str("--from"),
+            PictureOption::To => f.write_str("--to"),
+        }
+    }
+}
+
+/// The option, as the command line has it.
+impl fmt::Display for ReportOption {
+    ghost use Rattle.std.specs.Prelude.{Some};
+    ghost use Rattle.command_faults.specs.FaultLines.{report_option_words};
+
+    ghost output = { λ option. Some (report_option_words option) };
+
+    fn fmt<W: fmt::Write>(&self, f: &mut fmt::Formatter<W>) -> fmt::Result {
+        match self {
+            ReportOption::Until => f.write_str("--until"),
+            ReportOption::At => f.write_str("--at"),
+        }
+    }
+}
+
+/// The option, as the command line has it.
+impl fmt::Display for ImportOption {
+    ghost use Rattle.std.specs.Prelude.{Some};
+    ghost use Rattle.command_faults.specs.FaultLines.{import_option_words};
+
+    ghost output = { λ option. Some (import_option_words option) };
+
+    fn fmt<W: fmt::Write>(&self, f: &mut fmt::Formatter<W>) -> fmt::Result {
+        match self {
+            ImportOption::Nodes => f.write_str("--nodes"),
+            ImportOption::Tick => f.write_str("--tick"),
+            ImportOption::Until => f.write_str("--until"),
+        }
+    }
+}

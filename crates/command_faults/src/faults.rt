@@ -1,0 +1,195 @@
+//! Why a command stops, and the exit status that each reason has.
+
+ghost use Rattle.std.specs.Prelude.{◌≡◌};
+ghost use Rattle.std.specs.IoError.{error_kind};
+ghost use Rattle.command_faults.specs.Faults.{status_of, fault_of_opening};
+
+use event_log::{LogError, OptionError};
+use front::ReportError;
+use std::alloc::AllocError;
+use std::io;
+use step_buffers::ReplayError;
+use trace_text::{TextError, WriteError};
+
+/// Why the program stops before it is done.
+#[derive(Debug, Drop)]
+pub enum Fault {
+    /// The command line is refused, in these words.
+    Command(String),
+    /// The set of correct processors has a member that the trace hasn't.
+    Set,
+    /// The trace text is refused. `Read` and `Memory` are faults of their own.
+    Trace(TextError),
+    /// The certificate is refused. `Read` and `Memory` are faults of their own.
+    Certificate(ReportError),
+    /// There was no memory.
+    Memory,
+    /// The input can't be opened or read.
+    Read,
+    /// The output can't be written; so many bytes of it went out before.
+    Write(u64),
+    /// The trace is no run of the algorithm: the step of this number is the first that isn't.
+    NotARun(u64),
+    /// A thread wasn't started, or was held back.
+    Threads,
+    /// There is no picture of the trace for what this option says.
+    Picture(PictureOption),
+    /// The trace hasn't the tick that this option says.
+    Report(ReportOption),
+    /// The log is refused, or an option doesn't fit its times. `Memory` is a fault of its own.
+    Log(LogError),
+    /// What this option says tells no way to read a log.
+    Import(ImportOption),
+}
+
+/// An option that a picture is asked for with.
+#[derive(Clone, Copy, Debug, PartialEq, Eq)]
+pub enum PictureOption {
+    /// The names of the processors.
+    Names,
+    /// The first tick to draw.
+    From,
+    /// The last tick to draw.
+    To,
+}
+
+/// An option that a part of a report is asked for with.
+#[derive(Clone, Copy, Debug, PartialEq, Eq)]
+pub enum ReportOption {
+    /// The tick up to which the trace is reported.
+    Until,
+    /// The tick whose row is printed.
+    At,
+}
+
+/// An option by which a log is read.
+#[derive(Clone, Copy, Debug, PartialEq, Eq)]
+pub enum ImportOption {
+    /// The nodes.
+    Nodes,
+    /// The length of a tick.
+    Tick,
+    /// When the log ends.
+    Until,
+}
+
+impl std::error::Error for Fault {}
+
+impl From<AllocError> for Fault {
+    ghost use Rattle.command_faults.specs.declared.faults.Fault.TheVariants as fault;
+
+    ghost from_gives = { λ _ made. made ≡ fault.Memory };
+
+    fn from(_error: AllocError) -> Fault {
+        Fault::Memory
+    }
+}
+
+impl From<TextError> for Fault {
+    ghost use Rattle.command_faults.specs.Faults.{fault_of_text};
+
+    ghost from_gives = { λ why made. made ≡ fault_of_text why };
+
+    fn from(why: TextError) -> Fault {
+        match why {
+            TextError::Read => Fault::Read,
+            TextError::Memory => Fault::Memory,
+            why => Fault::Trace(why),
+        }
+    }
+}
+
+impl From<ReportError> for Fault {
+    ghost use Rattle.command_faults.specs.Faults.{fault_of_certificate};
+
+    ghost from_gives = { λ why made. made ≡ fault_of_certificate why };
+
+    fn from(why: ReportError) -> Fault {
+        match why {
+            ReportError::Read => Fault::Read,
+            ReportError::Memory => Fault::Memory,
+            why => Fault::Certificate(why),
+        }
+    }
+}
+
+impl From<ReplayError> for Fault {
+    ghost use Rattle.command_faults.specs.Faults.{fault_of_replay};
+
+    ghost from_gives = { λ why made. made ≡ fault_of_replay why };
+
+    fn from(why: ReplayError) -> Fault {
+        match why {
+            ReplayError::NotARun(no) => Fault::NotARun(no),
+            ReplayError::Memory => Fault::Memory,
+        }
+    }
+}
+
+impl From<LogError> for Fault {
+    ghost use Rattle.command_faults.specs.Faults.{fault_of_log};
+
+    ghost from_gives = { λ why made. made ≡ fault_of_log why };
+
+    fn from(why: LogError) -> Fault {
+        match why {
+            LogError::Memory => Fault::Memory,
+            why => Fault::Log(why),
+        }
+    }
+}
+
+impl From<OptionError> for Fault {
+    ghost use Rattle.command_faults.specs.Faults.{fault_of_options};
+
+    ghost from_gives = { λ why made. made ≡ fault_of_options why };
+
+    fn from(why: OptionError) -> Fault {
+        match why {
+            OptionError::Nodes => Fault::Import(ImportOption::Nodes),
+            OptionError::Tick => Fault::Import(ImportOption::Tick),
+            OptionError::Until => Fault::Import(ImportOption::Until),
+            OptionError::Memory => Fault::Memory,
+        }
+    }
+}
+
+impl From<WriteError> for Fault {
+    ghost use Rattle.command_faults.specs.Faults.{fault_of_write};
+
+    ghost from_gives = { λ why made. made ≡ fault_of_write why };
+
+    fn from(why: WriteError) -> Fault {
+        match why {
+            WriteError::Write(written) => Fault::Write(written),
+            WriteError::Memory => Fault::Memory,
+        }
+    }
+}
+
+/// The fault of a file that can't be opened.
+pub fn unopened(error: io::Error) -> Fault
+    ensures { result ≡ fault_of_opening (error_kind error) }
+{
+    match error.kind() {
+        io::ErrorKind::OutOfMemory => Fault::Memory,
+        _ => Fault::Read,
+    }
+}
+
+/// The exit status that the program ends with. Takes no memory.
+pub fn status(fault: &Fault) -> u8
+    ensures { result ≡ status_of fault.now }
+{
+    match fault {
+        Fault::Command(_) | Fault::Set => 2,
+        Fault::Picture(_) | Fault::Report(_) | Fault::Import(_) => 2,
+        Fault::Log(LogError::TickUnfit | LogError::UntilUnfit) => 2,
+        Fault::Trace(_) | Fault::Log(_) => 3,
+        Fault::Certificate(_) => 4,
+        Fault::Memory => 5,
+        Fault::Read | Fault::Write(_) => 6,
+        Fault::NotARun(_) => 7,
+        Fault::Threads => 8,
+    }
+}

@@ -1,0 +1,14 @@
+//! Why a command stops: the faults, the line that tells each and the exit status that it has; and how a text is printed.
+//! `specs/` has the definitions that the contracts cite.
+#![tactic(auto)]
+
+mod fault_lines;
+mod faults;
+mod log_fault_lines;
+mod printing;
+mod sets;
+
+pub use fault_lines::{fault_text, told_line};
+pub use faults::{Fault, ImportOption, PictureOption, ReportOption, status, unopened};
+pub use printing::{print, tell};
+pub use sets::test_set;

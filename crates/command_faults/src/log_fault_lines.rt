@@ -1,0 +1,57 @@
+//! What the line of a refused log has beside the words of the refusal: what stands before them, and what helps.
+
+ghost use Rattle.std.specs.Prelude.{◌≡◌};
+ghost use Rattle.command_faults.specs.LogFaultLines.{hint_line};
+
+use event_log::LogError;
+use std::fmt;
+use timed_events::Hint;
+
+/// What stands before the reason of a refused log: nothing where it begins with an option that doesn't fit.
+#[derive(Clone, Copy)]
+pub(crate) struct LogLead<'a>(pub(crate) &'a LogError);
+
+impl fmt::Display for LogLead<'_> {
+    ghost use Rattle.std.specs.Prelude.{Some};
+    ghost use Rattle.command_faults.specs.LogFaultLines.{log_lead};
+
+    ghost output = { λ lead. Some (log_lead lead.0.now) };
+
+    fn fmt<W: fmt::Write>(&self, f: &mut fmt::Formatter<W>) -> fmt::Result {
+        match self.0 {
+            LogError::TickUnfit | LogError::UntilUnfit => f.write_str(""),
+            _ => f.write_str("log: "),
+        }
+    }
+}
+
+/// What helps where a log is refused, after a line feed; nothing where nothing does.
+#[derive(Clone, Copy)]
+pub(crate) struct HelpLine<'a>(pub(crate) &'a LogError);
+
+impl fmt::Display for HelpLine<'_> {
+    ghost use Rattle.std.specs.Prelude.{Some};
+    ghost use Rattle.command_faults.specs.LogFaultLines.{help_line};
+
+    ghost output = { λ line. Some (help_line line.0.now) };
+
+    fn fmt<W: fmt::Write>(&self, f: &mut fmt::Formatter<W>) -> fmt::Result {
+        match self.0 {
+            LogError::TooManyTicks => f.write_str("\nsynchrony: a greater --tick makes fewer"),
+            LogError::NotLater(_, _, hint) => f.write_str(hint_line(*hint)),
+            LogError::SecondEvent(_, _, _, hint) => f.write_str(hint_line(*hint)),
+            _ => f.write_str(""),
+        }
+    }
+}
+
+/// A line of what helps, after a line feed.
+fn hint_line(hint: Option<Hint>) -> &'static str
+    ensures { result.now ≡ hint_line hint }
+{
+    match hint {
+        None => "",
+        Some(Hint::ShorterTick) => "\nsynchrony: a shorter --tick sets them apart",
+        Some(Hint::Spread) => "\nsynchrony: --spread sets them apart",
+    }
+}

@@ -1,0 +1,17 @@
+use Rattle.std.proofs.lemmas.Result.{err_from_is_err_and}
+use Rattle.node_runs.proofs.EvenRuns.{unwritten_run}
+use Rattle.node_runs.proofs.ToldLines.{followed_more}
+use Rattle.node_runs.proofs.runs.run_nodes.Goals as goal
+
+pub returns-in_err-write_trace-clause-part : goal.returns-in_err-write_trace-clause-part
+returns-in_err-write_trace-clause-part g c =
+    let p = err_from_is_err_and c.from_residual-in_err-write_trace.result c.from_residual-in_err-write_trace.ensures.1 in
+    rw (p.1, p.2) (unwritten_run c.args.config.now c.args.steps c.in_ok-world.world.trace _ _ _ _ c.in_ok-world.ensures.run c.trace.ensures.value
+    c.in_err-write_trace.ensures.part)
+
+pub returns-in_err-write_trace-clause-followed : goal.returns-in_err-write_trace-clause-followed
+returns-in_err-write_trace-clause-followed g c =
+    followed_more g.E.Write.contents c.args.config.now c.args.follower.now c.world_made.new.follower c.tell_whole.new.follower c.world_made.ensures.followed (c.tell_whole.ensures c.args.config.now c.in_ok-world.ensures.run.run)
+
+pub returns-clause-followed : goal.returns-clause-followed
+returns-clause-followed g c = followed_more g.E.Write.contents c.args.config.now c.args.follower.now c.world_made.new.follower c.tell_whole.new.follower c.world_made.ensures.followed (c.tell_whole.ensures c.args.config.now c.in_ok-world.ensures.run.run)

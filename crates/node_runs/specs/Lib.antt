@@ -1,0 +1,4 @@
+pub mod Standings
+pub mod StandingLines
+pub mod Followers
+pub mod Runs

@@ -1,0 +1,21 @@
+-- The lines in which one who follows a run tells how it stands (docs/FORMATS.md).
+use Rattle.std.specs.Prelude.{ℕ, List, [], ◌∷◌, ◌++◌, Option, Some, None, codes, decimal}
+use Rattle.node_runs.specs.declared.standings.LeastBounds.{LeastBounds}
+use Rattle.node_runs.specs.declared.standings.Standing.{Standing}
+
+-- two bounds, with the tick from which they hold
+abbrev pub bounds_words : LeastBounds → List ℕ
+bounds_words b = codes "delta " ++ (decimal b.delta ++ (codes ", phi " ++ (decimal b.phi ++ (codes " from tick " ++ decimal b.from))))
+
+-- the line of how a trace stands; one without a tick has no steps
+abbrev pub standing_line : Option Standing → List ℕ
+standing_line None = codes "synchrony: tick 0: no steps"
+standing_line (Some s) = codes "synchrony: tick " ++ (decimal s.tick ++ (codes ": " ++ (bounds_words s.whole ++ (codes "; " ++ bounds_words s.recent))))
+
+-- the same with its line feed
+abbrev pub told_standing : Option Standing → List ℕ
+told_standing s = standing_line s ++ 10 ∷ []
+
+-- the line that tells that no more is told, with its line feed
+abbrev pub told_stop : List ℕ
+told_stop = codes "synchrony: no longer followed: out of memory" ++ 10 ∷ []

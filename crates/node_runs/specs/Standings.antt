@@ -1,0 +1,31 @@
+-- How a trace stands at its last tick.
+use Rattle.std.specs.Prelude.{ℕ, ◌≡◌, ◌-◌, ◌≤◌, Option, Some, None, nat_le, if◌then◌else◌}
+use Rattle.step_trace.specs.Bounds.{IsDelta, IsPhi}
+use Rattle.step_trace.specs.Traces.{Recorded}
+use Rattle.node_runs.specs.declared.standings.LeastBounds.{LeastBounds}
+use Rattle.node_runs.specs.declared.standings.Standing.{Standing}
+use Rattle.node_runs.specs.declared.standings.TheConstants.{RECENT_TICKS}
+
+-- the least bounds of the trace from their tick on
+pub record AreLeastBounds (set : ℕ) (trace : Recorded) (bounds : LeastBounds) : Type 0 where
+  pub low : 1 ≤ bounds.from
+  pub high : bounds.from ≤ trace.last
+  pub delta : IsDelta set trace bounds.from bounds.delta
+  pub phi : IsPhi set trace bounds.from bounds.phi
+
+-- so many ticks before the last one, or 1 where there are no more
+abbrev pub recent_tick : ℕ → ℕ
+recent_tick last = if nat_le last RECENT_TICKS then 1 else last - RECENT_TICKS
+
+-- the last tick, and the least bounds from the first tick and from the recent one on
+pub record StandsSo (set : ℕ) (trace : Recorded) (s : Standing) : Type 0 where
+  pub tick : s.tick ≡ trace.last
+  pub first : s.whole.from ≡ 1
+  pub whole : AreLeastBounds set trace s.whole
+  pub since : s.recent.from ≡ recent_tick trace.last
+  pub recent : AreLeastBounds set trace s.recent
+
+-- how a trace stands, which is none where it has no tick
+abbrev pub IsStanding : ℕ → Recorded → Option Standing → Type 0
+IsStanding set trace None = trace.last ≡ 0
+IsStanding set trace (Some s) = StandsSo set trace s

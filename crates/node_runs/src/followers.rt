@@ -1,0 +1,218 @@
+//! Who follows a run while its threads step, and tells how synchronous they are so far.
+
+ghost use Rattle.std.specs.Prelude.{◌≡◌, ◌⊎◌, ◌↔◌, ◌-◌, ◌*◌, ◌<◌, length, IfOk, IfErr, IfSome, OnOk, IsTrue, Some};
+ghost use Rattle.std.specs.Io.KnownBytes.{Appends};
+ghost use Rattle.step_trace.specs.Processors.{IsWithin};
+ghost use Rattle.suffix_staircase.specs.Analysis.{AreLevels};
+ghost use Rattle.trace_text.specs.Faults.{inner_of};
+ghost use Rattle.command_faults.specs.Printing.{IsWriteFault};
+ghost use Rattle.node_runs.specs.Standings.{IsStanding};
+ghost use Rattle.node_runs.specs.StandingLines.{told_stop};
+ghost use Rattle.node_runs.specs.Followers.{HasBegun, HasTold, IsDue, IsLine, IsLineOf, IsSetRefusal};
+
+use crate::standing_lines::{tell_standing, tell_stop};
+use crate::standings::standing_of;
+use chunk_join::{Analyst, FeedError};
+use command_faults::{Fault, test_set};
+use locked_recorder::{PrefixError, Recorder, View};
+use std::alloc::{AllocError, Global};
+use std::io::Write;
+use std::sync::Wait;
+use std::sync::atomic::{AtomicBool, Ordering};
+use std::thread;
+use std::time::{Clock, Duration};
+use step_trace::{Config, ProcSet, Trace};
+use suffix_staircase::Stairs;
+use trace_text::Counting;
+
+/// Of a run whose steps are cut into so many equal portions, a line is due where one portion is new.
+const PORTIONS: u64 = 20;
+
+/// An analysis from scratch goes over so many steps while the analyst summarises one.
+const SUMMARISED: u64 = 40;
+
+/// How many milliseconds a follower sleeps before it asks again how many steps were made.
+const PAUSE: u64 = 1;
+
+/// One who follows a run, and tells how synchronous it is so far for the processors that count as correct.
+#[derive(Drop)]
+pub struct Follower<W> {
+    analyst: Analyst,
+    // How many steps the run is to have, and how many it had when it was told of last.
+    all: u64,
+    told: u64,
+    // How many steps the trace had that the analyst was fed last.
+    fed: u64,
+    // No more is told: there was no memory, or the writer failed.
+    is_over: bool,
+    writer: Counting<W>,
+}
+
+/// Who follows the run of a configuration for a set of processors, in which so many steps are to be made; nobody
+/// where there is no set. Where there is no memory for a follower it tells that, and nobody follows.
+///
+/// Refuses only Set, where a member is above the configuration's number of processors.
+pub fn follower_for<W: Write + Drop>(
+    alloc: Global,
+    config: &Config,
+    set: Option<ProcSet>,
+    all: u64,
+    writer: Counting<W>,
+) -> Result<Option<Follower<W>>, Fault>
+    ensures within { OnOk result (IfSome set (λ members. IsWithin members config.now.n)) }
+    ensures set { IfOk result (λ made. IfSome made (λ follower. set ≡ Some follower.analyst.set)) }
+    ensures refused { IfErr result (IsSetRefusal set config.now.n) }
+{
+    let Some(set) = set else {
+        return Ok(None);
+    };
+    test_set(set, config.n())?;
+    Ok(started(alloc, config, set, all, writer))
+}
+
+/// A follower who was shown nothing yet; none where there is no memory for it, which is told.
+fn started<W: Write + Drop>(
+    alloc: Global,
+    config: &Config,
+    set: ProcSet,
+    all: u64,
+    mut writer: Counting<W>,
+) -> Option<Follower<W>>
+    ensures { IfSome result (λ follower. follower.analyst.set ≡ set) }
+{
+    let Ok(config) = config.copy(alloc) else {
+        // Where that can't be told either, there is nobody left to tell.
+        let _ = tell_stop(&mut writer);
+        return None;
+    };
+    Some(Follower {
+        analyst: Analyst::new(alloc, config, set),
+        all,
+        told: 0,
+        fed: 0,
+        is_over: false,
+        writer,
+    })
+}
+
+impl<W: Write> Follower<W> {
+    /// Follows a recorder to which threads make steps, until `ended` says that all have ended, or no more is told.
+    pub(crate) fn follow<R: Wait + Clock>(
+        &mut self,
+        rt: &R,
+        alloc: Global,
+        recorder: &Recorder,
+        ended: &AtomicBool,
+    )
+        ensures set { self.new.analyst.set ≡ self.old.analyst.set }
+        ensures told { HasTold (IsLine recorder.now.config self.old.analyst.set) (W.contents (inner_of self.old.writer)) (W.contents (inner_of self.new.writer)) }
+    {
+        let mut view = recorder.view();
+        for _ in rt.forever() {
+            if self.is_over || ended.load(Ordering::SeqCst) {
+                return;
+            }
+            thread::sleep(rt, Duration::from_millis(PAUSE));
+            self.look(rt, alloc, recorder, &mut view);
+        }
+    }
+
+    /// Tells how a recorder's trace stands, where a line is due. The trace with all steps isn't told of: it is when the
+    /// run has ended.
+    fn look<R: Wait>(&mut self, rt: &R, alloc: Global, recorder: &Recorder, view: &mut View)
+        ensures set { self.new.analyst.set ≡ self.old.analyst.set }
+        ensures told { HasTold (IsLine recorder.now.config self.old.analyst.set) (W.contents (inner_of self.old.writer)) (W.contents (inner_of self.new.writer)) }
+    {
+        let Some(count) = recorder.step_count(rt) else {
+            return;
+        };
+        if !self.is_due(count) {
+            return;
+        }
+        match recorder.prefix(rt, alloc, view) {
+            Ok(trace) => self.tell(alloc, &trace),
+            Err(PrefixError::Memory) => self.stop(),
+            // What no prefix extends is no run, which the run's own end tells.
+            Err(PrefixError::NotAnExtension { .. }) => self.is_over = true,
+        }
+    }
+
+    /// Whether a line is due when so many steps were made.
+    fn is_due(&self, count: u64) -> bool
+        ensures { IsTrue result ↔ IsDue self.now.all self.now.told count }
+    {
+        count < self.all && count.saturating_sub(self.told).saturating_mul(PORTIONS) >= self.all
+    }
+
+    /// Tells how a trace stands that extends those that were told of, unless no more is told. Want of memory is told on
+    /// a line of its own, and then no more; nor is there more where the writer fails.
+    pub(crate) fn tell(&mut self, alloc: Global, trace: &Trace)
+        ensures set { self.new.analyst.set ≡ self.old.analyst.set }
+        ensures told { HasBegun (IsLineOf self.old.analyst.set trace.now) (W.contents (inner_of self.old.writer)) (W.contents (inner_of self.new.writer)) }
+    {
+        if self.is_over {
+            return;
+        }
+        self.told = trace.len() as u64;
+        match self.tell_next(alloc, trace) {
+            Ok(()) => {}
+            Err(Fault::Memory) => self.stop(),
+            Err(_) => self.is_over = true,
+        }
+    }
+
+    /// Tells how a trace stands that extends those that were told of.
+    ///
+    /// Refuses, in this order: NotARun(0) where it doesn't extend them; Write with the number of bytes that went out
+    /// before. Memory may come instead before the first write.
+    fn tell_next(&mut self, alloc: Global, trace: &Trace) -> Result<(), Fault>
+        ensures set { self.new.analyst.set ≡ self.old.analyst.set }
+        ensures told { HasBegun (IsLineOf self.old.analyst.set trace.now) (W.contents (inner_of self.old.writer)) (W.contents (inner_of self.new.writer)) }
+        ensures cause { IfErr result (IsWriteFault self.old.writer self.new.writer) }
+    {
+        let stairs = self.stairs(alloc, trace)?;
+        tell_standing(alloc, standing_of(&stairs), &mut self.writer)
+    }
+
+    /// The stairs of a trace: where little of it is new, from what the analyst knows, and else from scratch, which is
+    /// quicker then.
+    ///
+    /// Refuses NotARun(0) where it doesn't extend what the analyst was fed; Memory may come instead.
+    fn stairs(&mut self, alloc: Global, trace: &Trace) -> Result<Stairs, Fault>
+        ensures set { self.new.analyst.set ≡ self.old.analyst.set }
+        ensures writer { self.new.writer ≡ self.old.writer }
+        ensures stairs { IfOk result (AreLevels self.old.analyst.set trace.now) }
+        ensures refused { IfErr result (λ why. (why ≡ Fault.NotARun 0) ⊎ (why ≡ Fault.Memory)) }
+    {
+        let set = self.analyst.set();
+        if self.is_mostly_new(trace) && set.within(trace.config().n()) {
+            return Ok(Stairs::of_trace(alloc, trace, set)?);
+        }
+        match self.analyst.feed(alloc, trace) {
+            Ok(stairs) => {
+                self.fed = trace.len() as u64;
+                Ok(stairs)
+            }
+            Err(FeedError::NotAnExtension { .. }) => Err(Fault::NotARun(0)),
+            Err(FeedError::Memory) => Err(Fault::Memory),
+        }
+    }
+
+    /// Whether more of a trace is new to the analyst than it is quick to summarise.
+    fn is_mostly_new(&self, trace: &Trace) -> bool
+        ensures { IsTrue result ↔ (length trace.now.steps < (length trace.now.steps - self.now.fed) * SUMMARISED) }
+    {
+        let count = trace.len() as u64;
+        count < count.saturating_sub(self.fed).saturating_mul(SUMMARISED)
+    }
+
+    /// Tells that there is no memory, and then no more.
+    fn stop(&mut self)
+        ensures set { self.new.analyst.set ≡ self.old.analyst.set }
+        ensures told { HasBegun (λ line. line ≡ told_stop) (W.contents (inner_of self.old.writer)) (W.contents (inner_of self.new.writer)) }
+    {
+        self.is_over = true;
+        // Where the writer fails there is nobody left to tell.
+        let _ = tell_stop(&mut self.writer);
+    }
+}

@@ -1,0 +1,13 @@
+//! Runs of the agreement algorithm on threads: a thread for each processor, the trace of what they did together, and the
+//! lines that tell meanwhile how such a run stands. `specs/` has the definitions that the contracts cite.
+#![tactic(auto)]
+
+mod followers;
+mod runs;
+mod standing_lines;
+mod standings;
+
+pub use followers::{Follower, follower_for};
+pub use runs::run_nodes;
+pub use standing_lines::{tell_standing, tell_stop};
+pub use standings::{LeastBounds, RECENT_TICKS, Standing, standing_of};

@@ -1,0 +1,290 @@
+//! Runs of the agreement algorithm: a thread for each processor, and the trace of what they did together.
+
+ghost use Rattle.std.specs.Prelude.{◌≡◌, ◌≢◌, ◌↔◌, ◌*◌, ◌≤◌, ℕ, List, Some, None, IfOk, IfErr, OnOk, MatchResult, IsTrue, length, ◌⊎◌};
+ghost use Rattle.std.specs.Io.KnownBytes.{Appends};
+ghost use Rattle.step_trace.specs.declared.traces.TheConstants.{MAX_STEPS};
+ghost use Rattle.step_trace.specs.Configurations.{Setup};
+ghost use Rattle.locked_recorder.specs.Prefixes.{IsRunOf};
+ghost use Rattle.trace_text.specs.ByteLoops.{WasFaultless};
+ghost use Rattle.trace_text.specs.Faults.{inner_of, is_flushed};
+ghost use Rattle.command_faults.specs.Printing.{IsWriteFault};
+ghost use Rattle.node_runs.specs.Followers.{HasFollowed, HasTold, IsLine};
+ghost use Rattle.node_runs.specs.Runs.{HaveDone, IsEvenRun, IsEvenRunText, IsFaultOfNodes, IsFaultOfThreads, IsUnwrittenRun, ending_of, gravity, fault_of_ending};
+
+use crate::followers::Follower;
+use command_faults::Fault;
+use locked_recorder::{AuditError, DriveError, DriveStop, RecordError, Recorder, Seat};
+use std::alloc::Global;
+use std::io::Write;
+use std::sync::Wait;
+use std::sync::atomic::{AtomicBool, Ordering};
+use std::thread;
+use std::thread::{JoinHandle, Threads, join_mut};
+use std::time::Clock;
+use step_buffers::{StepError, World};
+use step_trace::{Config, Gate};
+use trace_text::{Counting, write_trace};
+
+/// How a thread ended, or all of them together.
+#[derive(Clone, Copy, Debug)]
+enum Ending {
+    /// All its steps are made.
+    Made,
+    /// It wasn't started, or was held back.
+    Held,
+    /// There was no memory for a step.
+    NoMemory,
+    /// A step was refused.
+    Refused,
+}
+
+/// Runs the nodes of a configuration, a thread for each, which makes so many steps; and writes the trace of all
+/// their steps. The `patience`-th Receive of a round ends the round. Each thread enters the gate before its
+/// first step. Nothing is written before all threads have ended. A follower, if there is one, tells of the run
+/// meanwhile, and of the whole of it at its end; whatever becomes of that, the run is the same.
+///
+/// Asks for a patience of at least 1, and for at most `MAX_STEPS` steps of all processors together. Waits for
+/// the threads. Refuses, in this order: Threads where a thread wasn't started or the gate held it back; Memory;
+/// NotARun(0) where a step is refused, or where what was done doesn't make up one run; Write with the number
+/// of bytes that went out before.
+pub fn run_nodes<R: Threads + Wait + Clock + Sync, W: Write, G: Gate, E: Write + Send>(
+    rt: &R,
+    alloc: Global,
+    config: &Config,
+    patience: u64,
+    steps: u64,
+    gate: &G,
+    follower: &mut Option<Follower<E>>,
+    writer: &mut Counting<W>,
+) -> Result<(), Fault>
+    requires patient { 1 ≤ patience }
+    requires room { config.now.n * steps ≤ MAX_STEPS }
+    ensures run { OnOk result ((text : List ℕ) × IsEvenRunText config.now steps text
+        × Appends (W.contents (inner_of writer.old)) (W.contents (inner_of writer.new)) text) }
+    ensures flushed { OnOk result (IsTrue (is_flushed writer.new)) }
+    ensures faultless { OnOk result (WasFaultless writer.old writer.new) }
+    ensures own { IfErr result IsFaultOfNodes }
+    ensures part { IfErr result
+        (IsUnwrittenRun config.now steps (W.contents (inner_of writer.old)) (W.contents (inner_of writer.new))) }
+    ensures unwritten { IfErr result (IsWriteFault writer.old writer.new) }
+    ensures followed { HasFollowed E.contents config.now follower.old follower.new }
+{
+    let world = world_made(rt, alloc, config, patience, steps, gate, follower)?;
+    tell_whole(alloc, &world, follower);
+    Ok(write_trace(alloc, world.trace(), writer)?)
+}
+
+/// Tells of the whole of a run, where there is a follower.
+fn tell_whole<E: Write>(alloc: Global, world: &World, follower: &mut Option<Follower<E>>)
+    ensures { (c : Setup) → IsRunOf c world.now.trace → HasFollowed E.contents c follower.old follower.new }
+{
+    if let Some(follower) = follower {
+        follower.tell(alloc, world.trace());
+    }
+}
+
+/// The World that the threads have moved.
+fn world_made<R: Threads + Wait + Clock + Sync, G: Gate, E: Write + Send>(
+    rt: &R,
+    alloc: Global,
+    config: &Config,
+    patience: u64,
+    steps: u64,
+    gate: &G,
+    follower: &mut Option<Follower<E>>,
+) -> Result<World, Fault>
+    requires patient { 1 ≤ patience }
+    requires room { config.now.n * steps ≤ MAX_STEPS }
+    ensures run { IfOk result (λ world. IsEvenRun config.now steps world.trace) }
+    ensures own { IfErr result IsFaultOfThreads }
+    ensures followed { HasFollowed E.contents config.now follower.old follower.new }
+{
+    let room = config.n() * steps;
+    let (recorder, mut seats) = Recorder::new(alloc, config.copy(alloc)?, 0, room)?;
+    let ending = match follower {
+        Some(follower) => drive_followed(
+            rt, alloc, &recorder, &mut seats, patience, steps, gate, follower,
+        ),
+        None => drive_all(rt, alloc, &recorder, &mut seats, patience, steps, gate),
+    };
+    judged(ending)?;
+    audited(alloc, recorder, &seats, steps)
+}
+
+/// Drives each seat in a thread of its own, while another thread follows; and tells the gravest ending of all.
+/// Where there is no thread for the follower, it has its turn when all have ended.
+fn drive_followed<R: Threads + Wait + Clock + Sync, G: Gate, E: Write + Send>(
+    rt: &R,
+    alloc: Global,
+    recorder: &Recorder,
+    seats: &mut [Seat],
+    patience: u64,
+    steps: u64,
+    gate: &G,
+    follower: &mut Follower<E>,
+) -> Ending
+    requires { 1 ≤ patience }
+    ensures set { follower.new.analyst.set ≡ follower.old.analyst.set }
+    ensures told { HasTold (IsLine recorder.now.config follower.old.analyst.set) (E.contents (inner_of follower.old.writer)) (E.contents (inner_of follower.new.writer)) }
+{
+    let ended = &AtomicBool::new(false);
+    let (_, ending) = join_mut(
+        rt,
+        &mut ||
+            ensures set { follower.exit.now.analyst.set ≡ follower.entry.now.analyst.set }
+            ensures told { HasTold (IsLine recorder.entry.now.config follower.entry.now.analyst.set) (E.contents (inner_of follower.entry.now.writer)) (E.contents (inner_of follower.exit.now.writer)) }
+        { follower.follow(rt, alloc, recorder, ended) },
+        &mut || -> Ending
+            requires { 1 ≤ patience }
+        { drive_to_end(rt, alloc, recorder, gate, patience, steps, ended, seats) },
+    );
+    ending
+}
+
+/// Drives each seat in a thread of its own, says when all have ended, and tells the gravest ending of all.
+fn drive_to_end<R: Threads + Wait + Sync, G: Gate>(
+    rt: &R,
+    alloc: Global,
+    recorder: &Recorder,
+    gate: &G,
+    patience: u64,
+    steps: u64,
+    ended: &AtomicBool,
+    seats: &mut [Seat],
+) -> Ending
+    requires { 1 ≤ patience }
+{
+    let ending = drive_all(rt, alloc, recorder, seats, patience, steps, gate);
+    ended.store(true, Ordering::SeqCst);
+    ending
+}
+
+/// Drives each seat in a thread of its own, and tells the gravest ending of all.
+fn drive_all<R: Threads + Wait + Sync, G: Gate>(
+    rt: &R,
+    alloc: Global,
+    recorder: &Recorder,
+    seats: &mut [Seat],
+    patience: u64,
+    steps: u64,
+    gate: &G,
+) -> Ending
+    requires { 1 ≤ patience }
+{
+    thread::scope(
+        thread::scope_env(),
+        rt,
+        |scope| -> Ending
+            requires { 1 ≤ patience }
+        {
+            let Ok(mut threads) = Vec::with_capacity(alloc, seats.len()) else {
+                return Ending::NoMemory;
+            };
+            for seat in seats.iter_mut() {
+                let drive = move || -> Ending
+                    requires { 1 ≤ patience }
+                { how_ended(recorder.drive(rt, alloc, seat, gate, patience, steps)) };
+                // The threads that run are joined where the scope ends.
+                let Ok(started) = scope.spawn(drive) else {
+                    return Ending::Held;
+                };
+                if threads.push(started).is_err() {
+                    return Ending::NoMemory;
+                }
+            }
+            gravest(rt, threads)
+        },
+    )
+}
+
+/// The gravest ending of these threads, once all have ended.
+fn gravest<R: Threads>(rt: &R, threads: Vec<JoinHandle<Ending>>) -> Ending {
+    let mut all = Ending::Made;
+    for started in threads {
+        all = graver(all, started.join(rt));
+    }
+    all
+}
+
+/// How a drive ended.
+fn how_ended(driven: Result<u64, DriveError>) -> Ending
+    ensures { MatchResult driven (λ _. result ≡ Ending.Made) (λ stopped. result ≡ ending_of stopped.why) }
+{
+    match driven {
+        Ok(_) => Ending::Made,
+        Err(stopped) => match stopped.why {
+            DriveStop::Held => Ending::Held,
+            DriveStop::Record(RecordError::Step(StepError::Memory)) => Ending::NoMemory,
+            DriveStop::Record(_) => Ending::Refused,
+        },
+    }
+}
+
+/// The one that is told of two: the graver one.
+fn graver(one: Ending, other: Ending) -> Ending
+    ensures one { gravity one ≤ gravity result }
+    ensures other { gravity other ≤ gravity result }
+    ensures either { (result ≡ one) ⊎ (result ≡ other) }
+{
+    if gravity(one) < gravity(other) {
+        other
+    } else {
+        one
+    }
+}
+
+/// How grave an ending is.
+fn gravity(ending: Ending) -> u64
+    ensures { result ≡ gravity ending }
+{
+    match ending {
+        Ending::Made => 0,
+        Ending::Refused => 1,
+        Ending::NoMemory => 2,
+        Ending::Held => 3,
+    }
+}
+
+/// The fault that the ending of all threads is, if any.
+fn judged(ending: Ending) -> Result<(), Fault>
+    ensures own { IfErr result IsFaultOfThreads }
+    ensures told { MatchResult result (λ _. fault_of_ending ending ≡ None) (λ why. fault_of_ending ending ≡ Some why) }
+{
+    match ending {
+        Ending::Made => Ok(()),
+        Ending::Held => Err(Fault::Threads),
+        Ending::NoMemory => Err(Fault::Memory),
+        Ending::Refused => Err(Fault::NotARun(0)),
+    }
+}
+
+/// The World of a recorder, if what was done from its seats makes up one run of so many steps of each.
+fn audited(alloc: Global, recorder: Recorder, seats: &[Seat], steps: u64) -> Result<World, Fault>
+    ensures run { IfOk result (λ world. IsEvenRun recorder.config steps world.trace) }
+    ensures own { IfErr result IsFaultOfThreads }
+    ensures no_threads { IfErr result (λ why. why ≢ Fault.Threads) }
+{
+    let world = match recorder.into_audited(alloc, seats, &[]) {
+        Ok(world) => world,
+        Err(AuditError::Memory) => return Err(Fault::Memory),
+        Err(_) => return Err(Fault::NotARun(0)),
+    };
+    if !have_done(seats, steps) {
+        return Err(Fault::NotARun(0));
+    }
+    Ok(world)
+}
+
+/// Whether so many steps were made from each seat.
+fn have_done(seats: &[Seat], steps: u64) -> bool
+    ensures { IsTrue result ↔ HaveDone steps seats.now }
+{
+    seats.iter().all(|seat| has_done(seat, steps))
+}
+
+/// Whether so many steps were made from a seat.
+fn has_done(seat: &Seat, steps: u64) -> bool
+    ensures { IsTrue result ↔ (length seat.now.done ≡ steps) }
+{
+    seat.done().len() as u64 == steps
+}

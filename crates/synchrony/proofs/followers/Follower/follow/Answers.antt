@@ -1,6 +1,0 @@
-use Rattle.std.proofs.Common.{◌∙◌}
-use Rattle.synchrony.proofs.ToldLines.{told_on}
-use Rattle.synchrony.proofs.followers.Follower.follow.Goals as goal
-
-pub loop-preserved : goal.loop-preserved
-loop-preserved g c = (c.look.ensures.set ∙ c.loop.invariant.0, told_on _ _ _ _ _ _ c.loop.invariant.0 c.loop.invariant.1 c.look.ensures.told)
