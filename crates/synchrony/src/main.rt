@@ -12,10 +12,8 @@ mod line_faults;
 
 use crate::inputs::open;
 use crate::line_faults::refused_line;
-use certificate_checker::Verdict;
 use command_faults::{Fault, print, status, tell};
 use command_line::{Job, read_command, refuse_words};
-use event_log::Options;
 use node_runs::{follower_for, run_nodes};
 use std::env;
 use std::process::ExitCode;
@@ -43,30 +41,34 @@ fn main(rt: HostRuntime) -> ExitCode {
 /// Does what the words of the command line ask for, and gives the exit status. `threads` starts the threads of a
 /// run and of the workers of a report.
 fn run<R: Threads + Wait + Clock + Sync>(rt: &HostRuntime, threads: &R) -> Result<u8, Fault> {
-    match read_command(rt.alloc(), words(rt)?).map_err(refused_line)? {
-        Job::Report { file, set, workers } => report(rt, threads, file.as_str(), set, workers)?,
+    let job = read_command(rt.alloc(), words(rt)?).map_err(refused_line)?;
+    // (no arm leaves early, so that each lets go of what it holds in one place)
+    match job {
+        Job::Report { file, set, workers } => {
+            done(report(rt, threads, file.as_str(), set, workers))
+        }
         Job::ReportPart {
             file,
             set,
             until,
             at,
-        } => report_part(rt, file.as_str(), &ReportPart { set, until, at })?,
-        Job::Replay { file } => replay(rt, file.as_str())?,
+        } => {
+            let part = ReportPart { set, until, at };
+            done(report_part(rt, file.as_str(), &part))
+        }
+        Job::Replay { file } => done(replay(rt, file.as_str())),
         Job::Run {
             config,
             patience,
             steps,
             follow,
-        } => run_of(rt, threads, &config, patience, steps, follow)?,
-        Job::Upgrade { file } => upgrade(rt, file.as_str())?,
+        } => done(run_of(rt, threads, &config, patience, steps, follow)),
+        Job::Upgrade { file } => done(upgrade(rt, file.as_str())),
         Job::Check {
             file,
             certificate,
             set,
-        } => {
-            let verdict = check(rt, file.as_str(), certificate.as_str(), set)?;
-            return Ok(verdict_status(verdict));
-        }
+        } => check(rt, file.as_str(), certificate.as_str(), set),
         Job::Draw {
             file,
             set,
@@ -80,7 +82,7 @@ fn run<R: Threads + Wait + Clock + Sync>(rt: &HostRuntime, threads: &R) -> Resul
                 to,
                 names,
             };
-            draw(rt, file.as_str(), &drawing)?;
+            done(draw(rt, file.as_str(), &drawing))
         }
         Job::Import {
             file,
@@ -88,19 +90,17 @@ fn run<R: Threads + Wait + Clock + Sync>(rt: &HostRuntime, threads: &R) -> Resul
             tick,
             until,
             spread,
-        } => {
-            let options = import_options(
-                rt.alloc(),
-                text_in(&nodes),
-                text_in(&tick),
-                text_in(&until),
-                spread,
-            )?;
-            import(rt, file.as_str(), &options)?;
-        }
-        Job::Help(text) => print(text.as_str(), &mut Counting::new(rt.stdout()))?,
+        } => done(import(rt, file.as_str(), &nodes, &tick, &until, spread)),
+        Job::Help(text) => done(print(text.as_str(), &mut Counting::new(rt.stdout()))),
     }
-    Ok(0)
+}
+
+/// The exit status of a job that has only to be done.
+fn done(job: Result<(), Fault>) -> Result<u8, Fault> {
+    match job {
+        Ok(()) => Ok(0),
+        Err(fault) => Err(fault),
+    }
 }
 
 /// The words of the command line.
@@ -213,19 +213,34 @@ fn text_in(text: &Option<String>) -> Option<&str> {
     }
 }
 
-/// Prints the trace of the log in a file, and tells on standard error how it was read.
-fn import(rt: &HostRuntime, file: &str, options: &Options) -> Result<(), Fault> {
+/// Prints the trace of the log in a file, and tells on standard error how it was read. The options are looked at first.
+fn import(
+    rt: &HostRuntime,
+    file: &str,
+    nodes: &Option<String>,
+    tick: &Option<String>,
+    until: &Option<String>,
+    spread: bool,
+) -> Result<(), Fault> {
+    let options = import_options(
+        rt.alloc(),
+        text_in(nodes),
+        text_in(tick),
+        text_in(until),
+        spread,
+    )?;
     let mut log = open(rt, file)?;
     let mut output = Counting::new(rt.stdout());
     let mut notes = Counting::new(rt.stderr());
-    run_import(rt.alloc(), options, &mut log, &mut output, &mut notes)
+    run_import(rt.alloc(), &options, &mut log, &mut output, &mut notes)
 }
 
-/// Prints the verdict on the certificate in a file, for the trace in another. Both files are opened before one is
-/// read.
-fn check(rt: &HostRuntime, file: &str, certificate: &str, set: ProcSet) -> Result<Verdict, Fault> {
+/// Prints the verdict on the certificate in a file, for the trace in another, and gives its exit status. Both files are
+/// opened before one is read.
+fn check(rt: &HostRuntime, file: &str, certificate: &str, set: ProcSet) -> Result<u8, Fault> {
     let mut trace = open(rt, file)?;
     let mut claimed = open(rt, certificate)?;
     let mut output = Counting::new(rt.stdout());
-    run_check(rt.alloc(), &mut trace, &mut claimed, &mut output, set)
+    let verdict = run_check(rt.alloc(), &mut trace, &mut claimed, &mut output, set)?;
+    Ok(verdict_status(verdict))
 }
