@@ -1,4 +1,5 @@
-//! Worked examples of the commands that make text of text: tests of `text_commands`, by its public items.
+//! Worked examples of the commands that make text of text, and of the lines of their faults: tests of `text_commands` and
+//! `command_faults`, by their public items.
 #![tactic(auto)]
 
 #[cfg(test)]
