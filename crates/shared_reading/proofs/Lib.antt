@@ -1,5 +1,7 @@
 pub mod Splits
 pub mod QuoteFree
+pub mod PagedSteps
+pub mod NumberedLines
 pub mod LinesTold
 pub mod PieceLemmas
 pub mod PartsRead

@@ -1,6 +1,6 @@
 -- The steps that records tell lead a trace where the records lead it.
 use Rattle.std.proofs.Common.{◌≡◌, ◌<◌, ◌≤◌, ◌+◌, ◌∙◌, ℕ, List, [], ◌∷◌, ◌++◌, length, Option, Some, None, Result, Ok, Err, Bool, true, false, cond, refl, sym, ap, subst, arith, codes, decimal, append_assoc, length-append, ◌==◌}
-use Rattle.std.specs.Prelude.{nat_lt, MatchBool, ⊤}
+use Rattle.std.specs.Prelude.{nat_lt, ◌^◌}
 use Rattle.std.specs.Str.{bytes_eq}
 use Rattle.std.proofs.lemmas.List.{append-nil}
 use Rattle.std.proofs.lemmas.Bool.{eqb-true}
@@ -18,13 +18,13 @@ use Rattle.trace_text.specs.declared.reading.Stage.TheVariants.{Recording}
 use Rattle.trace_text.specs.declared.refusals.TextError.{TextError}
 use Rattle.trace_text.specs.declared.refusals.TextError.TheVariants.{WrongNumber}
 use Rattle.trace_text.specs.Records.{◌>>=◌, after_records, field_of, number_of}
-use Rattle.trace_text.specs.TextRefusals.{step_fields, end_stage, next_stage, pushed, is_memory}
+use Rattle.trace_text.specs.TextRefusals.{step_fields, end_stage, next_stage, pushed}
 use Rattle.trace_text.specs.JudgedIds.{judged_step_of}
 use Rattle.trace_text.proofs.JudgedIds.{step-judged}
 use Rattle.trace_text.proofs.Numbers.{bytes_eq-decimal}
 use Rattle.trace_text.proofs.StageInversions.{read_part, read_result}
 use Rattle.shared_reading.specs.declared.lines.Line.{Line}
-use Rattle.shared_reading.specs.Lines.{Read, line_of, next_read, with_line, accepted, after_lines, line_stage, TellLines}
+use Rattle.shared_reading.specs.Lines.{Read, narrow_line, line_of, next_read, with_line, with_next, is_next, accepted, after_lines, line_stage, TellLines}
 
 -- a test that was failed
 passed_over : {A : Type 0} (b : Bool) (r : Result A TextError) (e : TextError) (x : A) → cond b (Err e) r ≡ Ok x → (b ≡ false) × (r ≡ Ok x)
@@ -34,6 +34,9 @@ passed_over false r e x h = (refl, h)
 passed : {A : Type 0} (b : Bool) (r : Result A TextError) (e : TextError) (x : A) → cond b r (Err e) ≡ Ok x → (b ≡ true) × (r ≡ Ok x)
 passed true r e x h = (refl, h)
 passed false r e x h = cc h
+
+narrow : (n : ℕ) (x : ℕ × Step) (l : Line) → narrow_line n x ≡ Ok l → ◌≡◌ {A = Result Line TextError} (Ok (record { no = n; tick = x.0; step = x.1 })) (Ok l)
+narrow n x l h = (passed (nat_lt x.0 (2 ^ 32)) _ (WrongNumber 0) l h).1
 
 -- what a record that tells a step says
 record Tells (v : Version) (fields : List (List ℕ)) (l : Line) : Type 0 where
@@ -56,7 +59,7 @@ tells v fields l h =
     let b = passed (length fields == step_fields v) _ _ l a.1 in
     let n = read_part (number_of (field_of fields 0)) (WrongNumber 0) _ l b.1 in
     let s = read_result (judged_step_of v n.0 fields) _ l n.2 in
-    let p = parts v fields n.0 s.0 l n.1 s.1 s.2 in
+    let p = parts v fields n.0 s.0 l n.1 s.1 (narrow n.0 s.0 l s.2) in
     record { not_end = a.0; count = b.0; number = p.0; step = p.1 }
 
 -- a record that tells a step leads a trace where the step leads it, also to the same refusal
@@ -108,9 +111,10 @@ read-from : (r s : Read) (rs : List (List (List ℕ))) → after_records next_re
 unfolding TellLines
 read-from r s [] h = ([], (let same : r ≡ s = cc h in rw (← same, append-nil r.lines) refl), tt)
 read-from r s (x ∷ rs) h =
-    let part = read_result (line_of r.version x >>= λ l. Ok (with_line r l)) _ s h in
+    let part = read_result (line_of r.version x >>= λ l. with_next r l) _ s h in
     let line = read_result (line_of r.version x) _ part.0 part.1 in
-    let same : with_line r line.0 ≡ part.0 = cc (line.2) in
+    let next = passed (is_next r.lines line.0.no) (Ok (with_line r line.0)) (WrongNumber 0) part.0 line.2 in
+    let same : with_line r line.0 ≡ part.0 = cc (next.1) in
     let more = read-from (with_line r line.0) s rs (rw same part.2) in
     let whole : s ≡ record { version = r.version; lines = r.lines ++ (line.0 ∷ more.0) } = rw (← append_assoc r.lines (line.0 ∷ []) more.0) more.1 in
     (line.0 ∷ more.0, whole, (line.1, more.2))
@@ -121,35 +125,3 @@ pub read-all : (v : Version) (s : Read) (rs : List (List (List ℕ))) (t : Recor
 read-all v s rs t h short =
     let all = read-from (record { version = v; lines = [] }) s rs h in
     rw all.1 (told-all v rs all.0 t all.2 short)
-
--- a step that the trace takes
-pub line-taken : (v : Version) (t u : Recorded) (l : Line) (ls : List Line) → line_stage v t l ≡ Ok (Recording v u) → after_lines v t (l ∷ ls) ≡ after_lines v u ls
-unfolding after_lines
-line-taken v t u l ls h = go (l.no == length t.steps + 1) (refusal_in t l.tick l.step) h where
-  go : (b : Bool) (o : Option PushError) → cond b (pushed v t l.tick l.step o) (Err (WrongNumber (length t.steps + 1))) ≡ Ok (Recording v u)
-      → cond b (accepted o (length t.steps + 1) (after_lines v (with_step t l.tick l.step) ls)) (Err (WrongNumber (length t.steps + 1))) ≡ after_lines v u ls
-  go true None k = let same : with_step t l.tick l.step ≡ u = cc k in ap (λ (w : Recorded). after_lines v w ls) same
-  go true (Some why) k = cc k
-  go false o k = cc k
-
--- a step that is refused
-line-stops : (v : Version) (t : Recorded) (l : Line) (ls : List Line) (e : TextError) → line_stage v t l ≡ Err e → after_lines v t (l ∷ ls) ≡ Err e
-unfolding after_lines
-line-stops v t l ls e h = go (l.no == length t.steps + 1) (refusal_in t l.tick l.step) h where
-  go : (b : Bool) (o : Option PushError) → cond b (pushed v t l.tick l.step o) (Err (WrongNumber (length t.steps + 1))) ≡ Err e
-      → cond b (accepted o (length t.steps + 1) (after_lines v (with_step t l.tick l.step) ls)) (Err (WrongNumber (length t.steps + 1))) ≡ Err e
-  go true None k = cc k
-  go true (Some why) k = k
-  go false o k = k
-
-unless : (b : Bool) (P Q : Type 0) → (P → Q) → MatchBool b ⊤ P → MatchBool b ⊤ Q
-unless true P Q f h = h
-unless false P Q f h = f h
-
-pub line-refused : (v : Version) (t : Recorded) (l : Line) (ls : List Line) (e : TextError) → MatchBool (is_memory e) ⊤ (line_stage v t l ≡ Err e) → MatchBool (is_memory e) ⊤ (after_lines v t (l ∷ ls) ≡ Err e)
-line-refused v t l ls e h = unless (is_memory e) _ _ (line-stops v t l ls e) h
-
-pub lines-none : (v : Version) (t : Recorded) (ls : List Line) → length ls ≡ 0 → after_lines v t ls ≡ Ok (Recording v t)
-unfolding after_lines
-lines-none v t [] h = refl
-lines-none v t (l ∷ ls) h = absurd (omega (arith, h))

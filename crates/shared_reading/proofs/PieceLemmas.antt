@@ -17,7 +17,8 @@ use Rattle.shared_reading.specs.Seams.{has_quote, ends_line, IsSeam}
 use Rattle.shared_reading.proofs.QuoteFree.{seam}
 use Rattle.shared_reading.specs.declared.lines.Line.{Line}
 use Rattle.shared_reading.specs.Lines.{after_lines}
-use Rattle.shared_reading.specs.Pieces.{part, read_on, IsReadAlone, GoesOn}
+use Rattle.shared_reading.specs.declared.pieces.Reached.{Reached}
+use Rattle.shared_reading.specs.Pieces.{part, read_on, IsReadAlone, GoesOn, TakesOn}
 
 not-yes : (b : Bool) → (b ≡ true → ⊥) → b ≡ false
 not-yes false h = refl
@@ -110,3 +111,10 @@ piece-refused v t text from end lines e order alone mark short h =
 pub GoesOn-more : (a b c : Stage) (text : List ℕ) (from at : ℕ) (r : Result ℕ TextError) → GoesOn a b text from (Ok at) → GoesOn b c text at r → GoesOn a c text from r
 GoesOn-more a b c text from at (Ok end) h k = (k.0, h.1 ∙ k.1)
 GoesOn-more a b c text from at (Err e) h k = unless (is_memory e) _ _ (λ q. h.1 ∙ q) k
+
+-- the same of a trace that takes the steps
+pub TakesOn-more : (v : Version) (text : List ℕ) (from reached : Reached) (r : Result Reached TextError) → TakesOn v text from (Ok reached) → TakesOn v text reached r → TakesOn v text from r
+TakesOn-more v text from reached (Ok end) h k =
+    GoesOn-more (Recording v from.trace) (Recording v reached.trace) (Recording v end.trace) text from.at reached.at (Ok end.at) h k
+TakesOn-more v text from reached (Err e) h k =
+    GoesOn-more (Recording v from.trace) (Recording v reached.trace) (Recording v reached.trace) text from.at reached.at (Err e) h k

@@ -1,4 +1,5 @@
 pub mod Seams
+pub mod PagedSteps
 pub mod Lines
 pub mod LongLines
 pub mod Pieces

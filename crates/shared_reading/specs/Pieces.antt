@@ -12,6 +12,7 @@ use Rattle.shared_reading.specs.Seams.{has_quote, ends_line}
 use Rattle.shared_reading.specs.declared.lines.Line.{Line}
 use Rattle.shared_reading.specs.Lines.{after_lines}
 use Rattle.shared_reading.specs.declared.pieces.Piece.{Piece}
+use Rattle.shared_reading.specs.declared.pieces.Reached.{Reached}
 use Rattle.shared_reading.specs.declared.pieces.Found.{Found}
 use Rattle.shared_reading.specs.declared.pieces.Found.TheVariants.{Steps, Unusual, NoMemory}
 
@@ -31,7 +32,7 @@ pub record IsReadAlone (v : Version) (bytes : List ℕ) (lines : List Line) : Ty
 
 -- what was found in these bytes, if it is steps
 abbrev pub IsFound : Version → List ℕ → Found → Type 0
-IsFound v bytes (Steps lines) = IsReadAlone v bytes lines.items
+IsFound v bytes (Steps read) = IsReadAlone v bytes read.lines
 IsFound v bytes Unusual = ⊤
 IsFound v bytes NoMemory = ⊤
 
@@ -45,3 +46,8 @@ pub record IsPiece (v : Version) (text : List ℕ) (piece : Piece) : Type 0 wher
 abbrev pub GoesOn : Stage → Stage → List ℕ → ℕ → Result ℕ TextError → Type 0
 GoesOn old new text from (Ok at) = (at ≤ length text) × (read_on old (drop from text) ≡ read_on new (drop at text))
 GoesOn old new text from (Err e) = MatchBool (is_memory e) ⊤ (read_on old (drop from text) ≡ Err e)
+
+-- the same of a trace that takes the steps
+abbrev pub TakesOn : Version → List ℕ → Reached → Result Reached TextError → Type 0
+TakesOn v text from (Ok reached) = GoesOn (Recording v from.trace) (Recording v reached.trace) text from.at (Ok reached.at)
+TakesOn v text from (Err e) = GoesOn (Recording v from.trace) (Recording v from.trace) text from.at (Err e)

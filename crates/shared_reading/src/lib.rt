@@ -4,6 +4,7 @@
 
 mod device_texts;
 mod lines;
+mod paged_steps;
 mod pieces;
 mod reading;
 mod stretches;

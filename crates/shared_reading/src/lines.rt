@@ -1,17 +1,18 @@
 //! Steps that were read without their trace.
 
-ghost use Rattle.std.specs.Prelude.{◌≡◌, List, [], ℕ, Bool, true};
+ghost use Rattle.std.specs.Prelude.{◌≡◌, List, [], ℕ, Bool, true, IfOk};
 ghost use Rattle.csv.specs.Records.{fields_of};
-ghost use Rattle.trace_text.specs.Records.{ReachesUnless};
-ghost use Rattle.trace_text.specs.TextRefusals.{Gives, LeadsTo, is_memory};
+ghost use Rattle.trace_text.specs.Records.{GivesUnless, ReachesUnless};
+ghost use Rattle.trace_text.specs.TextRefusals.{Gives, is_memory};
 ghost use Rattle.trace_text.specs.declared.reading.Stage.TheVariants.{Recording};
 ghost use Rattle.shared_reading.specs.LongLines.{tells_none};
-ghost use Rattle.shared_reading.specs.Lines.{Read, line_of, line_stage, next_read, after_lines};
+ghost use Rattle.shared_reading.specs.Lines.{Read, line_of, is_next, with_next, next_read, after_lines, refused_for};
 
+use crate::paged_steps::PagedSteps;
 use csv::ByteRecord;
-use std::alloc::Global;
+use std::alloc::{AllocError, Global};
 use std::marker::Model;
-use step_trace::{PushError, Step, Trace};
+use step_trace::{PushError, Step, StepRefused, Trace};
 use trace_text::TextError;
 use trace_text::reading::{Stage, step_of};
 use trace_text::records::{TakeRecords, field, field_is, number};
@@ -19,43 +20,77 @@ use trace_text::versions::{Version, step_fields};
 
 /// A step, with its number and its tick.
 #[derive(Drop)]
-pub(crate) struct Line {
-    pub(crate) no: u64,
-    pub(crate) tick: u64,
-    pub(crate) step: Step,
+struct Line {
+    no: u64,
+    tick: u32,
+    step: Step,
 }
 
-/// The steps of a version's text that were read so far.
+/// The steps of a version's text that were read so far: the number of each is one more than that of the step before it.
 #[derive(Drop)]
 pub(crate) struct Lines {
     version: Version,
-    lines: Vec<Line>,
+    // The number of the first step, where there is one, and how many there are.
+    first: u64,
+    count: u64,
+    steps: PagedSteps,
 }
 
 impl Model for Lines {
-    ghost use Rattle.shared_reading.specs.Lines.{Read};
+    ghost use Rattle.std.specs.Prelude.{◌≡◌, length};
+    ghost use Rattle.shared_reading.specs.PagedSteps.{IsPaired};
+    ghost use Rattle.shared_reading.specs.Lines.{Read, numbered};
 
     ghost Value = { Read };
 
-    ghost view = { λ r. record { version = r.version; lines = r.lines.items } };
+    ghost view = { λ r. record { version = r.version; lines = numbered r.first r.steps.steps r.steps.ticks } };
+
+    ghost invariant = { λ r. IsPaired r.steps × (r.count ≡ length r.steps.steps) };
 }
 
 impl Lines {
     /// No step yet.
-    pub(crate) fn new(alloc: Global, version: Version) -> Lines
-        ensures { result ≡ record { version = version; lines = [] } }
+    pub(crate) fn new(alloc: Global, version: Version) -> Result<Lines, AllocError>
+        ensures { IfOk result (λ none. none ≡ record { version = version; lines = [] }) }
     {
-        Lines {
+        Ok(Lines {
             version,
-            lines: Vec::new(alloc),
-        }
+            first: 0,
+            count: 0,
+            steps: PagedSteps::new(alloc)?,
+        })
     }
 
-    /// The steps.
-    pub(crate) fn into_steps(self) -> Vec<Line>
-        ensures { result.items ≡ self.lines }
+    /// Adds a step, if it is the next one.
+    fn push(&mut self, alloc: Global, line: Line) -> Result<(), TextError>
+        ensures { ReachesUnless is_memory result self.new (with_next self.old line) }
     {
-        self.lines
+        if !self.is_next(line.no) {
+            return Err(TextError::WrongNumber(0));
+        }
+        let Some(count) = self.count.checked_add(1) else {
+            return Err(TextError::Memory);
+        };
+        let Ok(()) = self.steps.push(alloc, line.no, line.tick, line.step) else {
+            return Err(TextError::Memory);
+        };
+        // (as it was, unless this is the first step)
+        self.first = line.no - self.count;
+        self.count = count;
+        Ok(())
+    }
+
+    /// Whether the next step may have this number: the first may have any.
+    fn is_next(&self, no: u64) -> bool
+        ensures { result ≡ is_next self.now.lines no }
+    {
+        if self.count == 0 {
+            return true;
+        }
+        match no.checked_sub(self.first) {
+            Some(place) => place == self.count,
+            None => false,
+        }
     }
 }
 
@@ -70,10 +105,7 @@ impl TakeRecords for Lines {
 
     fn take(&mut self, alloc: Global, fields: &ByteRecord) -> Result<(), TextError> {
         let line = line_of(alloc, self.version, fields)?;
-        match self.lines.push(line) {
-            Ok(()) => Ok(()),
-            Err(_) => Err(TextError::Memory),
-        }
+        self.push(alloc, line)
     }
 
     fn out_of_memory() -> TextError {
@@ -97,35 +129,37 @@ fn line_of(alloc: Global, version: Version, fields: &ByteRecord) -> Result<Line,
         return Err(TextError::WrongNumber(0));
     };
     let (tick, step) = step_of(alloc, version, no, fields)?;
+    // (no trace has a tick that needs more bits)
+    let Ok(tick) = u32::try_from(tick) else {
+        return Err(TextError::WrongNumber(0));
+    };
     Ok(Line { no, tick, step })
 }
 
-/// A trace takes these steps, one after the other. The first that is refused decides.
-pub(crate) fn push_lines(
-    version: Version,
-    trace: &mut Trace,
-    lines: Vec<Line>,
-) -> Result<(), TextError>
-    ensures { ReachesUnless is_memory result (Recording version trace.new)
-        (after_lines version trace.old lines.items) }
+/// The trace with these steps behind its own, taken one after the other. The first that is refused decides.
+pub(crate) fn push_lines(version: Version, trace: Trace, lines: Lines) -> Result<Trace, TextError>
+    ensures { GivesUnless is_memory (λ longer. Recording version longer) result
+        (after_lines version trace lines.lines) }
 {
-    for line in lines {
-        push_line(version, trace, line)?;
+    if lines.count == 0 {
+        return Ok(trace);
     }
-    Ok(())
-}
-
-/// A trace takes one step.
-fn push_line(version: Version, trace: &mut Trace, line: Line) -> Result<(), TextError>
-    ensures { LeadsTo result (Recording version trace.new) (line_stage version trace.old line) }
-{
     let no = trace.len() as u64 + 1;
-    if line.no != no {
+    if lines.first != no {
         return Err(TextError::WrongNumber(no));
     }
-    match trace.push_at(line.tick, line.step) {
-        Ok(()) => Ok(()),
-        Err(PushError::Memory) => Err(TextError::Memory),
-        Err(why) => Err(TextError::BadStep(no, why)),
+    match lines.steps.append_to(trace) {
+        Ok(longer) => Ok(longer),
+        Err(refused) => Err(refusal_of(refused)),
+    }
+}
+
+/// The refusal of a text for a step that a trace refuses.
+fn refusal_of(refused: StepRefused) -> TextError
+    ensures { result ≡ refused_for refused.why refused.no }
+{
+    match refused.why {
+        PushError::Memory => TextError::Memory,
+        why => TextError::BadStep(refused.no, why),
     }
 }

@@ -3,10 +3,9 @@
 ghost use Rattle.std.specs.Prelude.{◌≡◌, ◌≤◌, ℕ, length, drop, true, false, All};
 ghost use Rattle.csv.specs.Reading.{strip_bom};
 ghost use Rattle.shared_reading.specs.Seams.{has_quote, ends_line};
-ghost use Rattle.trace_text.specs.declared.reading.Stage.TheVariants.{Recording};
-ghost use Rattle.shared_reading.specs.Pieces.{GoesOn, IsPiece, IsFound};
+ghost use Rattle.shared_reading.specs.Pieces.{TakesOn, IsPiece, IsFound};
 
-use crate::lines::{Line, Lines, push_lines};
+use crate::lines::{Lines, push_lines};
 use memchr::memchr;
 use std::alloc::Global;
 use step_trace::Trace;
@@ -22,11 +21,18 @@ pub(crate) struct Piece {
     pub(crate) found: Found,
 }
 
+/// A place up to which a text was read, and the trace that has its steps.
+#[derive(Drop)]
+pub(crate) struct Reached {
+    pub(crate) at: usize,
+    pub(crate) trace: Trace,
+}
+
 /// What a thread reads of a piece.
 #[derive(Drop)]
 pub(crate) enum Found {
     /// Its records are these steps.
-    Steps(Vec<Line>),
+    Steps(Lines),
     /// It isn't steps alone, or its records can't be told without what stands before or after it.
     Unusual,
     /// There was no memory.
@@ -55,9 +61,11 @@ fn found_in(alloc: Global, version: Version, bytes: &[u8]) -> Found
     if has_quote(bytes) || !ends_line(bytes) {
         return Found::Unusual;
     }
-    let mut lines = Lines::new(alloc, version);
+    let Ok(mut lines) = Lines::new(alloc, version) else {
+        return Found::NoMemory;
+    };
     match read_records(alloc, bytes, &mut lines) {
-        Ok(()) => Found::Steps(lines.into_steps()),
+        Ok(()) => Found::Steps(lines),
         Err(TextError::Memory) => Found::NoMemory,
         Err(_) => Found::Unusual,
     }
@@ -98,53 +106,50 @@ pub(crate) fn tail(text: &[u8], at: usize) -> &[u8]
     &text[at..]
 }
 
-/// A trace takes the steps of these pieces, as far as each begins where the one before it ends. Tells
-/// the place up to which the text was read.
+/// A trace takes the steps of these pieces, as far as each begins where the one before it ends. Tells how far it came.
 pub(crate) fn take_pieces(
     text: &[u8],
-    from: usize,
     version: Version,
-    trace: &mut Trace,
+    from: Reached,
     pieces: Vec<Piece>,
-) -> Result<usize, TextError>
+) -> Result<Reached, TextError>
     requires pieces { All (IsPiece version text.now) pieces.items }
-    requires within { from ≤ length text.now }
-    ensures { GoesOn (Recording version trace.old) (Recording version trace.new) text.now from result }
+    requires within { from.at ≤ length text.now }
+    ensures { TakesOn version text.now from result }
 {
-    let mut at = from;
+    let mut reached = from;
     for piece in pieces {
-        at = take_piece(text, at, version, trace, piece)?;
+        reached = take_piece(text, version, reached, piece)?;
     }
-    Ok(at)
+    Ok(reached)
 }
 
-/// A trace takes the steps of a piece, where it begins at this place.
+/// A trace takes the steps of a piece, where it begins at the place that was reached.
 fn take_piece(
     text: &[u8],
-    at: usize,
     version: Version,
-    trace: &mut Trace,
+    reached: Reached,
     piece: Piece,
-) -> Result<usize, TextError>
+) -> Result<Reached, TextError>
     requires piece { IsPiece version text.now piece }
-    requires within { at ≤ length text.now }
-    ensures { GoesOn (Recording version trace.old) (Recording version trace.new) text.now at result }
+    requires within { reached.at ≤ length text.now }
+    ensures { TakesOn version text.now reached result }
 {
     let Piece { from, end, found } = piece;
-    if from != at {
-        return Ok(at);
+    if from != reached.at {
+        return Ok(reached);
     }
     if may_be_marked(tail(text, end)) {
-        return Ok(at);
+        return Ok(reached);
     }
     match found {
         Found::Steps(lines) => {
             // (a trace has no more steps than it may have)
-            let _steps = trace.len();
-            push_lines(version, trace, lines)?;
-            Ok(end)
+            let _steps = reached.trace.len();
+            let trace = push_lines(version, reached.trace, lines)?;
+            Ok(Reached { at: end, trace })
         }
-        Found::Unusual => Ok(at),
+        Found::Unusual => Ok(reached),
         Found::NoMemory => Err(TextError::Memory),
     }
 }

@@ -8,7 +8,7 @@ ghost use Rattle.trace_text.specs.TraceTexts.{StandsFor, IsTextTrace};
 ghost use Rattle.trace_text.specs.TextRefusals.{Gives, IsFirstRefusal, LeadsTo, trace_of_records};
 ghost use Rattle.shared_reading.specs.Pieces.{GoesOn, IsPiece, read_on};
 
-use crate::pieces::{Piece, ends_line, has_quote, may_be_marked, tail, take_pieces};
+use crate::pieces::{Piece, Reached, ends_line, has_quote, may_be_marked, tail, take_pieces};
 use crate::stretches::{Stretch, Stretches, line_start};
 use std::alloc::{AllocError, Global};
 use std::thread::Threads;
@@ -240,7 +240,8 @@ fn piece_of(alloc: Global, version: Version, text: &[u8], stretch: &Stretch, oth
     Piece::of(alloc, version, text, from, end)
 }
 
-/// A trace that is being recorded takes the steps of the pieces, if they were read in its version.
+/// A trace that is being recorded takes the steps of the pieces, if they were read in its version. Where one is refused,
+/// the stage is of no more use.
 fn take_pieces_of(
     text: &[u8],
     at: usize,
@@ -252,11 +253,16 @@ fn take_pieces_of(
     requires within { at ≤ length text.now }
     ensures { GoesOn stage.old stage.new text.now at result }
 {
-    match (version, stage) {
+    match (version, mem::replace(stage, Stage::Opening)) {
         (Version::One, Stage::Recording(Version::One, trace))
         | (Version::Two, Stage::Recording(Version::Two, trace)) => {
-            take_pieces(text, at, version, trace, pieces)
+            let reached = take_pieces(text, version, Reached { at, trace }, pieces)?;
+            *stage = Stage::Recording(version, reached.trace);
+            Ok(reached.at)
         }
-        _ => Ok(at),
+        (_, other) => {
+            *stage = other;
+            Ok(at)
+        }
     }
 }

@@ -4,8 +4,12 @@ ghost use Rattle.std.specs.Prelude.{◌≤◌, length};
 
 use crate::pieces::tail;
 
-/// The greatest number of bytes of a stretch. The steps of two stretches at most are kept beside the trace.
-const STRETCH_BYTES: usize = 1_048_576;
+/// The greatest number of bytes of a stretch. The threads wait for one another at the end of each, and what was read of the
+/// last one is taken while nothing else is read.
+const STRETCH_BYTES: usize = 2_097_152;
+
+/// To take the pieces of a stretch takes so many hundredths of the time in which one thread reads it.
+const TAKING_HUNDREDTHS: usize = 15;
 
 /// The bytes that are left to one thread at the end: the record of the end is among them.
 const TAIL_BYTES: usize = 64;
@@ -45,8 +49,8 @@ impl Stretches {
 
     /// The stretch of this number, from 0.
     pub(crate) fn stretch(&self, k: usize) -> Stretch {
-        let own = self.own_bytes();
         let others = self.workers.saturating_sub(1);
+        let own = self.own_bytes(others);
         Stretch {
             others,
             first: self
@@ -58,16 +62,16 @@ impl Stretches {
         }
     }
 
-    /// The bytes of the share of the thread that takes the pieces: such that it is done when the others are. To read a
-    /// step into a list takes another thread three times as long as this one takes to take it out, and to read one of its
-    /// own takes this one somewhat less.
-    fn own_bytes(&self) -> usize {
-        match self.workers {
-            2 => self.bytes / 2,
-            3 => self.bytes / 6,
-            _ => 0,
-        }
+    /// The bytes of the share of the thread that takes the pieces, beside so many others.
+    fn own_bytes(&self, others: usize) -> usize {
+        self.bytes.saturating_mul(own_hundredths(others)) / 100
     }
+}
+
+/// How many hundredths of a stretch the thread that takes the pieces reads itself, beside so many others: such that it is
+/// done when they are.
+fn own_hundredths(others: usize) -> usize {
+    100usize.saturating_sub(others.saturating_mul(TAKING_HUNDREDTHS)) / others.saturating_add(1)
 }
 
 impl Stretch {

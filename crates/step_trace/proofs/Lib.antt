@@ -11,6 +11,9 @@ pub mod TickOrder
 pub mod TickPositions
 pub mod FittingTicks
 pub mod TickReasons
+pub mod Takes
+pub mod AppendedSteps
+pub mod UncheckedSteps
 pub mod PagePlaces
 pub mod KeptTicks
 pub mod PlacedNumbers

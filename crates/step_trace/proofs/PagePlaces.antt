@@ -3,11 +3,13 @@ use Rattle.std.proofs.Common.{ℕ, ◌≡◌, ◌+◌, ◌-◌, ◌*◌, ◌/◌
 use Rattle.std.specs.Prelude.{slice_get, All, None}
 use Rattle.std.specs.List.{flat_map, AllZip}
 use Rattle.std.proofs.lemmas.Option.{none-some, same_Some, slice_get_within}
-use Rattle.std.proofs.lemmas.List.Concat.{flat_map-cons}
-use Rattle.std.proofs.lemmas.List.Elements.{All-head, All-tail, All-cons, length_all_zip}
+use Rattle.std.proofs.lemmas.List.{append-nil, nil_from_length}
+use Rattle.std.proofs.lemmas.List.Concat.{flat_map-cons, flat_map-append}
+use Rattle.std.proofs.lemmas.List.Elements.{All-head, All-tail, All-cons, All-push, length_all_zip}
 use Rattle.std.proofs.lemmas.Nat.{div-add-mod', mod_below}
 use Rattle.std.proofs.lemmas.Bool.Decides.{nat_tests}
 use Rattle.step_trace.specs.declared.paged_lists.TheConstants.{PAGE_LEN}
+use Rattle.step_trace.specs.declared.traces.TheConstants.{MAX_STEPS}
 use Rattle.step_trace.specs.Pages.{all_items, AreInPages, IsPage, BeginAlike}
 
 -- a place in the first of two lists, and one after it
@@ -41,6 +43,31 @@ module _ {P X : Type 0} (items : P → List X) where
   -- so all are as many as the pages make, and those of the last one
   pub length-all : (pages : List P) (last : List X) → All (λ p. length (items p) ≡ PAGE_LEN) pages → length (all_items items pages last) ≡ length pages * PAGE_LEN + length last
   length-all pages last full = length-append (flat_map items pages) last ∙ ap (λ n. n + length last) (length-pages pages full)
+
+  -- where a page ends, the last page has no items
+  pub none-at_end : (pages : List P) (last : List X) → AreInPages items pages last → length (all_items items pages last) % PAGE_LEN ≡ 0 → last ≡ []
+  none-at_end pages last a h =
+      let n = length (all_items items pages last) in
+      let all = length-all pages last a.full in
+      let less = a.less in
+      let whole : n / PAGE_LEN * PAGE_LEN + n % PAGE_LEN ≡ n = div-add-mod' n PAGE_LEN in
+      nil_from_length last (omega (arith, all, less, whole, h))
+
+  -- one full page more
+  pub all-with_page : (pages : List P) (p : P) → all_items items (pages ++ p ∷ []) [] ≡ all_items items pages [] ++ items p
+  all-with_page pages p =
+      append-nil (flat_map items (pages ++ p ∷ []))
+      ∙ flat_map-append items pages (p ∷ [])
+      ∙ ap (λ xs. flat_map items pages ++ xs) (flat_map-cons items p [] ∙ append-nil (items p))
+      ∙ ap (λ xs. xs ++ items p) (sym (append-nil (flat_map items pages)))
+
+  pub AreInPages-page : (pages : List P) (p : P) → AreInPages items pages [] → length (items p) ≡ PAGE_LEN → length (all_items items pages []) + PAGE_LEN ≤ MAX_STEPS
+      → AreInPages items (pages ++ p ∷ []) []
+  AreInPages-page pages p a long room = record {
+    full = All-push (λ (q : P). length (items q) ≡ PAGE_LEN) pages p a.full long;
+    less = omega arith;
+    limit = let all = length-all pages [] a.full in let more = length-append pages (p ∷ []) in omega (arith, all, more, room);
+  }
 
   -- place r of page q
   at_page : (pages : List P) (last : List X) → All (λ p. length (items p) ≡ PAGE_LEN) pages → (q r : ℕ) (p : P) → r < PAGE_LEN → slice_get pages q ≡ Some p

@@ -11,10 +11,13 @@ pub mod Cuts
 pub mod OwnSteps
 pub mod PushRefusals
 pub mod TickRefusals
+pub mod AppendedSteps
+pub mod UncheckedSteps
 pub mod PushErrorTexts
 pub mod Pages
 pub mod TickLists
 pub mod PlacedSteps
+pub mod Takes
 pub mod DeliveryIndex
 pub mod Bounds
 pub mod Witnesses

@@ -1,6 +1,6 @@
 //! Lists in pages, of which the full ones are shared by copies.
 
-ghost use Rattle.std.specs.Prelude.{◌≡◌, ◌++◌, ◌∷◌, [], ◌≤◌, ◌<◌, length, option_copied, ◌⊎◌, OnOk, OnErr, IfOk, IfSome, slice_get, vec_len, vec_capacity};
+ghost use Rattle.std.specs.Prelude.{◌≡◌, ◌++◌, ◌∷◌, [], ◌≤◌, ◌<◌, ◌+◌, ◌%◌, length, option_copied, ◌⊎◌, OnOk, OnErr, IfOk, IfSome, slice_get, vec_len, vec_capacity};
 ghost use Rattle.step_trace.specs.Pages.{IsPage};
 ghost use Rattle.step_trace.specs.declared.paged_lists.TheConstants.{PAGE_LEN};
 ghost use Rattle.step_trace.specs.declared.traces.TheConstants.{MAX_STEPS};
@@ -99,6 +99,27 @@ impl<T: Drop> PagedList<T> {
                 self.last = page;
                 Err(AllocError)
             }
+        }
+    }
+
+    /// Appends a full page where a page of the list ends. It is shared from then on.
+    ///
+    /// Refuses only for want of memory, and then the items are gone.
+    pub(crate) fn push_page(&mut self, page: Vec<T>) -> Result<(), AllocError>
+        requires full { vec_len page ≡ PAGE_LEN }
+        requires ends { length self.old % PAGE_LEN ≡ 0 }
+        requires room { length self.old + PAGE_LEN ≤ MAX_STEPS }
+        ensures ok { OnOk result (self.new ≡ self.old ++ page.items) }
+        ensures err { OnErr result (self.new ≡ self.old) }
+    {
+        self.pages.reserve(1)?;
+        let alloc = *self.last.allocator();
+        match Arc::new(alloc, page) {
+            Ok(full) => {
+                self.pages.push_reserved(full);
+                Ok(())
+            }
+            Err(_) => Err(AllocError),
         }
     }
 }

@@ -1,6 +1,6 @@
 //! The steps of a trace in the order of real time, each with its tick.
 
-ghost use Rattle.std.specs.Prelude.{◌≡◌, ◌++◌, ◌∷◌, [], ◌≤◌, ◌<◌, ◌↔◌, ℕ, length, option_copied, option_map, OnOk, OnErr, IfOk, IsTrue, List};
+ghost use Rattle.std.specs.Prelude.{◌≡◌, ◌++◌, ◌∷◌, [], ◌≤◌, ◌<◌, ◌+◌, ◌%◌, ◌↔◌, ℕ, length, vec_len, option_copied, option_map, OnOk, OnErr, IfOk, IsTrue, List};
 ghost use Rattle.std.specs.Option.{option_map_or};
 ghost use Rattle.step_trace.specs.declared.traces.TheConstants.{MAX_STEPS};
 ghost use Rattle.step_trace.specs.declared.steps.Step.{Step};
@@ -108,6 +108,28 @@ impl PlacedSteps {
         self.steps.push(step)?;
         self.ticks.push_reserved(tick);
         Ok(())
+    }
+
+    /// These steps and a page of further ones, each in its tick, where a page of these ends. The page is taken as it is.
+    ///
+    /// Refuses only for want of memory.
+    pub(crate) fn with_page(self, steps: Vec<Step>, ticks: &[u32]) -> Result<Self, AllocError>
+        requires full { vec_len steps ≡ PAGE_LEN }
+        requires each { length ticks.now ≡ PAGE_LEN }
+        requires ends { length self.steps % PAGE_LEN ≡ 0 }
+        requires room { length self.steps + PAGE_LEN ≤ MAX_STEPS }
+        ensures { IfOk result (λ longer. longer ≡ record { steps = self.steps ++ steps.items; ticks = self.ticks ++ ticks.now }) }
+    {
+        let PlacedSteps {
+            steps: mut all_steps,
+            ticks: mut all_ticks,
+        } = self;
+        all_ticks.extend(ticks)?;
+        all_steps.push_page(steps)?;
+        Ok(PlacedSteps {
+            steps: all_steps,
+            ticks: all_ticks,
+        })
     }
 
     /// The ids that the last step takes; none where there is no step.

@@ -64,6 +64,17 @@ impl TickList {
         }
     }
 
+    /// Adds the ticks of the next steps.
+    pub(crate) fn extend(&mut self, ticks: &[u32]) -> Result<(), AllocError>
+        ensures { OnOk result (all_ticks self.new ≡ all_ticks self.old ++ ticks.now) }
+    {
+        for tick in ticks {
+            self.reserve(*tick)?;
+            self.push_reserved(*tick);
+        }
+        Ok(())
+    }
+
     /// How many steps, from the first on and at most `end`, surely have the tick that they have in another list.
     pub(crate) fn same_first(&self, other: &TickList, end: u64) -> u64
         ensures inside { result ≤ end }

@@ -1,14 +1,18 @@
 //! Well-formed lists of steps under a configuration, each step in its tick.
 
-ghost use Rattle.std.specs.Prelude.{◌≡◌, [], ◌++◌, ◌∷◌, ◌≤◌, ◌<◌, length, option_copied, option_map, OnOk, OnErr, IfErr, IfOk, IsTrue, ◌↔◌, None, ◌+◌, ◌⊎◌, ℕ};
+ghost use Rattle.std.specs.Prelude.{◌≡◌, [], ◌++◌, ◌∷◌, ◌≤◌, ◌<◌, length, option_copied, option_map, OnOk, OnErr, IfErr, IfOk, IsTrue, ◌↔◌, None, Ok, ◌+◌, ◌%◌, ◌⊎◌, ℕ};
 
 use crate::configurations::Config;
 use crate::delivery_index::append_flag;
+use crate::loose_steps::{LooseSteps, StepRefused};
 use crate::own_steps::own_steps;
+use crate::paged_lists::PAGE_LEN;
 use crate::placed_steps::PlacedSteps;
-use crate::push_refusals::ids_refusal;
-use crate::steps::{Act, Step};
-use crate::ticks::{BadTick, comes_after_last};
+use crate::push_refusals::step_refusal;
+use crate::steps::Step;
+use crate::steps_so_far::StepsSoFar;
+use crate::ticks::BadTick;
+use crate::unchecked_steps::Unchecked;
 use std::alloc::{AllocError, Global};
 use std::marker::Model;
 
@@ -17,6 +21,9 @@ pub const MAX_STEPS: usize = 1_000_000;
 
 /// The greatest tick of a trace.
 pub const MAX_TICKS: u64 = 1_000_000;
+
+/// How many steps a full page of a trace has. Its first page begins with step 1.
+pub const PAGE_STEPS: usize = PAGE_LEN;
 
 /// Why a step is refused, in the order in which the reasons are tested.
 #[derive(Clone, Copy, Debug, PartialEq, Eq)]
@@ -80,6 +87,8 @@ impl Trace {
     ghost use Rattle.step_trace.specs.OwnSteps.{own_steps};
     ghost use Rattle.step_trace.specs.PushRefusals.{refusal, IsRefusal};
     ghost use Rattle.step_trace.specs.TickRefusals.{refusal_in, next_refusal, IsJustifiedIn, NamesLeastIn};
+    ghost use Rattle.step_trace.specs.AppendedSteps.{appended, IsStepRefusal};
+    ghost use Rattle.step_trace.specs.declared.paged_lists.TheConstants.{PAGE_LEN};
 
     /// The trace of a configuration that has no steps, and no tick yet. Takes no memory.
     pub fn new(alloc: Global, config: Config) -> Self
@@ -264,6 +273,48 @@ impl Trace {
         Ok(())
     }
 
+    /// The trace with a page of further steps, each in its tick, where a page of its own ends: as `push_at` appends one
+    /// after the other, but the page is taken as it is, and then checked.
+    pub(crate) fn with_page(self, page: LooseSteps) -> Result<Self, StepRefused>
+        requires full { length page.steps ≡ PAGE_LEN }
+        requires ends { length self.steps % PAGE_LEN ≡ 0 }
+        requires room { length self.steps + PAGE_LEN ≤ MAX_STEPS }
+        ensures appended { IfOk result (λ longer. appended self page.steps page.ticks ≡ Ok longer) }
+        ensures refused { IfErr result (IsStepRefusal (appended self page.steps page.ticks)) }
+    {
+        let Trace {
+            config,
+            placed,
+            last,
+            taken,
+        } = self;
+        let LooseSteps { steps, ticks } = page;
+        let Ok(placed) = placed.with_page(steps, &ticks) else {
+            let no = taken.len() as u64 + 1;
+            let why = PushError::Memory;
+            return Err(StepRefused { no, why });
+        };
+        let mut longer = Unchecked {
+            config,
+            placed,
+            last,
+            taken,
+        };
+        longer.check_all()?;
+        let Unchecked {
+            config,
+            placed,
+            last,
+            taken,
+        } = longer;
+        Ok(Trace {
+            config,
+            placed,
+            last,
+            taken,
+        })
+    }
+
     /// Goes on to this tick with no step in between. The last tick itself changes nothing. Takes no memory.
     ///
     /// Refuses a tick below the last one or above `MAX_TICKS`.
@@ -285,33 +336,7 @@ impl Trace {
         ensures exact { result ≡ refusal_in self.now tick step.now }
         ensures sound { IsTrace self.now }
     {
-        if self.placed.len() >= MAX_STEPS {
-            return Some(PushError::Full);
-        }
-        if tick == 0 || tick < self.last || tick > MAX_TICKS {
-            return Some(PushError::BadTick);
-        }
-        if !self.config.is_processor(step.proc) {
-            return Some(PushError::BadProc);
-        }
-        if !comes_after_last(&self.placed, tick, step.proc) {
-            return Some(PushError::ProcOrder);
-        }
-        match &step.act {
-            Act::Send { to } => {
-                if self.config.is_processor(*to) {
-                    None
-                } else {
-                    Some(PushError::BadDest)
-                }
-            }
-            Act::Receive { ids, .. } => ids_refusal(
-                &self.placed,
-                &self.taken,
-                tick,
-                step.proc,
-                ids.as_slice(),
-            ),
-        }
+        let so_far = StepsSoFar::all(&self.placed);
+        step_refusal(&self.config, &so_far, self.last, &self.taken, tick, step)
     }
 }

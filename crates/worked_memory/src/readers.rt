@@ -9,8 +9,9 @@ use step_trace::Trace;
 use trace_text::failing_devices::{AfterBytes, FailingReader};
 use trace_text::{Counting, TextError};
 
-/// So many that the text is longer than what one thread reads before the others begin.
-const STEPS: u64 = 700;
+/// So many that the text is longer than what one thread reads before the others begin, and that a page of the trace begins
+/// among the steps that the other thread reads.
+const STEPS: u64 = 900;
 
 const WORKERS: u64 = 2;
 

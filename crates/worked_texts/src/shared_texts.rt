@@ -12,6 +12,8 @@ const WORKERS: [u64; 6] = [0, 1, 2, 3, 7, 64];
 /// A text in which 1 sends a message and 2 takes it, in turns.
 #[derive(Clone, Copy)]
 pub(crate) struct Row {
+    /// In version 2 the tick of each step is its number.
+    pub(crate) version: u64,
     pub(crate) steps: u64,
     /// What stands before it all.
     pub(crate) start: &'static str,
@@ -24,6 +26,7 @@ pub(crate) struct Row {
 
 /// With which all is told.
 const USUAL: Row = Row {
+    version: 1,
     steps: 2_000,
     start: "",
     odd: (0, ""),
@@ -31,17 +34,48 @@ const USUAL: Row = Row {
     told: "2000 steps",
 };
 
-/// Three megabytes, which are read in stretches.
+const TIMED: Row = Row {
+    version: 2,
+    ..USUAL
+};
+
+/// Of which each thread reads some pages, whatever their number.
+const PAGES: Row = Row {
+    steps: 6_000,
+    end: "end,6000\n",
+    told: "6000 steps",
+    ..USUAL
+};
+
+/// Four megabytes and a half, which are read in several stretches.
 pub(crate) const LONG: Row = Row {
-    steps: 200_000,
-    end: "end,200000\n",
-    told: "200000 steps",
+    steps: 300_000,
+    end: "end,300000\n",
+    told: "300000 steps",
     ..USUAL
 };
 
 const ROWS: &[Row] = &[
     USUAL,
+    TIMED,
+    PAGES,
     LONG,
+    // (a tick whose last 32 bits are those of the due one)
+    Row {
+        odd: (1_501, "1501,4294968797,1,S,2\n"),
+        told: "BadStep(1501, BadTick)",
+        ..TIMED
+    },
+    Row {
+        odd: (1_501, "1501,1501,4,S,2\n"),
+        told: "BadStep(1501, BadProc)",
+        ..TIMED
+    },
+    Row {
+        odd: (4_700, "4700,4,S,2\n"),
+        told: "BadStep(4700, BadProc)",
+        ..PAGES
+    },
     Row {
         odd: (150_001, "\"150001\",1,S,2\n"),
         ..LONG
@@ -95,6 +129,14 @@ const ODD: &[(u64, &str, &str)] = &[
     ),
     (1_502, "1502,2,R,1501 1501\n", "BadStep(1502, IdsNotRising)"),
     (3, "3,1,S,9\n", "BadStep(3, BadDest)"),
+    // (the last step of a page, and the first of the next)
+    (1_536, "1536,4,S,2\n", "BadStep(1536, BadProc)"),
+    (1_537, "1537,4,S,2\n", "BadStep(1537, BadProc)"),
+    // (numbers that are left out, or told again)
+    (1_501, "", "WrongNumber(1501)"),
+    (1_537, "", "WrongNumber(1537)"),
+    (1_537, "1538,1,S,2\n", "WrongNumber(1537)"),
+    (1_537, "1536,1,S,2\n", "WrongNumber(1537)"),
     // (in the share of the thread that waits, where there are two or three)
     (801, "801,1,S,2\r\n\n\n", "2000 steps"),
     (801, "\"801\",1,S,2\n", "2000 steps"),
@@ -111,22 +153,28 @@ fn with_odd(no: u64, record: &'static str, told: &'static str) -> Row {
     }
 }
 
-fn push_step(alloc: Global, text: &mut String, no: u64) -> Result<(), AllocError> {
-    let line = if no % 2 == 1 {
-        format!(in alloc; "{no},1,S,2\n")?
+fn push_step(alloc: Global, text: &mut String, version: u64, no: u64) -> Result<(), AllocError> {
+    let place = if version == 1 {
+        format!(in alloc; "{no}")?
     } else {
-        format!(in alloc; "{no},2,R,{}\n", no.saturating_sub(1))?
+        format!(in alloc; "{no},{no}")?
     };
-    text.push_str(line.as_str())
+    text.push_str(place.as_str())?;
+    let step = if no % 2 == 1 {
+        format!(in alloc; ",1,S,2\n")?
+    } else {
+        format!(in alloc; ",2,R,{}\n", no.saturating_sub(1))?
+    };
+    text.push_str(step.as_str())
 }
 
 pub(crate) fn text_of(alloc: Global, row: &Row) -> Result<String, AllocError> {
-    let mut text = format!(in alloc; "{}dls-trace,1,3,1\ninit,1,2,3\n", row.start)?;
+    let mut text = format!(in alloc; "{}dls-trace,{},3,1\ninit,1,2,3\n", row.start, row.version)?;
     for no in 1..=row.steps {
         if no == row.odd.0 {
             text.push_str(row.odd.1)?;
         } else {
-            push_step(alloc, &mut text, no)?;
+            push_step(alloc, &mut text, row.version, no)?;
         }
     }
     text.push_str(row.end)?;
@@ -202,7 +250,7 @@ fn read_the_same<R: Threads + Sync>(rt: &R, alloc: Global, text: &[u8], trace: &
 
 #[test]
 fn the_trace_of_any_number_of_workers(rt: HostRuntime) -> Result<(), Fail> {
-    for row in [USUAL, LONG] {
+    for row in [USUAL, TIMED, PAGES, LONG] {
         let text = text_of(rt.alloc(), &row)?;
         let trace = read_trace(rt.alloc(), text.as_bytes())?;
         assert!(rt; read_the_same(&rt, rt.alloc(), text.as_bytes(), &trace));

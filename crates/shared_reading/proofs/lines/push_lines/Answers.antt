@@ -1,24 +1,40 @@
-use Rattle.std.proofs.Common.{rules, ◌≡◌, ◌∷◌, ◌∙◌, refl}
-use Rattle.std.proofs.lemmas.Result.{err_from_is_err_and}
-use Rattle.shared_reading.proofs.LinesTold.{line-refused, line-taken, lines-none}
+use Rattle.std.proofs.Common.{◌≡◌, ◌≢◌, ◌<◌, ◌+◌, Ok, Err, length, subst, arith}
+use Rattle.std.specs.Prelude.{MatchBool, ⊤}
+use Rattle.trace_text.specs.declared.reading.Stage.TheVariants.{Recording}
+use Rattle.trace_text.specs.declared.refusals.TextError.TheVariants.{WrongNumber}
+use Rattle.trace_text.specs.TextRefusals.{is_memory}
+use Rattle.shared_reading.specs.Lines.{Read, after_lines}
+use Rattle.shared_reading.proofs.NumberedLines.{numbered-none, numbered-apart, numbered-taken, numbered-refused}
 use Rattle.shared_reading.proofs.lines.push_lines.Goals as goal
 
-pub loop-line-init : goal.loop-line-init
-loop-line-init c =
-    let e : c.into_iter-line-iterator.result.rest.items ≡ c.args.lines.items = search rules in
-    rw e refl
+pub returns-then-lines-eq0 : goal.returns-then-lines-eq0
+returns-then-lines-eq0 c =
+    let s = c.lines.inside in
+    let none : length s.steps.steps ≡ 0 = omega (arith, c.lines.invariant.1) in
+    subst (λ (r : Read). after_lines c.args.version c.args.trace r.lines ≡ Ok (Recording c.args.version c.args.trace)) c.lines.view_is
+    (numbered-none c.args.version c.args.trace s.first s.steps.steps s.steps.ticks none)
 
-pub loop-line-preserved : goal.loop-line-preserved
-loop-line-preserved c =
-    let e : c.loop-line.line-iterator.rest.items ≡ c.in-Some.line ∷ c.next.new.self.rest.items = search rules in
-    c.loop-line.invariant
-    ∙ rw e (line-taken c.args.version c.loop-line.trace c.push_line.new.trace c.in-Some.line c.next.new.self.rest.items (rw c.in_ok-push_line.was at c.push_line.ensures))
+pub returns-then-lines-no : goal.returns-then-lines-no
+returns-then-lines-no c =
+    let s = c.lines.inside in
+    let value = c.len.ensures.value in
+    let some : 0 < length s.steps.steps = omega (arith, c.lines.invariant.1) in
+    let other : s.first ≢ c.len.result + 1 = c.if-lines-no.true in
+    subst (λ (r : Read). after_lines c.args.version c.args.trace r.lines ≡ Err (WrongNumber (c.len.result + 1))) c.lines.view_is
+    (rw value (numbered-apart c.args.version c.args.trace s.first s.steps.steps s.steps.ticks (rw value at other) c.lines.invariant.0 some))
 
-pub returns-in_err-push_line : goal.returns-in_err-push_line
-returns-in_err-push_line c =
-    let e : c.loop-line.line-iterator.rest.items ≡ c.in-Some.line ∷ c.next.new.self.rest.items = search rules in
-    let p = err_from_is_err_and c.from_residual.result c.from_residual.ensures.1 in
-    rw (p.1, p.2, c.loop-line.invariant, e) (line-refused c.args.version c.loop-line.trace c.in-Some.line c.next.new.self.rest.items _ (rw c.in_err-push_line.was at c.push_line.ensures))
+pub returns-in-Ok : goal.returns-in-Ok
+returns-in-Ok c =
+    let s = c.lines.inside in
+    let value = c.len.ensures.value in
+    let at : s.first ≡ length c.args.trace.steps + 1 = omega (arith, value) in
+    subst (λ (r : Read). after_lines c.args.version c.args.trace r.lines ≡ Ok (Recording c.args.version c.in-Ok.longer)) c.lines.view_is
+    (numbered-taken c.args.version c.args.trace c.in-Ok.longer s.first s.steps.steps s.steps.ticks at c.lines.invariant.0 c.in-Ok.ensures.appended)
 
-pub returns : goal.returns
-returns c = c.loop-line.invariant ∙ lines-none c.args.version c.loop-line.trace c.loop-line.line-iterator.rest.items (search rules)
+pub returns-in-Err : goal.returns-in-Err
+returns-in-Err c =
+    let s = c.lines.inside in
+    let value = c.len.ensures.value in
+    let at : s.first ≡ length c.args.trace.steps + 1 = omega (arith, value) in
+    subst (λ (r : Read). MatchBool (is_memory c.refusal_of.result) ⊤ (after_lines c.args.version c.args.trace r.lines ≡ Err c.refusal_of.result)) c.lines.view_is
+    (rw c.refusal_of.ensures (numbered-refused c.args.version c.args.trace s.first s.steps.steps s.steps.ticks c.in-Err.refused at c.lines.invariant.0 c.in-Err.ensures.refused))
