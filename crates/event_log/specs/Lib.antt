@@ -1,6 +1,7 @@
 pub mod Times
 pub mod Columns
 pub mod RefusalTexts
+pub mod Results
 pub mod Names
 pub mod LogRecords
 pub mod Naming

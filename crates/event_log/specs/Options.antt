@@ -65,6 +65,13 @@ HasBadTick tick = (text : List ℕ) × (tick ≡ Some text) × ((width : Width) 
 abbrev pub HasBadUntil : Option (List ℕ) → Type 0
 HasBadUntil until = (text : List ℕ) × (until ≡ Some text) × (moment_of text ≡ None)
 
+-- why two texts tell no length of a tick and no end: the first that is bad, in this order
+abbrev pub IsTimeFault : Option (List ℕ) → Option (List ℕ) → OptionError → Type 0
+IsTimeFault tick until option.Nodes = ⊥
+IsTimeFault tick until option.Tick = HasBadTick tick
+IsTimeFault tick until option.Until = (¬ HasBadTick tick) × HasBadUntil until
+IsTimeFault tick until option.Memory = ⊥
+
 -- why the texts tell no options: the first that is bad, in this order; or want of memory
 abbrev pub IsOptionFault : Option (List ℕ) → Option (List ℕ) → Option (List ℕ) → OptionError → Type 0
 IsOptionFault nodes tick until option.Nodes = HasBadNodes nodes

@@ -63,9 +63,13 @@ at_end_by (Some columns) r = named_by r.kind r.names
 abbrev pub named_at_end : Reading → Result (TimeKind × Named) LogError
 named_at_end r = at_end_by r.columns r
 
+-- what a text says after what was read
+abbrev pub named_from : Reading → List ℕ → Result (TimeKind × Named) LogError
+named_from r text =
+    if nat_le (length text) MAX_TEXT_BYTES then
+    (after_records next_reading r (records_of_text text) >>= λ s. named_at_end s)
+    else Err TooLarge
+
 -- the events of a log with its nodes and messages, or the first refusal
 abbrev pub named_of : Option (Bor (List (List ℕ))) → List (List ℕ) → List ℕ → Result (TimeKind × Named) LogError
-named_of listed nodes text =
-    if nat_le (length text) MAX_TEXT_BYTES then
-    (after_records next_reading (nothing_read listed nodes) (records_of_text text) >>= λ r. named_at_end r)
-    else Err TooLarge
+named_of listed nodes text = named_from (nothing_read listed nodes) text

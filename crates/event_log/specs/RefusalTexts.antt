@@ -2,6 +2,8 @@
 use Rattle.std.specs.Prelude.{ℕ, List, ◌++◌, codes, decimal, unwrap_or}
 use Rattle.event_log.specs.declared.refusals.LogError.{LogError}
 use Rattle.event_log.specs.declared.refusals.LogError.TheVariants.{TooLarge, NoColumn, TwoColumns, TooManyEvents, BadFields, BadTime, BadEvent, BadNode, BadMessage, NoEvents, TooManyNodes, SentBefore, TooFewNodes, TickUnfit, UntilUnfit, TooManyTicks, NeverSent, WrongReceiver, ReceivedBefore, NotLater, SecondEvent, Memory}
+use Rattle.event_log.specs.declared.refusal_texts.Words.{Words}
+use Rattle.event_log.specs.declared.refusal_texts.Words.TheVariants as words
 use Rattle.event_log.specs.Columns.{name_of}
 use Rattle.event_log.specs.Times.{text_of}
 
@@ -16,6 +18,19 @@ in_record number words = codes "record " ++ (decimal number ++ (codes ": " ++ wo
 -- a refusal of a message of this record
 abbrev pub of_message : ℕ → List ℕ → List ℕ → List ℕ
 of_message number name words = codes "record " ++ (decimal number ++ (codes ": message " ++ (printed name ++ words)))
+
+-- a second event of a node in a tick
+abbrev pub in_second : ℕ → List ℕ → ℕ → List ℕ
+in_second number node tick = codes "record " ++ (decimal number ++ (codes ": a second event of " ++ (printed node ++ (codes " in tick " ++ decimal tick))))
+
+-- the line of the words of a refusal
+abbrev pub words_text : Words → List ℕ
+words_text (words.Log text) = text.now
+words_text (words.Column text column) = text.now ++ name_of column
+words_text (words.Record number text) = in_record number text.now
+words_text (words.Message number message text) = of_message number message.now text.now
+words_text (words.Receiver number message node) = of_message number message.now (codes " is for " ++ printed node.now)
+words_text (words.SecondEvent number node tick) = in_second number node.now tick
 
 -- the line of each refusal
 abbrev pub log_error_text : LogError → List ℕ
@@ -39,5 +54,5 @@ log_error_text (NeverSent number message) = of_message number message (codes " w
 log_error_text (WrongReceiver number message node) = of_message number message (codes " is for " ++ printed node)
 log_error_text (ReceivedBefore number message) = of_message number message (codes " was received before")
 log_error_text (NotLater number message hint) = of_message number message (codes " is received no later than it was sent")
-log_error_text (SecondEvent number node tick hint) = codes "record " ++ (decimal number ++ (codes ": a second event of " ++ (printed node ++ (codes " in tick " ++ decimal tick))))
+log_error_text (SecondEvent number node tick hint) = in_second number node tick
 log_error_text Memory = codes "out of memory"

@@ -16,6 +16,7 @@ mod reading;
 mod records;
 mod refusal_texts;
 mod refusals;
+mod results;
 mod times;
 
 pub use columns::Column;

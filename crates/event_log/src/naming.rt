@@ -11,6 +11,7 @@ use crate::events::events_of;
 use crate::names::{MAX_NODES, Name, NameSet};
 use crate::records::{Told, Verb};
 use crate::refusals::LogError;
+use crate::results::both;
 use std::alloc::{AllocError, Global};
 use std::marker::Model;
 use timed_events::Event;
@@ -78,8 +79,8 @@ impl Naming {
             &self.messages,
             self.sends.as_slice(),
             self.events.as_slice(),
-        )?;
-        Ok((self.nodes, events))
+        );
+        both(Ok(self.nodes), events)
     }
 
     /// Takes in the names of the event at this place, from 0.
@@ -101,10 +102,10 @@ impl Naming {
         if numbers.count > MAX_NODES {
             return Err(LogError::TooManyNodes(at));
         }
-        let act = name_act(alloc, &mut self.messages, at, numbers.to, told)?;
         let Ok(()) = put_send(&mut self.sends, told.verb, place) else {
             return Err(LogError::Memory);
         };
+        let act = name_act(alloc, &mut self.messages, at, numbers.to, told)?;
         let event = KeptEvent {
             time: told.moment.time,
             processor: numbers.processor,

@@ -1,9 +1,10 @@
 //! How a log is read.
 
 ghost use Rattle.std.specs.Prelude.{◌≡◌, ◌∷◌, [], ◌++◌, Err, IfErr, IfOk, IfSome, IsSome, OnOk, option_map, true, false, None};
-ghost use Rattle.event_log.specs.Options.{AreNodes, AreNodesIn, AreOptions, HasBadNodes, HasBadTick, HasBadUntil, IsNodeFault, IsOptionFault, IsUntilIn, IsWidthIn, is_next_node, parts_between_commas};
+ghost use Rattle.event_log.specs.Options.{AreNodes, AreNodesIn, AreOptions, HasBadNodes, HasBadTick, HasBadUntil, IsNodeFault, IsOptionFault, IsTimeFault, IsUntilIn, IsWidthIn, is_next_node, parts_between_commas};
 
 use crate::names::{MAX_NODES, NameSet, is_name};
+use crate::results::both;
 use crate::times::{Moment, Width, read_moment, read_width};
 use std::alloc::Global;
 
@@ -48,13 +49,8 @@ pub fn read_options(
     ensures refused { IfErr result (λ why. IsOptionFault (option_map (λ t. t.now) nodes.entry) (option_map (λ t. t.now) tick.entry) (option_map (λ t. t.now) until.entry) why) }
     ensures more { result ≡ Err OptionError.Memory → IsSome nodes.entry }
 {
-    let nodes = listed_nodes(alloc, nodes)?;
-    let Some(width) = told_width(tick) else {
-        return Err(OptionError::Tick);
-    };
-    let Some(until) = told_end(until) else {
-        return Err(OptionError::Until);
-    };
+    let nodes = listed_nodes(alloc, nodes);
+    let (nodes, (width, until)) = both(nodes, told_times(tick, until))?;
     Ok(Options {
         nodes,
         width,
@@ -74,6 +70,26 @@ fn listed_nodes(alloc: Global, text: Option<&str>) -> Result<Option<NameSet>, Op
     };
     let nodes = node_list(alloc, text.as_bytes())?;
     Ok(Some(nodes))
+}
+
+/// The length of a tick and the end of the log that texts tell.
+///
+/// Refuses Tick and Until, in this order.
+fn told_times(
+    tick: Option<&str>,
+    until: Option<&str>,
+) -> Result<(Width, Option<Moment>), OptionError>
+    ensures width { IfOk result (λ t. IsWidthIn (option_map (λ t. t.now) tick.entry) t.0) }
+    ensures until { IfOk result (λ t. IsUntilIn (option_map (λ t. t.now) until.entry) t.1) }
+    ensures refused { IfErr result (IsTimeFault (option_map (λ t. t.now) tick.entry) (option_map (λ t. t.now) until.entry)) }
+{
+    let Some(width) = told_width(tick) else {
+        return Err(OptionError::Tick);
+    };
+    let Some(until) = told_end(until) else {
+        return Err(OptionError::Until);
+    };
+    Ok((width, until))
 }
 
 /// The length of a tick that a text tells; 1 where there is none.

@@ -1,17 +1,19 @@
 //! The records of a log, taken in one after the other.
 
-ghost use Rattle.std.specs.Prelude.{◌≡◌, ◌≤◌, Err, IfErr, IsTrue, OnOk, length};
+ghost use Rattle.std.specs.Prelude.{◌≡◌, ◌<◌, ◌≤◌, false, Err, IfErr, IfOk, IsTrue, MatchBool, Ok, OnOk, length, ⊤};
 ghost use Rattle.csv.specs.Records.{fields_of};
 ghost use Rattle.trace_text.specs.Records.{GivesUnless, ReachesUnless, after_records, records_of_text};
 ghost use Rattle.event_log.specs.LogRecords.{said};
 ghost use Rattle.event_log.specs.Naming.{is_memory};
-ghost use Rattle.event_log.specs.Reading.{after_told, named_at_end, named_of, next_reading};
+ghost use Rattle.event_log.specs.Reading.{after_told, named_at_end, named_from, named_of, next_reading};
+ghost use Rattle.event_log.specs.Results.{both};
 
 use crate::columns::{Column, Columns, columns_of};
 use crate::names::NameSet;
 use crate::naming::Naming;
 use crate::records::{Rules, Told, told_of};
 use crate::refusals::LogError;
+use crate::results::{both, put_error};
 use crate::times::TimeKind;
 use csv::{ByteRecord, ErrorKind, ReaderBuilder};
 use std::alloc::Global;
@@ -49,9 +51,6 @@ pub(crate) fn read_names(
     ensures names { GivesUnless is_memory (λ x. x) result (named_of listed.entry nodes text.now) }
     ensures more { result ≡ Err LogError.Memory → length text.now ≤ MAX_TEXT_BYTES }
 {
-    if text.len() > MAX_TEXT_BYTES {
-        return Err(LogError::TooLarge);
-    }
     let mut reading = Reading {
         columns: None,
         kind: None,
@@ -59,13 +58,27 @@ pub(crate) fn read_names(
         count: 0,
         names: Ok(Naming::new(alloc, nodes)),
     };
-    read_records(alloc, text, &mut reading)?;
-    names_at_end(reading)
+    let kind = read_kind(alloc, text, &mut reading);
+    both(kind, reading.names)
 }
 
-/// What the end of the text says.
-fn names_at_end(reading: Reading<'_>) -> Result<(TimeKind, Naming), LogError>
-    ensures { result ≡ named_at_end reading.entry }
+/// Takes in all records of a text, and gives the kind of the times at its end.
+fn read_kind(alloc: Global, text: &[u8], reading: &mut Reading<'_>) -> Result<TimeKind, LogError>
+    ensures kind { IfOk result (λ kind. named_from reading.old text.now ≡ both (Ok kind) reading.new.names) }
+    ensures refused { IfErr result (λ why. MatchBool (is_memory why) ⊤ (named_from reading.old text.now ≡ Err why)) }
+    ensures large { MAX_TEXT_BYTES < length text.now → result ≡ Err LogError.TooLarge }
+{
+    if text.len() > MAX_TEXT_BYTES {
+        return Err(LogError::TooLarge);
+    }
+    read_records(alloc, text, reading)?;
+    kind_at_end(reading)
+}
+
+/// What the end of the text says: the kind of the times, unless something is wanting beside the names.
+fn kind_at_end(reading: &Reading<'_>) -> Result<TimeKind, LogError>
+    ensures kind { IfOk result (λ kind. named_at_end reading.now ≡ both (Ok kind) reading.now.names) }
+    ensures refused { IfErr result (λ why. named_at_end reading.now ≡ Err why) }
 {
     if reading.columns.is_none() {
         return Err(LogError::NoColumn(Column::Time));
@@ -73,11 +86,10 @@ fn names_at_end(reading: Reading<'_>) -> Result<(TimeKind, Naming), LogError>
     let Some(kind) = reading.kind else {
         return Err(LogError::NoEvents);
     };
-    let names = reading.names?;
-    if names.node_count() < 2 {
-        return Err(LogError::TooFewNodes);
+    match &reading.names {
+        Ok(names) if names.node_count() < 2 => Err(LogError::TooFewNodes),
+        _ => Ok(kind),
     }
-    Ok((kind, names))
 }
 
 /// Takes in all records that csv reads from a text: those of its default reader, without a header row, of any length.
@@ -144,10 +156,19 @@ fn take_names(
     };
     match naming.take(alloc, place, told) {
         Ok(()) => Ok(()),
-        Err(LogError::Memory) => Err(LogError::Memory),
-        Err(why) => {
-            *names = Err(why);
-            Ok(())
-        }
+        Err(why) => refuse_names(names, why),
     }
+}
+
+/// Keeps why names are refused, if it isn't want of memory.
+fn refuse_names(names: &mut Result<Naming, LogError>, why: LogError) -> Result<(), LogError>
+    ensures names { OnOk result (names.new ≡ Err why) }
+    ensures kept { OnOk result (is_memory why ≡ false) }
+    ensures memory { IfErr result (λ e. IsTrue (is_memory e)) }
+{
+    if matches!(why, LogError::Memory) {
+        return Err(LogError::Memory);
+    }
+    put_error(names, why);
+    Ok(())
 }
