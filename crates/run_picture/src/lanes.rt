@@ -22,10 +22,11 @@ pub(crate) fn put_lanes(
 ) -> Result<(), AllocError> {
     let (first, to, y) = (window.first, window.to, LANES_TOP - 160);
     put(
+        alloc,
         out,
-        format!(in alloc;
+        format_args!(
             "<text x=\"900\" y=\"{y}\" class=\"h\">Steps of the ticks {first} to {to}</text>\n"
-        )?,
+        ),
     )?;
     for p in 1..count.min(64) + 1 {
         put_lane(alloc, out, frame, p, set, names)?;
@@ -56,16 +57,17 @@ fn put_lane(
     let y = frame.y(p);
     let class = if set.contains(p) { "i" } else { "o" };
     put(
+        alloc,
         out,
-        format!(in alloc;
+        format_args!(
             "<g class=\"{class}\"><path d=\"M900 {y}h10000\"/><text x=\"780\" y=\"{y}\" dy=\"40\">"
-        )?,
+        ),
     )?;
     match names.get(p.saturating_sub(1) as usize) {
         Some(name) => push_escaped(out, name.as_bytes())?,
-        None => put(out, format!(in alloc; "{p}")?)?,
+        None => put(alloc, out, format_args!("{p}"))?,
     }
-    put(out, format!(in alloc; "</text></g>\n")?)
+    out.extend_from_slice(b"</text></g>\n")
 }
 
 /// Round numbers of ticks.
@@ -85,8 +87,9 @@ fn put_ticks(
         }
         let x = frame.middle(tick);
         put(
+            alloc,
             out,
-            format!(in alloc; "<text x=\"{x}\" y=\"{y}\" class=\"n m\">{tick}</text>\n")?,
+            format_args!("<text x=\"{x}\" y=\"{y}\" class=\"n m\">{tick}</text>\n"),
         )?;
     }
     Ok(())

@@ -31,8 +31,9 @@ pub(crate) fn put_message(
     let line = frame.line(sent_in, step.proc, taken_in, *to);
     let (x, y, x_end, y_end) = (line.x, line.y, line.x_end, line.y_end);
     put(
+        alloc,
         out,
-        format!(in alloc; "<path class=\"l\" d=\"M{x} {y}L{x_end} {y_end}\"/>\n")?,
+        format_args!("<path class=\"l\" d=\"M{x} {y}L{x_end} {y_end}\"/>\n"),
     )
 }
 
@@ -50,8 +51,9 @@ fn put_lost(
     let down = frame.half_lane() * 7 / 10;
     let sign = if to < processor { "-" } else { "" };
     put(
+        alloc,
         out,
-        format!(in alloc; "<path class=\"l d\" d=\"M{x} {y}l{across} {sign}{down}\"/>\n")?,
+        format_args!("<path class=\"l d\" d=\"M{x} {y}l{across} {sign}{down}\"/>\n"),
     )
 }
 
@@ -65,25 +67,51 @@ fn put_arc(
     processor: u64,
 ) -> Result<(), AllocError> {
     let line = frame.line(tick, processor, end, processor);
-    let (x, y, x_end) = (line.x, line.y.min(100_000), line.x_end.min(100_000));
-    let rise = frame.half_lane() * 7 / 10;
-    let half = frame.half();
-    let top = y.saturating_sub(rise);
+    put_way_up(alloc, out, frame, tick, line.x, line.y)?;
+    put_way_down(alloc, out, frame, end, line.x_end)
+}
+
+/// How far a message to its own sender goes up.
+fn rise(frame: Frame) -> u64 {
+    frame.half_lane() * 7 / 10
+}
+
+fn put_way_up(
+    alloc: Global,
+    out: &mut Vec<u8>,
+    frame: Frame,
+    tick: u64,
+    x: u64,
+    y: u64,
+) -> Result<(), AllocError> {
+    let (half, rise) = (frame.half(), rise(frame));
     if frame.shows(tick) {
-        put(
+        return put(
+            alloc,
             out,
-            format!(in alloc; "<path class=\"l\" d=\"M{x} {y}q0 -{rise} {half} -{rise}")?,
-        )?;
-    } else {
-        put(out, format!(in alloc; "<path class=\"l\" d=\"M{x} {top}")?)?;
+            format_args!("<path class=\"l\" d=\"M{x} {y}q0 -{rise} {half} -{rise}"),
+        );
     }
-    if frame.shows(end) {
-        let along = x_end.saturating_sub(half);
-        put(
-            out,
-            format!(in alloc; "H{along}q{half} 0 {half} {rise}\"/>\n")?,
-        )
-    } else {
-        put(out, format!(in alloc; "H{x_end}\"/>\n")?)
+    let top = y.saturating_sub(rise);
+    put(alloc, out, format_args!("<path class=\"l\" d=\"M{x} {top}"))
+}
+
+/// Along to the end, and down where it is in the window.
+fn put_way_down(
+    alloc: Global,
+    out: &mut Vec<u8>,
+    frame: Frame,
+    end: u64,
+    x_end: u64,
+) -> Result<(), AllocError> {
+    if !frame.shows(end) {
+        return put(alloc, out, format_args!("H{x_end}\"/>\n"));
     }
+    let (half, rise) = (frame.half(), rise(frame));
+    let along = x_end.saturating_sub(half);
+    put(
+        alloc,
+        out,
+        format_args!("H{along}q{half} 0 {half} {rise}\"/>\n"),
+    )
 }

@@ -98,21 +98,19 @@ fn greatest_bound(corners: &[Row]) -> u64 {
 }
 
 fn put_heading(alloc: Global, out: &mut Vec<u8>, picture: &Picture) -> Result<(), AllocError> {
-    put(
-        out,
-        format!(in alloc;
-            "<text x=\"900\" y=\"300\" class=\"h\">Least bounds that hold from a tick to the end</text>\n"
-        )?,
+    out.extend_from_slice(
+        b"<text x=\"900\" y=\"300\" class=\"h\">Least bounds that hold from a tick to the end</text>\n",
     )?;
     let Some(row) = picture.corners.first() else {
         return Ok(());
     };
     let (gst, delta, phi) = (row.gst, row.delta, row.phi);
     put(
+        alloc,
         out,
-        format!(in alloc;
+        format_args!(
             "<text x=\"10900\" y=\"300\" text-anchor=\"end\"><tspan class=\"delta\">Δ({gst}) = {delta}</tspan> in communication, <tspan class=\"phi\">Φ({gst}) = {phi}</tspan> of processors</text>\n"
-        )?,
+        ),
     )
 }
 
@@ -127,10 +125,11 @@ fn put_shade(
     let x = axes.edge(first);
     let width = axes.edge(to.saturating_add(1)).saturating_sub(x);
     put(
+        alloc,
         out,
-        format!(in alloc;
+        format_args!(
             "<rect x=\"{x}\" y=\"500\" width=\"{width}\" height=\"1700\" fill=\"#f3f1e7\"/>\n"
-        )?,
+        ),
     )
 }
 
@@ -143,20 +142,18 @@ fn put_bounds_axis(alloc: Global, out: &mut Vec<u8>, axes: Axes) -> Result<(), A
         }
         let y = axes.y(bound);
         put(
+            alloc,
             out,
-            format!(in alloc;
+            format_args!(
                 "<path class=\"a\" d=\"M900 {y}h10000\"/><text x=\"820\" y=\"{y}\" dy=\"40\" class=\"n e\">{bound}</text>\n"
-            )?,
+            ),
         )?;
     }
     Ok(())
 }
 
 fn put_ticks_axis(alloc: Global, out: &mut Vec<u8>, axes: Axes) -> Result<(), AllocError> {
-    put(
-        out,
-        format!(in alloc; "<text x=\"820\" y=\"2380\" class=\"n e\">tick</text>\n")?,
-    )?;
+    out.extend_from_slice(b"<text x=\"820\" y=\"2380\" class=\"n e\">tick</text>\n")?;
     let step = round_step(axes.last, 10);
     for i in 1..11 {
         let tick = step.saturating_mul(i);
@@ -165,8 +162,9 @@ fn put_ticks_axis(alloc: Global, out: &mut Vec<u8>, axes: Axes) -> Result<(), Al
         }
         let x = axes.middle(tick);
         put(
+            alloc,
             out,
-            format!(in alloc; "<text x=\"{x}\" y=\"2380\" class=\"n m\">{tick}</text>\n")?,
+            format_args!("<text x=\"{x}\" y=\"2380\" class=\"n m\">{tick}</text>\n"),
         )?;
     }
     Ok(())
@@ -185,16 +183,17 @@ fn put_line(
     let y = axes.y(bound.of(first));
     let (colour, shift) = (bound.colour(), bound.shift());
     put(
+        alloc,
         out,
-        format!(in alloc;
+        format_args!(
             "<path class=\"b\" stroke=\"{colour}\" transform=\"translate(0 {shift})\" d=\"M900 {y}"
-        )?,
+        ),
     )?;
     for row in corners {
         let (x, y) = (axes.edge(row.gst), axes.y(bound.of(row)));
-        put(out, format!(in alloc; "H{x}V{y}")?)?;
+        put(alloc, out, format_args!("H{x}V{y}"))?;
     }
-    put(out, format!(in alloc; "H10900\"/>\n")?)
+    out.extend_from_slice(b"H10900\"/>\n")
 }
 
 /// What the bounds are from each corner on, for whoever points there.
@@ -204,16 +203,17 @@ fn put_titles(
     axes: Axes,
     corners: &[Row],
 ) -> Result<(), AllocError> {
-    put(out, format!(in alloc; "<g class=\"t\">\n")?)?;
+    out.extend_from_slice(b"<g class=\"t\">\n")?;
     for row in corners {
         let x = axes.edge(row.gst);
         let (gst, delta, phi) = (row.gst, row.delta, row.phi);
         put(
+            alloc,
             out,
-            format!(in alloc;
+            format_args!(
                 "<path d=\"M{x} 500H10900V2200H{x}\"><title>from tick {gst} on: Δ = {delta}, Φ = {phi}</title></path>\n"
-            )?,
+            ),
         )?;
     }
-    put(out, format!(in alloc; "</g>\n")?)
+    out.extend_from_slice(b"</g>\n")
 }

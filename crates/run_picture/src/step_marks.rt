@@ -23,29 +23,76 @@ pub(crate) fn put_step(
         return Ok(());
     };
     let (tick, processor) = (tick_at(trace, no), step.proc);
-    let (x, y) = (frame.middle(tick), frame.y(processor));
+    let mark = Mark {
+        no,
+        tick,
+        processor,
+        x: frame.middle(tick),
+        y: frame.y(processor),
+    };
     match &step.act {
-        Act::Send { to } => {
-            let size = radius(frame);
-            put(
-                out,
-                format!(in alloc;
-                    "<circle cx=\"{x}\" cy=\"{y}\" r=\"{size}\"><title>step {no}, tick {tick}: processor {processor} sends message {no} to {to}</title></circle>\n"
-                )?,
-            )
-        }
-        Act::Receive { ends, ids } => {
-            put_square(alloc, out, frame, x, y, ids.as_slice().len() == 0)?;
-            put(
-                out,
-                format!(in alloc;
-                    "<title>step {no}, tick {tick}: processor {processor} receives "
-                )?,
-            )?;
-            put_ids(alloc, out, ids.as_slice())?;
-            put_end(alloc, out, frame, x, y, *ends)
-        }
+        Act::Send { to } => put_send(alloc, out, frame, mark, *to),
+        Act::Receive { ends, ids } => put_receive(alloc, out, frame, mark, *ends, ids.as_slice()),
     }
+}
+
+/// The step of a mark, and the middle of the mark.
+#[derive(Clone, Copy)]
+struct Mark {
+    no: u64,
+    tick: u64,
+    processor: u64,
+    x: u64,
+    y: u64,
+}
+
+fn put_send(
+    alloc: Global,
+    out: &mut Vec<u8>,
+    frame: Frame,
+    mark: Mark,
+    to: u64,
+) -> Result<(), AllocError> {
+    let Mark {
+        no,
+        tick,
+        processor,
+        x,
+        y,
+    } = mark;
+    let size = radius(frame);
+    put(
+        alloc,
+        out,
+        format_args!(
+            "<circle cx=\"{x}\" cy=\"{y}\" r=\"{size}\"><title>step {no}, tick {tick}: processor {processor} sends message {no} to {to}</title></circle>\n"
+        ),
+    )
+}
+
+fn put_receive(
+    alloc: Global,
+    out: &mut Vec<u8>,
+    frame: Frame,
+    mark: Mark,
+    ends: bool,
+    ids: &[u64],
+) -> Result<(), AllocError> {
+    let Mark {
+        no,
+        tick,
+        processor,
+        x,
+        y,
+    } = mark;
+    put_square(alloc, out, frame, x, y, ids.len() == 0)?;
+    put(
+        alloc,
+        out,
+        format_args!("<title>step {no}, tick {tick}: processor {processor} receives "),
+    )?;
+    put_ids(alloc, out, ids)?;
+    put_end(alloc, out, frame, x, y, ends)
 }
 
 /// How far a mark goes from its middle.
@@ -67,30 +114,29 @@ fn put_square(
     let (left, top, wide) = (x.saturating_sub(size), y.saturating_sub(size), size * 2);
     let class = if is_empty { " class=\"z\"" } else { "" };
     put(
+        alloc,
         out,
-        format!(in alloc;
-            "<rect x=\"{left}\" y=\"{top}\" width=\"{wide}\" height=\"{wide}\"{class}>"
-        )?,
+        format_args!("<rect x=\"{left}\" y=\"{top}\" width=\"{wide}\" height=\"{wide}\"{class}>"),
     )
 }
 
 /// The first ids, and how many more there are.
 fn put_ids(alloc: Global, out: &mut Vec<u8>, ids: &[u64]) -> Result<(), AllocError> {
     if ids.len() == 0 {
-        return put(out, format!(in alloc; "nothing")?);
+        return out.extend_from_slice(b"nothing");
     }
     let kind = if ids.len() == 1 {
         "message"
     } else {
         "messages"
     };
-    put(out, format!(in alloc; "{kind}")?)?;
+    out.extend_from_slice(kind.as_bytes())?;
     for id in &ids[..ids.len().min(NAMED_IDS)] {
-        put(out, format!(in alloc; " {id}")?)?;
+        put(alloc, out, format_args!(" {id}"))?;
     }
     let more = ids.len().saturating_sub(NAMED_IDS);
     if more > 0 {
-        put(out, format!(in alloc; " and {more} more")?)?;
+        put(alloc, out, format_args!(" and {more} more"))?;
     }
     Ok(())
 }
@@ -105,14 +151,15 @@ fn put_end(
     ends: bool,
 ) -> Result<(), AllocError> {
     if !ends {
-        return put(out, format!(in alloc; "</title></rect>\n")?);
+        return out.extend_from_slice(b"</title></rect>\n");
     }
     let far = radius(frame) + 25;
     let (right, top, tall) = (x.min(100_000) + far, y.saturating_sub(far), far * 2);
     put(
+        alloc,
         out,
-        format!(in alloc;
+        format_args!(
             " and ends its round</title></rect><path class=\"r\" d=\"M{right} {top}v{tall}\"/>\n"
-        )?,
+        ),
     )
 }

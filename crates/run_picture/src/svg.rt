@@ -11,6 +11,7 @@ use crate::staircase::put_staircase;
 use crate::step_marks::put_step;
 use crate::witness_marks::{put_gap, put_miss};
 use std::alloc::{AllocError, Global};
+use std::fmt::Display;
 use step_trace::{ProcSet, Row, Trace};
 
 /// How many messages are written, the last by their Sends.
@@ -49,8 +50,13 @@ pub fn svg_text(
     Ok(out)
 }
 
-/// Appends a text.
-pub(crate) fn put(out: &mut Vec<u8>, text: String) -> Result<(), AllocError> {
+/// Appends the text of a value.
+pub(crate) fn put<D: Display + Drop>(
+    alloc: Global,
+    out: &mut Vec<u8>,
+    value: D,
+) -> Result<(), AllocError> {
+    let text = format!(in alloc; "{value}")?;
     out.extend_from_slice(text.as_bytes())
 }
 
@@ -60,16 +66,21 @@ fn put_head(alloc: Global, out: &mut Vec<u8>, frame: Frame, overhang: u64) -> Re
 {
     let height = frame.lanes_end() + 1_000;
     let width = overhang + 11_200;
-    let (minus, edge) = if overhang == 0 {
-        ("", String::new(alloc))
-    } else {
-        ("-", format!(in alloc; " x=\"-{overhang}\"")?)
-    };
+    let minus = if overhang == 0 { "" } else { "-" };
     put(
+        alloc,
         out,
-        format!(in alloc;
-            "<svg xmlns=\"http://www.w3.org/2000/svg\" viewBox=\"{minus}{overhang} 0 {width} {height}\" font-family=\"system-ui, sans-serif\" font-size=\"120\" fill=\"#1a1a1a\">\n{STYLE}<rect{edge} width=\"{width}\" height=\"{height}\" fill=\"#fff\"/>\n"
-        )?,
+        format_args!(
+            "<svg xmlns=\"http://www.w3.org/2000/svg\" viewBox=\"{minus}{overhang} 0 {width} {height}\" font-family=\"system-ui, sans-serif\" font-size=\"120\" fill=\"#1a1a1a\">\n{STYLE}<rect"
+        ),
+    )?;
+    if overhang > 0 {
+        put(alloc, out, format_args!(" x=\"-{overhang}\""))?;
+    }
+    put(
+        alloc,
+        out,
+        format_args!(" width=\"{width}\" height=\"{height}\" fill=\"#fff\"/>\n"),
     )
 }
 
@@ -150,8 +161,9 @@ fn put_foot(
 ) -> Result<(), AllocError> {
     let legend = frame.lanes_end() + 480;
     put(
+        alloc,
         out,
-        format!(in alloc; "<g transform=\"translate(900 {legend})\" class=\"k\">\n{LEGEND}</g>\n")?,
+        format_args!("<g transform=\"translate(900 {legend})\" class=\"k\">\n{LEGEND}</g>\n"),
     )?;
     let y = frame.lanes_end() + 860;
     put_left_out(
@@ -178,7 +190,7 @@ fn put_foot(
         MAX_WITNESSES,
         "later gaps",
     )?;
-    put(out, format!(in alloc; "</svg>\n")?)
+    out.extend_from_slice(b"</svg>\n")
 }
 
 fn put_left_out(
@@ -195,7 +207,8 @@ fn put_left_out(
     }
     let (x, y) = place;
     put(
+        alloc,
         out,
-        format!(in alloc; "<text x=\"{x}\" y=\"{y}\">{left_out} {kind} are not drawn.</text>\n")?,
+        format_args!("<text x=\"{x}\" y=\"{y}\">{left_out} {kind} are not drawn.</text>\n"),
     )
 }

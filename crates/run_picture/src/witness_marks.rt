@@ -26,10 +26,11 @@ pub(crate) fn put_miss(
     );
     let (x, y, x_end, y_end) = (line.x, line.y, line.x_end, line.y_end);
     put(
+        alloc,
         out,
-        format!(in alloc;
+        format_args!(
             "<path class=\"w\" d=\"M{x} {y}L{x_end} {y_end}\"><title>message {sent} was not yet received at step {missed}: Δ({gst}) = {delta}</title></path>\n"
-        )?,
+        ),
     )
 }
 
@@ -56,9 +57,10 @@ pub(crate) fn put_gap(
     let y = frame.y(gap.proc).saturating_sub(90);
     let (processor, from, to, gst, phi) = (gap.proc, gap.from, gap.to, row.gst, row.phi);
     put(
+        alloc,
         out,
-        format!(in alloc;
+        format_args!(
             "<rect class=\"g\" x=\"{x}\" y=\"{y}\" width=\"{width}\" height=\"180\" rx=\"40\"><title>processor {processor} takes no step from tick {from} to tick {to}: Φ({gst}) = {phi}</title></rect>\n"
-        )?,
+        ),
     )
 }
