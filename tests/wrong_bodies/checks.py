@@ -9,9 +9,11 @@ import subprocess
 import sys
 import tempfile
 import threading
+from contextlib import suppress
 from pathlib import Path
 
 import tree
+from gate_libraries import are_of_gate, kit, newest, words_over
 from verdicts import Told
 
 
@@ -26,10 +28,6 @@ def progress(text):
 def folder_of_copy(checkout):
     name = hashlib.sha256(str(checkout).encode()).hexdigest()[:12]
     return Path(tempfile.gettempdir()) / f"mutants-{os.getuid()}" / name
-
-
-def newest(files):
-    return max((it.stat().st_mtime for it in files), default=0)
 
 
 class Stopped(Exception):
@@ -73,7 +71,7 @@ class Workshop:
     def __init__(self, checkout, names):
         self.checkout, self.commands, self.top = checkout, Commands(), folder_of_copy(checkout)
         self.crates = tree.read_crates(checkout)
-        self.toolchain = Path(subprocess.run(["rt", "doc"], stdout=subprocess.PIPE, text=True, check=True).stdout.strip()).parent
+        self.toolchain = kit()
         self.top.mkdir(parents=True, exist_ok=True)
         (self.top / "checkout").write_text(f"{checkout}\n")
         # (rt looks for crates.txt no higher than here)
@@ -89,7 +87,7 @@ class Workshop:
             self.put_back(name)
             tree.copy_sources(checkout / "crates" / name, self.folder(name))
         self.libraries = tree.with_those_below(self.crates, [below for name in names for below in self.crates[name]])
-        self.of_gate = self.has_libraries_of_gate()
+        self.of_gate = are_of_gate(checkout, self.crates, self.libraries)
         for name in names if self.of_gate else {*names, *self.libraries}:
             self.take_kept_work(name)
         if not self.of_gate:
@@ -128,25 +126,6 @@ class Workshop:
             shutil.copytree(theirs / part, ours / part, copy_function=tree.link)
             os.close(held)
 
-    def has_libraries_of_gate(self):
-        """Whether the checkout's libraries are those that a whole run of `rt ci` left, newer than what they are made of.
-
-        They hold what the crates above can cite, without proofs and without the stamp by which rt would know them again.
-        """
-        made = {}
-        for name in self.libraries:
-            home = self.checkout / "crates" / name
-            mark, sources = self.library(name, self.checkout) / "format", tree.files_of(home)
-            if not mark.is_file() or (home / "out/rlib/stamp").exists():
-                return False
-            made[name] = mark.stat().st_mtime
-            if made[name] < max([newest([*sources, self.checkout / "crates.txt"]), *[made[it] for it in self.crates[name]]]):
-                return False
-        return bool(self.libraries)
-
-    def library(self, name, top):
-        return top / "crates" / name / "out/rlib" / f"{name}.rlib"
-
     def build_libraries(self):
         """Builds the libraries that are to stand below: in no time where the kept work has them."""
         highest = [it for it in self.libraries if not any(it in self.crates[above] for above in self.libraries)]
@@ -158,21 +137,10 @@ class Workshop:
 
     def words(self, name, jobs):
         """The words by which rt has a crate checked over its libraries and over the work kept in out/."""
-        kit, top = self.toolchain, self.checkout if self.of_gate else self.top
-        line = next(it for it in (self.top / "crates.txt").read_text().splitlines() if tree.name_in(it) == name)
-        named = line.partition("#")[0].partition(":")[2].replace(",", " ").split()
+        top = self.checkout if self.of_gate else self.top
         root = "src/main.rt" if (self.folder(name) / "src/main.rt").is_file() else "src/lib.rt"
-        words = [str(kit / "bin/rattle"), "check", "--crate-name", name, root, "-L", f"dependency={kit}/rlibs"]
-        if tree.is_static(line):
-            words += ["--crate-type", "staticlib"]
-        for it in ["std", *[it for it in named if it not in self.crates]]:
-            words += ["--extern", f"{it}={kit}/rlibs/{it}.rlib"]
-        for it in self.crates[name]:
-            words += ["--extern", f"{it}={self.library(it, top)}"]
-        for it in tree.with_those_below(self.crates, self.crates[name]):
-            words += ["-L", f"dependency={self.library(it, top).parent}"]
-        words += ["--antt-project", f"{kit}/rattle/logic/antt-project.json", "--logic-built", f"{kit}/logic_built"]
-        return [*words, "--links", f"{name}=", "--incremental", "out/incremental", "--jobs", str(jobs)]
+        words = [str(self.toolchain / "bin/rattle"), "check", *words_over(top, self.crates, name, root, self.toolchain)]
+        return [*words, "--incremental", "out/incremental", "--jobs", str(jobs)]
 
 
 class Bench:
@@ -184,28 +152,42 @@ class Bench:
         self.kept, self.clean = crate.folder / "out" / "incremental", workshop.top / "clean" / crate.name
         self.checks, self.seconds = 0, 0.0
 
-    def check(self, changed):
-        """Checks the crate with these texts in place of its own, over the kept work of its check with none, if there is one."""
+    def check(self, changed, only=(), may_have_holes=False):
+        """Checks the crate, or only these functions of it, with these texts in place of its own (None: no such file),
+        over the kept work of its check with none, if there is one."""
         if self.clean.is_dir():
             shutil.rmtree(self.kept, ignore_errors=True)
             shutil.copytree(self.clean, self.kept, copy_function=tree.link)
         self.kept.parent.mkdir(exist_ok=True)
+        options = [*[word for it in only for word in ("--only", it)], *["--allow-holes"] * may_have_holes]
         try:
             for path, text in changed.items():
-                (self.crate.folder / path).write_text(text)
-            output, status, seconds = self.run(self.jobs())
+                self.put(path, text)
+            output, status, seconds = self.run(self.jobs(), options)
             if status < 0:
                 progress(f"{self.crate.name}: the check was killed, most likely for memory: once more, with one job")
-                output, status, more = self.run(1)
+                output, status, more = self.run(1, options)
                 seconds += more
         finally:
             for path in changed:
-                (self.crate.folder / path).write_text(self.crate.texts[path])
+                self.put(path, self.crate.texts.get(path))
         self.checks, self.seconds = self.checks + 1, self.seconds + seconds
         return Told(output)
 
-    def run(self, jobs):
-        return self.workshop.commands.run(self.workshop.words(self.crate.name, jobs), self.crate.folder)
+    def put(self, path, text):
+        """Has a file hold a text, or be away (None), with the folders that then are empty."""
+        file = self.crate.folder / path
+        if text is None:
+            file.unlink(missing_ok=True)
+            with suppress(OSError):
+                for folder in file.parents:
+                    folder.rmdir()
+        else:
+            file.parent.mkdir(parents=True, exist_ok=True)
+            file.write_text(text)
+
+    def run(self, jobs, options):
+        return self.workshop.commands.run([*self.workshop.words(self.crate.name, jobs), *options], self.crate.folder)
 
     def check_unchanged(self):
         """Checks the crate as it stands, and sets that work aside for the checks of mutants."""

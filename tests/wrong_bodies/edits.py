@@ -2,9 +2,9 @@
 
 import os
 from contextlib import suppress
-from dataclasses import dataclass
+from dataclasses import dataclass, field
 
-from sources import Function
+from sources import Function, functions_of
 from tree import PARTS
 
 
@@ -18,6 +18,9 @@ class Mutant:
     path: str = ""
     function: Function = None
     why_alone: str = ""
+    # The one function whose contract or law it turns, if there is one, and the units whose bodies it changes with that.
+    turned: Function = None
+    changed: set = field(default_factory=set)
 
 
 class Bad(Exception):
@@ -64,9 +67,22 @@ def change_of(old, new):
     return front, len(old) - back
 
 
+def functions_at(label, path, text, begins, ends, crate):
+    """The units of the function whose contract a change turns, and of the one whose body it changes ("": none, and None:
+    not one alone): in a source by where it stands, and in specs/ or proofs/ by the label FUNCTION-.. of the edit."""
+    if not path.startswith("src/"):
+        named = label.rpartition("/")[2].partition("-")[0]
+        found = [it for functions in crate.functions.values() for it in functions if it.name == named]
+        return (found[0].unit() if len(found) == 1 else None), ""
+    found = [it for it in functions_of(crate.name, path, text) if it.start <= begins and ends <= it.end]
+    if not found:
+        return None, ""
+    return ("", found[0].unit()) if found[0].body <= begins else (found[0].unit(), "")
+
+
 def planted(label, edit, crate):
     """The mutant of an edit's text in a crate."""
-    texts, function, end, why_alone = {}, None, 0, ""
+    texts, function, end, why_alone, turned, changed = {}, None, 0, "", set(), set()
     pairs = pairs_of(edit)
     for path, after, old, new in pairs:
         text = texts.get(path, crate.texts.get(path))
@@ -75,6 +91,9 @@ def planted(label, edit, crate):
         place = place_of(path, text, after, old)
         texts[path] = text[:place] + new + text[place + len(old) :]
         begins, ends = (place + it for it in change_of(old, new))
+        of_contract, of_body = functions_at(label, path, text, begins, ends, crate)
+        turned |= {of_contract} - {""}
+        changed |= {of_body} - {""}
         if not function:
             here = [it for it in crate.functions.get(path, []) if it.body <= begins and ends <= it.end]
             function = here[0] if here else None
@@ -93,7 +112,9 @@ def planted(label, edit, crate):
             why_alone = "its braces move the end of a body"
         end += len(new) - len(old)
     if why_alone:
-        return Mutant(label, texts, why_alone=why_alone)
+        unit = turned.pop() if len(turned) == 1 else None
+        found = [it for functions in crate.functions.values() for it in functions if it.unit() == unit]
+        return Mutant(label, texts, why_alone=why_alone, turned=found[0] if len(found) == 1 else None, changed=changed)
     return Mutant(label, texts, pairs[0][0], function)
 
 

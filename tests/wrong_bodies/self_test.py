@@ -104,6 +104,19 @@ pub fn lesser(a: u64, b: u64) -> u64
 {
     least(a, b)
 }
+
+/// A number that is at most this one.
+pub fn below(p: u64) -> u64
+    ensures most { result ≤ p }
+{
+    lowered(p)
+}
+
+fn lowered(p: u64) -> u64
+    ensures lower { result ≤ p }
+{
+    p / 2
+}
 """,
 }
 
@@ -136,8 +149,16 @@ PLANTED_ABOVE = {
     "lesser-is-the-second": ("lib", ["least(a, b)", "b"], REFUSED),
     "lesser-is-the-first": ("lib", ["least(a, b)", "a"], PROVED),
     "lesser-has-a-type-error": ("lib", ["least(a, b)", "is_small(a)"], BROKEN),
+    "below-above": ("lib", ["    lowered(p)", "    lowered(p) + 1"], REFUSED),
+    "below-twice": ("lib", ["    lowered(p)", "    lowered(lowered(p))"], PROVED),
+    "below-promises-zero": ("lib", ["most { result ≤ p }", "most { result ≤ 0 }"], REFUSED),
+    "below-by-a-type-error": ("lib", ["most { result ≤ p }", "most { result ≤ 0 }", "p / 2", "is_small(p)"], BROKEN),
+    # A half is in no contract, so nobody who calls it is told of another number.
+    "lowered-to-a-third": ("lib", ["p / 2", "p / 3"], PROVED),
+    # Only a caller shows that this is too little.
+    "lowered-promises-nothing": ("lib", ["lower { result ≤ p }", "lower { 0 ≤ result }"], REFUSED),
 }
-# A crate that isn't proved as it stands, so that no verdict on a wrong body of it says anything.
+# A crate that isn't proved as it stands: a function that its others call, which is no stub, for a const fn never is one.
 UNPROVED = """\
 //! A function that isn't what it says.
 #![tactic(auto)]
@@ -148,7 +169,7 @@ ghost use Rattle.std.specs.Prelude.{◌≡◌, ◌≤◌};
 pub fn half(p: u64) -> u64
     ensures { result ≤ p }
 {
-    p / 2
+    other(p) / 2
 }
 
 /// The number itself.
@@ -159,14 +180,14 @@ pub fn same(p: u64) -> u64
 }
 
 /// The number itself, so it says.
-pub fn other(p: u64) -> u64
+pub const fn other(p: u64) -> u64
     ensures { result ≡ p }
 {
     p / 3
 }
 """
 PLANTED_UNPROVED = {
-    "half-of-one": "file: src/lib.rt\nold: p / 2\nnew: p / 2 + 1\n",
+    "half-of-one": "file: src/lib.rt\nold: other(p) / 2\nnew: other(p) / 2 + 1\n",
     "same-is-zero": "file: src/lib.rt\nafter: pub fn same\nold:     p\nnew:     p / 4\n",
 }
 

@@ -58,6 +58,7 @@ class Function:
 
 HEAD = re.compile(r"""(?P<pub>pub(?P<part>\([^)]*\))? )?(?P<words>(?:const |unsafe |async |extern "[^"]*" )*)fn (?P<name>\w+)""")
 MODULE = re.compile(r"(?:pub(?:\([^)]*\))? )?mod (?P<name>\w+) \{$")
+TYPE = re.compile(r"^(?:pub(?:\([^)]*\))? )?(?:struct|enum) (\w+)", re.M)
 IMPL = re.compile(r"(?:unsafe )?impl(?:<.*?>)? (?:(?P<trait>[\w:]+(?:<.*>)?) for )?(?P<type>[\w:]+)")
 CYCLE = re.compile(r"#\[cycle\((\w+)\)\]")
 TRAIT = re.compile(r"^pub trait (\w+)[^\n]*\{\n(.*?)^\}", re.M | re.S)
@@ -163,6 +164,22 @@ class Crate:
         self.texts = {str(it.relative_to(folder)): it.read_text(errors="replace") for it in tree.files_of(folder)}
         sources = [it for it in self.texts if it.startswith("src/") and it.endswith(".rt")]
         self.functions = {it: functions_of(name, it, self.texts[it]) for it in sources}
+        # The modules in which types of each name are declared.
+        self.homes = {}
+        for path in sources:
+            for it in TYPE.findall(self.texts[path]):
+                self.homes.setdefault(it, []).append("::".join(module_of(path)))
+
+    def place(self, function):
+        """The path below the crate at which the prover has a function: a method stands with its type, a trait's with
+        the impl; or None where it isn't clear which type that is."""
+        module = function.module.partition("::")[2]
+        if function.impl and not function.impl.trait:
+            homes = self.homes.get(function.impl.type.split("::")[-1], [])
+            if len(homes) != 1:
+                return None
+            module = homes[0]
+        return "::".join([*([module] if module else []), function.own()])
 
     def units_of(self, names):
         """Which unit each of these names of the prover is of, where that is clear; a closure's is its function's."""

@@ -7,7 +7,8 @@ import tree
 from checks import Bench, Stopped, Workshop, progress, say
 from edits import Bad, planted, together
 from sources import Crate
-from verdicts import ALONE, BROKEN, NEXT, PROVED, REFUSED, verdict_alone, verdict_among_others
+from stubs import Stubs
+from verdicts import ALONE, BROKEN, NEXT, PROVED, REFUSED, verdict_alone, verdict_among_others, verdict_by_one
 
 
 def one_of_each_unit(mutants):
@@ -23,7 +24,7 @@ class Trial:
     def __init__(self, bench, is_proved):
         # is_proved: whether the crate is said to be proved as it stands, so that this isn't looked at first
         self.bench, self.crate, self.is_proved = bench, bench.crate, is_proved
-        self.mutants, self.told = [], {}
+        self.mutants, self.told, self.stubs = [], {}, Stubs(bench)
 
     def tell(self, label, verdict, why):
         self.told[label] = verdict
@@ -47,9 +48,10 @@ class Trial:
         is_placed = lambda it: not is_one_at_a_time and it.function and (units is None or it.function.unit() in units)
         alone = [it for it in self.mutants if not is_placed(it)]
         alone += self.try_in_batches([it for it in self.mutants if is_placed(it)])
+        if not is_one_at_a_time:
+            self.try_by_what_they_turn([it for it in alone if it.turned])
+        alone = [it for it in alone if it.label not in self.told]
         for number, it in enumerate(alone, 1):
-            if it.label in self.told:
-                continue
             progress(f"{self.crate.name}: {it.label} alone ({number} of {len(alone)})")
             self.tell(it.label, *verdict_alone(self.bench.check(it.texts), it.texts))
 
@@ -68,7 +70,7 @@ class Trial:
         alone = []
         while left:
             batch = one_of_each_unit(left)
-            answers = self.try_together(batch) if len(batch) > 1 else {it: (ALONE, "") for it in batch}
+            answers = self.try_together(batch)
             if answers is None:
                 if not self.is_proved_indeed():
                     return []
@@ -82,6 +84,30 @@ class Trial:
                 left = [other for other in left if other is not it or verdict == NEXT]
         return alone
 
+    def of_these(self, functions, changed, kept=()):
+        """What a check of these functions alone says, or None where it doesn't reach the prover.
+
+        All others but those of the kept units are stubs, or, where the crate has been checked as it stands, what that
+        check kept of them.
+        """
+        if self.is_proved:
+            return self.stubs.check(functions, changed, kept)
+        places = {self.crate.place(it) for it in functions} - {None}
+        told = self.bench.check(changed, sorted(places)) if places else None
+        return told if told and told.is_proved is not None else None
+
+    def try_by_what_they_turn(self, mutants):
+        """Tries mutants that turn a contract or a law, each by that function alone, and tells of those that are refused."""
+        for number, it in enumerate(mutants, 1):
+            progress(f"{self.crate.name}: {it.label} by {it.turned.own()} ({number} of {len(mutants)})")
+            # (what it changes in bodies is to compile too)
+            told = self.of_these([it.turned], it.texts, it.changed)
+            units = self.crate.units_of(told.functions) if told else {}
+            own = {name: told.functions[name] for name, unit in units.items() if unit == it.turned.unit()}
+            verdict, why = verdict_by_one(told, own, it.texts) if own else (ALONE, "")
+            if verdict == REFUSED:
+                self.tell(it.label, verdict, why)
+
     def is_proved_indeed(self):
         """Whether the crate is proved as it stands, where that was said and not yet seen."""
         if self.is_proved and not self.proved_as_it_stands():
@@ -94,7 +120,7 @@ class Trial:
         none of them changes isn't proved either."""
         progress(f"{self.crate.name}: {len(batch)} wrong bodies in one check")
         changed, lines = together(batch, self.crate.texts)
-        told = self.bench.check(changed)
+        told = self.of_these([it.function for it in batch], changed) or self.bench.check(changed)
         if told.is_proved is None:
             errors = [(path, line) for path, line, is_note, _ in told.remarks if not is_note]
             guilty = [it for it in batch if any(path == it.path and line in lines[it] for path, line in errors)]

@@ -13,7 +13,8 @@ class Told:
     """What a check printed."""
 
     output: str
-    # Whether the crate is proved (None: there is no verdict), and what is said of each function.
+    # Whether the crate is proved (None: there is no verdict), and what is said of each function. A check of some functions
+    # alone tells of them, and never that the crate is proved.
     is_proved: bool = None
     functions: dict = field(default_factory=dict)
     # What is said of lines: (path, line, whether it is a note, text).
@@ -23,6 +24,8 @@ class Told:
         for line in self.output.split("\n"):
             if line.startswith("logic="):
                 self.is_proved = line.startswith("logic=proved")
+            elif re.match(r"only=\d+ ", line):
+                self.is_proved = False
             of_function = re.match(r"fn (\S+): (.*)", line)
             at = re.match(r"(note: )?(?:\./)?(\S+?):(\d+):\d+: (.*)", line)
             if of_function:
@@ -50,6 +53,11 @@ def is_of_names(remark):
     path, _, is_note, text = remark
     lost = r"has no field|is not in scope|has no `|was not admitted"
     return not is_note and path.startswith("proofs/") and bool(re.search(lost, text))
+
+
+def is_fine(said):
+    """Whether a function is proved by what is said of it, given the contracts of those that were taken by them."""
+    return said.startswith(("proved", "no holes", "depends on a hole"))
 
 
 def first_goal(remarks):
@@ -81,13 +89,13 @@ def verdict_alone(told, changed):
         return REFUSED, first_goal(told.remarks)
     if any(is_of_names(it) for it in told.remarks):
         return REFUSED, f"{NAMES_ALONE}: {in_short(told.remarks[0])}"
-    unproved = [f"{name}: {said}" for name, said in told.functions.items() if not said.startswith("proved")]
+    unproved = [f"{name}: {said}" for name, said in told.functions.items() if not is_fine(said)]
     return REFUSED, "".join(unproved[:1])[:160]
 
 
 def verdict_among_others(mutant, own, told, lines):
     """The verdict on one of a check's mutants, by what is said of its own functions, and what to say of it."""
-    if not own or all(said.startswith("proved") for said in own.values()):
+    if not own or all(map(is_fine, own.values())):
         return ALONE, ""
     proofs = tuple(f"proofs/{name.partition('::')[2].replace('::', '/')}/" for name in own)
     here = [it for it in told.remarks if it[0].startswith(proofs) or it[0] == mutant.path and it[1] in lines]
@@ -99,7 +107,16 @@ def verdict_among_others(mutant, own, told, lines):
     lost = [it for it in here if is_of_names(it) and "was not admitted" not in it[3]]
     if lost:
         return REFUSED, f"{NAMES_ALONE}: {in_short(lost[0])}"
-    if all(said.startswith("proved") or "it calls `" in said for said in own.values()):
+    if all(is_fine(said) or "it calls `" in said for said in own.values()):
         return NEXT, ""
     return ALONE, ""
 
+
+def verdict_by_one(told, own, changed):
+    """The verdict on a mutant that changes more than a body, by what is said of one function alone, over stubs of those
+    that it calls, and what to say of it: only a refusal counts."""
+    not_own = r"(not proved: |no proof: )?it calls `"
+    has_goal = not all(is_fine(said) or re.match(not_own, said) for said in own.values())
+    if has_goal and first_goal(told.remarks) and not any(is_unread(it, changed) for it in told.remarks):
+        return REFUSED, first_goal(told.remarks)
+    return ALONE, ""
