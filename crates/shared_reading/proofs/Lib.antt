@@ -3,5 +3,6 @@ pub mod QuoteFree
 pub mod PagedSteps
 pub mod NumberedLines
 pub mod LinesTold
+pub mod StepLines
 pub mod PieceLemmas
 pub mod PartsRead

@@ -39,11 +39,11 @@ narrow : (n : ℕ) (x : ℕ × Step) (l : Line) → narrow_line n x ≡ Ok l →
 narrow n x l h = (passed (nat_lt x.0 (2 ^ 32)) _ (WrongNumber 0) l h).1
 
 -- what a record that tells a step says
-record Tells (v : Version) (fields : List (List ℕ)) (l : Line) : Type 0 where
-  not_end : bytes_eq (field_of fields 0) (codes "end") ≡ false
-  count : (length fields == step_fields v) ≡ true
-  number : number_of (field_of fields 0) ≡ Some l.no
-  step : judged_step_of v l.no fields ≡ Ok (l.tick, l.step)
+pub record Tells (v : Version) (fields : List (List ℕ)) (l : Line) : Type 0 where
+  pub not_end : bytes_eq (field_of fields 0) (codes "end") ≡ false
+  pub count : (length fields == step_fields v) ≡ true
+  pub number : number_of (field_of fields 0) ≡ Some l.no
+  pub step : judged_step_of v l.no fields ≡ Ok (l.tick, l.step)
 
 -- a step that is the one of these parts
 parts : (v : Version) (fields : List (List ℕ)) (n : ℕ) (x : ℕ × Step) (l : Line) → number_of (field_of fields 0) ≡ Some n → judged_step_of v n fields ≡ Ok x
@@ -53,7 +53,7 @@ parts v fields n x l number step h =
     let same : ◌≡◌ {A = Line} (record { no = n; tick = x.0; step = x.1 }) l = cc h in
     subst (λ (k : Line). (number_of (field_of fields 0) ≡ Some k.no) × (judged_step_of v k.no fields ≡ Ok (k.tick, k.step))) same (number, step)
 
-tells : (v : Version) (fields : List (List ℕ)) (l : Line) → line_of v fields ≡ Ok l → Tells v fields l
+pub tells : (v : Version) (fields : List (List ℕ)) (l : Line) → line_of v fields ≡ Ok l → Tells v fields l
 tells v fields l h =
     let a = passed_over (bytes_eq (field_of fields 0) (codes "end")) _ _ l h in
     let b = passed (length fields == step_fields v) _ _ l a.1 in

@@ -147,7 +147,7 @@ begins-some : (s : State) (xs : List ℕ) (p : Read) → next_record default_con
 begins-some s xs p e = subst Begins e (next-begins s [] [] xs)
 
 -- more reads than bytes make no difference
-same-fuel : (n m : ℕ) (s : State) (xs : List ℕ) → IsStart s → length xs < n → length xs < m → records_from default_config n s xs ≡ records_from default_config m s xs
+pub same-fuel : (n m : ℕ) (s : State) (xs : List ℕ) → IsStart s → length xs < n → length xs < m → records_from default_config n s xs ≡ records_from default_config m s xs
 unfolding records_from
 same-fuel zero m s xs start l k = absurd (omega (arith, l))
 same-fuel (suc n) zero s xs start l k = absurd (omega (arith, k))

@@ -1,5 +1,5 @@
 -- Steps that were read without their trace, and a trace that takes them.
-use Rattle.std.specs.Prelude.{ℕ, ◌≡◌, ◌+◌, ◌^◌, List, [], ◌∷◌, ◌++◌, length, Option, Some, None, Result, Ok, Err, Bool, true, ◌==◌, nat_lt, if◌then◌else◌, codes, ⊤}
+use Rattle.std.specs.Prelude.{ℕ, ◌≡◌, ◌≤◌, ◌+◌, ◌^◌, List, [], ◌∷◌, ◌++◌, length, drop, MatchBool, Option, Some, None, Result, Ok, Err, Bool, true, ◌==◌, nat_lt, if◌then◌else◌, codes, ⊤}
 use Rattle.std.specs.Str.{bytes_eq}
 use Rattle.std.specs.Option.{ok_or}
 use Rattle.step_trace.specs.declared.steps.Step.{Step}
@@ -13,8 +13,8 @@ use Rattle.trace_text.specs.declared.reading.Stage.{Stage}
 use Rattle.trace_text.specs.declared.reading.Stage.TheVariants.{Recording}
 use Rattle.trace_text.specs.declared.refusals.TextError.{TextError}
 use Rattle.trace_text.specs.declared.refusals.TextError.TheVariants.{BadFields, WrongNumber, BadStep, Memory}
-use Rattle.trace_text.specs.Records.{◌>>=◌, field_of, number_of}
-use Rattle.trace_text.specs.TextRefusals.{step_fields, pushed}
+use Rattle.trace_text.specs.Records.{◌>>=◌, after_records, field_of, number_of, records_of_text}
+use Rattle.trace_text.specs.TextRefusals.{is_memory, step_fields, pushed}
 use Rattle.trace_text.specs.JudgedIds.{judged_step_of}
 use Rattle.shared_reading.specs.declared.lines.Line.{Line}
 
@@ -87,3 +87,9 @@ TellLines v (r ∷ rs) (l ∷ ls) = (line_of v r ≡ Ok l) × TellLines v rs ls
 abbrev pub refused_for : PushError → ℕ → TextError
 refused_for push.Memory at = Memory
 refused_for why at = BadStep at why
+
+-- the records at the front of a text were read, and the others lead where all lead; or one of them is refused
+abbrev pub FrontIsRead : Read → Read → List ℕ → Result ℕ TextError → Type 0
+FrontIsRead old new text (Ok at) =
+    (at ≤ length text) × (after_records next_read old (records_of_text text) ≡ after_records next_read new (records_of_text (drop at text)))
+FrontIsRead old new text (Err e) = MatchBool (is_memory e) ⊤ (after_records next_read old (records_of_text text) ≡ Err e)

@@ -7,6 +7,7 @@ mod lines;
 mod paged_steps;
 mod pieces;
 mod reading;
+mod step_lines;
 mod stretches;
 
 pub use device_texts::read_trace_from;

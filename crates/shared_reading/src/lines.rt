@@ -6,9 +6,10 @@ ghost use Rattle.trace_text.specs.Records.{GivesUnless, ReachesUnless};
 ghost use Rattle.trace_text.specs.TextRefusals.{Gives, is_memory};
 ghost use Rattle.trace_text.specs.declared.reading.Stage.TheVariants.{Recording};
 ghost use Rattle.shared_reading.specs.LongLines.{tells_none};
-ghost use Rattle.shared_reading.specs.Lines.{Read, line_of, is_next, with_next, next_read, after_lines, refused_for};
+ghost use Rattle.shared_reading.specs.Lines.{FrontIsRead, Read, line_of, narrow_line, is_next, with_next, next_read, after_lines, refused_for};
 
 use crate::paged_steps::PagedSteps;
+use crate::step_lines::step_line;
 use csv::ByteRecord;
 use std::alloc::{AllocError, Global};
 use std::marker::Model;
@@ -20,10 +21,10 @@ use trace_text::versions::{Version, step_fields};
 
 /// A step, with its number and its tick.
 #[derive(Drop)]
-struct Line {
-    no: u64,
-    tick: u32,
-    step: Step,
+pub(crate) struct Line {
+    pub(crate) no: u64,
+    pub(crate) tick: u32,
+    pub(crate) step: Step,
 }
 
 /// The steps of a version's text that were read so far: the number of each is one more than that of the step before it.
@@ -59,6 +60,19 @@ impl Lines {
             count: 0,
             steps: PagedSteps::new(alloc)?,
         })
+    }
+
+    /// Adds the steps of the lines at the front of a text, as far as each is one that needs no reader of csv's. Tells
+    /// where the first other line begins.
+    pub(crate) fn read_front(&mut self, alloc: Global, text: &[u8]) -> Result<usize, TextError>
+        ensures { FrontIsRead self.old self.new text.now result }
+    {
+        let mut at = 0;
+        while let Some(found) = step_line(alloc, self.version, text, at)? {
+            self.push(alloc, found.line)?;
+            at = found.end;
+        }
+        Ok(at)
     }
 
     /// Adds a step, if it is the next one.
@@ -129,7 +143,13 @@ fn line_of(alloc: Global, version: Version, fields: &ByteRecord) -> Result<Line,
         return Err(TextError::WrongNumber(0));
     };
     let (tick, step) = step_of(alloc, version, no, fields)?;
-    // (no trace has a tick that needs more bits)
+    narrow_line(no, tick, step)
+}
+
+/// A step with its number and its tick. No trace has a tick that needs more bits.
+pub(crate) fn narrow_line(no: u64, tick: u64, step: Step) -> Result<Line, TextError>
+    ensures { result ≡ narrow_line no (tick, step) }
+{
     let Ok(tick) = u32::try_from(tick) else {
         return Err(TextError::WrongNumber(0));
     };

@@ -2,6 +2,9 @@
 
 ghost use Rattle.std.specs.Prelude.{◌≡◌, ◌≤◌, ℕ, length, drop, true, false, All};
 ghost use Rattle.csv.specs.Reading.{strip_bom};
+ghost use Rattle.trace_text.specs.Records.{ReachesUnless, after_records, records_of_text};
+ghost use Rattle.trace_text.specs.TextRefusals.{is_memory};
+ghost use Rattle.shared_reading.specs.Lines.{next_read};
 ghost use Rattle.shared_reading.specs.Seams.{has_quote, ends_line};
 ghost use Rattle.shared_reading.specs.Pieces.{TakesOn, IsPiece, IsFound};
 
@@ -64,11 +67,20 @@ fn found_in(alloc: Global, version: Version, bytes: &[u8]) -> Found
     let Ok(mut lines) = Lines::new(alloc, version) else {
         return Found::NoMemory;
     };
-    match read_records(alloc, bytes, &mut lines) {
+    match read_lines(alloc, bytes, &mut lines) {
         Ok(()) => Found::Steps(lines),
         Err(TextError::Memory) => Found::NoMemory,
         Err(_) => Found::Unusual,
     }
+}
+
+/// Adds the steps of all records of a text: those of plain lines, and from the first other line on those that csv's reader
+/// finds.
+fn read_lines(alloc: Global, bytes: &[u8], lines: &mut Lines) -> Result<(), TextError>
+    ensures { ReachesUnless is_memory result lines.new (after_records next_read lines.old (records_of_text bytes.now)) }
+{
+    let at = lines.read_front(alloc, bytes)?;
+    read_records(alloc, tail(bytes, at), lines)
 }
 
 /// Whether there may be a quote.

@@ -76,7 +76,7 @@ pub(crate) fn read_by<R: Threads + Sync>(
     read_records(alloc, tail(text, at), stage)
 }
 
-/// Reads what several threads can read, and tells the place up to which the text was read.
+/// Reads the steps stretch by stretch, and tells the place up to which the text was read.
 fn read_shared<R: Threads + Sync>(
     rt: &R,
     alloc: Global,
@@ -87,10 +87,11 @@ fn read_shared<R: Threads + Sync>(
     ensures within { IfOk result (λ at. at ≤ length text.now) }
     ensures goes_on { GoesOn stage.old stage.new text.now 0 result }
 {
-    if workers < 2 {
-        return Ok(0);
-    }
-    let at = read_part(alloc, text, 0, line_start(text, HEAD_BYTES), stage)?;
+    let head = match stage {
+        Stage::Recording(..) => 0,
+        _ => line_start(text, HEAD_BYTES),
+    };
+    let at = read_part(alloc, text, 0, head, stage)?;
     let version = match stage {
         Stage::Recording(version, _) => *version,
         _ => return Ok(at),
@@ -124,8 +125,8 @@ fn read_stretches<R: Threads + Sync>(
     take_pieces_of(text, at, version, stage, pieces)
 }
 
-/// Other threads read the pieces of a stretch. Meanwhile this thread takes the pieces of the stretch before it, which are
-/// given, and reads its own share of the stretch. Leaves the pieces that were read.
+/// Takes the pieces of the stretch before this one, which are given, and reads the share of this thread. Leaves the pieces
+/// that others read of the stretch.
 fn read_stretch<R: Threads + Sync>(
     rt: &R,
     alloc: Global,
@@ -144,6 +145,11 @@ fn read_stretch<R: Threads + Sync>(
     let before = mem::replace(pieces, Vec::new(alloc));
     let own = mem::replace(stage, Stage::Opening);
     let own_end = stretch.piece_start(text, 0);
+    if stretch.others == 0 {
+        let (taken, reached) = take_and_read(alloc, text, at, version, own, before, own_end);
+        *stage = reached;
+        return taken;
+    }
     let (read, (taken, reached)) = thread::join(
         rt,
         move || -> Result<Vec<Piece>, AllocError>
@@ -181,10 +187,30 @@ fn take_and_read(
     ensures { GoesOn stage result.1 text.now at result.0 }
 {
     let read = match take_pieces_of(text, at, version, &mut stage, pieces) {
-        Ok(at) => read_part(alloc, text, at, end.max(at), &mut stage),
+        Ok(at) => read_own(alloc, text, at, version, end.max(at), &mut stage),
         Err(why) => Err(why),
     };
     (read, stage)
+}
+
+/// Reads the steps from one place to another, as a piece.
+fn read_own(
+    alloc: Global,
+    text: &[u8],
+    at: usize,
+    version: Version,
+    end: usize,
+    stage: &mut Stage,
+) -> Result<usize, TextError>
+    requires order { at ≤ end }
+    requires within { end ≤ length text.now }
+    ensures { GoesOn stage.old stage.new text.now at result }
+{
+    let mut own = Vec::new(alloc);
+    match own.push(Piece::of(alloc, version, text, at, end)) {
+        Ok(()) => take_pieces_of(text, at, version, stage, own),
+        Err(_) => Err(TextError::Memory),
+    }
 }
 
 /// Reads from one place to another, where the text may be cut off there.

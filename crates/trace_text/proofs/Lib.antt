@@ -20,4 +20,5 @@ pub mod TextLaws
 pub mod TraceRecords
 pub mod OnePerTick
 pub mod WrittenRecords
+pub mod PlainSteps
 pub mod WrittenTexts

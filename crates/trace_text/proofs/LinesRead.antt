@@ -18,7 +18,7 @@ pub AreLines-append : (rs ss : List (List (List ℕ))) → AreLines rs → AreLi
 AreLines-append [] ss a b = b
 AreLines-append (r ∷ rs) ss a b = (a.0, a.1, AreLines-append rs ss a.2 b)
 
-line-read : (fields : List (List ℕ)) (tail : List ℕ) → 2 ≤ length fields → ArePlain fields
+pub line-read : (fields : List (List ℕ)) (tail : List ℕ) → 2 ≤ length fields → ArePlain fields
     → next_record default_config st.StartRecord [] [] (record_line fields ++ tail) ≡ Some (fields, st.StartRecord, tail)
 line-read [] tail two plain = absurd (omega arith)
 line-read (x ∷ []) tail two plain = absurd (omega arith)

@@ -95,7 +95,7 @@ all-fields One at tick x = refl
 all-fields Two at tick x = refl
 
 -- no number is the word that ends a trace
-not_end : (n : ℕ) → n < 2 ^ 64 → bytes_eq (decimal n) (codes "end") ≡ false
+pub not_end : (n : ℕ) → n < 2 ^ 64 → bytes_eq (decimal n) (codes "end") ≡ false
 not_end n h = bytes_eq-other (decimal n) (codes "end") (λ e. let digits : AllDigits 10 (codes "end") = rw e at (digits_decimal own n h) in let low : digit_value 101 < 10 = digits.0 in absurd (omega (arith, low)))
 
 dest_small : (c : Setup) (o : Option ℕ) → c.n ≤ MAX_PROCESSORS → IfSome o (IsProc c) → IfSome o (λ p. p < 2 ^ 64)

@@ -44,12 +44,16 @@ judged_act_of op.Send arg = option_map (λ to. Send to) (number_of arg)
 judged_act_of op.Receive arg = option_map (λ ids. Receive false (judged ids)) (ids_of arg)
 judged_act_of op.EndRound arg = option_map (λ ids. Receive true (judged ids)) (ids_of arg)
 
--- the same of the tick and the step of a record
+-- the same of the tick and the step that these fields say: the tick, if it is a number, the operation, the processor and the argument
+abbrev pub judged_of : ℕ → Option ℕ → List ℕ → List ℕ → List ℕ → Result (ℕ × Step) TextError
+judged_of at tick operation proc arg =
+    ok_or (operation_of operation) (BadOp at) >>= λ o. ok_or tick (BadNumber at) >>= λ tick. ok_or (number_of proc) (BadNumber at)
+    >>= λ p. ok_or (judged_act_of o arg) (BadNumber at) >>= λ a. Ok (tick, record { proc = p; act = a })
+
+-- the same of a record
 abbrev pub judged_step_of : Version → ℕ → List (List ℕ) → Result (ℕ × Step) TextError
 judged_step_of v at fields =
-    ok_or (operation_of (field_of fields (proc_place v + 1))) (BadOp at) >>= λ o. ok_or (step_tick v at fields) (BadNumber at)
-    >>= λ tick. ok_or (number_of (field_of fields (proc_place v))) (BadNumber at)
-    >>= λ p. ok_or (judged_act_of o (field_of fields (proc_place v + 2))) (BadNumber at) >>= λ a. Ok (tick, record { proc = p; act = a })
+    judged_of at (step_tick v at fields) (field_of fields (proc_place v + 1)) (field_of fields (proc_place v)) (field_of fields (proc_place v + 2))
 
 -- the same of the stage that a step's record leads to
 abbrev pub judged_step_stage : Version → Recorded → List (List ℕ) → Result Stage TextError

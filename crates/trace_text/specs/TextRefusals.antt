@@ -178,13 +178,15 @@ act_keeps op.Send arg = false
 act_keeps op.Receive arg = begins_with_number (parts_of arg)
 act_keeps op.EndRound arg = begins_with_number (parts_of arg)
 
--- the same of a step's record, once its operation, its tick and its processor are read
-abbrev pub named_act_keeps : Version → ℕ → Option Operation → List (List ℕ) → Bool
-named_act_keeps v at None fields = false
-named_act_keeps v at (Some o) fields = is_some (step_tick v at fields) && is_some (number_of (field_of fields (proc_place v))) && act_keeps o (field_of fields (proc_place v + 2))
+-- the same of the fields of a step, once its operation, its tick and its processor are read
+abbrev pub fields_keep : Option Operation → Option ℕ → List ℕ → List ℕ → Bool
+fields_keep None tick proc arg = false
+fields_keep (Some o) tick proc arg = is_some tick && is_some (number_of proc) && act_keeps o arg
 
+-- the same of a step's record
 abbrev pub step_keeps : Version → ℕ → List (List ℕ) → Bool
-step_keeps v at fields = named_act_keeps v at (operation_of (field_of fields (proc_place v + 1))) fields
+step_keeps v at fields =
+    fields_keep (operation_of (field_of fields (proc_place v + 1))) (step_tick v at fields) (field_of fields (proc_place v)) (field_of fields (proc_place v + 2))
 
 -- whether a record has a step's fields and the step's number
 abbrev pub is_numbered : Version → ℕ → List (List ℕ) → Bool

@@ -6,8 +6,8 @@ ghost use Rattle.csv.specs.Records.{fields_of};
 ghost use Rattle.step_trace.specs.Traces.{Recorded};
 ghost use Rattle.trace_text.specs.Records.{WantsOnlyWhere, field_of, records_of_text};
 ghost use Rattle.trace_text.specs.TraceTexts.{StandsFor, IsTextTrace};
-ghost use Rattle.trace_text.specs.TextRefusals.{IsFirstRefusal, Gives, LeadsTo, is_memory, trace_of_records, trace_at_end, next_stage, header_stage, init_stage, step_stage, ids_of, ended, end_stage, record_keeps, init_keeps, step_record_keeps, step_keeps, act_keeps, parts_of, begins_with_number};
-ghost use Rattle.trace_text.specs.JudgedIds.{judged, judged_act_of, judged_step_of};
+ghost use Rattle.trace_text.specs.TextRefusals.{IsFirstRefusal, Gives, LeadsTo, is_memory, trace_of_records, trace_at_end, next_stage, header_stage, init_stage, step_stage, ids_of, ended, end_stage, record_keeps, init_keeps, step_record_keeps, step_keeps, fields_keep, operation_of, act_keeps, parts_of, begins_with_number};
+ghost use Rattle.trace_text.specs.JudgedIds.{judged, judged_act_of, judged_of, judged_step_of};
 ghost use Rattle.trace_text.specs.LongRefusals.{refuses_long};
 ghost use Rattle.std.specs.Option.{ok_or};
 
@@ -207,16 +207,40 @@ pub fn step_of(
     ensures more { WantsOnlyWhere is_memory result (step_keeps version no (fields_of fields.now)) }
 {
     let place = proc_place(version);
-    let Some(operation) = operation_of(field(fields, place + 1)) else {
+    step_of_fields(
+        alloc,
+        no,
+        step_tick(version, no, fields),
+        field(fields, place + 1),
+        field(fields, place),
+        field(fields, place + 2),
+    )
+}
+
+/// The step of this number that these fields tell: its tick, unless it isn't a number, its operation, its processor and
+/// its argument.
+pub fn step_of_fields(
+    alloc: Global,
+    no: u64,
+    tick: Option<u64>,
+    operation: &[u8],
+    proc: &[u8],
+    arg: &[u8],
+) -> Result<(u64, Step), TextError>
+    ensures step { Gives result (judged_of no tick operation.now proc.now arg.now) }
+    ensures more { WantsOnlyWhere is_memory result
+        (fields_keep (operation_of operation.now) tick proc.now arg.now) }
+{
+    let Some(operation) = operation_of(operation) else {
         return Err(TextError::BadOp(no));
     };
-    let Some(tick) = step_tick(version, no, fields) else {
+    let Some(tick) = tick else {
         return Err(TextError::BadNumber(no));
     };
-    let Some(proc) = number(field(fields, place)) else {
+    let Some(proc) = number(proc) else {
         return Err(TextError::BadNumber(no));
     };
-    let act = act_of(alloc, no, operation, field(fields, place + 2))?;
+    let act = act_of(alloc, no, operation, arg)?;
     Ok((tick, Step { proc, act }))
 }
 

@@ -1,0 +1,98 @@
+-- A line that tells a step as it is written is read by csv's reader as its fields.
+use Rattle.std.proofs.Common.{◌≡◌, ◌≤◌, ◌<◌, ◌+◌, ◌∙◌, ℕ, suc, List, [], ◌∷◌, ◌++◌, length, drop, Option, Some, Result, Ok, Err, Bool, true, false, cond, refl, sym, ap, subst, arith, codes, length-append}
+use Rattle.std.specs.Prelude.{IfOk}
+use Rattle.std.specs.Option.{ok_or}
+use Rattle.std.specs.Str.{bytes_eq}
+use Rattle.std.specs.List.{join_with_byte}
+use Rattle.csv.specs.Reading.{default_config, records, records_from, strip_bom}
+use Rattle.csv.specs.Records.{field_at}
+use Rattle.csv.specs.declared.parser.State.TheVariants as st
+use Rattle.step_trace.specs.declared.steps.Step.{Step}
+use Rattle.trace_text.specs.declared.versions.Version.{Version}
+use Rattle.trace_text.specs.declared.versions.Version.TheVariants.{One, Two}
+use Rattle.trace_text.specs.declared.refusals.TextError.{TextError}
+use Rattle.trace_text.specs.Records.{◌>>=◌, number_of, record_line}
+use Rattle.trace_text.specs.RecordWriting.{ArePlain}
+use Rattle.trace_text.specs.declared.refusals.TextError.TheVariants.{BadFields, WrongNumber}
+use Rattle.trace_text.specs.JudgedIds.{judged_of}
+use Rattle.trace_text.proofs.LinesRead.{line-read}
+use Rattle.trace_text.proofs.Numbers.{number_of-some}
+use Rattle.trace_text.proofs.TraceRecords.{not_end}
+use Rattle.trace_text.proofs.PlainSteps.{plain-number, plain-step}
+use Rattle.shared_reading.specs.declared.lines.Line.{Line}
+use Rattle.shared_reading.specs.declared.step_lines.StepFields.{StepFields}
+use Rattle.shared_reading.specs.Lines.{line_of, narrow_line}
+use Rattle.shared_reading.specs.StepLines.{IsStepLine, record_of, told_tick}
+use Rattle.shared_reading.proofs.LinesTold.{tells}
+use Rattle.shared_reading.proofs.Splits.{same-fuel}
+
+line-from : (n m : ℕ) (fields : List (List ℕ)) (rest : List ℕ) → 2 ≤ length fields → ArePlain fields → length rest < n → length rest < m
+    → records_from default_config (suc n) st.StartRecord (record_line fields ++ rest) ≡ fields ∷ records_from default_config m st.StartRecord rest
+unfolding records_from
+line-from n m fields rest two plain l k =
+    rw (line-read fields rest two plain) (ap (λ (rs : List (List (List ℕ))). fields ∷ rs) (same-fuel n m st.StartRecord rest refl l k))
+
+-- the first record of a text that begins with the line of plain fields
+records-line : (fields : List (List ℕ)) (rest : List ℕ) → 2 ≤ length fields → ArePlain fields → records default_config (record_line fields ++ rest) ≡ fields ∷ records default_config rest
+records-line fields rest two plain =
+    let whole = length-append (record_line fields) rest in
+    let line = length-append (join_with_byte 44 fields) (10 ∷ []) in
+    let next : length (record_line fields ++ rest) + 1 ≡ suc (length (record_line fields ++ rest)) = omega arith in
+    subst (λ n. records_from default_config n st.StartRecord (record_line fields ++ rest) ≡ fields ∷ records default_config rest) (sym next)
+    (line-from (length (record_line fields ++ rest)) (length rest + 1) fields rest two plain (omega (arith, whole, line)) (omega arith))
+
+-- a number is no end
+not-end : (f : List ℕ) (n : ℕ) → number_of f ≡ Some n → bytes_eq f (codes "end") ≡ false
+not-end f n h = let k = number_of-some f n h in subst (λ g. bytes_eq g (codes "end") ≡ false) (sym k.0) (not_end n k.1)
+
+all-told : (end count : Bool) (number : Option ℕ) (n : ℕ) (step : ℕ → Result (ℕ × Step) TextError) (x : ℕ × Step) → end ≡ false → count ≡ true → number ≡ Some n → step n ≡ Ok x
+    → cond end (Err (BadFields 0)) (cond count (ok_or number (WrongNumber 0) >>= λ m. step m >>= λ y. narrow_line m y) (Err (BadFields 0))) ≡ narrow_line n x
+all-told end count number n step x e c m h = rw (e, c, m, h) refl
+
+-- the step that fields tell is that of their record
+line-told : (v : Version) (f : StepFields) (n : ℕ) (x : ℕ × Step) → number_of f.no.now ≡ Some n → judged_of n (told_tick v n f.tick.now) f.operation.now f.proc.now f.arg.now ≡ Ok x
+    → line_of v (record_of v f) ≡ narrow_line n x
+unfolding field_at
+line-told One f n x number step =
+    all-told (bytes_eq f.no.now (codes "end")) true (number_of f.no.now) n (λ m. judged_of m (Some m) f.operation.now f.proc.now f.arg.now) x (not-end f.no.now n number) refl number step
+line-told Two f n x number step =
+    all-told (bytes_eq f.no.now (codes "end")) true (number_of f.no.now) n (λ m. judged_of m (number_of f.tick.now) f.operation.now f.proc.now f.arg.now) x (not-end f.no.now n number) refl number step
+
+same-line : (r s t : Result Line TextError) → r ≡ t → s ≡ t → IfOk r (λ line. s ≡ Ok line)
+same-line (Ok line) s t h k = k ∙ sym h
+same-line (Err e) s t h k = tt
+
+-- the answer is that step, if there is one
+pub line-answered : (v : Version) (f : StepFields) (n : ℕ) (x : ℕ × Step) (r : Result Line TextError) → number_of f.no.now ≡ Some n
+    → judged_of n (told_tick v n f.tick.now) f.operation.now f.proc.now f.arg.now ≡ Ok x → r ≡ narrow_line n x → IfOk r (λ line. line_of v (record_of v f) ≡ Ok line)
+line-answered v f n x r number step h = same-line r (line_of v (record_of v f)) (narrow_line n x) h (line-told v f n x number step)
+
+-- fields that tell a step need no quotes
+plain-record : (v : Version) (f : StepFields) (l : Line) → line_of v (record_of v f) ≡ Ok l → ArePlain (record_of v f)
+unfolding field_at
+plain-record One f l h =
+    let k = tells One (record_of One f) l h in
+    let s = plain-step l.no (Some l.no) f.operation.now f.proc.now f.arg.now (l.tick, l.step) k.step in
+    (plain-number f.no.now l.no k.number, (s.plain_proc, (s.plain_operation, (s.plain_arg, tt))))
+plain-record Two f l h =
+    let k = tells Two (record_of Two f) l h in
+    let s = plain-step l.no (number_of f.tick.now) f.operation.now f.proc.now f.arg.now (l.tick, l.step) k.step in
+    (plain-number f.no.now l.no k.number, (plain-number f.tick.now s.value s.is, (s.plain_proc, (s.plain_operation, (s.plain_arg, tt)))))
+
+two-fields : (v : Version) (f : StepFields) → 2 ≤ length (record_of v f)
+two-fields One f = omega arith
+two-fields Two f = omega arith
+
+-- the line at a place tells a step, and no byte order mark may stand there or behind it
+pub step-told : (v : Version) (text : List ℕ) (at : ℕ) (f : StepFields) (line : Line) → at < f.end → f.end ≤ length text → drop at text ≡ record_line (record_of v f) ++ drop f.end text
+    → strip_bom (drop at text) ≡ drop at text → strip_bom (drop f.end text) ≡ drop f.end text → line_of v (record_of v f) ≡ Ok line
+    → IsStepLine v text at (record { line = line; end = f.end })
+step-told v text at f line some end is begin behind told = record {
+  end = end;
+  some = some;
+  fields = record_of v f;
+  records = ap (λ (xs : List ℕ). records default_config xs) (begin ∙ is)
+      ∙ records-line (record_of v f) (drop f.end text) (two-fields v f) (plain-record v f line told)
+      ∙ ap (λ (xs : List ℕ). record_of v f ∷ records default_config xs) (sym behind);
+  told = told;
+}
