@@ -9,7 +9,7 @@ use crate::pieces::tail;
 const STRETCH_BYTES: usize = 2_097_152;
 
 /// To take the pieces of a stretch takes so many hundredths of the time in which one thread reads it.
-const TAKING_HUNDREDTHS: usize = 15;
+const TAKING_HUNDREDTHS: usize = 25;
 
 /// The bytes that are left to one thread at the end: the record of the end is among them.
 const TAIL_BYTES: usize = 64;

@@ -29,7 +29,14 @@ impl Model for MessageIds {
 }
 
 impl MessageIds {
-    ghost use Rattle.std.specs.Prelude.{◌≡◌, ◌<◌, IfOk, OnErr, length};
+    ghost use Rattle.std.specs.Prelude.{◌≡◌, ◌<◌, [], ◌∷◌, IfOk, OnErr, length};
+
+    /// The list of this id alone.
+    pub fn one(id: u64) -> Self
+        ensures { result ≡ id ∷ [] }
+    {
+        MessageIds { ids: Ids::One([id]) }
+    }
 
     /// The list of these ids, in this order. It wants memory only where there is more than one.
     pub fn new(alloc: Global, items: Vec<u64>) -> Result<Self, AllocError>

@@ -101,6 +101,12 @@ ids_of-joined (n ∷ ns) h =
     ids_of-split (join_with_byte 32 (map decimal (n ∷ ns))) (joined_nonempty n ns (All-head (λ n. n < 2 ^ 64) n ns h))
     ∙ ap numbers_of (slice_split-decimals n ns h) ∙ numbers_of-decimals (n ∷ ns) h
 
+-- the field of a number alone
+pub ids_of-one : (arg : List ℕ) (n : ℕ) → number_of arg ≡ Some n → ids_of arg ≡ Some (n ∷ [])
+ids_of-one arg n h =
+    let k = number_of-some arg n h in
+    rw k.0 (ids_of-joined (n ∷ []) (All-cons (λ n. n < 2 ^ 64) n [] k.1 (All-nil (λ n. n < 2 ^ 64))))
+
 pub ids_of-some : (arg ns : List ℕ) → ids_of arg ≡ Some ns → arg ≡ join_with_byte 32 (map decimal ns)
 ids_of-some [] ns h = let e : [] ≡ ns = cc in rw (← e) refl
 ids_of-some (b ∷ bs) ns h = sym (join_with_byte-slice_split 32 (b ∷ bs)) ∙ ap (λ fs. join_with_byte 32 fs) (numbers_of-some (slice_split (λ c. c == 32) (b ∷ bs)) ns h).0

@@ -266,6 +266,12 @@ fn received(alloc: Global, no: u64, arg: &[u8], ends: bool) -> Result<Act, TextE
         (TextError.BadNumber no)) }
     ensures more { WantsOnlyWhere is_memory result (begins_with_number (parts_of arg.now)) }
 {
+    if let Some(id) = number(arg) {
+        return Ok(Act::Receive {
+            ends,
+            ids: MessageIds::one(id),
+        });
+    }
     let Ok(ids) = judged_ids(alloc, arg) else {
         return Err(TextError::Memory);
     };
