@@ -1,5 +1,5 @@
 //! Lines of a text that tell a step as it is written: fields without quotes, cut at commas. They need no reader of csv's,
-//! which looks at each byte by itself.
+//! which looks up what to do at each byte, and copies each field.
 
 ghost use Rattle.std.specs.Prelude.{◌≡◌, ◌<◌, ◌≤◌, ◌++◌, length, drop, Ok, IfOk, IfErr, IfSome, OnSome, IsTrue};
 ghost use Rattle.trace_text.specs.Records.{record_line};
@@ -77,11 +77,11 @@ fn step_fields(version: Version, text: &[u8], at: usize) -> Option<StepFields<'_
     ensures some { IfSome result (λ fields. at < fields.end) }
     ensures line { IfSome result (λ fields. drop at text.now ≡ record_line (record_of version fields) ++ drop fields.end text.now) }
 {
-    let no = field_at(text, at, b',')?;
+    let no = number_at(text, at)?;
     let tick = tick_at(version, text, no.end)?;
-    let proc = field_at(text, tick.end, b',')?;
-    let operation = field_at(text, proc.end, b',')?;
-    let arg = field_at(text, operation.end, b'\n')?;
+    let proc = number_at(text, tick.end)?;
+    let operation = field_at(text, proc.end, 1, b',')?;
+    let arg = argument_at(text, operation.end)?;
     Some(StepFields {
         no: no.bytes,
         tick: tick.bytes,
@@ -102,17 +102,38 @@ fn tick_at(version: Version, text: &[u8], at: usize) -> Option<Field<'_>>
             bytes: &[],
             end: at,
         }),
-        Version::Two => field_at(text, at, b','),
+        Version::Two => number_at(text, at),
     }
 }
 
-/// What stands from a place up to the first byte of this value.
-fn field_at(text: &[u8], at: usize, last: u8) -> Option<Field<'_>>
+/// The digits at a place, if a comma stands behind them.
+fn number_at(text: &[u8], at: usize) -> Option<Field<'_>>
+    requires { at ≤ length text.now }
+    ensures { IfSome result (IsFieldAt text.now at 44) }
+{
+    let digits = tail(text, at)
+        .iter()
+        .position(|byte| !byte.is_ascii_digit())?;
+    field_at(text, at, digits, b',')
+}
+
+/// The rest of the line at a place.
+fn argument_at(text: &[u8], at: usize) -> Option<Field<'_>>
+    requires { at ≤ length text.now }
+    ensures { IfSome result (IsFieldAt text.now at 10) }
+{
+    field_at(text, at, memchr(b'\n', tail(text, at))?, b'\n')
+}
+
+/// So many bytes from a place on, if this one stands behind them.
+fn field_at(text: &[u8], at: usize, len: usize, last: u8) -> Option<Field<'_>>
     requires { at ≤ length text.now }
     ensures { IfSome result (IsFieldAt text.now at last) }
 {
     let rest = tail(text, at);
-    let len = memchr(last, rest)?;
+    if *rest.get(len)? != last {
+        return None;
+    }
     Some(Field {
         bytes: &rest[..len],
         end: at + len + 1,
