@@ -1,4 +1,4 @@
-//! A trace text that several threads read.
+//! A trace text that is read by pieces, by one thread or several.
 
 ghost use Rattle.std.specs.Prelude.{◌≡◌, ◌≢◌, ◌<◌, ◌≤◌, ◌↔◌, length, All, IfOk, OnOk, IfErr, IsErrOf, MatchResult};
 ghost use Rattle.step_trace.specs.Traces.{Recorded};
@@ -21,6 +21,36 @@ use trace_text::{MAX_TEXT_BYTES, TextError};
 
 /// The bytes that one thread reads before the others begin: the header and the initial values are among them.
 const HEAD_BYTES: usize = 4096;
+
+/// The trace that a text stands for. Answers as `trace_text::read_trace` does, and sooner: its plain lines are read
+/// without csv's reader.
+pub fn read_trace(alloc: Global, text: &[u8]) -> Result<Trace, TextError>
+    ensures stands { IfOk result (λ t. StandsFor text.now t) }
+    ensures size { OnOk result (length text.now ≤ MAX_TEXT_BYTES) }
+    ensures sound { IfOk result (λ t. IsTextTrace t) }
+    ensures complete { (t : Recorded) → IsTextTrace t → StandsFor text.now t
+        → length text.now ≤ MAX_TEXT_BYTES
+        → MatchResult result (λ u. u ≡ t) (λ e. e ≡ TextError.Memory) }
+    ensures too_large { IsErrOf result TextError.TooLarge ↔ (MAX_TEXT_BYTES < length text.now) }
+    ensures no_fault { IfErr result (λ e. e ≢ TextError.Read) }
+    ensures refused { IfErr result (λ e. IsFirstRefusal text.now e) }
+    ensures unique { (t u : Recorded) → IsTextTrace t → IsTextTrace u → StandsFor text.now t
+        → StandsFor text.now u → t ≡ u }
+{
+    if text.len() > MAX_TEXT_BYTES {
+        return Err(TextError::TooLarge);
+    }
+    read_whole(alloc, text)
+}
+
+/// The trace of all records.
+fn read_whole(alloc: Global, text: &[u8]) -> Result<Trace, TextError>
+    ensures { Gives result (trace_of_records (records_of_text text.now)) }
+{
+    let mut stage = Stage::Opening;
+    read_alone(alloc, text, &mut stage)?;
+    trace_at_end(stage)
+}
 
 /// The trace that a text stands for, of which so many threads read parts. Answers as `read_trace` does,
 /// whatever their number, also where a thread can't be started.
@@ -72,11 +102,70 @@ pub(crate) fn read_by<R: Threads + Sync>(
 ) -> Result<(), TextError>
     ensures { LeadsTo result stage.new (read_on stage.old text.now) }
 {
+    if workers < 2 {
+        return read_alone(alloc, text, stage);
+    }
     let at = read_shared(rt, alloc, text, workers, stage)?;
     read_records(alloc, tail(text, at), stage)
 }
 
-/// Reads the steps stretch by stretch, and tells the place up to which the text was read.
+/// Takes in all records of a text, and starts no thread.
+fn read_alone(alloc: Global, text: &[u8], stage: &mut Stage) -> Result<(), TextError>
+    ensures { LeadsTo result stage.new (read_on stage.old text.now) }
+{
+    let at = read_pieces(alloc, text, stage)?;
+    read_records(alloc, tail(text, at), stage)
+}
+
+/// Reads the steps piece by piece, and tells the place up to which the text was read.
+fn read_pieces(alloc: Global, text: &[u8], stage: &mut Stage) -> Result<usize, TextError>
+    ensures within { IfOk result (λ at. at ≤ length text.now) }
+    ensures goes_on { GoesOn stage.old stage.new text.now 0 result }
+{
+    let at = read_head(alloc, text, stage)?;
+    match stage {
+        Stage::Recording(version, _) => read_pieces_from(alloc, text, at, *version, stage),
+        _ => Ok(at),
+    }
+}
+
+/// The same from a place on.
+fn read_pieces_from(
+    alloc: Global,
+    text: &[u8],
+    from: usize,
+    version: Version,
+    stage: &mut Stage,
+) -> Result<usize, TextError>
+    requires { from ≤ length text.now }
+    ensures { GoesOn stage.old stage.new text.now from result }
+{
+    let stretches = Stretches::of(text, from, 1);
+    let mut at = from;
+    for k in 0..stretches.count {
+        let end = stretches.stretch(k).piece_start(text, 0);
+        at = read_own(alloc, text, at, version, end.max(at), stage)?;
+        if at != end {
+            return Ok(at);
+        }
+    }
+    Ok(at)
+}
+
+/// Reads the header, the initial values and some steps, where these are due, and tells the place up to which the text was
+/// read.
+fn read_head(alloc: Global, text: &[u8], stage: &mut Stage) -> Result<usize, TextError>
+    ensures within { IfOk result (λ at. at ≤ length text.now) }
+    ensures goes_on { GoesOn stage.old stage.new text.now 0 result }
+{
+    let end = match stage {
+        Stage::Recording(..) => 0,
+        _ => line_start(text, HEAD_BYTES),
+    };
+    read_part(alloc, text, 0, end, stage)
+}
+
+/// Reads what several threads can read, and tells the place up to which the text was read.
 fn read_shared<R: Threads + Sync>(
     rt: &R,
     alloc: Global,
@@ -87,11 +176,7 @@ fn read_shared<R: Threads + Sync>(
     ensures within { IfOk result (λ at. at ≤ length text.now) }
     ensures goes_on { GoesOn stage.old stage.new text.now 0 result }
 {
-    let head = match stage {
-        Stage::Recording(..) => 0,
-        _ => line_start(text, HEAD_BYTES),
-    };
-    let at = read_part(alloc, text, 0, head, stage)?;
+    let at = read_head(alloc, text, stage)?;
     let version = match stage {
         Stage::Recording(version, _) => *version,
         _ => return Ok(at),
@@ -125,8 +210,8 @@ fn read_stretches<R: Threads + Sync>(
     take_pieces_of(text, at, version, stage, pieces)
 }
 
-/// Takes the pieces of the stretch before this one, which are given, and reads the share of this thread. Leaves the pieces
-/// that others read of the stretch.
+/// Other threads read the pieces of a stretch. Meanwhile this thread takes the pieces of the stretch before it, which are
+/// given, and reads its own share of the stretch. Leaves the pieces that were read.
 fn read_stretch<R: Threads + Sync>(
     rt: &R,
     alloc: Global,
@@ -145,11 +230,6 @@ fn read_stretch<R: Threads + Sync>(
     let before = mem::replace(pieces, Vec::new(alloc));
     let own = mem::replace(stage, Stage::Opening);
     let own_end = stretch.piece_start(text, 0);
-    if stretch.others == 0 {
-        let (taken, reached) = take_and_read(alloc, text, at, version, own, before, own_end);
-        *stage = reached;
-        return taken;
-    }
     let (read, (taken, reached)) = thread::join(
         rt,
         move || -> Result<Vec<Piece>, AllocError>

@@ -5,9 +5,9 @@ ghost use Rattle.text_commands.specs.Inputs.{IsTraceFault};
 ghost use Rattle.text_report.specs.Texts.{IsTextOf};
 
 use command_faults::Fault;
+use shared_reading::read_trace;
 use std::alloc::Global;
 use step_trace::Trace;
-use trace_text::read_trace;
 
 /// The trace that a text stands for. It lets go of the text, which takes much memory for a long trace.
 ///

@@ -7,10 +7,11 @@ ghost use Rattle.text_report.specs.Reports.{IsReportOf, IsUnread, IsUnreported};
 ghost use Rattle.text_report.specs.Texts.{IsTextOf};
 
 use front::{Report, front, report_text_of};
+use shared_reading::read_trace;
 use std::alloc::{AllocError, Global};
 use step_trace::{ProcSet, Trace};
 use suffix_staircase::Stairs;
-use trace_text::{TextError, read_trace};
+use trace_text::TextError;
 
 /// Why a trace text has no report.
 #[derive(Debug, Drop)]

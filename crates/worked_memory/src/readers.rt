@@ -1,7 +1,7 @@
-//! A trace text that two threads read, and one that is read from a device part by part.
+//! A trace text that two threads read or one, and one that is read from a device part by part.
 
 use refused_growths::Refusal;
-use shared_reading::{read_trace_by, read_trace_from};
+use shared_reading::{read_trace, read_trace_by, read_trace_from};
 use std::alloc::{AllocError, Global};
 use std::test::Fail;
 use std::thread::Threads;
@@ -25,6 +25,7 @@ const BLANK_LINES: usize = 1_100_000;
 #[derive(Clone, Copy)]
 enum Way {
     Whole,
+    Alone,
     FromDevice,
 }
 
@@ -51,6 +52,7 @@ fn answer<R: Threads + Sync>(
 ) -> Result<Trace, TextError> {
     match way {
         Way::Whole => read_trace_by(rt, alloc, text, WORKERS),
+        Way::Alone => read_trace(alloc, text),
         Way::FromDevice => {
             let device = FailingReader::new(text, 65_536, AfterBytes::End);
             read_trace_from(rt, alloc, &mut Counting::new(device), 1)
@@ -122,6 +124,14 @@ fn first_wrong<R: Threads + Sync>(rt: &R, alloc: Global, text: &[u8], way: Way) 
 fn threads_read_a_text(rt: HostRuntime) -> Result<(), Fail> {
     let text = text_of(rt.alloc(), 0)?;
     let wrong = first_wrong(&rt, rt.alloc(), text.as_bytes(), Way::Whole);
+    assert!(rt; wrong.is_none(), "{wrong:?}");
+    Ok(())
+}
+
+#[test]
+fn one_thread_reads_a_text(rt: HostRuntime) -> Result<(), Fail> {
+    let text = text_of(rt.alloc(), 0)?;
+    let wrong = first_wrong(&rt, rt.alloc(), text.as_bytes(), Way::Alone);
     assert!(rt; wrong.is_none(), "{wrong:?}");
     Ok(())
 }

@@ -138,16 +138,8 @@ const ODD: &[(u64, &str, &str)] = &[
     (1_501, "1501,1,S,2\r", "2000 steps"),
     (1_501, "1501,1,S,2,\n", "BadFields(1501)"),
     (1_501, "01501,1,S,2\n", "WrongNumber(1501)"),
-    (
-        1_501,
-        "1501,1,S,18446744073709551616\n",
-        "BadNumber(1501)",
-    ),
-    (
-        1_501,
-        "1501,1,E,\n",
-        "BadStep(1502, UnknownMessage(1501))",
-    ),
+    (1_501, "1501,1,S,18446744073709551616\n", "BadNumber(1501)"),
+    (1_501, "1501,1,E,\n", "BadStep(1502, UnknownMessage(1501))"),
     (1_502, "1502,2,R,1501 \n", "BadNumber(1502)"),
     // (the last step of a page, and the first of the next)
     (1_536, "1536,4,S,2\n", "BadStep(1536, BadProc)"),
