@@ -8,8 +8,11 @@ use crate::pieces::tail;
 /// last one is taken while nothing else is read.
 const STRETCH_BYTES: usize = 2_097_152;
 
-/// To take the pieces of a stretch takes so many hundredths of the time in which one thread reads it.
-const TAKING_HUNDREDTHS: usize = 25;
+/// To take the pieces of a stretch takes so many hundredths of the time in which this thread reads it.
+const TAKING_HUNDREDTHS: usize = 22;
+
+/// Another thread, whose memory is new to it, takes so many hundredths of that time to read it.
+const OTHERS_HUNDREDTHS: usize = 135;
 
 /// The bytes that are left to one thread at the end: the record of the end is among them.
 const TAIL_BYTES: usize = 64;
@@ -71,7 +74,9 @@ impl Stretches {
 /// How many hundredths of a stretch the thread that takes the pieces reads itself, beside so many others: such that it is
 /// done when they are.
 fn own_hundredths(others: usize) -> usize {
-    100usize.saturating_sub(others.saturating_mul(TAKING_HUNDREDTHS)) / others.saturating_add(1)
+    let taking = others.saturating_mul(TAKING_HUNDREDTHS);
+    let together = others.saturating_mul(100).saturating_add(OTHERS_HUNDREDTHS);
+    OTHERS_HUNDREDTHS.saturating_sub(taking).saturating_mul(100) / together.max(1)
 }
 
 impl Stretch {

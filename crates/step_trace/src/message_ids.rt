@@ -35,7 +35,9 @@ impl MessageIds {
     pub fn one(id: u64) -> Self
         ensures { result ≡ id ∷ [] }
     {
-        MessageIds { ids: Ids::One([id]) }
+        MessageIds {
+            ids: Ids::One([id]),
+        }
     }
 
     /// The list of these ids, in this order. It wants memory only where there is more than one.
