@@ -219,6 +219,8 @@ pub fn step_of(
 
 /// The step of this number that these fields tell: its tick, unless it isn't a number, its operation, its processor and
 /// its argument.
+///
+/// Refuses, in this order: BadOp; BadNumber, for the tick, the processor or the argument. Memory may come for the ids.
 pub fn step_of_fields(
     alloc: Global,
     no: u64,
