@@ -6,3 +6,4 @@ pub mod LinesTold
 pub mod StepLines
 pub mod PieceLemmas
 pub mod PartsRead
+pub mod UnderWayRead

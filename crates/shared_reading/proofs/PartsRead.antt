@@ -1,11 +1,9 @@
 -- A text that is read part by part leads where it leads when it is read whole.
-use Rattle.std.proofs.Common.{◌≡◌, ◌≢◌, ◌≤◌, ◌<◌, ◌+◌, ◌∙◌, ℕ, List, [], ◌∷◌, ◌++◌, length, take, drop, Option, Some, None, IfSome, Result, Ok, Err, Bool, true, false, refl, sym, ap, subst, arith, nat_eq, not, slice_index_or, append_assoc, append-nil, length-append, take-append-drop}
+use Rattle.std.proofs.Common.{◌≡◌, ◌≢◌, ◌≤◌, ◌<◌, ◌+◌, ◌∙◌, ℕ, List, [], ◌++◌, length, take, drop, Option, Some, None, IfSome, Result, Ok, Err, Bool, true, false, refl, sym, ap, subst, arith, append_assoc, append-nil, length-append, take-append-drop}
 use Rattle.std.specs.Prelude.{IfErr, IfOk, OnOk, MatchBool, ⊤, nat_le}
 use Rattle.std.proofs.lemmas.Bool.Decides.{nat_tests}
-use Rattle.std.proofs.lemmas.List.{length-take-le}
 use Rattle.std.proofs.KnownBytes.{Consumes-nil, Consumes-trans, Consumes-whole}
 use Rattle.std.specs.Io.KnownBytes.{Consumes, IsAtEnd}
-use Rattle.csv.specs.Reading.{strip_bom}
 use Rattle.step_trace.specs.Traces.{Recorded}
 use Rattle.trace_text.specs.declared.byte_loops.TheConstants.{MAX_TEXT_BYTES}
 use Rattle.trace_text.specs.declared.reading.Stage.{Stage}
@@ -18,20 +16,11 @@ use Rattle.trace_text.specs.TextRefusals.{Gives, is_memory, trace_at_end, trace_
 use Rattle.trace_text.proofs.TableReasons.{never-answered, never-reached}
 use Rattle.trace_text.proofs.TextLaws.{gives-sound, gives-stands}
 use Rattle.shared_reading.specs.Seams.{has_quote, ends_line}
-use Rattle.shared_reading.specs.Pieces.{read_on}
-use Rattle.shared_reading.specs.declared.device_texts.Progress.{Progress}
-use Rattle.shared_reading.specs.DeviceTexts.{IsReadTo, IsTaken, IsGiven, IsRefusalOf, IsRefused, IsReadOut, IsTraceRead, IsUnread, total_of}
-use Rattle.shared_reading.proofs.PieceLemmas.{unmarked, read_on-ok, read_on-err}
+use Rattle.shared_reading.specs.Pieces.{IsUnmarked, read_on}
+use Rattle.shared_reading.specs.declared.progress.Progress.{Progress}
+use Rattle.shared_reading.specs.DeviceTexts.{IsReadTo, IsTaken, IsGiven, IsRefusalOf, IsRefused, IsReadOut, IsTraceRead, IsUnread}
+use Rattle.shared_reading.proofs.PieceLemmas.{unless, read_on-ok, read_on-err}
 use Rattle.shared_reading.proofs.QuoteFree.{seam}
-
-not-true : (b : Bool) → not b ≡ true → b ≡ false
-not-true false h = refl
-not-true true h = cc h
-
--- what comes behind bytes doesn't make a mark of their beginning
-pub unmarked-before : (xs : List ℕ) → (length xs ≡ 0 → ⊥) → not (nat_eq (slice_index_or xs 0 0) 239) ≡ true → (more : List ℕ) → strip_bom (xs ++ more) ≡ xs ++ more
-unmarked-before [] some h more = absurd (some refl)
-unmarked-before (x ∷ xs) some h more = unmarked (x ∷ (xs ++ more)) (not-true _ h)
 
 -- a text, and what comes behind it, is its front, and then the rest with what comes behind it
 front-rest : (rest more : List ℕ) (cut : ℕ) → rest ++ more ≡ take cut rest ++ (drop cut rest ++ more)
@@ -39,42 +28,52 @@ front-rest rest more cut = ap (λ xs. xs ++ more) (sym (take-append-drop cut res
 
 -- a front that may be cut off is taken
 pub front-taken : (s t : Stage) (rest : List ℕ) (cut : ℕ) → cut ≤ length rest → has_quote (take cut rest) ≡ false → ends_line (take cut rest) ≡ true
-    → ((more : List ℕ) → strip_bom (drop cut rest ++ more) ≡ drop cut rest ++ more) → read_on s (take cut rest) ≡ Ok t → IsTaken s t rest (Ok cut)
+    → IsUnmarked (drop cut rest) → read_on s (take cut rest) ≡ Ok t → IsTaken s t rest (Ok cut)
 front-taken s t rest cut within quoteless line unmarked h =
     (within, λ more. ap (λ xs. read_on s xs) (front-rest rest more cut) ∙ read_on-ok s t (take cut rest) (drop cut rest ++ more) (seam (take cut rest) (drop cut rest ++ more) quoteless line (unmarked more)) h)
 
-unless : (m : Bool) (P Q : Type 0) → (P → Q) → MatchBool m ⊤ P → MatchBool m ⊤ Q
-unless true P Q f h = tt
-unless false P Q f h = f h
-
 -- or refused
 pub front-refused : (s t : Stage) (rest : List ℕ) (cut : ℕ) (e : TextError) → has_quote (take cut rest) ≡ false → ends_line (take cut rest) ≡ true
-    → ((more : List ℕ) → strip_bom (drop cut rest ++ more) ≡ drop cut rest ++ more) → MatchBool (is_memory e) ⊤ (read_on s (take cut rest) ≡ Err e) → IsTaken s t rest (Err e)
+    → IsUnmarked (drop cut rest) → MatchBool (is_memory e) ⊤ (read_on s (take cut rest) ≡ Err e) → IsTaken s t rest (Err e)
 front-refused s t rest cut e quoteless line unmarked = unless (is_memory e) _ _
     (λ h more. ap (λ xs. read_on s xs) (front-rest rest more cut) ∙ read_on-err s e (take cut rest) (drop cut rest ++ more) (seam (take cut rest) (drop cut rest ++ more) quoteless line (unmarked more)) h)
 
 -- ---- how far a text was read
 
 -- nothing was read yet
-pub begins : (known : Option (List ℕ)) (p : Progress) → p.stage ≡ Opening → p.done ≡ 0 → p.rest.items ≡ [] → IsReadTo known known p
+pub begins : (known : Option (List ℕ)) (p : Progress) → p.stage ≡ Opening → p.total ≡ 0 → p.rest.items ≡ [] → IsReadTo known known [] p
 begins known p opening none empty = record {
-  taken = [];
-  count = none;
+  gone = [];
+  count = rw empty none;
   read = rw empty (Consumes-nil known);
   leads = λ more. rw opening refl;
 }
 
--- the front of what was read was taken
-pub part-taken : (known left : Option (List ℕ)) (p q : Progress) (cut : ℕ) → q.done ≡ p.done + cut → q.rest.items ≡ drop cut p.rest.items → IsTaken p.stage q.stage p.rest.items (Ok cut)
-    → IsReadTo known left p → IsReadTo known left q
-part-taken known left p q cut done rest front h =
-    let whole : (h.taken ++ take cut p.rest.items) ++ q.rest.items ≡ h.taken ++ p.rest.items =
-    ap (λ xs. (h.taken ++ take cut p.rest.items) ++ xs) rest ∙ append_assoc h.taken (take cut p.rest.items) (drop cut p.rest.items) ∙ ap (λ xs. h.taken ++ xs) (take-append-drop cut p.rest.items) in
-    let behind : (more : List ℕ) → (h.taken ++ take cut p.rest.items) ++ (drop cut p.rest.items ++ more) ≡ h.taken ++ (p.rest.items ++ more) =
-    (λ more. append_assoc h.taken (take cut p.rest.items) (drop cut p.rest.items ++ more) ∙ ap (λ xs. h.taken ++ xs) (sym (front-rest p.rest.items more cut))) in
+-- more bytes were read
+pub more-read : (known left after : Option (List ℕ)) (before bytes : List ℕ) (p q : Progress) → q.stage ≡ p.stage → q.total ≡ p.total + length bytes → q.rest.items ≡ p.rest.items ++ bytes → Consumes left after bytes
+    → IsReadTo known left before p → IsReadTo known after before q
+more-read known left after before bytes p q stage total rest read h =
+    let whole : h.gone ++ (before ++ q.rest.items) ≡ (h.gone ++ (before ++ p.rest.items)) ++ bytes =
+    ap (λ xs. h.gone ++ (before ++ xs)) rest ∙ ap (λ xs. h.gone ++ xs) (sym (append_assoc before p.rest.items bytes)) ∙ sym (append_assoc h.gone (before ++ p.rest.items) bytes) in
+    let behind : (more : List ℕ) → q.rest.items ++ more ≡ p.rest.items ++ (bytes ++ more) = (λ more. ap (λ xs. xs ++ more) rest ∙ append_assoc p.rest.items bytes more) in
     record {
-      taken = h.taken ++ take cut p.rest.items;
-      count = omega (arith, done, h.count, length-append h.taken (take cut p.rest.items), length-take-le cut p.rest.items front.0);
+      gone = h.gone;
+      count = omega (arith, total, h.count, ap length whole, length-append (h.gone ++ (before ++ p.rest.items)) bytes);
+      read = subst (Consumes known after) (sym whole) (Consumes-trans known left after (h.gone ++ (before ++ p.rest.items)) bytes h.read read);
+      leads = λ more. rw (stage, behind more) (h.leads (bytes ++ more));
+    }
+
+-- the front of the rest was taken
+pub part-taken : (known left : Option (List ℕ)) (p q : Progress) (cut : ℕ) → q.total ≡ p.total → q.rest.items ≡ drop cut p.rest.items → IsTaken p.stage q.stage p.rest.items (Ok cut)
+    → IsReadTo known left [] p → IsReadTo known left [] q
+part-taken known left p q cut total rest front h =
+    let whole : (h.gone ++ take cut p.rest.items) ++ q.rest.items ≡ h.gone ++ p.rest.items =
+    ap (λ xs. (h.gone ++ take cut p.rest.items) ++ xs) rest ∙ append_assoc h.gone (take cut p.rest.items) (drop cut p.rest.items) ∙ ap (λ xs. h.gone ++ xs) (take-append-drop cut p.rest.items) in
+    let behind : (more : List ℕ) → (h.gone ++ take cut p.rest.items) ++ (drop cut p.rest.items ++ more) ≡ h.gone ++ (p.rest.items ++ more) =
+    (λ more. append_assoc h.gone (take cut p.rest.items) (drop cut p.rest.items ++ more) ∙ ap (λ xs. h.gone ++ xs) (sym (front-rest p.rest.items more cut))) in
+    record {
+      gone = h.gone ++ take cut p.rest.items;
+      count = total ∙ h.count ∙ sym (ap length whole);
       read = subst (Consumes known left) (sym whole) h.read;
       leads = λ more. rw rest (ap (λ xs. read_on Opening xs) (behind more) ∙ h.leads more ∙ front.1 more);
     }
@@ -87,11 +86,10 @@ too-large (Some xs) None after taken bytes total h k t more = absurd h
 too-large (Some xs) (Some ys) None taken bytes total h k t more = absurd k
 too-large (Some xs) (Some ys) (Some zs) taken bytes total h k t more = omega (arith, t, more, simp length-append at (ap length h), simp length-append at (ap length k))
 
-pub unread : (known left after : Option (List ℕ)) (p : Progress) (total : ℕ) (e : TextError) → total ≡ total_of p → IsReadTo known left p → IsUnread total left after e → IsRefused known e
-unread known left after p total why.Read t h k = tt
-unread known left after p total why.TooLarge t h k =
-    too-large known left after (h.taken ++ p.rest.items) k.bytes total h.read k.read (omega (arith, t, h.count, p.rest.ok.0, length-append h.taken p.rest.items)) k.size
-unread known left after p total e t h k = absurd k
+pub unread : (known left after : Option (List ℕ)) (before : List ℕ) (p : Progress) (e : TextError) → IsReadTo known left before p → IsUnread p.total left after e → IsRefused known e
+unread known left after before p why.Read h k = tt
+unread known left after before p why.TooLarge h k = too-large known left after (h.gone ++ (before ++ p.rest.items)) k.bytes p.total h.read k.read h.count k.size
+unread known left after before p e h k = absurd k
 
 -- records that give a refusal are a reason for it
 pub given-refused : (known : Option (List ℕ)) (e : TextError) → IsGiven known (Err e) → IsRefused known e
@@ -103,29 +101,31 @@ given-refused known e h = h
 err-stays : (e : TextError) (r : Result Stage TextError) → r ≡ Err e → r >>= trace_at_end ≡ Err e
 err-stays e r h = rw h refl
 
--- the front was refused, and the rest of the text is within the limit
-pub part-refused : (known left after : Option (List ℕ)) (p : Progress) (t : Stage) (total : ℕ) (e : TextError) → total ≡ total_of p → IsTaken p.stage t p.rest.items (Err e) → IsReadOut total left after
-    → IsReadTo known left p → IsRefused known e
-part-refused known left after p t total e same front out h =
-    let text : List ℕ = h.taken ++ (p.rest.items ++ out.bytes) in
-    let all : Consumes known after text = subst (Consumes known after) (append_assoc h.taken p.rest.items out.bytes) (Consumes-trans known left after (h.taken ++ p.rest.items) out.bytes h.read out.read) in
+-- what was read is refused, and the text is within the limit
+pub part-refused : (known left after : Option (List ℕ)) (before : List ℕ) (p : Progress) (t : Stage) (e : TextError) → IsTaken p.stage t (before ++ p.rest.items) (Err e) → IsReadOut p.total left after
+    → IsReadTo known left before p → IsRefused known e
+part-refused known left after before p t e front out h =
+    let behind : (before ++ p.rest.items) ++ out.bytes ≡ before ++ (p.rest.items ++ out.bytes) = append_assoc before p.rest.items out.bytes in
+    let text : List ℕ = h.gone ++ (before ++ (p.rest.items ++ out.bytes)) in
+    let whole : (h.gone ++ (before ++ p.rest.items)) ++ out.bytes ≡ text = append_assoc h.gone (before ++ p.rest.items) out.bytes ∙ ap (λ xs. h.gone ++ xs) behind in
+    let all : Consumes known after text = subst (Consumes known after) whole (Consumes-trans known left after (h.gone ++ (before ++ p.rest.items)) out.bytes h.read out.read) in
     given-refused known e (record {
       text = text;
       is = Consumes-whole known after text (λ xs. text ≡ xs) all out.end refl;
-      size = omega (arith, same, out.size, h.count, p.rest.ok.0, length-append h.taken (p.rest.items ++ out.bytes), length-append p.rest.items out.bytes);
-      gives = unless (is_memory e) _ _ (λ refuses. err-stays e (read_on Opening text) (h.leads out.bytes ∙ refuses out.bytes)) front;
+      size = omega (arith, out.size, h.count, ap length whole, length-append (h.gone ++ (before ++ p.rest.items)) out.bytes);
+      gives = unless (is_memory e) _ _ (λ refuses. err-stays e (read_on Opening text) (h.leads out.bytes ∙ ap (λ xs. read_on p.stage xs) (sym behind) ∙ refuses out.bytes)) front;
     })
 
 -- the text ends
-pub ended : (known left : Option (List ℕ)) (p : Progress) (r : Result Recorded TextError) → IsAtEnd left → total_of p ≤ MAX_TEXT_BYTES → Gives r (read_on p.stage p.rest.items >>= trace_at_end)
-    → IsReadTo known left p → IsGiven known r
+pub ended : (known left : Option (List ℕ)) (p : Progress) (r : Result Recorded TextError) → IsAtEnd left → p.total ≤ MAX_TEXT_BYTES → Gives r (read_on p.stage p.rest.items >>= trace_at_end)
+    → IsReadTo known left [] p → IsGiven known r
 ended known left p r end limit gives h =
-    let text : List ℕ = h.taken ++ p.rest.items in
-    let leads : read_on Opening text ≡ read_on p.stage p.rest.items = subst (λ xs. read_on Opening (h.taken ++ xs) ≡ read_on p.stage xs) (append-nil p.rest.items) (h.leads []) in
+    let text : List ℕ = h.gone ++ p.rest.items in
+    let leads : read_on Opening text ≡ read_on p.stage p.rest.items = subst (λ xs. read_on Opening (h.gone ++ xs) ≡ read_on p.stage xs) (append-nil p.rest.items) (h.leads []) in
     record {
       text = text;
       is = Consumes-whole known left text (λ xs. text ≡ xs) h.read end refl;
-      size = omega (arith, limit, h.count, p.rest.ok.0, length-append h.taken p.rest.items);
+      size = omega (arith, limit, h.count);
       gives = rw leads gives;
     }
 

@@ -1,24 +1,19 @@
 -- A trace that takes the steps of a piece goes on where the piece ends.
-use Rattle.std.proofs.Common.{◌≡◌, ◌==◌, ◌≤◌, ◌+◌, ◌-◌, ◌∙◌, ℕ, suc, List, [], ◌∷◌, ◌++◌, length, drop, Option, Some, None, is_some, Result, Ok, Err, Bool, true, false, refl, sym, ap, subst, arith, nat_eq, slice_index_or}
+use Rattle.std.proofs.Common.{◌≡◌, ◌==◌, ◌≤◌, ◌+◌, ◌-◌, ◌∙◌, ℕ, suc, List, [], ◌∷◌, ◌++◌, length, drop, Option, Some, None, is_some, Result, Ok, Err, Bool, true, false, refl, sym, ap, subst, arith, nat_eq, not, slice_index_or}
 use Rattle.std.specs.Prelude.{MatchBool, ⊤}
 use Rattle.std.proofs.lemmas.List.{drop-drop, take-append-drop}
 use Rattle.csv.specs.Reading.{strip_bom}
 use Rattle.memchr.specs.Find.{IsFirstByte, Nowhere, Passes, is_byte}
-use Rattle.step_trace.specs.declared.traces.TheConstants.{MAX_STEPS}
-use Rattle.step_trace.specs.Traces.{Recorded}
 use Rattle.trace_text.specs.declared.versions.Version.{Version}
 use Rattle.trace_text.specs.declared.reading.Stage.{Stage}
-use Rattle.trace_text.specs.declared.reading.Stage.TheVariants.{Recording}
 use Rattle.trace_text.specs.declared.refusals.TextError.{TextError}
 use Rattle.trace_text.specs.Records.{◌>>=◌, after_records, records_of_text}
 use Rattle.trace_text.specs.TextRefusals.{next_stage, is_memory}
 use Rattle.trace_text.proofs.TakenRecords.{after_records-append}
 use Rattle.shared_reading.specs.Seams.{has_quote, ends_line, IsSeam}
 use Rattle.shared_reading.proofs.QuoteFree.{seam}
-use Rattle.shared_reading.specs.declared.lines.Line.{Line}
-use Rattle.shared_reading.specs.Lines.{after_lines}
-use Rattle.shared_reading.specs.declared.pieces.Reached.{Reached}
-use Rattle.shared_reading.specs.Pieces.{part, read_on, IsReadAlone, GoesOn, TakesOn}
+use Rattle.shared_reading.specs.declared.pieces.Found.{Found}
+use Rattle.shared_reading.specs.Pieces.{part, read_on, IsFound, IsUnmarked, LeadsAlone}
 
 not-yes : (b : Bool) → (b ≡ true → ⊥) → b ≡ false
 not-yes false h = refl
@@ -56,6 +51,15 @@ unfolding strip_bom
 unmarked-none [] h = refl
 unmarked-none (x ∷ xs) h = absurd (omega (arith, h))
 
+not-true : (b : Bool) → not b ≡ true → b ≡ false
+not-true false h = refl
+not-true true h = cc h
+
+-- what comes behind bytes doesn't make a mark of their beginning
+pub unmarked-before : (xs : List ℕ) → (length xs ≡ 0 → ⊥) → not (nat_eq (slice_index_or xs 0 0) 239) ≡ true → IsUnmarked xs
+unmarked-before [] some h more = absurd (some refl)
+unmarked-before (x ∷ xs) some h more = unmarked (x ∷ (xs ++ more)) (not-true _ h)
+
 -- records after those of which one is refused make no difference
 append-stops : {S E : Type 0} (next : S → List (List ℕ) → Result S E) (a : S) (e : E) (xs ys : List (List (List ℕ))) → after_records next a xs ≡ Err e → after_records next a (xs ++ ys) ≡ Err e
 append-stops {S = S} next a e [] ys h = cc h
@@ -77,7 +81,8 @@ part-rest text from end order =
     let e : from + (end - from) ≡ end = omega (arith, order) in
     sym (take-append-drop (end - from) (drop from text)) ∙ ap (λ (xs : List ℕ). part text from end ++ xs) (drop-drop (end - from) from text ∙ ap (λ k. drop k text) e)
 
-unless : (b : Bool) (P Q : Type 0) → (P → Q) → MatchBool b ⊤ P → MatchBool b ⊤ Q
+-- what follows from a refusal follows unless it is for memory
+pub unless : (b : Bool) (P Q : Type 0) → (P → Q) → MatchBool b ⊤ P → MatchBool b ⊤ Q
 unless true P Q f h = h
 unless false P Q f h = f h
 
@@ -95,26 +100,17 @@ part-refused s e text from end order quoteless line mark = unless (is_memory e) 
     ap (λ (xs : List ℕ). read_on s xs) (part-rest text from end order)
     ∙ read_on-err s e (part text from end) (drop end text) (seam (part text from end) (drop end text) quoteless line mark) h)
 
--- the trace takes all steps of a piece
-pub piece-taken : (v : Version) (t u : Recorded) (text : List ℕ) (from end : ℕ) (lines : List Line) → from ≤ end → IsReadAlone v (part text from end) lines → strip_bom (drop end text) ≡ drop end text → length t.steps ≤ MAX_STEPS
-    → after_lines v t lines ≡ Ok (Recording v u) → read_on (Recording v t) (drop from text) ≡ read_on (Recording v u) (drop end text)
-piece-taken v t u text from end lines order alone mark short h =
-    part-read (Recording v t) (Recording v u) text from end order alone.quoteless alone.line mark (alone.leads t short ∙ h)
+-- the steps that were found in a piece were taken
+pub piece-taken : (v : Version) (found : Found) (s t : Stage) (text : List ℕ) (from end : ℕ) → from ≤ end → strip_bom (drop end text) ≡ drop end text → IsFound v (part text from end) found
+    → ((bytes : List ℕ) → IsFound v bytes found → LeadsAlone s bytes (Ok t)) → read_on s (drop from text) ≡ read_on t (drop end text)
+piece-taken v found s t text from end order mark is takes =
+    let alone = takes (part text from end) is in
+    part-read s t text from end order alone.quoteless alone.line mark alone.leads
 
--- the trace refuses a step of a piece
-pub piece-refused : (v : Version) (t : Recorded) (text : List ℕ) (from end : ℕ) (lines : List Line) (e : TextError) → from ≤ end → IsReadAlone v (part text from end) lines → strip_bom (drop end text) ≡ drop end text
-    → length t.steps ≤ MAX_STEPS → MatchBool (is_memory e) ⊤ (after_lines v t lines ≡ Err e) → MatchBool (is_memory e) ⊤ (read_on (Recording v t) (drop from text) ≡ Err e)
-piece-refused v t text from end lines e order alone mark short h =
-    part-refused (Recording v t) e text from end order alone.quoteless alone.line mark (unless (is_memory e) _ _ (λ refused. alone.leads t short ∙ refused) h)
-
--- one reading after the other
-pub GoesOn-more : (a b c : Stage) (text : List ℕ) (from at : ℕ) (r : Result ℕ TextError) → GoesOn a b text from (Ok at) → GoesOn b c text at r → GoesOn a c text from r
-GoesOn-more a b c text from at (Ok end) h k = (k.0, h.1 ∙ k.1)
-GoesOn-more a b c text from at (Err e) h k = unless (is_memory e) _ _ (λ q. h.1 ∙ q) k
-
--- the same of a trace that takes the steps
-pub TakesOn-more : (v : Version) (text : List ℕ) (from reached : Reached) (r : Result Reached TextError) → TakesOn v text from (Ok reached) → TakesOn v text reached r → TakesOn v text from r
-TakesOn-more v text from reached (Ok end) h k =
-    GoesOn-more (Recording v from.trace) (Recording v reached.trace) (Recording v end.trace) text from.at reached.at (Ok end.at) h k
-TakesOn-more v text from reached (Err e) h k =
-    GoesOn-more (Recording v from.trace) (Recording v reached.trace) (Recording v reached.trace) text from.at reached.at (Err e) h k
+-- or one of them is refused
+pub piece-refused : (v : Version) (found : Found) (s : Stage) (e : TextError) (text : List ℕ) (from end : ℕ) → from ≤ end → strip_bom (drop end text) ≡ drop end text → IsFound v (part text from end) found
+    → MatchBool (is_memory e) ⊤ ((bytes : List ℕ) → IsFound v bytes found → LeadsAlone s bytes (Err e)) → MatchBool (is_memory e) ⊤ (read_on s (drop from text) ≡ Err e)
+piece-refused v found s e text from end order mark is = unless (is_memory e) _ _ (λ takes.
+    let alone = takes (part text from end) is in
+    ap (λ (xs : List ℕ). read_on s xs) (part-rest text from end order)
+    ∙ read_on-err s e (part text from end) (drop end text) (seam (part text from end) (drop end text) alone.quoteless alone.line mark) alone.leads)

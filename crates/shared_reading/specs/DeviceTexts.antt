@@ -1,5 +1,5 @@
 -- A trace text that is read from a device part by part.
-use Rattle.std.specs.Prelude.{ℕ, ◌≡◌, ◌≤◌, ◌<◌, ◌+◌, ◌++◌, List, length, drop, Result, Ok, Err, Option, IfSome, MatchBool, vec_len, ⊤}
+use Rattle.std.specs.Prelude.{ℕ, ◌≡◌, ◌≤◌, ◌<◌, ◌+◌, ◌++◌, List, length, drop, Result, Ok, Err, Option, IfSome, MatchBool, ⊤}
 use Rattle.std.specs.Io.KnownBytes.{Consumes, IsAtEnd}
 use Rattle.step_trace.specs.Traces.{Recorded}
 use Rattle.trace_text.specs.declared.byte_loops.TheConstants.{MAX_TEXT_BYTES}
@@ -11,7 +11,7 @@ use Rattle.trace_text.specs.Records.{records_of_text}
 use Rattle.trace_text.specs.TextRefusals.{Gives, is_memory, trace_of_records, trace_of_text}
 use Rattle.trace_text.specs.TraceTexts.{IsTextTrace, StandsFor}
 use Rattle.shared_reading.specs.Pieces.{read_on}
-use Rattle.shared_reading.specs.declared.device_texts.Progress.{Progress}
+use Rattle.shared_reading.specs.declared.progress.Progress.{Progress}
 
 -- the trace is that of a text within the limit, which is all that the reader had, where that is known
 pub record IsTraceRead (known : Option (List ℕ)) (t : Recorded) : Type 0 where
@@ -41,17 +41,14 @@ IsRefused known why.Memory = ⊤
 IsRefused known why.TooLarge = IfSome known (λ bytes. MAX_TEXT_BYTES < length bytes)
 IsRefused known e = IsGiven known (Err e)
 
--- how many bytes were read
-abbrev pub total_of : Progress → ℕ
-total_of p = p.done + vec_len p.rest
-
--- Of the bytes that the reader had at first so many were taken, the rest was read and the others are left; and whatever
--- comes after the rest, the records of all lead where those after the taken ones lead from the stage.
-pub record IsReadTo (known left : Option (List ℕ)) (p : Progress) : Type 0 where
-  pub taken : List ℕ
-  pub count : p.done ≡ length taken
-  pub read : Consumes known left (taken ++ p.rest.items)
-  pub leads : (more : List ℕ) → read_on Opening (taken ++ (p.rest.items ++ more)) ≡ read_on p.stage (p.rest.items ++ more)
+-- Of the bytes that the reader had at first some were let go of, then come those before the rest, and the rest, and the
+-- others are left; and whatever comes after the rest, the records of all lead where those after the first lead from the
+-- stage.
+pub record IsReadTo (known left : Option (List ℕ)) (before : List ℕ) (p : Progress) : Type 0 where
+  pub gone : List ℕ
+  pub count : p.total ≡ length (gone ++ (before ++ p.rest.items))
+  pub read : Consumes known left (gone ++ (before ++ p.rest.items))
+  pub leads : (more : List ℕ) → read_on Opening (gone ++ (before ++ (p.rest.items ++ more))) ≡ read_on p.stage (before ++ (p.rest.items ++ more))
 
 -- the front of the rest was taken: whatever comes behind, the records lead where those behind the front lead
 abbrev pub IsTaken : Stage → Stage → List ℕ → Result ℕ TextError → Type 0
@@ -59,9 +56,9 @@ IsTaken old new rest (Ok cut) = (cut ≤ length rest) × ((more : List ℕ) → 
 IsTaken old new rest (Err e) = MatchBool (is_memory e) ⊤ ((more : List ℕ) → read_on old (rest ++ more) ≡ Err e)
 
 -- reading goes on, or is refused
-abbrev pub GoesOnTo : {A : Type 0} → Option (List ℕ) → Option (List ℕ) → Progress → Result A TextError → Type 0
-GoesOnTo known left p (Ok x) = IsReadTo known left p
-GoesOnTo known left p (Err e) = IsRefused known e
+abbrev pub GoesOnTo : {A : Type 0} → Option (List ℕ) → Option (List ℕ) → List ℕ → Progress → Result A TextError → Type 0
+GoesOnTo known left before p (Ok x) = IsReadTo known left before p
+GoesOnTo known left before p (Err e) = IsRefused known e
 
 -- a reader brought more bytes than there may be
 pub record IsTooMuch (total : ℕ) (old new : Option (List ℕ)) : Type 0 where

@@ -5,3 +5,5 @@ pub mod StepLines
 pub mod LongLines
 pub mod Pieces
 pub mod DeviceTexts
+pub mod ReadPieces
+pub mod UnderWay

@@ -1,5 +1,6 @@
 -- A trace text of which some pieces are read without what stands before them.
-use Rattle.std.specs.Prelude.{ℕ, ◌≡◌, ◌≤◌, ◌-◌, List, length, take, drop, Result, Ok, Err, false, true, MatchBool, ⊤}
+use Rattle.std.specs.Prelude.{ℕ, ◌≡◌, ◌≤◌, ◌-◌, ◌++◌, List, length, take, drop, Result, Ok, Err, Bool, false, true, MatchBool, ⊤}
+use Rattle.csv.specs.Reading.{strip_bom}
 use Rattle.step_trace.specs.declared.traces.TheConstants.{MAX_STEPS}
 use Rattle.step_trace.specs.Traces.{Recorded}
 use Rattle.trace_text.specs.declared.versions.Version.{Version}
@@ -11,8 +12,6 @@ use Rattle.trace_text.specs.TextRefusals.{next_stage, is_memory}
 use Rattle.shared_reading.specs.Seams.{has_quote, ends_line}
 use Rattle.shared_reading.specs.declared.lines.Line.{Line}
 use Rattle.shared_reading.specs.Lines.{after_lines}
-use Rattle.shared_reading.specs.declared.pieces.Piece.{Piece}
-use Rattle.shared_reading.specs.declared.pieces.Reached.{Reached}
 use Rattle.shared_reading.specs.declared.pieces.Found.{Found}
 use Rattle.shared_reading.specs.declared.pieces.Found.TheVariants.{Steps, Unusual, NoMemory}
 
@@ -36,18 +35,22 @@ IsFound v bytes (Steps read) = IsReadAlone v bytes read.lines
 IsFound v bytes Unusual = ⊤
 IsFound v bytes NoMemory = ⊤
 
--- a piece of a text, and what was found in it
-pub record IsPiece (v : Version) (text : List ℕ) (piece : Piece) : Type 0 where
-  pub order : piece.from ≤ piece.end
-  pub within : piece.end ≤ length text
-  pub read : IsFound v (part text piece.from piece.end) piece.found
+-- whatever comes behind these bytes, no byte order mark begins with them
+abbrev pub IsUnmarked : List ℕ → Type 0
+IsUnmarked bytes = (more : List ℕ) → strip_bom (bytes ++ more) ≡ bytes ++ more
+
+-- these bytes may be cut off, and lead there
+pub record LeadsAlone (s : Stage) (bytes : List ℕ) (r : Result Stage TextError) : Type 0 where
+  pub quoteless : has_quote bytes ≡ false
+  pub line : ends_line bytes ≡ true
+  pub leads : read_on s bytes ≡ r
+
+-- a stage that takes what was found in a piece leads where the bytes lead, or is as it was, or one of its steps is refused
+abbrev pub TakesFound : Version → Found → Stage → Stage → Result Bool TextError → Type 0
+TakesFound v found old new (Ok took) = MatchBool took ((bytes : List ℕ) → IsFound v bytes found → LeadsAlone old bytes (Ok new)) (new ≡ old)
+TakesFound v found old new (Err e) = MatchBool (is_memory e) ⊤ ((bytes : List ℕ) → IsFound v bytes found → LeadsAlone old bytes (Err e))
 
 -- a text was read from one place to another, or is refused
 abbrev pub GoesOn : Stage → Stage → List ℕ → ℕ → Result ℕ TextError → Type 0
 GoesOn old new text from (Ok at) = (at ≤ length text) × (read_on old (drop from text) ≡ read_on new (drop at text))
 GoesOn old new text from (Err e) = MatchBool (is_memory e) ⊤ (read_on old (drop from text) ≡ Err e)
-
--- the same of a trace that takes the steps
-abbrev pub TakesOn : Version → List ℕ → Reached → Result Reached TextError → Type 0
-TakesOn v text from (Ok reached) = GoesOn (Recording v from.trace) (Recording v reached.trace) text from.at (Ok reached.at)
-TakesOn v text from (Err e) = GoesOn (Recording v from.trace) (Recording v from.trace) text from.at (Err e)

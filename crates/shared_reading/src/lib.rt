@@ -1,14 +1,18 @@
-//! A trace text that is read by pieces, by one thread or several, and from a device part by part. One thread goes over the
-//! text from front to back; what is read of it without what stands before only shortens its way.
+//! A trace text that is read by pieces, from memory or from a device part by part, by one thread or several. One thread goes
+//! over the text from front to back; what is read of it without what stands before only shortens its way.
 #![tactic(auto)]
 
+mod cuts;
 mod device_texts;
 mod lines;
 mod paged_steps;
 mod pieces;
+mod progress;
+mod read_pieces;
 mod reading;
+mod shared_texts;
 mod step_lines;
-mod stretches;
+mod under_way;
 
 pub use device_texts::read_trace_from;
-pub use reading::{read_trace, read_trace_by};
+pub use reading::read_trace;

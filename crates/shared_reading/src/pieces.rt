@@ -1,37 +1,23 @@
 //! Pieces of a trace text that are read without what stands before them.
 
-ghost use Rattle.std.specs.Prelude.{◌≡◌, ◌≤◌, ℕ, length, drop, true, false, All};
+ghost use Rattle.std.specs.Prelude.{◌≡◌, ◌≤◌, length, drop, true, false};
 ghost use Rattle.csv.specs.Reading.{strip_bom};
 ghost use Rattle.trace_text.specs.Records.{ReachesUnless, after_records, records_of_text};
 ghost use Rattle.trace_text.specs.TextRefusals.{is_memory};
 ghost use Rattle.shared_reading.specs.Lines.{next_read};
 ghost use Rattle.shared_reading.specs.Seams.{has_quote, ends_line};
-ghost use Rattle.shared_reading.specs.Pieces.{TakesOn, IsPiece, IsFound};
+ghost use Rattle.shared_reading.specs.Pieces.{IsFound, IsUnmarked, TakesFound};
 
 use crate::lines::{Lines, push_lines};
 use memchr::memchr;
 use std::alloc::Global;
-use step_trace::Trace;
+use std::mem;
 use trace_text::TextError;
+use trace_text::reading::Stage;
 use trace_text::records::read_records;
 use trace_text::versions::Version;
 
-/// A piece of a text, from a place to its end, and what was read of it.
-#[derive(Drop)]
-pub(crate) struct Piece {
-    pub(crate) from: usize,
-    pub(crate) end: usize,
-    pub(crate) found: Found,
-}
-
-/// A place up to which a text was read, and the trace that has its steps.
-#[derive(Drop)]
-pub(crate) struct Reached {
-    pub(crate) at: usize,
-    pub(crate) trace: Trace,
-}
-
-/// What a thread reads of a piece.
+/// What a piece of a text tells by itself.
 #[derive(Drop)]
 pub(crate) enum Found {
     /// Its records are these steps.
@@ -42,23 +28,8 @@ pub(crate) enum Found {
     NoMemory,
 }
 
-impl Piece {
-    /// The piece of these bytes.
-    pub(crate) fn of(alloc: Global, version: Version, text: &[u8], from: usize, end: usize) -> Piece
-        requires order { from ≤ end }
-        requires within { end ≤ length text.now }
-        ensures { IsPiece version text.now result }
-    {
-        Piece {
-            from,
-            end,
-            found: found_in(alloc, version, &text[from..end]),
-        }
-    }
-}
-
 /// What these bytes tell by themselves.
-fn found_in(alloc: Global, version: Version, bytes: &[u8]) -> Found
+pub(crate) fn found_in(alloc: Global, version: Version, bytes: &[u8]) -> Found
     ensures { IsFound version bytes.now result }
 {
     if has_quote(bytes) || !ends_line(bytes) {
@@ -110,6 +81,16 @@ pub(crate) fn may_be_marked(bytes: &[u8]) -> bool
     bytes[0] == 0xEF
 }
 
+/// Whether there are bytes, and no byte order mark begins with them, whatever comes behind.
+pub(crate) fn begins_unmarked(bytes: &[u8]) -> bool
+    ensures { result ≡ true → IsUnmarked bytes.now }
+{
+    if bytes.len() == 0 {
+        return false;
+    }
+    bytes[0] != 0xEF
+}
+
 /// The bytes from a place on.
 pub(crate) fn tail(text: &[u8], at: usize) -> &[u8]
     requires { at ≤ length text.now }
@@ -118,50 +99,32 @@ pub(crate) fn tail(text: &[u8], at: usize) -> &[u8]
     &text[at..]
 }
 
-/// A trace takes the steps of these pieces, as far as each begins where the one before it ends. Tells how far it came.
-pub(crate) fn take_pieces(
-    text: &[u8],
+/// The trace that is being recorded takes the steps that were found in a piece, if they are known and were read in its
+/// version; tells whether it has them. Where one is refused, the stage is of no more use.
+pub(crate) fn take_found(
     version: Version,
-    from: Reached,
-    pieces: Vec<Piece>,
-) -> Result<Reached, TextError>
-    requires pieces { All (IsPiece version text.now) pieces.items }
-    requires within { from.at ≤ length text.now }
-    ensures { TakesOn version text.now from result }
+    found: Found,
+    stage: &mut Stage,
+) -> Result<bool, TextError>
+    ensures { TakesFound version found stage.old stage.new result }
 {
-    let mut reached = from;
-    for piece in pieces {
-        reached = take_piece(text, version, reached, piece)?;
-    }
-    Ok(reached)
-}
-
-/// A trace takes the steps of a piece, where it begins at the place that was reached.
-fn take_piece(
-    text: &[u8],
-    version: Version,
-    reached: Reached,
-    piece: Piece,
-) -> Result<Reached, TextError>
-    requires piece { IsPiece version text.now piece }
-    requires within { reached.at ≤ length text.now }
-    ensures { TakesOn version text.now reached result }
-{
-    let Piece { from, end, found } = piece;
-    if from != reached.at {
-        return Ok(reached);
-    }
-    if may_be_marked(tail(text, end)) {
-        return Ok(reached);
-    }
-    match found {
-        Found::Steps(lines) => {
+    let lines = match found {
+        Found::Steps(lines) => lines,
+        Found::Unusual => return Ok(false),
+        Found::NoMemory => return Err(TextError::Memory),
+    };
+    match (version, mem::replace(stage, Stage::Opening)) {
+        (Version::One, Stage::Recording(Version::One, trace))
+        | (Version::Two, Stage::Recording(Version::Two, trace)) => {
             // (a trace has no more steps than it may have)
-            let _steps = reached.trace.len();
-            let trace = push_lines(version, reached.trace, lines)?;
-            Ok(Reached { at: end, trace })
+            let _steps = trace.len();
+            let longer = push_lines(version, trace, lines)?;
+            *stage = Stage::Recording(version, longer);
+            Ok(true)
         }
-        Found::Unusual => Ok(reached),
-        Found::NoMemory => Err(TextError::Memory),
+        (_, other) => {
+            *stage = other;
+            Ok(false)
+        }
     }
 }

@@ -21,8 +21,9 @@ use step_trace::{Gate, ProcSet, Trace};
 use trace_text::Counting;
 
 /// Reads a trace text to its end, and writes the report of its trace, for `set` as the correct
-/// processors. So many workers read the text, each a share of it, and find the bounds, each in a thread
-/// of its own, which enters the gate before that work; whatever their number, the report is the same.
+/// processors. With two workers and more, other threads read pieces of the text, about as many at once. So many
+/// workers find the bounds, each in a thread of its own, which enters the gate before that work; whatever their
+/// number, the report is the same.
 /// What the trace has taken of a long text is let go of; the trace itself is left to the end of the program. Nothing is
 /// written before the whole report stands.
 ///

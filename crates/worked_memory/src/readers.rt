@@ -1,7 +1,7 @@
-//! A trace text that two threads read or one, and one that is read from a device part by part.
+//! A trace text in memory, and one that is read from a device part by part, by one thread and by several.
 
 use refused_growths::Refusal;
-use shared_reading::{read_trace, read_trace_by, read_trace_from};
+use shared_reading::{read_trace, read_trace_from};
 use std::alloc::{AllocError, Global};
 use std::test::Fail;
 use std::thread::Threads;
@@ -9,11 +9,8 @@ use step_trace::Trace;
 use trace_text::failing_devices::{AfterBytes, FailingReader};
 use trace_text::{Counting, TextError};
 
-/// So many that the text is longer than what one thread reads before the others begin, and that a page of the trace begins
-/// among the steps that the other thread reads.
+/// So many that the trace has several pages of them.
 const STEPS: u64 = 900;
-
-const WORKERS: u64 = 2;
 
 /// More growths than they make.
 const MOST_GROWTHS: usize = 10_000;
@@ -21,12 +18,20 @@ const MOST_GROWTHS: usize = 10_000;
 /// So many blank lines that the text is longer than a part.
 const BLANK_LINES: usize = 1_100_000;
 
+/// So many that another thread reads a piece of the text, and all steps but the first.
+const BLANK_LINES_OF_A_PIECE: usize = 150_000;
+
+/// So many that other threads read more pieces than there are workers, and all steps but the first in the last one.
+const BLANK_LINES_OF_PIECES: usize = 600_000;
+
+const WORKERS: u64 = 2;
+
 /// How a text is read.
 #[derive(Clone, Copy)]
 enum Way {
-    Whole,
-    Alone,
+    InMemory,
     FromDevice,
+    ByThreads,
 }
 
 /// A text with so many blank lines after its first step.
@@ -44,6 +49,16 @@ fn text_of(alloc: Global, blank_lines: usize) -> Result<String, AllocError> {
     Ok(text)
 }
 
+fn read_from<R: Threads + Sync>(
+    rt: &R,
+    alloc: Global,
+    text: &[u8],
+    workers: u64,
+) -> Result<Trace, TextError> {
+    let device = FailingReader::new(text, 65_536, AfterBytes::End);
+    read_trace_from(rt, alloc, &mut Counting::new(device), workers)
+}
+
 fn answer<R: Threads + Sync>(
     rt: &R,
     alloc: Global,
@@ -51,12 +66,9 @@ fn answer<R: Threads + Sync>(
     way: Way,
 ) -> Result<Trace, TextError> {
     match way {
-        Way::Whole => read_trace_by(rt, alloc, text, WORKERS),
-        Way::Alone => read_trace(alloc, text),
-        Way::FromDevice => {
-            let device = FailingReader::new(text, 65_536, AfterBytes::End);
-            read_trace_from(rt, alloc, &mut Counting::new(device), 1)
-        }
+        Way::InMemory => read_trace(alloc, text),
+        Way::FromDevice => read_from(rt, alloc, text, 1),
+        Way::ByThreads => read_from(rt, alloc, text, WORKERS),
     }
 }
 
@@ -81,7 +93,7 @@ enum Outcome {
     Read,
     /// It answered want of memory, and the text was read afterwards.
     Refused,
-    /// The text was read without it: the other thread wasn't started, and its piece was read by this one.
+    /// The text was read without it: a thread wasn't started, and from its piece on the text was read by this one.
     ReadAlone,
     Wrong,
 }
@@ -105,25 +117,48 @@ fn read_with<R: Threads + Sync>(
     }
 }
 
-/// The first growth of which the outcome was wrong, if there was one. One growth at most is that of a thread which
-/// starts.
-fn first_wrong<R: Threads + Sync>(rt: &R, alloc: Global, text: &[u8], way: Way) -> Option<usize> {
-    let mut read_alone = false;
+/// The first growth of which the outcome was wrong, if there was one. Without so many growths at most the text is read all
+/// the same.
+fn first_wrong<R: Threads + Sync>(
+    rt: &R,
+    alloc: Global,
+    text: &[u8],
+    way: Way,
+    most_read_alone: usize,
+) -> Option<usize> {
+    let mut read_alone = 0;
     for growth in 1..MOST_GROWTHS {
         match read_with(rt, alloc, text, way, Refusal::of(growth)) {
             Outcome::Read => return None,
             Outcome::Refused => {}
-            Outcome::ReadAlone if !read_alone => read_alone = true,
+            Outcome::ReadAlone if read_alone < most_read_alone => read_alone += 1,
             Outcome::ReadAlone | Outcome::Wrong => return Some(growth),
         }
     }
     Some(MOST_GROWTHS)
 }
 
+/// All growths before the start of the only thread are made by this one, so the same growth is that start's in each turn.
 #[test]
-fn threads_read_a_text(rt: HostRuntime) -> Result<(), Fail> {
-    let text = text_of(rt.alloc(), 0)?;
-    let wrong = first_wrong(&rt, rt.alloc(), text.as_bytes(), Way::Whole);
+fn a_thread_reads_a_piece(rt: HostRuntime) -> Result<(), Fail> {
+    let text = text_of(rt.alloc(), BLANK_LINES_OF_A_PIECE)?;
+    let wrong = first_wrong(&rt, rt.alloc(), text.as_bytes(), Way::ByThreads, 1);
+    assert!(rt; wrong.is_none(), "{wrong:?}");
+    Ok(())
+}
+
+/// While a thread reads, another one starts: which growth is that start's differs from turn to turn, and so may be met in
+/// any number of turns.
+#[test]
+fn threads_read_pieces(rt: HostRuntime) -> Result<(), Fail> {
+    let text = text_of(rt.alloc(), BLANK_LINES_OF_PIECES)?;
+    let wrong = first_wrong(
+        &rt,
+        rt.alloc(),
+        text.as_bytes(),
+        Way::ByThreads,
+        MOST_GROWTHS,
+    );
     assert!(rt; wrong.is_none(), "{wrong:?}");
     Ok(())
 }
@@ -131,7 +166,7 @@ fn threads_read_a_text(rt: HostRuntime) -> Result<(), Fail> {
 #[test]
 fn one_thread_reads_a_text(rt: HostRuntime) -> Result<(), Fail> {
     let text = text_of(rt.alloc(), 0)?;
-    let wrong = first_wrong(&rt, rt.alloc(), text.as_bytes(), Way::Alone);
+    let wrong = first_wrong(&rt, rt.alloc(), text.as_bytes(), Way::InMemory, 0);
     assert!(rt; wrong.is_none(), "{wrong:?}");
     Ok(())
 }
@@ -139,7 +174,7 @@ fn one_thread_reads_a_text(rt: HostRuntime) -> Result<(), Fail> {
 #[test]
 fn a_text_is_read_from_a_device(rt: HostRuntime) -> Result<(), Fail> {
     let text = text_of(rt.alloc(), BLANK_LINES)?;
-    let wrong = first_wrong(&rt, rt.alloc(), text.as_bytes(), Way::FromDevice);
+    let wrong = first_wrong(&rt, rt.alloc(), text.as_bytes(), Way::FromDevice, 0);
     assert!(rt; wrong.is_none(), "{wrong:?}");
     Ok(())
 }

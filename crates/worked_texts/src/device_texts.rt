@@ -16,7 +16,7 @@ const PIECES: [usize; 2] = [7_919, 65_536];
 
 const FAILS: AfterBytes = AfterBytes::Fail(ErrorKind::Other);
 
-/// Nine megabytes: more than several threads read at once.
+/// Nine megabytes.
 const LONGER: Row = Row {
     steps: 520_000,
     end: "end,520000\n",

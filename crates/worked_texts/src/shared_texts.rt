@@ -1,11 +1,12 @@
-//! Texts that several threads read: each is told of as one thread that reads alone tells of it.
+//! Texts of which several threads read pieces: each is told of as one thread that reads alone tells of it.
 
-use shared_reading::read_trace_by;
+use shared_reading::read_trace_from;
 use std::alloc::{AllocError, Global};
 use std::test::Fail;
 use std::thread::Threads;
 use step_trace::Trace;
-use trace_text::{TextError, read_trace};
+use trace_text::failing_devices::{AfterBytes, FailingReader};
+use trace_text::{Counting, TextError, read_trace};
 
 const WORKERS: [u64; 6] = [0, 1, 2, 3, 7, 64];
 
@@ -24,14 +25,15 @@ pub(crate) struct Row {
     pub(crate) told: &'static str,
 }
 
-/// With which all is told.
+/// With which all is told. The first 5,000 steps, about, are read before any piece, and the others as two pieces, of which
+/// the second begins with step 14,000, about.
 const USUAL: Row = Row {
     version: 1,
-    steps: 2_000,
+    steps: 20_000,
     start: "",
     odd: (0, ""),
-    end: "end,2000\n",
-    told: "2000 steps",
+    end: "end,20000\n",
+    told: "20000 steps",
 };
 
 const TIMED: Row = Row {
@@ -39,15 +41,15 @@ const TIMED: Row = Row {
     ..USUAL
 };
 
-/// Of which each thread reads some pages, whatever their number.
-const PAGES: Row = Row {
-    steps: 6_000,
-    end: "end,6000\n",
-    told: "6000 steps",
+/// Which is read before any piece.
+const SHORT: Row = Row {
+    steps: 2_000,
+    end: "end,2000\n",
+    told: "2000 steps",
     ..USUAL
 };
 
-/// Four megabytes and a half, which are read in several stretches.
+/// Four megabytes and a half, of which there are more pieces than are under way at once.
 pub(crate) const LONG: Row = Row {
     steps: 300_000,
     end: "end,300000\n",
@@ -58,28 +60,28 @@ pub(crate) const LONG: Row = Row {
 const ROWS: &[Row] = &[
     USUAL,
     TIMED,
-    PAGES,
+    SHORT,
     LONG,
     // (a tick whose last 32 bits are those of the due one)
     Row {
-        odd: (1_501, "1501,4294968797,1,S,2\n"),
-        told: "BadStep(1501, BadTick)",
+        odd: (15_001, "15001,4294982297,1,S,2\n"),
+        told: "BadStep(15001, BadTick)",
         ..TIMED
     },
     Row {
-        odd: (1_501, "1501,01501,1,S,2\n"),
-        told: "BadNumber(1501)",
+        odd: (15_001, "15001,015001,1,S,2\n"),
+        told: "BadNumber(15001)",
         ..TIMED
     },
     Row {
-        odd: (1_501, "1501,1501,4,S,2\n"),
-        told: "BadStep(1501, BadProc)",
+        odd: (15_001, "15001,15001,4,S,2\n"),
+        told: "BadStep(15001, BadProc)",
         ..TIMED
     },
     Row {
-        odd: (4_700, "4700,4,S,2\n"),
-        told: "BadStep(4700, BadProc)",
-        ..PAGES
+        odd: (9_500, "9500,4,S,2\n"),
+        told: "BadStep(9500, BadProc)",
+        ..USUAL
     },
     Row {
         odd: (150_001, "\"150001\",1,S,2\n"),
@@ -100,7 +102,7 @@ const ROWS: &[Row] = &[
         ..USUAL
     },
     Row {
-        end: "end,2000",
+        end: "end,20000",
         ..USUAL
     },
     Row {
@@ -109,7 +111,7 @@ const ROWS: &[Row] = &[
         ..USUAL
     },
     Row {
-        end: "end,1999\n",
+        end: "end,19999\n",
         told: "WrongEnd",
         ..USUAL
     },
@@ -117,44 +119,60 @@ const ROWS: &[Row] = &[
 
 /// The record of a step, by its number, and what is told.
 const ODD: &[(u64, &str, &str)] = &[
-    (1_501, "1501,1,S,2\r\n\n\n", "2000 steps"),
-    (1_501, "\"1501\",1,S,2\n", "2000 steps"),
-    (3, "\"3\",1,S,2\n", "2000 steps"),
-    (1_501, "\u{feff}1501,1,S,2\n", "WrongNumber(1501)"),
-    (1_501, "1501,4,S,2\n", "BadStep(1501, BadProc)"),
-    (1_501, "1502,1,S,2\n", "WrongNumber(1501)"),
-    (1_501, "1501,1,S\n", "BadFields(1501)"),
-    (1_501, "1501,1,X,2\n", "BadOp(1501)"),
-    (1_501, "end,1500\n", "AfterEnd"),
-    (1_502, "1502,2,R,1499\n", "BadStep(1502, Redelivered(1499))"),
+    (15_001, "15001,1,S,2\r\n\n\n", "20000 steps"),
+    (15_001, "\"15001\",1,S,2\n", "20000 steps"),
+    (3, "\"3\",1,S,2\n", "20000 steps"),
+    (15_001, "\u{feff}15001,1,S,2\n", "WrongNumber(15001)"),
+    (15_001, "15001,4,S,2\n", "BadStep(15001, BadProc)"),
+    (15_001, "15002,1,S,2\n", "WrongNumber(15001)"),
+    (15_001, "15001,1,S\n", "BadFields(15001)"),
+    (15_001, "15001,1,X,2\n", "BadOp(15001)"),
+    (15_001, "end,15000\n", "AfterEnd"),
     (
-        1_502,
-        "1502,2,R,1500\n",
-        "BadStep(1502, UnknownMessage(1500))",
+        15_002,
+        "15002,2,R,14999\n",
+        "BadStep(15002, Redelivered(14999))",
     ),
-    (1_502, "1502,2,R,1501 1501\n", "BadStep(1502, IdsNotRising)"),
+    (
+        15_002,
+        "15002,2,R,15000\n",
+        "BadStep(15002, UnknownMessage(15000))",
+    ),
+    (
+        15_002,
+        "15002,2,R,15001 15001\n",
+        "BadStep(15002, IdsNotRising)",
+    ),
     (3, "3,1,S,9\n", "BadStep(3, BadDest)"),
     // (lines that look like a step's)
-    (1_501, "1501,1,S,2\r", "2000 steps"),
-    (1_501, "1501,1,S,2,\n", "BadFields(1501)"),
-    (1_501, "01501,1,S,2\n", "WrongNumber(1501)"),
-    (1_501, "1501,1,S,18446744073709551616\n", "BadNumber(1501)"),
-    (1_501, "1501,1,E,\n", "BadStep(1502, UnknownMessage(1501))"),
-    (1_502, "1502,2,R,1501 \n", "BadNumber(1502)"),
+    (15_001, "15001,1,S,2\r", "20000 steps"),
+    (15_001, "15001,1,S,2,\n", "BadFields(15001)"),
+    (15_001, "015001,1,S,2\n", "WrongNumber(15001)"),
+    (
+        15_001,
+        "15001,1,S,18446744073709551616\n",
+        "BadNumber(15001)",
+    ),
+    (
+        15_001,
+        "15001,1,E,\n",
+        "BadStep(15002, UnknownMessage(15001))",
+    ),
+    (15_002, "15002,2,R,15001 \n", "BadNumber(15002)"),
     // (the last step of a page, and the first of the next)
-    (1_536, "1536,4,S,2\n", "BadStep(1536, BadProc)"),
-    (1_537, "1537,4,S,2\n", "BadStep(1537, BadProc)"),
+    (15_104, "15104,4,S,2\n", "BadStep(15104, BadProc)"),
+    (15_105, "15105,4,S,2\n", "BadStep(15105, BadProc)"),
     // (numbers that are left out, or told again)
-    (1_501, "", "WrongNumber(1501)"),
-    (1_537, "", "WrongNumber(1537)"),
-    (1_537, "1538,1,S,2\n", "WrongNumber(1537)"),
-    (1_537, "1536,1,S,2\n", "WrongNumber(1537)"),
-    // (in the share of the thread that waits, where there are two or three)
-    (801, "801,1,S,2\r\n\n\n", "2000 steps"),
-    (801, "\"801\",1,S,2\n", "2000 steps"),
-    (801, "\u{feff}801,1,S,2\n", "WrongNumber(801)"),
-    (801, "801,4,S,2\n", "BadStep(801, BadProc)"),
-    (801, "end,800\n", "AfterEnd"),
+    (15_001, "", "WrongNumber(15001)"),
+    (15_105, "", "WrongNumber(15105)"),
+    (15_105, "15106,1,S,2\n", "WrongNumber(15105)"),
+    (15_105, "15104,1,S,2\n", "WrongNumber(15105)"),
+    // (in the first piece)
+    (8_001, "8001,1,S,2\r\n\n\n", "20000 steps"),
+    (8_001, "\"8001\",1,S,2\n", "20000 steps"),
+    (8_001, "\u{feff}8001,1,S,2\n", "WrongNumber(8001)"),
+    (8_001, "8001,4,S,2\n", "BadStep(8001, BadProc)"),
+    (8_001, "end,8000\n", "AfterEnd"),
 ];
 
 fn with_odd(no: u64, record: &'static str, told: &'static str) -> Row {
@@ -201,6 +219,17 @@ pub(crate) fn told(alloc: Global, answer: Result<Trace, TextError>) -> Result<St
     }
 }
 
+/// The trace of a text that comes from a device.
+fn read_by<R: Threads + Sync>(
+    rt: &R,
+    alloc: Global,
+    text: &[u8],
+    workers: u64,
+) -> Result<Trace, TextError> {
+    let device = FailingReader::new(text, 65_536, AfterBytes::End);
+    read_trace_from(rt, alloc, &mut Counting::new(device), workers)
+}
+
 fn is_told<R: Threads + Sync>(
     rt: &R,
     alloc: Global,
@@ -208,7 +237,7 @@ fn is_told<R: Threads + Sync>(
     workers: u64,
     wanted: &str,
 ) -> Result<bool, AllocError> {
-    let found = told(alloc, read_trace_by(rt, alloc, text, workers))?;
+    let found = told(alloc, read_by(rt, alloc, text, workers))?;
     Ok(found.as_str() == wanted)
 }
 
@@ -248,7 +277,7 @@ fn odd_records_in_pieces(rt: HostRuntime) -> Result<(), Fail> {
 /// Whether so many workers read the trace that is read of a text by one.
 fn read_the_same<R: Threads + Sync>(rt: &R, alloc: Global, text: &[u8], trace: &Trace) -> bool {
     for workers in WORKERS {
-        match read_trace_by(rt, alloc, text, workers) {
+        match read_by(rt, alloc, text, workers) {
             Ok(found) => {
                 if !found.begins(trace) || !trace.begins(&found) {
                     return false;
@@ -262,7 +291,7 @@ fn read_the_same<R: Threads + Sync>(rt: &R, alloc: Global, text: &[u8], trace: &
 
 #[test]
 fn the_trace_of_any_number_of_workers(rt: HostRuntime) -> Result<(), Fail> {
-    for row in [USUAL, TIMED, PAGES, LONG] {
+    for row in [USUAL, TIMED, SHORT, LONG] {
         let text = text_of(rt.alloc(), &row)?;
         let trace = read_trace(rt.alloc(), text.as_bytes())?;
         assert!(rt; read_the_same(&rt, rt.alloc(), text.as_bytes(), &trace));

@@ -1,4 +1,4 @@
-use Rattle.std.proofs.Common.{◌∙◌, Bool, arith, refl, sym}
+use Rattle.std.proofs.Common.{◌∙◌, Bool, [], refl, sym}
 use Rattle.shared_reading.proofs.PartsRead.{faults-kept, no-fault, part-refused, part-taken}
 use Rattle.shared_reading.proofs.device_texts.take_part.Goals as goal
 
@@ -8,7 +8,7 @@ returns-in-Ok-clause-goes_on g c =
 
 pub returns-in_ok-skip_rest-in-Err-clause-goes_on : goal.returns-in_ok-skip_rest-in-Err-clause-goes_on
 returns-in_ok-skip_rest-in-Err-clause-goes_on g c =
-    λ known h. part-refused known _ _ c.args.progress.now c.take_front.new.stage _ _ (omega (arith, c.len.ensures)) (rw (c.in-Err.is, c.deref.ensures.value) at c.take_front.ensures) c.in_ok-skip_rest-in-Err.ensures.whole h
+    λ known h. part-refused known _ _ [] c.args.progress.now c.take_front.new.stage _ (rw (c.in-Err.is, c.deref.ensures.value) at c.take_front.ensures) c.in_ok-skip_rest-in-Err.ensures.whole h
 
 pub returns-in_ok-skip_rest-in-Err-clause-faults : goal.returns-in_ok-skip_rest-in-Err-clause-faults
 returns-in_ok-skip_rest-in-Err-clause-faults g c =

@@ -1,4 +1,4 @@
-use Rattle.std.proofs.Common.{◌≡◌, ℕ, ◌-◌, ◌≤◌, length, drop}
+use Rattle.std.proofs.Common.{◌≡◌, ◌-◌, ◌≤◌, length, drop}
 use Rattle.trace_text.specs.Records.{after_records, records_of_text}
 use Rattle.shared_reading.specs.Lines.{next_read}
 use Rattle.shared_reading.proofs.lines.Lines.read_front.Given as goal
