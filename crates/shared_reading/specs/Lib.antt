@@ -1,6 +1,7 @@
 pub mod Seams
 pub mod PagedSteps
 pub mod Lines
+pub mod StepFields
 pub mod StepLines
 pub mod LongLines
 pub mod Pieces

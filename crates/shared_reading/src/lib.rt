@@ -11,6 +11,7 @@ mod progress;
 mod read_pieces;
 mod reading;
 mod shared_texts;
+mod step_fields;
 mod step_lines;
 mod under_way;
 

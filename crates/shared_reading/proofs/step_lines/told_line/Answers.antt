@@ -1,14 +1,12 @@
-use Rattle.std.proofs.Common.{◌≡◌, ◌∙◌, Some, Ok, sym}
-use Rattle.trace_text.specs.Records.{number_of}
+use Rattle.std.proofs.Common.{◌≡◌, ℕ, Some, Ok}
+use Rattle.step_trace.specs.declared.steps.Step.{Step}
 use Rattle.trace_text.specs.JudgedIds.{judged_of}
-use Rattle.shared_reading.specs.StepLines.{told_tick}
 use Rattle.shared_reading.proofs.StepLines.{line-answered}
 use Rattle.shared_reading.proofs.step_lines.told_line.Goals as goal
 
 pub returns : goal.returns
 returns c =
     let f = c.args.fields in
-    let number : number_of f.no.now ≡ Some c.in-Some.no = sym c.number.ensures ∙ c.in-Some.is in
-    let step : judged_of c.in-Some.no (told_tick c.args.version c.in-Some.no f.tick.now) f.operation.now f.proc.now f.arg.now ≡ Ok (c.in_ok-tick.tick, c.in_ok-tick.step) =
-    rw (c.in_ok-tick.was, c.told_tick-tick.ensures) at c.step_of_fields.ensures.step in
-    line-answered c.args.version f c.in-Some.no (c.in_ok-tick.tick, c.in_ok-tick.step) c.narrow_line.result number step c.narrow_line.ensures
+    let told : ℕ × Step = (c.in_ok-tick.tick, c.in_ok-tick.step) in
+    let step : judged_of f.no.number (Some f.tick.number) f.operation.bytes.now f.proc.field.bytes.now f.arg.field.bytes.now ≡ Ok told = rw c.in_ok-tick.was at c.told_step.ensures in
+    line-answered c.args.version f told c.narrow_line.result c.requires step c.narrow_line.ensures
