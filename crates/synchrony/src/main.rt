@@ -42,11 +42,9 @@ fn main(rt: HostRuntime) -> ExitCode {
 /// run and of the workers of a report.
 fn run<R: Threads + Wait + Clock + Sync>(rt: &HostRuntime, threads: &R) -> Result<u8, Fault> {
     let job = read_command(rt.alloc(), words(rt)?).map_err(refused_line)?;
-    // (no arm leaves early, so that each lets go of what it holds in one place)
+    // (each function takes what the job holds, and lets go of it)
     match job {
-        Job::Report { file, set, workers } => {
-            done(report(rt, threads, file.as_str(), set, workers))
-        }
+        Job::Report { file, set, workers } => done(report(rt, threads, file, set, workers)),
         Job::ReportPart {
             file,
             set,
@@ -54,21 +52,21 @@ fn run<R: Threads + Wait + Clock + Sync>(rt: &HostRuntime, threads: &R) -> Resul
             at,
         } => {
             let part = ReportPart { set, until, at };
-            done(report_part(rt, file.as_str(), &part))
+            done(report_part(rt, file, part))
         }
-        Job::Replay { file } => done(replay(rt, file.as_str())),
+        Job::Replay { file } => done(replay(rt, file)),
         Job::Run {
             config,
             patience,
             steps,
             follow,
-        } => done(run_of(rt, threads, &config, patience, steps, follow)),
-        Job::Upgrade { file } => done(upgrade(rt, file.as_str())),
+        } => done(run_of(rt, threads, config, patience, steps, follow)),
+        Job::Upgrade { file } => done(upgrade(rt, file)),
         Job::Check {
             file,
             certificate,
             set,
-        } => check(rt, file.as_str(), certificate.as_str(), set),
+        } => check(rt, file, certificate, set),
         Job::Draw {
             file,
             set,
@@ -82,7 +80,7 @@ fn run<R: Threads + Wait + Clock + Sync>(rt: &HostRuntime, threads: &R) -> Resul
                 to,
                 names,
             };
-            done(draw(rt, file.as_str(), &drawing))
+            done(draw(rt, file, drawing))
         }
         Job::Import {
             file,
@@ -90,9 +88,14 @@ fn run<R: Threads + Wait + Clock + Sync>(rt: &HostRuntime, threads: &R) -> Resul
             tick,
             until,
             spread,
-        } => done(import(rt, file.as_str(), &nodes, &tick, &until, spread)),
-        Job::Help(text) => done(print(text.as_str(), &mut Counting::new(rt.stdout()))),
+        } => done(import(rt, file, nodes, tick, until, spread)),
+        Job::Help(text) => done(help(rt, text)),
     }
+}
+
+/// Prints a help text.
+fn help(rt: &HostRuntime, text: String) -> Result<(), Fault> {
+    print(text.as_str(), &mut Counting::new(rt.stdout()))
 }
 
 /// The exit status of a job that has only to be done.
@@ -123,22 +126,22 @@ fn words(rt: &HostRuntime) -> Result<Vec<String>, Fault> {
 fn run_of<T: Threads + Wait + Clock + Sync>(
     rt: &HostRuntime,
     threads: &T,
-    config: &Config,
+    config: Config,
     patience: u64,
     steps: u64,
     follow: Option<ProcSet>,
 ) -> Result<(), Fault>
     requires patience { 1 ≤ patience }
-    requires room { config.now.n * steps ≤ MAX_STEPS }
+    requires room { config.n * steps ≤ MAX_STEPS }
 {
     let all = config.n() * steps;
     let errors = Counting::new(rt.stderr());
-    let mut follower = follower_for(rt.alloc(), config, follow, all, errors)?;
+    let mut follower = follower_for(rt.alloc(), &config, follow, all, errors)?;
     let mut output = Counting::new(rt.stdout());
     run_nodes(
         threads,
         rt.alloc(),
-        config,
+        &config,
         patience,
         steps,
         &OpenGate,
@@ -151,14 +154,14 @@ fn run_of<T: Threads + Wait + Clock + Sync>(
 fn report<T: Threads + Wait + Sync>(
     rt: &HostRuntime,
     threads: &T,
-    file: &str,
+    file: String,
     set: ProcSet,
     workers: u64,
 ) -> Result<(), Fault>
     requires some { 1 ≤ workers }
     requires few { workers ≤ MAX_WORKERS }
 {
-    let mut trace = open(rt, file)?;
+    let mut trace = open(rt, file.as_str())?;
     let mut output = Counting::new(rt.stdout());
     run_report(
         threads,
@@ -172,34 +175,34 @@ fn report<T: Threads + Wait + Sync>(
 }
 
 /// Prints a part of the report of the trace in a file.
-fn report_part(rt: &HostRuntime, file: &str, part: &ReportPart) -> Result<(), Fault> {
-    let mut trace = open(rt, file)?;
+fn report_part(rt: &HostRuntime, file: String, part: ReportPart) -> Result<(), Fault> {
+    let mut trace = open(rt, file.as_str())?;
     run_report_part(
         rt.alloc(),
-        part,
+        &part,
         &mut trace,
         &mut Counting::new(rt.stdout()),
     )
 }
 
 /// Prints the replay of the trace in a file.
-fn replay(rt: &HostRuntime, file: &str) -> Result<(), Fault> {
-    let mut trace = open(rt, file)?;
+fn replay(rt: &HostRuntime, file: String) -> Result<(), Fault> {
+    let mut trace = open(rt, file.as_str())?;
     run_replay(rt.alloc(), &mut trace, &mut Counting::new(rt.stdout()))
 }
 
 /// Prints the version 2 text of the trace in a file.
-fn upgrade(rt: &HostRuntime, file: &str) -> Result<(), Fault> {
-    let mut trace = open(rt, file)?;
+fn upgrade(rt: &HostRuntime, file: String) -> Result<(), Fault> {
+    let mut trace = open(rt, file.as_str())?;
     run_upgrade(rt.alloc(), &mut trace, &mut Counting::new(rt.stdout()))
 }
 
 /// Prints the picture of the trace in a file.
-fn draw(rt: &HostRuntime, file: &str, drawing: &Drawing) -> Result<(), Fault> {
-    let mut trace = open(rt, file)?;
+fn draw(rt: &HostRuntime, file: String, drawing: Drawing) -> Result<(), Fault> {
+    let mut trace = open(rt, file.as_str())?;
     run_draw(
         rt.alloc(),
-        drawing,
+        &drawing,
         &mut trace,
         &mut Counting::new(rt.stdout()),
     )
@@ -216,20 +219,20 @@ fn text_in(text: &Option<String>) -> Option<&str> {
 /// Prints the trace of the log in a file, and tells on standard error how it was read. The options are looked at first.
 fn import(
     rt: &HostRuntime,
-    file: &str,
-    nodes: &Option<String>,
-    tick: &Option<String>,
-    until: &Option<String>,
+    file: String,
+    nodes: Option<String>,
+    tick: Option<String>,
+    until: Option<String>,
     spread: bool,
 ) -> Result<(), Fault> {
     let options = import_options(
         rt.alloc(),
-        text_in(nodes),
-        text_in(tick),
-        text_in(until),
+        text_in(&nodes),
+        text_in(&tick),
+        text_in(&until),
         spread,
     )?;
-    let mut log = open(rt, file)?;
+    let mut log = open(rt, file.as_str())?;
     let mut output = Counting::new(rt.stdout());
     let mut notes = Counting::new(rt.stderr());
     run_import(rt.alloc(), &options, &mut log, &mut output, &mut notes)
@@ -237,9 +240,9 @@ fn import(
 
 /// Prints the verdict on the certificate in a file, for the trace in another, and gives its exit status. Both files are
 /// opened before one is read.
-fn check(rt: &HostRuntime, file: &str, certificate: &str, set: ProcSet) -> Result<u8, Fault> {
-    let mut trace = open(rt, file)?;
-    let mut claimed = open(rt, certificate)?;
+fn check(rt: &HostRuntime, file: String, certificate: String, set: ProcSet) -> Result<u8, Fault> {
+    let mut trace = open(rt, file.as_str())?;
+    let mut claimed = open(rt, certificate.as_str())?;
     let mut output = Counting::new(rt.stdout());
     let verdict = run_check(rt.alloc(), &mut trace, &mut claimed, &mut output, set)?;
     Ok(verdict_status(verdict))
