@@ -4,11 +4,11 @@ use Rattle.certificate_checker.specs.declared.verdicts.Verdict.{Verdict}
 use Rattle.trace_text.specs.declared.refusals.TextError.{TextError}
 use Rattle.front.specs.declared.refusals.ReportError.{ReportError}
 use Rattle.front.specs.declared.refusals.ReportError.TheVariants as why
-use Rattle.text_report.specs.Checks.{IsUncertified, IsVerdictOf}
-use Rattle.text_report.specs.RefusalWords.{certificate_words, trace_words}
-use Rattle.text_report.specs.Reports.{IsReportOf}
-use Rattle.text_report.specs.Texts.{IsRefusedFor}
-use Rattle.text_report.specs.VerdictLines.{status_of_verdict, told_verdict}
+use Rattle.text_verdicts.specs.Checks.{IsUncertified, IsVerdictOf}
+use Rattle.text_verdicts.specs.RefusalWords.{certificate_words, trace_words}
+use Rattle.text_verdicts.specs.Reports.{IsReportOf}
+use Rattle.text_verdicts.specs.Texts.{IsRefusedFor}
+use Rattle.text_verdicts.specs.VerdictLines.{status_of_verdict, told_verdict}
 use Rattle.c_report.specs.Rooms.{over}
 
 -- These words stand in the room, as far as they fit, and `size` is the length of all of them.

@@ -2,9 +2,9 @@
 
 ghost use Rattle.std.specs.Prelude.{◌≡◌, ◌≢◌, ◌<◌, ◌≤◌, length};
 ghost use Rattle.c_report.specs.Answers.{IsCertificateRefused, IsJudged, IsLineTooLong, IsToldOf, IsTraceRefused};
-ghost use Rattle.text_report.specs.RefusalWords as told;
-ghost use Rattle.text_report.specs.Texts.{IsSetOutside};
-ghost use Rattle.text_report.specs.VerdictLines.{status_of_verdict, told_verdict};
+ghost use Rattle.text_verdicts.specs.RefusalWords as told;
+ghost use Rattle.text_verdicts.specs.Texts.{IsSetOutside};
+ghost use Rattle.text_verdicts.specs.VerdictLines.{status_of_verdict, told_verdict};
 
 use crate::answers::{BAD_CERTIFICATE, BAD_SET, BAD_TRACE, NO, NO_MEMORY, NO_ROOM, YES};
 use crate::reports::tell_trace;
@@ -13,7 +13,8 @@ use certificate_checker::Verdict;
 use front::ReportError;
 use std::alloc::{AllocError, Global};
 use step_trace::ProcSet;
-use text_report::{Unchecked, certificate_words, verdict_of_text, verdict_status, verdict_text};
+use text_report::{Unchecked, verdict_of_text};
+use text_verdicts::{certificate_words, verdict_status, verdict_text};
 
 /// Checks a certificate against a trace text: `YES` where its rows are the trace's report, `NO` where they aren't. The
 /// line of the verdict, with its line feed, is written over the first bytes of `out`, and its length in bytes into

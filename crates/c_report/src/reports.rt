@@ -2,14 +2,15 @@
 
 ghost use Rattle.std.specs.Prelude.{◌≡◌, ◌≢◌, length};
 ghost use Rattle.c_report.specs.Answers.{IsReported, IsToldOf, IsTooLong, IsTraceRefused};
-ghost use Rattle.text_report.specs.RefusalWords as told;
-ghost use Rattle.text_report.specs.Texts.{IsSetOutside};
+ghost use Rattle.text_verdicts.specs.RefusalWords as told;
+ghost use Rattle.text_verdicts.specs.Texts.{IsSetOutside};
 
 use crate::answers::{BAD_SET, BAD_TRACE, DONE, NO_MEMORY, NO_ROOM};
 use crate::rooms::{put, put_whole};
 use std::alloc::{AllocError, Global};
 use step_trace::ProcSet;
-use text_report::{Unreported, report_of_text, trace_words};
+use text_report::{Unreported, report_of_text};
+use text_verdicts::trace_words;
 use trace_text::TextError;
 
 /// Writes the report of a trace text over the first bytes of `out`, and its length in bytes into `size`. Processor p

@@ -1,6 +1,6 @@
 -- The lines in which faults are told (docs/FORMATS.md), without their line feeds.
 use Rattle.std.specs.Prelude.{ℕ, ◌-◌, List, [], ◌∷◌, ◌++◌, length, ◌==◌, if◌then◌else◌, slice_index, codes, decimal, string_bytes}
-use Rattle.text_report.specs.RefusalWords.{certificate_words, trace_words}
+use Rattle.text_verdicts.specs.RefusalWords.{certificate_words, trace_words}
 use Rattle.event_log.specs.RefusalTexts.{log_error_text}
 use Rattle.command_faults.specs.declared.faults.Fault.{Fault}
 use Rattle.command_faults.specs.declared.faults.Fault.TheVariants as fault

@@ -7,7 +7,7 @@ use crate::faults::{Fault, ImportOption, PictureOption, ReportOption};
 use crate::log_fault_lines::{HelpLine, LogLead};
 use std::alloc::{AllocError, Global};
 use std::fmt;
-use text_report::{CertificateWords, TraceWords};
+use text_verdicts::{CertificateWords, TraceWords};
 
 /// The line of a fault without its line feed, with one more line where something helps; or the words of the command
 /// line's reader, which end in one.

@@ -13,8 +13,8 @@ use Rattle.front.specs.declared.refusals.ReportError.TheVariants as uncertified
 use Rattle.front.specs.ReportTexts.{StandsFor}
 use Rattle.command_faults.specs.declared.faults.Fault.{Fault}
 use Rattle.command_faults.specs.declared.faults.Fault.TheVariants as fault
-use Rattle.text_report.specs.Checks.{IsLineOn, IsVerdictOn}
-use Rattle.text_report.specs.VerdictLines.{told_verdict}
+use Rattle.text_verdicts.specs.Checks.{IsLineOn, IsVerdictOn}
+use Rattle.text_verdicts.specs.VerdictLines.{told_verdict}
 use Rattle.text_commands.specs.Checks.{IsFaultBefore, IsUnchecked, check_kinds}
 use Rattle.command_faults.specs.Faults.{fault_of_certificate, fault_of_text}
 use Rattle.command_faults.specs.Printing.{IsUntold, IsWriteFault}

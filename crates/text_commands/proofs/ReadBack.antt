@@ -4,7 +4,7 @@ use Rattle.step_trace.specs.Traces.{Recorded}
 use Rattle.trace_text.specs.declared.versions.Version.TheVariants.{Two}
 use Rattle.trace_text.specs.TraceTexts.{IsTextTrace, trace_text_2}
 use Rattle.trace_text.proofs.WrittenTexts.{StandsFor-version_text, short-version_text}
-use Rattle.text_report.specs.Texts.{IsTextOf}
+use Rattle.text_verdicts.specs.Texts.{IsTextOf}
 
 -- the text of a trace in version 2 stands for it, and isn't too large
 pub text_2-stands : (t : Recorded) (text : List ℕ) → IsTextTrace t → text ≡ trace_text_2 t → IsTextOf text t

@@ -10,8 +10,8 @@ use Rattle.command_faults.specs.declared.faults.Fault.TheVariants as fault
 use Rattle.command_faults.specs.Faults.{fault_of_text}
 use Rattle.text_commands.specs.Inputs.{IsTraceFault}
 use Rattle.text_commands.specs.Reports.{IsFaultFor, IsTextFault, IsUnreported, report_kinds}
-use Rattle.text_report.specs.Reports.{IsReportOf}
-use Rattle.text_report.specs.Texts.{IsTextOf}
+use Rattle.text_verdicts.specs.Reports.{IsReportOf}
+use Rattle.text_verdicts.specs.Texts.{IsTextOf}
 use Rattle.text_commands.specs.Serving.{IsFaultOf, IsServeFault, Kinds}
 
 -- the text isn't read, or is refused

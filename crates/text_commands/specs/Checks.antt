@@ -1,7 +1,7 @@
 -- Why the program doesn't check a certificate against a trace text.
 use Rattle.std.specs.Prelude.{ℕ, ◌≡◌, ◌⊎◌, List, true, false, ⊤}
 use Rattle.trace_text.specs.Faults.{Rose}
-use Rattle.text_report.specs.Checks.{IsUncertified}
+use Rattle.text_verdicts.specs.Checks.{IsUncertified}
 use Rattle.command_faults.specs.declared.faults.Fault.{Fault}
 use Rattle.command_faults.specs.declared.faults.Fault.TheVariants as fault
 use Rattle.text_commands.specs.Reports.{IsTextFault}

@@ -17,7 +17,7 @@ use Rattle.command_faults.specs.declared.faults.Fault.{Fault}
 use Rattle.command_faults.specs.declared.faults.Fault.TheVariants as fault
 use Rattle.command_faults.specs.declared.faults.PictureOption.{PictureOption}
 use Rattle.command_faults.specs.declared.faults.PictureOption.TheVariants as option
-use Rattle.text_report.specs.Texts.{IsSetOutside, IsTextOf}
+use Rattle.text_verdicts.specs.Texts.{IsSetOutside, IsTextOf}
 use Rattle.text_commands.specs.Serving.{IsRefusal, Kinds}
 
 abbrev pub are_names_in : {B : Type 0} → Option (String B) → ℕ → Type 0

@@ -1,6 +1,6 @@
 -- Why the program reads no trace.
 use Rattle.std.specs.Prelude.{ℕ, List, ⊤}
-use Rattle.text_report.specs.Texts.{IsRefusedFor}
+use Rattle.text_verdicts.specs.Texts.{IsRefusedFor}
 use Rattle.command_faults.specs.declared.faults.Fault.{Fault}
 use Rattle.command_faults.specs.declared.faults.Fault.TheVariants as fault
 

@@ -7,7 +7,7 @@ use Rattle.step_buffers.specs.Runs.{IsRun}
 use Rattle.step_buffers.specs.Replays.{IsFirstOff}
 use Rattle.command_faults.specs.declared.faults.Fault.{Fault}
 use Rattle.command_faults.specs.declared.faults.Fault.TheVariants as fault
-use Rattle.text_report.specs.Texts.{IsTextOf}
+use Rattle.text_verdicts.specs.Texts.{IsTextOf}
 use Rattle.text_commands.specs.ReplayTexts.{replay_text}
 use Rattle.text_commands.specs.Serving.{IsRefusal, Kinds}
 

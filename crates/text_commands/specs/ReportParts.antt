@@ -7,7 +7,7 @@ use Rattle.step_trace.specs.Cuts.{IsCutAt}
 use Rattle.step_trace.specs.Fronts.{IsReport}
 use Rattle.front.specs.Reports.{Serves, row_at}
 use Rattle.front.specs.ReportTexts.{report_text}
-use Rattle.text_report.specs.Texts.{IsSetOutside, IsTextOf}
+use Rattle.text_verdicts.specs.Texts.{IsSetOutside, IsTextOf}
 use Rattle.command_faults.specs.declared.faults.Fault.{Fault}
 use Rattle.command_faults.specs.declared.faults.Fault.TheVariants as fault
 use Rattle.command_faults.specs.declared.faults.ReportOption.{ReportOption}

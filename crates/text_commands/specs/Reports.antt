@@ -4,7 +4,7 @@ use Rattle.step_trace.specs.Processors.{IsWithin}
 use Rattle.step_trace.specs.Traces.{Recorded}
 use Rattle.chunk_join.specs.declared.analyses.AnalyseError.{AnalyseError}
 use Rattle.chunk_join.specs.declared.analyses.AnalyseError.TheVariants as unanalysed
-use Rattle.text_report.specs.Texts.{IsSetInside, IsSetOutside}
+use Rattle.text_verdicts.specs.Texts.{IsSetInside, IsSetOutside}
 use Rattle.command_faults.specs.declared.faults.Fault.{Fault}
 use Rattle.command_faults.specs.declared.faults.Fault.TheVariants as fault
 use Rattle.text_commands.specs.Inputs.{IsTraceFault}

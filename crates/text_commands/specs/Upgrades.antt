@@ -2,7 +2,7 @@
 use Rattle.std.specs.Prelude.{ℕ, ◌≡◌, List, false}
 use Rattle.step_trace.specs.Traces.{Recorded}
 use Rattle.trace_text.specs.TraceTexts.{trace_text_2}
-use Rattle.text_report.specs.Texts.{IsTextOf}
+use Rattle.text_verdicts.specs.Texts.{IsTextOf}
 use Rattle.command_faults.specs.declared.faults.Fault.{Fault}
 use Rattle.text_commands.specs.Serving.{IsRefusal, Kinds}
 

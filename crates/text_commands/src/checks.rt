@@ -8,9 +8,9 @@ ghost use Rattle.front.specs.ReportTexts.{StandsFor};
 ghost use Rattle.text_commands.specs.Checks.{IsEitherReadFault, IsFaultBefore, IsUnchecked, check_kinds};
 ghost use Rattle.text_commands.specs.Reports.{IsTextFault};
 ghost use Rattle.text_commands.specs.Serving.{Appends, IsAtEnd, IsFaultOf, IsReadFault, IsServeFault, IsWriteFault, WasFaultless, faults_of, inner_of, is_flushed};
-ghost use Rattle.text_report.specs.Checks.{IsLineOn, IsVerdictOn};
-ghost use Rattle.text_report.specs.Texts.{IsTextOf};
-ghost use Rattle.text_report.specs.VerdictLines.{told_verdict};
+ghost use Rattle.text_verdicts.specs.Checks.{IsLineOn, IsVerdictOn};
+ghost use Rattle.text_verdicts.specs.Texts.{IsTextOf};
+ghost use Rattle.text_verdicts.specs.VerdictLines.{told_verdict};
 
 use crate::inputs::trace_of;
 use crate::verdict_lines::tell_verdict;
@@ -19,7 +19,7 @@ use command_faults::{Fault, test_set};
 use std::alloc::Global;
 use std::io::{Read, Write};
 use step_trace::{ProcSet, Trace};
-use text_report::read_certificate;
+use text_verdicts::read_certificate;
 use trace_text::{Counting, read_all};
 
 /// Reads a trace text and then a certificate to their ends, checks the rows of the certificate against the

@@ -2,7 +2,7 @@
 
 ghost use Rattle.std.specs.Prelude.{IfOk, IfErr};
 ghost use Rattle.text_commands.specs.Inputs.{IsTraceFault};
-ghost use Rattle.text_report.specs.Texts.{IsTextOf};
+ghost use Rattle.text_verdicts.specs.Texts.{IsTextOf};
 
 use command_faults::Fault;
 use shared_reading::read_trace;

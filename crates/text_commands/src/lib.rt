@@ -23,6 +23,6 @@ pub use replays::run_replay;
 pub use report_parts::{ReportPart, run_report_part};
 pub use reports::run_report;
 pub use serving::{Answer, serve};
-pub use text_report::verdict_status;
+pub use text_verdicts::verdict_status;
 pub use upgrades::run_upgrade;
 pub use verdict_lines::tell_verdict;

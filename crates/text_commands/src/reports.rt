@@ -6,7 +6,7 @@ ghost use Rattle.step_trace.specs.Processors.{IsWithin};
 ghost use Rattle.chunk_join.specs.declared.analyses.TheConstants.{MAX_WORKERS};
 ghost use Rattle.text_commands.specs.Reports.{IsFaultFor, IsFaultOfWorkers, IsUnreported, TellsAnalysis, report_kinds};
 ghost use Rattle.text_commands.specs.Serving.{HasServed, IsAtEnd, IsFaultOf, IsReadFault, IsUnserved, IsWriteFault, WasFaultless, faults_of, inner_of, is_flushed};
-ghost use Rattle.text_report.specs.Reports.{IsReportOf};
+ghost use Rattle.text_verdicts.specs.Reports.{IsReportOf};
 
 use chunk_join::{AnalyseError, analyse};
 use command_faults::{Fault, test_set};

@@ -2,7 +2,7 @@
 
 ghost use Rattle.std.specs.Prelude.{◌≡◌, OnOk, IfOk, IfErr, IsTrue};
 ghost use Rattle.trace_text.specs.TraceTexts.{trace_text_2};
-ghost use Rattle.text_report.specs.Texts.{IsTextOf};
+ghost use Rattle.text_verdicts.specs.Texts.{IsTextOf};
 ghost use Rattle.command_faults.specs.declared.faults.Fault.TheVariants as fault;
 ghost use Rattle.text_commands.specs.Serving.{HasServed, IsAtEnd, IsFaultOf, IsReadFault, IsUnserved, IsWriteFault, WasFaultless, faults_of, inner_of, is_flushed};
 ghost use Rattle.text_commands.specs.Upgrades.{IsUnupgraded, IsUpgradeOf, upgrade_kinds};

@@ -5,13 +5,13 @@ ghost use Rattle.std.specs.Io.KnownBytes.{Appends};
 ghost use Rattle.trace_text.specs.ByteLoops.{WasFaultless};
 ghost use Rattle.trace_text.specs.Faults.{inner_of, is_flushed};
 ghost use Rattle.command_faults.specs.Printing.{IsUntold, IsWriteFault};
-ghost use Rattle.text_report.specs.VerdictLines.{told_verdict};
+ghost use Rattle.text_verdicts.specs.VerdictLines.{told_verdict};
 
 use certificate_checker::Verdict;
 use command_faults::{Fault, print};
 use std::alloc::Global;
 use std::io::Write;
-use text_report::verdict_text;
+use text_verdicts::verdict_text;
 use trace_text::Counting;
 
 /// Writes the line of a verdict, and flushes.

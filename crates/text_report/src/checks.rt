@@ -1,15 +1,16 @@
 //! The verdict on the text of a certificate, against a trace text.
 
 ghost use Rattle.std.specs.Prelude.{◌≡◌, ◌≢◌, IfOk, IfErr};
-ghost use Rattle.text_report.specs.Checks.{IsUnchecked, IsVerdictOf};
+ghost use Rattle.text_verdicts.specs.Checks.{IsVerdictOf};
+ghost use Rattle.text_report.specs.Checks.{IsUnchecked};
 ghost use Rattle.text_report.specs.declared.reports.Unreported.{Unreported};
 
-use crate::certificate_texts::certificate_of_text;
 use crate::reports::{Unreported, trace_within};
 use certificate_checker::{Verdict, check_claimed};
 use front::ReportError;
 use std::alloc::{AllocError, Global};
 use step_trace::ProcSet;
+use text_verdicts::certificate_of_text;
 use trace_text::TextError;
 
 /// Why there is no verdict on a certificate.

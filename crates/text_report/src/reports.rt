@@ -3,8 +3,9 @@
 ghost use Rattle.std.specs.Prelude.{◌≡◌, IfOk, IfErr};
 ghost use Rattle.step_trace.specs.Fronts.{IsReport};
 ghost use Rattle.step_trace.specs.Processors.{IsWithin};
-ghost use Rattle.text_report.specs.Reports.{IsReportOf, IsUnread, IsUnreported};
-ghost use Rattle.text_report.specs.Texts.{IsTextOf};
+ghost use Rattle.text_verdicts.specs.Reports.{IsReportOf};
+ghost use Rattle.text_report.specs.Reports.{IsUnread, IsUnreported};
+ghost use Rattle.text_verdicts.specs.Texts.{IsTextOf};
 
 use front::{Report, front, report_text_of};
 use shared_reading::read_trace;

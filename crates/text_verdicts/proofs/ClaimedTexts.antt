@@ -14,8 +14,8 @@ use Rattle.certificate_checker.specs.declared.claims.ClaimedRows.{ClaimedRows}
 use Rattle.certificate_checker.specs.declared.claims.ClaimedRows.TheVariants.{InOrder}
 use Rattle.certificate_checker.specs.Claims.{claimed}
 use Rattle.certificate_checker.proofs.ClaimVerdicts.{claimed-count, claimed-push}
-use Rattle.text_report.specs.declared.certificate_texts.Certificate.{Certificate}
-use Rattle.text_report.specs.CertificateTexts.{IsKeptOf, IsRefusalOf, kept_at_end, kept_of, kept_with, next_claimed}
+use Rattle.text_verdicts.specs.declared.certificate_texts.Certificate.{Certificate}
+use Rattle.text_verdicts.specs.CertificateTexts.{IsKeptOf, IsRefusalOf, kept_at_end, kept_of, kept_with, next_claimed}
 
 -- what is kept of rows, None before the header
 abbrev of_rows : ℕ → Option (List Row) → Certificate

@@ -15,7 +15,7 @@ use Rattle.front.specs.LongRefusals.{not_eight}
 use Rattle.certificate_checker.specs.declared.claims.ClaimedRows.{ClaimedRows}
 use Rattle.certificate_checker.specs.declared.claims.ClaimedRows.TheVariants.{InOrder}
 use Rattle.certificate_checker.specs.Claims.{claimed, count_of, with_row}
-use Rattle.text_report.specs.declared.certificate_texts.Certificate.{Certificate}
+use Rattle.text_verdicts.specs.declared.certificate_texts.Certificate.{Certificate}
 
 -- what is kept with the row of one more record
 abbrev pub kept_with : ℕ → ClaimedRows → Result Row ReportError → Result ClaimedRows ReportError

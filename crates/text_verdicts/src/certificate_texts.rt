@@ -8,7 +8,7 @@ ghost use Rattle.trace_text.specs.Faults.{inner_of, faults_of};
 ghost use Rattle.trace_text.specs.Records.{ReachesUnless, WantsOnlyWhere, records_of_text};
 ghost use Rattle.front.specs.ReportReading.{RefusedFor, faults_after_report};
 ghost use Rattle.front.specs.ReportRefusals.{Gives, is_memory, row_of, rows_of_records};
-ghost use Rattle.text_report.specs.CertificateTexts.{IsKeptOf, IsRefusalOf, keeps_claimed, kept_at_end, kept_of, kept_with, next_claimed, refuses_long, row_keeps};
+ghost use Rattle.text_verdicts.specs.CertificateTexts.{IsKeptOf, IsRefusalOf, keeps_claimed, kept_at_end, kept_of, kept_with, next_claimed, refuses_long, row_keeps};
 
 use certificate_checker::ClaimedRows;
 use csv::ByteRecord;

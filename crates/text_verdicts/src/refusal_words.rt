@@ -1,7 +1,7 @@
 //! What is told of refused texts: the words without the program's name, and without a line feed.
 
 ghost use Rattle.std.specs.Prelude.{◌≡◌, IfOk, string_bytes};
-ghost use Rattle.text_report.specs.RefusalWords as told;
+ghost use Rattle.text_verdicts.specs.RefusalWords as told;
 
 use front::ReportError;
 use std::alloc::{AllocError, Global};
@@ -28,7 +28,7 @@ pub struct TraceWords<'a>(pub &'a TextError);
 
 impl fmt::Display for TraceWords<'_> {
     ghost use Rattle.std.specs.Prelude.{Some};
-    ghost use Rattle.text_report.specs.RefusalWords.{trace_words};
+    ghost use Rattle.text_verdicts.specs.RefusalWords.{trace_words};
 
     ghost output = { λ words. Some (trace_words words.0.now) };
 
@@ -59,7 +59,7 @@ pub struct CertificateWords<'a>(pub &'a ReportError);
 
 impl fmt::Display for CertificateWords<'_> {
     ghost use Rattle.std.specs.Prelude.{Some};
-    ghost use Rattle.text_report.specs.RefusalWords.{certificate_words};
+    ghost use Rattle.text_verdicts.specs.RefusalWords.{certificate_words};
 
     ghost output = { λ words. Some (certificate_words words.0.now) };
 

@@ -1,7 +1,7 @@
 //! The lines in which verdicts are told, and their exit statuses.
 
 ghost use Rattle.std.specs.Prelude.{◌≡◌, IfOk, string_bytes};
-ghost use Rattle.text_report.specs.VerdictLines.{status_of_verdict, told_verdict};
+ghost use Rattle.text_verdicts.specs.VerdictLines.{status_of_verdict, told_verdict};
 
 use certificate_checker::{Reason, Verdict};
 use std::alloc::{AllocError, Global};
@@ -32,7 +32,7 @@ struct VerdictLine(Verdict);
 
 impl fmt::Display for VerdictLine {
     ghost use Rattle.std.specs.Prelude.{Some};
-    ghost use Rattle.text_report.specs.VerdictLines.{verdict_line};
+    ghost use Rattle.text_verdicts.specs.VerdictLines.{verdict_line};
 
     ghost output = { λ line. Some (verdict_line line.0) };
 
@@ -50,7 +50,7 @@ struct ReasonWords(Reason);
 
 impl fmt::Display for ReasonWords {
     ghost use Rattle.std.specs.Prelude.{Some};
-    ghost use Rattle.text_report.specs.VerdictLines.{reason_words};
+    ghost use Rattle.text_verdicts.specs.VerdictLines.{reason_words};
 
     ghost output = { λ words. Some (reason_words words.0) };
 

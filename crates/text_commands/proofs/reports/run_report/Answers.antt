@@ -1,7 +1,7 @@
 use Rattle.std.proofs.Common.{ap}
 use Rattle.std.proofs.lemmas.Result.{err_from_is_err_and}
 use Rattle.front.specs.ReportTexts.{report_text}
-use Rattle.text_report.specs.Reports.{IsReportOf}
+use Rattle.text_verdicts.specs.Reports.{IsReportOf}
 use Rattle.text_commands.specs.Reports.{IsUnreported, report_kinds}
 use Rattle.text_commands.proofs.ReportFaults.{own_unreported, text_of, unread_text, unreported}
 use Rattle.text_commands.proofs.ServeFaults.{cut, own_unread, served_known, unanswered, untold}

@@ -3,8 +3,8 @@ use Rattle.trace_text.specs.Records.{records_of_text}
 use Rattle.trace_text.specs.declared.byte_loops.TheConstants.{MAX_TEXT_BYTES}
 use Rattle.front.specs.ReportRefusals.{rows_of_records}
 use Rattle.front.proofs.ReportAnswers.{stands-from, refused-from}
-use Rattle.text_report.proofs.ClaimedTexts.{rows_under, kept-stands, kept-refused, unfaulted}
-use Rattle.text_report.proofs.certificate_texts.certificate_of_text.Goals as goal
+use Rattle.text_verdicts.proofs.ClaimedTexts.{rows_under, kept-stands, kept-refused, unfaulted}
+use Rattle.text_verdicts.proofs.certificate_texts.certificate_of_text.Goals as goal
 
 pub returns-clause-kept : goal.returns-clause-kept
 returns-clause-kept c =

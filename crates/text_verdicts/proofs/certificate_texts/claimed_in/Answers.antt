@@ -1,7 +1,7 @@
 use Rattle.std.proofs.lemmas.Result.{err_from_is_err_and}
 use Rattle.trace_text.specs.Records.{records_of_text}
-use Rattle.text_report.proofs.ClaimedTexts.{ended-gives, ended-refused}
-use Rattle.text_report.proofs.certificate_texts.claimed_in.Goals as goal
+use Rattle.text_verdicts.proofs.ClaimedTexts.{ended-gives, ended-refused}
+use Rattle.text_verdicts.proofs.certificate_texts.claimed_in.Goals as goal
 
 pub returns-in_err-read_records : goal.returns-in_err-read_records
 returns-in_err-read_records c =

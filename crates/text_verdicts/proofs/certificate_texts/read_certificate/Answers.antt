@@ -3,8 +3,8 @@ use Rattle.trace_text.specs.Records.{records_of_text}
 use Rattle.trace_text.specs.declared.byte_loops.TheConstants.{MAX_TEXT_BYTES}
 use Rattle.front.specs.ReportRefusals.{rows_of_records}
 use Rattle.front.proofs.ReportAnswers.{stands-from, refused-from, faultless-from}
-use Rattle.text_report.proofs.ClaimedTexts.{rows_under, kept-stands, kept-refused, kept-faultless}
-use Rattle.text_report.proofs.certificate_texts.read_certificate.Goals as goal
+use Rattle.text_verdicts.proofs.ClaimedTexts.{rows_under, kept-stands, kept-refused, kept-faultless}
+use Rattle.text_verdicts.proofs.certificate_texts.read_certificate.Goals as goal
 
 pub returns-in-Ok-clause-kept : goal.returns-in-Ok-clause-kept
 returns-in-Ok-clause-kept g c =
