@@ -19,7 +19,7 @@ use std::alloc::{AllocError, Global};
 /// The greatest number of workers that a command line may ask for.
 pub const MAX_WORKERS: u64 = 64;
 
-const WORKERS_HELP: &str = "How many threads read and analyse it, from 1 to 64";
+const WORKERS_HELP: &str = "How many workers read and analyse it, from 1 to 64";
 
 const UNTIL_HELP: &str = "Reports the trace as if it had ended at this tick";
 
