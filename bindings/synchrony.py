@@ -4,8 +4,9 @@
     >>> trace = open("examples/one-miss.trace", "rb").read()
     >>> synchrony.report(trace, correct=[1, 2])[0]
     Row(gst=1, delta=2, phi=3, sent=1, missed=2, proc=1, from_tick=2, to_tick=3)
-    >>> synchrony.check(trace, synchrony.report_text(trace, [1, 2]), correct=[1, 2])
-    'yes'
+    >>> assert synchrony.check(trace, synchrony.report_text(trace, [1, 2]), correct=[1, 2])
+
+The correct processors are numbers, in any iterable, or the word "all": all processors of the trace.
 
 Nothing here is proved but what is called. The library is looked for where the environment variable SYNCHRONY_LIBRARY
 says, else in out/ beside this folder, else where the system looks for libsynchrony.so.
@@ -13,10 +14,18 @@ says, else in out/ beside this folder, else where the system looks for libsynchr
 
 import ctypes
 import os
+from dataclasses import dataclass
 from pathlib import Path
-from typing import Iterable, NamedTuple, Optional
+from typing import Iterable, NamedTuple, Optional, Union
 
 NO, BAD_SET, BAD_TRACE, BAD_CERTIFICATE, NO_MEMORY, NO_ROOM = 1, 2, 3, 4, 5, 9
+MOST_PROCESSORS = 64
+# The set of all processors of the trace, as the library takes it.
+ALL = (1 << MOST_PROCESSORS) - 1
+# The room, in bytes, that a verdict line or the words of a refusal need at most.
+LINE_ROOM = 1 << 8
+
+Correct = Union[Iterable[int], str]
 
 
 class Refused(ValueError):
@@ -50,33 +59,52 @@ class Row(NamedTuple):
     to_tick: Optional[int]
 
 
-def report(trace: bytes, correct: Iterable[int]) -> list[Row]:
+@dataclass(frozen=True)
+class Verdict:
+    """What a check says of a certificate: it is true if the certificate's rows are the report of the trace. Else `reason`
+    is the first reason against them, as 'DeltaFails', and `numbers` are its numbers, as the program prints them. `str()`
+    of it is the program's verdict line."""
+
+    reason: Optional[str]
+    numbers: tuple[int, ...]
+
+    def __bool__(self) -> bool:
+        return self.reason is None
+
+    def __str__(self) -> str:
+        return "yes" if self else " ".join(["no", self.reason, *map(str, self.numbers)])
+
+
+def report(trace: bytes, correct: Correct) -> list[Row]:
     """The rows of the report of a trace text, with these processors as the correct ones."""
     lines = report_text(trace, correct).decode().splitlines()[1:]
     return [Row(*[int(it) if it else None for it in line.split(",")]) for line in lines]
 
 
-def report_text(trace: bytes, correct: Iterable[int]) -> bytes:
+def report_text(trace: bytes, correct: Correct) -> bytes:
     """The same as a CSV with a header, byte for byte what the program prints."""
-    answer, out = _with_room(_room_for(trace), lambda *room: _library().synchrony_report(_set_of(correct), trace, len(trace), *room))
+    given = [_set_of(correct), trace, len(trace)]
+    answer, out = _with_room(_room_for(trace), lambda *room: _library().synchrony_report(*given, *room))
     _refuse(answer, out)
     return out
 
 
-def frame(trace: bytes, correct: Iterable[int]):
+def frame(trace: bytes, correct: Correct):
     """The same as a frame of pandas, which has to be installed."""
     import pandas
 
     return pandas.DataFrame(report(trace, correct), columns=Row._fields).astype("Int64")
 
 
-def check(trace: bytes, certificate: bytes, correct: Iterable[int]) -> str:
-    """'yes' where the certificate's rows are the report of the trace, else 'no', the first reason and its numbers."""
-    texts = [trace, len(trace), certificate, len(certificate)]
-    answer, out = _with_room(1 << 8, lambda *room: _library().synchrony_check(_set_of(correct), *texts, *room))
-    if answer != NO:
-        _refuse(answer, out)
-    return out.decode().rstrip("\n")
+def check(trace: bytes, certificate: bytes, correct: Correct) -> Verdict:
+    """Whether the certificate's rows are the report of the trace; if they aren't, the first reason against them."""
+    given = [_set_of(correct), trace, len(trace), certificate, len(certificate)]
+    answer, out = _with_room(LINE_ROOM, lambda *room: _library().synchrony_check(*given, *room))
+    if answer == NO:
+        _, reason, *numbers = out.decode().split()
+        return Verdict(reason, tuple(map(int, numbers)))
+    _refuse(answer, out)
+    return Verdict(None, ())
 
 
 def _refuse(answer, out):
@@ -108,11 +136,15 @@ def _with_room(room, call):
         room = size.value
 
 
-def _set_of(processors):
-    """The set of these processors as the library takes it."""
+def _set_of(correct):
+    """The set of these processors, as the library takes it: all 64 of them mean all processors of the trace."""
+    if isinstance(correct, str):
+        if correct == "all":
+            return ALL
+        raise SetRefused(f'the correct processors are numbers or "all", not {correct!r}')
     mask = 0
-    for it in processors:
-        if not 1 <= it <= 64:
+    for it in correct:
+        if not 1 <= it <= MOST_PROCESSORS:
             raise SetRefused(f"there is no processor {it}")
         mask |= 1 << (it - 1)
     return mask

@@ -12,13 +12,15 @@ follow one another the second is at most B ticks after the first.
 
 The first form takes the report of the trace, for a set that has all of these processors, and prints for each follower and
 each row the numbers k and m of this trace, B, the least number that serves in the place of B in this trace, and the most
-ticks from one delivery to the next. The second tries the claim on so many random traces, at each g, with the least bounds
-there; and finds a trace for each small k, m, d and f in which two deliveries are B apart. Both stop where the claim fails.
+ticks from one delivery to the next. It passes over the trace once for each follower. The second tries the claim on so many
+random traces, at each g, with the least bounds there, and compares these numbers with their definitions; and finds a trace
+for each small k, m, d and f in which two deliveries are B apart. Both stop if the claim fails.
 """
 import argparse
 import random
 import sys
 from dataclasses import dataclass
+from typing import NamedTuple
 
 
 @dataclass
@@ -70,7 +72,7 @@ def least(holds):
     return number
 
 
-# Deliveries
+# Deliveries, and the numbers of a row by their definitions
 
 
 def deliveries(steps, leader, follower):
@@ -101,15 +103,74 @@ def farthest(steps, leader, follower, g):
     return max((b - a for a, b in zip(ticks, ticks[1:])), default=0)
 
 
-def timeout(steps, last, leader, follower, row):
-    """The numbers k, m and B for a row, by which the claim is tried."""
-    g, d, f = row
+def shown_by_definition(steps, last, leader, follower, g):
+    """The numbers that `shown` finds, for one tick."""
     k = each_has_one([it.to == follower for it in steps if it.processor == leader and it.tick >= g])
     m = each_has_one([it.to is None for it in steps if it.processor == follower and it.tick >= g])
-    b = (k + m) * f + d - 2
-    if not serves(b, steps, last, leader, follower, g) or farthest(steps, leader, follower, g) > b:
-        sys.exit(f"the claim fails: leader {leader}, follower {follower}, row {row}, k {k}, m {m}: {steps}")
-    return k, m, b
+    serving = least(lambda number: serves(number, steps, last, leader, follower, g))
+    return Shown(k, m, serving, farthest(steps, leader, follower, g))
+
+
+# The same for many rows, by one pass back over the ticks
+
+
+class Shown(NamedTuple):
+    """What a trace shows from a tick on: the least k and m, the least number of ticks that serves in the place of B, and the
+    most ticks from one delivery to the next."""
+
+    k: int
+    m: int
+    least: int
+    apart: int
+
+
+class Marks:
+    """Marks that come from the last one to the first."""
+
+    def __init__(self):
+        self.run = self.longest = 0
+
+    def add(self, is_set):
+        self.run = 0 if is_set else self.run + 1
+        self.longest = max(self.longest, self.run)
+
+    def each_has_one(self):
+        return self.longest + 1
+
+
+def shown(steps, last, leader, follower, ticks):
+    """What the trace shows from each of these ticks on."""
+    taken, heard = set(), {}
+    for tick, sent in deliveries(steps, leader, follower):
+        taken.add(tick)
+        heard[sent] = min(tick, heard.get(sent, tick))
+    sends, receives, rest, found = Marks(), Marks(), list(steps), {}
+    # (the next delivery of a heartbeat that was sent in this tick or later, and the next delivery of any)
+    next_heard, next_taken, longest_wait, apart = last + 1, None, 1, 0
+    for tick in range(last, 0, -1):
+        while rest and rest[-1].tick == tick:
+            step = rest.pop()
+            if step.processor == leader:
+                sends.add(step.to == follower)
+            if step.processor == follower:
+                receives.add(step.to is None)
+        next_heard = min(next_heard, heard.get(tick, next_heard))
+        longest_wait = max(longest_wait, next_heard - tick)
+        if tick in taken:
+            apart = max(apart, (next_taken or tick) - tick)
+            next_taken = tick
+        if tick in ticks:
+            found[tick] = Shown(sends.each_has_one(), receives.each_has_one(), longest_wait, apart)
+    return found
+
+
+def timeout(row, seen, told):
+    """The number B of a row for which a trace shows these numbers. The program ends if they refute the claim."""
+    _, d, f = row
+    b = (seen.k + seen.m) * f + d - 2
+    if seen.least > b or seen.apart > b:
+        sys.exit(f"the claim fails: {told}, row {row}, {seen}")
+    return b
 
 
 def print_timeouts(words):
@@ -119,10 +180,11 @@ def print_timeouts(words):
     followers = words.followers or sorted({it.to for it in steps if it.processor == words.leader and it.to} - {words.leader})
     print("follower,gst,delta,phi,k,m,timeout,least,apart")
     for follower in followers:
+        found = shown(steps, last, words.leader, follower, {row[0] for row in rows})
         for row in rows:
-            k, m, b = timeout(steps, last, words.leader, follower, row)
-            serving = least(lambda number: serves(number, steps, last, words.leader, follower, row[0]))
-            print(follower, *row, k, m, b, serving, farthest(steps, words.leader, follower, row[0]), sep=",")
+            seen = found[row[0]]
+            b = timeout(row, seen, f"leader {words.leader}, follower {follower}")
+            print(follower, *row, seen.k, seen.m, b, seen.least, seen.apart, sep=",")
 
 
 # Tries
@@ -171,20 +233,24 @@ def try_claim(count, seed):
     chance, tried, tight, apart = random.Random(seed), 0, 0, 0
     for _ in range(count):
         steps, last = random_steps(chance)
+        found = shown(steps, last, 1, 2, range(1, last + 1))
         for g in range(1, last + 1):
             row = g, least(lambda d: delta_holds(steps, (1, 2), g, d)), least(lambda f: phi_holds(steps, last, (1, 2), g, f))
-            _, _, b = timeout(steps, last, 1, 2, row)
+            seen = shown_by_definition(steps, last, 1, 2, g)
+            if found[g] != seen:
+                sys.exit(f"{found[g]} is found, and {seen} is due, from tick {g} on: {steps}")
+            b = timeout(row, seen, steps)
             tried += 1
-            tight += b > 1 and not serves(b - 1, steps, last, 1, 2, g)
-            apart += farthest(steps, 1, 2, g) == b
+            tight += b > 1 and seen.least == b
+            apart += seen.apart == b
     print(f"{tried} times the claim holds: {tight} times no smaller number serves, and {apart} times two deliveries are so far apart")
     wanted = [(k, m, d, f) for k in range(1, 5) for m in range(1, 5) for d in range(1, 5) for f in range(1, 5)]
     for k, m, d, f in wanted:
         steps, last = farthest_steps(k, m, d, f)
         row = 1, least(lambda it: delta_holds(steps, (1, 2), 1, it)), least(lambda it: phi_holds(steps, last, (1, 2), 1, it))
-        b = (k + m) * f + d - 2
-        if row != (1, d, f) or timeout(steps, last, 1, 2, row) != (k, m, b) or farthest(steps, 1, 2, 1) != b:
-            sys.exit(f"no such trace for {k}, {m}, {d}, {f}: {row}, {timeout(steps, last, 1, 2, row)}, {steps}")
+        seen = shown_by_definition(steps, last, 1, 2, 1)
+        if row != (1, d, f) or (seen.k, seen.m) != (k, m) or seen.apart != timeout(row, seen, steps):
+            sys.exit(f"no such trace for {k}, {m}, {d}, {f}: {row}, {seen}, {steps}")
     print(f"{len(wanted)} times k, m, d and f have a trace in which two deliveries are B ticks apart")
 
 

@@ -15,14 +15,14 @@ SAID = {synchrony.TraceRefused: ("trace: ", 3), synchrony.CertificateRefused: ("
 
 
 def main(command, correct, *certificate):
-    trace, correct = sys.stdin.buffer.read(), [int(it) for it in correct.split(",")]
+    trace, correct = sys.stdin.buffer.read(), correct if correct == "all" else (int(it) for it in correct.split(","))
     try:
         if command == "report":
             sys.stdout.buffer.write(synchrony.report_text(trace, correct))
             return 0
         verdict = synchrony.check(trace, Path(certificate[0]).read_bytes(), correct)
         print(verdict)
-        return int(verdict != "yes")
+        return 0 if verdict else 1
     except synchrony.SetRefused:
         print("synchrony: no such processor in --correct", file=sys.stderr)
         return 2
