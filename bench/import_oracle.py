@@ -314,7 +314,8 @@ def imported(log, options):
     told = [] if listed else [b"processor %d is %b" % (at, name) for at, name in enumerate(nodes, 1)]
     if options.spread:
         count, most = spread_out(events, sends)
-        told.append(b"%d of %d events moved, by at most %d ticks" % (count, len(events), most))
+        far = b"" if most == 0 else b", by at most 1 tick" if most == 1 else b", by at most %d ticks" % most
+        told.append(b"%d of %d events moved" % (count, len(events)) + far)
         last_tick = max(last_tick, max(it.tick for it in events))
     return trace_of(events, nodes, sends, last_tick), told
 

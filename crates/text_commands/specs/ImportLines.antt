@@ -1,5 +1,5 @@
 -- What is told of a log beside its trace: the notes on it.
-use Rattle.std.specs.Prelude.{ℕ, List, [], ◌∷◌, ◌++◌, length, codes, decimal, Bool, true, false, Option, Some, None}
+use Rattle.std.specs.Prelude.{ℕ, List, [], ◌∷◌, ◌++◌, ◌==◌, if◌then◌else◌, length, codes, decimal, Bool, true, false, Option, Some, None}
 use Rattle.std.specs.List.{flat_map, range_with_len}
 use Rattle.timed_events.specs.declared.spread_traces.Moved.{Moved}
 use Rattle.event_log.specs.declared.imports.Import.{Import}
@@ -15,10 +15,17 @@ node_line number name = codes "synchrony: processor " ++ (decimal number ++ (cod
 abbrev pub node_lines : List (List ℕ) → ℕ → List ℕ
 node_lines nodes count = flat_map (λ p. node_line p (node_name nodes p)) (range_with_len 1 count)
 
--- the line that tells how far so many events went
+-- how many ticks events moved at most; nothing if none moved
+abbrev pub distance_words : ℕ → List ℕ
+distance_words ticks =
+    if ticks == 0 then []
+    else if ticks == 1 then codes ", by at most 1 tick"
+    else codes ", by at most " ++ (decimal ticks ++ codes " ticks")
+
+-- the line that tells how many of so many events moved, and how far
 abbrev pub moved_line : ℕ → Moved → List ℕ
 moved_line count moved =
-    codes "synchrony: " ++ (decimal moved.events ++ (codes " of " ++ (decimal count ++ (codes " events moved, by at most " ++ (decimal moved.ticks ++ (codes " ticks" ++ 10 ∷ []))))))
+    codes "synchrony: " ++ (decimal moved.events ++ (codes " of " ++ (decimal count ++ (codes " events moved" ++ (distance_words moved.ticks ++ 10 ∷ [])))))
 
 -- the nodes are told where they weren't listed
 abbrev pub node_notes : Option (List (List ℕ)) → List (List ℕ) → List ℕ

@@ -72,7 +72,7 @@ impl fmt::Display for NodeLine<'_> {
     }
 }
 
-/// How far events went, on a line of its own.
+/// How many events moved and how far at most, on a line of its own.
 #[derive(Clone, Copy)]
 struct MovedLine {
     moved: Moved,
@@ -89,8 +89,29 @@ impl fmt::Display for MovedLine {
     fn fmt<W: fmt::Write>(&self, f: &mut fmt::Formatter<W>) -> fmt::Result {
         writeln!(
             f,
-            "synchrony: {} of {} events moved, by at most {} ticks",
-            self.moved.events, self.count, self.moved.ticks
+            "synchrony: {} of {} events moved{}",
+            self.moved.events,
+            self.count,
+            Distance(self.moved.ticks)
         )
+    }
+}
+
+/// How many ticks events moved at most; nothing if none moved.
+#[derive(Clone, Copy)]
+struct Distance(u64);
+
+impl fmt::Display for Distance {
+    ghost use Rattle.std.specs.Prelude.{Some};
+    ghost use Rattle.text_commands.specs.ImportLines.{distance_words};
+
+    ghost output = { λ distance. Some (distance_words distance.0) };
+
+    fn fmt<W: fmt::Write>(&self, f: &mut fmt::Formatter<W>) -> fmt::Result {
+        match self.0 {
+            0 => f.write_str(""),
+            1 => f.write_str(", by at most 1 tick"),
+            ticks => write!(f, ", by at most {ticks} ticks"),
+        }
     }
 }

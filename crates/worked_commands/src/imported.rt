@@ -79,11 +79,7 @@ const SPREAD_NOTES: &str =
 const IMPORTED: &[(Given, &str, &str)] = &[
     (LISTED, LISTED_TRACE, ""),
     (UNLISTED, UNLISTED_TRACE, UNLISTED_NOTES),
-    (
-        UNMOVED,
-        LISTED_TRACE,
-        "synchrony: 0 of 5 events moved, by at most 0 ticks\n",
-    ),
+    (UNMOVED, LISTED_TRACE, "synchrony: 0 of 5 events moved\n"),
     (SPREAD, SPREAD_TRACE, SPREAD_NOTES),
 ];
 
