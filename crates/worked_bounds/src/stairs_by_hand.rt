@@ -92,9 +92,21 @@ fn built(alloc: Global) -> Result<Stairs, AllocError> {
     Ok(builder.build())
 }
 
+/// The same, where each of three equal levels is put before the others.
+fn lowered(alloc: Global) -> Result<Stairs, AllocError> {
+    let mut builder = StairBuilder::new(alloc);
+    builder.lower(LAST)?;
+    builder.lower(MIDDLE)?;
+    builder.lower(MIDDLE)?;
+    builder.lower(MIDDLE)?;
+    builder.lower(FIRST)?;
+    Ok(builder.build())
+}
+
 #[test]
 fn built_by_hand(rt: HostRuntime) -> Result<(), Fail> {
-    let stairs = built(rt.alloc())?;
-    assert!(rt; has_levels(&stairs, &NEVER_DELIVERED) && has_starts(&stairs, &[1, 2, 5]));
+    for stairs in [built(rt.alloc())?, lowered(rt.alloc())?] {
+        assert!(rt; has_levels(&stairs, &NEVER_DELIVERED) && has_starts(&stairs, &[1, 2, 5]));
+    }
     Ok(())
 }
