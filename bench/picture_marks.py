@@ -42,6 +42,9 @@ class Trace:
     # Of each step, from number 1 on: its tick, its processor, and the ids that it takes, None of a Send.
     steps: list
     last: int
+    # Of each Send by its number: whom it is for. And the numbers of the Receives that end a round.
+    sends: dict
+    ends: set
 
 
 @dataclass
@@ -69,11 +72,15 @@ def read_trace(path):
     """The trace of a text that is right, of either version."""
     with open(path) as opened:
         header, _, *rows = [line.rstrip("\n").split(",") for line in opened]
-    steps = []
-    for row in rows[:-1]:
+    steps, sends, ends = [], {}, set()
+    for no, row in enumerate(rows[:-1], 1):
         tick, processor, act, argument = row[-4:] if header[1] == "1" else row[1:]
         steps.append((int(tick), int(processor), None if act == "S" else [int(it) for it in argument.split()]))
-    return Trace(int(header[2]), steps, int(rows[-1][1]))
+        if act == "S":
+            sends[no] = int(argument)
+        if act == "E":
+            ends.add(no)
+    return Trace(int(header[2]), steps, int(rows[-1][1]), sends, ends)
 
 
 def read_report(path):
@@ -190,6 +197,8 @@ CHOSEN = [
 ]
 # How many of the two long ones' messages, misses and gaps are written.
 WRITTEN = {11: (100, 1000, 1), 12: (10_000, 0, 1)}
+# What their pictures say of the others.
+LEFT_OUT = {11: ["249099 later misses are not drawn."], 12: ["240099 earlier messages are not drawn."]}
 # L, --from and --to, and the window or the fault.
 WINDOWS = [
     (18, None, None, (1, 18)), (18, 0, None, "bad --from"), (18, 19, None, "bad --from"), (18, 18, None, (18, 18)),

@@ -6,3 +6,6 @@ pub mod Pictures
 pub mod Marks
 pub mod Escapes
 pub mod Names
+pub mod Places
+pub mod Labels
+pub mod Axes

@@ -1,9 +1,9 @@
 //! Where ticks and processors are drawn. Lengths are tenths of a pixel.
 
-ghost use Rattle.std.specs.Prelude.{◌≤◌};
+ghost use Rattle.std.specs.Prelude.{◌≡◌, ◌≤◌, ◌<◌, ◌↔◌, ◌+◌, ◌-◌, ◌*◌, ◌/◌, ◌^◌, IsTrue, min};
+ghost use Rattle.run_picture.specs.Places.{half_lane, half_tick, height_at, lane_middle, left_end, left_height, lost_height, right_end, right_height, tick_count, tick_edge, tick_middle};
 
 use crate::windows::{MAX_WINDOW, Window};
-use step_trace::MAX_TICKS;
 
 /// The left edge of what is drawn by ticks.
 pub(crate) const LEFT: u64 = 900;
@@ -33,7 +33,11 @@ pub(crate) struct Line {
 
 impl Frame {
     /// The frame of a window and of so many processors.
-    pub(crate) fn new(window: Window, processors: u64) -> Frame {
+    pub(crate) fn new(window: Window, processors: u64) -> Frame
+        ensures first { result.first ≡ window.first }
+        ensures to { result.to ≡ window.to }
+        ensures lanes { result.lanes ≡ min processors 64 }
+    {
         Frame {
             first: window.first,
             to: window.to,
@@ -43,6 +47,7 @@ impl Frame {
 
     /// How many ticks are drawn, at least one.
     pub(crate) fn count(self) -> u64
+        ensures value { result ≡ tick_count self }
         ensures low { 1 ≤ result }
         ensures high { result ≤ MAX_WINDOW }
     {
@@ -51,98 +56,145 @@ impl Frame {
 
     /// Half of the height of a lane.
     pub(crate) fn half_lane(self) -> u64
-        ensures { result ≤ 220 }
+        ensures value { result ≡ half_lane self.lanes }
+        ensures limit { result ≤ 220 }
     {
         if self.lanes > 16 { 110 } else { 220 }
     }
 
     /// The bottom of the last lane.
     pub(crate) fn lanes_end(self) -> u64
-        ensures { result ≤ 50_000 }
+        ensures value { result ≡ LANES_TOP + min self.lanes 64 * 2 * half_lane self.lanes }
+        ensures limit { result ≤ 50_000 }
     {
-        let halves = self.lanes.min(64) * 2;
-        if self.lanes > 16 {
-            LANES_TOP + halves * 110
-        } else {
-            LANES_TOP + halves * 220
-        }
+        LANES_TOP + self.lanes.min(64) * 2 * self.half_lane()
     }
 
     /// The middle of a lane.
     pub(crate) fn y(self, processor: u64) -> u64
-        ensures { result ≤ 50_000 }
+        ensures value { result ≡ lane_middle self processor }
+        ensures limit { result ≤ 50_000 }
     {
-        let halves = processor.clamp(1, 64) * 2 - 1;
-        if self.lanes > 16 {
-            LANES_TOP + halves * 110
-        } else {
-            LANES_TOP + halves * 220
-        }
+        LANES_TOP + (processor.clamp(1, 64) * 2 - 1) * self.half_lane()
     }
 
-    /// The left edge of a tick of the window, or the right edge of the window where the tick is after it.
+    /// The left edge of a tick of the window, or the right edge of the window, if the tick is after it.
     pub(crate) fn edge(self, tick: u64) -> u64
-        ensures { result ≤ 20_000 }
+        ensures value { result ≡ tick_edge self tick }
+        ensures limit { result ≤ LEFT + WIDTH }
     {
         let count = self.count();
         let before = tick.saturating_sub(self.first).min(count);
-        (LEFT + before * WIDTH / count).min(LEFT + WIDTH)
+        LEFT + before * WIDTH / count
     }
 
     /// The middle of a tick of the window.
     pub(crate) fn middle(self, tick: u64) -> u64
-        ensures { result ≤ 20_000 }
+        ensures value { result ≡ tick_middle self tick }
+        ensures limit { result ≤ LEFT + WIDTH }
     {
         let count = self.count();
-        let before = tick.saturating_sub(self.first).min(MAX_WINDOW - 1);
-        (LEFT + (before * 2 + 1) * WIDTH / (count * 2)).min(LEFT + WIDTH)
+        let before = tick.saturating_sub(self.first).min(count - 1);
+        LEFT + (before * 2 + 1) * WIDTH / (count * 2)
     }
 
     /// Half of the width of a tick.
     pub(crate) fn half(self) -> u64
-        ensures { result ≤ 5_000 }
+        ensures value { result ≡ half_tick self }
+        ensures limit { result ≤ 5_000 }
     {
         WIDTH / (self.count() * 2)
     }
 
     /// Whether a tick is drawn.
-    pub(crate) fn shows(self, tick: u64) -> bool {
+    pub(crate) fn shows(self, tick: u64) -> bool
+        ensures { IsTrue result ↔ ((self.first ≤ tick) × (tick ≤ self.to)) }
+    {
         self.first <= tick && tick <= self.to
     }
 
     /// The line from the middle of one tick in one lane to that of another in another, cut at the window's edges.
-    pub(crate) fn line(self, tick: u64, processor: u64, end: u64, processor_end: u64) -> Line {
+    pub(crate) fn line(self, tick: u64, processor: u64, end: u64, processor_end: u64) -> Line
+        ensures x { result.x ≡ left_end self tick }
+        ensures y { result.y ≡ left_height self tick processor end processor_end }
+        ensures x_end { result.x_end ≡ right_end self end }
+        ensures y_end { result.y_end ≡ right_height self tick processor end processor_end }
+    {
         let (y, y_end) = (self.y(processor), self.y(processor_end));
-        let span = end.saturating_sub(tick).min(MAX_TICKS) * 2;
-        let begun = (self.first.saturating_sub(tick).min(MAX_TICKS) * 2).saturating_sub(1);
-        let ended = self.to.saturating_sub(tick).min(MAX_TICKS) * 2 + 1;
+        let span = halves(tick, end);
+        let begun = halves(tick, self.first).saturating_sub(1);
+        let ended = halves(tick, self.to) + 1;
         Line {
             x: if tick < self.first {
                 LEFT
             } else {
                 self.middle(tick)
             },
-            y: between(y, y_end, begun, span),
+            y: height_at(y, y_end, begun, span),
             x_end: if end > self.to {
                 LEFT + WIDTH
             } else {
                 self.middle(end)
             },
-            y_end: between(y, y_end, ended, span),
+            y_end: height_at(y, y_end, ended, span),
+        }
+    }
+
+    /// The short line of a message that nobody takes, from the middle of its Send towards the lane of its receiver. It
+    /// stays within the tick and the lane.
+    pub(crate) fn lost(self, tick: u64, processor: u64, to: u64) -> Line
+        ensures x { result.x ≡ tick_middle self tick }
+        ensures y { result.y ≡ lane_middle self processor }
+        ensures x_end { result.x_end ≡ tick_middle self tick + half_tick self * 9 / 10 }
+        ensures y_end { result.y_end ≡ lost_height self processor to }
+    {
+        let (x, y) = (self.middle(tick), self.y(processor));
+        let far = self.half_lane() * 7 / 10;
+        Line {
+            x,
+            y,
+            x_end: x + self.half() * 9 / 10,
+            y_end: if to < processor {
+                y.saturating_sub(far)
+            } else {
+                y + far
+            },
         }
     }
 }
 
-/// What lies so many parts of the whole from the one height to the other.
-fn between(y: u64, y_end: u64, part: u64, whole: u64) -> u64
-    ensures { result ≤ 100_000 }
+/// How many half ticks lie from the one tick to the other, if it comes later.
+fn halves(from: u64, to: u64) -> u128
+    ensures value { result ≡ (to - from) * 2 }
+    ensures limit { result < 2 ^ 65 }
 {
-    let whole = whole.clamp(1, 2 * MAX_TICKS);
+    u128::from(to.saturating_sub(from)) * 2
+}
+
+/// What lies so many parts of the whole from the one height to the other.
+fn height_at(y: u64, y_end: u64, part: u128, whole: u128) -> u64
+    requires from { y ≤ 50_000 }
+    requires to { y_end ≤ 50_000 }
+    requires part { part < 2 ^ 66 }
+    ensures { result ≡ height_at y y_end part whole }
+{
+    let whole = whole.max(1);
     let part = part.min(whole);
-    let (y, y_end) = (y.min(50_000), y_end.min(50_000));
     if y <= y_end {
-        (y + (y_end - y) * part / whole).min(100_000)
+        y + share_of(y_end - y, part, whole)
     } else {
-        y.saturating_sub((y - y_end) * part / whole)
+        y - share_of(y - y_end, part, whole)
     }
+}
+
+/// So many parts of a length that has `whole` of them.
+fn share_of(length: u64, part: u128, whole: u128) -> u64
+    requires length { length ≤ 50_000 }
+    requires some { 1 ≤ whole }
+    requires part { part ≤ whole }
+    requires limit { part < 2 ^ 66 }
+    ensures value { result ≡ length * part / whole }
+    ensures limit { result ≤ length }
+{
+    (u128::from(length) * part / whole) as u64
 }

@@ -1,14 +1,18 @@
 //! The lanes of the processors, and the axis of the ticks below them. Lengths are tenths of a pixel.
 
-ghost use Rattle.std.specs.Prelude.{◌≤◌};
+ghost use Rattle.std.specs.Prelude.{◌≡◌, codes, if◌then◌else◌};
+ghost use Rattle.step_trace.specs.Processors.{has_proc};
 
-use crate::escapes::push_escaped;
 use crate::frames::{Frame, LANES_TOP};
+use crate::labels::{given_length, push_name, put_processor};
 use crate::round_numbers::round_step;
 use crate::svg::put;
 use crate::windows::Window;
 use std::alloc::{AllocError, Global};
 use step_trace::ProcSet;
+
+/// How many numbers of ticks fit below the lanes.
+const MOST_LABELS: u64 = 14;
 
 /// Draws the heading, the lanes of processors 1 to `count` and the axis of the ticks.
 pub(crate) fn put_lanes(
@@ -34,16 +38,11 @@ pub(crate) fn put_lanes(
     put_ticks(alloc, out, frame, window)
 }
 
-/// How far the longest name reaches beyond the usual left edge.
-pub(crate) fn overhang(names: &[&str]) -> u64
-    ensures { result ≤ 4_320 }
+/// How the lane of a processor looks: in ink, if it is one of the set, and pale, if it isn't.
+fn look_of(set: ProcSet, p: u64) -> &'static str
+    ensures { result.now ≡ (if has_proc set p then codes "i" else codes "o") }
 {
-    let mut longest = 0;
-    for name in names {
-        longest = name.len().max(longest);
-    }
-    // (a letter is some 8 pixels wide, and 10 of them fit beside the lanes)
-    longest.clamp(10, 64).saturating_sub(10) as u64 * 80
+    if set.contains(p) { "i" } else { "o" }
 }
 
 fn put_lane(
@@ -54,18 +53,29 @@ fn put_lane(
     set: ProcSet,
     names: &[&str],
 ) -> Result<(), AllocError> {
-    let y = frame.y(p);
-    let class = if set.contains(p) { "i" } else { "o" };
+    let (y, look) = (frame.y(p), look_of(set, p));
+    put(alloc, out, format_args!("<g class=\"{look}\"><title>"))?;
+    put_processor(alloc, out, names, p)?;
     put(
         alloc,
         out,
-        format_args!(
-            "<g class=\"{class}\"><path d=\"M900 {y}h10000\"/><text x=\"780\" y=\"{y}\" dy=\"40\">"
-        ),
+        format_args!("</title><path d=\"M900 {y}h10000\"/><text x=\"780\" y=\"{y}\" dy=\"40\""),
     )?;
-    match names.get(p.saturating_sub(1) as usize) {
-        Some(name) => push_escaped(out, name.as_bytes())?,
-        None => put(alloc, out, format_args!("{p}"))?,
+    put_label(alloc, out, p, names)
+}
+
+/// The name of a processor, or its number; a name that is too long for the margin is given its length.
+fn put_label(alloc: Global, out: &mut Vec<u8>, p: u64, names: &[&str]) -> Result<(), AllocError> {
+    if let Some(length) = given_length(names, p) {
+        put(
+            alloc,
+            out,
+            format_args!(" textLength=\"{length}\" lengthAdjust=\"spacingAndGlyphs\""),
+        )?;
+    }
+    out.push(b'>')?;
+    if !push_name(out, names, p)? {
+        put(alloc, out, format_args!("{p}"))?;
     }
     out.extend_from_slice(b"</text></g>\n")
 }
@@ -78,19 +88,17 @@ fn put_ticks(
     window: Window,
 ) -> Result<(), AllocError> {
     let y = frame.lanes_end() + 180;
-    let step = round_step(frame.count(), 20).max(1);
-    let before = window.first.saturating_sub(1) / step;
-    for i in 1..22 {
-        let tick = before.saturating_add(i).saturating_mul(step);
-        if tick > window.to {
-            return Ok(());
+    let step = round_step(frame.count(), MOST_LABELS).max(1);
+    for i in 0..frame.count() {
+        let tick = window.first.saturating_add(i);
+        if frame.shows(tick) && tick % step == 0 {
+            let x = frame.middle(tick);
+            put(
+                alloc,
+                out,
+                format_args!("<text x=\"{x}\" y=\"{y}\" class=\"n m\">{tick}</text>\n"),
+            )?;
         }
-        let x = frame.middle(tick);
-        put(
-            alloc,
-            out,
-            format_args!("<text x=\"{x}\" y=\"{y}\" class=\"n m\">{tick}</text>\n"),
-        )?;
     }
     Ok(())
 }

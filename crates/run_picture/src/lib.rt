@@ -4,6 +4,7 @@
 mod escapes;
 mod frames;
 mod gathering;
+mod labels;
 mod lanes;
 mod legend;
 mod message_lines;

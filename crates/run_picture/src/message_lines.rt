@@ -1,10 +1,21 @@
 //! Messages, as lines from their Sends to the Receives that take them. Lengths are tenths of a pixel.
 
-use crate::frames::Frame;
+use crate::frames::{Frame, Line};
+use crate::labels::put_processor;
 use crate::messages::{Message, tick_at};
 use crate::svg::put;
 use std::alloc::{AllocError, Global};
 use step_trace::{Act, Trace};
+
+/// A message: the number of its Send and the tick of it, the processors, and the Receive that takes it.
+#[derive(Clone, Copy)]
+struct Sending {
+    no: u64,
+    tick: u64,
+    from: u64,
+    to: u64,
+    taken: Option<u64>,
+}
 
 /// Draws a message that touches the window.
 pub(crate) fn put_message(
@@ -12,6 +23,7 @@ pub(crate) fn put_message(
     out: &mut Vec<u8>,
     frame: Frame,
     trace: &Trace,
+    names: &[&str],
     message: &Message,
 ) -> Result<(), AllocError> {
     let Some(step) = trace.step(message.sent) else {
@@ -20,41 +32,87 @@ pub(crate) fn put_message(
     let Act::Send { to } = &step.act else {
         return Ok(());
     };
-    let sent_in = tick_at(trace, message.sent);
-    let Some(taken) = message.taken else {
-        return put_lost(alloc, out, frame, sent_in, step.proc, *to);
+    let sending = Sending {
+        no: message.sent,
+        tick: tick_at(trace, message.sent),
+        from: step.proc,
+        to: *to,
+        taken: message.taken,
     };
-    let taken_in = tick_at(trace, taken);
-    if step.proc == *to {
-        return put_arc(alloc, out, frame, sent_in, taken_in, step.proc);
+    put_way(alloc, out, frame, trace, sending)?;
+    put_title(alloc, out, trace, names, sending)
+}
+
+/// The mark of a message, up to its title.
+fn put_way(
+    alloc: Global,
+    out: &mut Vec<u8>,
+    frame: Frame,
+    trace: &Trace,
+    sending: Sending,
+) -> Result<(), AllocError> {
+    let Sending { tick, from, to, .. } = sending;
+    let Some(taken) = sending.taken else {
+        return put_line(alloc, out, frame.lost(tick, from, to), "l d");
+    };
+    let end = tick_at(trace, taken);
+    if from == to {
+        return put_arc(alloc, out, frame, tick, end, from);
     }
-    let line = frame.line(sent_in, step.proc, taken_in, *to);
+    put_line(alloc, out, frame.line(tick, from, end, to), "l")
+}
+
+/// A straight line of these looks, up to its title.
+pub(crate) fn put_line(
+    alloc: Global,
+    out: &mut Vec<u8>,
+    line: Line,
+    looks: &str,
+) -> Result<(), AllocError> {
     let (x, y, x_end, y_end) = (line.x, line.y, line.x_end, line.y_end);
     put(
         alloc,
         out,
-        format_args!("<path class=\"l\" d=\"M{x} {y}L{x_end} {y_end}\"/>\n"),
+        format_args!("<path class=\"{looks}\" d=\"M{x} {y}L{x_end} {y_end}\">"),
     )
 }
 
-/// A message that nobody takes: a short dashed end, towards the lane of its receiver.
-fn put_lost(
+/// The end of the mark of a message: from whom to whom it is, where it was sent, and where it was received.
+fn put_title(
     alloc: Global,
     out: &mut Vec<u8>,
-    frame: Frame,
-    tick: u64,
-    processor: u64,
-    to: u64,
+    trace: &Trace,
+    names: &[&str],
+    sending: Sending,
 ) -> Result<(), AllocError> {
-    let (x, y) = (frame.middle(tick), frame.y(processor));
-    let across = frame.half() * 9 / 10;
-    let down = frame.half_lane() * 7 / 10;
-    let sign = if to < processor { "-" } else { "" };
+    let Sending {
+        no,
+        tick,
+        from,
+        to,
+        ..
+    } = sending;
+    put(alloc, out, format_args!("<title>message {no} from "))?;
+    put_processor(alloc, out, names, from)?;
+    out.extend_from_slice(b" to ")?;
+    put_processor(alloc, out, names, to)?;
     put(
         alloc,
         out,
-        format_args!("<path class=\"l d\" d=\"M{x} {y}l{across} {sign}{down}\"/>\n"),
-    )
+        format_args!(": sent at step {no}, tick {tick}, "),
+    )?;
+    match sending.taken {
+        Some(taken) => {
+            let end = tick_at(trace, taken);
+            put(
+                alloc,
+                out,
+                format_args!("received at step {taken}, tick {end}"),
+            )?;
+        }
+        None => out.extend_from_slice(b"never received")?,
+    }
+    out.extend_from_slice(b"</title></path>\n")
 }
 
 /// A message to its own sender: up, along and down again, as far as it lies in the window.
@@ -96,7 +154,7 @@ fn put_way_up(
     put(alloc, out, format_args!("<path class=\"l\" d=\"M{x} {top}"))
 }
 
-/// Along to the end, and down where it is in the window.
+/// Along to the end, and down, if it is in the window.
 fn put_way_down(
     alloc: Global,
     out: &mut Vec<u8>,
@@ -105,13 +163,13 @@ fn put_way_down(
     x_end: u64,
 ) -> Result<(), AllocError> {
     if !frame.shows(end) {
-        return put(alloc, out, format_args!("H{x_end}\"/>\n"));
+        return put(alloc, out, format_args!("H{x_end}\">"));
     }
     let (half, rise) = (frame.half(), rise(frame));
     let along = x_end.saturating_sub(half);
     put(
         alloc,
         out,
-        format_args!("H{along}q{half} 0 {half} {rise}\"/>\n"),
+        format_args!("H{along}q{half} 0 {half} {rise}\">"),
     )
 }

@@ -1,5 +1,8 @@
 //! The staircase of both bounds over the whole trace. Lengths are tenths of a pixel.
 
+ghost use Rattle.std.specs.Prelude.{◌≡◌};
+ghost use Rattle.run_picture.specs.Axes.{bound_height, column_edge, column_middle};
+
 use crate::frames::{LEFT, WIDTH};
 use crate::pictures::Picture;
 use crate::round_numbers::round_step;
@@ -19,20 +22,26 @@ struct Axes {
 }
 
 impl Axes {
-    /// The left edge of a tick, or the right edge of all where the tick is after the last.
-    fn edge(self, tick: u64) -> u64 {
+    /// The left edge of a tick, or the right edge of all, if the tick is after the last.
+    fn edge(self, tick: u64) -> u64
+        ensures { result ≡ column_edge self tick }
+    {
         let last = self.last.clamp(1, MAX_TICKS);
         LEFT + tick.saturating_sub(1).min(last) * WIDTH / last
     }
 
     /// The middle of a tick.
-    fn middle(self, tick: u64) -> u64 {
+    fn middle(self, tick: u64) -> u64
+        ensures { result ≡ column_middle self tick }
+    {
         let last = self.last.clamp(1, MAX_TICKS);
         LEFT + (tick.clamp(1, last) * 2 - 1) * WIDTH / (last * 2)
     }
 
     /// The height of a bound.
-    fn y(self, bound: u64) -> u64 {
+    fn y(self, bound: u64) -> u64
+        ensures { result ≡ bound_height self bound }
+    {
         let high = self.high.clamp(1, MAX_TICKS);
         (TOP + HEIGHT).saturating_sub(bound.min(high) * HEIGHT / high)
     }

@@ -3,6 +3,7 @@
 ghost use Rattle.std.specs.Prelude.{◌≤◌};
 
 use crate::frames::Frame;
+use crate::labels::put_processor;
 use crate::messages::tick_at;
 use crate::svg::put;
 use std::alloc::{AllocError, Global};
@@ -17,6 +18,7 @@ pub(crate) fn put_step(
     out: &mut Vec<u8>,
     frame: Frame,
     trace: &Trace,
+    names: &[&str],
     no: u64,
 ) -> Result<(), AllocError> {
     let Some(step) = trace.step(no) else {
@@ -31,8 +33,10 @@ pub(crate) fn put_step(
         y: frame.y(processor),
     };
     match &step.act {
-        Act::Send { to } => put_send(alloc, out, frame, mark, *to),
-        Act::Receive { ends, ids } => put_receive(alloc, out, frame, mark, *ends, ids.as_slice()),
+        Act::Send { to } => put_send(alloc, out, frame, names, mark, *to),
+        Act::Receive { ends, ids } => {
+            put_receive(alloc, out, frame, names, mark, *ends, ids.as_slice())
+        }
     }
 }
 
@@ -50,49 +54,49 @@ fn put_send(
     alloc: Global,
     out: &mut Vec<u8>,
     frame: Frame,
+    names: &[&str],
     mark: Mark,
     to: u64,
 ) -> Result<(), AllocError> {
-    let Mark {
-        no,
-        tick,
-        processor,
-        x,
-        y,
-    } = mark;
-    let size = radius(frame);
+    let (x, y, size) = (mark.x, mark.y, radius(frame));
     put(
         alloc,
         out,
-        format_args!(
-            "<circle cx=\"{x}\" cy=\"{y}\" r=\"{size}\"><title>step {no}, tick {tick}: processor {processor} sends message {no} to {to}</title></circle>\n"
-        ),
-    )
+        format_args!("<circle cx=\"{x}\" cy=\"{y}\" r=\"{size}\">"),
+    )?;
+    put_subject(alloc, out, names, mark)?;
+    let no = mark.no;
+    put(alloc, out, format_args!(" sends message {no} to "))?;
+    put_processor(alloc, out, names, to)?;
+    out.extend_from_slice(b"</title></circle>\n")
 }
 
 fn put_receive(
     alloc: Global,
     out: &mut Vec<u8>,
     frame: Frame,
+    names: &[&str],
     mark: Mark,
     ends: bool,
     ids: &[u64],
 ) -> Result<(), AllocError> {
-    let Mark {
-        no,
-        tick,
-        processor,
-        x,
-        y,
-    } = mark;
-    put_square(alloc, out, frame, x, y, ids.len() == 0)?;
-    put(
-        alloc,
-        out,
-        format_args!("<title>step {no}, tick {tick}: processor {processor} receives "),
-    )?;
+    put_square(alloc, out, frame, mark, ids.len() == 0)?;
+    put_subject(alloc, out, names, mark)?;
+    out.extend_from_slice(b" receives ")?;
     put_ids(alloc, out, ids)?;
-    put_end(alloc, out, frame, x, y, ends)
+    put_end(alloc, out, frame, mark, ends)
+}
+
+/// The beginning of the words of a step: which one it is, in which tick, and whose.
+fn put_subject(
+    alloc: Global,
+    out: &mut Vec<u8>,
+    names: &[&str],
+    mark: Mark,
+) -> Result<(), AllocError> {
+    let (no, tick) = (mark.no, mark.tick);
+    put(alloc, out, format_args!("<title>step {no}, tick {tick}: "))?;
+    put_processor(alloc, out, names, mark.processor)
 }
 
 /// How far a mark goes from its middle.
@@ -106,12 +110,12 @@ fn put_square(
     alloc: Global,
     out: &mut Vec<u8>,
     frame: Frame,
-    x: u64,
-    y: u64,
+    mark: Mark,
     is_empty: bool,
 ) -> Result<(), AllocError> {
     let size = radius(frame);
-    let (left, top, wide) = (x.saturating_sub(size), y.saturating_sub(size), size * 2);
+    let (left, top) = (mark.x.saturating_sub(size), mark.y.saturating_sub(size));
+    let wide = size * 2;
     let class = if is_empty { " class=\"z\"" } else { "" };
     put(
         alloc,
@@ -146,15 +150,15 @@ fn put_end(
     alloc: Global,
     out: &mut Vec<u8>,
     frame: Frame,
-    x: u64,
-    y: u64,
+    mark: Mark,
     ends: bool,
 ) -> Result<(), AllocError> {
     if !ends {
         return out.extend_from_slice(b"</title></rect>\n");
     }
     let far = radius(frame) + 25;
-    let (right, top, tall) = (x.min(100_000) + far, y.saturating_sub(far), far * 2);
+    let (right, top) = (mark.x.min(100_000) + far, mark.y.saturating_sub(far));
+    let tall = far * 2;
     put(
         alloc,
         out,

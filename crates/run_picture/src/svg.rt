@@ -3,7 +3,8 @@
 ghost use Rattle.std.specs.Prelude.{◌≡◌, ◌-◌, ◌≤◌, length, take, drop};
 
 use crate::frames::Frame;
-use crate::lanes::{overhang, put_lanes};
+use crate::labels::overhang;
+use crate::lanes::put_lanes;
 use crate::legend::{LEGEND, STYLE};
 use crate::message_lines::put_message;
 use crate::pictures::Picture;
@@ -45,7 +46,7 @@ pub fn svg_text(
     }
     put_staircase(alloc, &mut out, picture, last)?;
     put_lanes(alloc, &mut out, frame, picture.window, count, set, names)?;
-    put_marks(alloc, &mut out, frame, trace, picture)?;
+    put_marks(alloc, &mut out, frame, trace, picture, names)?;
     put_foot(alloc, &mut out, frame, picture)?;
     Ok(out)
 }
@@ -62,7 +63,7 @@ pub(crate) fn put<D: Display + Drop>(
 
 /// The page is wider by what names reach beyond its left edge.
 fn put_head(alloc: Global, out: &mut Vec<u8>, frame: Frame, overhang: u64) -> Result<(), AllocError>
-    requires { overhang ≤ 4_320 }
+    requires { overhang ≤ 6_880 }
 {
     let height = frame.lanes_end() + 1_000;
     let width = overhang + 11_200;
@@ -91,23 +92,25 @@ fn put_marks(
     frame: Frame,
     trace: &Trace,
     picture: &Picture,
+    names: &[&str],
 ) -> Result<(), AllocError> {
-    put_gaps(alloc, out, frame, &picture.gaps)?;
+    put_gaps(alloc, out, frame, names, &picture.gaps)?;
     for message in latest(&picture.messages, MAX_LINES) {
-        put_message(alloc, out, frame, trace, message)?;
+        put_message(alloc, out, frame, trace, names, message)?;
     }
-    put_misses(alloc, out, frame, trace, &picture.misses)?;
-    put_steps(alloc, out, frame, trace, &picture.steps)
+    put_misses(alloc, out, frame, trace, names, &picture.misses)?;
+    put_steps(alloc, out, frame, trace, names, &picture.steps)
 }
 
 fn put_gaps(
     alloc: Global,
     out: &mut Vec<u8>,
     frame: Frame,
+    names: &[&str],
     gaps: &[Row],
 ) -> Result<(), AllocError> {
     for row in earliest(gaps, MAX_WITNESSES) {
-        put_gap(alloc, out, frame, row)?;
+        put_gap(alloc, out, frame, names, row)?;
     }
     Ok(())
 }
@@ -117,10 +120,11 @@ fn put_misses(
     out: &mut Vec<u8>,
     frame: Frame,
     trace: &Trace,
+    names: &[&str],
     misses: &[Row],
 ) -> Result<(), AllocError> {
     for row in earliest(misses, MAX_WITNESSES) {
-        put_miss(alloc, out, frame, trace, row)?;
+        put_miss(alloc, out, frame, trace, names, row)?;
     }
     Ok(())
 }
@@ -130,10 +134,11 @@ fn put_steps(
     out: &mut Vec<u8>,
     frame: Frame,
     trace: &Trace,
+    names: &[&str],
     steps: &[u64],
 ) -> Result<(), AllocError> {
     for no in steps {
-        put_step(alloc, out, frame, trace, *no)?;
+        put_step(alloc, out, frame, trace, names, *no)?;
     }
     Ok(())
 }
@@ -193,6 +198,13 @@ fn put_foot(
     out.extend_from_slice(b"</svg>\n")
 }
 
+/// How many of so many marks are left out, if at most `most` are drawn.
+fn left_out(count: usize, most: usize) -> usize
+    ensures { result ≡ count - most }
+{
+    count.saturating_sub(most)
+}
+
 fn put_left_out(
     alloc: Global,
     out: &mut Vec<u8>,
@@ -201,7 +213,7 @@ fn put_left_out(
     most: usize,
     kind: &str,
 ) -> Result<(), AllocError> {
-    let left_out = count.saturating_sub(most);
+    let left_out = left_out(count, most);
     if left_out == 0 {
         return Ok(());
     }
