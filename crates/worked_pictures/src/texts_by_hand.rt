@@ -21,8 +21,16 @@ const PIECES: &[(&str, bool, &str)] = &[
     (TEXT, true, ">&lt;a&gt;</text>"),
     (TEXT, true, ">b&amp;&quot;c&#39;</text>"),
     (TEXT, true, ">é</text>"),
-    (TEXT, true, "<g class=\"i\"><title>&lt;a&gt;</title><path d=\"M900 3120h10000\"/>"),
-    (TEXT, true, "<g class=\"o\"><title>é</title><path d=\"M900 4000h10000\"/>"),
+    (
+        TEXT,
+        true,
+        "<g class=\"i\"><title>&lt;a&gt;</title><path d=\"M900 3120h10000\"/>",
+    ),
+    (
+        TEXT,
+        true,
+        "<g class=\"o\"><title>é</title><path d=\"M900 4000h10000\"/>",
+    ),
     (
         TEXT,
         true,
