@@ -1,7 +1,5 @@
 -- The faults that end the program.
-use Rattle.std.specs.Prelude.{ℕ}
-use Rattle.std.specs.declared.io.ErrorKind.{ErrorKind}
-use Rattle.std.specs.declared.io.ErrorKind.TheVariants.{OutOfMemory}
+use Rattle.std.specs.Prelude.{ℕ, Some}
 use Rattle.trace_text.specs.declared.refusals.TextError.{TextError}
 use Rattle.trace_text.specs.declared.refusals.TextError.TheVariants as why
 use Rattle.trace_text.specs.declared.refusals.WriteError.{WriteError}
@@ -32,8 +30,9 @@ status_of (fault.Trace e) = 3
 status_of (fault.Certificate e) = 4
 status_of fault.Memory = 5
 status_of fault.Read = 6
+status_of (fault.Unread file trouble) = 6
 status_of (fault.Write written) = 6
-status_of (fault.NotARun number) = 7
+status_of (fault.NotARun number due) = 7
 status_of fault.Threads = 8
 status_of (fault.Picture option) = 2
 status_of (fault.Report option) = 2
@@ -54,7 +53,7 @@ fault_of_certificate e = fault.Certificate e
 
 -- the fault that a trace which wasn't replayed is
 abbrev pub fault_of_replay : ReplayError → Fault
-fault_of_replay (unreplayed.NotARun number) = fault.NotARun number
+fault_of_replay (unreplayed.NotARun number due) = fault.NotARun number (Some due)
 fault_of_replay unreplayed.Memory = fault.Memory
 
 -- the fault that a refusal of a log is, likewise
@@ -73,8 +72,3 @@ fault_of_options no_options.Memory = fault.Memory
 abbrev pub fault_of_write : WriteError → Fault
 fault_of_write (unwritten.Write written) = fault.Write written
 fault_of_write unwritten.Memory = fault.Memory
-
--- the fault that a file which can't be opened is, by the kind of the error
-abbrev pub fault_of_opening : ErrorKind → Fault
-fault_of_opening OutOfMemory = fault.Memory
-fault_of_opening kind = fault.Read

@@ -4,6 +4,7 @@ ghost use Rattle.std.specs.Prelude.{◌≡◌, IfOk, string_bytes};
 ghost use Rattle.command_faults.specs.FaultLines.{fault_line, ended_line};
 
 use crate::faults::{Fault, ImportOption, PictureOption, ReportOption};
+use crate::hints::{CertificateHint, DueHint, FileHint, PictureHint, TraceHint};
 use crate::log_fault_lines::{HelpLine, LogLead};
 use std::alloc::{AllocError, Global};
 use std::fmt;
@@ -38,16 +39,32 @@ impl fmt::Display for Fault {
         match self {
             Fault::Command(words) => f.write_str(words.as_str()),
             Fault::Set => f.write_str("synchrony: no such processor in --correct"),
-            Fault::Trace(why) => write!(f, "synchrony: trace: {}", TraceWords(why)),
-            Fault::Certificate(why) => {
-                write!(f, "synchrony: certificate: {}", CertificateWords(why))
+            Fault::Trace(why) => {
+                write!(f, "synchrony: trace: {}{}", TraceWords(why), TraceHint(why))
             }
+            Fault::Certificate(why) => write!(
+                f,
+                "synchrony: certificate: {}{}",
+                CertificateWords(why),
+                CertificateHint(why)
+            ),
             Fault::Memory => f.write_str("synchrony: out of memory"),
             Fault::Read => f.write_str("synchrony: cannot read"),
+            Fault::Unread(file, trouble) => {
+                write!(
+                    f,
+                    "synchrony: cannot read{}",
+                    FileHint(file.as_str(), *trouble)
+                )
+            }
             Fault::Write(_) => f.write_str("synchrony: cannot write"),
-            Fault::NotARun(no) => write!(f, "synchrony: not a run: step {no}"),
+            Fault::NotARun(no, due) => {
+                write!(f, "synchrony: not a run: step {no}{}", DueHint(*due))
+            }
             Fault::Threads => f.write_str("synchrony: worker not started or held"),
-            Fault::Picture(option) => write!(f, "synchrony: bad {option}"),
+            Fault::Picture(option) => {
+                write!(f, "synchrony: bad {option}{}", PictureHint(*option))
+            }
             Fault::Report(option) => write!(f, "synchrony: bad {option}"),
             Fault::Log(why) => write!(f, "synchrony: {}{why}{}", LogLead(why), HelpLine(why)),
             Fault::Import(option) => write!(f, "synchrony: bad {option}"),
@@ -64,9 +81,10 @@ impl fmt::Display for PictureOption {
 
     fn fmt<W: fmt::Write>(&self, f: &mut fmt::Formatter<W>) -> fmt::Result {
         match self {
-            PictureOption::Names => f.write_str("--names"),
-            PictureOption::From => f.write_str("--from"),
-            PictureOption::To => f.write_str("--to"),
+            PictureOption::NameCount(..) => f.write_str("--names"),
+            PictureOption::BadName(_) | PictureOption::SameName(_) => f.write_str("--names"),
+            PictureOption::From(..) => f.write_str("--from"),
+            PictureOption::To(..) => f.write_str("--to"),
         }
     }
 }

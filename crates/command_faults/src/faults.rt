@@ -1,18 +1,18 @@
 //! Why a command stops, and the exit status that each reason has.
 
 ghost use Rattle.std.specs.Prelude.{◌≡◌};
-ghost use Rattle.std.specs.IoError.{error_kind};
-ghost use Rattle.command_faults.specs.Faults.{status_of, fault_of_opening};
+ghost use Rattle.command_faults.specs.Faults.{status_of};
 
+use crate::unread::FileTrouble;
 use event_log::{LogError, OptionError};
 use front::ReportError;
 use std::alloc::AllocError;
-use std::io;
-use step_buffers::ReplayError;
+use step_buffers::{Due, ReplayError};
+use thiserror::Error;
 use trace_text::{TextError, WriteError};
 
 /// Why the program stops before it is done.
-#[derive(Debug, Drop)]
+#[derive(Debug, Drop, Error)]
 pub enum Fault {
     /// The command line is refused, in these words.
     Command(String),
@@ -24,12 +24,15 @@ pub enum Fault {
     Certificate(ReportError),
     /// There was no memory.
     Memory,
-    /// The input can't be opened or read.
+    /// The input can't be read.
     Read,
+    /// This file, as the command line has it, can't be opened or read.
+    Unread(String, FileTrouble),
     /// The output can't be written; so many bytes of it went out before.
     Write(u64),
-    /// The trace is no run of the algorithm: the step of this number is the first that isn't.
-    NotARun(u64),
+    /// The trace is no run of the algorithm: the step of this number is the first that isn't; and what its processor
+    /// had to do, where that is known.
+    NotARun(u64, Option<Due>),
     /// A thread wasn't started, or was held back.
     Threads,
     /// There is no picture of the trace for what this option says.
@@ -42,15 +45,19 @@ pub enum Fault {
     Import(ImportOption),
 }
 
-/// An option that a picture is asked for with.
+/// An option that a picture is asked for with, and why it doesn't fit the trace.
 #[derive(Clone, Copy, Debug, PartialEq, Eq)]
 pub enum PictureOption {
-    /// The names of the processors.
-    Names,
-    /// The first tick to draw.
-    From,
-    /// The last tick to draw.
-    To,
+    /// The names are so many, and the processors are so many.
+    NameCount(u64, u64),
+    /// The name at this place, from 1, can't be drawn.
+    BadName(u64),
+    /// The name at this place, from 1, is the same as an earlier one.
+    SameName(u64),
+    /// The first tick to draw is this one, and the last tick of the trace is the second.
+    From(u64, u64),
+    /// The last tick to draw is this one, and the first tick to draw is the second.
+    To(u64, u64),
 }
 
 /// An option that a part of a report is asked for with.
@@ -72,8 +79,6 @@ pub enum ImportOption {
     /// When the log ends.
     Until,
 }
-
-impl std::error::Error for Fault {}
 
 impl From<AllocError> for Fault {
     ghost use Rattle.command_faults.specs.declared.faults.Fault.TheVariants as fault;
@@ -120,7 +125,7 @@ impl From<ReplayError> for Fault {
 
     fn from(why: ReplayError) -> Fault {
         match why {
-            ReplayError::NotARun(no) => Fault::NotARun(no),
+            ReplayError::NotARun(no, due) => Fault::NotARun(no, Some(due)),
             ReplayError::Memory => Fault::Memory,
         }
     }
@@ -167,16 +172,6 @@ impl From<WriteError> for Fault {
     }
 }
 
-/// The fault of a file that can't be opened.
-pub fn unopened(error: io::Error) -> Fault
-    ensures { result ≡ fault_of_opening (error_kind error) }
-{
-    match error.kind() {
-        io::ErrorKind::OutOfMemory => Fault::Memory,
-        _ => Fault::Read,
-    }
-}
-
 /// The exit status that the program ends with. Takes no memory.
 pub fn status(fault: &Fault) -> u8
     ensures { result ≡ status_of fault.now }
@@ -188,8 +183,8 @@ pub fn status(fault: &Fault) -> u8
         Fault::Trace(_) | Fault::Log(_) => 3,
         Fault::Certificate(_) => 4,
         Fault::Memory => 5,
-        Fault::Read | Fault::Write(_) => 6,
-        Fault::NotARun(_) => 7,
+        Fault::Read | Fault::Unread(..) | Fault::Write(_) => 6,
+        Fault::NotARun(..) => 7,
         Fault::Threads => 8,
     }
 }

@@ -40,6 +40,15 @@ impl fmt::Display for HelpLine<'_> {
             LogError::TooManyTicks => f.write_str("\nsynchrony: a greater --tick makes fewer"),
             LogError::NotLater(_, _, hint) => f.write_str(hint_line(*hint)),
             LogError::SecondEvent(_, _, _, hint) => f.write_str(hint_line(*hint)),
+            LogError::BadTime(_) => f.write_str(
+                "\nsynchrony: a time is a number, or a time stamp like 2026-11-22T10:00:00.250Z; all times are of the kind of record 2's",
+            ),
+            LogError::BadNode(_, None) => f.write_str(
+                "\nsynchrony: the name of a node is text with no control character, and not empty",
+            ),
+            LogError::BadNode(_, Some(name)) => {
+                write!(f, "\nsynchrony: \"{name}\" is not among --nodes")
+            }
             _ => f.write_str(""),
         }
     }

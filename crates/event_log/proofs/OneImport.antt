@@ -22,7 +22,7 @@ use Rattle.event_log.specs.declared.times.TimeKind.{TimeKind}
 use Rattle.event_log.specs.Columns.{columns_of}
 use Rattle.event_log.specs.Events.{seen}
 use Rattle.event_log.specs.Imports.{IsImportOf, IsRead, clock_in}
-use Rattle.event_log.specs.LogRecords.{Said, accepted, are_messages, are_nodes_by, is_node, moment_as, said_by, said_of, verb_of}
+use Rattle.event_log.specs.LogRecords.{Said, accepted, are_messages, are_nodes_by, bad_node_by, is_node, moment_as, name_in, said_by, said_of, verb_of}
 use Rattle.event_log.specs.Logs.{SeenLog, resolved_log}
 use Rattle.event_log.specs.Names.{has_name}
 use Rattle.event_log.specs.Stages.{header_stage, names_stage, rules, says_of, staged_log, with_said}
@@ -48,8 +48,12 @@ module _ (a b : Option (Bor (List (List ℕ)))) (same : option_map (λ nodes. no
   nodes-same verb.Send s = ap₂ (λ t u. t && u) (node-same a b s.node same) (node-same a b s.to same)
   nodes-same verb.Receive s = node-same a b s.node same
 
+  bad-same : (v : Verb) (s : Said) → bad_node_by v a s ≡ bad_node_by v b s
+  bad-same verb.Send s = ap (λ t. cond t (name_in s.to) (name_in s.node)) (node-same a b s.node same)
+  bad-same verb.Receive s = refl
+
   accepted-same : (number : ℕ) (s : Said) → accepted a number s ≡ accepted b number s
-  accepted-same number s = ap (λ t. cond t (cond (are_messages s) (Ok s) (Err (BadMessage number))) (Err (BadNode number))) (nodes-same s.verb s)
+  accepted-same number s = ap₂ (λ t (bad : Option (List ℕ)). cond t (cond (are_messages s) (Ok s) (Err (BadMessage number))) (Err (BadNode number bad))) (nodes-same s.verb s) (bad-same s.verb s)
 
   said-same : (columns : Columns) (kind : Option TimeKind) (number : ℕ) (fields : List (List ℕ)) → said_of (rules columns kind a) number fields ≡ said_of (rules columns kind b) number fields
   said-same columns kind number fields =

@@ -52,6 +52,18 @@ are_nodes_by verb.Receive listed s = is_node listed s.node
 abbrev pub are_nodes : Option (Bor (List (List ℕ))) → Said → Bool
 are_nodes listed s = are_nodes_by s.verb listed s
 
+-- the name that a refused node has; None where it is no name
+abbrev pub name_in : List ℕ → Option (List ℕ)
+name_in node = if is_name node then Some node else None
+
+abbrev pub bad_node_by : Verb → Option (Bor (List (List ℕ))) → Said → Option (List ℕ)
+bad_node_by verb.Send listed s = if is_node listed s.node then name_in s.to else name_in s.node
+bad_node_by verb.Receive listed s = name_in s.node
+
+-- the same of the first node of an event that may not be named
+abbrev pub bad_node : Option (Bor (List (List ℕ))) → Said → Option (List ℕ)
+bad_node listed s = bad_node_by s.verb listed s
+
 abbrev pub are_messages_by : Verb → List ℕ → Bool
 are_messages_by verb.Send field = is_message_name field
 are_messages_by verb.Receive field = are_message_names field
@@ -74,7 +86,7 @@ said_by columns moment verb fields = record {
 abbrev pub accepted : Option (Bor (List (List ℕ))) → ℕ → Said → Result Said LogError
 accepted listed number s =
     if are_nodes listed s then (if are_messages s then Ok s else Err (BadMessage number))
-    else Err (BadNode number)
+    else Err (BadNode number (bad_node listed s))
 
 -- what the record of a number says, or the first refusal: its fields, its time, its event, its nodes, its messages
 abbrev pub said_of : Rules → ℕ → List (List ℕ) → Result Said LogError

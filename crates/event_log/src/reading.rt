@@ -133,7 +133,7 @@ impl<'a> Reading<'a> {
             kind: self.kind,
             listed: self.listed,
         };
-        let told = told_of(&rules, u64::from(self.count) + 2, fields)?;
+        let told = told_of(alloc, &rules, u64::from(self.count) + 2, fields)?;
         let place = self.count;
         self.kind = Some(told.moment.kind);
         self.count += 1;

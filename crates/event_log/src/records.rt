@@ -1,14 +1,16 @@
 //! What a record of a log tells of an event.
 
-ghost use Rattle.std.specs.Prelude.{◌≡◌, Ok, Err, MatchResult};
+ghost use Rattle.std.specs.Prelude.{◌≡◌, Ok, Err, IfOk, MatchBool, MatchResult, ⊤};
 ghost use Rattle.csv.specs.Records.{fields_of};
-ghost use Rattle.event_log.specs.LogRecords.{are_messages, are_nodes, is_node, moment_as, said, said_by, said_of, verb_of};
+ghost use Rattle.event_log.specs.LogRecords.{are_messages, are_nodes, bad_node, is_node, moment_as, name_in, said, said_by, said_of, verb_of};
+ghost use Rattle.event_log.specs.Naming.{IsUnless, is_memory};
 
 use crate::columns::Columns;
-use crate::names::{NameSet, are_message_names, is_message_name, is_name};
+use crate::names::{Name, NameSet, are_message_names, is_message_name, is_name};
 use crate::refusals::LogError;
 use crate::times::{Moment, TimeKind, read_moment, time_as};
 use csv::ByteRecord;
+use std::alloc::{AllocError, Global};
 use trace_text::records::field;
 
 /// What happened, as the column `event` says it.
@@ -42,15 +44,17 @@ pub(crate) struct Rules<'a> {
 
 /// What the record of this number tells, under these rules.
 ///
-/// Refuses BadFields, BadTime, BadEvent, BadNode and BadMessage with the number, in this order.
+/// Refuses BadFields, BadTime, BadEvent, BadNode and BadMessage with the number, in this order. Memory may come in place of
+/// BadNode, which has the name.
 pub(crate) fn told_of<'a>(
+    alloc: Global,
     rules: &Rules<'_>,
     no: u64,
     fields: &'a ByteRecord,
 ) -> Result<Told<'a>, LogError>
     ensures { MatchResult result
         (λ told. said_of rules.now no (fields_of fields.now) ≡ Ok (said told))
-        (λ e. said_of rules.now no (fields_of fields.now) ≡ Err e) }
+        (λ e. MatchBool (is_memory e) ⊤ (said_of rules.now no (fields_of fields.now) ≡ Err e)) }
 {
     let columns = rules.columns;
     if fields.len() != columns.fields {
@@ -70,7 +74,7 @@ pub(crate) fn told_of<'a>(
         messages: field(fields, columns.message),
     };
     if !are_nodes(rules.listed, &told) {
-        return Err(LogError::BadNode(no));
+        return Err(node_refusal(alloc, no, rules.listed, &told));
     }
     if !are_messages(&told) {
         return Err(LogError::BadMessage(no));
@@ -121,6 +125,36 @@ fn is_node(listed: Option<&NameSet>, name: &[u8]) -> bool
         Some(nodes) => nodes.place_of(name).is_some(),
         None => is_name(name),
     }
+}
+
+/// The refusal of an event whose nodes may not be named, or Memory.
+fn node_refusal(alloc: Global, no: u64, listed: Option<&NameSet>, told: &Told<'_>) -> LogError
+    ensures { IsUnless is_memory result (LogError.BadNode no (bad_node listed.entry (said told.now))) }
+{
+    match name_in(alloc, bad_node(listed, told)) {
+        Ok(name) => LogError::BadNode(no, name),
+        Err(_) => LogError::Memory,
+    }
+}
+
+/// The node that a refusal is for: the event's own, or where that may be named the one that it sends to.
+fn bad_node<'a>(listed: Option<&NameSet>, told: &Told<'a>) -> &'a [u8]
+    ensures { name_in result.now ≡ bad_node listed.entry (said told.now) }
+{
+    match told.verb {
+        Verb::Send if is_node(listed, told.node) => told.to,
+        _ => told.node,
+    }
+}
+
+/// The name that a node has; None where it is no name.
+fn name_in(alloc: Global, node: &[u8]) -> Result<Option<Name>, AllocError>
+    ensures { IfOk result (λ name. name ≡ name_in node.now) }
+{
+    if !is_name(node) {
+        return Ok(None);
+    }
+    Ok(Some(Name::new(alloc, node)?))
 }
 
 /// Whether what an event names as its messages are names.

@@ -88,7 +88,7 @@ fn words_of(why: &LogError) -> Words<'_>
         LogError::BadFields(no) => Words::Record(*no, "bad fields"),
         LogError::BadTime(no) => Words::Record(*no, "bad time"),
         LogError::BadEvent(no) => Words::Record(*no, "bad event"),
-        LogError::BadNode(no) => Words::Record(*no, "bad node"),
+        LogError::BadNode(no, _) => Words::Record(*no, "bad node"),
         LogError::BadMessage(no) => Words::Record(*no, "bad message"),
         LogError::NoEvents => Words::Log("no events"),
         LogError::TooManyNodes(no) => Words::Record(*no, "too many nodes"),

@@ -22,8 +22,8 @@ pub enum LogError {
     BadTime(u64),
     /// The event is neither a send nor a receive.
     BadEvent(u64),
-    /// The node, or the node that a send is for, is no name, or isn't one of the list.
-    BadNode(u64),
+    /// The node, or else the node that a send is for, is no name; or it is this one, which the list hasn't.
+    BadNode(u64, Option<Name>),
     /// A send's message isn't a name, or a receive's aren't names with one space between them.
     BadMessage(u64),
     /// The header is the only record.

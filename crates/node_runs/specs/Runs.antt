@@ -48,7 +48,7 @@ gravity ending.Held = 3
 -- the fault that is told of an ending, if any
 abbrev pub fault_of_ending : Ending → Option Fault
 fault_of_ending ending.Made = None
-fault_of_ending ending.Refused = Some (fault.NotARun 0)
+fault_of_ending ending.Refused = Some (fault.NotARun 0 None)
 fault_of_ending ending.NoMemory = Some fault.Memory
 fault_of_ending ending.Held = Some fault.Threads
 
@@ -57,7 +57,7 @@ fault_of_ending ending.Held = Some fault.Threads
 abbrev pub IsFaultOfThreads : Fault → Type 0
 IsFaultOfThreads fault.Threads = ⊤
 IsFaultOfThreads fault.Memory = ⊤
-IsFaultOfThreads (fault.NotARun number) = number ≡ 0
+IsFaultOfThreads (fault.NotARun number due) = (number ≡ 0) × (due ≡ None)
 IsFaultOfThreads _ = ⊥
 
 -- these, or a run that isn't written whole

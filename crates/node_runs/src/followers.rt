@@ -1,6 +1,6 @@
 //! Who follows a run while its threads step, and tells how synchronous they are so far.
 
-ghost use Rattle.std.specs.Prelude.{◌≡◌, ◌⊎◌, ◌↔◌, ◌-◌, ◌*◌, ◌<◌, length, IfOk, IfErr, IfSome, OnOk, IsTrue, Some};
+ghost use Rattle.std.specs.Prelude.{◌≡◌, ◌⊎◌, ◌↔◌, ◌-◌, ◌*◌, ◌<◌, length, IfOk, IfErr, IfSome, OnOk, IsTrue, Some, None};
 ghost use Rattle.std.specs.Io.KnownBytes.{Appends};
 ghost use Rattle.step_trace.specs.Processors.{IsWithin};
 ghost use Rattle.suffix_staircase.specs.Analysis.{AreLevels};
@@ -182,7 +182,7 @@ impl<W: Write> Follower<W> {
         ensures set { self.new.analyst.set ≡ self.old.analyst.set }
         ensures writer { self.new.writer ≡ self.old.writer }
         ensures stairs { IfOk result (AreLevels self.old.analyst.set trace.now) }
-        ensures refused { IfErr result (λ why. (why ≡ Fault.NotARun 0) ⊎ (why ≡ Fault.Memory)) }
+        ensures refused { IfErr result (λ why. (why ≡ Fault.NotARun 0 None) ⊎ (why ≡ Fault.Memory)) }
     {
         let set = self.analyst.set();
         if self.is_mostly_new(trace) && set.within(trace.config().n()) {
@@ -193,7 +193,7 @@ impl<W: Write> Follower<W> {
                 self.fed = trace.len() as u64;
                 Ok(stairs)
             }
-            Err(FeedError::NotAnExtension { .. }) => Err(Fault::NotARun(0)),
+            Err(FeedError::NotAnExtension { .. }) => Err(Fault::NotARun(0, None)),
             Err(FeedError::Memory) => Err(Fault::Memory),
         }
     }

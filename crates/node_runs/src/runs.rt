@@ -254,7 +254,7 @@ fn judged(ending: Ending) -> Result<(), Fault>
         Ending::Made => Ok(()),
         Ending::Held => Err(Fault::Threads),
         Ending::NoMemory => Err(Fault::Memory),
-        Ending::Refused => Err(Fault::NotARun(0)),
+        Ending::Refused => Err(Fault::NotARun(0, None)),
     }
 }
 
@@ -267,10 +267,10 @@ fn audited(alloc: Global, recorder: Recorder, seats: &[Seat], steps: u64) -> Res
     let world = match recorder.into_audited(alloc, seats, &[]) {
         Ok(world) => world,
         Err(AuditError::Memory) => return Err(Fault::Memory),
-        Err(_) => return Err(Fault::NotARun(0)),
+        Err(_) => return Err(Fault::NotARun(0, None)),
     };
     if !have_done(seats, steps) {
-        return Err(Fault::NotARun(0));
+        return Err(Fault::NotARun(0, None));
     }
     Ok(world)
 }

@@ -1,6 +1,8 @@
 -- Names of processors as a text lists them (own).
-use Rattle.std.specs.Prelude.{ℕ, ◌≡◌, ◌≢◌, ◌<◌, ◌≤◌, ◌==◌, ◌+◌, ◌&&◌, ◌||◌, Bool, false, nat_lt, nat_le, List, [], length, slice_index_or}
+use Rattle.std.specs.Prelude.{ℕ, ◌≡◌, ◌≢◌, ◌<◌, ◌≤◌, ◌==◌, ◌+◌, ◌-◌, ◌&&◌, ◌||◌, Bool, false, nat_lt, nat_le, List, [], length, slice_index_or, ⊤}
 use Rattle.std.specs.List.{slice_split}
+use Rattle.run_picture.specs.declared.names.NamesError.{NamesError}
+use Rattle.run_picture.specs.declared.names.NamesError.TheVariants.{WrongCount, BadName, SameName, Memory}
 use Rattle.run_picture.specs.declared.names.TheConstants.{MAX_NAME_BYTES}
 
 -- the parts between the commas
@@ -37,3 +39,18 @@ pub record AreNames (count : ℕ) (names : List (List ℕ)) : Type 0 where
   pub many : length names ≡ count
   pub each : (i : ℕ) → i < length names → IsName (name_at names i)
   pub different : (i : ℕ) → i < length names → IsNew names i
+
+-- there are so many names, and those before this place, which counts from 1, are names and all different
+pub record AreNamesBefore (count : ℕ) (names : List (List ℕ)) (place : ℕ) : Type 0 where
+  pub many : length names ≡ count
+  pub first : 1 ≤ place
+  pub within : place ≤ length names
+  pub each : (i : ℕ) → i + 1 < place → IsName (name_at names i)
+  pub different : (i : ℕ) → i + 1 < place → IsNew names i
+
+-- what a refusal says: how many there are, or which name is the first that doesn't do
+abbrev pub IsNamesRefusal : ℕ → List (List ℕ) → NamesError → Type 0
+IsNamesRefusal count names (WrongCount given) = (given ≡ length names) × (given ≢ count)
+IsNamesRefusal count names (BadName place) = AreNamesBefore count names place × (¬ IsName (name_at names (place - 1)))
+IsNamesRefusal count names (SameName place) = AreNamesBefore count names place × IsName (name_at names (place - 1)) × (¬ IsNew names (place - 1))
+IsNamesRefusal count names Memory = ⊤

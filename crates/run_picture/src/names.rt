@@ -1,8 +1,7 @@
 //! Names of processors, as a command line lists them.
 
 ghost use Rattle.std.specs.Prelude.{◌≡◌, ◌≢◌, ◌↔◌, ◌<◌, ℕ, IsTrue, IfOk, IfErr, OnOk, map, length};
-ghost use Rattle.run_picture.specs.declared.names.NamesError.TheVariants.{BadNames};
-ghost use Rattle.run_picture.specs.Names.{parts_of, IsNew, IsName, AreNames, byte_at, is_refused_at};
+ghost use Rattle.run_picture.specs.Names.{parts_of, IsNew, IsName, IsNamesRefusal, AreNames, byte_at, is_refused_at};
 
 use std::alloc::{AllocError, Global};
 
@@ -12,27 +11,30 @@ pub const MAX_NAME_BYTES: usize = 64;
 /// Why a text lists no names.
 #[derive(Clone, Copy, Debug, PartialEq, Eq)]
 pub enum NamesError {
-    /// It isn't so many different names of 1 to `MAX_NAME_BYTES` bytes with one comma between each two; or there is a
-    /// control character in one, or one that XML doesn't hold.
-    BadNames,
+    /// There are so many parts with a comma between each two, and not one for each processor.
+    WrongCount(u64),
+    /// The name at this place, from 1, hasn't 1 to `MAX_NAME_BYTES` bytes, or has a control character, or one that XML
+    /// doesn't hold.
+    BadName(u64),
+    /// The name at this place, from 1, is the same as an earlier one.
+    SameName(u64),
     /// There was no memory for them.
     Memory,
 }
 
 /// The names that a text lists: as many as `count`, all different, with one comma between each two.
+///
+/// Refuses WrongCount, and then for the first name that doesn't do, BadName or else SameName. Memory may come before.
 pub fn names_of(alloc: Global, list: &str, count: u64) -> Result<Vec<&str>, NamesError>
     ensures listed { IfOk result (λ names. map (λ x. x.now) names.items ≡ parts_of list.now) }
     ensures fit { OnOk result (AreNames count (parts_of list.now)) }
-    ensures refused { IfErr result (λ why. why ≡ BadNames → ¬ AreNames count (parts_of list.now)) }
+    ensures refused { IfErr result (IsNamesRefusal count (parts_of list.now)) }
 {
     let Ok(names) = parts_of(alloc, list) else {
         return Err(NamesError::Memory);
     };
-    if are_names(&names, count) {
-        Ok(names)
-    } else {
-        Err(NamesError::BadNames)
-    }
+    test_names(&names, count)?;
+    Ok(names)
 }
 
 /// The parts of a text between its commas.
@@ -93,17 +95,21 @@ fn byte_at(name: &[u8], i: usize) -> u8
     name.get(i).copied().unwrap_or(0)
 }
 
-/// Whether these are so many different names.
-fn are_names(names: &[&str], count: u64) -> bool
-    ensures { IsTrue result ↔ AreNames count (map (λ x. x.now) names.now) }
+/// Tests whether these are so many different names.
+fn test_names(names: &[&str], count: u64) -> Result<(), NamesError>
+    ensures fit { OnOk result (AreNames count (map (λ x. x.now) names.now)) }
+    ensures refused { IfErr result (IsNamesRefusal count (map (λ x. x.now) names.now)) }
 {
     if names.len() as u64 != count {
-        return false;
+        return Err(NamesError::WrongCount(names.len() as u64));
     }
     for i in 0..names.len() {
-        if !is_name(names[i].as_bytes()) || !is_new(names, i) {
-            return false;
+        if !is_name(names[i].as_bytes()) {
+            return Err(NamesError::BadName(i as u64 + 1));
+        }
+        if !is_new(names, i) {
+            return Err(NamesError::SameName(i as u64 + 1));
         }
     }
-    true
+    Ok(())
 }

@@ -1,7 +1,7 @@
 //! The ticks that are drawn.
 
-ghost use Rattle.std.specs.Prelude.{◌≡◌, ◌<◌, ◌≤◌, ◌+◌, IfOk};
-ghost use Rattle.run_picture.specs.Windows.{touches, window_of};
+ghost use Rattle.std.specs.Prelude.{◌≡◌, ◌<◌, ◌≤◌, ◌+◌, IfErr, IfOk};
+ghost use Rattle.run_picture.specs.Windows.{IsUnfitWindow, touches, window_of};
 
 /// How many ticks are drawn where no last one is asked for.
 pub const USUAL_TICKS: u64 = 100;
@@ -19,10 +19,11 @@ pub struct Window {
 /// Why there is no such window, in the order in which the reasons are tested.
 #[derive(Clone, Copy, Debug, PartialEq, Eq)]
 pub enum WindowError {
-    /// The first tick is none of the trace.
-    BadFrom,
-    /// The last tick is before the first, or `MAX_WINDOW` ticks or more after it.
-    BadTo,
+    /// The first tick is none of the trace: the one that was asked for, and the last tick of the trace.
+    BadFrom(u64, u64),
+    /// The last tick is before the first, or `MAX_WINDOW` ticks or more after it: the one that was asked for, and the
+    /// first tick.
+    BadTo(u64, u64),
 }
 
 impl Window {
@@ -39,22 +40,23 @@ impl Window {
 /// with no tick there is the empty window before tick 1, whatever last tick is given.
 pub fn window_of(last: u64, from: Option<u64>, to: Option<u64>) -> Result<Window, WindowError>
     ensures exact { result ≡ window_of last from to }
+    ensures refused { IfErr result (IsUnfitWindow last from to) }
     ensures end { IfOk result (λ w. w.to ≤ last) }
     ensures length { IfOk result (λ w. w.to < w.first + MAX_WINDOW) }
 {
     let first = from.unwrap_or(1);
     if first < 1 || last.max(1) < first {
-        return Err(WindowError::BadFrom);
+        return Err(WindowError::BadFrom(first, last));
     }
     if last == 0 {
         return Ok(Window { first, to: 0 });
     }
-    let to = match to {
+    let drawn = match to {
         Some(to) => to.min(last),
         None => last.min(first.saturating_add(USUAL_TICKS - 1)),
     };
-    if to < first || to - first >= MAX_WINDOW {
-        return Err(WindowError::BadTo);
+    if drawn < first || drawn - first >= MAX_WINDOW {
+        return Err(WindowError::BadTo(to.unwrap_or(drawn), first));
     }
-    Ok(Window { first, to })
+    Ok(Window { first, to: drawn })
 }

@@ -20,12 +20,14 @@ use Rattle.step_buffers.specs.HeardTables.{numbers}
 use Rattle.step_buffers.specs.Runs.{next_destination, IsDue, IsRun}
 use Rattle.step_buffers.specs.Buffers.{waits_for, buffer}
 use Rattle.step_buffers.specs.Moves.{next_send, is_in, take_refusal, step_refusal, IsStepRefusal}
-use Rattle.step_buffers.proofs.StepPrefixes.{IsWellFormed-prefix}
-use Rattle.step_buffers.proofs.GrownNodes.{next_destination-prefix, IsRun-prefix}
+use Rattle.step_buffers.proofs.StepPrefixes.{IsWellFormed-prefix, step_at-prefix_old}
+use Rattle.step_buffers.proofs.GrownNodes.{next_destination-prefix, IsRun-prefix, IsRun-push}
 use Rattle.step_buffers.proofs.RemovedIds.{is_in-member}
 use Rattle.std.proofs.lemmas.Option.{none-some, slice_get_within, slice_get_cases, get_or_from_slice_get}
 use Rattle.std.proofs.lemmas.List.{length-append, length_push, take_all, take-append-le, take-append-drop}
 use Rattle.std.proofs.Math.Seq.{take-suc}
+use Rattle.step_buffers.specs.declared.dues.Due.{Due}
+use Rattle.step_buffers.specs.Dues.{due_for}
 use Rattle.step_buffers.specs.declared.replays.ReplayError.{ReplayError}
 use Rattle.step_buffers.specs.declared.replays.ReplayError.TheVariants.{NotARun, Memory}
 use Rattle.step_buffers.specs.Replays.{IsReplayRefusal}
@@ -106,15 +108,55 @@ made-all steps made first h = elim (slice_get_cases steps (length made)).1 [
     none : slice_get steps (length made) ≡ None
     none = let e : length made + 1 ≡ suc (length made) = omega arith in subst (λ k. step_at steps k ≡ None) e h
 
+-- a step that isn't due is refused, and what was due is told
+pub IsReplayRefusal-off : (c : Setup) (steps : List Step) (x : Step) (n : ℕ) (due : Due) → IsRun c steps → n ≡ length steps + 1 → ¬ IsRun c (steps ++ x ∷ [])
+    → due.proc ≡ x.proc → due.what ≡ due_for (next_send c steps x.proc) x.act → IsReplayRefusal c (steps ++ x ∷ []) (NotARun n due)
+IsReplayRefusal-off c steps x n due run last off proc what = (
+  record {
+    positive = omega (arith, last);
+    within = (let more : length (steps ++ x ∷ []) ≡ length steps + 1 = length_push steps x in omega (arith, last));
+    before = rw fewer run;
+    off = rw whole off;
+  },
+  record {
+    step = x;
+    at = subst (λ k. step_at (steps ++ x ∷ []) k ≡ Some x) (let e : suc (length steps) ≡ n = omega (arith, last) in e) (step_at_last steps x);
+    proc = proc;
+    what = rw fewer what;
+    undue = λ w due_now. off (IsRun-push c steps x run (rw whole at w) (rw fewer at due_now));
+  },
+)
+  where
+    fewer : take (n - 1) (steps ++ x ∷ []) ≡ steps
+    fewer =
+        ap (λ k. take k (steps ++ x ∷ [])) (let e : n - 1 ≡ length steps = omega (arith, last) in e)
+        ∙ take-append-le (length steps) steps (x ∷ []) (omega arith)
+        ∙ take_all (length steps) steps (omega arith)
+
+    whole : take n (steps ++ x ∷ []) ≡ steps ++ x ∷ []
+    whole = take_all n (steps ++ x ∷ []) (let more : length (steps ++ x ∷ []) ≡ length steps + 1 = length_push steps x in omega (arith, last))
+
 -- what is refused of the first steps is refused of all
 IsReplayRefusal-longer : (c : Setup) (steps more : List Step) (e : ReplayError) → IsReplayRefusal c steps e → IsReplayRefusal c (steps ++ more) e
 IsReplayRefusal-longer c steps more Memory h = tt
-IsReplayRefusal-longer c steps more (NotARun n) h = record {
-  positive = h.positive;
-  within = (let w = h.within in let l : length (steps ++ more) ≡ length steps + length more = length-append steps more in omega arith);
-  before = rw (take-append-le (n - 1) steps more (let w = h.within in omega arith)) h.before;
-  off = rw (take-append-le n steps more h.within) h.off;
-}
+IsReplayRefusal-longer c steps more (NotARun n due) h = (
+  record {
+    positive = h.0.positive;
+    within = (let w = h.0.within in let l : length (steps ++ more) ≡ length steps + length more = length-append steps more in omega arith);
+    before = rw fewer h.0.before;
+    off = rw (take-append-le n steps more h.0.within) h.0.off;
+  },
+  record {
+    step = h.1.step;
+    at = step_at-prefix_old steps more n h.1.step h.1.at;
+    proc = h.1.proc;
+    what = rw fewer h.1.what;
+    undue = rw (fewer, take-append-le n steps more h.0.within) h.1.undue;
+  },
+)
+  where
+    fewer : take (n - 1) (steps ++ more) ≡ take (n - 1) steps
+    fewer = take-append-le (n - 1) steps more (let w = h.0.within in omega arith)
 
 pub IsReplayRefusal-next : (c : Setup) (steps made : List Step) (x : Step) (e : ReplayError) → made ≡ take (length made) steps → step_at steps (length made + 1) ≡ Some x
     → IsReplayRefusal c (made ++ x ∷ []) e → IsReplayRefusal c steps e
@@ -126,7 +168,7 @@ IsReplayRefusal-next c steps made x e first h refused =
 -- a run is refused for want of memory alone
 memory-from_refusal : (c : Setup) (steps : List Step) (e : ReplayError) → IsReplayRefusal c steps e → IsRun c steps → e ≡ Memory
 memory-from_refusal c steps Memory h run = refl
-memory-from_refusal c steps (NotARun n) h run = absurd (h.off (IsRun-prefix c (take n steps) (drop n steps) (rw (take-append-drop n steps) run)))
+memory-from_refusal c steps (NotARun n due) h run = absurd (h.0.off (IsRun-prefix c (take n steps) (drop n steps) (rw (take-append-drop n steps) run)))
 
 pub memory-from_run : {X : Type 0} (c : Setup) (steps : List Step) (r : Result X ReplayError) → IfErr r (λ e. IsReplayRefusal c steps e) → IsRun c steps → IfErr r (λ e. e ≡ Memory)
 memory-from_run c steps (Ok x) h run = tt

@@ -8,4 +8,5 @@ pub mod Inboxes
 pub mod NextSteps
 pub mod Worlds
 pub mod Progress
+pub mod Dues
 pub mod Replays

@@ -6,6 +6,7 @@ use Rattle.step_trace.specs.Traces.{Recorded}
 use Rattle.step_buffers.specs.declared.replays.ReplayError.{ReplayError}
 use Rattle.step_buffers.specs.declared.replays.ReplayError.TheVariants.{NotARun, Memory}
 use Rattle.step_buffers.specs.Runs.{IsRun}
+use Rattle.step_buffers.specs.Dues.{IsDueInstead}
 
 -- Step no is the first of these steps that isn't one of a run: the steps before it are a run, and with it they
 -- are none.
@@ -25,5 +26,5 @@ IsOff old x is = is ≡ false → ¬ IsRun old.config (old.steps ++ x ∷ [])
 
 -- what a refusal says of the steps; want of memory says nothing
 abbrev pub IsReplayRefusal : Setup → List Step → ReplayError → Type 0
-IsReplayRefusal c steps (NotARun n) = IsFirstOff c steps n
+IsReplayRefusal c steps (NotARun n due) = IsFirstOff c steps n × IsDueInstead c steps n due
 IsReplayRefusal c steps Memory = Unit {0}

@@ -5,6 +5,7 @@
 
 mod appends;
 mod copies;
+mod dues;
 mod inboxes;
 mod kept_messages;
 mod laws;
@@ -20,6 +21,7 @@ mod takes;
 mod waiting;
 mod worlds;
 
+pub use dues::{Due, DueStep};
 pub use laws::{refusal_laws, run_laws};
 pub use moves::{Done, Move, StepError, Take};
 pub use replays::{ReplayError, replay};

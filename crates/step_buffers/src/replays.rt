@@ -1,16 +1,19 @@
 //! A World that makes the steps of a given trace.
 
-ghost use Rattle.std.specs.Prelude.{◌≡◌, ◌+◌, ◌<◌, ◌≤◌, ◌++◌, ◌∷◌, [], List, None, true, false, length, option_copied, IfOk, OnOk, IfErr};
+ghost use Rattle.std.specs.Prelude.{◌≡◌, ◌+◌, ◌<◌, ◌≤◌, ◌++◌, ◌∷◌, [], List, None, true, false, length, option_copied, IfOk, OnOk, IfErr, IfSome};
 ghost use Rattle.step_trace.specs.declared.traces.TheConstants.{MAX_STEPS};
 ghost use Rattle.step_trace.specs.declared.steps.Step.{Step as TraceStep};
 ghost use Rattle.step_trace.specs.Steps.{act_sends_to};
 ghost use Rattle.step_trace.specs.Traces.{step_at};
+ghost use Rattle.step_trace.specs.Configurations.{IsProc};
 ghost use Rattle.step_trace.specs.Ticks.{IsOnePerTick};
 ghost use Rattle.step_buffers.specs.Runs.{IsRun};
 ghost use Rattle.step_buffers.specs.Moves.{IsStepRefusal};
 ghost use Rattle.step_buffers.specs.NextSteps.{sending, receiving};
+ghost use Rattle.step_buffers.specs.Dues.{due_for};
 ghost use Rattle.step_buffers.specs.Replays.{IsReplayRefusal, IsMade, IsOff};
 
+use crate::dues::{Due, due_for};
 use crate::moves::{Move, StepError, Take};
 use crate::worlds::World;
 use std::alloc::{AllocError, Global};
@@ -20,8 +23,8 @@ use step_trace::{Act, Config, MAX_STEPS, MessageIds, Step, Trace};
 #[derive(Clone, Copy, Debug, PartialEq, Eq)]
 pub enum ReplayError {
     /// The step of this number is the first that isn't one of a run: the steps before it are a run, and with
-    /// it they are none.
-    NotARun(u64),
+    /// it they are none. The second says what its processor had to do.
+    NotARun(u64, Due),
     /// There was no memory for the World or for one of its steps.
     Memory,
 }
@@ -29,7 +32,7 @@ pub enum ReplayError {
 /// The World that made exactly the steps of this trace, one in each tick, and may make up to 1,000,000 in all.
 /// There is one where the steps are those of a run (section 3 of the 1988 paper); their ticks are not looked at.
 ///
-/// Refuses: `NotARun`, with the number of the first step that isn't a run's; `Memory`, where it lacks for the
+/// Refuses: `NotARun`, with the number of the first step that isn't a run's, and what was due; `Memory`, where it lacks for the
 /// World, or for a step before that one or in place of it. Makes each step once, in the time and memory of
 /// `World::advance`.
 pub fn replay(alloc: Global, trace: &Trace) -> Result<World, ReplayError>
@@ -67,13 +70,15 @@ fn next_step<'a>(world: &World, trace: &'a Trace) -> Option<&'a Step>
     ensures limit { length trace.now.steps ≤ MAX_STEPS }
     ensures run { IsRun world.now.trace.config world.now.trace.steps }
     ensures one_per_tick { IsOnePerTick world.now.trace }
+    ensures proc { IfSome result (λ step. IsProc trace.now.config step.now.proc) }
 {
     trace.step(world.trace().len() as u64 + 1)
 }
 
 /// Makes this step, if it is one that its processor makes next.
 fn follow(alloc: Global, world: &mut World, step: &Step) -> Result<(), ReplayError>
-    requires { length world.old.trace.steps < world.old.limit }
+    requires room { length world.old.trace.steps < world.old.limit }
+    requires proc { IsProc world.old.trace.config step.now.proc }
     ensures made { OnOk result (world.new.trace.steps ≡ world.old.trace.steps ++ step.now ∷ []) }
     ensures config { world.new.trace.config ≡ world.old.trace.config }
     ensures limit { world.new.limit ≡ world.old.limit }
@@ -81,14 +86,26 @@ fn follow(alloc: Global, world: &mut World, step: &Step) -> Result<(), ReplayErr
         IsReplayRefusal world.old.trace.config (world.old.trace.steps ++ step.now ∷ []) e) }
 {
     let no = world.trace().len() as u64 + 1;
+    let next = world.next_destination(step.proc);
     let made = match &step.act {
         Act::Send { to } => follow_send(alloc, world, step.proc, *to),
         Act::Receive { ends, ids } => follow_receive(alloc, world, step.proc, *ends, ids),
     };
     match made {
         Ok(true) => Ok(()),
-        Ok(false) => Err(ReplayError::NotARun(no)),
+        Ok(false) => Err(ReplayError::NotARun(no, due_instead(next, step))),
         Err(_) => Err(ReplayError::Memory),
+    }
+}
+
+/// What the processor of a step had to do in place of it, where `next` is the processor to which it sends next.
+fn due_instead(next: Option<u64>, step: &Step) -> Due
+    ensures proc { result.proc ≡ step.now.proc }
+    ensures what { result.what ≡ due_for next step.now.act }
+{
+    Due {
+        proc: step.proc,
+        what: due_for(next, &step.act),
     }
 }
 

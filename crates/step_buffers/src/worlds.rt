@@ -9,13 +9,13 @@ ghost use Rattle.round_model.specs.RoundStates.{state_after};
 ghost use Rattle.step_buffers.specs.HeardTables.{passed, heard_table};
 ghost use Rattle.step_buffers.specs.Runs.{node_at, IsRun};
 ghost use Rattle.step_buffers.specs.Buffers.{buffer};
-ghost use Rattle.step_buffers.specs.Moves.{step_of, step_refusal, IsStepRefusal};
+ghost use Rattle.step_buffers.specs.Moves.{next_send, step_of, step_refusal, IsStepRefusal};
 ghost use Rattle.step_buffers.specs.NextSteps.{IsNext, IsGrown};
 
 use crate::copies::{copied_letters, copied_processors};
 use crate::letters::Place;
 use crate::moves::{Done, Move, StepError};
-use crate::processors::{Processor, opening_processors};
+use crate::processors::{Processor, next_send, opening_processors};
 use crate::steps::{act_of, make};
 use lock_phases::Node;
 use std::alloc::{AllocError, Global};
@@ -150,6 +150,14 @@ impl World {
         ensures rising { IsStrictlyIncreasing result.now }
     {
         self.processors[(p - 1) as usize].buffer.as_slice()
+    }
+
+    /// Where processor `p` sends next in its round; None where all its messages are out. Asks for a processor.
+    pub fn next_destination(&self, p: u64) -> Option<u64>
+        requires { IsProc self.now.trace.config p }
+        ensures { result ≡ next_send self.now.trace.config self.now.trace.steps p }
+    {
+        next_send(&self.trace, &self.processors[(p - 1) as usize], p)
     }
 
     /// Makes one step of processor `p`: it sends, or takes messages and, if the move says so, ends its round

@@ -9,9 +9,11 @@ ghost use Rattle.step_trace.specs.declared.traces.TheConstants.{MAX_STEPS};
 
 mod inputs;
 mod line_faults;
+mod outputs;
 
-use crate::inputs::open;
+use crate::inputs::Input;
 use crate::line_faults::refused_line;
+use crate::outputs::{Output, stopped};
 use command_faults::{Fault, print, status, tell};
 use command_line::{Job, read_command, refuse_words};
 use node_runs::{follower_for, run_nodes};
@@ -44,7 +46,7 @@ fn run<R: Threads + Wait + Clock + Sync>(rt: &HostRuntime, threads: &R) -> Resul
     let job = read_command(rt.alloc(), words(rt)?).map_err(refused_line)?;
     // (each function takes what the job holds, and lets go of it)
     match job {
-        Job::Report { file, set, workers } => done(report(rt, threads, file, set, workers)),
+        Job::Report { file, set, workers } => report(rt, threads, file, set, workers),
         Job::ReportPart {
             file,
             set,
@@ -52,16 +54,16 @@ fn run<R: Threads + Wait + Clock + Sync>(rt: &HostRuntime, threads: &R) -> Resul
             at,
         } => {
             let part = ReportPart { set, until, at };
-            done(report_part(rt, file, part))
+            report_part(rt, file, part)
         }
-        Job::Replay { file } => done(replay(rt, file)),
+        Job::Replay { file } => replay(rt, file),
         Job::Run {
             config,
             patience,
             steps,
             follow,
-        } => done(run_of(rt, threads, config, patience, steps, follow)),
-        Job::Upgrade { file } => done(upgrade(rt, file)),
+        } => run_of(rt, threads, config, patience, steps, follow),
+        Job::Upgrade { file } => upgrade(rt, file),
         Job::Check {
             file,
             certificate,
@@ -80,7 +82,7 @@ fn run<R: Threads + Wait + Clock + Sync>(rt: &HostRuntime, threads: &R) -> Resul
                 to,
                 names,
             };
-            done(draw(rt, file, drawing))
+            draw(rt, file, drawing)
         }
         Job::Import {
             file,
@@ -88,22 +90,16 @@ fn run<R: Threads + Wait + Clock + Sync>(rt: &HostRuntime, threads: &R) -> Resul
             tick,
             until,
             spread,
-        } => done(import(rt, file, nodes, tick, until, spread)),
-        Job::Help(text) => done(help(rt, text)),
+        } => import(rt, file, nodes, tick, until, spread),
+        Job::Help(text) => help(rt, text),
     }
 }
 
 /// Prints a help text.
-fn help(rt: &HostRuntime, text: String) -> Result<(), Fault> {
-    print(text.as_str(), &mut Counting::new(rt.stdout()))
-}
-
-/// The exit status of a job that has only to be done.
-fn done(job: Result<(), Fault>) -> Result<u8, Fault> {
-    match job {
-        Ok(()) => Ok(0),
-        Err(fault) => Err(fault),
-    }
+fn help(rt: &HostRuntime, text: String) -> Result<u8, Fault> {
+    let mut output = Output::new(rt.stdout());
+    let printed = print(text.as_str(), &mut Counting::new(&mut output));
+    output.ended(printed)
 }
 
 /// The words of the command line.
@@ -130,15 +126,15 @@ fn run_of<T: Threads + Wait + Clock + Sync>(
     patience: u64,
     steps: u64,
     follow: Option<ProcSet>,
-) -> Result<(), Fault>
+) -> Result<u8, Fault>
     requires patience { 1 ≤ patience }
     requires room { config.n * steps ≤ MAX_STEPS }
 {
     let all = config.n() * steps;
     let errors = Counting::new(rt.stderr());
     let mut follower = follower_for(rt.alloc(), &config, follow, all, errors)?;
-    let mut output = Counting::new(rt.stdout());
-    run_nodes(
+    let mut output = Output::new(rt.stdout());
+    let made = run_nodes(
         threads,
         rt.alloc(),
         &config,
@@ -146,8 +142,9 @@ fn run_of<T: Threads + Wait + Clock + Sync>(
         steps,
         &OpenGate,
         &mut follower,
-        &mut output,
-    )
+        &mut Counting::new(&mut output),
+    );
+    output.ended(made)
 }
 
 /// Prints the report of the trace in a file. `threads` starts the threads of the workers.
@@ -157,55 +154,72 @@ fn report<T: Threads + Wait + Sync>(
     file: String,
     set: ProcSet,
     workers: u64,
-) -> Result<(), Fault>
+) -> Result<u8, Fault>
     requires some { 1 ≤ workers }
     requires few { workers ≤ MAX_WORKERS }
 {
-    let mut trace = open(rt, file.as_str())?;
-    let mut output = Counting::new(rt.stdout());
-    run_report(
+    let mut trace = Input::open(rt, file)?;
+    let mut output = Output::new(rt.stdout());
+    let told = run_report(
         threads,
         rt.alloc(),
-        &mut trace,
-        &mut output,
+        &mut Counting::new(&mut trace),
+        &mut Counting::new(&mut output),
         set,
         workers,
         &OpenGate,
-    )
+    );
+    output.ended(told.map_err(|fault| trace.named(fault)))
 }
 
 /// Prints a part of the report of the trace in a file.
-fn report_part(rt: &HostRuntime, file: String, part: ReportPart) -> Result<(), Fault> {
-    let mut trace = open(rt, file.as_str())?;
-    run_report_part(
+fn report_part(rt: &HostRuntime, file: String, part: ReportPart) -> Result<u8, Fault> {
+    let mut trace = Input::open(rt, file)?;
+    let mut output = Output::new(rt.stdout());
+    let told = run_report_part(
         rt.alloc(),
         &part,
-        &mut trace,
-        &mut Counting::new(rt.stdout()),
-    )
+        &mut Counting::new(&mut trace),
+        &mut Counting::new(&mut output),
+    );
+    output.ended(told.map_err(|fault| trace.named(fault)))
 }
 
 /// Prints the replay of the trace in a file.
-fn replay(rt: &HostRuntime, file: String) -> Result<(), Fault> {
-    let mut trace = open(rt, file.as_str())?;
-    run_replay(rt.alloc(), &mut trace, &mut Counting::new(rt.stdout()))
+fn replay(rt: &HostRuntime, file: String) -> Result<u8, Fault> {
+    let mut trace = Input::open(rt, file)?;
+    let mut output = Output::new(rt.stdout());
+    let told = run_replay(
+        rt.alloc(),
+        &mut Counting::new(&mut trace),
+        &mut Counting::new(&mut output),
+    );
+    output.ended(told.map_err(|fault| trace.named(fault)))
 }
 
 /// Prints the version 2 text of the trace in a file.
-fn upgrade(rt: &HostRuntime, file: String) -> Result<(), Fault> {
-    let mut trace = open(rt, file.as_str())?;
-    run_upgrade(rt.alloc(), &mut trace, &mut Counting::new(rt.stdout()))
+fn upgrade(rt: &HostRuntime, file: String) -> Result<u8, Fault> {
+    let mut trace = Input::open(rt, file)?;
+    let mut output = Output::new(rt.stdout());
+    let told = run_upgrade(
+        rt.alloc(),
+        &mut Counting::new(&mut trace),
+        &mut Counting::new(&mut output),
+    );
+    output.ended(told.map_err(|fault| trace.named(fault)))
 }
 
 /// Prints the picture of the trace in a file.
-fn draw(rt: &HostRuntime, file: String, drawing: Drawing) -> Result<(), Fault> {
-    let mut trace = open(rt, file.as_str())?;
-    run_draw(
+fn draw(rt: &HostRuntime, file: String, drawing: Drawing) -> Result<u8, Fault> {
+    let mut trace = Input::open(rt, file)?;
+    let mut output = Output::new(rt.stdout());
+    let drawn = run_draw(
         rt.alloc(),
         &drawing,
-        &mut trace,
-        &mut Counting::new(rt.stdout()),
-    )
+        &mut Counting::new(&mut trace),
+        &mut Counting::new(&mut output),
+    );
+    output.ended(drawn.map_err(|fault| trace.named(fault)))
 }
 
 /// The text, where there is one.
@@ -224,7 +238,7 @@ fn import(
     tick: Option<String>,
     until: Option<String>,
     spread: bool,
-) -> Result<(), Fault> {
+) -> Result<u8, Fault> {
     let options = import_options(
         rt.alloc(),
         text_in(&nodes),
@@ -232,18 +246,35 @@ fn import(
         text_in(&until),
         spread,
     )?;
-    let mut log = open(rt, file.as_str())?;
-    let mut output = Counting::new(rt.stdout());
+    let mut log = Input::open(rt, file)?;
+    let mut output = Output::new(rt.stdout());
     let mut notes = Counting::new(rt.stderr());
-    run_import(rt.alloc(), &options, &mut log, &mut output, &mut notes)
+    let told = run_import(
+        rt.alloc(),
+        &options,
+        &mut Counting::new(&mut log),
+        &mut Counting::new(&mut output),
+        &mut notes,
+    );
+    output.ended(told.map_err(|fault| log.named(fault)))
 }
 
 /// Prints the verdict on the certificate in a file, for the trace in another, and gives its exit status. Both files are
 /// opened before one is read.
 fn check(rt: &HostRuntime, file: String, certificate: String, set: ProcSet) -> Result<u8, Fault> {
-    let mut trace = open(rt, file.as_str())?;
-    let mut claimed = open(rt, certificate.as_str())?;
-    let mut output = Counting::new(rt.stdout());
-    let verdict = run_check(rt.alloc(), &mut trace, &mut claimed, &mut output, set)?;
-    Ok(verdict_status(verdict))
+    let mut trace = Input::open(rt, file)?;
+    let mut claimed = Input::open(rt, certificate)?;
+    let mut output = Output::new(rt.stdout());
+    let judged = run_check(
+        rt.alloc(),
+        &mut Counting::new(&mut trace),
+        &mut Counting::new(&mut claimed),
+        &mut Counting::new(&mut output),
+        set,
+    );
+    match judged {
+        Ok(verdict) => Ok(verdict_status(verdict)),
+        // (a fault that isn't a failed read of the one stays as it is, and is then looked at for the other)
+        Err(fault) => stopped(output.is_closed(), claimed.named(trace.named(fault))),
+    }
 }

@@ -9,9 +9,11 @@ use Rattle.run_picture.specs.declared.windows.Window.{Window}
 use Rattle.run_picture.specs.declared.windows.WindowError.{WindowError}
 use Rattle.run_picture.specs.declared.windows.WindowError.TheVariants as no_window
 use Rattle.run_picture.specs.Marks.{ShowsExactly, ShowsMisses, ShowsGaps}
-use Rattle.run_picture.specs.Names.{AreNames, parts_of}
+use Rattle.run_picture.specs.declared.names.NamesError.{NamesError}
+use Rattle.run_picture.specs.declared.names.NamesError.TheVariants as no_names
+use Rattle.run_picture.specs.Names.{AreNames, IsNamesRefusal, parts_of}
 use Rattle.run_picture.specs.Pictures.{Shows}
-use Rattle.run_picture.specs.Windows.{window_of}
+use Rattle.run_picture.specs.Windows.{IsUnfitWindow, window_of}
 use Rattle.text_commands.specs.declared.drawings.Drawing.{Drawing}
 use Rattle.command_faults.specs.declared.faults.Fault.{Fault}
 use Rattle.command_faults.specs.declared.faults.Fault.TheVariants as fault
@@ -64,8 +66,15 @@ pub record IsDrawingOf (d : Drawing) (text picture : List ℕ) : Type 0 where
 
 -- the option that a window is refused for
 abbrev pub option_of : WindowError → PictureOption
-option_of no_window.BadFrom = option.From
-option_of no_window.BadTo = option.To
+option_of (no_window.BadFrom from last) = option.From from last
+option_of (no_window.BadTo to from) = option.To to from
+
+-- the fault that names are refused with, of so many processors
+abbrev pub names_fault : ℕ → NamesError → Fault
+names_fault count (no_names.WrongCount given) = fault.Picture (option.NameCount given count)
+names_fault count (no_names.BadName place) = fault.Picture (option.BadName place)
+names_fault count (no_names.SameName place) = fault.Picture (option.SameName place)
+names_fault count no_names.Memory = fault.Memory
 
 -- a fault of the window: it is for the option
 abbrev pub IsWindowFault : Drawing → ℕ → Fault → Type 0
@@ -73,22 +82,29 @@ IsWindowFault d last w = (e : WindowError) × (window_for d last ≡ Err e) × (
 
 -- why there are no marks: the window, or want of memory
 abbrev pub IsMarksFault : Drawing → ℕ → Fault → Type 0
-IsMarksFault d last (fault.Picture option.From) = window_for d last ≡ Err no_window.BadFrom
-IsMarksFault d last (fault.Picture option.To) = window_for d last ≡ Err no_window.BadTo
+IsMarksFault d last (fault.Picture (option.From from end)) = window_for d last ≡ Err (no_window.BadFrom from end)
+IsMarksFault d last (fault.Picture (option.To to from)) = window_for d last ≡ Err (no_window.BadTo to from)
 IsMarksFault d last fault.Memory = ⊤
 IsMarksFault d last _ = ⊥
 
--- a fault of the names
+-- the drawing lists names, which are refused so
+abbrev pub are_refused_in : {B : Type 0} → Option (String B) → ℕ → NamesError → Type 0
+are_refused_in None count why = ⊥
+are_refused_in (Some list) count why = IsNamesRefusal count (parts_of (string_bytes list)) why
+
+-- a fault of the names: how many there are of how many processors, or the first that doesn't do
 abbrev pub IsNamesFault : Drawing → ℕ → Fault → Type 0
-IsNamesFault d count (fault.Picture option.Names) = ¬ AreNamesFor d count
+IsNamesFault d count (fault.Picture (option.NameCount given processors)) = (processors ≡ count) × are_refused_in d.names count (no_names.WrongCount given)
+IsNamesFault d count (fault.Picture (option.BadName place)) = are_refused_in d.names count (no_names.BadName place)
+IsNamesFault d count (fault.Picture (option.SameName place)) = are_refused_in d.names count (no_names.SameName place)
 IsNamesFault d count fault.Memory = ⊤
 IsNamesFault d count _ = ⊥
 
 -- why there is no picture of the trace: its names, or else its first tick, or its last one
 abbrev pub IsUndrawnFor : Drawing → Recorded → PictureOption → Type 0
-IsUndrawnFor d t option.Names = ¬ AreNamesFor d t.config.n
-IsUndrawnFor d t option.From = AreNamesFor d t.config.n × (window_for d t.last ≡ Err no_window.BadFrom)
-IsUndrawnFor d t option.To = AreNamesFor d t.config.n × (window_for d t.last ≡ Err no_window.BadTo)
+IsUndrawnFor d t (option.From from last) = AreNamesFor d t.config.n × (window_for d t.last ≡ Err (no_window.BadFrom from last)) × IsUnfitWindow t.last d.from d.to (no_window.BadFrom from last)
+IsUndrawnFor d t (option.To to from) = AreNamesFor d t.config.n × (window_for d t.last ≡ Err (no_window.BadTo to from)) × IsUnfitWindow t.last d.from d.to (no_window.BadTo to from)
+IsUndrawnFor d t o = IsNamesFault d t.config.n (fault.Picture o)
 
 abbrev pub IsUndrawn : Drawing → Recorded → Fault → Type 0
 IsUndrawn d t (fault.Picture o) = IsUndrawnFor d t o

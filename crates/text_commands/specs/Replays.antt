@@ -1,9 +1,11 @@
 -- What the program makes of a trace text in a replay.
-use Rattle.std.specs.Prelude.{ℕ, ◌≡◌, List, true, false}
+use Rattle.std.specs.Prelude.{ℕ, ◌≡◌, List, Some, true, false}
 use Rattle.step_trace.specs.declared.steps.Step.{Step}
 use Rattle.step_trace.specs.Configurations.{Setup}
 use Rattle.step_trace.specs.Traces.{Recorded}
 use Rattle.step_buffers.specs.Runs.{IsRun}
+use Rattle.step_buffers.specs.declared.dues.Due.{Due}
+use Rattle.step_buffers.specs.Dues.{IsDueInstead}
 use Rattle.step_buffers.specs.Replays.{IsFirstOff}
 use Rattle.command_faults.specs.declared.faults.Fault.{Fault}
 use Rattle.command_faults.specs.declared.faults.Fault.TheVariants as fault
@@ -25,11 +27,12 @@ pub record IsReplayOf (text replay : List ℕ) : Type 0 where
   pub run : IsRun trace.config trace.steps
   pub written : replay ≡ replay_text trace.config trace.steps
 
--- The text stands for a trace whose step of this number is the first that is none of a run.
-pub record IsTextOffRun (text : List ℕ) (number : ℕ) : Type 0 where
+-- The text stands for a trace whose step of this number is the first that is none of a run; its processor had to do this.
+pub record IsTextOffRun (text : List ℕ) (number : ℕ) (due : Due) : Type 0 where
   pub trace : Recorded
   pub read : IsTextOf text trace
   pub off : IsFirstOff trace.config trace.steps number
+  pub due : IsDueInstead trace.config trace.steps number due
 
 -- it may refuse a trace that is no run
 abbrev pub replay_kinds : Kinds
@@ -37,7 +40,7 @@ replay_kinds = record { set = false; certificate = false; run = true; threads = 
 
 -- for what the text has no replay, beside the refusals of a trace text: a first step that is none of a run
 abbrev pub IsOffRun : List ℕ → Fault → Type 0
-IsOffRun text (fault.NotARun number) = IsTextOffRun text number
+IsOffRun text (fault.NotARun number (Some due)) = IsTextOffRun text number due
 IsOffRun text _ = ⊥
 
 -- why there is no replay of the text

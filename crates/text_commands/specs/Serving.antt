@@ -31,12 +31,13 @@ IsFaultOf k (fault.Command words) = ⊥
 IsFaultOf k fault.Set = IsTrue k.set
 IsFaultOf k (fault.Trace reason) = (reason ≢ why.Read) × (reason ≢ why.Memory)
 IsFaultOf k (fault.Certificate reason) = IsTrue k.certificate × (reason ≢ uncertified.Read) × (reason ≢ uncertified.Memory)
-IsFaultOf k (fault.NotARun number) = IsTrue k.run
+IsFaultOf k (fault.NotARun number due) = IsTrue k.run
 IsFaultOf k fault.Threads = IsTrue k.threads
 IsFaultOf k (fault.Picture option) = IsTrue k.picture
 IsFaultOf k (fault.Report option) = IsTrue k.part
 IsFaultOf k (fault.Log reason) = IsTrue k.log × (reason ≢ no_log.Memory)
 IsFaultOf k (fault.Import option) = ⊥
+IsFaultOf k (fault.Unread file trouble) = ⊥
 IsFaultOf k _ = ⊤
 
 -- The fault has its cause in the text: the first refusal of a trace text, or what the command alone declines it for, which

@@ -2,7 +2,7 @@
 
 ghost use Rattle.std.specs.Prelude.{◌≡◌, IfErr, IfOk, IsTrue, MatchResult, OnOk, map};
 ghost use Rattle.step_trace.specs.Processors.{IsWithin};
-ghost use Rattle.text_commands.specs.Drawings.{AreNamesFor, IsDrawable, IsDrawingOf, IsMarksFault, IsNamesFault, IsPictureFor, IsUndrawable, IsUndrawn, IsWindowFault, drawing_kinds, names_of_list, window_for};
+ghost use Rattle.text_commands.specs.Drawings.{AreNamesFor, IsDrawable, IsDrawingOf, IsMarksFault, IsNamesFault, IsPictureFor, IsUndrawable, IsUndrawn, IsWindowFault, drawing_kinds, names_fault, names_of_list, option_of, window_for};
 ghost use Rattle.text_commands.specs.Serving.{HasServed, IsAtEnd, IsFaultOf, IsReadFault, IsUnserved, IsWriteFault, WasFaultless, faults_of, inner_of, is_flushed};
 
 use crate::checks::trace_within;
@@ -105,8 +105,29 @@ fn names_for(alloc: Global, drawing: &Drawing, count: u64) -> Result<Vec<&str>, 
     };
     match names_of(alloc, list.as_str(), count) {
         Ok(names) => Ok(names),
-        Err(NamesError::BadNames) => Err(Fault::Picture(PictureOption::Names)),
-        Err(NamesError::Memory) => Err(Fault::Memory),
+        Err(why) => Err(names_fault(why, count)),
+    }
+}
+
+/// The fault of names that aren't so many processors'.
+fn names_fault(why: NamesError, count: u64) -> Fault
+    ensures { result ≡ names_fault count why }
+{
+    match why {
+        NamesError::WrongCount(given) => Fault::Picture(PictureOption::NameCount(given, count)),
+        NamesError::BadName(place) => Fault::Picture(PictureOption::BadName(place)),
+        NamesError::SameName(place) => Fault::Picture(PictureOption::SameName(place)),
+        NamesError::Memory => Fault::Memory,
+    }
+}
+
+/// The option that a window is refused for.
+fn option_of(why: WindowError) -> PictureOption
+    ensures { result ≡ option_of why }
+{
+    match why {
+        WindowError::BadFrom(from, last) => PictureOption::From(from, last),
+        WindowError::BadTo(to, from) => PictureOption::To(to, from),
     }
 }
 
@@ -116,7 +137,6 @@ fn window_for(drawing: &Drawing, last: u64) -> Result<Window, Fault>
 {
     match window_of(last, drawing.from, drawing.to) {
         Ok(window) => Ok(window),
-        Err(WindowError::BadFrom) => Err(Fault::Picture(PictureOption::From)),
-        Err(WindowError::BadTo) => Err(Fault::Picture(PictureOption::To)),
+        Err(why) => Err(Fault::Picture(option_of(why))),
     }
 }

@@ -17,6 +17,7 @@ enum Reason {
     BadTime,
     BadEvent,
     BadNode,
+    Unlisted,
     BadMessage,
     NoEvents,
     TooManyNodes,
@@ -46,7 +47,8 @@ fn refusal_of(alloc: Global, reason: Reason) -> Result<LogError, AllocError> {
         Reason::BadFields => LogError::BadFields(4),
         Reason::BadTime => LogError::BadTime(4),
         Reason::BadEvent => LogError::BadEvent(4),
-        Reason::BadNode => LogError::BadNode(4),
+        Reason::BadNode => LogError::BadNode(4, None),
+        Reason::Unlisted => LogError::BadNode(4, Some(Name::new(alloc, b"c")?)),
         Reason::BadMessage => LogError::BadMessage(4),
         Reason::NoEvents => LogError::NoEvents,
         Reason::TooManyNodes => LogError::TooManyNodes(4),
@@ -72,9 +74,23 @@ const REFUSED: &[(Reason, u8, &str)] = &[
     (Reason::TwoColumns, 3, "synchrony: log: two columns to"),
     (Reason::TooManyEvents, 3, "synchrony: log: too many events"),
     (Reason::BadFields, 3, "synchrony: log: record 4: bad fields"),
-    (Reason::BadTime, 3, "synchrony: log: record 4: bad time"),
+    (
+        Reason::BadTime,
+        3,
+        "synchrony: log: record 4: bad time\nsynchrony: a time is a number, or a time stamp like 2026-11-22T10:00:00.250Z; \
+        all times are of the kind of record 2's",
+    ),
     (Reason::BadEvent, 3, "synchrony: log: record 4: bad event"),
-    (Reason::BadNode, 3, "synchrony: log: record 4: bad node"),
+    (
+        Reason::BadNode,
+        3,
+        "synchrony: log: record 4: bad node\nsynchrony: the name of a node is text with no control character, and not empty",
+    ),
+    (
+        Reason::Unlisted,
+        3,
+        "synchrony: log: record 4: bad node\nsynchrony: \"c\" is not among --nodes",
+    ),
     (
         Reason::BadMessage,
         3,

@@ -103,7 +103,14 @@ const SENT_IN_TICK: &str = "trace: step 2: message 1 was sent in this tick";
 
 const NO_PROCESSOR: &str = "no such processor in --correct";
 
-const BAD_HEADER: &str = "certificate: bad header";
+const BAD_HEADER: &str =
+    "certificate: bad header\nsynchrony: a certificate begins with gst,delta,phi,sent,missed,proc,from,to; \
+    the trace comes before it";
+
+const NOT_TO_2: &str = "not a run: step 1\nsynchrony: processor 1 had to send to processor 1";
+
+const NOT_TWICE: &str =
+    "not a run: step 3\nsynchrony: processor 1 had to receive: it had nothing left to send in its round";
 
 const HALF_WITNESS: &str = "certificate: row 1: half a witness";
 
@@ -120,8 +127,8 @@ const REFUSED: &[(Command, &str, u8, &str)] = &[
     (Part("1", None, Some(0)), ONE_MISS, 2, "bad --at"),
     (Part("1", Some(1), None), NO_STEPS, 2, "bad --until"),
     (Part("1", None, Some(1)), NO_STEPS, 2, "bad --at"),
-    (Replay, ONE_MISS, 7, "not a run: step 1"),
-    (Replay, SENDS_TWICE, 7, "not a run: step 3"),
+    (Replay, ONE_MISS, 7, NOT_TO_2),
+    (Replay, SENDS_TWICE, 7, NOT_TWICE),
     (Replay, REDELIVERED, 3, RECEIVED),
     (Upgrade, REDELIVERED, 3, RECEIVED),
     (Upgrade, SAME_TICK, 3, SENT_IN_TICK),

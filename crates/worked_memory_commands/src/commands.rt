@@ -47,8 +47,8 @@ enum Command {
     /// Of this certificate.
     Check(&'static str),
     Draw,
-    /// Of a log, which tells its nodes; with events that may be spread, or without.
-    Import(bool),
+    /// Of a log, whose nodes are listed so, or which tells its nodes; with events that may be spread, or without.
+    Import(Option<&'static str>, bool),
 }
 
 /// A command with its text, and what it writes where memory is ample: of a picture the end, of a refused log nothing.
@@ -99,8 +99,8 @@ fn ended<T: Threads + Wait + Sync>(
             };
             run_draw(alloc, &drawing, &mut trace, &mut output)
         }
-        Command::Import(spread) => {
-            let options = import_options(alloc, None, Some("1"), Some("15"), spread)?;
+        Command::Import(nodes, spread) => {
+            let options = import_options(alloc, nodes, Some("1"), Some("15"), spread)?;
             let mut notes = Vec::with_capacity(alloc, ROOM)?;
             let mut notes = Counting::new(&mut notes);
             run_import(alloc, &options, &mut trace, &mut output, &mut notes)
@@ -120,7 +120,7 @@ fn writes<T: Threads + Wait + Sync>(
         (Ok(()), Command::Draw) => Ok(output.as_slice().ends_with(served.wanted.as_bytes())),
         (Ok(()), _) => Ok(output.as_slice() == served.wanted.as_bytes()),
         (Err(Fault::Memory), _) | (Err(Fault::Threads), Command::Report(_)) => Err(AllocError),
-        (Err(Fault::Log(_)), Command::Import(_)) => Ok(served.wanted.is_empty()),
+        (Err(Fault::Log(_)), Command::Import(..)) => Ok(served.wanted.is_empty()),
         (Err(_), _) => Ok(false),
     }
 }
@@ -163,9 +163,10 @@ const SERVED: &[(Command, &str, &str)] = &[
     (Command::Replay, DECIDES_SEVEN, DECIDES_SEVEN_REPLAY),
     (Command::Upgrade, ONE_MISS, ONE_MISS_UPGRADE),
     (Command::Draw, ONE_MISS, "</svg>\n"),
-    (Command::Import(false), TWO_NODES, TWO_NODES_IMPORT),
-    (Command::Import(true), TWO_NODES, TWO_NODES_IMPORT),
-    (Command::Import(false), NEVER_SENT, ""),
+    (Command::Import(None, false), TWO_NODES, TWO_NODES_IMPORT),
+    (Command::Import(None, true), TWO_NODES, TWO_NODES_IMPORT),
+    (Command::Import(None, false), NEVER_SENT, ""),
+    (Command::Import(Some("b,c"), false), TWO_NODES, ""),
     (
         Command::Check(NEVER_DELIVERED_REPORT),
         NEVER_DELIVERED,

@@ -1,9 +1,10 @@
 //! The lines in which faults are told, and the texts that they have.
 
-use command_faults::{Fault, told_line};
+use command_faults::{Fault, FileTrouble, PictureOption, told_line};
 use front::ReportError;
 use refused_growths::{Call, Outcome, Refusal, first_wrong, judged};
 use std::alloc::{AllocError, Global};
+use step_buffers::{Due, DueStep};
 use step_trace::PushError;
 use trace_text::TextError;
 
@@ -42,9 +43,14 @@ enum Kind {
     HalfWitness,
     Memory,
     Read,
+    Unread,
     Write,
     NotARun,
+    NotDue,
     Threads,
+    From,
+    To,
+    Names,
 }
 
 fn fault_of(alloc: Global, kind: Kind) -> Result<Fault, AllocError> {
@@ -56,9 +62,23 @@ fn fault_of(alloc: Global, kind: Kind) -> Result<Fault, AllocError> {
         Kind::HalfWitness => Fault::Certificate(ReportError::HalfWitness(2)),
         Kind::Memory => Fault::Memory,
         Kind::Read => Fault::Read,
+        Kind::Unread => Fault::Unread(
+            String::from_str(alloc, "a.trace")?,
+            FileTrouble::PermissionDenied,
+        ),
         Kind::Write => Fault::Write(40),
-        Kind::NotARun => Fault::NotARun(7),
+        Kind::NotARun => Fault::NotARun(0, None),
+        Kind::NotDue => Fault::NotARun(
+            7,
+            Some(Due {
+                proc: 2,
+                what: DueStep::SendFirst(3),
+            }),
+        ),
         Kind::Threads => Fault::Threads,
+        Kind::From => Fault::Picture(PictureOption::From(31, 30)),
+        Kind::To => Fault::Picture(PictureOption::To(5, 10)),
+        Kind::Names => Fault::Picture(PictureOption::NameCount(3, 4)),
     })
 }
 
@@ -76,9 +96,29 @@ const TOLD: &[(Kind, &str)] = &[
     ),
     (Kind::Memory, "synchrony: out of memory"),
     (Kind::Read, "synchrony: cannot read"),
+    (
+        Kind::Unread,
+        "synchrony: cannot read\nsynchrony: a.trace: permission denied",
+    ),
     (Kind::Write, "synchrony: cannot write"),
-    (Kind::NotARun, "synchrony: not a run: step 7"),
+    (Kind::NotARun, "synchrony: not a run: step 0"),
+    (
+        Kind::NotDue,
+        "synchrony: not a run: step 7\nsynchrony: processor 2 had to send to processor 3 before ending its round",
+    ),
     (Kind::Threads, "synchrony: worker not started or held"),
+    (
+        Kind::From,
+        "synchrony: bad --from\nsynchrony: --from is 31, and the trace has ticks 1 to 30",
+    ),
+    (
+        Kind::To,
+        "synchrony: bad --to\nsynchrony: --to is 5, and has to be from 10 to 1009",
+    ),
+    (
+        Kind::Names,
+        "synchrony: bad --names\nsynchrony: --names has 3 names, and the trace has 4 processors",
+    ),
 ];
 
 #[test]

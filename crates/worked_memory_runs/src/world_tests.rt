@@ -34,7 +34,7 @@ impl LentCall for Replays {
     fn is_right(&self, alloc: Global) -> Result<bool, AllocError> {
         match replay(alloc, &self.trace) {
             Ok(world) => Ok(self.off.is_none() && is_same_trace(world.trace(), &self.trace)),
-            Err(ReplayError::NotARun(no)) => Ok(self.off == Some(no)),
+            Err(ReplayError::NotARun(no, _)) => Ok(self.off == Some(no)),
             Err(ReplayError::Memory) => Err(AllocError),
         }
     }

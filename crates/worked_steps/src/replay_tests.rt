@@ -5,7 +5,7 @@ use crate::scripts::{E, R, Row, S, Stand, all_stand, recorded, records};
 use std::alloc::Global;
 use std::process::Abort;
 use std::test::Fail;
-use step_buffers::{Move, ReplayError, StepError, replay};
+use step_buffers::{Due, DueStep, Move, ReplayError, StepError, replay};
 use step_trace::{Act, MAX_STEPS, MessageIds, Step, Trace};
 
 /// Whether a World makes all steps of a trace, and its processors then stand so.
@@ -16,21 +16,29 @@ fn replays(rt: &impl Abort, alloc: Global, trace: &Trace, rows: &[Stand]) -> boo
     }
 }
 
-/// Whether the step of this number is the first of a trace that isn't one of a run.
-fn is_off_at(alloc: Global, trace: &Trace, no: u64) -> bool {
+/// Whether the step of this number is the first of a trace that isn't one of a run, and this was due in place of it.
+fn is_off_at(alloc: Global, trace: &Trace, no: u64, due: Due) -> bool {
     match replay(alloc, trace) {
         Ok(_) => false,
-        Err(why) => why == ReplayError::NotARun(no),
+        Err(why) => why == ReplayError::NotARun(no, due),
     }
 }
 
-/// Whether this step is the first that isn't one of a run, after so many of the script that decides 7.
-fn is_off_after(rt: &impl Abort, alloc: Global, steps: usize, row: Row) -> Result<bool, Fail> {
+/// Whether this step is the first that isn't one of a run, after so many of the script that decides 7, and its processor
+/// had to do this.
+fn is_off_after(
+    rt: &impl Abort,
+    alloc: Global,
+    steps: usize,
+    row: Row,
+    what: DueStep,
+) -> Result<bool, Fail> {
     assert!(rt; steps <= DECIDES_SEVEN.len());
     let mut trace = recorded(rt, alloc, 1, &[5, 7, 7], &[&DECIDES_SEVEN[..steps]])?;
     let last = [row];
     assert!(rt; records(rt, alloc, &mut trace, &last)?);
-    Ok(is_off_at(alloc, &trace, steps as u64 + 1))
+    let due = Due { proc: row.0, what };
+    Ok(is_off_at(alloc, &trace, steps as u64 + 1, due))
 }
 
 /// A run: how many may be faulty and the initial values, its steps, and how its processors then stand.
@@ -78,23 +86,27 @@ const ONE_MISS: [Row; 3] = [
 fn one_miss_is_no_run(rt: HostRuntime) -> Result<(), Fail> {
     let alloc = rt.alloc();
     let trace = recorded(&rt, alloc, 0, &[5, 7], &[&ONE_MISS])?;
-    assert!(rt; is_off_at(alloc, &trace, 1));
+    let due = Due {
+        proc: 1,
+        what: DueStep::SendTo(1),
+    };
+    assert!(rt; is_off_at(alloc, &trace, 1, due));
     Ok(())
 }
 
 /// After so many steps of the script: a destination passed over, a Send of who has nothing to send, and an end while
-/// messages are still to be sent.
-const OFF: &[(usize, Row)] = &[
-    (7, (1, S, 1, [3, 0, 0])),
-    (8, (2, S, 1, [1, 0, 0])),
-    (6, (1, E, 0, [0; 3])),
+/// messages are still to be sent; each with what was due.
+const OFF: &[(usize, Row, DueStep)] = &[
+    (7, (1, S, 1, [3, 0, 0]), DueStep::SendTo(2)),
+    (8, (2, S, 1, [1, 0, 0]), DueStep::Receive),
+    (6, (1, E, 0, [0; 3]), DueStep::SendFirst(1)),
 ];
 
 #[test]
 fn a_later_step_is_no_run(rt: HostRuntime) -> Result<(), Fail> {
-    for &(steps, row) in OFF {
+    for &(steps, row, what) in OFF {
         assert!(rt;
-            is_off_after(&rt, rt.alloc(), steps, row)?,
+            is_off_after(&rt, rt.alloc(), steps, row, what)?,
             "after {steps} steps"
         );
     }

@@ -1,6 +1,6 @@
 use Rattle.std.proofs.Common.{◌<◌, ℕ, map}
 use Rattle.run_picture.specs.Names.{IsName, IsNew, name_at}
-use Rattle.run_picture.proofs.names.are_names.Given as goal
+use Rattle.run_picture.proofs.names.test_names.Given as goal
 
 abbrev pub invariant-loop-i : goal.invariant-loop-i
 invariant-loop-i l = record {

@@ -1,0 +1,67 @@
+-- The lines after that of a fault (docs/FORMATS.md): each begins with a line feed, and where nothing is known there is none.
+use Rattle.std.specs.Prelude.{ℕ, ◌+◌, ◌-◌, ◌^◌, min, List, [], ◌∷◌, ◌++◌, codes, decimal, Option, Some, None, zero, suc}
+use Rattle.trace_text.specs.declared.refusals.TextError.{TextError}
+use Rattle.trace_text.specs.declared.refusals.TextError.TheVariants as why
+use Rattle.front.specs.declared.refusals.ReportError.{ReportError}
+use Rattle.front.specs.declared.refusals.ReportError.TheVariants as uncertified
+use Rattle.step_buffers.specs.declared.dues.Due.{Due}
+use Rattle.step_buffers.specs.declared.dues.DueStep.{DueStep}
+use Rattle.step_buffers.specs.declared.dues.DueStep.TheVariants.{SendTo, SendFirst, Receive}
+use Rattle.command_faults.specs.declared.unread.FileTrouble.{FileTrouble}
+use Rattle.command_faults.specs.declared.unread.FileTrouble.TheVariants as trouble
+use Rattle.command_faults.specs.declared.faults.PictureOption.{PictureOption}
+use Rattle.command_faults.specs.declared.faults.PictureOption.TheVariants as option
+
+-- one more line
+abbrev pub hint : List ℕ → List ℕ
+hint words = 10 ∷ (codes "synchrony: " ++ words)
+
+-- why a file wasn't read
+abbrev pub trouble_words : FileTrouble → List ℕ
+trouble_words trouble.NoSuchFile = codes "no such file"
+trouble_words trouble.PermissionDenied = codes "permission denied"
+trouble_words trouble.IsADirectory = codes "is a directory"
+trouble_words trouble.Unopened = codes "cannot be opened"
+trouble_words trouble.Unread = codes "cannot be read"
+
+-- which file wasn't read, as the command line has it, and why
+abbrev pub file_hint : List ℕ → FileTrouble → List ℕ
+file_hint file trouble = hint (file ++ (codes ": " ++ trouble_words trouble))
+
+-- what a trace begins with, where a text doesn't begin as one
+abbrev pub trace_hint : TextError → List ℕ
+trace_hint why.BadHeader = hint (codes "a trace begins with dls-trace; if this is a log, import makes a trace of it")
+trace_hint e = []
+
+-- likewise of a certificate
+abbrev pub certificate_hint : ReportError → List ℕ
+certificate_hint uncertified.BadHeader = hint (codes "a certificate begins with gst,delta,phi,sent,missed,proc,from,to; the trace comes before it")
+certificate_hint e = []
+
+-- what a processor had to do in place of a step that is none of a run
+abbrev pub due_words : DueStep → List ℕ
+due_words (SendTo to) = codes "send to processor " ++ decimal to
+due_words (SendFirst to) = codes "send to processor " ++ (decimal to ++ codes " before ending its round")
+due_words Receive = codes "receive: it had nothing left to send in its round"
+
+abbrev pub due_hint : Option Due → List ℕ
+due_hint (Some due) = hint (codes "processor " ++ (decimal due.proc ++ (codes " had to " ++ due_words due.what)))
+due_hint None = []
+
+-- how many names there are
+abbrev pub count_words : ℕ → List ℕ
+count_words 1 = codes "1 name"
+count_words many = decimal many ++ codes " names"
+
+-- the ticks of a trace with this last one
+abbrev pub ticks_words : ℕ → List ℕ
+ticks_words 0 = codes "no ticks"
+ticks_words last = codes "ticks 1 to " ++ decimal last
+
+-- what an option of a picture says, and what it has to fit: a last tick is at most 999 after the first one
+abbrev pub picture_hint : PictureOption → List ℕ
+picture_hint (option.NameCount given processors) = hint (codes "--names has " ++ (count_words given ++ (codes ", and the trace has " ++ (decimal processors ++ codes " processors"))))
+picture_hint (option.BadName place) = hint (codes "name " ++ (decimal place ++ codes " of --names has to be 1 to 64 bytes of text with no control character"))
+picture_hint (option.SameName place) = hint (codes "name " ++ (decimal place ++ codes " of --names is the same as an earlier one"))
+picture_hint (option.From from last) = hint (codes "--from is " ++ (decimal from ++ (codes ", and the trace has " ++ ticks_words last)))
+picture_hint (option.To to from) = hint (codes "--to is " ++ (decimal to ++ (codes ", and has to be from " ++ (decimal from ++ (codes " to " ++ decimal (min (from + 999) (2 ^ 64 - 1)))))))

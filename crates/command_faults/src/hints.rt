@@ -1,0 +1,200 @@
+//! The lines after that of a fault: what was wrong with what was given, and what helps. Each begins with a line feed;
+//! where nothing is known there is none.
+
+ghost use Rattle.std.specs.Prelude.{◌≡◌, ◌+◌, ◌-◌, ◌^◌, min};
+
+use crate::faults::PictureOption;
+use crate::unread::FileTrouble;
+use front::ReportError;
+use std::fmt;
+use step_buffers::{Due, DueStep};
+use trace_text::TextError;
+
+/// The file that wasn't read, and why.
+#[derive(Clone, Copy)]
+pub(crate) struct FileHint<'a>(pub(crate) &'a str, pub(crate) FileTrouble);
+
+impl fmt::Display for FileHint<'_> {
+    ghost use Rattle.std.specs.Prelude.{Some};
+    ghost use Rattle.command_faults.specs.Hints.{file_hint};
+
+    ghost output = { λ hint. Some (file_hint hint.0.now hint.1) };
+
+    fn fmt<W: fmt::Write>(&self, f: &mut fmt::Formatter<W>) -> fmt::Result {
+        write!(f, "\nsynchrony: {}: {}", self.0, self.1)
+    }
+}
+
+impl fmt::Display for FileTrouble {
+    ghost use Rattle.std.specs.Prelude.{Some};
+    ghost use Rattle.command_faults.specs.Hints.{trouble_words};
+
+    ghost output = { λ trouble. Some (trouble_words trouble) };
+
+    fn fmt<W: fmt::Write>(&self, f: &mut fmt::Formatter<W>) -> fmt::Result {
+        f.write_str(match self {
+            FileTrouble::NoSuchFile => "no such file",
+            FileTrouble::PermissionDenied => "permission denied",
+            FileTrouble::IsADirectory => "is a directory",
+            FileTrouble::Unopened => "cannot be opened",
+            FileTrouble::Unread => "cannot be read",
+        })
+    }
+}
+
+/// What a trace begins with, where a text doesn't begin as one.
+#[derive(Clone, Copy)]
+pub(crate) struct TraceHint<'a>(pub(crate) &'a TextError);
+
+impl fmt::Display for TraceHint<'_> {
+    ghost use Rattle.std.specs.Prelude.{Some};
+    ghost use Rattle.command_faults.specs.Hints.{trace_hint};
+
+    ghost output = { λ hint. Some (trace_hint hint.0.now) };
+
+    fn fmt<W: fmt::Write>(&self, f: &mut fmt::Formatter<W>) -> fmt::Result {
+        match self.0 {
+            TextError::BadHeader => f.write_str(
+                "\nsynchrony: a trace begins with dls-trace; if this is a log, import makes a trace of it",
+            ),
+            _ => f.write_str(""),
+        }
+    }
+}
+
+/// What a certificate begins with, where a text doesn't begin as one.
+#[derive(Clone, Copy)]
+pub(crate) struct CertificateHint<'a>(pub(crate) &'a ReportError);
+
+impl fmt::Display for CertificateHint<'_> {
+    ghost use Rattle.std.specs.Prelude.{Some};
+    ghost use Rattle.command_faults.specs.Hints.{certificate_hint};
+
+    ghost output = { λ hint. Some (certificate_hint hint.0.now) };
+
+    fn fmt<W: fmt::Write>(&self, f: &mut fmt::Formatter<W>) -> fmt::Result {
+        match self.0 {
+            ReportError::BadHeader => f.write_str(
+                "\nsynchrony: a certificate begins with gst,delta,phi,sent,missed,proc,from,to; the trace comes before it",
+            ),
+            _ => f.write_str(""),
+        }
+    }
+}
+
+/// What a processor had to do in place of a step that is none of a run.
+#[derive(Clone, Copy)]
+pub(crate) struct DueHint(pub(crate) Option<Due>);
+
+impl fmt::Display for DueHint {
+    ghost use Rattle.std.specs.Prelude.{Some};
+    ghost use Rattle.command_faults.specs.Hints.{due_hint};
+
+    ghost output = { λ hint. Some (due_hint hint.0) };
+
+    fn fmt<W: fmt::Write>(&self, f: &mut fmt::Formatter<W>) -> fmt::Result {
+        match self.0 {
+            Some(due) => write!(
+                f,
+                "\nsynchrony: processor {} had to {}",
+                due.proc,
+                DueWords(due.what)
+            ),
+            None => f.write_str(""),
+        }
+    }
+}
+
+/// The same without the processor.
+#[derive(Clone, Copy)]
+struct DueWords(DueStep);
+
+impl fmt::Display for DueWords {
+    ghost use Rattle.std.specs.Prelude.{Some};
+    ghost use Rattle.command_faults.specs.Hints.{due_words};
+
+    ghost output = { λ words. Some (due_words words.0) };
+
+    fn fmt<W: fmt::Write>(&self, f: &mut fmt::Formatter<W>) -> fmt::Result {
+        match self.0 {
+            DueStep::SendTo(to) => write!(f, "send to processor {to}"),
+            DueStep::SendFirst(to) => {
+                write!(f, "send to processor {to} before ending its round")
+            }
+            DueStep::Receive => f.write_str("receive: it had nothing left to send in its round"),
+        }
+    }
+}
+
+/// What an option of a picture says, and what it has to fit.
+#[derive(Clone, Copy)]
+pub(crate) struct PictureHint(pub(crate) PictureOption);
+
+impl fmt::Display for PictureHint {
+    ghost use Rattle.std.specs.Prelude.{Some};
+    ghost use Rattle.command_faults.specs.Hints.{picture_hint};
+
+    ghost output = { λ hint. Some (picture_hint hint.0) };
+
+    fn fmt<W: fmt::Write>(&self, f: &mut fmt::Formatter<W>) -> fmt::Result {
+        match self.0 {
+            PictureOption::NameCount(given, processors) => write!(
+                f,
+                "\nsynchrony: --names has {}, and the trace has {processors} processors",
+                NameCount(given)
+            ),
+            PictureOption::BadName(place) => write!(
+                f,
+                "\nsynchrony: name {place} of --names has to be 1 to 64 bytes of text with no control character"
+            ),
+            PictureOption::SameName(place) => {
+                write!(
+                    f,
+                    "\nsynchrony: name {place} of --names is the same as an earlier one"
+                )
+            }
+            PictureOption::From(from, 0) => {
+                write!(
+                    f,
+                    "\nsynchrony: --from is {from}, and the trace has no ticks"
+                )
+            }
+            PictureOption::From(from, last) => {
+                write!(
+                    f,
+                    "\nsynchrony: --from is {from}, and the trace has ticks 1 to {last}"
+                )
+            }
+            PictureOption::To(to, from) => write!(
+                f,
+                "\nsynchrony: --to is {to}, and has to be from {from} to {}",
+                greatest_to(from)
+            ),
+        }
+    }
+}
+
+/// How many names there are.
+#[derive(Clone, Copy)]
+struct NameCount(u64);
+
+impl fmt::Display for NameCount {
+    ghost use Rattle.std.specs.Prelude.{Some};
+    ghost use Rattle.command_faults.specs.Hints.{count_words};
+
+    ghost output = { λ count. Some (count_words count.0) };
+
+    fn fmt<W: fmt::Write>(&self, f: &mut fmt::Formatter<W>) -> fmt::Result {
+        match self.0 {
+            1 => f.write_str("1 name"),
+            many => write!(f, "{many} names"),
+        }
+    }
+}
+
+/// The greatest last tick of a picture that begins at this one.
+fn greatest_to(from: u64) -> u64
+    ensures { result ≡ min (from + 999) (2 ^ 64 - 1) }
+{
+    from.saturating_add(999)
+}
