@@ -1,5 +1,5 @@
 -- The lines after that of a fault (docs/FORMATS.md): each begins with a line feed, and where nothing is known there is none.
-use Rattle.std.specs.Prelude.{ℕ, ◌+◌, ◌-◌, ◌^◌, min, List, [], ◌∷◌, ◌++◌, codes, decimal, Option, Some, None, zero, suc}
+use Rattle.std.specs.Prelude.{ℕ, ◌+◌, ◌-◌, ◌^◌, min, List, [], ◌∷◌, ◌++◌, codes, decimal, Option, Some, None, ◌==◌, if◌then◌else◌}
 use Rattle.trace_text.specs.declared.refusals.TextError.{TextError}
 use Rattle.trace_text.specs.declared.refusals.TextError.TheVariants as why
 use Rattle.front.specs.declared.refusals.ReportError.{ReportError}
@@ -7,8 +7,8 @@ use Rattle.front.specs.declared.refusals.ReportError.TheVariants as uncertified
 use Rattle.step_buffers.specs.declared.dues.Due.{Due}
 use Rattle.step_buffers.specs.declared.dues.DueStep.{DueStep}
 use Rattle.step_buffers.specs.declared.dues.DueStep.TheVariants.{SendTo, SendFirst, Receive}
-use Rattle.command_faults.specs.declared.unread.FileTrouble.{FileTrouble}
-use Rattle.command_faults.specs.declared.unread.FileTrouble.TheVariants as trouble
+use Rattle.command_faults.specs.declared.files.FileTrouble.{FileTrouble}
+use Rattle.command_faults.specs.declared.files.FileTrouble.TheVariants as trouble
 use Rattle.command_faults.specs.declared.faults.PictureOption.{PictureOption}
 use Rattle.command_faults.specs.declared.faults.PictureOption.TheVariants as option
 
@@ -50,13 +50,11 @@ due_hint None = []
 
 -- how many names there are
 abbrev pub count_words : ℕ → List ℕ
-count_words 1 = codes "1 name"
-count_words many = decimal many ++ codes " names"
+count_words count = if count == 1 then codes "1 name" else decimal count ++ codes " names"
 
 -- the ticks of a trace with this last one
 abbrev pub ticks_words : ℕ → List ℕ
-ticks_words 0 = codes "no ticks"
-ticks_words last = codes "ticks 1 to " ++ decimal last
+ticks_words last = if last == 0 then codes "no ticks" else codes "ticks 1 to " ++ decimal last
 
 -- what an option of a picture says, and what it has to fit: a last tick is at most 999 after the first one
 abbrev pub picture_hint : PictureOption → List ℕ

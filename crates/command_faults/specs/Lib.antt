@@ -1,5 +1,5 @@
 pub mod Faults
-pub mod Unread
+pub mod Files
 pub mod Hints
 pub mod LogFaultLines
 pub mod FaultLines

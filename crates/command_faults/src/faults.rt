@@ -3,7 +3,7 @@
 ghost use Rattle.std.specs.Prelude.{◌≡◌};
 ghost use Rattle.command_faults.specs.Faults.{status_of};
 
-use crate::unread::FileTrouble;
+use crate::files::FileTrouble;
 use event_log::{LogError, OptionError};
 use front::ReportError;
 use std::alloc::AllocError;

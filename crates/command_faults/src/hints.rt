@@ -4,7 +4,7 @@
 ghost use Rattle.std.specs.Prelude.{◌≡◌, ◌+◌, ◌-◌, ◌^◌, min};
 
 use crate::faults::PictureOption;
-use crate::unread::FileTrouble;
+use crate::files::FileTrouble;
 use front::ReportError;
 use std::fmt;
 use step_buffers::{Due, DueStep};
@@ -153,18 +153,11 @@ impl fmt::Display for PictureHint {
                     "\nsynchrony: name {place} of --names is the same as an earlier one"
                 )
             }
-            PictureOption::From(from, 0) => {
-                write!(
-                    f,
-                    "\nsynchrony: --from is {from}, and the trace has no ticks"
-                )
-            }
-            PictureOption::From(from, last) => {
-                write!(
-                    f,
-                    "\nsynchrony: --from is {from}, and the trace has ticks 1 to {last}"
-                )
-            }
+            PictureOption::From(from, last) => write!(
+                f,
+                "\nsynchrony: --from is {from}, and the trace has {}",
+                Ticks(last)
+            ),
             PictureOption::To(to, from) => write!(
                 f,
                 "\nsynchrony: --to is {to}, and has to be from {from} to {}",
@@ -185,9 +178,29 @@ impl fmt::Display for NameCount {
     ghost output = { λ count. Some (count_words count.0) };
 
     fn fmt<W: fmt::Write>(&self, f: &mut fmt::Formatter<W>) -> fmt::Result {
-        match self.0 {
-            1 => f.write_str("1 name"),
-            many => write!(f, "{many} names"),
+        if self.0 == 1 {
+            f.write_str("1 name")
+        } else {
+            write!(f, "{} names", self.0)
+        }
+    }
+}
+
+/// The ticks of a trace with this last one.
+#[derive(Clone, Copy)]
+struct Ticks(u64);
+
+impl fmt::Display for Ticks {
+    ghost use Rattle.std.specs.Prelude.{Some};
+    ghost use Rattle.command_faults.specs.Hints.{ticks_words};
+
+    ghost output = { λ ticks. Some (ticks_words ticks.0) };
+
+    fn fmt<W: fmt::Write>(&self, f: &mut fmt::Formatter<W>) -> fmt::Result {
+        if self.0 == 0 {
+            f.write_str("no ticks")
+        } else {
+            write!(f, "ticks 1 to {}", self.0)
         }
     }
 }

@@ -4,14 +4,14 @@
 
 mod fault_lines;
 mod faults;
+mod files;
 mod hints;
 mod log_fault_lines;
 mod printing;
 mod sets;
-mod unread;
 
 pub use fault_lines::{fault_text, told_line};
 pub use faults::{Fault, ImportOption, PictureOption, ReportOption, status};
+pub use files::{FileTrouble, unopened, unread};
 pub use printing::{print, tell};
 pub use sets::test_set;
-pub use unread::{FileTrouble, unopened, unread};

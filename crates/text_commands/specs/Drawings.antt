@@ -13,7 +13,7 @@ use Rattle.run_picture.specs.declared.names.NamesError.{NamesError}
 use Rattle.run_picture.specs.declared.names.NamesError.TheVariants as no_names
 use Rattle.run_picture.specs.Names.{AreNames, IsNamesRefusal, parts_of}
 use Rattle.run_picture.specs.Pictures.{Shows}
-use Rattle.run_picture.specs.Windows.{IsUnfitWindow, window_of}
+use Rattle.run_picture.specs.Windows.{window_of}
 use Rattle.text_commands.specs.declared.drawings.Drawing.{Drawing}
 use Rattle.command_faults.specs.declared.faults.Fault.{Fault}
 use Rattle.command_faults.specs.declared.faults.Fault.TheVariants as fault
@@ -102,8 +102,8 @@ IsNamesFault d count _ = ⊥
 
 -- why there is no picture of the trace: its names, or else its first tick, or its last one
 abbrev pub IsUndrawnFor : Drawing → Recorded → PictureOption → Type 0
-IsUndrawnFor d t (option.From from last) = AreNamesFor d t.config.n × (window_for d t.last ≡ Err (no_window.BadFrom from last)) × IsUnfitWindow t.last d.from d.to (no_window.BadFrom from last)
-IsUndrawnFor d t (option.To to from) = AreNamesFor d t.config.n × (window_for d t.last ≡ Err (no_window.BadTo to from)) × IsUnfitWindow t.last d.from d.to (no_window.BadTo to from)
+IsUndrawnFor d t (option.From from last) = AreNamesFor d t.config.n × (window_for d t.last ≡ Err (no_window.BadFrom from last))
+IsUndrawnFor d t (option.To to from) = AreNamesFor d t.config.n × (window_for d t.last ≡ Err (no_window.BadTo to from))
 IsUndrawnFor d t o = IsNamesFault d t.config.n (fault.Picture o)
 
 abbrev pub IsUndrawn : Drawing → Recorded → Fault → Type 0

@@ -3,8 +3,8 @@ use Rattle.std.specs.Prelude.{String}
 use Rattle.std.specs.declared.alloc.Global.{Global}
 use Rattle.std.specs.declared.io.ErrorKind.{ErrorKind}
 use Rattle.std.specs.declared.io.ErrorKind.TheVariants.{IsADirectory, NotFound, OutOfMemory, PermissionDenied}
-use Rattle.command_faults.specs.declared.unread.FileTrouble.{FileTrouble}
-use Rattle.command_faults.specs.declared.unread.FileTrouble.TheVariants as trouble
+use Rattle.command_faults.specs.declared.files.FileTrouble.{FileTrouble}
+use Rattle.command_faults.specs.declared.files.FileTrouble.TheVariants as trouble
 use Rattle.command_faults.specs.declared.faults.Fault.{Fault}
 use Rattle.command_faults.specs.declared.faults.Fault.TheVariants as fault
 

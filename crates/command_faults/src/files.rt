@@ -2,7 +2,7 @@
 
 ghost use Rattle.std.specs.Prelude.{◌≡◌};
 ghost use Rattle.std.specs.IoError.{error_kind};
-ghost use Rattle.command_faults.specs.Unread.{fault_of_opening, fault_of_reading, opening_trouble, reading_trouble};
+ghost use Rattle.command_faults.specs.Files.{fault_of_opening, fault_of_reading, opening_trouble, reading_trouble};
 
 use crate::faults::Fault;
 use std::io;
