@@ -1,5 +1,7 @@
 pub mod Processors
+pub mod Members
 pub mod ProcessorLists
+pub mod CorrectSets
 pub mod Configurations
 pub mod KeptIds
 pub mod Steps

@@ -4,6 +4,7 @@
 #![tactic(auto)]
 
 mod configurations;
+mod correct_sets;
 mod cuts;
 mod delivery_index;
 mod differences;
@@ -29,6 +30,7 @@ mod traces;
 mod unchecked_steps;
 
 pub use configurations::{Config, ConfigError, MAX_PROCESSORS, MIN_PROCESSORS};
+pub use correct_sets::Correct;
 pub use gates::{Gate, OpenGate};
 pub use loose_steps::{LooseSteps, StepRefused};
 pub use message_ids::MessageIds;

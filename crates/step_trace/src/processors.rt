@@ -1,6 +1,6 @@
 //! Sets of processors.
 
-ghost use Rattle.std.specs.Prelude.{◌≡◌, ◌≢◌, ℕ, ◌≤◌, ◌↔◌, IsTrue, false};
+ghost use Rattle.std.specs.Prelude.{◌≡◌, ◌≢◌, ℕ, ◌≤◌, ◌↔◌, IsTrue, MatchOption, false};
 
 use std::marker::Model;
 
@@ -24,6 +24,7 @@ impl Model for ProcSet {
 }
 
 impl ProcSet {
+    ghost use Rattle.step_trace.specs.Members.{all_to, IsLeastAbove};
     ghost use Rattle.step_trace.specs.Processors.{has_proc, IsWithin};
 
     /// The set with no processor.
@@ -38,6 +39,21 @@ impl ProcSet {
         ensures { result ≡ mask }
     {
         ProcSet { mask }
+    }
+
+    /// The set of the processors 1 to `n`.
+    pub fn all_to(n: u64) -> Self
+        requires { n ≤ MAX_MEMBER }
+        ensures mask { result ≡ all_to n }
+        ensures members { (p : ℕ) → IsTrue (has_proc result p) ↔ ((1 ≤ p) × (p ≤ n)) }
+    {
+        if n == 0 {
+            // (a shift by 64 would overflow)
+            return ProcSet { mask: 0 };
+        }
+        ProcSet {
+            mask: u64::MAX >> (MAX_MEMBER - n),
+        }
     }
 
     /// The set with one more processor.
@@ -63,11 +79,21 @@ impl ProcSet {
     pub fn within(self, n: u64) -> bool
         ensures { IsTrue result ↔ IsWithin self n }
     {
+        match self.first_above(n) {
+            None => true,
+            Some(_) => false,
+        }
+    }
+
+    /// The least member above `n`, if there is one.
+    pub fn first_above(self, n: u64) -> Option<u64>
+        ensures { MatchOption result (IsWithin self n) (IsLeastAbove self n) }
+    {
         for p in 1..MAX_MEMBER + 1 {
             if p > n && self.contains(p) {
-                return false;
+                return Some(p);
             }
         }
-        true
+        None
     }
 }
