@@ -59,7 +59,7 @@ one_asked rows (Run n t vs p s f) (Run m u ws q r g) e a b = cc (
   b.follow_is,
 )
 one_asked rows (Upgrade f) (Upgrade g) e a b = cc
-one_asked rows (Check f c l) (Check g d m) e a b = cc
+one_asked rows (Check f c l u) (Check g d m v) e a b = cc (one_optional rows _ _ _ u v a.until_is b.until_is)
 one_asked rows (Draw f l u v n) (Draw g m x y k) e a b = cc (one_optional rows _ _ _ u x a.from_is b.from_is, one_optional rows _ _ _ v y a.to_is b.to_is, a.names_is, b.names_is)
 one_asked rows (Import l n t u s) (Import m o v w r) e a b = cc (one_flag rows _ s r a.spread_is b.spread_is, a.nodes_is, b.nodes_is, a.tick_is, b.tick_is, a.until_is, b.until_is)
 one_asked rows a b e _ _ = absurd (apart (command_of a) (command_of b) e refl)
@@ -110,8 +110,8 @@ pub no_run : (rows : List Row) → ((n t : ℕ) (values : Text) (patience steps 
 no_run rows none (Run n t vs p s f) h = none n t vs p s f (rows_below _ rows (Run n t vs p s f) h)
 no_run rows none a h = elsewhere _ rows a h refl
 
-pub no_check : (rows : List Row) → ((file certificate list : Text) → ¬ AreCheckRows rows file certificate list) → NamesNoJob (Some (codes "check", rows))
-no_check rows none (Check f c l) h = none f c l (rows_below _ rows (Check f c l) h)
+pub no_check : (rows : List Row) → ((file certificate list : Text) (until : Option ℕ) → ¬ AreCheckRows rows file certificate list until) → NamesNoJob (Some (codes "check", rows))
+no_check rows none (Check f c l u) h = none f c l u (rows_below _ rows (Check f c l u) h)
 no_check rows none a h = elsewhere _ rows a h refl
 
 pub no_draw : (rows : List Row) → ((file list : Text) (from to : Option ℕ) (names : Option Text) → ¬ AreDrawRows rows file list from to names) → NamesNoJob (Some (codes "draw", rows))
@@ -145,13 +145,13 @@ plain_upgrade name file plain_file = plain_line (shape_of_command (codes "upgrad
     (after_value _ _ file _ _ plain_file refl refl refl refl (at_end _ _)) refl refl refl refl refl
 
 pub plain_check : (name file certificate list : Text) → is_flag file ≡ false → is_flag certificate ≡ false → is_flag list ≡ false
-    → IsPlain (check_line name file certificate list) (Check file certificate list)
+    → IsPlain (check_line name file certificate list) (Check file certificate list None)
 unfolding clap_on_literals
 plain_check name file certificate list plain_file plain_certificate plain_list =
-    plain_line (shape_of_command (codes "check")) (file ∷ certificate ∷ codes "--correct" ∷ list ∷ []) _ (Check file certificate list) _
+    plain_line (shape_of_command (codes "check")) (file ∷ certificate ∷ codes "--correct" ∷ list ∷ []) _ (Check file certificate list None) _
     (after_value _ _ file _ _ plain_file refl refl refl refl (after_value _ _ certificate _ _ plain_certificate refl refl refl refl
     (after_word _ _ _ (codes "--correct") _ _ refl refl (after_value _ _ list _ _ plain_list refl refl refl refl (at_end _ _)))))
-    refl (record { file_is = refl; certificate_is = refl; list_is = refl }) refl refl refl
+    refl (record { file_is = refl; certificate_is = refl; list_is = refl; until_is = refl }) refl refl refl
 
 pub plain_draw : (name file list : Text) → is_flag file ≡ false → is_flag list ≡ false → IsPlain (draw_line name file list) (Draw file list None None None)
 unfolding clap_on_literals

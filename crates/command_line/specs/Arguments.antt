@@ -1,5 +1,5 @@
 -- The arguments that several commands take, what the words of a command line say of them, and why they are refused.
-use Rattle.std.specs.Prelude.{ℕ, ◌≡◌, ◌≢◌, ◌≤◌, ◌-◌, ◌^◌, Bool, false, true, ◌==◌, List, [], ◌∷◌, Option, Some, None, codes, string_bytes, ⊤}
+use Rattle.std.specs.Prelude.{ℕ, ◌≡◌, ◌≤◌, ◌-◌, ◌^◌, ◌++◌, Bool, false, true, ◌==◌, List, [], ◌∷◌, Option, Some, None, codes, string_bytes, ⊤}
 use Rattle.std.specs.Str.Parse.{IsNumeral, digits_value, without_leading_plus}
 use Rattle.clap.specs.Words.{App, Row, Rule, Text, app_of, first_of, new_rule, rule_of}
 use Rattle.clap.specs.declared.builder.Arg.{Arg}
@@ -7,7 +7,8 @@ use Rattle.clap.specs.declared.builder.ArgAction.TheVariants.{Set, SetTrue}
 use Rattle.clap.specs.declared.builder.Command.{Command}
 use Rattle.clap.specs.declared.builder.Command.TheViews.{out-Command}
 use Rattle.clap.specs.declared.builder.value_parser.ValueParser.TheVariants as vp
-use Rattle.step_trace.specs.ProcessorLists.{IsListOf}
+use Rattle.step_trace.specs.declared.correct_sets.Correct.{Correct}
+use Rattle.step_trace.specs.CorrectSets.{IsCorrectIn}
 use Rattle.command_line.specs.declared.line_errors.LineError.{LineError}
 use Rattle.command_line.specs.declared.line_errors.LineError.TheVariants as unread
 
@@ -88,12 +89,25 @@ abbrev pub IsLineFault : LineError → Type 0
 IsLineFault (unread.Refused text) = Unit {0}
 IsLineFault _ = ⊥
 
--- the text is no list of processors
-pub record IsNoList (list : List ℕ) : Type 0 where
-  pub other : list ≢ codes "none"
-  pub unlisted : (numbers : List ℕ) → ¬ IsListOf list numbers
+-- the text names no processors: it is neither `all` nor `none`, and no list
+abbrev pub IsNoList : List ℕ → Type 0
+IsNoList list = (correct : Correct) → ¬ IsCorrectIn list correct
 
--- the refusal of a text that is no list, or want of memory
+-- the words in which the list of this option is refused, with one more line of what it takes
+abbrev pub list_words : Text → List ℕ
+list_words option = codes "synchrony: bad --" ++ (option ++ (10 ∷ (codes "synchrony: --" ++ (option
+    ++ codes " takes all, none, or numbers from 1 to 64 with one comma between them"))))
+
+-- it is told in these words
+abbrev pub TellsList : Text → LineError → Type 0
+TellsList option (unread.Refused text) = string_bytes text ≡ list_words option
+TellsList option _ = ⊥
+
+-- the refusal of a text that is no list, for this option; or want of memory
+abbrev pub IsListFaultOf : Text → List ℕ → LineError → Type 0
+IsListFaultOf option list (unread.Refused text) = (string_bytes text ≡ list_words option) × IsNoList list
+IsListFaultOf option list unread.Memory = Unit {0}
+
+-- the same for --correct
 abbrev pub IsListFault : List ℕ → LineError → Type 0
-IsListFault list (unread.Refused text) = (string_bytes text ≡ codes "synchrony: bad --correct") × IsNoList list
-IsListFault list unread.Memory = Unit {0}
+IsListFault = IsListFaultOf (codes "correct")

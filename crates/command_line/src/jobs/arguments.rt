@@ -2,18 +2,18 @@
 
 ghost use Rattle.std.specs.Prelude.{◌≡◌, ◌≢◌, ◌↔◌, ℕ, List, Option, IfOk, IfErr, IfSome, IfNone, IsTrue, Bool, codes, option_map, string_bytes};
 ghost use Rattle.clap.specs.Words.{first_of, found_of, rows_of};
-ghost use Rattle.step_trace.specs.ProcessorLists.{IsSetIn};
-ghost use Rattle.command_line.specs.Arguments.{HasFlag, HasNumber, HasOptionalNumber, IsArgument, IsLineFault, IsListFault, correct_rule, file_rule, option_rule, optional_rule, positional_rule, tick_rule};
+ghost use Rattle.step_trace.specs.CorrectSets.{IsCorrectIn};
+ghost use Rattle.command_line.specs.Arguments.{HasFlag, HasNumber, HasOptionalNumber, IsArgument, IsLineFault, IsListFaultOf, TellsList, correct_rule, file_rule, option_rule, optional_rule, positional_rule, tick_rule};
 
 use crate::line_errors::LineError;
 use clap::builder::ValueParser;
 use clap::{Arg, ArgAction, ArgMatches};
 use std::alloc::{AllocError, Global};
-use step_trace::ProcSet;
+use step_trace::Correct;
 
 const FILE_HELP: &str = "The trace text; - is standard input";
 
-const CORRECT_HELP: &str = "The correct processors, from 1 to 64: 1,2,5, or none";
+const CORRECT_HELP: &str = "The correct processors, from 1 to 64: 1,2,5, or all, or none";
 
 /// The argument FILE.
 pub fn file_argument<'a>(alloc: Global) -> Arg<'a>
@@ -149,16 +149,25 @@ pub fn kept(alloc: Global, text: Option<&str>) -> Result<Option<String>, AllocEr
     }
 }
 
-/// The set that a list is.
-pub fn set_in(alloc: Global, list: &str) -> Result<ProcSet, LineError>
-    ensures set { IfOk result (IsSetIn list.now) }
-    ensures refused { IfErr result (IsListFault list.now) }
+/// The processors that the list of this option names.
+pub fn correct_in(alloc: Global, option: &str, list: &str) -> Result<Correct, LineError>
+    ensures named { IfOk result (IsCorrectIn list.now) }
+    ensures refused { IfErr result (IsListFaultOf option.now list.now) }
 {
-    let Some(set) = ProcSet::parse_list(list) else {
-        let text = String::from_str(alloc, "synchrony: bad --correct")?;
-        return Err(LineError::Refused(text));
-    };
-    Ok(set)
+    match Correct::parse(list) {
+        Some(correct) => Ok(correct),
+        None => Err(refused_list(alloc, option)?),
+    }
+}
+
+/// The refusal of a list of this option, which says on a second line what the option takes.
+fn refused_list(alloc: Global, option: &str) -> Result<LineError, AllocError>
+    ensures { IfOk result (TellsList option.now) }
+{
+    let words = format!(in alloc;
+        "synchrony: bad --{option}\nsynchrony: --{option} takes all, none, or numbers from 1 to 64 with one comma between them"
+    )?;
+    Ok(LineError::Refused(words))
 }
 
 /// Whether the file of a job is standard input.

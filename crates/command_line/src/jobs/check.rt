@@ -1,6 +1,6 @@
 //! The command `check`: its words and its help text, and the job that they give.
 
-ghost use Rattle.std.specs.Prelude.{◌≡◌, List, ℕ, None, IfOk, IfErr, IfSome, codes};
+ghost use Rattle.std.specs.Prelude.{◌≡◌, List, ℕ, None, Option, IfOk, IfErr, IfSome, codes};
 ghost use Rattle.clap.specs.Words.{found_of, rows_of};
 ghost use Rattle.command_line.specs.Arguments.{IsCommand};
 ghost use Rattle.command_line.specs.Commands.{AreCheckRows, IsCheck, IsFilesFault, check_app};
@@ -8,14 +8,16 @@ ghost use Rattle.command_line.specs.Jobs.{IsAnswerIn};
 
 use crate::jobs::Job;
 use crate::jobs::arguments::{
-    correct_argument, file_argument, names_standard_input, positional_argument, set_in, text,
-    unknown,
+    correct_argument, correct_in, file_argument, names_standard_input, optional_number,
+    positional_argument, text, tick_argument, unknown,
 };
 use crate::line_errors::LineError;
 use clap::{ArgMatches, Command};
 use std::alloc::{AllocError, Global};
 
 const CERTIFICATE_HELP: &str = "The report to check; - is standard input";
+
+const UNTIL_HELP: &str = "Checks it by the trace as if that had ended at this tick";
 
 /// What the words after `check` say.
 #[derive(Clone, Copy)]
@@ -26,10 +28,11 @@ struct CheckWords<'a> {
     certificate: &'a str,
     /// The list of the correct processors.
     list: &'a str,
+    /// The tick up to which the trace is checked.
+    until: Option<u64>,
 }
 
 /// The command `check`, as the command line's reader takes it.
-#[tactic(auto, using(crate::proofs::Shapes::one_argument))]
 pub fn command<'a>(alloc: Global) -> Result<Command<'a>, AllocError>
     ensures { IfOk result (IsCommand check_app) }
 {
@@ -38,7 +41,8 @@ pub fn command<'a>(alloc: Global) -> Result<Command<'a>, AllocError>
         .after_help(help())
         .arg(file_argument(alloc))?
         .arg(positional_argument(alloc, "certificate", "CERT", CERTIFICATE_HELP))?
-        .arg(correct_argument(alloc))
+        .arg(correct_argument(alloc))?
+        .arg(tick_argument(alloc, "until", UNTIL_HELP))
 }
 
 /// The job that the words after `check` ask for.
@@ -56,22 +60,23 @@ pub fn job(alloc: Global, found: &ArgMatches<'_>) -> Result<Job, LineError>
 
 /// What the matches below `check` say, where they have all of it.
 fn words<'a>(found: &ArgMatches<'a>) -> Option<CheckWords<'a>>
-    ensures some { IfSome result (λ w. AreCheckRows (rows_of (found_of found.now)) w.file.now w.certificate.now w.list.now) }
-    ensures none { result ≡ None → (file certificate list : List ℕ) → ¬ AreCheckRows (rows_of (found_of found.now)) file certificate list }
+    ensures some { IfSome result (λ w. AreCheckRows (rows_of (found_of found.now)) w.file.now w.certificate.now w.list.now w.until) }
+    ensures none { result ≡ None → (file certificate list : List ℕ) (until : Option ℕ) → ¬ AreCheckRows (rows_of (found_of found.now)) file certificate list until }
 {
     Some(CheckWords {
         file: text(found, "file")?,
         certificate: text(found, "certificate")?,
         list: text(found, "correct")?,
+        until: optional_number(found, "until", 0, u64::MAX)?,
     })
 }
 
 /// The job of a check with these words.
 fn check(alloc: Global, words: CheckWords<'_>) -> Result<Job, LineError>
-    ensures job { IfOk result (IsCheck words.entry.file.now words.entry.certificate.now words.entry.list.now) }
+    ensures job { IfOk result (IsCheck words.entry.file.now words.entry.certificate.now words.entry.list.now words.entry.until) }
     ensures refused { IfErr result (IsFilesFault words.entry.file.now words.entry.certificate.now words.entry.list.now) }
 {
-    let set = set_in(alloc, words.list)?;
+    let correct = correct_in(alloc, "correct", words.list)?;
     if names_standard_input(words.file) && names_standard_input(words.certificate) {
         let text = String::from_str(alloc, "synchrony: only one file can be -")?;
         return Err(LineError::Refused(text));
@@ -81,7 +86,8 @@ fn check(alloc: Global, words: CheckWords<'_>) -> Result<Job, LineError>
     Ok(Job::Check {
         file,
         certificate,
-        set,
+        correct,
+        until: words.until,
     })
 }
 
@@ -112,11 +118,14 @@ Example, at the top of the repository:
 prints
   yes
 
+--until TICK checks a report that `report --until TICK` made: against the trace
+as if it had ended at that tick.
+
 Exit status:
   0  the verdict is yes, or this text was asked for
   1  the verdict is no
   2  the command line is refused, LIST is no list, or it has a processor above
-     the trace's number of processors
+     the trace's number of processors; the tick of --until is none of the trace
   3  the trace is refused
   4  CERT is refused, which is no text of rows
   5  out of memory

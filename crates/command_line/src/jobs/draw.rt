@@ -8,8 +8,8 @@ ghost use Rattle.command_line.specs.Jobs.{IsAnswerIn};
 
 use crate::jobs::Job;
 use crate::jobs::arguments::{
-    correct_argument, file_argument, kept, optional_argument, optional_number, optional_text,
-    set_in, text, tick_argument, unknown,
+    correct_argument, correct_in, file_argument, kept, optional_argument, optional_number,
+    optional_text, text, tick_argument, unknown,
 };
 use crate::line_errors::LineError;
 use clap::{ArgMatches, Command};
@@ -83,12 +83,12 @@ fn draw(alloc: Global, words: DrawWords<'_>) -> Result<Job, LineError>
     ensures job { IfOk result (IsDraw words.entry.file.now words.entry.list.now words.entry.from words.entry.to (option_map (λ n. n.now) words.entry.names)) }
     ensures refused { IfErr result (IsListFault words.entry.list.now) }
 {
-    let set = set_in(alloc, words.list)?;
+    let correct = correct_in(alloc, "correct", words.list)?;
     let file = String::from_str(alloc, words.file)?;
     let names = kept(alloc, words.names)?;
     Ok(Job::Draw {
         file,
-        set,
+        correct,
         from: words.from,
         to: words.to,
         names,

@@ -8,7 +8,7 @@ ghost use Rattle.command_line.specs.Jobs.{IsAnswerIn};
 
 use crate::jobs::Job;
 use crate::jobs::arguments::{
-    correct_argument, file_argument, number, optional_argument, optional_number, set_in, text,
+    correct_argument, correct_in, file_argument, number, optional_argument, optional_number, text,
     tick_argument, unknown,
 };
 use crate::line_errors::LineError;
@@ -94,17 +94,17 @@ fn report(alloc: Global, words: ReportWords<'_>) -> Result<Job, LineError>
     ensures job { IfOk result (IsReportFor words.entry.file.now words.entry.list.now words.entry.workers words.entry.until words.entry.at) }
     ensures refused { IfErr result (IsListFault words.entry.list.now) }
 {
-    let set = set_in(alloc, words.list)?;
+    let correct = correct_in(alloc, "correct", words.list)?;
     let file = String::from_str(alloc, words.file)?;
     Ok(match (words.until, words.at) {
         (None, None) => Job::Report {
             file,
-            set,
+            correct,
             workers: words.workers,
         },
         (until, at) => Job::ReportPart {
             file,
-            set,
+            correct,
             until,
             at,
         },

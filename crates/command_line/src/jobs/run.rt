@@ -10,14 +10,14 @@ ghost use Rattle.command_line.specs.RunJobs.{AreListed, IsConfigFault, IsConfigO
 
 use crate::jobs::Job;
 use crate::jobs::arguments::{
-    number, option_argument, optional_argument, optional_text, set_in, text, unknown,
+    correct_in, number, option_argument, optional_argument, optional_text, text, unknown,
 };
 use crate::jobs::value_lists::read_values;
 use crate::line_errors::LineError;
 use clap::builder::ValueParser;
 use clap::{Arg, ArgMatches, Command};
 use std::alloc::{AllocError, Global};
-use step_trace::{Config, ConfigError, MAX_STEPS, ProcSet};
+use step_trace::{Config, ConfigError, Correct, MAX_STEPS};
 
 const NODES_HELP: &str = "The number of processors, from 2 to 64";
 
@@ -29,7 +29,8 @@ const PATIENCE_HELP: &str = "Which Receive of a round ends it, from 1 to 1000000
 
 const STEPS_HELP: &str = "The steps that each makes; N * S is at most 1000000";
 
-const FOLLOW_HELP: &str = "Tells of the bounds of these processors meanwhile: 1,2,5, or none";
+const FOLLOW_HELP: &str =
+    "Tells of the bounds of these processors meanwhile: 1,2,5, or all, or none";
 
 /// The greatest patience.
 const MAX_PATIENCE: u64 = 1_000_000;
@@ -134,13 +135,13 @@ fn run(alloc: Global, words: RunWords<'_>) -> Result<Job, LineError>
     })
 }
 
-/// The set of the processors for which a run is followed, where there is a list of them.
-fn followed(alloc: Global, list: Option<&str>) -> Result<Option<ProcSet>, LineError>
-    ensures set { IfOk result (IsFollowed (option_map (λ text. text.now) list.entry)) }
+/// The processors for which a run is followed, where there is a list of them.
+fn followed(alloc: Global, list: Option<&str>) -> Result<Option<Correct>, LineError>
+    ensures named { IfOk result (IsFollowed (option_map (λ text. text.now) list.entry)) }
     ensures refused { IfErr result (IsFollowFault (option_map (λ text. text.now) list.entry)) }
 {
     match list {
-        Some(list) => Ok(Some(set_in(alloc, list)?)),
+        Some(list) => Ok(Some(correct_in(alloc, "follow", list)?)),
         None => Ok(None),
     }
 }
