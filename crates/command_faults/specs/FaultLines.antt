@@ -6,12 +6,11 @@ use Rattle.command_faults.specs.declared.faults.Fault.{Fault}
 use Rattle.command_faults.specs.declared.faults.Fault.TheVariants as fault
 use Rattle.command_faults.specs.declared.faults.PictureOption.{PictureOption}
 use Rattle.command_faults.specs.declared.faults.PictureOption.TheVariants as option
-use Rattle.command_faults.specs.declared.faults.ReportOption.{ReportOption}
-use Rattle.command_faults.specs.declared.faults.ReportOption.TheVariants as report_option
 use Rattle.command_faults.specs.declared.faults.ImportOption.{ImportOption}
 use Rattle.command_faults.specs.declared.faults.ImportOption.TheVariants as import_option
 use Rattle.command_faults.specs.Hints.{certificate_hint, due_hint, file_hint, picture_hint, trace_hint}
 use Rattle.command_faults.specs.LogFaultLines.{help_line, log_lead}
+use Rattle.command_faults.specs.OutsideLines.{member_line, report_option_words, set_option_words, tick_line}
 
 -- an option of a picture, as the command line has it
 abbrev pub option_words : PictureOption → List ℕ
@@ -20,11 +19,6 @@ option_words (option.BadName place) = codes "--names"
 option_words (option.SameName place) = codes "--names"
 option_words (option.From from last) = codes "--from"
 option_words (option.To to from) = codes "--to"
-
--- an option of a part of a report, likewise
-abbrev pub report_option_words : ReportOption → List ℕ
-report_option_words report_option.Until = codes "--until"
-report_option_words report_option.At = codes "--at"
 
 -- an option of a log, likewise
 abbrev pub import_option_words : ImportOption → List ℕ
@@ -35,7 +29,7 @@ import_option_words import_option.Until = codes "--until"
 -- the line of a fault, with one more where something is known; that of a refused command line is in its reader's words
 abbrev pub fault_line : Fault → List ℕ
 fault_line (fault.Command words) = string_bytes words
-fault_line fault.Set = codes "synchrony: no such processor in --correct"
+fault_line (fault.Set option o) = codes "synchrony: no such processor in " ++ (set_option_words option ++ member_line option o)
 fault_line (fault.Trace reason) = codes "synchrony: trace: " ++ (trace_words reason ++ trace_hint reason)
 fault_line (fault.Certificate reason) = codes "synchrony: certificate: " ++ (certificate_words reason ++ certificate_hint reason)
 fault_line fault.Memory = codes "synchrony: out of memory"
@@ -45,7 +39,7 @@ fault_line (fault.Write written) = codes "synchrony: cannot write"
 fault_line (fault.NotARun number due) = codes "synchrony: not a run: step " ++ (decimal number ++ due_hint due)
 fault_line fault.Threads = codes "synchrony: worker not started or held"
 fault_line (fault.Picture option) = codes "synchrony: bad " ++ (option_words option ++ picture_hint option)
-fault_line (fault.Report option) = codes "synchrony: bad " ++ report_option_words option
+fault_line (fault.Report option o) = codes "synchrony: bad " ++ (report_option_words option ++ tick_line option o)
 fault_line (fault.Log reason) = codes "synchrony: " ++ (log_lead reason ++ (log_error_text reason ++ help_line reason))
 fault_line (fault.Import option) = codes "synchrony: bad " ++ import_option_words option
 

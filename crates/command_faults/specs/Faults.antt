@@ -25,7 +25,7 @@ status_of_log e = 3
 -- the exit status of each fault
 abbrev pub status_of : Fault → ℕ
 status_of (fault.Command text) = 2
-status_of fault.Set = 2
+status_of (fault.Set option o) = 2
 status_of (fault.Trace e) = 3
 status_of (fault.Certificate e) = 4
 status_of fault.Memory = 5
@@ -35,7 +35,7 @@ status_of (fault.Write written) = 6
 status_of (fault.NotARun number due) = 7
 status_of fault.Threads = 8
 status_of (fault.Picture option) = 2
-status_of (fault.Report option) = 2
+status_of (fault.Report option o) = 2
 status_of (fault.Log e) = status_of_log e
 status_of (fault.Import option) = 2
 

@@ -3,9 +3,10 @@
 ghost use Rattle.std.specs.Prelude.{◌≡◌, IfOk, string_bytes};
 ghost use Rattle.command_faults.specs.FaultLines.{fault_line, ended_line};
 
-use crate::faults::{Fault, ImportOption, PictureOption, ReportOption};
+use crate::faults::{Fault, ImportOption, PictureOption};
 use crate::hints::{CertificateHint, DueHint, FileHint, PictureHint, TraceHint};
 use crate::log_fault_lines::{HelpLine, LogLead};
+use crate::outside_lines::{MemberLine, TickLine};
 use std::alloc::{AllocError, Global};
 use std::fmt;
 use text_verdicts::{CertificateWords, TraceWords};
@@ -38,7 +39,10 @@ impl fmt::Display for Fault {
     fn fmt<W: fmt::Write>(&self, f: &mut fmt::Formatter<W>) -> fmt::Result {
         match self {
             Fault::Command(words) => f.write_str(words.as_str()),
-            Fault::Set => f.write_str("synchrony: no such processor in --correct"),
+            Fault::Set(option, outside) => {
+                let line = MemberLine(*option, outside);
+                write!(f, "synchrony: no such processor in {option}{line}")
+            }
             Fault::Trace(why) => {
                 write!(f, "synchrony: trace: {}{}", TraceWords(why), TraceHint(why))
             }
@@ -65,7 +69,9 @@ impl fmt::Display for Fault {
             Fault::Picture(option) => {
                 write!(f, "synchrony: bad {option}{}", PictureHint(*option))
             }
-            Fault::Report(option) => write!(f, "synchrony: bad {option}"),
+            Fault::Report(option, outside) => {
+                write!(f, "synchrony: bad {option}{}", TickLine(*option, outside))
+            }
             Fault::Log(why) => write!(f, "synchrony: {}{why}{}", LogLead(why), HelpLine(why)),
             Fault::Import(option) => write!(f, "synchrony: bad {option}"),
         }
@@ -85,21 +91,6 @@ impl fmt::Display for PictureOption {
             PictureOption::BadName(_) | PictureOption::SameName(_) => f.write_str("--names"),
             PictureOption::From(..) => f.write_str("--from"),
             PictureOption::To(..) => f.write_str("--to"),
-        }
-    }
-}
-
-/// The option, as the command line has it.
-impl fmt::Display for ReportOption {
-    ghost use Rattle.std.specs.Prelude.{Some};
-    ghost use Rattle.command_faults.specs.FaultLines.{report_option_words};
-
-    ghost output = { λ option. Some (report_option_words option) };
-
-    fn fmt<W: fmt::Write>(&self, f: &mut fmt::Formatter<W>) -> fmt::Result {
-        match self {
-            ReportOption::Until => f.write_str("--until"),
-            ReportOption::At => f.write_str("--at"),
         }
     }
 }

@@ -16,8 +16,8 @@ use trace_text::{TextError, WriteError};
 pub enum Fault {
     /// The command line is refused, in these words.
     Command(String),
-    /// The set of correct processors has a member that the trace hasn't.
-    Set,
+    /// The set that this option names has this member, and so many processors are all that there are.
+    Set(SetOption, MemberOutside),
     /// The trace text is refused. `Read` and `Memory` are faults of their own.
     Trace(TextError),
     /// The certificate is refused. `Read` and `Memory` are faults of their own.
@@ -37,12 +37,39 @@ pub enum Fault {
     Threads,
     /// There is no picture of the trace for what this option says.
     Picture(PictureOption),
-    /// The trace hasn't the tick that this option says.
-    Report(ReportOption),
+    /// This option asks for this tick, and the trace has none after this last one.
+    Report(ReportOption, TickOutside),
     /// The log is refused, or an option doesn't fit its times. `Memory` is a fault of its own.
     Log(LogError),
     /// What this option says tells no way to read a log.
     Import(ImportOption),
+}
+
+/// An option that names correct processors.
+#[derive(Clone, Copy, Debug, PartialEq, Eq)]
+pub enum SetOption {
+    /// Those of a trace.
+    Correct,
+    /// Those for which a run is followed.
+    Follow,
+}
+
+/// The least processor that is named and that there isn't, and how many there are.
+#[derive(Clone, Copy, Debug, PartialEq, Eq)]
+pub struct MemberOutside {
+    /// The processor that is named.
+    pub member: u64,
+    /// How many processors there are: their numbers are 1 to this one.
+    pub count: u64,
+}
+
+/// A tick that is asked for and that a trace hasn't, and its last tick, which is 0 where it has none.
+#[derive(Clone, Copy, Debug, PartialEq, Eq)]
+pub struct TickOutside {
+    /// The tick that is asked for.
+    pub tick: u64,
+    /// The last tick of the trace.
+    pub last: u64,
 }
 
 /// An option that a picture is asked for with, and why it doesn't fit the trace.
@@ -60,10 +87,10 @@ pub enum PictureOption {
     To(u64, u64),
 }
 
-/// An option that a part of a report is asked for with.
+/// An option that a part of a report is asked for with, or the check of one.
 #[derive(Clone, Copy, Debug, PartialEq, Eq)]
 pub enum ReportOption {
-    /// The tick up to which the trace is reported.
+    /// The tick up to which the trace is reported, or checked.
     Until,
     /// The tick whose row is printed.
     At,
@@ -177,8 +204,8 @@ pub fn status(fault: &Fault) -> u8
     ensures { result ≡ status_of fault.now }
 {
     match fault {
-        Fault::Command(_) | Fault::Set => 2,
-        Fault::Picture(_) | Fault::Report(_) | Fault::Import(_) => 2,
+        Fault::Command(_) | Fault::Set(_, _) => 2,
+        Fault::Picture(_) | Fault::Report(_, _) | Fault::Import(_) => 2,
         Fault::Log(LogError::TickUnfit | LogError::UntilUnfit) => 2,
         Fault::Trace(_) | Fault::Log(_) => 3,
         Fault::Certificate(_) => 4,

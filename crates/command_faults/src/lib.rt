@@ -7,11 +7,15 @@ mod faults;
 mod files;
 mod hints;
 mod log_fault_lines;
+mod outside_lines;
 mod printing;
 mod sets;
 
 pub use fault_lines::{fault_text, told_line};
-pub use faults::{Fault, ImportOption, PictureOption, ReportOption, status};
+pub use faults::{
+    Fault, ImportOption, MemberOutside, PictureOption, ReportOption, SetOption, TickOutside,
+    status,
+};
 pub use files::{FileTrouble, unopened, unread};
 pub use printing::{print, tell};
-pub use sets::test_set;
+pub use sets::correct_set;

@@ -1,0 +1,108 @@
+//! What the line of a fault says more of a processor or a tick that is asked for, and that a trace or a run hasn't.
+
+ghost use Rattle.std.specs.Prelude.{◌≡◌};
+ghost use Rattle.command_faults.specs.OutsideLines.{whose_words};
+
+use crate::faults::{MemberOutside, ReportOption, SetOption, TickOutside};
+use std::fmt;
+
+/// Which processor is named, and which there are, after a line feed.
+#[derive(Clone, Copy)]
+pub(crate) struct MemberLine<'a>(pub(crate) SetOption, pub(crate) &'a MemberOutside);
+
+impl fmt::Display for MemberLine<'_> {
+    ghost use Rattle.std.specs.Prelude.{Some};
+    ghost use Rattle.command_faults.specs.OutsideLines.{member_line};
+
+    ghost output = { λ line. Some (member_line line.0 line.1.now) };
+
+    fn fmt<W: fmt::Write>(&self, f: &mut fmt::Formatter<W>) -> fmt::Result {
+        write!(
+            f,
+            "\nsynchrony: {} names processor {}, and {} has processors 1 to {}",
+            self.0,
+            self.1.member,
+            whose(self.0),
+            self.1.count
+        )
+    }
+}
+
+/// Whose processors this option names.
+fn whose(option: SetOption) -> &'static str
+    ensures { result.now ≡ whose_words option }
+{
+    match option {
+        SetOption::Correct => "the trace",
+        SetOption::Follow => "the run",
+    }
+}
+
+/// The option, as the command line has it.
+impl fmt::Display for SetOption {
+    ghost use Rattle.std.specs.Prelude.{Some};
+    ghost use Rattle.command_faults.specs.OutsideLines.{set_option_words};
+
+    ghost output = { λ option. Some (set_option_words option) };
+
+    fn fmt<W: fmt::Write>(&self, f: &mut fmt::Formatter<W>) -> fmt::Result {
+        match self {
+            SetOption::Correct => f.write_str("--correct"),
+            SetOption::Follow => f.write_str("--follow"),
+        }
+    }
+}
+
+/// Which tick is asked for, and which there are, after a line feed.
+#[derive(Clone, Copy)]
+pub(crate) struct TickLine<'a>(pub(crate) ReportOption, pub(crate) &'a TickOutside);
+
+impl fmt::Display for TickLine<'_> {
+    ghost use Rattle.std.specs.Prelude.{Some};
+    ghost use Rattle.command_faults.specs.OutsideLines.{tick_line};
+
+    ghost output = { λ line. Some (tick_line line.0 line.1.now) };
+
+    fn fmt<W: fmt::Write>(&self, f: &mut fmt::Formatter<W>) -> fmt::Result {
+        write!(
+            f,
+            "\nsynchrony: {} is {}, and the trace has {}",
+            self.0,
+            self.1.tick,
+            Ticks(self.1.last)
+        )
+    }
+}
+
+/// The ticks of a trace with this last one.
+#[derive(Clone, Copy)]
+struct Ticks(u64);
+
+impl fmt::Display for Ticks {
+    ghost use Rattle.std.specs.Prelude.{Some};
+    ghost use Rattle.command_faults.specs.OutsideLines.{ticks_words};
+
+    ghost output = { λ ticks. Some (ticks_words ticks.0) };
+
+    fn fmt<W: fmt::Write>(&self, f: &mut fmt::Formatter<W>) -> fmt::Result {
+        if self.0 == 0 {
+            return f.write_str("no ticks");
+        }
+        write!(f, "ticks 1 to {}", self.0)
+    }
+}
+
+/// The option, as the command line has it.
+impl fmt::Display for ReportOption {
+    ghost use Rattle.std.specs.Prelude.{Some};
+    ghost use Rattle.command_faults.specs.OutsideLines.{report_option_words};
+
+    ghost output = { λ option. Some (report_option_words option) };
+
+    fn fmt<W: fmt::Write>(&self, f: &mut fmt::Formatter<W>) -> fmt::Result {
+        match self {
+            ReportOption::Until => f.write_str("--until"),
+            ReportOption::At => f.write_str("--at"),
+        }
+    }
+}
