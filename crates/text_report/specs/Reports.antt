@@ -2,6 +2,7 @@
 use Rattle.std.specs.Prelude.{ℕ, List, ⊤}
 use Rattle.text_report.specs.declared.reports.Unreported.{Unreported}
 use Rattle.text_report.specs.declared.reports.Unreported.TheVariants as unreported
+use Rattle.step_trace.specs.declared.correct_sets.Correct.{Correct}
 use Rattle.text_verdicts.specs.Texts.{IsRefusedFor, IsSetOutside}
 
 -- Why a text stands for no trace; want of memory has no cause in it.
@@ -11,6 +12,6 @@ IsUnread text unreported.Set = ⊥
 IsUnread text unreported.Memory = ⊤
 
 -- Why a text has no report.
-abbrev pub IsUnreported : ℕ → List ℕ → Unreported → Type 0
-IsUnreported set text unreported.Set = IsSetOutside set text
-IsUnreported set text why = IsUnread text why
+abbrev pub IsUnreported : Correct → List ℕ → Unreported → Type 0
+IsUnreported correct text unreported.Set = IsSetOutside correct text
+IsUnreported correct text why = IsUnread text why

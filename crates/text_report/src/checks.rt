@@ -5,11 +5,11 @@ ghost use Rattle.text_verdicts.specs.Checks.{IsVerdictOf};
 ghost use Rattle.text_report.specs.Checks.{IsUnchecked};
 ghost use Rattle.text_report.specs.declared.reports.Unreported.{Unreported};
 
-use crate::reports::{Unreported, trace_within};
+use crate::reports::{Unreported, set_of, trace_within};
 use certificate_checker::{Verdict, check_claimed};
 use front::ReportError;
 use std::alloc::{AllocError, Global};
-use step_trace::ProcSet;
+use step_trace::Correct;
 use text_verdicts::certificate_of_text;
 use trace_text::TextError;
 
@@ -63,21 +63,22 @@ impl From<ReportError> for Unchecked {
     }
 }
 
-/// The verdict on the rows of a certificate's text, against the trace that a text stands for, with the members of
-/// `set` as the correct processors.
+/// The verdict on the rows of a certificate's text, against the trace that a text stands for, for these correct
+/// processors.
 ///
-/// Refuses, in this order: Trace with the first refusal of the trace text; Set where a member is above the trace's
-/// number of processors; Certificate with the first refusal of the certificate. Memory may come instead.
+/// Refuses, in this order: Trace with the first refusal of the trace text; Set if a correct processor is above the
+/// trace's number of processors; Certificate with the first refusal of the certificate. Memory may come instead.
 pub fn verdict_of_text(
     alloc: Global,
     text: &[u8],
     certificate: &[u8],
-    set: ProcSet,
+    correct: Correct,
 ) -> Result<Verdict, Unchecked>
-    ensures verdict { IfOk result (IsVerdictOf set text.now certificate.now) }
-    ensures refused { IfErr result (IsUnchecked set text.now certificate.now) }
+    ensures verdict { IfOk result (IsVerdictOf correct text.now certificate.now) }
+    ensures refused { IfErr result (IsUnchecked correct text.now certificate.now) }
 {
-    let trace = trace_within(alloc, text, set)?;
+    let trace = trace_within(alloc, text, &correct)?;
+    let set = set_of(&correct, &trace);
     let rows = certificate_of_text(alloc, certificate, trace.last_tick())?;
     Ok(check_claimed(alloc, &trace, set, &rows)?)
 }

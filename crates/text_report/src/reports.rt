@@ -1,6 +1,7 @@
 //! The report of a trace text.
 
 ghost use Rattle.std.specs.Prelude.{◌≡◌, IfOk, IfErr};
+ghost use Rattle.step_trace.specs.CorrectSets.{named};
 ghost use Rattle.step_trace.specs.Fronts.{IsReport};
 ghost use Rattle.step_trace.specs.Processors.{IsWithin};
 ghost use Rattle.text_verdicts.specs.Reports.{IsReportOf};
@@ -10,7 +11,7 @@ ghost use Rattle.text_verdicts.specs.Texts.{IsTextOf};
 use front::{Report, front, report_text_of};
 use shared_reading::read_trace;
 use std::alloc::{AllocError, Global};
-use step_trace::{ProcSet, Trace};
+use step_trace::{Correct, ProcSet, Trace};
 use suffix_staircase::Stairs;
 use trace_text::TextError;
 
@@ -25,35 +26,46 @@ pub enum Unreported {
     Memory,
 }
 
-/// The text of the report of the trace that a text stands for, with the members of `set` as the correct processors.
+/// The text of the report of the trace that a text stands for, for these correct processors.
 ///
-/// Refuses, in this order: Trace with the first refusal of the text; Set where a member is above the trace's number of
-/// processors. Memory may come instead.
-pub fn report_of_text(alloc: Global, text: &[u8], set: ProcSet) -> Result<Vec<u8>, Unreported>
-    ensures report { IfOk result (λ report. IsReportOf set text.now report.items) }
-    ensures refused { IfErr result (IsUnreported set text.now) }
+/// Refuses, in this order: Trace with the first refusal of the text; Set if a correct processor is above the trace's
+/// number of processors. Memory may come instead.
+pub fn report_of_text(alloc: Global, text: &[u8], correct: Correct) -> Result<Vec<u8>, Unreported>
+    ensures report { IfOk result (λ report. IsReportOf correct text.now report.items) }
+    ensures refused { IfErr result (IsUnreported correct text.now) }
 {
-    let trace = trace_within(alloc, text, set)?;
-    let report = report_of(alloc, &trace, set)?;
+    let trace = trace_within(alloc, text, &correct)?;
+    let report = report_of(alloc, &trace, &correct)?;
     match report_text_of(alloc, report.rows()) {
         Ok(text) => Ok(text),
         Err(AllocError) => Err(Unreported::Memory),
     }
 }
 
-/// The trace that a text stands for, where no member of the set is above its processors.
+/// The trace that a text stands for, which has all correct processors.
 ///
 /// Refuses, in this order: Trace with the first refusal of the text; Set. Memory may come instead.
-pub(crate) fn trace_within(alloc: Global, text: &[u8], set: ProcSet) -> Result<Trace, Unreported>
+pub(crate) fn trace_within(
+    alloc: Global,
+    text: &[u8],
+    correct: &Correct,
+) -> Result<Trace, Unreported>
     ensures read { IfOk result (λ t. IsTextOf text.now t) }
-    ensures within { IfOk result (λ t. IsWithin set t.config.n) }
-    ensures refused { IfErr result (IsUnreported set text.now) }
+    ensures within { IfOk result (λ t. IsWithin (named correct.now t.config.n) t.config.n) }
+    ensures refused { IfErr result (IsUnreported correct.now text.now) }
 {
     let trace = trace_of(alloc, text)?;
-    if !set.within(trace.config().n()) {
+    if !set_of(correct, &trace).within(trace.config().n()) {
         return Err(Unreported::Set);
     }
     Ok(trace)
+}
+
+/// The set of the correct processors of a trace.
+pub(crate) fn set_of(correct: &Correct, trace: &Trace) -> ProcSet
+    ensures { result ≡ named correct.now trace.now.config.n }
+{
+    correct.named(trace.config().n())
 }
 
 /// The trace that a text stands for.
@@ -70,12 +82,13 @@ fn trace_of(alloc: Global, text: &[u8]) -> Result<Trace, Unreported>
     }
 }
 
-/// The report of a trace.
-fn report_of(alloc: Global, trace: &Trace, set: ProcSet) -> Result<Report, Unreported>
-    requires { IsWithin set trace.now.config.n }
-    ensures report { IfOk result (λ r. IsReport set trace.now r.rows) }
+/// The report of a trace, for these correct processors.
+fn report_of(alloc: Global, trace: &Trace, correct: &Correct) -> Result<Report, Unreported>
+    requires { IsWithin (named correct.now trace.now.config.n) trace.now.config.n }
+    ensures report { IfOk result (λ r. IsReport (named correct.now trace.now.config.n) trace.now r.rows) }
     ensures memory { IfErr result (λ why. why ≡ Unreported.Memory) }
 {
+    let set = set_of(correct, trace);
     let Ok(stairs) = Stairs::of_trace(alloc, trace, set) else {
         return Err(Unreported::Memory);
     };

@@ -1,5 +1,7 @@
 -- What a trace text stands for, and why it stands for nothing, or not for what a set is of.
 use Rattle.std.specs.Prelude.{ℕ, ◌≢◌, ◌≤◌, List, length}
+use Rattle.step_trace.specs.declared.correct_sets.Correct.{Correct}
+use Rattle.step_trace.specs.CorrectSets.{named}
 use Rattle.step_trace.specs.Processors.{IsWithin}
 use Rattle.step_trace.specs.Traces.{Recorded}
 use Rattle.trace_text.specs.declared.byte_loops.TheConstants.{MAX_TEXT_BYTES}
@@ -18,14 +20,14 @@ pub record IsTextOf (text : List ℕ) (t : Recorded) : Type 0 where
 abbrev pub IsRefusedFor : List ℕ → TextError → Type 0
 IsRefusedFor text reason = IsFirstRefusal text reason × (reason ≢ why.Read) × (reason ≢ why.Memory)
 
--- The set has a member that the trace of the text hasn't.
-pub record IsSetOutside (set : ℕ) (text : List ℕ) : Type 0 where
+-- The correct processors have a member that the trace of the text hasn't.
+pub record IsSetOutside (correct : Correct) (text : List ℕ) : Type 0 where
   pub trace : Recorded
   pub read : IsTextOf text trace
-  pub outside : ¬ IsWithin set trace.config.n
+  pub outside : ¬ IsWithin (named correct trace.config.n) trace.config.n
 
--- The text stands for a trace, which has all members of the set.
-pub record IsSetInside (set : ℕ) (text : List ℕ) : Type 0 where
+-- The text stands for a trace, which has all correct processors.
+pub record IsSetInside (correct : Correct) (text : List ℕ) : Type 0 where
   pub trace : Recorded
   pub read : IsTextOf text trace
-  pub within : IsWithin set trace.config.n
+  pub within : IsWithin (named correct trace.config.n) trace.config.n
