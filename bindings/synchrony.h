@@ -21,11 +21,14 @@ enum {
     SYNCHRONY_NO_ROOM = 9          /* the answer has *size bytes, more than room */
 };
 
+/* As `correct`: all processors of the trace, however many there are. */
+#define SYNCHRONY_ALL UINT64_MAX
+
 /* The longest text that is read, in bytes. */
 #define SYNCHRONY_MAX_TEXT 67108864
 
 /* Writes the report of a trace text over the first bytes of out, and its length into *size. Processor p counts as
-   correct where bit p - 1 of `correct` is set. */
+   correct if bit p - 1 of `correct` is set; with SYNCHRONY_ALL all of the trace do. */
 uint32_t synchrony_report(uint64_t correct, const uint8_t *text, size_t length, uint8_t *out, size_t room, size_t *size);
 
 /* Checks whether the rows of a certificate are the report of a trace text. Writes the line that tells of it over the

@@ -52,6 +52,9 @@ pub fn set_of(processors: &[u32]) -> u64 {
     })
 }
 
+/// As a set: all processors of the trace, however many there are.
+pub const ALL: u64 = u64::MAX;
+
 /// The report of a trace text, with the processors of the set `correct` as the correct ones: a CSV with a header.
 pub fn report(text: &[u8], correct: u64) -> Result<Vec<u8>, Refusal> {
     // (SAFETY: the slices are apart, and `out` is borrowed by nobody else)

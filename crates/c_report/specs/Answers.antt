@@ -1,5 +1,6 @@
 -- What a caller is answered: what `out` and `size` hold afterwards.
-use Rattle.std.specs.Prelude.{ℕ, ◌≡◌, ◌≢◌, ◌<◌, ◌≤◌, List, length}
+use Rattle.std.specs.Prelude.{ℕ, ◌≡◌, ◌≢◌, ◌<◌, ◌≤◌, List, length, None}
+use Rattle.step_trace.specs.declared.correct_sets.Correct.{Correct}
 use Rattle.certificate_checker.specs.declared.verdicts.Verdict.{Verdict}
 use Rattle.trace_text.specs.declared.refusals.TextError.{TextError}
 use Rattle.front.specs.declared.refusals.ReportError.{ReportError}
@@ -17,14 +18,14 @@ pub record IsToldOf (words old new : List ℕ) (size : ℕ) : Type 0 where
   pub written : new ≡ over words old
 
 -- The report of the text stands in the room, whole.
-pub record IsReported (correct : ℕ) (text old new : List ℕ) (size : ℕ) : Type 0 where
+pub record IsReported (correct : Correct) (text old new : List ℕ) (size : ℕ) : Type 0 where
   pub report : List ℕ
   pub exact : IsReportOf correct text report
   pub fits : length report ≤ length old
   pub told : IsToldOf report old new size
 
 -- The report of the text has `size` bytes, more than there is room for.
-pub record IsTooLong (correct : ℕ) (text : List ℕ) (room size : ℕ) : Type 0 where
+pub record IsTooLong (correct : Correct) (text : List ℕ) (room size : ℕ) : Type 0 where
   pub report : List ℕ
   pub exact : IsReportOf correct text report
   pub sized : size ≡ length report
@@ -37,7 +38,7 @@ pub record IsTraceRefused (text old new : List ℕ) (size : ℕ) : Type 0 where
   pub told : IsToldOf (trace_words reason) old new size
 
 -- The verdict on the certificate has this number, and its line stands in the room, whole.
-pub record IsJudged (correct : ℕ) (text certificate old new : List ℕ) (size answer : ℕ) : Type 0 where
+pub record IsJudged (correct : Correct) (text certificate old new : List ℕ) (size answer : ℕ) : Type 0 where
   pub verdict : Verdict
   pub exact : IsVerdictOf correct text certificate verdict
   pub status : answer ≡ status_of_verdict verdict
@@ -45,16 +46,16 @@ pub record IsJudged (correct : ℕ) (text certificate old new : List ℕ) (size 
   pub told : IsToldOf (told_verdict verdict) old new size
 
 -- The line of the verdict has `size` bytes, more than there is room for.
-pub record IsLineTooLong (correct : ℕ) (text certificate : List ℕ) (room size : ℕ) : Type 0 where
+pub record IsLineTooLong (correct : Correct) (text certificate : List ℕ) (room size : ℕ) : Type 0 where
   pub verdict : Verdict
   pub exact : IsVerdictOf correct text certificate verdict
   pub sized : size ≡ length (told_verdict verdict)
   pub more : room < size
 
 -- The certificate stands for no rows; the room holds its first refusal in words.
-pub record IsCertificateRefused (correct : ℕ) (text certificate old new : List ℕ) (size : ℕ) : Type 0 where
+pub record IsCertificateRefused (correct : Correct) (text certificate old new : List ℕ) (size : ℕ) : Type 0 where
   pub reason : ReportError
-  pub first : IsUncertified correct text certificate reason
+  pub first : IsUncertified correct None text certificate reason
   pub read : reason ≢ why.Read
   pub memory : reason ≢ why.Memory
   pub told : IsToldOf (certificate_words reason) old new size

@@ -1,4 +1,10 @@
-//! What a caller is answered: the exit statuses of the program, and one more number for what no process meets.
+//! What a caller is answered: the exit statuses of the program, and one more number for what no process meets. And which
+//! processors a caller names as correct.
+
+ghost use Rattle.std.specs.Prelude.{◌≡◌};
+ghost use Rattle.c_report.specs.CorrectMasks.{correct_of};
+
+use step_trace::{Correct, ProcSet};
 
 /// The report stands in the caller's room.
 pub const DONE: u32 = 0;
@@ -16,3 +22,16 @@ pub const BAD_CERTIFICATE: u32 = 4;
 pub const NO_MEMORY: u32 = 5;
 /// The answer is longer than the caller's room. No exit status of the program is the same.
 pub const NO_ROOM: u32 = 9;
+
+/// The mask that names all processors of a trace, however many there are.
+pub const ALL: u64 = u64::MAX;
+
+/// The processors that a mask names: all of the trace, or those whose bits are set.
+pub(crate) fn correct_of(mask: u64) -> Correct
+    ensures { result ≡ correct_of mask }
+{
+    if mask == ALL {
+        return Correct::All;
+    }
+    Correct::These(ProcSet::of_mask(mask))
+}

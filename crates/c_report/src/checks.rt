@@ -2,24 +2,26 @@
 
 ghost use Rattle.std.specs.Prelude.{◌≡◌, ◌≢◌, ◌<◌, ◌≤◌, length};
 ghost use Rattle.c_report.specs.Answers.{IsCertificateRefused, IsJudged, IsLineTooLong, IsToldOf, IsTraceRefused};
+ghost use Rattle.c_report.specs.CorrectMasks.{correct_of};
 ghost use Rattle.text_verdicts.specs.RefusalWords as told;
 ghost use Rattle.text_verdicts.specs.Texts.{IsSetOutside};
 ghost use Rattle.text_verdicts.specs.VerdictLines.{status_of_verdict, told_verdict};
 
-use crate::answers::{BAD_CERTIFICATE, BAD_SET, BAD_TRACE, NO, NO_MEMORY, NO_ROOM, YES};
+use crate::answers::{
+    BAD_CERTIFICATE, BAD_SET, BAD_TRACE, NO, NO_MEMORY, NO_ROOM, YES, correct_of,
+};
 use crate::reports::tell_trace;
 use crate::rooms::{put, put_whole};
 use certificate_checker::Verdict;
 use front::ReportError;
 use std::alloc::{AllocError, Global};
-use step_trace::ProcSet;
 use text_report::{Unchecked, verdict_of_text};
 use text_verdicts::{certificate_words, verdict_status, verdict_text};
 
 /// Checks a certificate against a trace text: `YES` where its rows are the trace's report, `NO` where they aren't. The
 /// line of the verdict, with its line feed, is written over the first bytes of `out`, and its length in bytes into
-/// `size`. Processor p counts as correct where bit p - 1 of `correct` is set. What stands behind the line in `out` is as
-/// before.
+/// `size`. Processor p counts as correct if bit p - 1 of `correct` is set; all of the trace do if `correct` is `ALL`. What
+/// stands behind the line in `out` is as before.
 ///
 /// Refuses, in this order: `BAD_TRACE` for a text that stands for no trace; `BAD_SET` where a member of the set is above
 /// the trace's number of processors; `BAD_CERTIFICATE` for a certificate that stands for no rows; `NO_ROOM` where the
@@ -35,17 +37,17 @@ pub extern "C" fn synchrony_check(
     out: &mut [u8],
     size: &mut usize,
 ) -> u32
-    ensures yes { result ≡ YES → IsJudged correct text.now certificate.now out.old out.new size.new result }
-    ensures no { result ≡ NO → IsJudged correct text.now certificate.now out.old out.new size.new result }
-    ensures no_room { result ≡ NO_ROOM → IsLineTooLong correct text.now certificate.now (length out.old) size.new }
-    ensures bad_set { result ≡ BAD_SET → IsSetOutside correct text.now }
+    ensures yes { result ≡ YES → IsJudged (correct_of correct) text.now certificate.now out.old out.new size.new result }
+    ensures no { result ≡ NO → IsJudged (correct_of correct) text.now certificate.now out.old out.new size.new result }
+    ensures no_room { result ≡ NO_ROOM → IsLineTooLong (correct_of correct) text.now certificate.now (length out.old) size.new }
+    ensures bad_set { result ≡ BAD_SET → IsSetOutside (correct_of correct) text.now }
     ensures bad_trace { result ≡ BAD_TRACE → IsTraceRefused text.now out.old out.new size.new }
-    ensures bad_certificate { result ≡ BAD_CERTIFICATE → IsCertificateRefused correct text.now certificate.now out.old out.new size.new }
+    ensures bad_certificate { result ≡ BAD_CERTIFICATE → IsCertificateRefused (correct_of correct) text.now certificate.now out.old out.new size.new }
     ensures memory { result ≢ YES → result ≢ NO → result ≢ NO_ROOM → result ≢ BAD_SET → result ≢ BAD_TRACE → result ≢ BAD_CERTIFICATE → result ≡ NO_MEMORY }
     ensures kept { result ≢ YES → result ≢ NO → result ≢ BAD_TRACE → result ≢ BAD_CERTIFICATE → out.new ≡ out.old }
     ensures no_size { result ≢ YES → result ≢ NO → result ≢ NO_ROOM → result ≢ BAD_TRACE → result ≢ BAD_CERTIFICATE → size.new ≡ size.old }
 {
-    match verdict_of_text(alloc, text, certificate, ProcSet::of_mask(correct)) {
+    match verdict_of_text(alloc, text, certificate, correct_of(correct)) {
         Ok(verdict) => tell_verdict(alloc, verdict, out, size),
         Err(Unchecked::Trace(why)) => tell_trace(alloc, &why, out, size),
         Err(Unchecked::Set) => BAD_SET,

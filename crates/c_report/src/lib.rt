@@ -8,7 +8,7 @@ mod checks;
 mod reports;
 mod rooms;
 
-pub use answers::{BAD_CERTIFICATE, BAD_SET, BAD_TRACE, DONE, NO, NO_MEMORY, NO_ROOM, YES};
+pub use answers::{ALL, BAD_CERTIFICATE, BAD_SET, BAD_TRACE, DONE, NO, NO_MEMORY, NO_ROOM, YES};
 pub use checks::synchrony_check;
 pub use reports::synchrony_report;
 

@@ -2,19 +2,20 @@
 
 ghost use Rattle.std.specs.Prelude.{◌≡◌, ◌≢◌, length};
 ghost use Rattle.c_report.specs.Answers.{IsReported, IsToldOf, IsTooLong, IsTraceRefused};
+ghost use Rattle.c_report.specs.CorrectMasks.{correct_of};
 ghost use Rattle.text_verdicts.specs.RefusalWords as told;
 ghost use Rattle.text_verdicts.specs.Texts.{IsSetOutside};
 
-use crate::answers::{BAD_SET, BAD_TRACE, DONE, NO_MEMORY, NO_ROOM};
+use crate::answers::{BAD_SET, BAD_TRACE, DONE, NO_MEMORY, NO_ROOM, correct_of};
 use crate::rooms::{put, put_whole};
 use std::alloc::{AllocError, Global};
-use step_trace::ProcSet;
 use text_report::{Unreported, report_of_text};
 use text_verdicts::trace_words;
 use trace_text::TextError;
 
 /// Writes the report of a trace text over the first bytes of `out`, and its length in bytes into `size`. Processor p
-/// counts as correct where bit p - 1 of `correct` is set. What stands behind the report in `out` is as before.
+/// counts as correct if bit p - 1 of `correct` is set; all of the trace do if `correct` is `ALL`. What stands behind the
+/// report in `out` is as before.
 ///
 /// Refuses, in this order: `BAD_TRACE` for a text that stands for no trace, and then the words for its first refusal
 /// stand in `out` as far as they fit, and their whole length in `size`; `BAD_SET` where a member of the set is above the
@@ -28,15 +29,15 @@ pub extern "C" fn synchrony_report(
     out: &mut [u8],
     size: &mut usize,
 ) -> u32
-    ensures done { result ≡ DONE → IsReported correct text.now out.old out.new size.new }
-    ensures no_room { result ≡ NO_ROOM → IsTooLong correct text.now (length out.old) size.new }
-    ensures bad_set { result ≡ BAD_SET → IsSetOutside correct text.now }
+    ensures done { result ≡ DONE → IsReported (correct_of correct) text.now out.old out.new size.new }
+    ensures no_room { result ≡ NO_ROOM → IsTooLong (correct_of correct) text.now (length out.old) size.new }
+    ensures bad_set { result ≡ BAD_SET → IsSetOutside (correct_of correct) text.now }
     ensures bad_trace { result ≡ BAD_TRACE → IsTraceRefused text.now out.old out.new size.new }
     ensures memory { result ≢ DONE → result ≢ NO_ROOM → result ≢ BAD_SET → result ≢ BAD_TRACE → result ≡ NO_MEMORY }
     ensures kept { result ≢ DONE → result ≢ BAD_TRACE → out.new ≡ out.old }
     ensures no_size { result ≢ DONE → result ≢ NO_ROOM → result ≢ BAD_TRACE → size.new ≡ size.old }
 {
-    match report_of_text(alloc, text, ProcSet::of_mask(correct)) {
+    match report_of_text(alloc, text, correct_of(correct)) {
         Ok(report) => {
             if put_whole(&report, out, size) {
                 DONE

@@ -1,6 +1,6 @@
 //! Calls as a caller from C makes them. `tests/library` calls the built archive, from C and from others.
 
-use crate::{BAD_SET, BAD_TRACE, DONE, NO, NO_ROOM, YES, synchrony_check, synchrony_report};
+use crate::{ALL, BAD_SET, BAD_TRACE, DONE, NO, NO_ROOM, YES, synchrony_check, synchrony_report};
 use std::test::Fail;
 
 const ONE_MISS: &[u8] = b"dls-trace,1,2,0\ninit,5,7\n1,1,S,2\n2,2,R,\n3,2,R,1\nend,3\n";
@@ -13,6 +13,7 @@ const ITS_REPORT_FOR_NOBODY: &[u8] = b"gst,delta,phi,sent,missed,proc,from,to\n1
 /// A text and a set, how much room there is, and what is answered: its number, and what stands in the room.
 const REPORTS: &[(u64, &[u8], usize, u32, &[u8])] = &[
     (3, ONE_MISS, 83, DONE, ITS_REPORT),
+    (ALL, ONE_MISS, 83, DONE, ITS_REPORT),
     (3, ONE_MISS, 82, NO_ROOM, b""),
     (0, ONE_MISS, 50, DONE, ITS_REPORT_FOR_NOBODY),
     (7, ONE_MISS, 83, BAD_SET, b""),

@@ -1,12 +1,15 @@
 -- What one who follows a run tells of it.
-use Rattle.std.specs.Prelude.{ℕ, ◌≡◌, ◌⊎◌, ◌*◌, ◌-◌, ◌<◌, ◌≤◌, List, All, Option, Some, None, flat_map, take}
+use Rattle.std.specs.Prelude.{ℕ, ◌≡◌, ◌⊎◌, ◌*◌, ◌-◌, ◌<◌, ◌≤◌, List, All, Option, Some, None, flat_map, take, ⊤}
 use Rattle.std.specs.Io.KnownBytes.{Appends}
 use Rattle.step_trace.specs.Configurations.{Setup}
+use Rattle.step_trace.specs.declared.correct_sets.Correct.{Correct}
+use Rattle.step_trace.specs.CorrectSets.{named}
 use Rattle.step_trace.specs.Processors.{IsWithin}
 use Rattle.step_trace.specs.Traces.{Recorded}
 use Rattle.locked_recorder.specs.Prefixes.{IsRunOf}
 use Rattle.command_faults.specs.declared.faults.Fault.{Fault}
-use Rattle.command_faults.specs.declared.faults.Fault.TheVariants as fault
+use Rattle.command_faults.specs.declared.faults.SetOption.TheVariants as option
+use Rattle.command_faults.specs.Outside.{IsSetFault}
 use Rattle.node_runs.specs.declared.standings.Standing.{Standing}
 use Rattle.node_runs.specs.Standings.{IsStanding}
 use Rattle.node_runs.specs.StandingLines.{told_standing, told_stop}
@@ -65,7 +68,12 @@ HasFollowed contents c (Some old) (Some new) =
 abbrev pub IsDue : ℕ → ℕ → ℕ → Type 0
 IsDue all told count = (count < all) × (all ≤ (count - told) * PORTIONS)
 
--- there is a set, with a member above n
-abbrev pub IsSetRefusal : Option ℕ → ℕ → Fault → Type 0
-IsSetRefusal (Some set) n fault.Set = ¬ IsWithin set n
-IsSetRefusal _ n _ = ⊥
+-- the processors for which a run is followed are among n
+abbrev pub AreAmong : Option Correct → ℕ → Type 0
+AreAmong None n = ⊤
+AreAmong (Some correct) n = IsWithin (named correct n) n
+
+-- there are such processors, with one above n
+abbrev pub IsSetRefusal : Option Correct → ℕ → Fault → Type 0
+IsSetRefusal (Some correct) n why = IsSetFault option.Follow (named correct n) n why
+IsSetRefusal None n why = ⊥

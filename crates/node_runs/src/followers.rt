@@ -1,19 +1,19 @@
 //! Who follows a run while its threads step, and tells how synchronous they are so far.
 
-ghost use Rattle.std.specs.Prelude.{◌≡◌, ◌⊎◌, ◌↔◌, ◌-◌, ◌*◌, ◌<◌, length, IfOk, IfErr, IfSome, OnOk, IsTrue, Some, None};
+ghost use Rattle.std.specs.Prelude.{◌≡◌, ◌⊎◌, ◌↔◌, ◌-◌, ◌*◌, ◌<◌, length, IfOk, IfErr, IfSome, OnOk, IsTrue, Some, None, option_map};
 ghost use Rattle.std.specs.Io.KnownBytes.{Appends};
-ghost use Rattle.step_trace.specs.Processors.{IsWithin};
+ghost use Rattle.step_trace.specs.CorrectSets.{named};
 ghost use Rattle.suffix_staircase.specs.Analysis.{AreLevels};
 ghost use Rattle.trace_text.specs.Faults.{inner_of};
 ghost use Rattle.command_faults.specs.Printing.{IsWriteFault};
 ghost use Rattle.node_runs.specs.Standings.{IsStanding};
 ghost use Rattle.node_runs.specs.StandingLines.{told_stop};
-ghost use Rattle.node_runs.specs.Followers.{HasBegun, HasTold, IsDue, IsLine, IsLineOf, IsSetRefusal};
+ghost use Rattle.node_runs.specs.Followers.{AreAmong, HasBegun, HasTold, IsDue, IsLine, IsLineOf, IsSetRefusal};
 
 use crate::standing_lines::{tell_standing, tell_stop};
 use crate::standings::standing_of;
 use chunk_join::{Analyst, FeedError};
-use command_faults::{Fault, test_set};
+use command_faults::{Fault, SetOption, correct_set};
 use locked_recorder::{PrefixError, Recorder, View};
 use std::alloc::{AllocError, Global};
 use std::io::Write;
@@ -21,7 +21,7 @@ use std::sync::Wait;
 use std::sync::atomic::{AtomicBool, Ordering};
 use std::thread;
 use std::time::{Clock, Duration};
-use step_trace::{Config, ProcSet, Trace};
+use step_trace::{Config, Correct, ProcSet, Trace};
 use suffix_staircase::Stairs;
 use trace_text::Counting;
 
@@ -48,25 +48,25 @@ pub struct Follower<W> {
     writer: Counting<W>,
 }
 
-/// Who follows the run of a configuration for a set of processors, in which so many steps are to be made; nobody
-/// where there is no set. Where there is no memory for a follower it tells that, and nobody follows.
+/// Who follows the run of a configuration for these correct processors, in which so many steps are to be made; nobody if
+/// there are none to follow. Where there is no memory for a follower it tells that, and nobody follows.
 ///
-/// Refuses only Set, where a member is above the configuration's number of processors.
+/// Refuses only Set, if a correct processor is above the configuration's number of processors.
 pub fn follower_for<W: Write + Drop>(
     alloc: Global,
     config: &Config,
-    set: Option<ProcSet>,
+    follow: Option<Correct>,
     all: u64,
     writer: Counting<W>,
 ) -> Result<Option<Follower<W>>, Fault>
-    ensures within { OnOk result (IfSome set (λ members. IsWithin members config.now.n)) }
-    ensures set { IfOk result (λ made. IfSome made (λ follower. set ≡ Some follower.analyst.set)) }
-    ensures refused { IfErr result (IsSetRefusal set config.now.n) }
+    ensures within { OnOk result (AreAmong follow config.now.n) }
+    ensures set { IfOk result (λ made. IfSome made (λ follower. option_map (λ correct. named correct config.now.n) follow ≡ Some follower.analyst.set)) }
+    ensures refused { IfErr result (IsSetRefusal follow config.now.n) }
 {
-    let Some(set) = set else {
+    let Some(correct) = follow else {
         return Ok(None);
     };
-    test_set(set, config.n())?;
+    let set = correct_set(SetOption::Follow, correct, config.n())?;
     Ok(started(alloc, config, set, all, writer))
 }
 
