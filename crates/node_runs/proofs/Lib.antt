@@ -1,2 +1,3 @@
 pub mod EvenRuns
 pub mod ToldLines
+pub mod SilentMembers

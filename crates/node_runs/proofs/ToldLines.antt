@@ -14,7 +14,10 @@ use Rattle.command_faults.specs.declared.faults.Fault.{Fault}
 use Rattle.command_faults.specs.declared.faults.Fault.TheVariants as fault
 use Rattle.command_faults.specs.Printing.{IsUnprinted, IsUntold, IsWriteFault}
 use Rattle.node_runs.specs.declared.followers.Follower.{Follower}
-use Rattle.node_runs.specs.Followers.{HasBegun, HasFollowed, HasTold, IsLine, IsLineOf, IsPartOf}
+use Rattle.node_runs.specs.declared.standings.Standing.{Standing}
+use Rattle.node_runs.specs.Standings.{IsStanding}
+use Rattle.node_runs.specs.StandingLines.{told_standing}
+use Rattle.node_runs.specs.Followers.{HasBegun, HasFollowed, HasTold, HasToldOne, IsLine, IsLineOf, IsPartOf, TellsOf}
 
 -- nothing went out
 pub begun_nothing : (Line : List ℕ → Type 0) (line : List ℕ) (x : Option (List ℕ)) → Line line → HasBegun Line x x
@@ -30,6 +33,14 @@ begun Line line contents old new (Ok _) h told part cause =
 begun Line line contents old new (Err (fault.Write n)) h told part cause = record { line = line; line_is = h; count = n; out = part.1 }
 begun Line line contents old new (Err w) h told part cause =
     subst (λ x. HasBegun Line (contents (inner_of old)) (contents (inner_of x))) (sym cause) (begun_nothing Line line (contents (inner_of old)) h)
+
+-- the line of how a trace stands, told whole
+pub told_whole : {T A : Type 0} (set : ℕ) (trace : Recorded) (standing : Option Standing) (contents : T → Option (List ℕ)) (old new : Counting T) (r : Result A Fault) → IsStanding set trace standing
+    → OnOk r (Appends (contents (inner_of old)) (contents (inner_of new)) (told_standing standing))
+    → OnOk r (HasToldOne (TellsOf set trace) (contents (inner_of old)) (contents (inner_of new)))
+told_whole set trace standing contents old new (Ok _) stands told =
+    record { line = told_standing standing; line_is = record { standing = standing; stands = stands; told = refl }; out = told }
+told_whole set trace standing contents old new (Err _) stands told = tt
 
 -- a text that wasn't printed is one that wasn't told
 pub untold : {A : Type 0} (line : List ℕ) (a b : Option (List ℕ)) (r : Result A Fault) → IfErr r (λ why. IsUnprinted why line a b) → IfErr r (λ why. IsUntold why line a b)

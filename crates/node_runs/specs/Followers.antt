@@ -44,6 +44,12 @@ pub record HasBegun (Line : List ℕ → Type 0) (before after : Option (List �
   pub count : ℕ
   pub out : Appends before after (take count line)
 
+-- One such line went out whole.
+pub record HasToldOne (Line : List ℕ → Type 0) (before after : Option (List ℕ)) : Type 0 where
+  pub line : List ℕ
+  pub line_is : Line line
+  pub out : Appends before after line
+
 -- the first bytes of such a line, or all of it
 pub record IsPartOf (Line : List ℕ → Type 0) (part : List ℕ) : Type 0 where
   pub line : List ℕ
@@ -56,6 +62,12 @@ pub record HasTold (Line : List ℕ → Type 0) (before after : Option (List ℕ
   pub parts : List (List ℕ)
   pub each : All (IsPartOf Line) parts
   pub out : Appends before after (flat_map (λ part. part) parts)
+
+-- A line is due as before, and no more is told if it was so before.
+pub record GoesOnAlike {T : Type 0} (old new : Follower T) : Type 0 where
+  pub all : new.all ≡ old.all
+  pub told : new.told ≡ old.told
+  pub is_over : new.is_over ≡ old.is_over
 
 -- whatever the follower told meanwhile, if there is one, are such lines of runs of the configuration, for its set
 abbrev pub HasFollowed : {T : Type 0} → (T → Option (List ℕ)) → Setup → Option (Follower T) → Option (Follower T) → Type 0

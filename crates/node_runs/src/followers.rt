@@ -1,14 +1,15 @@
 //! Who follows a run while its threads step, and tells how synchronous they are so far.
 
-ghost use Rattle.std.specs.Prelude.{◌≡◌, ◌⊎◌, ◌↔◌, ◌-◌, ◌*◌, ◌<◌, length, IfOk, IfErr, IfSome, OnOk, IsTrue, Some, None, option_map};
+ghost use Rattle.std.specs.Prelude.{◌≡◌, ◌⊎◌, ◌↔◌, ◌-◌, ◌*◌, ◌<◌, length, IfOk, IfErr, IfSome, OnOk, IsTrue, Some, None, true, false, option_map};
 ghost use Rattle.std.specs.Io.KnownBytes.{Appends};
 ghost use Rattle.step_trace.specs.CorrectSets.{named};
 ghost use Rattle.suffix_staircase.specs.Analysis.{AreLevels};
+ghost use Rattle.trace_text.specs.ByteLoops.{WasFaultless};
 ghost use Rattle.trace_text.specs.Faults.{inner_of};
 ghost use Rattle.command_faults.specs.Printing.{IsWriteFault};
 ghost use Rattle.node_runs.specs.Standings.{IsStanding};
 ghost use Rattle.node_runs.specs.StandingLines.{told_stop};
-ghost use Rattle.node_runs.specs.Followers.{AreAmong, HasBegun, HasTold, IsDue, IsLine, IsLineOf, IsSetRefusal};
+ghost use Rattle.node_runs.specs.Followers.{AreAmong, GoesOnAlike, HasBegun, HasTold, HasToldOne, IsDue, IsLine, IsLineOf, IsSetRefusal, TellsOf};
 
 use crate::standing_lines::{tell_standing, tell_stop};
 use crate::standings::standing_of;
@@ -130,7 +131,7 @@ impl<W: Write> Follower<W> {
             return;
         }
         match recorder.prefix(rt, alloc, view) {
-            Ok(trace) => self.tell(alloc, &trace),
+            Ok(trace) => self.tell_due(alloc, &trace),
             Err(PrefixError::Memory) => self.stop(),
             // What no prefix extends is no run, which the run's own end tells.
             Err(PrefixError::NotAnExtension { .. }) => self.is_over = true,
@@ -144,11 +145,26 @@ impl<W: Write> Follower<W> {
         count < self.all && count.saturating_sub(self.told).saturating_mul(PORTIONS) >= self.all
     }
 
+    /// Tells how a trace stands, as `tell` does, if a line is due of it: it may have got its last steps since they were counted.
+    fn tell_due(&mut self, alloc: Global, trace: &Trace)
+        ensures set { self.new.analyst.set ≡ self.old.analyst.set }
+        ensures told { HasBegun (IsLineOf self.old.analyst.set trace.now) (W.contents (inner_of self.old.writer)) (W.contents (inner_of self.new.writer)) }
+        ensures due { (IsDue self.old.all self.old.told (length trace.now.steps) → ⊥) → self.new ≡ self.old }
+    {
+        if self.is_due(trace.len() as u64) {
+            self.tell(alloc, trace);
+        }
+    }
+
     /// Tells how a trace stands that extends those that were told of, unless no more is told. Want of memory is told on
     /// a line of its own, and then no more; nor is there more where the writer fails.
     pub(crate) fn tell(&mut self, alloc: Global, trace: &Trace)
         ensures set { self.new.analyst.set ≡ self.old.analyst.set }
         ensures told { HasBegun (IsLineOf self.old.analyst.set trace.now) (W.contents (inner_of self.old.writer)) (W.contents (inner_of self.new.writer)) }
+        ensures over { self.old.is_over ≡ true → self.new ≡ self.old }
+        ensures count { self.old.is_over ≡ false → self.new.told ≡ length trace.now.steps }
+        ensures whole { self.new.is_over ≡ false → HasToldOne (TellsOf self.old.analyst.set trace.now) (W.contents (inner_of self.old.writer)) (W.contents (inner_of self.new.writer)) }
+        ensures faultless { self.new.is_over ≡ false → WasFaultless self.old.writer self.new.writer }
     {
         if self.is_over {
             return;
@@ -169,6 +185,9 @@ impl<W: Write> Follower<W> {
         ensures set { self.new.analyst.set ≡ self.old.analyst.set }
         ensures told { HasBegun (IsLineOf self.old.analyst.set trace.now) (W.contents (inner_of self.old.writer)) (W.contents (inner_of self.new.writer)) }
         ensures cause { IfErr result (IsWriteFault self.old.writer self.new.writer) }
+        ensures whole { OnOk result (HasToldOne (TellsOf self.old.analyst.set trace.now) (W.contents (inner_of self.old.writer)) (W.contents (inner_of self.new.writer))) }
+        ensures faultless { OnOk result (WasFaultless self.old.writer self.new.writer) }
+        ensures alike { GoesOnAlike self.old self.new }
     {
         let stairs = self.stairs(alloc, trace)?;
         tell_standing(alloc, standing_of(&stairs), &mut self.writer)
@@ -181,6 +200,7 @@ impl<W: Write> Follower<W> {
     fn stairs(&mut self, alloc: Global, trace: &Trace) -> Result<Stairs, Fault>
         ensures set { self.new.analyst.set ≡ self.old.analyst.set }
         ensures writer { self.new.writer ≡ self.old.writer }
+        ensures alike { GoesOnAlike self.old self.new }
         ensures stairs { IfOk result (AreLevels self.old.analyst.set trace.now) }
         ensures refused { IfErr result (λ why. (why ≡ Fault.NotARun 0 None) ⊎ (why ≡ Fault.Memory)) }
     {
@@ -210,6 +230,8 @@ impl<W: Write> Follower<W> {
     fn stop(&mut self)
         ensures set { self.new.analyst.set ≡ self.old.analyst.set }
         ensures told { HasBegun (λ line. line ≡ told_stop) (W.contents (inner_of self.old.writer)) (W.contents (inner_of self.new.writer)) }
+        ensures over { self.new.is_over ≡ true }
+        ensures count { self.new.told ≡ self.old.told }
     {
         self.is_over = true;
         // Where the writer fails there is nobody left to tell.

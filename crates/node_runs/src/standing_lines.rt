@@ -70,10 +70,11 @@ impl fmt::Display for StandingLine {
             Some(standing) => {
                 write!(
                     f,
-                    "synchrony: tick {}: {}; {}",
+                    "synchrony: tick {}: {}; {}{}",
                     standing.tick,
                     BoundsWords(standing.whole),
-                    BoundsWords(standing.recent)
+                    BoundsWords(standing.recent),
+                    SilenceWords(standing)
                 )
             }
         }
@@ -96,5 +97,29 @@ impl fmt::Display for BoundsWords {
             "delta {}, phi {} from tick {}",
             self.0.delta, self.0.phi, self.0.from
         )
+    }
+}
+
+/// Who makes no step from the recent tick on, if somebody doesn't.
+#[derive(Clone, Copy)]
+struct SilenceWords(Standing);
+
+impl fmt::Display for SilenceWords {
+    ghost use Rattle.std.specs.Prelude.{Some};
+    ghost use Rattle.node_runs.specs.StandingLines.{silence_words};
+
+    ghost output = { λ words. Some (silence_words words.0.silent words.0.recent.from) };
+
+    fn fmt<W: fmt::Write>(&self, f: &mut fmt::Formatter<W>) -> fmt::Result {
+        match self.0.silent {
+            None => f.write_str(""),
+            Some(member) => {
+                write!(
+                    f,
+                    "; processor {} makes no step since tick {}",
+                    member, self.0.recent.from
+                )
+            }
+        }
     }
 }

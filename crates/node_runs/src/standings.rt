@@ -4,7 +4,7 @@ ghost use Rattle.std.specs.Prelude.{◌≡◌, ◌≤◌, ℕ, length};
 ghost use Rattle.step_trace.specs.Traces.{Recorded};
 ghost use Rattle.step_trace.specs.declared.traces.TheConstants.{MAX_TICKS};
 ghost use Rattle.suffix_staircase.specs.Analysis.{AreLevels};
-ghost use Rattle.node_runs.specs.Standings.{AreLeastBounds, IsStanding, recent_tick};
+ghost use Rattle.node_runs.specs.Standings.{AreLeastBounds, IsStanding, NamesSilent, recent_tick};
 
 use suffix_staircase::Stairs;
 
@@ -29,6 +29,9 @@ pub struct Standing {
     pub whole: LeastBounds,
     /// The bounds from `RECENT_TICKS` before the last tick on, or from tick 1 where there are no more.
     pub recent: LeastBounds,
+    /// The least processor of the set that makes no step from the recent tick on, if there is one: then Φ there only says
+    /// how long it is silent.
+    pub silent: Option<u64>,
 }
 
 /// How the trace stands of which these are the levels; none where it has no tick.
@@ -39,10 +42,12 @@ pub fn standing_of(stairs: &Stairs) -> Option<Standing>
     if last == 0 {
         return None;
     }
+    let since = recent_tick(last);
     Some(Standing {
         tick: last,
         whole: bounds_from(stairs, 1),
-        recent: bounds_from(stairs, recent_tick(last)),
+        recent: bounds_from(stairs, since),
+        silent: silent_since(stairs, since),
     })
 }
 
@@ -72,4 +77,24 @@ fn bounds_from(stairs: &Stairs, from: u64) -> LeastBounds
         phi: level.phi,
         from,
     }
+}
+
+/// The least member that makes no step from a tick on, if there is one: the named gap then goes from there to the end,
+/// since none is longer.
+fn silent_since(stairs: &Stairs, from: u64) -> Option<u64>
+    requires low { 1 ≤ from }
+    requires high { from ≤ length stairs.now }
+    ensures { (set : ℕ) (trace : Recorded) → AreLevels set trace stairs.now → NamesSilent set trace from result }
+{
+    let level = stairs.at(from);
+    let Some(gap) = level.gap else {
+        return None;
+    };
+    if gap.from != from {
+        return None;
+    }
+    if gap.to != stairs.len() as u64 {
+        return None;
+    }
+    Some(gap.proc)
 }

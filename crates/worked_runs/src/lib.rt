@@ -4,3 +4,5 @@
 
 #[cfg(test)]
 mod run_tests;
+#[cfg(test)]
+mod standing_tests;

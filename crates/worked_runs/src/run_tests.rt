@@ -6,6 +6,7 @@ ghost use Rattle.step_trace.specs.declared.traces.TheConstants.{MAX_STEPS};
 use command_faults::{Fault, status};
 use node_runs::{Follower, follower_for, run_nodes};
 use std::alloc::{AllocError, Global};
+use std::io::ErrorKind;
 use std::sync::Wait;
 use std::test::Fail;
 use std::thread::Threads;
@@ -210,6 +211,53 @@ fn a_run_goes_on_where_its_follower_cannot_tell(rt: HostRuntime) -> Result<(), F
         let ended = run_followed(&rt, alloc, 4, &mut errors, &mut writer);
         assert!(rt; ended.is_ok() && steps_of(alloc, writer.taken()) == Some(8));
         assert!(rt; errors.taken().starts_with(b"synchrony:"));
+    }
+    Ok(())
+}
+
+/// Two runs of two nodes under one follower, of no steps and of four of each, whose lines go to `errors`.
+fn run_followed_twice<R: Threads + Wait + Clock + Sync>(
+    rt: &R,
+    alloc: Global,
+    errors: &mut FailingWriter,
+) -> Result<(), Fault> {
+    let config = two_nodes(alloc).ok_or(Fault::Memory)?;
+    let both = ProcSet::empty().with(1).with(2);
+    let mut follower = follower_for(alloc, &config, Some(both), 8, Counting::new(errors))?;
+    for steps in [0, 4] {
+        let mut writer = FailingWriter::new(alloc, 1000, WriteFailure::Never);
+        run_nodes(
+            rt,
+            alloc,
+            &config,
+            1,
+            steps,
+            &OpenGate,
+            &mut follower,
+            &mut Counting::new(&mut writer),
+        )?;
+    }
+    Ok(())
+}
+
+/// How the writer fails, and whether it takes more than the first line. One whose flush fails would take more.
+const TAKEN: &[(WriteFailure, bool)] = &[
+    (WriteFailure::Never, true),
+    (WriteFailure::FailFlush(ErrorKind::Other), false),
+];
+
+#[test]
+fn a_follower_tells_no_more_once_its_writer_failed(rt: HostRuntime) -> Result<(), Fail> {
+    let alloc = rt.alloc();
+    let first = "synchrony: tick 0: no steps\n".as_bytes();
+    for &(failure, more) in TAKEN {
+        let mut errors = FailingWriter::new(alloc, 1000, failure);
+        let ended = run_followed_twice(&rt, alloc, &mut errors);
+        assert!(rt;
+            ended.is_ok() && errors.taken().starts_with(first),
+            "{failure:?}"
+        );
+        assert!(rt; (errors.taken().len() > first.len()) == more, "{failure:?}");
     }
     Ok(())
 }

@@ -1,6 +1,6 @@
 use Rattle.std.proofs.Common.{inl, inr, refl}
 use Rattle.node_runs.specs.StandingLines.{told_standing, told_stop}
-use Rattle.node_runs.proofs.ToldLines.{begun, begun_nothing}
+use Rattle.node_runs.proofs.ToldLines.{begun, begun_nothing, told_whole}
 use Rattle.node_runs.proofs.followers.Follower.tell_next.Goals as goal
 
 pub returns-in_err-stairs-clause-told : goal.returns-in_err-stairs-clause-told
@@ -12,3 +12,9 @@ returns-clause-told g c =
     rw (← c.stairs.ensures.writer) (begun _ (told_standing c.standing_of.result) g.W.Write.contents c.stairs.new.self.writer c.tell_standing.new.writer c.tell_standing.result
     (inl (record { standing = c.standing_of.result; stands = stands; told = refl }))
     c.tell_standing.ensures.told c.tell_standing.ensures.part c.tell_standing.ensures.cause)
+
+pub returns-clause-whole : goal.returns-clause-whole
+returns-clause-whole g c =
+    let stands = c.standing_of.ensures c.args.self.now.analyst.set c.args.trace.now c.in_ok-stairs.ensures.stairs in
+    rw (← c.stairs.ensures.writer) (told_whole c.args.self.now.analyst.set c.args.trace.now c.standing_of.result g.W.Write.contents c.stairs.new.self.writer c.tell_standing.new.writer c.tell_standing.result
+    stands c.tell_standing.ensures.told)
