@@ -1,5 +1,5 @@
 -- A trace that several workers summarise, each its share of the ticks (own).
-use Rattle.std.specs.Prelude.{ℕ, ◌≡◌, ◌+◌, ◌-◌, ◌*◌, ◌/◌, ◌<◌, ◌⊎◌, List, Option, slice_get, Some}
+use Rattle.std.specs.Prelude.{ℕ, ◌≡◌, ◌+◌, ◌-◌, ◌*◌, ◌/◌, ◌<◌, ◌≤◌, ◌⊎◌, Bool, true, false, List, Option, slice_get, Some, Result, Ok, Err}
 use Rattle.std.specs.declared.thread.PromisedHandle.{PromisedHandle}
 use Rattle.step_trace.specs.Traces.{Recorded}
 use Rattle.step_trace.specs.Ticks.{IsTrace}
@@ -30,15 +30,50 @@ pub record IsShare (ticks workers w : ℕ) (share : Share) : Type 0 where
   pub from : share.from ≡ cut ticks workers (w - 1) + 1
   pub to : share.to ≡ cut ticks workers w
 
--- worker w promises the digest of its share
-pub record IsPromised (set : ℕ) (trace : Recorded) (workers w : ℕ) (promise : DigestOf) : Type 0 where
+-- The gate, of which these are the answers that each worker may get, may let all of so many workers in.
+abbrev pub AreLetIn : (ℕ → Bool → Type 0) → ℕ → Type 0
+AreLetIn lets workers = (w : ℕ) → 1 ≤ w → w ≤ workers → lets w true
+
+-- It may hold one of so many workers back.
+pub record IsHeldBack (lets : ℕ → Bool → Type 0) (workers : ℕ) : Type 0 where
+  pub worker : ℕ
+  pub low : 1 ≤ worker
+  pub high : worker ≤ workers
+  pub held : lets worker false
+
+-- whether the gate let a worker in that gave this: only one that was held back, it did not
+abbrev pub was_let_in : {T : Type 0} → Result T Stop → Bool
+was_let_in (Ok _) = true
+was_let_in (Err stopped.Held) = false
+was_let_in (Err stopped.Start) = true
+was_let_in (Err stopped.Memory) = true
+
+-- worker w promises the digest of its share of the trace, and what the gate answers it
+pub record IsPromised {G : Type 0} (set : ℕ) (trace : Recorded) (gate : G) (workers w : ℕ) (promise : DigestOf G) : Type 0 where
   pub members : promise.set ≡ set
   pub trace_is : promise.trace.value ≡ trace
   pub share : IsShare trace.last workers w promise.share
+  pub gate_is : promise.gate.value ≡ gate
+  pub worker_is : promise.worker ≡ w
 
 -- these threads promise the digests of the workers from the first on, in their order
-abbrev pub ArePromised : {T : Type 0} → ℕ → Recorded → ℕ → List (PromisedHandle T DigestOf) → Type 0
-ArePromised set trace workers threads = (k : ℕ) (thread : PromisedHandle _ DigestOf) → slice_get threads k ≡ Some thread → IsPromised set trace workers (k + 1) thread.promise
+abbrev pub ArePromised : {T G : Type 0} → ℕ → Recorded → G → ℕ → List (PromisedHandle T (DigestOf G)) → Type 0
+ArePromised set trace gate workers threads = (k : ℕ) (thread : PromisedHandle _ (DigestOf _)) → slice_get threads k ≡ Some thread → IsPromised set trace gate workers (k + 1) thread.promise
+
+-- the gate may answer the worker of a thread so
+abbrev pub IsAnswered : {T G : Type 0} → (G → ℕ → Bool → Type 0) → PromisedHandle T (DigestOf G) → Bool → Type 0
+IsAnswered lets thread answer = lets thread.promise.gate.value thread.promise.worker answer
+
+-- it may let in each of these threads' workers
+abbrev pub AreAnswered : {T G : Type 0} → (G → ℕ → Bool → Type 0) → List (PromisedHandle T (DigestOf G)) → Type 0
+AreAnswered lets threads = (k : ℕ) (thread : PromisedHandle _ (DigestOf _)) → slice_get threads k ≡ Some thread → IsAnswered lets thread true
+
+-- It may hold the worker of one of these threads back.
+pub record IsOneHeld {T G : Type 0} (lets : G → ℕ → Bool → Type 0) (threads : List (PromisedHandle T (DigestOf G))) : Type 0 where
+  pub place : ℕ
+  pub thread : PromisedHandle T (DigestOf G)
+  pub at : slice_get threads place ≡ Some thread
+  pub held : IsAnswered lets thread false
 
 -- how grave a cause is: of several the gravest is told
 abbrev pub gravity : Stop → ℕ

@@ -1,6 +1,6 @@
 //! The bounds of a trace, found by several threads.
 
-ghost use Rattle.std.specs.Prelude.{◌≡◌, ◌↔◌, ◌+◌, ◌-◌, ◌<◌, ◌≤◌, ◌⊎◌, ℕ, length, slice_get, Some, Err, IfOk, OnOk, IfErr};
+ghost use Rattle.std.specs.Prelude.{◌≡◌, ◌↔◌, ◌+◌, ◌-◌, ◌<◌, ◌≤◌, ◌⊎◌, ℕ, length, slice_get, Some, Err, IfOk, OnOk, IfErr, IsOk};
 ghost use Rattle.step_trace.specs.declared.traces.TheConstants.{MAX_TICKS};
 ghost use Rattle.step_trace.specs.Ticks.{IsTrace};
 ghost use Rattle.step_trace.specs.Processors.{IsWithin};
@@ -9,7 +9,7 @@ ghost use Rattle.suffix_staircase.specs.Analysis.{AreLevels};
 ghost use Rattle.chunk_join.specs.declared.analyses.Share.{Share};
 ghost use Rattle.chunk_join.specs.declared.analyses.AnalyseError.{AnalyseError};
 ghost use Rattle.chunk_join.specs.declared.analyses.Stop.{Stop};
-ghost use Rattle.chunk_join.specs.Analyses.{AreBadWorkers, ArePromised, IsDigestBetween, IsShare, cut, error_of, gravity};
+ghost use Rattle.chunk_join.specs.Analyses.{AreAnswered, AreBadWorkers, AreLetIn, ArePromised, IsDigestBetween, IsHeldBack, IsOneHeld, IsShare, cut, error_of, gravity, was_let_in};
 
 use crate::digests::Digest;
 use crate::joins::Joined;
@@ -53,19 +53,22 @@ struct Share {
     to: u64,
 }
 
-/// What a worker promises: the digest of its share of a trace, if any.
+/// What a worker promises: the digest of its share of a trace, if any, and none if the gate holds it back.
 #[derive(Drop)]
-struct DigestOf {
+struct DigestOf<G> {
     set: ProcSet,
     trace: Snapshot<Trace>,
     share: Share,
+    gate: Snapshot<G>,
+    worker: u64,
 }
 
-impl Promise<Result<Digest, Stop>> for DigestOf {
+impl<G: Gate> Promise<Result<Digest, Stop>> for DigestOf<G> {
     ghost use Rattle.std.specs.Prelude.{◌-◌, IfOk};
-    ghost use Rattle.chunk_join.specs.Analyses.{IsDigestBetween};
+    ghost use Rattle.chunk_join.specs.Analyses.{IsDigestBetween, was_let_in};
 
-    ghost kept_by = { λ promise result. IfOk result (λ digest. IsDigestBetween promise.set promise.trace.value (promise.share.from - 1) promise.share.to digest) };
+    ghost kept_by = { λ promise result. IfOk result (λ digest. IsDigestBetween promise.set promise.trace.value (promise.share.from - 1) promise.share.to digest)
+        × G.lets promise.gate.value promise.worker (was_let_in result) };
 }
 
 /// The level of each tick of a trace, where the members of a set count as correct, found by so many workers. Each
@@ -85,6 +88,8 @@ pub fn analyse<R: Threads + Wait + Sync, G: Gate>(
     ensures stairs { IfOk result (λ stairs. AreLevels set trace.now stairs) }
     ensures ok { OnOk result (¬ AreBadWorkers workers) }
     ensures workers { IfErr result (λ why. (why ≡ AnalyseError.BadWorkers) ↔ AreBadWorkers workers) }
+    ensures entered { OnOk result (AreLetIn (G.lets gate.now) workers) }
+    ensures held { IfErr result (λ why. why ≡ AnalyseError.Held → IsHeldBack (G.lets gate.now) workers) }
 {
     if workers == 0 || workers > MAX_WORKERS {
         return Err(AnalyseError::BadWorkers);
@@ -135,7 +140,9 @@ fn digest_of_all<R: Threads + Wait + Sync, G: Gate>(
     requires few { workers ≤ MAX_WORKERS }
     requires ticks { ticks ≡ trace.now.last }
     requires limit { ticks ≤ MAX_TICKS }
-    ensures { IfOk result (λ digest. IsDigestBetween set.now trace.now 0 trace.now.last digest) }
+    ensures digest { IfOk result (λ digest. IsDigestBetween set.now trace.now 0 trace.now.last digest) }
+    ensures entered { OnOk result (AreLetIn (G.lets gate.now) workers) }
+    ensures held { IfErr result (λ stop. stop ≡ Stop.Held → IsHeldBack (G.lets gate.now) workers) }
 {
     thread::scope(
         thread::scope_env(),
@@ -145,23 +152,30 @@ fn digest_of_all<R: Threads + Wait + Sync, G: Gate>(
             requires few { workers ≤ MAX_WORKERS }
             requires ticks { ticks ≡ trace.now.last }
             requires limit { ticks ≤ MAX_TICKS }
-            ensures { IfOk result (λ digest. IsDigestBetween set.entry.now trace.entry.now 0 trace.entry.now.last digest) }
+            ensures digest { IfOk result (λ digest. IsDigestBetween set.entry.now trace.entry.now 0 trace.entry.now.last digest) }
+            ensures entered { OnOk result (AreLetIn (G.lets gate.entry.now) workers) }
+            ensures held { IfErr result (λ stop. stop ≡ Stop.Held → IsHeldBack (G.lets gate.entry.now) workers) }
         {
             let Ok(mut threads) = Vec::with_capacity(alloc, workers as usize) else {
                 return Err(Stop::Memory);
             };
             for worker in 1..workers + 1 {
                 let share = Share::of(ticks, worker, workers);
+                let seen = Snapshot::of(trace);
+                let entered = Snapshot::of(gate);
                 let promise = DigestOf {
                     set: *set,
-                    trace: Snapshot::of(trace),
+                    trace: seen,
                     share,
+                    gate: entered,
+                    worker,
                 };
                 let work = move || -> Result<Digest, Stop>
                     requires low { 1 ≤ share.from }
                     requires order { share.from ≤ share.to + 1 }
                     requires high { share.to ≤ trace.now.last }
-                    ensures { IfOk result (λ digest. IsDigestBetween set.entry.now trace.entry.now (share.from - 1) share.to digest) }
+                    ensures digest { IfOk result (λ digest. IsDigestBetween set.entry.now trace.entry.now (share.from - 1) share.to digest) }
+                    ensures entered { G.lets gate.entry.now worker (was_let_in result) }
                 { digest_of(alloc, trace, *set, share, gate, worker) };
                 let Ok(thread) = scope.spawn_with(promise, work) else {
                     return Err(unstarted(joined(rt, threads)));
@@ -203,7 +217,8 @@ fn digest_of<G: Gate>(
     requires low { 1 ≤ share.from }
     requires order { share.from ≤ share.to + 1 }
     requires high { share.to ≤ trace.now.last }
-    ensures { IfOk result (λ digest. IsDigestBetween set trace.now (share.from - 1) share.to digest) }
+    ensures digest { IfOk result (λ digest. IsDigestBetween set trace.now (share.from - 1) share.to digest) }
+    ensures entered { G.lets gate.now worker (was_let_in result) }
 {
     if !gate.enter(worker) {
         return Err(Stop::Held);
@@ -215,11 +230,13 @@ fn digest_of<G: Gate>(
 }
 
 /// The digests of these threads joined in their order, once all have ended.
-fn joined<R: Threads>(
+fn joined<R: Threads, G: Gate>(
     rt: &R,
-    threads: Vec<PromisedHandle<Result<Digest, Stop>, DigestOf>>,
+    threads: Vec<PromisedHandle<Result<Digest, Stop>, DigestOf<G>>>,
 ) -> Result<Digest, Stop>
-    ensures { IfOk result (λ digest. (set : ℕ) (trace : Recorded) (workers : ℕ) → 0 < workers → ArePromised set trace workers threads.items → IsDigestBetween set trace 0 (cut trace.last workers (length threads.items)) digest) }
+    ensures digest { IfOk result (λ digest. (set : ℕ) (trace : Recorded) (gate : G) (workers : ℕ) → 0 < workers → ArePromised set trace gate workers threads.items → IsDigestBetween set trace 0 (cut trace.last workers (length threads.items)) digest) }
+    ensures entered { OnOk result (AreAnswered G.lets threads.items) }
+    ensures held { IfErr result (λ stop. stop ≡ Stop.Held → IsOneHeld G.lets threads.items) }
 {
     let mut all = Ok(Digest::unit());
     for thread in threads {
@@ -231,6 +248,7 @@ fn joined<R: Threads>(
 /// Two digests joined, or the gravest reason against it.
 fn both(left: Result<Digest, Stop>, right: Result<Digest, Stop>) -> Result<Digest, Stop>
     ensures digest { IfOk result (λ digest. (set : ℕ) (trace : Recorded) (i j k : ℕ) → IfOk left (IsDigestBetween set trace i j) → IfOk right (IsDigestBetween set trace j k) → IsDigestBetween set trace i k digest) }
+    ensures ok { OnOk result (IsOk left × IsOk right) }
     ensures left { IfErr result (λ stop. IfErr left (λ one. gravity one ≤ gravity stop)) }
     ensures right { IfErr result (λ stop. IfErr right (λ other. gravity other ≤ gravity stop)) }
 
