@@ -11,4 +11,4 @@ mod lent_calls;
 mod refusals;
 
 pub use lent_calls::{LentCall, first_wrong_lent};
-pub use refusals::{Call, Outcome, Refusal, first_wrong, judged};
+pub use refusals::{Call, Outcome, Refusal, Whose, first_wrong, judged};

@@ -5,7 +5,7 @@ use std::alloc::{AllocError, Global};
 /// The size that begins the messages to the refusing library, in bytes. `tests/refusing.c` has the same number.
 const MESSAGE: usize = 7_700_000;
 
-/// The most growths of one call.
+/// The most growths of one call. `tests/refusing.c` has the same number.
 const MOST: usize = 100_000;
 
 /// What came of a call.
@@ -27,21 +27,43 @@ pub trait Call {
     fn attempt(&mut self, alloc: Global, refusal: Refusal) -> Outcome;
 }
 
-/// One growth that is to be refused, by its number among those of the call, from 1.
+/// Whose growths are counted.
+#[derive(Clone, Copy, Debug)]
+pub enum Whose {
+    /// Those of all threads.
+    All,
+    /// Those of the thread that asks for the refusal.
+    Own,
+    /// Those of all other threads.
+    Others,
+}
+
+/// One growth that is to be refused, by its number from 1 among those that are counted.
 #[derive(Clone, Copy)]
 pub struct Refusal {
     growth: usize,
+    whose: Whose,
 }
 
 impl Refusal {
-    /// The refusal of the growth of this number.
+    /// The refusal of the growth of this number among those of all threads.
     pub fn of(growth: usize) -> Self {
-        Refusal { growth }
+        Refusal::among(growth, Whose::All)
+    }
+
+    /// The refusal of the growth of this number among these.
+    pub fn among(growth: usize, whose: Whose) -> Self {
+        Refusal { growth, whose }
     }
 
     /// From here on growths are counted, and the one of this number is refused.
     pub fn begin(self, alloc: Global) {
-        let _ = is_refused(alloc, self.growth);
+        let first: usize = match self.whose {
+            Whose::All => 0,
+            Whose::Own => MOST,
+            Whose::Others => 2 * MOST,
+        };
+        let _ = is_refused(alloc, first.saturating_add(self.growth));
     }
 
     /// From here on none is refused. Says whether one was.
@@ -75,7 +97,7 @@ pub fn judged(was_refused: bool, right: bool, refused: bool) -> Outcome {
 /// outcome was wrong, if there was one.
 pub fn first_wrong<C: Call>(alloc: Global, call: &mut C) -> Option<usize> {
     for growth in 1..MOST {
-        match call.attempt(alloc, Refusal { growth }) {
+        match call.attempt(alloc, Refusal::of(growth)) {
             Outcome::Right => return None,
             Outcome::Refused => {}
             Outcome::Wrong => return Some(growth),

@@ -1,6 +1,6 @@
 //! A trace text in memory, and one that is read from a device part by part, by one thread and by several.
 
-use refused_growths::Refusal;
+use refused_growths::{Refusal, Whose};
 use shared_reading::{read_trace, read_trace_from};
 use std::alloc::{AllocError, Global};
 use std::test::Fail;
@@ -23,6 +23,10 @@ const BLANK_LINES_OF_A_PIECE: usize = 150_000;
 
 /// So many that other threads read more pieces than there are workers, and all steps but the first in the last one.
 const BLANK_LINES_OF_PIECES: usize = 600_000;
+
+/// So many pieces: of 131,072 bytes behind the first 65,536, again 131,072, then 163,840, up to the end of a read, and
+/// the rest.
+const PIECES: usize = 4;
 
 const WORKERS: u64 = 2;
 
@@ -117,18 +121,19 @@ fn read_with<R: Threads + Sync>(
     }
 }
 
-/// The first growth of which the outcome was wrong, if there was one. Without so many growths at most the text is read all
-/// the same.
+/// The first growth among these of which the outcome was wrong, if there was one. Without so many growths at most the
+/// text is read all the same.
 fn first_wrong<R: Threads + Sync>(
     rt: &R,
     alloc: Global,
     text: &[u8],
     way: Way,
+    whose: Whose,
     most_read_alone: usize,
 ) -> Option<usize> {
     let mut read_alone = 0;
     for growth in 1..MOST_GROWTHS {
-        match read_with(rt, alloc, text, way, Refusal::of(growth)) {
+        match read_with(rt, alloc, text, way, Refusal::among(growth, whose)) {
             Outcome::Read => return None,
             Outcome::Refused => {}
             Outcome::ReadAlone if read_alone < most_read_alone => read_alone += 1,
@@ -138,35 +143,47 @@ fn first_wrong<R: Threads + Sync>(
     Some(MOST_GROWTHS)
 }
 
-/// All growths before the start of the only thread are made by this one, so the same growth is that start's in each turn.
-#[test]
-fn a_thread_reads_a_piece(rt: HostRuntime) -> Result<(), Fail> {
-    let text = text_of(rt.alloc(), BLANK_LINES_OF_A_PIECE)?;
-    let wrong = first_wrong(&rt, rt.alloc(), text.as_bytes(), Way::ByThreads, 1);
-    assert!(rt; wrong.is_none(), "{wrong:?}");
-    Ok(())
-}
+/// How many blank lines the text has that other threads read, whose growths are refused, and without how many of them the
+/// text is read all the same: one for each thread that is started. This thread makes the same growths in each turn. What
+/// the others do between two of them differs, so their growths are counted apart.
+const READ_BY_THREADS: &[(usize, Whose, usize)] = &[
+    (BLANK_LINES_OF_A_PIECE, Whose::Own, 1),
+    (BLANK_LINES_OF_A_PIECE, Whose::Others, 0),
+    (BLANK_LINES_OF_PIECES, Whose::Own, PIECES),
+    (BLANK_LINES_OF_PIECES, Whose::Others, 0),
+];
 
-/// While a thread reads, another one starts: which growth is that start's differs from turn to turn, and so may be met in
-/// any number of turns.
 #[test]
 fn threads_read_pieces(rt: HostRuntime) -> Result<(), Fail> {
-    let text = text_of(rt.alloc(), BLANK_LINES_OF_PIECES)?;
-    let wrong = first_wrong(
-        &rt,
-        rt.alloc(),
-        text.as_bytes(),
-        Way::ByThreads,
-        MOST_GROWTHS,
-    );
-    assert!(rt; wrong.is_none(), "{wrong:?}");
+    for &(blank_lines, whose, most_read_alone) in READ_BY_THREADS {
+        let text = text_of(rt.alloc(), blank_lines)?;
+        let wrong = first_wrong(
+            &rt,
+            rt.alloc(),
+            text.as_bytes(),
+            Way::ByThreads,
+            whose,
+            most_read_alone,
+        );
+        assert!(rt;
+            wrong.is_none(),
+            "{blank_lines} lines, {whose:?}: {wrong:?}"
+        );
+    }
     Ok(())
 }
 
 #[test]
 fn one_thread_reads_a_text(rt: HostRuntime) -> Result<(), Fail> {
     let text = text_of(rt.alloc(), 0)?;
-    let wrong = first_wrong(&rt, rt.alloc(), text.as_bytes(), Way::InMemory, 0);
+    let wrong = first_wrong(
+        &rt,
+        rt.alloc(),
+        text.as_bytes(),
+        Way::InMemory,
+        Whose::All,
+        0,
+    );
     assert!(rt; wrong.is_none(), "{wrong:?}");
     Ok(())
 }
@@ -174,7 +191,14 @@ fn one_thread_reads_a_text(rt: HostRuntime) -> Result<(), Fail> {
 #[test]
 fn a_text_is_read_from_a_device(rt: HostRuntime) -> Result<(), Fail> {
     let text = text_of(rt.alloc(), BLANK_LINES)?;
-    let wrong = first_wrong(&rt, rt.alloc(), text.as_bytes(), Way::FromDevice, 0);
+    let wrong = first_wrong(
+        &rt,
+        rt.alloc(),
+        text.as_bytes(),
+        Way::FromDevice,
+        Whose::All,
+        0,
+    );
     assert!(rt; wrong.is_none(), "{wrong:?}");
     Ok(())
 }

@@ -3,26 +3,37 @@
 use crate::levels::{LEVELS, has_levels};
 use crate::worked::trace_of;
 use chunk_join::{AnalyseError, analyse};
-use refused_growths::{Outcome, Refusal, judged};
+use refused_growths::{Outcome, Refusal, Whose, judged};
 use std::alloc::Global;
 use std::sync::Wait;
 use std::thread::Threads;
-use step_trace::{OpenGate, Trace};
+use step_trace::{Gate, OpenGate, Trace};
 use test_support::texts::NEVER_DELIVERED;
 use test_support::traces::both;
 
+/// A gate that holds worker 1 back.
+#[derive(Clone, Copy)]
+struct HoldsTheFirst;
+
+impl Gate for HoldsTheFirst {
+    fn enter(&self, who: u64) -> bool {
+        who != 1
+    }
+}
+
 /// Whether so many workers find the levels of never-delivered, or why they found nothing.
-fn find<R: Threads + Wait + Sync>(
+fn find<R: Threads + Wait + Sync, G: Gate>(
     rt: &R,
     alloc: Global,
     trace: &Trace,
     workers: u64,
+    gate: &G,
 ) -> Result<bool, AnalyseError> {
     let set = both();
     if !set.within(trace.config().n()) {
         return Ok(false);
     }
-    let stairs = analyse(rt, alloc, trace, set, workers, &OpenGate)?;
+    let stairs = analyse(rt, alloc, trace, set, workers, gate)?;
     Ok(has_levels(&stairs, LEVELS))
 }
 
@@ -35,10 +46,10 @@ fn found<R: Threads + Wait + Sync>(
     refusal: Refusal,
 ) -> Outcome {
     refusal.begin(alloc);
-    let answer = find(rt, alloc, trace, workers);
+    let answer = find(rt, alloc, trace, workers, &OpenGate);
     let was_refused = refusal.end(alloc);
     let is_wanting = matches!(answer, Err(AnalyseError::Memory | AnalyseError::Start));
-    let again = find(rt, alloc, trace, workers) == Ok(true);
+    let again = find(rt, alloc, trace, workers, &OpenGate) == Ok(true);
     judged(
         was_refused,
         again && answer == Ok(true),
@@ -70,4 +81,31 @@ fn workers_find_stairs(rt: HostRuntime) {
         let wrong = first_wrong(&rt, rt.alloc(), workers);
         assert!(rt; wrong.is_none(), "{workers} workers: {wrong:?}");
     }
+}
+
+/// The first growth of the other threads that changes what is told, if there is one, where worker 1 of three is held.
+fn first_untold<R: Threads + Wait + Sync>(rt: &R, alloc: Global) -> Option<usize> {
+    let Ok(trace) = trace_of(alloc, NEVER_DELIVERED) else {
+        return Some(0);
+    };
+    for growth in 1..MOST_GROWTHS {
+        let refusal = Refusal::among(growth, Whose::Others);
+        refusal.begin(alloc);
+        let answer = find(rt, alloc, &trace, 3, &HoldsTheFirst);
+        let was_refused = refusal.end(alloc);
+        if answer != Err(AnalyseError::Held) {
+            return Some(growth);
+        }
+        if !was_refused {
+            return None;
+        }
+    }
+    Some(MOST_GROWTHS)
+}
+
+/// Of a worker that is held and one that is out of memory, the first is told.
+#[test]
+fn a_held_worker_is_told_before_one_out_of_memory(rt: HostRuntime) {
+    let wrong = first_untold(&rt, rt.alloc());
+    assert!(rt; wrong.is_none(), "growth {wrong:?}");
 }
