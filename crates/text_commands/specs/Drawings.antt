@@ -1,6 +1,7 @@
 -- What the program makes of a trace text in a picture (own).
 use Rattle.std.specs.Prelude.{ℕ, ◌≡◌, List, [], Option, Some, None, Result, Ok, Err, String, string_bytes, true, false, ⊤}
 use Rattle.step_trace.specs.declared.rows.Row.{Row}
+use Rattle.step_trace.specs.CorrectSets.{named}
 use Rattle.step_trace.specs.Processors.{IsWithin}
 use Rattle.step_trace.specs.Traces.{Recorded}
 use Rattle.step_trace.specs.Fronts.{IsReport}
@@ -19,7 +20,9 @@ use Rattle.command_faults.specs.declared.faults.Fault.{Fault}
 use Rattle.command_faults.specs.declared.faults.Fault.TheVariants as fault
 use Rattle.command_faults.specs.declared.faults.PictureOption.{PictureOption}
 use Rattle.command_faults.specs.declared.faults.PictureOption.TheVariants as option
-use Rattle.text_verdicts.specs.Texts.{IsSetOutside, IsTextOf}
+use Rattle.command_faults.specs.declared.faults.SetOption.TheVariants as set_option
+use Rattle.text_verdicts.specs.Texts.{IsTextOf}
+use Rattle.text_commands.specs.Reports.{IsSetRefused}
 use Rattle.text_commands.specs.Serving.{IsRefusal, Kinds}
 
 abbrev pub are_names_in : {B : Type 0} → Option (String B) → ℕ → Type 0
@@ -50,18 +53,18 @@ pub record IsPictureFor (d : Drawing) (t : Recorded) (picture : Picture) : Type 
   pub window : Window
   pub asked : window_for d t.last ≡ Ok window
   pub rows : List Row
-  pub exact : IsReport d.set t rows
+  pub exact : IsReport (named d.correct t.config.n) t rows
   pub shows : Shows t rows window picture
   pub marks : ShowsExactly t window picture
   pub misses : ShowsMisses t rows window picture.misses.items
   pub gaps : ShowsGaps rows window picture.gaps.items
 
--- The text stands for a trace that has all members of the set, and that can be drawn as asked. Nothing is said of the
+-- The text stands for a trace that has all correct processors, and that can be drawn as asked. Nothing is said of the
 -- second text: what a mark looks like is only tested.
 pub record IsDrawingOf (d : Drawing) (text picture : List ℕ) : Type 0 where
   pub trace : Recorded
   pub read : IsTextOf text trace
-  pub within : IsWithin d.set trace.config.n
+  pub within : IsWithin (named d.correct trace.config.n) trace.config.n
   pub drawable : IsDrawable d trace
 
 -- the option that a window is refused for
@@ -111,21 +114,21 @@ IsUndrawn d t (fault.Picture o) = IsUndrawnFor d t o
 IsUndrawn d t fault.Memory = ⊤
 IsUndrawn d t _ = ⊥
 
--- The text stands for a trace that has all members of the set, and of which there is no picture for this option.
+-- The text stands for a trace that has all correct processors, and of which there is no picture for this option.
 pub record IsTraceUndrawn (d : Drawing) (text : List ℕ) (o : PictureOption) : Type 0 where
   pub trace : Recorded
   pub read : IsTextOf text trace
-  pub within : IsWithin d.set trace.config.n
+  pub within : IsWithin (named d.correct trace.config.n) trace.config.n
   pub undrawn : IsUndrawnFor d trace o
 
 -- it may refuse a set, and an option of a picture
 abbrev pub drawing_kinds : Kinds
 drawing_kinds = record { set = true; certificate = false; run = false; threads = false; picture = true; part = false; log = false }
 
--- for what the text has no picture, beside the refusals of a trace text: a member of the set that its trace hasn't, or an
+-- for what the text has no picture, beside the refusals of a trace text: a correct processor that its trace hasn't, or an
 -- option
 abbrev pub IsUndrawnText : Drawing → List ℕ → Fault → Type 0
-IsUndrawnText d text fault.Set = IsSetOutside d.set text
+IsUndrawnText d text (fault.Set set_option.Correct o) = IsSetRefused d.correct text o
 IsUndrawnText d text (fault.Picture o) = IsTraceUndrawn d text o
 IsUndrawnText d text _ = ⊥
 

@@ -11,6 +11,7 @@ use Rattle.front.specs.declared.refusals.ReportError.TheVariants as uncertified
 use Rattle.event_log.specs.declared.refusals.LogError.TheVariants as no_log
 use Rattle.command_faults.specs.declared.faults.Fault.{Fault}
 use Rattle.command_faults.specs.declared.faults.Fault.TheVariants as fault
+use Rattle.command_faults.specs.declared.faults.SetOption.TheVariants as set_option
 use Rattle.text_commands.specs.Inputs.{IsTraceFault}
 
 -- For what a command may refuse, beside a trace text: a set, a certificate, a trace that is no run, a thread, an
@@ -28,13 +29,14 @@ pub record Kinds : Type 0 where
 -- read are faults of their own, and no refusals of a text
 abbrev pub IsFaultOf : Kinds → Fault → Type 0
 IsFaultOf k (fault.Command words) = ⊥
-IsFaultOf k fault.Set = IsTrue k.set
+IsFaultOf k (fault.Set set_option.Correct o) = IsTrue k.set
+IsFaultOf k (fault.Set set_option.Follow o) = ⊥
 IsFaultOf k (fault.Trace reason) = (reason ≢ why.Read) × (reason ≢ why.Memory)
 IsFaultOf k (fault.Certificate reason) = IsTrue k.certificate × (reason ≢ uncertified.Read) × (reason ≢ uncertified.Memory)
 IsFaultOf k (fault.NotARun number due) = IsTrue k.run
 IsFaultOf k fault.Threads = IsTrue k.threads
 IsFaultOf k (fault.Picture option) = IsTrue k.picture
-IsFaultOf k (fault.Report option) = IsTrue k.part
+IsFaultOf k (fault.Report option o) = IsTrue k.part
 IsFaultOf k (fault.Log reason) = IsTrue k.log × (reason ≢ no_log.Memory)
 IsFaultOf k (fault.Import option) = ⊥
 IsFaultOf k (fault.Unread file trouble) = ⊥

@@ -1,11 +1,13 @@
 //! The picture of a run as SVG, from a reader to a writer.
 
 ghost use Rattle.std.specs.Prelude.{◌≡◌, IfErr, IfOk, IsTrue, MatchResult, OnOk, map};
+ghost use Rattle.step_trace.specs.CorrectSets.{named};
 ghost use Rattle.step_trace.specs.Processors.{IsWithin};
 ghost use Rattle.text_commands.specs.Drawings.{AreNamesFor, IsDrawable, IsDrawingOf, IsMarksFault, IsNamesFault, IsPictureFor, IsUndrawable, IsUndrawn, IsWindowFault, drawing_kinds, names_fault, names_of_list, option_of, window_for};
 ghost use Rattle.text_commands.specs.Serving.{HasServed, IsAtEnd, IsFaultOf, IsReadFault, IsUnserved, IsWriteFault, WasFaultless, faults_of, inner_of, is_flushed};
 
 use crate::checks::trace_within;
+use crate::inputs::set_of;
 use crate::report_parts::report_of;
 use crate::serving::{Answer, serve};
 use command_faults::{Fault, PictureOption};
@@ -14,14 +16,14 @@ use run_picture::{
 };
 use std::alloc::Global;
 use std::io::{Read, Write};
-use step_trace::{ProcSet, Trace};
+use step_trace::{Correct, Trace};
 use trace_text::Counting;
 
 /// What a picture is asked for.
 #[derive(Debug, Drop)]
 pub struct Drawing {
-    /// The processors that are named as correct.
-    pub set: ProcSet,
+    /// The processors that count as correct.
+    pub correct: Correct,
     /// The first tick to draw: 1 where there is none.
     pub from: Option<u64>,
     /// The last tick to draw: 99 ticks later, or the last of the trace, where there is none.
@@ -31,11 +33,11 @@ pub struct Drawing {
 }
 
 /// Reads a trace text to its end, and writes the picture of its trace as SVG: the bounds of every tick, for the
-/// drawing's set as the correct processors, and the steps, messages and witnesses of the drawing's ticks. Nothing is
+/// drawing's correct processors, and the steps, messages and witnesses of the drawing's ticks. Nothing is
 /// written before the whole picture stands.
 ///
 /// Refuses, in this order: Read, or Trace for a text that is too large; Trace for any other refusal of the text; Set
-/// where a member is above the trace's number of processors; Picture for the names, the first tick and the last tick,
+/// if a correct processor is above the trace's number of processors; Picture for the names, the first tick and the last tick,
 /// in this order; Write with the number of bytes that went out before. Memory may come at any step before the first
 /// write.
 pub fn run_draw<R: Read, W: Write>(
@@ -67,30 +69,32 @@ impl Answer for Drawing {
     ghost Declines = { λ d. IsUndrawnText d };
 
     fn answer(&self, alloc: Global, text: Vec<u8>) -> Result<Vec<u8>, Fault> {
-        let trace = trace_within(alloc, text, self.set)?;
+        let trace = trace_within(alloc, text, &self.correct)?;
         drawn(alloc, &trace, self)
     }
 }
 
 /// The picture of a trace, as SVG.
 fn drawn(alloc: Global, trace: &Trace, drawing: &Drawing) -> Result<Vec<u8>, Fault>
-    requires within { IsWithin drawing.now.set trace.now.config.n }
+    requires within { IsWithin (named drawing.now.correct trace.now.config.n) trace.now.config.n }
     ensures drawable { OnOk result (IsDrawable drawing.now trace.now) }
     ensures refused { IfErr result (IsUndrawn drawing.now trace.now) }
 {
     let names = names_for(alloc, drawing, trace.config().n())?;
     let picture = marks_for(alloc, trace, drawing)?;
-    Ok(svg_text(alloc, trace, &picture, drawing.set, &names)?)
+    let set = set_of(&drawing.correct, trace);
+    Ok(svg_text(alloc, trace, &picture, set, &names)?)
 }
 
 /// The marks of the ticks that are asked for, with the rows of the trace's report.
 fn marks_for(alloc: Global, trace: &Trace, drawing: &Drawing) -> Result<Picture, Fault>
-    requires within { IsWithin drawing.now.set trace.now.config.n }
+    requires within { IsWithin (named drawing.now.correct trace.now.config.n) trace.now.config.n }
     ensures marks { IfOk result (λ picture. IsPictureFor drawing.now trace.now picture) }
     ensures refused { IfErr result (IsMarksFault drawing.now trace.now.last) }
 {
     let window = window_for(drawing, trace.last_tick())?;
-    let report = report_of(alloc, trace, drawing.set)?;
+    let set = set_of(&drawing.correct, trace);
+    let report = report_of(alloc, trace, set)?;
     Ok(picture_of(alloc, trace, report.rows(), window)?)
 }
 

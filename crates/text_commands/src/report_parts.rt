@@ -2,39 +2,42 @@
 //! trace up to a tick.
 
 ghost use Rattle.std.specs.Prelude.{◌≡◌, ◌↔◌, Some, OnOk, IfOk, IfErr, IsTrue};
+ghost use Rattle.step_trace.specs.CorrectSets.{named};
 ghost use Rattle.step_trace.specs.Fronts.{IsReport};
 ghost use Rattle.step_trace.specs.Processors.{IsWithin};
 ghost use Rattle.step_trace.specs.Ticks.{IsTimed};
-ghost use Rattle.text_commands.specs.ReportParts.{IsAtFault, IsPartOfReport, IsPartUnreported, IsReportedTo, IsRowAt, IsTextFor, IsTickOf, IsUntilFault, part_kinds};
+ghost use Rattle.text_commands.specs.ReportParts.{IsAtFault, IsPartOfReport, IsPartUnreported, IsRowAt, IsTextFor, IsUntilFault, part_kinds};
 ghost use Rattle.text_commands.specs.Serving.{HasServed, IsAtEnd, IsFaultOf, IsReadFault, IsUnserved, IsWriteFault, WasFaultless, faults_of, inner_of, is_flushed};
+ghost use Rattle.text_verdicts.specs.Cuts.{IsReportedTo, IsTickOf};
 
 use crate::checks::trace_within;
+use crate::inputs::set_of;
 use crate::serving::{Answer, serve};
-use command_faults::{Fault, ReportOption};
+use command_faults::{Fault, ReportOption, TickOutside};
 use front::{Report, front, report_text_of};
 use std::alloc::{AllocError, Global};
 use std::io::{Read, Write};
-use step_trace::{ProcSet, Row, Trace};
+use step_trace::{Correct, ProcSet, Row, Trace};
 use suffix_staircase::Stairs;
 use trace_text::Counting;
 
 /// Which part of a report is asked for.
 #[derive(Debug, Drop)]
 pub struct ReportPart {
-    /// The processors that are named as correct.
-    pub set: ProcSet,
+    /// The processors that count as correct.
+    pub correct: Correct,
     /// The tick up to which the trace is reported, as if it had ended there: all of it where there is none.
     pub until: Option<u64>,
     /// The tick whose row is printed alone: all rows where there is none.
     pub at: Option<u64>,
 }
 
-/// Reads a trace text to its end, and writes a part of a report, for the part's set as the correct processors: of the
+/// Reads a trace text to its end, and writes a part of a report, for the part's correct processors: of the
 /// trace up to a tick or of all of it, all rows or the one that serves a tick. Nothing is written before all of it
 /// stands. One thread reads the text and finds the bounds.
 ///
 /// Refuses, in this order: Read, or Trace for a text that is too large; Trace for any other refusal of the text; Set
-/// where a member is above the trace's number of processors; Report for a tick that the trace hasn't, first the one up
+/// if a correct processor is above the trace's number of processors; Report for a tick that the trace hasn't, first the one up
 /// to which it is reported, then the one that is to be served, which the trace has to have up to there; Write with the
 /// number of bytes that went out before. Memory may come at any step before the first write.
 pub fn run_report_part<R: Read, W: Write>(
@@ -66,14 +69,15 @@ impl Answer for ReportPart {
     ghost Declines = { λ p. IsUntoldPart p };
 
     fn answer(&self, alloc: Global, text: Vec<u8>) -> Result<Vec<u8>, Fault> {
-        let trace = trace_within(alloc, text, self.set)?;
+        let trace = trace_within(alloc, text, &self.correct)?;
+        let set = set_of(&self.correct, &trace);
         let reported = reported_to(alloc, trace, self.until)?;
-        text_for(alloc, &reported, self.set, self.at)
+        text_for(alloc, &reported, set, self.at)
     }
 }
 
 /// The trace that is reported: this one, or this one up to a tick.
-fn reported_to(alloc: Global, trace: Trace, until: Option<u64>) -> Result<Trace, Fault>
+pub(crate) fn reported_to(alloc: Global, trace: Trace, until: Option<u64>) -> Result<Trace, Fault>
     ensures reported { IfOk result (λ reported. IsReportedTo until trace reported) }
     ensures count { IfOk result (λ reported. reported.config.n ≡ trace.config.n) }
     ensures refused { IfErr result (IsUntilFault until trace) }
@@ -82,7 +86,7 @@ fn reported_to(alloc: Global, trace: Trace, until: Option<u64>) -> Result<Trace,
         return Ok(trace);
     };
     if !has_tick(&trace, tick) {
-        return Err(Fault::Report(ReportOption::Until));
+        return Err(outside(ReportOption::Until, &trace, tick));
     }
     Ok(trace.until(alloc, tick)?)
 }
@@ -108,13 +112,21 @@ fn row_at(alloc: Global, trace: &Trace, set: ProcSet, tick: u64) -> Result<Row, 
     ensures refused { IfErr result (IsAtFault (Some tick) trace.now) }
 {
     if !has_tick(trace, tick) {
-        return Err(Fault::Report(ReportOption::At));
+        return Err(outside(ReportOption::At, trace, tick));
     }
     let report = report_of(alloc, trace, set)?;
     match report.at(tick) {
         Some(row) => Ok(row),
         None => unreachable!(),
     }
+}
+
+/// The fault of a tick that the trace hasn't, for which this option asks.
+fn outside(option: ReportOption, trace: &Trace, tick: u64) -> Fault
+    ensures { result ≡ Fault.Report option (record { tick = tick; last = trace.now.last }) }
+{
+    let last = trace.last_tick();
+    Fault::Report(option, TickOutside { tick, last })
 }
 
 /// Whether this is a tick of the trace.

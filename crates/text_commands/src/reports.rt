@@ -1,6 +1,7 @@
 //! The report of a trace text, from a reader to a writer.
 
 ghost use Rattle.std.specs.Prelude.{◌≡◌, ◌≢◌, ◌≤◌, OnOk, IfOk, IfErr, IsTrue};
+ghost use Rattle.step_trace.specs.CorrectSets.{named};
 ghost use Rattle.step_trace.specs.Fronts.{IsReport};
 ghost use Rattle.step_trace.specs.Processors.{IsWithin};
 ghost use Rattle.chunk_join.specs.declared.analyses.TheConstants.{MAX_WORKERS};
@@ -9,7 +10,7 @@ ghost use Rattle.text_commands.specs.Serving.{HasServed, IsAtEnd, IsFaultOf, IsR
 ghost use Rattle.text_verdicts.specs.Reports.{IsReportOf};
 
 use chunk_join::{AnalyseError, analyse};
-use command_faults::{Fault, test_set};
+use command_faults::{Fault, SetOption, correct_set};
 use front::{Report, front, write_report};
 use shared_reading::read_trace_from;
 use std::alloc::Global;
@@ -17,10 +18,10 @@ use std::io::{Read, Write};
 use std::mem;
 use std::sync::Wait;
 use std::thread::Threads;
-use step_trace::{Gate, ProcSet, Trace};
+use step_trace::{Correct, Gate, ProcSet, Trace};
 use trace_text::Counting;
 
-/// Reads a trace text to its end, and writes the report of its trace, for `set` as the correct
+/// Reads a trace text to its end, and writes the report of its trace, for these correct
 /// processors. With two workers and more, other threads read pieces of the text, about as many at once. So many
 /// workers find the bounds, each in a thread of its own, which enters the gate before that work; whatever their
 /// number, the report is the same.
@@ -28,7 +29,7 @@ use trace_text::Counting;
 /// written before the whole report stands.
 ///
 /// Asks for 1 to `MAX_WORKERS` workers, and waits for them. Refuses, in this order: Read, or Trace for
-/// a text that is too large; Trace for any other refusal of the text; Set where a member is above the
+/// a text that is too large; Trace for any other refusal of the text; Set if a correct processor is above the
 /// trace's number of processors; Threads where the gate held a worker back or its thread couldn't be
 /// started; Write with the number of bytes that went out before. Memory may come at any step before
 /// the first write.
@@ -37,44 +38,44 @@ pub fn run_report<T: Threads + Wait + Sync, R: Read, W: Write, G: Gate>(
     alloc: Global,
     reader: &mut Counting<R>,
     writer: &mut Counting<W>,
-    set: ProcSet,
+    correct: Correct,
     workers: u64,
     gate: &G,
 ) -> Result<(), Fault>
     requires some { 1 ≤ workers }
     requires few { workers ≤ MAX_WORKERS }
     ensures end { OnOk result (IsAtEnd (R.remaining (inner_of reader.new))) }
-    ensures report { OnOk result (HasServed (IsReportOf set) (R.remaining (inner_of reader.old)) (W.contents (inner_of writer.old)) (W.contents (inner_of writer.new))) }
+    ensures report { OnOk result (HasServed (IsReportOf correct) (R.remaining (inner_of reader.old)) (W.contents (inner_of writer.old)) (W.contents (inner_of writer.new))) }
     ensures flushed { OnOk result (IsTrue (is_flushed writer.new)) }
     ensures faultless { OnOk result ((faults_of reader.new ≡ faults_of reader.old) × WasFaultless writer.old writer.new) }
-    ensures refused { IfErr result (IsUnserved (IsReportOf set) (IsUnreported set)
+    ensures refused { IfErr result (IsUnserved (IsReportOf correct) (IsUnreported correct)
         (R.remaining (inner_of reader.old)) (W.contents (inner_of writer.old)) (W.contents (inner_of writer.new))) }
     ensures own { IfErr result (IsFaultOf report_kinds) }
     ensures read { IfErr result (IsReadFault (faults_of reader.old) (faults_of reader.new)) }
     ensures unwritten { IfErr result (IsWriteFault writer.old writer.new) }
 {
     let trace = read_trace_from(rt, alloc, reader, workers)?;
-    let report = report_of(rt, alloc, trace, set, workers, gate)?;
+    let report = report_of(rt, alloc, trace, correct, workers, gate)?;
     Ok(write_report(alloc, report.rows(), writer)?)
 }
 
-/// The report of a trace, for a set that is tested. The memory of the trace is left to the end of the program: to let go
+/// The report of a trace, for correct processors that are tested. The memory of the trace is left to the end of the program: to let go
 /// of it step by step takes a tenth of the time of a report.
 fn report_of<T: Threads + Wait + Sync, G: Gate>(
     rt: &T,
     alloc: Global,
     trace: Trace,
-    set: ProcSet,
+    correct: Correct,
     workers: u64,
     gate: &G,
 ) -> Result<Report, Fault>
     requires some { 1 ≤ workers }
     requires few { workers ≤ MAX_WORKERS }
-    ensures within { OnOk result (IsWithin set trace.config.n) }
-    ensures report { IfOk result (λ r. IsReport set trace r.rows) }
-    ensures refused { IfErr result (IsFaultFor set trace) }
+    ensures within { OnOk result (IsWithin (named correct trace.config.n) trace.config.n) }
+    ensures report { IfOk result (λ r. IsReport (named correct trace.config.n) trace r.rows) }
+    ensures refused { IfErr result (IsFaultFor correct trace) }
 {
-    test_set(set, trace.config().n())?;
+    let set = correct_set(SetOption::Correct, correct, trace.config().n())?;
     let report = rows_of(rt, alloc, &trace, set, workers, gate);
     mem::forget(trace);
     report

@@ -1,6 +1,6 @@
 use Rattle.std.proofs.Common.{◌≡◌, ◌≤◌, Some, arith, refl, subst, sym}
 use Rattle.front.specs.Reports.{row_at}
-use Rattle.text_commands.specs.ReportParts.{IsTickOf}
+use Rattle.text_verdicts.specs.Cuts.{IsTickOf}
 use Rattle.text_commands.proofs.report_parts.row_at.Goals as goal
 
 -- a tick of the trace has a row
