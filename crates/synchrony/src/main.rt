@@ -22,7 +22,7 @@ use std::process::ExitCode;
 use std::sync::Wait;
 use std::thread::Threads;
 use std::time::Clock;
-use step_trace::{Config, OpenGate, ProcSet};
+use step_trace::{Config, Correct, OpenGate};
 use text_commands::{
     Drawing, ReportPart, import_options, run_check, run_draw, run_import, run_replay, run_report,
     run_report_part, run_upgrade, verdict_status,
@@ -46,14 +46,18 @@ fn run<R: Threads + Wait + Clock + Sync>(rt: &HostRuntime, threads: &R) -> Resul
     let job = read_command(rt.alloc(), words(rt)?).map_err(refused_line)?;
     // (each function takes what the job holds, and lets go of it)
     match job {
-        Job::Report { file, set, workers } => report(rt, threads, file, set, workers),
+        Job::Report {
+            file,
+            correct,
+            workers,
+        } => report(rt, threads, file, correct, workers),
         Job::ReportPart {
             file,
-            set,
+            correct,
             until,
             at,
         } => {
-            let part = ReportPart { set, until, at };
+            let part = ReportPart { correct, until, at };
             report_part(rt, file, part)
         }
         Job::Replay { file } => replay(rt, file),
@@ -67,17 +71,18 @@ fn run<R: Threads + Wait + Clock + Sync>(rt: &HostRuntime, threads: &R) -> Resul
         Job::Check {
             file,
             certificate,
-            set,
-        } => check(rt, file, certificate, set),
+            correct,
+            until,
+        } => check(rt, file, certificate, correct, until),
         Job::Draw {
             file,
-            set,
+            correct,
             from,
             to,
             names,
         } => {
             let drawing = Drawing {
-                set,
+                correct,
                 from,
                 to,
                 names,
@@ -118,14 +123,14 @@ fn words(rt: &HostRuntime) -> Result<Vec<String>, Fault> {
     Ok(words)
 }
 
-/// Prints the trace of a run of the nodes. Where a set is to be followed, tells of the run meanwhile.
+/// Prints the trace of a run of the nodes. Where it is to be followed, tells of the run meanwhile.
 fn run_of<T: Threads + Wait + Clock + Sync>(
     rt: &HostRuntime,
     threads: &T,
     config: Config,
     patience: u64,
     steps: u64,
-    follow: Option<ProcSet>,
+    follow: Option<Correct>,
 ) -> Result<u8, Fault>
     requires patience { 1 ≤ patience }
     requires room { config.n * steps ≤ MAX_STEPS }
@@ -152,7 +157,7 @@ fn report<T: Threads + Wait + Sync>(
     rt: &HostRuntime,
     threads: &T,
     file: String,
-    set: ProcSet,
+    correct: Correct,
     workers: u64,
 ) -> Result<u8, Fault>
     requires some { 1 ≤ workers }
@@ -165,7 +170,7 @@ fn report<T: Threads + Wait + Sync>(
         rt.alloc(),
         &mut Counting::new(&mut trace),
         &mut Counting::new(&mut output),
-        set,
+        correct,
         workers,
         &OpenGate,
     );
@@ -261,7 +266,13 @@ fn import(
 
 /// Prints the verdict on the certificate in a file, for the trace in another, and gives its exit status. Both files are
 /// opened before one is read.
-fn check(rt: &HostRuntime, file: String, certificate: String, set: ProcSet) -> Result<u8, Fault> {
+fn check(
+    rt: &HostRuntime,
+    file: String,
+    certificate: String,
+    correct: Correct,
+    until: Option<u64>,
+) -> Result<u8, Fault> {
     let mut trace = Input::open(rt, file)?;
     let mut claimed = Input::open(rt, certificate)?;
     let mut output = Output::new(rt.stdout());
@@ -270,7 +281,8 @@ fn check(rt: &HostRuntime, file: String, certificate: String, set: ProcSet) -> R
         &mut Counting::new(&mut trace),
         &mut Counting::new(&mut claimed),
         &mut Counting::new(&mut output),
-        set,
+        correct,
+        until,
     );
     match judged {
         Ok(verdict) => Ok(verdict_status(verdict)),

@@ -5,7 +5,7 @@ use command_faults::{Fault, fault_text, status};
 use std::alloc::{AllocError, Global};
 use std::sync::Wait;
 use std::thread::Threads;
-use step_trace::{Gate, OpenGate, ProcSet};
+use step_trace::{Correct, Gate, OpenGate};
 use text_commands::{
     ReportPart, run_check, run_replay, run_report, run_report_part, run_upgrade, verdict_status,
 };
@@ -21,6 +21,8 @@ pub(crate) enum Command<'a> {
     Replay,
     Upgrade,
     Check(&'a str, &'a str),
+    /// With the tick up to which the trace is checked.
+    CheckUntil(&'a str, &'a str, u64),
 }
 
 /// How many bytes of a text are read, and what comes after them.
@@ -73,7 +75,7 @@ pub(crate) fn ended<T: Threads + Wait + Sync>(
         Command::Report(list) => reported(rt, alloc, input, list, 1, &OpenGate, writer)?,
         Command::Part(list, until, at) => {
             let part = ReportPart {
-                set: listed(list)?,
+                correct: named(list)?,
                 until,
                 at,
             };
@@ -81,14 +83,29 @@ pub(crate) fn ended<T: Threads + Wait + Sync>(
         }
         Command::Replay => run_replay(alloc, &mut trace, &mut Counting::new(writer))?,
         Command::Upgrade => run_upgrade(alloc, &mut trace, &mut Counting::new(writer))?,
-        Command::Check(list, rows) => {
-            let mut rows = reader_of(rows, input.cut_rows);
-            let mut output = Counting::new(writer);
-            let verdict = run_check(alloc, &mut trace, &mut rows, &mut output, listed(list)?)?;
-            return Ok(verdict_status(verdict));
+        Command::Check(list, rows) => return checked(alloc, input, (list, rows, None), writer),
+        Command::CheckUntil(list, rows, until) => {
+            return checked(alloc, input, (list, rows, Some(until)), writer);
         }
     }
     Ok(0)
+}
+
+/// Checks the rows against a text for the processors of a list, up to a tick if there is one, in reads of 7 bytes; and
+/// gives the status of the verdict.
+fn checked(
+    alloc: Global,
+    input: Input<'_>,
+    check: (&str, &str, Option<u64>),
+    writer: &mut FailingWriter,
+) -> Result<u8, Fault> {
+    let (list, rows, until) = check;
+    let mut trace = reader_of(input.text, input.cut);
+    let mut rows = reader_of(rows, input.cut_rows);
+    let mut output = Counting::new(writer);
+    let correct = named(list)?;
+    let verdict = run_check(alloc, &mut trace, &mut rows, &mut output, correct, until)?;
+    Ok(verdict_status(verdict))
 }
 
 /// Reports a text, in reads of 7 bytes.
@@ -106,13 +123,13 @@ pub(crate) fn reported<T: Threads + Wait + Sync, G: Gate>(
     }
     let mut trace = reader_of(input.text, input.cut);
     let mut output = Counting::new(writer);
-    let set = listed(list)?;
-    run_report(rt, alloc, &mut trace, &mut output, set, workers, gate)
+    let correct = named(list)?;
+    run_report(rt, alloc, &mut trace, &mut output, correct, workers, gate)
 }
 
-/// The processors of a list, which the tables have well formed.
-fn listed(list: &str) -> Result<ProcSet, Fault> {
-    ProcSet::parse_list(list).ok_or(Fault::Memory)
+/// The processors that a list names, which the tables have well formed.
+fn named(list: &str) -> Result<Correct, Fault> {
+    Correct::parse(list).ok_or(Fault::Memory)
 }
 
 /// Whether a command refused with this exit status and this line, and wrote nothing.

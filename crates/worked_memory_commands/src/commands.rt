@@ -6,7 +6,7 @@ use refused_growths::{Outcome, Refusal, judged};
 use std::alloc::{AllocError, Global};
 use std::sync::Wait;
 use std::thread::Threads;
-use step_trace::{OpenGate, ProcSet};
+use step_trace::{Correct, OpenGate};
 use test_support::texts::{
     DECIDES_SEVEN, DECIDES_SEVEN_REPLAY, NEVER_DELIVERED, NEVER_DELIVERED_REPORT, ONE_MISS,
     ONE_MISS_UPGRADE, SMALL_PHI, UNTIL_THREE_AT_TWO,
@@ -65,19 +65,26 @@ fn ended<T: Threads + Wait + Sync>(
     served: Served,
     output: &mut Vec<u8>,
 ) -> Result<(), Fault> {
-    let both = ProcSet::empty().with(1).with(2);
     let mut trace = Counting::new(served.text.as_bytes());
     let mut output = Counting::new(output);
     match served.command {
         Command::Report(workers) => {
             if workers < 1 || workers > MAX_WORKERS {
-                return Err(Fault::Set);
+                return Err(Fault::Read);
             }
-            run_report(rt, alloc, &mut trace, &mut output, both, workers, &OpenGate)
+            run_report(
+                rt,
+                alloc,
+                &mut trace,
+                &mut output,
+                Correct::All,
+                workers,
+                &OpenGate,
+            )
         }
         Command::Part(until, at) => {
             let part = ReportPart {
-                set: both,
+                correct: Correct::All,
                 until: Some(until),
                 at: Some(at),
             };
@@ -87,12 +94,19 @@ fn ended<T: Threads + Wait + Sync>(
         Command::Upgrade => run_upgrade(alloc, &mut trace, &mut output),
         Command::Check(rows) => {
             let mut rows = Counting::new(rows.as_bytes());
-            let _verdict = run_check(alloc, &mut trace, &mut rows, &mut output, both)?;
+            let _verdict = run_check(
+                alloc,
+                &mut trace,
+                &mut rows,
+                &mut output,
+                Correct::All,
+                None,
+            )?;
             Ok(())
         }
         Command::Draw => {
             let drawing = Drawing {
-                set: both,
+                correct: Correct::All,
                 from: None,
                 to: None,
                 names: None,

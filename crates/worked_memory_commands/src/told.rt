@@ -1,6 +1,6 @@
 //! The lines in which faults are told, and the texts that they have.
 
-use command_faults::{Fault, FileTrouble, PictureOption, told_line};
+use command_faults::{Fault, FileTrouble, MemberOutside, PictureOption, SetOption, told_line};
 use front::ReportError;
 use refused_growths::{Call, Outcome, Refusal, first_wrong, judged};
 use std::alloc::{AllocError, Global};
@@ -56,7 +56,13 @@ enum Kind {
 fn fault_of(alloc: Global, kind: Kind) -> Result<Fault, AllocError> {
     Ok(match kind {
         Kind::Command => Fault::Command(String::from_str(alloc, "synchrony: bad --nodes")?),
-        Kind::Set => Fault::Set,
+        Kind::Set => Fault::Set(
+            SetOption::Correct,
+            MemberOutside {
+                member: 7,
+                count: 4,
+            },
+        ),
         Kind::Redelivered => Fault::Trace(TextError::BadStep(3, PushError::Redelivered(1))),
         Kind::WrongEnd => Fault::Trace(TextError::WrongEnd),
         Kind::HalfWitness => Fault::Certificate(ReportError::HalfWitness(2)),
@@ -84,7 +90,11 @@ fn fault_of(alloc: Global, kind: Kind) -> Result<Fault, AllocError> {
 
 const TOLD: &[(Kind, &str)] = &[
     (Kind::Command, "synchrony: bad --nodes"),
-    (Kind::Set, "synchrony: no such processor in --correct"),
+    (
+        Kind::Set,
+        "synchrony: no such processor in --correct
+synchrony: --correct names processor 7, and the trace has processors 1 to 4",
+    ),
     (
         Kind::Redelivered,
         "synchrony: trace: step 3: message 1 was received before",

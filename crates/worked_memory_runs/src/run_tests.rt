@@ -10,7 +10,7 @@ use std::alloc::Global;
 use std::sync::Wait;
 use std::thread::Threads;
 use std::time::Clock;
-use step_trace::{Config, OpenGate, ProcSet};
+use step_trace::{Config, Correct, OpenGate, ProcSet};
 use test_support::run_texts::{last_line, steps_of};
 use trace_text::Counting;
 
@@ -39,12 +39,12 @@ fn three_nodes(alloc: Global) -> Option<Config>
     Config::new(3, 1, init).ok()
 }
 
-/// Runs the three nodes, each of which makes 20 steps, followed for a set if there is one.
+/// Runs the three nodes, each of which makes 20 steps, followed for some of them or for nobody.
 fn run_three<R: Threads + Wait + Clock + Sync>(
     rt: &R,
     alloc: Global,
     config: &Config,
-    follow: Option<ProcSet>,
+    follow: Option<Correct>,
     errors: &mut Vec<u8>,
     output: &mut Vec<u8>,
 ) -> Result<(), Fault>
@@ -75,7 +75,7 @@ fn run<R: Threads + Wait + Clock + Sync>(
     let Some(config) = three_nodes(alloc) else {
         return Ending::Wanting;
     };
-    let follow = is_followed.then_some(ProcSet::empty().with(1).with(2));
+    let follow = is_followed.then_some(Correct::These(ProcSet::empty().with(1).with(2)));
     match run_three(rt, alloc, &config, follow, errors, output) {
         Ok(()) => Ending::Made,
         Err(Fault::Memory | Fault::Threads) => Ending::Wanting,

@@ -3,7 +3,7 @@
 ghost use Rattle.std.specs.Prelude.{◌≡◌, ◌*◌, ◌≤◌, IfSome, length};
 ghost use Rattle.step_trace.specs.declared.traces.TheConstants.{MAX_STEPS};
 
-use command_faults::{Fault, status};
+use command_faults::{Fault, fault_text, status};
 use node_runs::{Follower, follower_for, run_nodes};
 use std::alloc::{AllocError, Global};
 use std::io::ErrorKind;
@@ -12,7 +12,7 @@ use std::test::Fail;
 use std::thread::Threads;
 use std::time::Clock;
 use step_trace::meeting::MeetingGate;
-use step_trace::{Config, Gate, OpenGate, ProcSet};
+use step_trace::{Config, Correct, Gate, OpenGate, ProcSet};
 use test_support::run_texts::{last_line, steps_of};
 use text_commands::run_replay;
 use trace_text::Counting;
@@ -42,7 +42,7 @@ fn run_each<R: Threads + Wait + Clock + Sync, G: Gate>(
 {
     let init = Vec::from_slice(alloc, values)?;
     let Ok(config) = Config::new(values.len() as u64, faulty, init) else {
-        return Err(Fault::Set);
+        return Err(Fault::Read);
     };
     run_nodes(
         rt,
@@ -164,8 +164,8 @@ fn run_followed<R: Threads + Wait + Clock + Sync>(
     requires { 2 * steps ≤ MAX_STEPS }
 {
     let config = two_nodes(alloc).ok_or(Fault::Memory)?;
-    let both = ProcSet::empty().with(1).with(2);
-    let mut follower = follower_for(alloc, &config, Some(both), 2 * steps, Counting::new(errors))?;
+    let all = Some(Correct::All);
+    let mut follower = follower_for(alloc, &config, all, 2 * steps, Counting::new(errors))?;
     run_nodes(
         rt,
         alloc,
@@ -223,7 +223,7 @@ fn run_followed_twice<R: Threads + Wait + Clock + Sync>(
 ) -> Result<(), Fault> {
     let config = two_nodes(alloc).ok_or(Fault::Memory)?;
     let both = ProcSet::empty().with(1).with(2);
-    let mut follower = follower_for(alloc, &config, Some(both), 8, Counting::new(errors))?;
+    let mut follower = follower_for(alloc, &config, Some(Correct::These(both)), 8, Counting::new(errors))?;
     for steps in [0, 4] {
         let mut writer = FailingWriter::new(alloc, 1000, WriteFailure::Never);
         run_nodes(
@@ -262,16 +262,19 @@ fn a_follower_tells_no_more_once_its_writer_failed(rt: HostRuntime) -> Result<()
     Ok(())
 }
 
+const NO_THIRD: &str = "synchrony: no such processor in --follow
+synchrony: --follow names processor 3, and the run has processors 1 to 2";
+
 #[test]
 fn a_follower_of_a_stranger_is_refused(rt: HostRuntime) -> Result<(), Fail> {
     let alloc = rt.alloc();
     let config = two_nodes(alloc).ok_or("no configuration")?;
     for (member, within) in [(2, true), (3, false)] {
         let mut errors = FailingWriter::new(alloc, 10, WriteFailure::Never);
-        let set = ProcSet::empty().with(member);
-        let made = match follower_for(alloc, &config, Some(set), 0, Counting::new(&mut errors)) {
+        let follow = Some(Correct::These(ProcSet::empty().with(member)));
+        let made = match follower_for(alloc, &config, follow, 0, Counting::new(&mut errors)) {
             Ok(follower) => follower.is_some(),
-            Err(why) => status(&why) != 2,
+            Err(why) => fault_text(alloc, &why)?.as_str() != NO_THIRD || status(&why) != 2,
         };
         assert!(rt; made == within, "{member}");
         assert!(rt; errors.taken().is_empty(), "{member}");
