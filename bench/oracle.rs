@@ -3,7 +3,7 @@
 //! shares no line with the other programs. `bench/compare` and `tests/` take their answers from it.
 //!
 //!     oracle [--limit N] report FILE --correct LIST [--until TICK] [--at TICK]
-//!     oracle [--limit N] check FILE CERT --correct LIST
+//!     oracle [--limit N] check FILE CERT --correct LIST [--until TICK]
 //!     oracle [--limit N] replay FILE
 //!     oracle [--limit N] upgrade FILE
 //!
@@ -27,6 +27,7 @@ use std::process::exit;
 const PROCESSOR_LIMIT: u64 = 64;
 /// The most ticks of a trace whose bounds are tried.
 const PATIENCE: u64 = 400;
+const BAD_LIST: &str = "bad --correct\nsynchrony: --correct takes all, none, or numbers from 1 to 64 with one comma between them";
 
 type Processor = u64;
 type Number = u64;
@@ -66,7 +67,13 @@ fn main() {
     };
     match *words {
         ["report", file, "--correct", list, ref ticks @ ..] => report(limit, file, list, part_of(ticks)),
-        ["check", file, certificate, "--correct", list] => check(limit, file, certificate, list),
+        ["check", file, certificate, "--correct", list, ref ticks @ ..] => {
+            let part = part_of(ticks);
+            if part.at.is_some() {
+                fault("bad command line", 2);
+            }
+            check(limit, file, certificate, list, part.until)
+        }
         ["replay", file] => replay(&trace_of(open(file), limit)),
         ["upgrade", file] => upgrade(&trace_of(open(file), limit)),
         _ => fault("bad command line", 2),
@@ -98,22 +105,33 @@ fn tick_of<'a, 'b>(option: &str, words: &'a [&'b str]) -> (Option<u64>, &'a [&'b
 
 /// Makes of a trace the one that ended at this tick.
 fn cut(trace: &mut Trace, tick: u64) {
+    if tick < 1 || trace.last_tick < tick {
+        bad_tick("--until", tick, trace);
+    }
     trace.steps.retain(|step| step.tick <= tick);
     trace.last_tick = tick;
 }
 
+/// Tells which tick is none of the trace.
+fn bad_tick(option: &str, tick: u64, trace: &Trace) -> ! {
+    let ticks = match trace.last_tick {
+        0 => "no ticks".to_string(),
+        last => format!("ticks 1 to {last}"),
+    };
+    fault(&format!("bad {option}\nsynchrony: {option} is {tick}, and the trace has {ticks}"), 2)
+}
+
 fn report(limit: u64, file: &str, list: &str, part: Part) {
-    let correct = read_list(list).unwrap_or_else(|| fault("bad --correct", 2));
+    let listed = read_list(list).unwrap_or_else(|| fault(BAD_LIST, 2));
     let mut trace = trace_of(open(file), limit);
-    test_set(&trace, &correct);
+    let correct = members(&trace, listed);
     if let Some(tick) = part.until {
-        if tick < 1 || trace.last_tick < tick {
-            fault("bad --until", 2);
-        }
         cut(&mut trace, tick);
     }
-    if part.at.is_some_and(|tick| tick < 1 || trace.last_tick < tick) {
-        fault("bad --at", 2);
+    if let Some(tick) = part.at {
+        if tick < 1 || trace.last_tick < tick {
+            bad_tick("--at", tick, &trace);
+        }
     }
     let definitions = definitions(&trace, &correct);
     let mut rows = definitions.front();
@@ -138,13 +156,17 @@ fn report(limit: u64, file: &str, list: &str, part: Part) {
     }
 }
 
-fn check(limit: u64, file: &str, certificate: &str, list: &str) {
-    let correct = read_list(list).unwrap_or_else(|| fault("bad --correct", 2));
+fn check(limit: u64, file: &str, certificate: &str, list: &str, until: Option<u64>) {
+    let listed = read_list(list).unwrap_or_else(|| fault(BAD_LIST, 2));
     if file == "-" && certificate == "-" {
         fault("only one file can be -", 2);
     }
     let (file, certificate) = (open(file), open(certificate));
-    let trace = trace_of(file, limit);
+    let mut trace = trace_of(file, limit);
+    let correct = members(&trace, listed);
+    if let Some(tick) = until {
+        cut(&mut trace, tick);
+    }
     let definitions = definitions(&trace, &correct);
     let rows = read_rows(&read_all(certificate));
     let verdicts = Verdicts {
@@ -193,17 +215,21 @@ fn upgrade(trace: &Trace) {
 
 /// The definitions for a trace and a set within it.
 fn definitions<'a>(trace: &'a Trace, correct: &'a [Processor]) -> Definitions<'a> {
-    test_set(trace, correct);
     if trace.last_tick > PATIENCE {
         fault("too many ticks for the oracle", 90);
     }
     Definitions { trace, correct }
 }
 
-fn test_set(trace: &Trace, correct: &[Processor]) {
-    if correct.iter().any(|it| *it > trace.processors) {
-        fault("no such processor in --correct", 2);
+/// The correct processors of a trace: those of a list, or all where there is none.
+fn members(trace: &Trace, listed: Option<Vec<Processor>>) -> Vec<Processor> {
+    let all = trace.processors;
+    let correct = listed.unwrap_or_else(|| (1..=all).collect());
+    if let Some(it) = correct.iter().filter(|it| **it > all).min() {
+        let hint = format!("--correct names processor {it}, and the trace has processors 1 to {all}");
+        fault(&format!("no such processor in --correct\nsynchrony: {hint}"), 2);
     }
+    correct
 }
 
 fn trace_of(file: Box<dyn Read>, limit: u64) -> Trace {

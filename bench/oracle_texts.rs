@@ -72,12 +72,15 @@ fn is_text_of(field: &[u8], value: u64) -> bool {
     value.to_string().as_bytes() == field
 }
 
-pub fn read_list(list: &str) -> Option<Vec<Processor>> {
-    if list == "none" {
-        return Some(Vec::new());
+/// The processors of a list, which are none for the word `all`; nothing where it is no list.
+pub fn read_list(list: &str) -> Option<Option<Vec<Processor>>> {
+    match list {
+        "all" => return Some(None),
+        "none" => return Some(Some(Vec::new())),
+        _ => {}
     }
     let members: Option<Vec<u64>> = list.split(',').map(|it| number(it.as_bytes())).collect();
-    members.filter(|them| them.iter().all(|it| (1..=64).contains(it)))
+    members.filter(|them| them.iter().all(|it| (1..=64).contains(it))).map(Some)
 }
 
 fn read_ids(field: &[u8]) -> Option<Vec<Number>> {

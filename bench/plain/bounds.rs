@@ -21,8 +21,9 @@ impl ProcessorSet {
         Some(ProcessorSet(mask))
     }
 
-    pub fn is_within(self, processors: u8) -> bool {
-        self.0.checked_shr(processors.into()).unwrap_or(0) == 0
+    /// The least member above a number of processors.
+    pub fn first_above(self, processors: u8) -> Option<u8> {
+        self.members().find(|&it| it > processors)
     }
 
     pub fn contains(self, processor: u8) -> bool {

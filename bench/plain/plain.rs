@@ -36,6 +36,8 @@ const TEXT_LIMIT: u64 = 64 << 20;
 /// The most steps of a run.
 const RUN_LIMIT: u64 = 1_000_000;
 
+const BAD_LIST: &str = "bad --correct\nsynchrony: --correct takes all, none, or numbers from 1 to 64 with one comma between them";
+
 const USAGE: &str = "\
 Usage: plain report FILE --correct LIST
        plain check FILE CERT --correct LIST
@@ -234,7 +236,8 @@ enum Fault {
     Usage,
     BadList,
     OneStandardInput,
-    NoSuchProcessor,
+    /// The least processor of the list that there isn't, and how many there are.
+    NoSuchProcessor(u8, u8),
     BadRun(&'static str),
     Trace(TraceFault),
     Certificate(RowsFault),
@@ -248,7 +251,7 @@ impl Fault {
     fn status(&self) -> u8 {
         match self {
             Fault::Usage | Fault::BadList | Fault::OneStandardInput => 2,
-            Fault::NoSuchProcessor | Fault::BadRun(_) => 2,
+            Fault::NoSuchProcessor(..) | Fault::BadRun(_) => 2,
             Fault::Trace(_) => 3,
             Fault::Certificate(_) => 4,
             Fault::Read | Fault::Write => 6,
@@ -262,9 +265,12 @@ impl fmt::Display for Fault {
     fn fmt(&self, f: &mut fmt::Formatter) -> fmt::Result {
         match self {
             Fault::Usage => write!(f, "bad command line\n{USAGE}"),
-            Fault::BadList => f.write_str("bad --correct"),
+            Fault::BadList => f.write_str(BAD_LIST),
             Fault::OneStandardInput => f.write_str("only one file can be -"),
-            Fault::NoSuchProcessor => f.write_str("no such processor in --correct"),
+            Fault::NoSuchProcessor(it, all) => {
+                f.write_str("no such processor in --correct\nsynchrony: ")?;
+                write!(f, "--correct names processor {it}, and the trace has processors 1 to {all}")
+            }
             Fault::BadRun(why) => f.write_str(why),
             Fault::Trace(why) => write!(f, "trace: {why}"),
             Fault::Certificate(why) => write!(f, "certificate: {why}"),
@@ -312,8 +318,10 @@ fn read_trace(file: Input) -> Result<Trace, Fault> {
 /// A trace whose processors are a set's too.
 fn read_trace_with(file: Input, correct: ProcessorSet) -> Result<Trace, Fault> {
     let trace = read_trace(file)?;
-    let is_within = correct.is_within(trace.setup.processors);
-    is_within.then_some(trace).ok_or(Fault::NoSuchProcessor)
+    match correct.first_above(trace.setup.processors) {
+        Some(it) => Err(Fault::NoSuchProcessor(it, trace.setup.processors)),
+        None => Ok(trace),
+    }
 }
 
 fn read_rows(file: Input) -> Result<Rows, Fault> {
