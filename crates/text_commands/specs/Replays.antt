@@ -32,7 +32,7 @@ pub record IsTextOffRun (text : List ℕ) (number : ℕ) (due : Due) : Type 0 wh
   pub trace : Recorded
   pub read : IsTextOf text trace
   pub off : IsFirstOff trace.config trace.steps number
-  pub due : IsDueInstead trace.config trace.steps number due
+  pub instead : IsDueInstead trace.config trace.steps number due
 
 -- it may refuse a trace that is no run
 abbrev pub replay_kinds : Kinds
