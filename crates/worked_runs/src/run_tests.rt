@@ -223,7 +223,13 @@ fn run_followed_twice<R: Threads + Wait + Clock + Sync>(
 ) -> Result<(), Fault> {
     let config = two_nodes(alloc).ok_or(Fault::Memory)?;
     let both = ProcSet::empty().with(1).with(2);
-    let mut follower = follower_for(alloc, &config, Some(Correct::These(both)), 8, Counting::new(errors))?;
+    let mut follower = follower_for(
+        alloc,
+        &config,
+        Some(Correct::These(both)),
+        8,
+        Counting::new(errors),
+    )?;
     for steps in [0, 4] {
         let mut writer = FailingWriter::new(alloc, 1000, WriteFailure::Never);
         run_nodes(
