@@ -1,10 +1,9 @@
 //! The verdict on the text of a certificate, for a caller that brings the room.
 
 ghost use Rattle.std.specs.Prelude.{◌≡◌, ◌≢◌, ◌<◌, ◌≤◌, length};
-ghost use Rattle.c_report.specs.Answers.{IsCertificateRefused, IsJudged, IsLineTooLong, IsToldOf, IsTraceRefused};
+ghost use Rattle.c_report.specs.Answers.{IsCertificateRefused, IsJudged, IsLineTooLong, IsSetOutside, IsToldOf, IsTraceRefused};
 ghost use Rattle.c_report.specs.CorrectMasks.{correct_of};
-ghost use Rattle.text_verdicts.specs.RefusalWords as told;
-ghost use Rattle.text_verdicts.specs.Texts.{IsSetOutside};
+ghost use Rattle.front.specs.RefusalTexts.{report_error_text};
 ghost use Rattle.text_verdicts.specs.VerdictLines.{status_of_verdict, told_verdict};
 
 use crate::answers::{
@@ -13,10 +12,12 @@ use crate::answers::{
 use crate::reports::tell_trace;
 use crate::rooms::{put, put_whole};
 use certificate_checker::Verdict;
+use command_faults::Fault;
+use command_options::Claim;
 use front::ReportError;
 use std::alloc::{AllocError, Global};
-use text_report::{Unchecked, verdict_of_text};
-use text_verdicts::{certificate_words, verdict_status, verdict_text};
+use text_commands::verdict_on;
+use text_verdicts::{verdict_status, verdict_text};
 
 /// Checks a certificate against a trace text: `YES` where its rows are the trace's report, `NO` where they aren't. The
 /// line of the verdict, with its line feed, is written over the first bytes of `out`, and its length in bytes into
@@ -47,12 +48,17 @@ pub extern "C" fn synchrony_check(
     ensures kept { result ≢ YES → result ≢ NO → result ≢ BAD_TRACE → result ≢ BAD_CERTIFICATE → out.new ≡ out.old }
     ensures no_size { result ≢ YES → result ≢ NO → result ≢ NO_ROOM → result ≢ BAD_TRACE → result ≢ BAD_CERTIFICATE → size.new ≡ size.old }
 {
-    match verdict_of_text(alloc, text, certificate, correct_of(correct)) {
+    let claim = Claim {
+        correct: correct_of(correct),
+        until: None,
+    };
+    match verdict_on(alloc, &claim, text, certificate) {
         Ok(verdict) => tell_verdict(alloc, verdict, out, size),
-        Err(Unchecked::Trace(why)) => tell_trace(alloc, &why, out, size),
-        Err(Unchecked::Set) => BAD_SET,
-        Err(Unchecked::Certificate(why)) => tell_certificate(alloc, &why, out, size),
-        Err(Unchecked::Memory) => NO_MEMORY,
+        Err(Fault::Trace(why)) => tell_trace(alloc, &why, out, size),
+        Err(Fault::Set(_, _)) => BAD_SET,
+        Err(Fault::Certificate(why)) => tell_certificate(alloc, &why, out, size),
+        Err(Fault::Memory) => NO_MEMORY,
+        Err(_) => unreachable!(),
     }
 }
 
@@ -81,12 +87,12 @@ fn tell_verdict(alloc: Global, verdict: Verdict, out: &mut [u8], size: &mut usiz
 
 /// Tells why a certificate is refused.
 fn tell_certificate(alloc: Global, why: &ReportError, out: &mut [u8], size: &mut usize) -> u32
-    ensures told { result ≡ BAD_CERTIFICATE → IsToldOf (told.certificate_words why.now) out.old out.new size.new }
+    ensures told { result ≡ BAD_CERTIFICATE → IsToldOf (report_error_text why.now) out.old out.new size.new }
     ensures memory { result ≢ BAD_CERTIFICATE → result ≡ NO_MEMORY }
     ensures kept { result ≢ BAD_CERTIFICATE → out.new ≡ out.old }
     ensures no_size { result ≢ BAD_CERTIFICATE → size.new ≡ size.old }
 {
-    match certificate_words(alloc, why) {
+    match why.to_string(alloc) {
         Ok(words) => {
             put(words.as_bytes(), out, size);
             BAD_CERTIFICATE

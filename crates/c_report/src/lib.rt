@@ -1,4 +1,4 @@
-//! The analyser and the checker for C, and for whatever calls C: the report of a trace text, and the verdict on a
+//! The commands for C, and for whatever calls C: the report of a trace text, and the verdict on a
 //! certificate's text. Each export is a function of its arguments: no thread, no device, and nothing kept between two
 //! calls but what the caller's heap keeps.
 #![tactic(auto)]

@@ -1,16 +1,16 @@
 //! The report of a trace text, for a caller that brings the room.
 
 ghost use Rattle.std.specs.Prelude.{◌≡◌, ◌≢◌, length};
-ghost use Rattle.c_report.specs.Answers.{IsReported, IsToldOf, IsTooLong, IsTraceRefused};
+ghost use Rattle.c_report.specs.Answers.{IsReported, IsSetOutside, IsToldOf, IsTooLong, IsTraceRefused};
 ghost use Rattle.c_report.specs.CorrectMasks.{correct_of};
-ghost use Rattle.text_verdicts.specs.RefusalWords as told;
-ghost use Rattle.text_verdicts.specs.Texts.{IsSetOutside};
+ghost use Rattle.trace_text.specs.RefusalTexts.{text_error_text};
 
 use crate::answers::{BAD_SET, BAD_TRACE, DONE, NO_MEMORY, NO_ROOM, correct_of};
 use crate::rooms::{put, put_whole};
+use command_faults::Fault;
+use command_options::ReportPart;
 use std::alloc::{AllocError, Global};
-use text_report::{Unreported, report_of_text};
-use text_verdicts::trace_words;
+use text_commands::answer_to;
 use trace_text::TextError;
 
 /// Writes the report of a trace text over the first bytes of `out`, and its length in bytes into `size`. Processor p
@@ -37,7 +37,12 @@ pub extern "C" fn synchrony_report(
     ensures kept { result ≢ DONE → result ≢ BAD_TRACE → out.new ≡ out.old }
     ensures no_size { result ≢ DONE → result ≢ NO_ROOM → result ≢ BAD_TRACE → size.new ≡ size.old }
 {
-    match report_of_text(alloc, text, correct_of(correct)) {
+    let whole = ReportPart {
+        correct: correct_of(correct),
+        until: None,
+        at: None,
+    };
+    match answer_to(alloc, &whole, text) {
         Ok(report) => {
             if put_whole(&report, out, size) {
                 DONE
@@ -45,20 +50,21 @@ pub extern "C" fn synchrony_report(
                 NO_ROOM
             }
         }
-        Err(Unreported::Trace(why)) => tell_trace(alloc, &why, out, size),
-        Err(Unreported::Set) => BAD_SET,
-        Err(Unreported::Memory) => NO_MEMORY,
+        Err(Fault::Trace(why)) => tell_trace(alloc, &why, out, size),
+        Err(Fault::Set(_, _)) => BAD_SET,
+        Err(Fault::Memory) => NO_MEMORY,
+        Err(_) => unreachable!(),
     }
 }
 
 /// Tells why a trace text is refused.
 pub(crate) fn tell_trace(alloc: Global, why: &TextError, out: &mut [u8], size: &mut usize) -> u32
-    ensures told { result ≡ BAD_TRACE → IsToldOf (told.trace_words why.now) out.old out.new size.new }
+    ensures told { result ≡ BAD_TRACE → IsToldOf (text_error_text why.now) out.old out.new size.new }
     ensures memory { result ≢ BAD_TRACE → result ≡ NO_MEMORY }
     ensures kept { result ≢ BAD_TRACE → out.new ≡ out.old }
     ensures no_size { result ≢ BAD_TRACE → size.new ≡ size.old }
 {
-    match trace_words(alloc, why) {
+    match why.to_string(alloc) {
         Ok(words) => {
             put(words.as_bytes(), out, size);
             BAD_TRACE

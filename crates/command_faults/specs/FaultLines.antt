@@ -1,6 +1,7 @@
 -- The lines in which faults are told (docs/FORMATS.md), without their line feeds.
 use Rattle.std.specs.Prelude.{ℕ, ◌-◌, List, [], ◌∷◌, ◌++◌, length, ◌==◌, if◌then◌else◌, slice_index, codes, decimal, string_bytes}
-use Rattle.text_verdicts.specs.RefusalWords.{certificate_words, trace_words}
+use Rattle.trace_text.specs.RefusalTexts.{text_error_text}
+use Rattle.front.specs.RefusalTexts.{report_error_text}
 use Rattle.event_log.specs.RefusalTexts.{log_error_text}
 use Rattle.command_faults.specs.declared.faults.Fault.{Fault}
 use Rattle.command_faults.specs.declared.faults.Fault.TheVariants as fault
@@ -30,8 +31,8 @@ import_option_words import_option.Until = codes "--until"
 abbrev pub fault_line : Fault → List ℕ
 fault_line (fault.Command words) = string_bytes words
 fault_line (fault.Set option o) = codes "synchrony: no such processor in " ++ (set_option_words option ++ member_line option o)
-fault_line (fault.Trace reason) = codes "synchrony: trace: " ++ (trace_words reason ++ trace_hint reason)
-fault_line (fault.Certificate reason) = codes "synchrony: certificate: " ++ (certificate_words reason ++ certificate_hint reason)
+fault_line (fault.Trace reason) = codes "synchrony: trace: " ++ (text_error_text reason ++ trace_hint reason)
+fault_line (fault.Certificate reason) = codes "synchrony: certificate: " ++ (report_error_text reason ++ certificate_hint reason)
 fault_line fault.Memory = codes "synchrony: out of memory"
 fault_line fault.Read = codes "synchrony: cannot read"
 fault_line (fault.Unread file trouble) = codes "synchrony: cannot read" ++ file_hint (string_bytes file) trouble

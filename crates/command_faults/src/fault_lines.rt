@@ -9,7 +9,6 @@ use crate::log_fault_lines::{HelpLine, LogLead};
 use crate::outside_lines::{MemberLine, TickLine};
 use std::alloc::{AllocError, Global};
 use std::fmt;
-use text_verdicts::{CertificateWords, TraceWords};
 
 /// The line of a fault without its line feed, with one more line where something helps; or the words of the command
 /// line's reader, which end in one.
@@ -43,15 +42,10 @@ impl fmt::Display for Fault {
                 let line = MemberLine(*option, outside);
                 write!(f, "synchrony: no such processor in {option}{line}")
             }
-            Fault::Trace(why) => {
-                write!(f, "synchrony: trace: {}{}", TraceWords(why), TraceHint(why))
+            Fault::Trace(why) => { write!(f, "synchrony: trace: {why}{}", TraceHint(why)) }
+            Fault::Certificate(why) => {
+                write!(f, "synchrony: certificate: {why}{}", CertificateHint(why))
             }
-            Fault::Certificate(why) => write!(
-                f,
-                "synchrony: certificate: {}{}",
-                CertificateWords(why),
-                CertificateHint(why)
-            ),
             Fault::Memory => f.write_str("synchrony: out of memory"),
             Fault::Read => f.write_str("synchrony: cannot read"),
             Fault::Unread(file, trouble) => {

@@ -4,3 +4,4 @@ pub mod ReportTexts
 pub mod ReportRefusals
 pub mod ReportReading
 pub mod LongRefusals
+pub mod RefusalTexts

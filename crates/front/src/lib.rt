@@ -3,6 +3,7 @@
 #![tactic(auto)]
 
 mod columns;
+mod refusal_texts;
 mod refusals;
 mod report_reading;
 mod report_texts;

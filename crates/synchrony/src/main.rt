@@ -16,6 +16,7 @@ use crate::line_faults::refused_line;
 use crate::outputs::{Output, stopped};
 use command_faults::{Fault, print, status, tell};
 use command_line::{Job, read_command, refuse_words};
+use command_options::{Claim, Drawing, ReportPart};
 use node_runs::{follower_for, run_nodes};
 use std::env;
 use std::process::ExitCode;
@@ -24,8 +25,8 @@ use std::thread::Threads;
 use std::time::Clock;
 use step_trace::{Config, Correct, OpenGate};
 use text_commands::{
-    Drawing, ReportPart, import_options, run_check, run_draw, run_import, run_replay, run_report,
-    run_report_part, run_upgrade, verdict_status,
+    Answer, Replay, Upgrade, import_options, run_check, run_import, run_report, serve,
+    verdict_status,
 };
 use trace_text::Counting;
 
@@ -58,22 +59,22 @@ fn run<R: Threads + Wait + Clock + Sync>(rt: &HostRuntime, threads: &R) -> Resul
             at,
         } => {
             let part = ReportPart { correct, until, at };
-            report_part(rt, file, part)
+            answer(rt, file, &part)
         }
-        Job::Replay { file } => replay(rt, file),
+        Job::Replay { file } => answer(rt, file, &Replay),
         Job::Run {
             config,
             patience,
             steps,
             follow,
         } => run_of(rt, threads, config, patience, steps, follow),
-        Job::Upgrade { file } => upgrade(rt, file),
+        Job::Upgrade { file } => answer(rt, file, &Upgrade),
         Job::Check {
             file,
             certificate,
             correct,
             until,
-        } => check(rt, file, certificate, correct, until),
+        } => check(rt, file, certificate, Claim { correct, until }),
         Job::Draw {
             file,
             correct,
@@ -87,7 +88,7 @@ fn run<R: Threads + Wait + Clock + Sync>(rt: &HostRuntime, threads: &R) -> Resul
                 to,
                 names,
             };
-            draw(rt, file, drawing)
+            answer(rt, file, &drawing)
         }
         Job::Import {
             file,
@@ -177,54 +178,17 @@ fn report<T: Threads + Wait + Sync>(
     output.ended(told.map_err(|fault| trace.named(fault)))
 }
 
-/// Prints a part of the report of the trace in a file.
-fn report_part(rt: &HostRuntime, file: String, part: ReportPart) -> Result<u8, Fault> {
+/// Prints the answer of a command to the trace in a file.
+fn answer<A: Answer>(rt: &HostRuntime, file: String, command: &A) -> Result<u8, Fault> {
     let mut trace = Input::open(rt, file)?;
     let mut output = Output::new(rt.stdout());
-    let told = run_report_part(
+    let served = serve(
         rt.alloc(),
-        &part,
+        command,
         &mut Counting::new(&mut trace),
         &mut Counting::new(&mut output),
     );
-    output.ended(told.map_err(|fault| trace.named(fault)))
-}
-
-/// Prints the replay of the trace in a file.
-fn replay(rt: &HostRuntime, file: String) -> Result<u8, Fault> {
-    let mut trace = Input::open(rt, file)?;
-    let mut output = Output::new(rt.stdout());
-    let told = run_replay(
-        rt.alloc(),
-        &mut Counting::new(&mut trace),
-        &mut Counting::new(&mut output),
-    );
-    output.ended(told.map_err(|fault| trace.named(fault)))
-}
-
-/// Prints the version 2 text of the trace in a file.
-fn upgrade(rt: &HostRuntime, file: String) -> Result<u8, Fault> {
-    let mut trace = Input::open(rt, file)?;
-    let mut output = Output::new(rt.stdout());
-    let told = run_upgrade(
-        rt.alloc(),
-        &mut Counting::new(&mut trace),
-        &mut Counting::new(&mut output),
-    );
-    output.ended(told.map_err(|fault| trace.named(fault)))
-}
-
-/// Prints the picture of the trace in a file.
-fn draw(rt: &HostRuntime, file: String, drawing: Drawing) -> Result<u8, Fault> {
-    let mut trace = Input::open(rt, file)?;
-    let mut output = Output::new(rt.stdout());
-    let drawn = run_draw(
-        rt.alloc(),
-        &drawing,
-        &mut Counting::new(&mut trace),
-        &mut Counting::new(&mut output),
-    );
-    output.ended(drawn.map_err(|fault| trace.named(fault)))
+    output.ended(served.map_err(|fault| trace.named(fault)))
 }
 
 /// The text, where there is one.
@@ -266,23 +230,16 @@ fn import(
 
 /// Prints the verdict on the certificate in a file, for the trace in another, and gives its exit status. Both files are
 /// opened before one is read.
-fn check(
-    rt: &HostRuntime,
-    file: String,
-    certificate: String,
-    correct: Correct,
-    until: Option<u64>,
-) -> Result<u8, Fault> {
+fn check(rt: &HostRuntime, file: String, certificate: String, claim: Claim) -> Result<u8, Fault> {
     let mut trace = Input::open(rt, file)?;
     let mut claimed = Input::open(rt, certificate)?;
     let mut output = Output::new(rt.stdout());
     let judged = run_check(
         rt.alloc(),
+        &claim,
         &mut Counting::new(&mut trace),
         &mut Counting::new(&mut claimed),
         &mut Counting::new(&mut output),
-        correct,
-        until,
     );
     match judged {
         Ok(verdict) => Ok(verdict_status(verdict)),

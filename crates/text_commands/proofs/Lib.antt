@@ -1,6 +1,5 @@
-pub mod ServeFaults
-pub mod ReportFaults
-pub mod ReplayFaults
+pub mod DeclinedTraces
+pub mod WrittenAnswers
 pub mod CheckFaults
 pub mod ImportFaults
 pub mod ReadBack

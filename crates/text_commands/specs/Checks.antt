@@ -1,43 +1,52 @@
--- Why the program doesn't check a certificate against a trace text.
-use Rattle.std.specs.Prelude.{ℕ, ◌≡◌, ◌⊎◌, List, Option, true, false, ⊤}
-use Rattle.step_trace.specs.declared.correct_sets.Correct.{Correct}
-use Rattle.step_trace.specs.CorrectSets.{named}
-use Rattle.step_trace.specs.Processors.{IsWithin}
+-- Why the program doesn't check a certificate by a trace, and the line that it writes where it does.
+use Rattle.std.specs.Prelude.{ℕ, ◌≡◌, ◌≢◌, ◌⊎◌, List, Err, ⊤}
 use Rattle.step_trace.specs.Traces.{Recorded}
+use Rattle.certificate_checker.specs.declared.verdicts.Verdict.{Verdict}
 use Rattle.trace_text.specs.Faults.{Rose}
-use Rattle.text_verdicts.specs.Checks.{IsUncertified}
-use Rattle.text_verdicts.specs.Texts.{IsTextOf}
+use Rattle.front.specs.declared.refusals.ReportError.{ReportError}
+use Rattle.front.specs.declared.refusals.ReportError.TheVariants as why
+use Rattle.front.specs.ReportRefusals.{rows_of_text}
+use Rattle.text_verdicts.specs.Checks.{IsUncertified, IsVerdictOn}
+use Rattle.text_verdicts.specs.Texts.{HasCorrect}
+use Rattle.text_verdicts.specs.VerdictLines.{told_verdict}
 use Rattle.command_faults.specs.declared.faults.Fault.{Fault}
 use Rattle.command_faults.specs.declared.faults.Fault.TheVariants as fault
 use Rattle.command_faults.specs.declared.faults.ReportOption.TheVariants as option
-use Rattle.command_faults.specs.declared.faults.TickOutside.{TickOutside}
+use Rattle.command_options.specs.declared.Claim.{Claim}
+use Rattle.text_commands.specs.Answers.{IsOutside}
 use Rattle.text_commands.specs.ReportParts.{IsNoTickOf}
-use Rattle.text_commands.specs.Reports.{IsTextFault}
-use Rattle.text_commands.specs.Serving.{IsFaultOf, Kinds}
+use Rattle.text_commands.specs.Serving.{MayTell}
 
--- The text stands for a trace that has all correct processors, and not the tick.
-pub record IsUntilRefused (correct : Correct) (until : Option ℕ) (text : List ℕ) (o : TickOutside) : Type 0 where
-  pub trace : Recorded
-  pub read : IsTextOf text trace
-  pub within : IsWithin (named correct trace.config.n) trace.config.n
-  pub outside : IsNoTickOf until trace o
+-- The line is that of the verdict on the certificate by the trace.
+pub record IsLineOn (claim : Claim) (certificate : List ℕ) (t : Recorded) (line : List ℕ) : Type 0 where
+  pub verdict : Verdict
+  pub exact : IsVerdictOn claim.correct claim.until certificate verdict t
+  pub told : line ≡ told_verdict verdict
 
--- it may refuse a set, a tick, and a certificate
-abbrev pub check_kinds : Kinds
-check_kinds = record { set = true; certificate = true; run = false; threads = false; picture = false; part = true; log = false }
+-- the reason is a refusal of the text; want of memory and a failed read are none
+abbrev pub IsRefusalOfText : ReportError → Type 0
+IsRefusalOfText reason = (reason ≢ why.Read) × (reason ≢ why.Memory)
 
--- the fault is one of these, and nothing was to be written yet
-abbrev pub IsFaultBefore : Fault → Type 0
-IsFaultBefore (fault.Write n) = ⊥
-IsFaultBefore w = IsFaultOf check_kinds w
+-- the fault is the first refusal of the certificate, or want of memory
+abbrev pub IsBadCertificate : List ℕ → Fault → Type 0
+IsBadCertificate certificate (fault.Certificate reason) = (rows_of_text certificate ≡ Err reason) × IsRefusalOfText reason
+IsBadCertificate certificate fault.Memory = ⊤
+IsBadCertificate certificate _ = ⊥
 
--- The fault has its cause in the texts: the first refusal of the trace, a correct processor that it hasn't, or else a tick
--- that it hasn't, or else the first refusal of the certificate; or it is a failed read, or want of memory.
-abbrev pub IsUnchecked : Correct → Option ℕ → List ℕ → List ℕ → Fault → Type 0
-IsUnchecked correct until certificate text (fault.Certificate reason) = IsUncertified correct until text certificate reason
-IsUnchecked correct until certificate text (fault.Report option.Until o) = IsUntilRefused correct until text o
-IsUnchecked correct until certificate text fault.Read = ⊤
-IsUnchecked correct until certificate text w = IsTextFault correct text w
+-- for what no certificate is checked by the trace: a correct processor that it hasn't, or else a tick
+abbrev pub IsUncut : Claim → Recorded → Fault → Type 0
+IsUncut claim t (fault.Report option.Until o) = HasCorrect claim.correct t × IsNoTickOf claim.until t o
+IsUncut claim t w = IsOutside claim.correct t w
+
+-- for what this one isn't: the same, or else the first refusal of the certificate
+abbrev pub IsUnchecked : Claim → List ℕ → Recorded → Fault → Type 0
+IsUnchecked claim certificate t (fault.Certificate reason) = IsUncertified claim.correct claim.until certificate reason t × IsRefusalOfText reason
+IsUnchecked claim certificate t w = IsUncut claim t w
+
+-- what the command may tell: a refusal of a certificate, or what it may tell of the trace alone
+abbrev pub IsToldOfChecks : Claim → Fault → Type 0
+IsToldOfChecks claim (fault.Certificate reason) = IsRefusalOfText reason
+IsToldOfChecks claim w = MayTell (IsUncut claim) w
 
 -- where the fault is a failed read, a call of one of two readers answered a fault; else none did
 abbrev pub IsEitherReadFault : ℕ → ℕ → ℕ → ℕ → Fault → Type 0

@@ -1,8 +1,6 @@
--- What the program makes of a trace text in a picture (own).
-use Rattle.std.specs.Prelude.{ℕ, ◌≡◌, List, [], Option, Some, None, Result, Ok, Err, String, string_bytes, true, false, ⊤}
+-- What the program makes of a trace in a picture.
+use Rattle.std.specs.Prelude.{ℕ, ◌≡◌, List, [], Option, Some, None, Result, Ok, Err, String, string_bytes, ⊤}
 use Rattle.step_trace.specs.declared.rows.Row.{Row}
-use Rattle.step_trace.specs.CorrectSets.{named}
-use Rattle.step_trace.specs.Processors.{IsWithin}
 use Rattle.step_trace.specs.Traces.{Recorded}
 use Rattle.step_trace.specs.Fronts.{IsReport}
 use Rattle.run_picture.specs.declared.pictures.Picture.{Picture}
@@ -15,15 +13,13 @@ use Rattle.run_picture.specs.declared.names.NamesError.TheVariants as no_names
 use Rattle.run_picture.specs.Names.{AreNames, IsNamesRefusal, parts_of}
 use Rattle.run_picture.specs.Pictures.{Shows}
 use Rattle.run_picture.specs.Windows.{window_of}
-use Rattle.text_commands.specs.declared.drawings.Drawing.{Drawing}
+use Rattle.command_options.specs.declared.Drawing.{Drawing}
 use Rattle.command_faults.specs.declared.faults.Fault.{Fault}
 use Rattle.command_faults.specs.declared.faults.Fault.TheVariants as fault
 use Rattle.command_faults.specs.declared.faults.PictureOption.{PictureOption}
 use Rattle.command_faults.specs.declared.faults.PictureOption.TheVariants as option
-use Rattle.command_faults.specs.declared.faults.SetOption.TheVariants as set_option
-use Rattle.text_verdicts.specs.Texts.{IsTextOf}
-use Rattle.text_commands.specs.Reports.{IsSetRefused}
-use Rattle.text_commands.specs.Serving.{IsRefusal, Kinds}
+use Rattle.text_verdicts.specs.Texts.{HasCorrect}
+use Rattle.text_commands.specs.Answers.{IsOutside}
 
 abbrev pub are_names_in : {B : Type 0} → Option (String B) → ℕ → Type 0
 are_names_in None count = ⊤
@@ -49,23 +45,21 @@ pub record IsDrawable (d : Drawing) (t : Recorded) : Type 0 where
   pub asked : window_for d t.last ≡ Ok window
 
 -- The picture has the marks of the window that is asked for, with the rows of the trace's report.
-pub record IsPictureFor (d : Drawing) (t : Recorded) (picture : Picture) : Type 0 where
+pub record IsPictureFor (set : ℕ) (d : Drawing) (t : Recorded) (picture : Picture) : Type 0 where
   pub window : Window
   pub asked : window_for d t.last ≡ Ok window
   pub rows : List Row
-  pub exact : IsReport (named d.correct t.config.n) t rows
+  pub exact : IsReport set t rows
   pub shows : Shows t rows window picture
   pub marks : ShowsExactly t window picture
   pub misses : ShowsMisses t rows window picture.misses.items
   pub gaps : ShowsGaps rows window picture.gaps.items
 
--- The text stands for a trace that has all correct processors, and that can be drawn as asked. Nothing is said of the
--- second text: what a mark looks like is only tested.
-pub record IsDrawingOf (d : Drawing) (text picture : List ℕ) : Type 0 where
-  pub trace : Recorded
-  pub read : IsTextOf text trace
-  pub within : IsWithin (named d.correct trace.config.n) trace.config.n
-  pub drawable : IsDrawable d trace
+-- The trace has all correct processors, and can be drawn as asked. Nothing is said of the text: what a mark looks like is
+-- only tested.
+pub record IsDrawingOf (d : Drawing) (t : Recorded) (picture : List ℕ) : Type 0 where
+  pub within : HasCorrect d.correct t
+  pub drawable : IsDrawable d t
 
 -- the option that a window is refused for
 abbrev pub option_of : WindowError → PictureOption
@@ -114,24 +108,7 @@ IsUndrawn d t (fault.Picture o) = IsUndrawnFor d t o
 IsUndrawn d t fault.Memory = ⊤
 IsUndrawn d t _ = ⊥
 
--- The text stands for a trace that has all correct processors, and of which there is no picture for this option.
-pub record IsTraceUndrawn (d : Drawing) (text : List ℕ) (o : PictureOption) : Type 0 where
-  pub trace : Recorded
-  pub read : IsTextOf text trace
-  pub within : IsWithin (named d.correct trace.config.n) trace.config.n
-  pub undrawn : IsUndrawnFor d trace o
-
--- it may refuse a set, and an option of a picture
-abbrev pub drawing_kinds : Kinds
-drawing_kinds = record { set = true; certificate = false; run = false; threads = false; picture = true; part = false; log = false }
-
--- for what the text has no picture, beside the refusals of a trace text: a correct processor that its trace hasn't, or an
--- option
-abbrev pub IsUndrawnText : Drawing → List ℕ → Fault → Type 0
-IsUndrawnText d text (fault.Set set_option.Correct o) = IsSetRefused d.correct text o
-IsUndrawnText d text (fault.Picture o) = IsTraceUndrawn d text o
-IsUndrawnText d text _ = ⊥
-
--- why there is no picture of the text
-abbrev pub IsUndrawable : Drawing → List ℕ → Fault → Type 0
-IsUndrawable d = IsRefusal drawing_kinds (IsUndrawnText d)
+-- for what the trace has no picture: a correct processor that it hasn't, or else an option
+abbrev pub IsUndrawnTrace : Drawing → Recorded → Fault → Type 0
+IsUndrawnTrace d t (fault.Picture o) = HasCorrect d.correct t × IsUndrawnFor d t o
+IsUndrawnTrace d t w = IsOutside d.correct t w

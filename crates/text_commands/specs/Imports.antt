@@ -1,24 +1,21 @@
 -- What the program makes of a log in an import.
-use Rattle.std.specs.Prelude.{ℕ, ◌≡◌, ◌≢◌, ◌<◌, ◌⊎◌, List, length, Option, IfSome, IsTrue, true, false, ⊤}
-use Rattle.trace_text.specs.declared.byte_loops.TheConstants.{MAX_TEXT_BYTES}
+use Rattle.std.specs.Prelude.{ℕ, ◌≡◌, ◌≢◌, ◌⊎◌, List, Option, IsTrue, ⊤}
 use Rattle.trace_text.specs.declared.counting.Counting.{Counting}
 use Rattle.trace_text.specs.declared.refusals.WriteError.{WriteError}
 use Rattle.trace_text.specs.ByteLoops.{MetOneFault, WroteFront}
 use Rattle.trace_text.specs.Faults.{inner_of, is_flushed}
 use Rattle.trace_text.specs.TextWriting.{Wrote}
-use Rattle.trace_text.specs.TraceTexts.{trace_text_2}
 use Rattle.event_log.specs.declared.imports.Import.{Import}
 use Rattle.event_log.specs.declared.options.OptionError.TheVariants as no_options
 use Rattle.event_log.specs.declared.options.Options.{Options}
 use Rattle.event_log.specs.declared.refusals.LogError.TheVariants as no_log
 use Rattle.event_log.specs.Imports.{IsImportOf, IsLogRefusal}
 use Rattle.event_log.specs.Options.{IsOptionFault}
-use Rattle.text_verdicts.specs.Texts.{IsTextOf}
 use Rattle.command_faults.specs.declared.faults.Fault.{Fault}
 use Rattle.command_faults.specs.declared.faults.Fault.TheVariants as fault
 use Rattle.command_faults.specs.declared.faults.ImportOption.TheVariants as option
 use Rattle.text_commands.specs.ImportLines.{notes_of}
-use Rattle.text_commands.specs.Serving.{IsFaultOf, Kinds}
+use Rattle.text_commands.specs.Upgrades.{IsUpgradeOf}
 
 -- why three texts tell no options: the first of them that is bad; or want of memory
 abbrev pub IsImportOptionFault : Option (List ℕ) → Option (List ℕ) → Option (List ℕ) → Fault → Type 0
@@ -33,8 +30,7 @@ IsImportOptionFault nodes tick until _ = ⊥
 pub record IsImportTold (o : Options) (Told : List ℕ → Type 0) (text out : List ℕ) : Type 0 where
   pub import : Import
   pub exact : IsImportOf o text import
-  pub written : out ≡ trace_text_2 import.trace
-  pub stands : IsTextOf out import.trace
+  pub written : IsUpgradeOf import.trace out
   pub told : Told (notes_of o import)
 
 -- a text went out whole, and was flushed; or the writer met a fault, after so many of its first bytes
@@ -48,21 +44,10 @@ IsUnimported o text (fault.Log reason) = IsLogRefusal o text reason × (reason �
 IsUnimported o text fault.Memory = ⊤
 IsUnimported o text _ = ⊥
 
--- a log isn't read to its end: it is too large, a read failed, or there was no memory
-abbrev pub IsUnreadLog : Option (List ℕ) → Fault → Type 0
-IsUnreadLog known (fault.Log no_log.TooLarge) = IfSome known (λ text. MAX_TEXT_BYTES < length text)
-IsUnreadLog known fault.Read = ⊤
-IsUnreadLog known fault.Memory = ⊤
-IsUnreadLog known _ = ⊥
-
--- it may refuse a log
-abbrev pub import_kinds : Kinds
-import_kinds = record { set = false; certificate = false; run = false; threads = false; picture = false; part = false; log = true }
-
--- the fault is one of these, and no refusal of a trace text
-abbrev pub IsFaultOfImport : Fault → Type 0
-IsFaultOfImport (fault.Trace reason) = ⊥
-IsFaultOfImport w = IsFaultOf import_kinds w
+-- the fault of a command that reads logs, and no trace text: a refusal of a log
+abbrev pub IsToldOfLogs : Fault → Type 0
+IsToldOfLogs (fault.Log reason) = reason ≢ no_log.Memory
+IsToldOfLogs _ = ⊥
 
 -- nothing was told but before a failed write
 abbrev pub IsQuietFault : {T : Type 0} → Counting T → Counting T → Fault → Type 0

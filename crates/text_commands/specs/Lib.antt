@@ -1,6 +1,7 @@
 pub mod ImportLines
 pub mod Serving
-pub mod Inputs
+pub mod Answers
+pub mod Texts
 pub mod Reports
 pub mod ReportParts
 pub mod Drawings

@@ -1,99 +1,60 @@
-//! The picture of a run as SVG, from a reader to a writer.
+//! The picture of a trace as SVG: the command `draw`.
 
-ghost use Rattle.std.specs.Prelude.{◌≡◌, IfErr, IfOk, IsTrue, MatchResult, OnOk, map};
-ghost use Rattle.step_trace.specs.CorrectSets.{named};
+ghost use Rattle.std.specs.Prelude.{◌≡◌, IfErr, IfOk, MatchResult, OnOk, map};
 ghost use Rattle.step_trace.specs.Processors.{IsWithin};
-ghost use Rattle.text_commands.specs.Drawings.{AreNamesFor, IsDrawable, IsDrawingOf, IsMarksFault, IsNamesFault, IsPictureFor, IsUndrawable, IsUndrawn, IsWindowFault, drawing_kinds, names_fault, names_of_list, option_of, window_for};
-ghost use Rattle.text_commands.specs.Serving.{HasServed, IsAtEnd, IsFaultOf, IsReadFault, IsUnserved, IsWriteFault, WasFaultless, faults_of, inner_of, is_flushed};
+ghost use Rattle.text_commands.specs.Drawings.{AreNamesFor, IsDrawable, IsMarksFault, IsNamesFault, IsPictureFor, IsUndrawn, IsWindowFault, names_fault, names_of_list, option_of, window_for};
 
-use crate::checks::trace_within;
-use crate::inputs::set_of;
+use crate::answers::Answer;
 use crate::report_parts::report_of;
-use crate::serving::{Answer, serve};
+use crate::traces::set_of;
 use command_faults::{Fault, PictureOption};
+use command_options::Drawing;
 use run_picture::{
     NamesError, Picture, Window, WindowError, names_of, picture_of, svg_text, window_of,
 };
 use std::alloc::Global;
-use std::io::{Read, Write};
-use step_trace::{Correct, Trace};
-use trace_text::Counting;
+use step_trace::{ProcSet, Trace};
 
-/// What a picture is asked for.
-#[derive(Debug, Drop)]
-pub struct Drawing {
-    /// The processors that count as correct.
-    pub correct: Correct,
-    /// The first tick to draw: 1 where there is none.
-    pub from: Option<u64>,
-    /// The last tick to draw: 99 ticks later, or the last of the trace, where there is none.
-    pub to: Option<u64>,
-    /// The names of the processors, with commas between them: their numbers where there are none.
-    pub names: Option<String>,
-}
-
-/// Reads a trace text to its end, and writes the picture of its trace as SVG: the bounds of every tick, for the
-/// drawing's correct processors, and the steps, messages and witnesses of the drawing's ticks. Nothing is
-/// written before the whole picture stands.
+/// A picture: the bounds of every tick, for the correct processors, and the steps, messages and witnesses of some ticks.
 ///
-/// Refuses, in this order: Read, or Trace for a text that is too large; Trace for any other refusal of the text; Set
-/// if a correct processor is above the trace's number of processors; Picture for the names, the first tick and the last tick,
-/// in this order; Write with the number of bytes that went out before. Memory may come at any step before the first
-/// write.
-pub fn run_draw<R: Read, W: Write>(
-    alloc: Global,
-    drawing: &Drawing,
-    reader: &mut Counting<R>,
-    writer: &mut Counting<W>,
-) -> Result<(), Fault>
-    ensures end { OnOk result (IsAtEnd (R.remaining (inner_of reader.new))) }
-    ensures drawing { OnOk result (HasServed (IsDrawingOf drawing.now) (R.remaining (inner_of reader.old)) (W.contents (inner_of writer.old)) (W.contents (inner_of writer.new))) }
-    ensures flushed { OnOk result (IsTrue (is_flushed writer.new)) }
-    ensures faultless { OnOk result ((faults_of reader.new ≡ faults_of reader.old) × WasFaultless writer.old writer.new) }
-    ensures refused { IfErr result (IsUnserved (IsDrawingOf drawing.now) (IsUndrawable drawing.now)
-        (R.remaining (inner_of reader.old)) (W.contents (inner_of writer.old)) (W.contents (inner_of writer.new))) }
-    ensures own { IfErr result (IsFaultOf drawing_kinds) }
-    ensures read { IfErr result (IsReadFault (faults_of reader.old) (faults_of reader.new)) }
-    ensures unwritten { IfErr result (IsWriteFault writer.old writer.new) }
-{
-    serve(alloc, drawing, reader, writer)
-}
-
+/// Declines a trace, in this order, by: Set if a correct processor is above its number of processors; Picture for the names,
+/// the first tick and the last tick.
 impl Answer for Drawing {
-    ghost use Rattle.text_commands.specs.Drawings.{IsDrawingOf, IsUndrawnText, drawing_kinds};
+    ghost use Rattle.text_commands.specs.Drawings.{IsDrawingOf, IsUndrawnTrace};
 
     ghost Gives = { λ d. IsDrawingOf d };
 
-    ghost kinds = { λ _. drawing_kinds };
+    ghost Declines = { λ d. IsUndrawnTrace d };
 
-    ghost Declines = { λ d. IsUndrawnText d };
-
-    fn answer(&self, alloc: Global, text: Vec<u8>) -> Result<Vec<u8>, Fault> {
-        let trace = trace_within(alloc, text, &self.correct)?;
-        drawn(alloc, &trace, self)
+    fn answer(&self, alloc: Global, trace: Trace) -> Result<Vec<u8>, Fault> {
+        let set = set_of(self.correct, &trace)?;
+        drawn(alloc, &trace, set, self)
     }
 }
 
 /// The picture of a trace, as SVG.
-fn drawn(alloc: Global, trace: &Trace, drawing: &Drawing) -> Result<Vec<u8>, Fault>
-    requires within { IsWithin (named drawing.now.correct trace.now.config.n) trace.now.config.n }
+fn drawn(alloc: Global, trace: &Trace, set: ProcSet, drawing: &Drawing) -> Result<Vec<u8>, Fault>
+    requires within { IsWithin set trace.now.config.n }
     ensures drawable { OnOk result (IsDrawable drawing.now trace.now) }
     ensures refused { IfErr result (IsUndrawn drawing.now trace.now) }
 {
     let names = names_for(alloc, drawing, trace.config().n())?;
-    let picture = marks_for(alloc, trace, drawing)?;
-    let set = set_of(&drawing.correct, trace);
+    let picture = marks_for(alloc, trace, set, drawing)?;
     Ok(svg_text(alloc, trace, &picture, set, &names)?)
 }
 
 /// The marks of the ticks that are asked for, with the rows of the trace's report.
-fn marks_for(alloc: Global, trace: &Trace, drawing: &Drawing) -> Result<Picture, Fault>
-    requires within { IsWithin (named drawing.now.correct trace.now.config.n) trace.now.config.n }
-    ensures marks { IfOk result (λ picture. IsPictureFor drawing.now trace.now picture) }
+fn marks_for(
+    alloc: Global,
+    trace: &Trace,
+    set: ProcSet,
+    drawing: &Drawing,
+) -> Result<Picture, Fault>
+    requires within { IsWithin set trace.now.config.n }
+    ensures marks { IfOk result (IsPictureFor set drawing.now trace.now) }
     ensures refused { IfErr result (IsMarksFault drawing.now trace.now.last) }
 {
     let window = window_for(drawing, trace.last_tick())?;
-    let set = set_of(&drawing.correct, trace);
     let report = report_of(alloc, trace, set)?;
     Ok(picture_of(alloc, trace, report.rows(), window)?)
 }

@@ -1,18 +1,19 @@
 //! The trace of a log, from a reader to a writer.
 
-ghost use Rattle.std.specs.Prelude.{◌≡◌, OnOk, IfOk, IfErr, IfSome, IsTrue, option_map, string_bytes};
+ghost use Rattle.std.specs.Prelude.{◌≡◌, IfOk, IfErr, option_map, string_bytes};
 ghost use Rattle.event_log.specs.Imports.{IsImportOf};
 ghost use Rattle.event_log.specs.Options.{AreOptions};
-ghost use Rattle.text_commands.specs.Imports.{IsFaultOfImport, IsImportOptionFault, IsImportTold, IsQuietFault, IsUnimported, IsUnreadLog, WentOut};
-ghost use Rattle.text_commands.specs.Serving.{HasServed, IsAtEnd, IsReadFault, IsUnserved, IsWriteFault, WasFaultless, faults_of, inner_of, is_flushed};
+ghost use Rattle.text_commands.specs.Imports.{IsImportOptionFault, IsImportTold, IsQuietFault, IsToldOfLogs, IsUnimported, WentOut};
+ghost use Rattle.text_commands.specs.Serving.{Serves};
 
 use crate::import_lines::notes_text;
+use crate::texts::read_whole;
 use crate::upgrades::text_2_of;
 use command_faults::Fault;
 use event_log::{Import, LogError, Options, read_log, read_options};
 use std::alloc::Global;
 use std::io::{Read, Write};
-use trace_text::{Counting, TextError, read_all, write_text};
+use trace_text::{Counting, write_text};
 
 /// How a log is read, as texts tell it: the nodes, with one comma between each two; the length of a tick, which is 1 where
 /// it is left out; and when the log ends.
@@ -44,38 +45,14 @@ pub fn run_import<R: Read, W: Write, N: Write>(
     writer: &mut Counting<W>,
     notes: &mut Counting<N>,
 ) -> Result<(), Fault>
-    ensures end { OnOk result (IsAtEnd (R.remaining (inner_of reader.new))) }
-    ensures import { OnOk result (HasServed (IsImportTold options.now (WentOut N.contents notes.old notes.new))
-        (R.remaining (inner_of reader.old)) (W.contents (inner_of writer.old)) (W.contents (inner_of writer.new))) }
-    ensures flushed { OnOk result (IsTrue (is_flushed writer.new)) }
-    ensures faultless { OnOk result ((faults_of reader.new ≡ faults_of reader.old) × WasFaultless writer.old writer.new) }
-    ensures refused { IfErr result (IsUnserved (IsImportTold options.now (WentOut N.contents notes.old notes.new)) (IsUnimported options.now)
-        (R.remaining (inner_of reader.old)) (W.contents (inner_of writer.old)) (W.contents (inner_of writer.new))) }
-    ensures own { IfErr result IsFaultOfImport }
-    ensures read { IfErr result (IsReadFault (faults_of reader.old) (faults_of reader.new)) }
-    ensures unwritten { IfErr result (IsWriteFault writer.old writer.new) }
+    ensures served { Serves (IsImportTold options.now (WentOut N.contents notes.old notes.new)) (IsUnimported options.now) IsToldOfLogs
+        R.remaining W.contents reader.old reader.new writer.old writer.new result }
     ensures quiet { IfErr result (IsQuietFault notes.old notes.new) }
 {
-    let text = log_text(alloc, reader)?;
+    let text = read_whole(alloc, reader, Fault::Log(LogError::TooLarge))?;
     let texts = texts_of(alloc, text, options)?;
     tell_notes(texts.notes.as_str(), notes);
     Ok(write_text(&texts.trace, writer)?)
-}
-
-/// All bytes of a log.
-fn log_text<R: Read>(alloc: Global, reader: &mut Counting<R>) -> Result<Vec<u8>, Fault>
-    ensures text { IfOk result (λ text. IfSome (R.remaining (inner_of reader.old)) (λ known. text.items ≡ known)) }
-    ensures end { OnOk result (IsAtEnd (R.remaining (inner_of reader.new))) }
-    ensures faultless { OnOk result (faults_of reader.new ≡ faults_of reader.old) }
-    ensures refused { IfErr result (IsUnreadLog (R.remaining (inner_of reader.old))) }
-    ensures read { IfErr result (IsReadFault (faults_of reader.old) (faults_of reader.new)) }
-{
-    match read_all(alloc, reader) {
-        Ok(text) => Ok(text),
-        Err(TextError::TooLarge) => Err(Fault::Log(LogError::TooLarge)),
-        Err(TextError::Read) => Err(Fault::Read),
-        Err(_) => Err(Fault::Memory),
-    }
 }
 
 /// What is made of a log.

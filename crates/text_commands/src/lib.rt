@@ -1,28 +1,30 @@
-//! The commands that make text of text, each from a reader to a writer: the report of a trace, its replay,
-//! its upgrade, its picture, and the check of a report; and the trace of a log. `specs/` has the definitions that the
-//! contracts cite.
+//! The commands that make text of text. Each that makes a text of a trace is an `Answer`: the report of the trace, its
+//! replay, its upgrade, its picture. Two doors lead to an answer: `serve`, from a reader to a writer, and `answer_to`, of a
+//! text in memory. Reports by several workers, checks of reports and imports of logs have bodies of their own, and cite the
+//! same definitions (`specs/`).
 #![tactic(auto)]
 
+mod answers;
 mod checks;
 mod drawings;
 mod import_lines;
 mod imports;
-mod inputs;
 mod replay_texts;
 mod replays;
 mod report_parts;
 mod reports;
 mod serving;
+mod texts;
+mod traces;
 mod upgrades;
 mod verdict_lines;
 
-pub use checks::run_check;
-pub use drawings::{Drawing, run_draw};
+pub use answers::{Answer, answer_to};
+pub use checks::{run_check, verdict_on};
 pub use imports::{import_options, run_import};
-pub use replays::run_replay;
-pub use report_parts::{ReportPart, run_report_part};
+pub use replays::{Replay, run_replay};
 pub use reports::run_report;
-pub use serving::{Answer, serve};
+pub use serving::serve;
 pub use text_verdicts::verdict_status;
-pub use upgrades::run_upgrade;
+pub use upgrades::Upgrade;
 pub use verdict_lines::tell_verdict;

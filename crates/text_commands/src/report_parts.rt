@@ -1,76 +1,35 @@
-//! A part of the report of a trace text, from a reader to a writer: the row that serves a tick, of the report of the
-//! trace up to a tick.
+//! A part of the report of a trace: of the trace up to a tick or of all of it, all rows or the one that serves a tick. The
+//! command `report`, but for its workers (`reports.rt`).
 
-ghost use Rattle.std.specs.Prelude.{◌≡◌, ◌↔◌, Some, OnOk, IfOk, IfErr, IsTrue};
-ghost use Rattle.step_trace.specs.CorrectSets.{named};
+ghost use Rattle.std.specs.Prelude.{◌≡◌, ◌↔◌, Some, IfOk, IfErr, IsTrue};
 ghost use Rattle.step_trace.specs.Fronts.{IsReport};
 ghost use Rattle.step_trace.specs.Processors.{IsWithin};
 ghost use Rattle.step_trace.specs.Ticks.{IsTimed};
-ghost use Rattle.text_commands.specs.ReportParts.{IsAtFault, IsPartOfReport, IsPartUnreported, IsRowAt, IsTextFor, IsUntilFault, part_kinds};
-ghost use Rattle.text_commands.specs.Serving.{HasServed, IsAtEnd, IsFaultOf, IsReadFault, IsUnserved, IsWriteFault, WasFaultless, faults_of, inner_of, is_flushed};
+ghost use Rattle.text_commands.specs.ReportParts.{IsAtFault, IsRowAt, IsTextFor, IsUntilFault};
 ghost use Rattle.text_verdicts.specs.Cuts.{IsReportedTo, IsTickOf};
 
-use crate::checks::trace_within;
-use crate::inputs::set_of;
-use crate::serving::{Answer, serve};
+use crate::answers::Answer;
+use crate::traces::set_of;
 use command_faults::{Fault, ReportOption, TickOutside};
+use command_options::ReportPart;
 use front::{Report, front, report_text_of};
 use std::alloc::{AllocError, Global};
-use std::io::{Read, Write};
-use step_trace::{Correct, ProcSet, Row, Trace};
+use step_trace::{ProcSet, Row, Trace};
 use suffix_staircase::Stairs;
-use trace_text::Counting;
 
-/// Which part of a report is asked for.
-#[derive(Debug, Drop)]
-pub struct ReportPart {
-    /// The processors that count as correct.
-    pub correct: Correct,
-    /// The tick up to which the trace is reported, as if it had ended there: all of it where there is none.
-    pub until: Option<u64>,
-    /// The tick whose row is printed alone: all rows where there is none.
-    pub at: Option<u64>,
-}
-
-/// Reads a trace text to its end, and writes a part of a report, for the part's correct processors: of the
-/// trace up to a tick or of all of it, all rows or the one that serves a tick. Nothing is written before all of it
-/// stands. One thread reads the text and finds the bounds.
+/// A part of a report. One thread finds its bounds.
 ///
-/// Refuses, in this order: Read, or Trace for a text that is too large; Trace for any other refusal of the text; Set
-/// if a correct processor is above the trace's number of processors; Report for a tick that the trace hasn't, first the one up
-/// to which it is reported, then the one that is to be served, which the trace has to have up to there; Write with the
-/// number of bytes that went out before. Memory may come at any step before the first write.
-pub fn run_report_part<R: Read, W: Write>(
-    alloc: Global,
-    part: &ReportPart,
-    reader: &mut Counting<R>,
-    writer: &mut Counting<W>,
-) -> Result<(), Fault>
-    ensures end { OnOk result (IsAtEnd (R.remaining (inner_of reader.new))) }
-    ensures part { OnOk result (HasServed (IsPartOfReport part.now) (R.remaining (inner_of reader.old)) (W.contents (inner_of writer.old)) (W.contents (inner_of writer.new))) }
-    ensures flushed { OnOk result (IsTrue (is_flushed writer.new)) }
-    ensures faultless { OnOk result ((faults_of reader.new ≡ faults_of reader.old) × WasFaultless writer.old writer.new) }
-    ensures refused { IfErr result (IsUnserved (IsPartOfReport part.now) (IsPartUnreported part.now)
-        (R.remaining (inner_of reader.old)) (W.contents (inner_of writer.old)) (W.contents (inner_of writer.new))) }
-    ensures own { IfErr result (IsFaultOf part_kinds) }
-    ensures read { IfErr result (IsReadFault (faults_of reader.old) (faults_of reader.new)) }
-    ensures unwritten { IfErr result (IsWriteFault writer.old writer.new) }
-{
-    serve(alloc, part, reader, writer)
-}
-
+/// Declines a trace, in this order, by: Set if a correct processor is above its number of processors; Report for a tick that
+/// it hasn't, first the one up to which it is reported, then the one that is to be served, which it has to have up to there.
 impl Answer for ReportPart {
-    ghost use Rattle.text_commands.specs.ReportParts.{IsPartOfReport, IsUntoldPart, part_kinds};
+    ghost use Rattle.text_commands.specs.ReportParts.{IsPartOfReport, IsUntoldPart};
 
     ghost Gives = { λ p. IsPartOfReport p };
 
-    ghost kinds = { λ _. part_kinds };
-
     ghost Declines = { λ p. IsUntoldPart p };
 
-    fn answer(&self, alloc: Global, text: Vec<u8>) -> Result<Vec<u8>, Fault> {
-        let trace = trace_within(alloc, text, &self.correct)?;
-        let set = set_of(&self.correct, &trace);
+    fn answer(&self, alloc: Global, trace: Trace) -> Result<Vec<u8>, Fault> {
+        let set = set_of(self.correct, &trace)?;
         let reported = reported_to(alloc, trace, self.until)?;
         text_for(alloc, &reported, set, self.at)
     }

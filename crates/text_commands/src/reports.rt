@@ -1,16 +1,19 @@
-//! The report of a trace text, from a reader to a writer.
+//! The report of a trace text, from a reader to a writer, by several workers.
 
-ghost use Rattle.std.specs.Prelude.{◌≡◌, ◌≢◌, ◌≤◌, OnOk, IfOk, IfErr, IsTrue};
+ghost use Rattle.std.specs.Prelude.{◌≡◌, ◌≢◌, ◌≤◌, OnOk, IfOk, IfErr};
 ghost use Rattle.step_trace.specs.CorrectSets.{named};
 ghost use Rattle.step_trace.specs.Fronts.{IsReport};
 ghost use Rattle.step_trace.specs.Processors.{IsWithin};
 ghost use Rattle.chunk_join.specs.declared.analyses.TheConstants.{MAX_WORKERS};
-ghost use Rattle.text_commands.specs.Reports.{IsFaultFor, IsFaultOfWorkers, IsUnreported, TellsAnalysis, report_kinds};
-ghost use Rattle.text_commands.specs.Serving.{HasServed, IsAtEnd, IsFaultOf, IsReadFault, IsUnserved, IsWriteFault, WasFaultless, faults_of, inner_of, is_flushed};
-ghost use Rattle.text_verdicts.specs.Reports.{IsReportOf};
+ghost use Rattle.text_commands.specs.Answers.{IsDeclined};
+ghost use Rattle.text_commands.specs.Reports.{IsFaultOfWorkers, IsUnreported, TellsAnalysis};
+ghost use Rattle.text_commands.specs.Serving.{ServesTrace};
+ghost use Rattle.text_verdicts.specs.Reports.{IsReportFor};
+ghost use Rattle.text_verdicts.specs.Texts.{HasCorrect};
 
+use crate::traces::set_of;
 use chunk_join::{AnalyseError, analyse};
-use command_faults::{Fault, SetOption, correct_set};
+use command_faults::Fault;
 use front::{Report, front, write_report};
 use shared_reading::read_trace_from;
 use std::alloc::Global;
@@ -44,15 +47,7 @@ pub fn run_report<T: Threads + Wait + Sync, R: Read, W: Write, G: Gate>(
 ) -> Result<(), Fault>
     requires some { 1 ≤ workers }
     requires few { workers ≤ MAX_WORKERS }
-    ensures end { OnOk result (IsAtEnd (R.remaining (inner_of reader.new))) }
-    ensures report { OnOk result (HasServed (IsReportOf correct) (R.remaining (inner_of reader.old)) (W.contents (inner_of writer.old)) (W.contents (inner_of writer.new))) }
-    ensures flushed { OnOk result (IsTrue (is_flushed writer.new)) }
-    ensures faultless { OnOk result ((faults_of reader.new ≡ faults_of reader.old) × WasFaultless writer.old writer.new) }
-    ensures refused { IfErr result (IsUnserved (IsReportOf correct) (IsUnreported correct)
-        (R.remaining (inner_of reader.old)) (W.contents (inner_of writer.old)) (W.contents (inner_of writer.new))) }
-    ensures own { IfErr result (IsFaultOf report_kinds) }
-    ensures read { IfErr result (IsReadFault (faults_of reader.old) (faults_of reader.new)) }
-    ensures unwritten { IfErr result (IsWriteFault writer.old writer.new) }
+    ensures { ServesTrace (IsReportFor correct) (IsUnreported correct) R.remaining W.contents reader.old reader.new writer.old writer.new result }
 {
     let trace = read_trace_from(rt, alloc, reader, workers)?;
     let report = report_of(rt, alloc, trace, correct, workers, gate)?;
@@ -71,11 +66,11 @@ fn report_of<T: Threads + Wait + Sync, G: Gate>(
 ) -> Result<Report, Fault>
     requires some { 1 ≤ workers }
     requires few { workers ≤ MAX_WORKERS }
-    ensures within { OnOk result (IsWithin (named correct trace.config.n) trace.config.n) }
+    ensures within { OnOk result (HasCorrect correct trace) }
     ensures report { IfOk result (λ r. IsReport (named correct trace.config.n) trace r.rows) }
-    ensures refused { IfErr result (IsFaultFor correct trace) }
+    ensures refused { IfErr result (IsDeclined (IsUnreported correct trace)) }
 {
-    let set = correct_set(SetOption::Correct, correct, trace.config().n())?;
+    let set = set_of(correct, &trace)?;
     let report = rows_of(rt, alloc, &trace, set, workers, gate);
     mem::forget(trace);
     report

@@ -7,7 +7,7 @@ use Rattle.trace_text.specs.Faults.{Rose}
 use Rattle.trace_text.specs.Records.{◌>>=◌, after_records}
 use Rattle.front.specs.declared.refusals.ReportError.{ReportError}
 use Rattle.front.specs.declared.refusals.ReportError.TheVariants as why
-use Rattle.front.specs.ReportReading.{RefusedFor, faults_after_report}
+use Rattle.front.specs.ReportReading.{RefusedFor}
 use Rattle.front.specs.ReportRefusals.{Gives, is_header, is_memory, next_rows, row_of, rows_at_end, rows_of_records, with_row}
 use Rattle.front.specs.ReportTexts.{StandsFor}
 use Rattle.certificate_checker.specs.declared.claims.ClaimedRows.{ClaimedRows}
@@ -85,29 +85,15 @@ rows_under last (Err e) t h = (Err e, refused (is_memory e) t h, refl) where
   refused false (Err f) h = let same : f ≡ e = cc h in rw same refl
 
 -- so what is said of the rows is said of it
-pub kept-stands : (last : ℕ) (r : Result ClaimedRows ReportError) (under : Result (List Row) ReportError) (known : Option (List ℕ)) (text : List ℕ) → kept_of last under ≡ r
-    → IfOk under (λ rows. IfSome known (λ t. StandsFor t rows)) → IfSome known (λ xs. text ≡ xs) → length text ≤ MAX_TEXT_BYTES → IfOk r (IsKeptOf last known)
-kept-stands last r (Err e) known text same h whole short = subst (λ (x : Result ClaimedRows ReportError). IfOk x (IsKeptOf last known)) same tt
-kept-stands last r (Ok rows) known text same h whole short =
-    subst (λ (x : Result ClaimedRows ReportError). IfOk x (IsKeptOf last known)) same (record { rows = rows; claimed = refl; stands = both known h whole })
-  where
-    both : (known : Option (List ℕ)) → IfSome known (λ t. StandsFor t rows) → IfSome known (λ xs. text ≡ xs) → IfSome known (λ t. StandsFor t rows × (length t ≤ MAX_TEXT_BYTES))
-    both None h whole = tt
-    both (Some t) h whole = (h, subst (λ (xs : List ℕ). length xs ≤ MAX_TEXT_BYTES) whole short)
+pub kept-stands : (last : ℕ) (r : Result ClaimedRows ReportError) (under : Result (List Row) ReportError) (text : List ℕ) → kept_of last under ≡ r
+    → IfOk under (StandsFor text) → length text ≤ MAX_TEXT_BYTES → IfOk r (IsKeptOf last text)
+kept-stands last r (Err e) text same h short = subst (λ (x : Result ClaimedRows ReportError). IfOk x (IsKeptOf last text)) same tt
+kept-stands last r (Ok rows) text same h short =
+    subst (λ (x : Result ClaimedRows ReportError). IfOk x (IsKeptOf last text)) same (record { rows = rows; claimed = refl; stands = h; size = short })
 
 pub kept-refused : (last : ℕ) (r : Result ClaimedRows ReportError) (under : Result (List Row) ReportError) (P : ReportError → Type 0) → kept_of last under ≡ r → IfErr under P → IfErr r P
 kept-refused last r (Ok rows) P same h = subst (λ (x : Result ClaimedRows ReportError). IfErr x P) same tt
 kept-refused last r (Err e) P same h = subst (λ (x : Result ClaimedRows ReportError). IfErr x P) same h
-
-pub kept-faultless : (last : ℕ) (r : Result ClaimedRows ReportError) (under : Result (List Row) ReportError) (n : ℕ) → kept_of last under ≡ r → faults_after_report under n ≡ n → faults_after_report r n ≡ n
-kept-faultless last r (Ok rows) n same h = subst (λ (x : Result ClaimedRows ReportError). faults_after_report x n ≡ n) same refl
-kept-faultless last r (Err why.TooLarge) n same h = subst (λ (x : Result ClaimedRows ReportError). faults_after_report x n ≡ n) same h
-kept-faultless last r (Err why.Read) n same h = subst (λ (x : Result ClaimedRows ReportError). faults_after_report x n ≡ n) same h
-kept-faultless last r (Err why.Memory) n same h = subst (λ (x : Result ClaimedRows ReportError). faults_after_report x n ≡ n) same h
-kept-faultless last r (Err why.BadHeader) n same h = subst (λ (x : Result ClaimedRows ReportError). faults_after_report x n ≡ n) same h
-kept-faultless last r (Err (why.BadFields at)) n same h = subst (λ (x : Result ClaimedRows ReportError). faults_after_report x n ≡ n) same h
-kept-faultless last r (Err (why.BadNumber at)) n same h = subst (λ (x : Result ClaimedRows ReportError). faults_after_report x n ≡ n) same h
-kept-faultless last r (Err (why.HalfWitness at)) n same h = subst (λ (x : Result ClaimedRows ReportError). faults_after_report x n ≡ n) same h
 
 -- what is read of no device is refused for no fault of one
 never-rose : Rose 0 0 → ⊥

@@ -1,5 +1,5 @@
 -- What is kept of the text of a certificate, record by record, for a trace with this last tick.
-use Rattle.std.specs.Prelude.{ℕ, ◌≡◌, ◌<◌, ◌≤◌, ◌+◌, ◌^◌, List, [], ◌++◌, length, Option, Some, None, IfSome, Result, Ok, Err, Bool, false, ◌||◌, nat_le, if◌then◌else◌, is_ok, ⊤}
+use Rattle.std.specs.Prelude.{ℕ, ◌≡◌, ◌<◌, ◌≤◌, ◌+◌, ◌^◌, List, [], ◌++◌, length, Option, Some, None, Result, Ok, Err, Bool, false, ◌||◌, nat_le, if◌then◌else◌, is_ok, ⊤}
 use Rattle.std.proofs.Common.{refl}
 use Rattle.step_trace.specs.declared.rows.Row.{Row}
 use Rattle.trace_text.specs.declared.byte_loops.TheConstants.{MAX_TEXT_BYTES}
@@ -63,7 +63,8 @@ IsRefusalOf text why.Memory = ⊤
 IsRefusalOf text e = rows_of_text text ≡ Err e
 
 -- The text of a certificate stands for rows, of which this is kept.
-pub record IsKeptOf (last : ℕ) (text : Option (List ℕ)) (kept : ClaimedRows) : Type 0 where
+pub record IsKeptOf (last : ℕ) (text : List ℕ) (kept : ClaimedRows) : Type 0 where
   pub rows : List Row
   pub claimed : kept ≡ claimed last rows
-  pub stands : IfSome text (λ known. StandsFor known rows × (length known ≤ MAX_TEXT_BYTES))
+  pub stands : StandsFor text rows
+  pub size : length text ≤ MAX_TEXT_BYTES

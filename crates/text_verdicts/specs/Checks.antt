@@ -1,9 +1,8 @@
--- The verdict on a certificate's text against a trace text.
-use Rattle.std.specs.Prelude.{ℕ, ◌≡◌, ◌≤◌, List, length, Option, None, Err}
+-- The verdict on a certificate's text by a trace.
+use Rattle.std.specs.Prelude.{ℕ, ◌≡◌, ◌≤◌, List, length, Option, Err}
 use Rattle.step_trace.specs.declared.rows.Row.{Row}
 use Rattle.step_trace.specs.declared.correct_sets.Correct.{Correct}
 use Rattle.step_trace.specs.CorrectSets.{named}
-use Rattle.step_trace.specs.Processors.{IsWithin}
 use Rattle.step_trace.specs.Traces.{Recorded}
 use Rattle.certificate_checker.specs.declared.verdicts.Verdict.{Verdict}
 use Rattle.certificate_checker.specs.Verdicts.{IsVerdict}
@@ -12,40 +11,26 @@ use Rattle.front.specs.declared.refusals.ReportError.{ReportError}
 use Rattle.front.specs.ReportRefusals.{rows_of_text}
 use Rattle.front.specs.ReportTexts.{StandsFor}
 use Rattle.text_verdicts.specs.Cuts.{IsReportedTo}
-use Rattle.text_verdicts.specs.Texts.{IsTextOf}
-use Rattle.text_verdicts.specs.VerdictLines.{told_verdict}
+use Rattle.text_verdicts.specs.Texts.{HasCorrect}
 
--- The text stands for a trace that has all correct processors, and this is the verdict on these rows by the trace, or by
--- the trace cut at a tick.
-pub record IsVerdictOn (correct : Correct) (until : Option ℕ) (text : List ℕ) (rows : List Row) (v : Verdict) : Type 0 where
-  pub trace : Recorded
-  pub read : IsTextOf text trace
-  pub within : IsWithin (named correct trace.config.n) trace.config.n
+-- The trace has all correct processors, and the tick if there is one; and of it, or of it cut at the tick, this holds.
+pub record IsCutFor (correct : Correct) (until : Option ℕ) (Holds : Recorded → Type 0) (t : Recorded) : Type 0 where
+  pub within : HasCorrect correct t
   pub reported : Recorded
-  pub until_is : IsReportedTo until trace reported
-  pub exact : IsVerdict (named correct trace.config.n) reported rows v
+  pub until_is : IsReportedTo until t reported
+  pub holds : Holds reported
 
--- The trace text is read and its trace has all correct processors, and the tick if there is one; but the certificate is
--- refused for this reason.
-pub record IsUncertified (correct : Correct) (until : Option ℕ) (text certificate : List ℕ) (reason : ReportError) : Type 0 where
-  pub trace : Recorded
-  pub read : IsTextOf text trace
-  pub within : IsWithin (named correct trace.config.n) trace.config.n
-  pub reported : Recorded
-  pub until_is : IsReportedTo until trace reported
-  pub first : rows_of_text certificate ≡ Err reason
-
--- The line is that of the verdict on what the two texts stand for.
-pub record IsLineOn (correct : Correct) (until : Option ℕ) (certificate text line : List ℕ) : Type 0 where
-  pub rows : List Row
-  pub verdict : Verdict
-  pub stands : StandsFor certificate rows
-  pub exact : IsVerdictOn correct until text rows verdict
-  pub told : line ≡ told_verdict verdict
-
--- The verdict is on what the two texts stand for, by the whole trace.
-pub record IsVerdictOf (correct : Correct) (text certificate : List ℕ) (v : Verdict) : Type 0 where
+-- The certificate's text stands for rows, on which this is the verdict by the trace.
+pub record IsJudged (set : ℕ) (certificate : List ℕ) (v : Verdict) (t : Recorded) : Type 0 where
   pub rows : List Row
   pub stands : StandsFor certificate rows
   pub size : length certificate ≤ MAX_TEXT_BYTES
-  pub exact : IsVerdictOn correct None text rows v
+  pub exact : IsVerdict set t rows v
+
+-- this is the verdict on the certificate's text by the trace, or by the trace cut at a tick
+abbrev pub IsVerdictOn : Correct → Option ℕ → List ℕ → Verdict → Recorded → Type 0
+IsVerdictOn correct until certificate v t = IsCutFor correct until (IsJudged (named correct t.config.n) certificate v) t
+
+-- nothing is wrong with the trace, the correct processors and the tick; but the certificate is refused for this reason
+abbrev pub IsUncertified : Correct → Option ℕ → List ℕ → ReportError → Recorded → Type 0
+IsUncertified correct until certificate reason t = IsCutFor correct until (λ reported. rows_of_text certificate ≡ Err reason) t

@@ -1,5 +1,4 @@
 pub mod Texts
-pub mod RefusalWords
 pub mod VerdictLines
 pub mod CertificateTexts
 pub mod Reports

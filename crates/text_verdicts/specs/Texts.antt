@@ -1,4 +1,4 @@
--- What a trace text stands for, and why it stands for nothing, or not for what a set is of.
+-- What a trace text stands for, and why it stands for nothing.
 use Rattle.std.specs.Prelude.{ℕ, ◌≢◌, ◌≤◌, List, length}
 use Rattle.step_trace.specs.declared.correct_sets.Correct.{Correct}
 use Rattle.step_trace.specs.CorrectSets.{named}
@@ -16,18 +16,16 @@ pub record IsTextOf (text : List ℕ) (t : Recorded) : Type 0 where
   pub stands : StandsFor text t
   pub size : length text ≤ MAX_TEXT_BYTES
 
+-- The text stands for a trace of which this holds.
+pub record OfTrace (Holds : Recorded → Type 0) (text : List ℕ) : Type 0 where
+  pub trace : Recorded
+  pub read : IsTextOf text trace
+  pub holds : Holds trace
+
 -- the first refusal of the text; want of memory and a failed read are none
 abbrev pub IsRefusedFor : List ℕ → TextError → Type 0
 IsRefusedFor text reason = IsFirstRefusal text reason × (reason ≢ why.Read) × (reason ≢ why.Memory)
 
--- The correct processors have a member that the trace of the text hasn't.
-pub record IsSetOutside (correct : Correct) (text : List ℕ) : Type 0 where
-  pub trace : Recorded
-  pub read : IsTextOf text trace
-  pub outside : ¬ IsWithin (named correct trace.config.n) trace.config.n
-
--- The text stands for a trace, which has all correct processors.
-pub record IsSetInside (correct : Correct) (text : List ℕ) : Type 0 where
-  pub trace : Recorded
-  pub read : IsTextOf text trace
-  pub within : IsWithin (named correct trace.config.n) trace.config.n
+-- the trace has all correct processors
+abbrev pub HasCorrect : Correct → Recorded → Type 0
+HasCorrect correct t = IsWithin (named correct t.config.n) t.config.n

@@ -1,12 +1,9 @@
 //! Reading of the text of a certificate, of which no more rows are kept than its trace has ticks.
 
-ghost use Rattle.std.specs.Prelude.{◌≡◌, OnOk, IfOk, IfErr, MatchResult, ◌+◌, Some, Ok, Err};
-ghost use Rattle.std.specs.Io.KnownBytes.{IsAtEnd};
+ghost use Rattle.std.specs.Prelude.{◌≡◌, IfOk, IfErr, MatchResult, ◌+◌, Some, Ok, Err};
 ghost use Rattle.csv.specs.Records.{fields_of};
 ghost use Rattle.certificate_checker.specs.Claims.{count_of};
-ghost use Rattle.trace_text.specs.Faults.{inner_of, faults_of};
 ghost use Rattle.trace_text.specs.Records.{ReachesUnless, WantsOnlyWhere, records_of_text};
-ghost use Rattle.front.specs.ReportReading.{RefusedFor, faults_after_report};
 ghost use Rattle.front.specs.ReportRefusals.{Gives, is_memory, row_of, rows_of_records};
 ghost use Rattle.text_verdicts.specs.CertificateTexts.{IsKeptOf, IsRefusalOf, keeps_claimed, kept_at_end, kept_of, kept_with, next_claimed, refuses_long, row_keeps};
 
@@ -15,9 +12,8 @@ use csv::ByteRecord;
 use front::ReportError;
 use front::row_records::{is_header, row_of};
 use std::alloc::Global;
-use std::io::Read;
+use trace_text::MAX_TEXT_BYTES;
 use trace_text::records::{TakeRecords, read_records};
-use trace_text::{Counting, MAX_TEXT_BYTES, TextError, read_all};
 
 /// What the records of a certificate give so far.
 #[derive(Drop)]
@@ -28,30 +24,6 @@ struct Certificate {
     rows: Option<ClaimedRows>,
 }
 
-/// What is kept of the rows of the certificate that the reader has left, claimed of a trace with this last tick.
-///
-/// Refuses as `read_report` does, in the order of `ReportError`.
-pub fn read_certificate<R: Read>(
-    alloc: Global,
-    reader: &mut Counting<R>,
-    last: u64,
-) -> Result<ClaimedRows, ReportError>
-    ensures kept { IfOk result (IsKeptOf last (R.remaining (inner_of reader.old))) }
-    ensures end { OnOk result (IsAtEnd (R.remaining (inner_of reader.new))) }
-    ensures faults { faults_of reader.new ≡ faults_after_report result (faults_of reader.old) }
-    ensures refused { IfErr result
-        (λ e. RefusedFor e (faults_of reader.old) (faults_of reader.new)
-        (R.remaining (inner_of reader.old))) }
-{
-    match read_all(alloc, reader) {
-        Ok(text) => claimed_in(alloc, &text, last),
-        Err(TextError::TooLarge) => Err(ReportError::TooLarge),
-        Err(TextError::Read) => Err(ReportError::Read),
-        Err(TextError::Memory) => Err(ReportError::Memory),
-        Err(_) => unreachable!(),
-    }
-}
-
 /// What is kept of the rows of a certificate's text, claimed of a trace with this last tick.
 ///
 /// Refuses in the order of `ReportError`; `Read` is never answered.
@@ -60,7 +32,7 @@ pub fn certificate_of_text(
     text: &[u8],
     last: u64,
 ) -> Result<ClaimedRows, ReportError>
-    ensures kept { IfOk result (IsKeptOf last (Some text.now)) }
+    ensures kept { IfOk result (IsKeptOf last text.now) }
     ensures refused { IfErr result (IsRefusalOf text.now) }
 {
     if text.len() > MAX_TEXT_BYTES {

@@ -9,3 +9,4 @@ pub mod TextRefusals
 pub mod RecordLimits
 pub mod LongRefusals
 pub mod JudgedIds
+pub mod RefusalTexts

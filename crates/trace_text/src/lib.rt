@@ -10,6 +10,7 @@ pub mod reading;
 mod record_limits;
 pub mod record_writing;
 pub mod records;
+mod refusal_texts;
 mod refusals;
 mod step_records;
 pub mod versions;

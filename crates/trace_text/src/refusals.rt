@@ -8,50 +8,35 @@ use thiserror::Error;
 #[derive(Debug, Drop, Error)]
 pub enum TextError {
     /// The text has more than 67,108,864 bytes.
-    #[error("text too large")]
     TooLarge,
     /// The reader answered a fault.
-    #[error("cannot read")]
     Read,
     /// The first record isn't four fields, the first of them `dls-trace`.
-    #[error("bad header")]
     BadHeader,
     /// The version is neither `1` nor `2`.
-    #[error("bad version")]
     BadVersion,
     /// The number of processors or that of faulty ones isn't a number, or is outside its limit.
-    #[error("bad size")]
     BadSize,
     /// The second record isn't `init` and a number for each processor.
-    #[error("bad init")]
     BadInit,
     /// A record that begins with `end` hasn't two fields, or another one hasn't four, in version 2 five.
-    #[error("step {0}: bad fields")]
     BadFields(u64),
     /// The first field isn't the text of the step's number.
-    #[error("step {0}: wrong number")]
     WrongNumber(u64),
     /// The operation isn't `S`, `R` or `E`.
-    #[error("step {0}: bad operation")]
     BadOp(u64),
     /// The tick or the processor isn't a number, or the argument isn't what the operation asks for.
-    #[error("step {0}: bad number")]
     BadNumber(u64),
     /// The trace refuses the step.
-    #[error("step {0}: {1}")]
     BadStep(u64, PushError),
     /// There is no `end` record.
-    #[error("no end")]
     NoEnd,
     /// The field of the `end` record isn't the text of the number of steps; in version 2, it isn't a number,
     /// or the trace can't end in that tick.
-    #[error("wrong end")]
     WrongEnd,
     /// A record stands after the `end` record.
-    #[error("text after end")]
     AfterEnd,
     /// There was no memory.
-    #[error("out of memory")]
     Memory,
 }
 

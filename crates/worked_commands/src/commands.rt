@@ -2,13 +2,12 @@
 
 use chunk_join::MAX_WORKERS;
 use command_faults::{Fault, fault_text, status};
+use command_options::{Claim, ReportPart};
 use std::alloc::{AllocError, Global};
 use std::sync::Wait;
 use std::thread::Threads;
 use step_trace::{Correct, Gate, OpenGate};
-use text_commands::{
-    ReportPart, run_check, run_replay, run_report, run_report_part, run_upgrade, verdict_status,
-};
+use text_commands::{Upgrade, run_check, run_replay, run_report, serve, verdict_status};
 use trace_text::Counting;
 use trace_text::failing_devices::{AfterBytes, FailingReader, FailingWriter};
 
@@ -79,10 +78,10 @@ pub(crate) fn ended<T: Threads + Wait + Sync>(
                 until,
                 at,
             };
-            run_report_part(alloc, &part, &mut trace, &mut Counting::new(writer))?;
+            serve(alloc, &part, &mut trace, &mut Counting::new(writer))?;
         }
         Command::Replay => run_replay(alloc, &mut trace, &mut Counting::new(writer))?,
-        Command::Upgrade => run_upgrade(alloc, &mut trace, &mut Counting::new(writer))?,
+        Command::Upgrade => serve(alloc, &Upgrade, &mut trace, &mut Counting::new(writer))?,
         Command::Check(list, rows) => return checked(alloc, input, (list, rows, None), writer),
         Command::CheckUntil(list, rows, until) => {
             return checked(alloc, input, (list, rows, Some(until)), writer);
@@ -104,7 +103,8 @@ fn checked(
     let mut rows = reader_of(rows, input.cut_rows);
     let mut output = Counting::new(writer);
     let correct = named(list)?;
-    let verdict = run_check(alloc, &mut trace, &mut rows, &mut output, correct, until)?;
+    let claim = Claim { correct, until };
+    let verdict = run_check(alloc, &claim, &mut trace, &mut rows, &mut output)?;
     Ok(verdict_status(verdict))
 }
 

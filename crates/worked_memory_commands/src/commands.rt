@@ -2,6 +2,7 @@
 
 use chunk_join::MAX_WORKERS;
 use command_faults::Fault;
+use command_options::{Claim, Drawing, ReportPart};
 use refused_growths::{Outcome, Refusal, judged};
 use std::alloc::{AllocError, Global};
 use std::sync::Wait;
@@ -12,8 +13,7 @@ use test_support::texts::{
     ONE_MISS_UPGRADE, SMALL_PHI, UNTIL_THREE_AT_TWO,
 };
 use text_commands::{
-    Drawing, ReportPart, import_options, run_check, run_draw, run_import, run_replay, run_report,
-    run_report_part, run_upgrade,
+    Upgrade, import_options, run_check, run_import, run_replay, run_report, serve,
 };
 use trace_text::Counting;
 
@@ -88,20 +88,17 @@ fn ended<T: Threads + Wait + Sync>(
                 until: Some(until),
                 at: Some(at),
             };
-            run_report_part(alloc, &part, &mut trace, &mut output)
+            serve(alloc, &part, &mut trace, &mut output)
         }
         Command::Replay => run_replay(alloc, &mut trace, &mut output),
-        Command::Upgrade => run_upgrade(alloc, &mut trace, &mut output),
+        Command::Upgrade => serve(alloc, &Upgrade, &mut trace, &mut output),
         Command::Check(rows) => {
             let mut rows = Counting::new(rows.as_bytes());
-            let _verdict = run_check(
-                alloc,
-                &mut trace,
-                &mut rows,
-                &mut output,
-                Correct::All,
-                None,
-            )?;
+            let claim = Claim {
+                correct: Correct::All,
+                until: None,
+            };
+            let _verdict = run_check(alloc, &claim, &mut trace, &mut rows, &mut output)?;
             Ok(())
         }
         Command::Draw => {
@@ -111,7 +108,7 @@ fn ended<T: Threads + Wait + Sync>(
                 to: None,
                 names: None,
             };
-            run_draw(alloc, &drawing, &mut trace, &mut output)
+            serve(alloc, &drawing, &mut trace, &mut output)
         }
         Command::Import(nodes, spread) => {
             let options = import_options(alloc, nodes, Some("1"), Some("15"), spread)?;

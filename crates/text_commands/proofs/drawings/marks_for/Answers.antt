@@ -5,9 +5,9 @@ returns-clause-marks c = record {
   window = c.in_ok-window.window;
   asked = rw c.last_tick.ensures.value at c.in_ok-window.ensures;
   rows = c.in_ok-report.report.rows;
-  exact = rw c.set_of-set.ensures at c.in_ok-report.ensures.report;
+  exact = c.in_ok-report.ensures.report;
   shows = rw c.rows.ensures at c.in_ok-picture_of.ensures.shows;
   marks = c.in_ok-picture_of.ensures.exact;
   misses = rw c.rows.ensures at c.in_ok-picture_of.ensures.misses;
-  gaps = rw c.rows.ensures at c.in_ok-picture_of.ensures.gaps c.set_of-set.result c.in_ok-report.ensures.report;
+  gaps = rw c.rows.ensures at c.in_ok-picture_of.ensures.gaps c.args.set c.in_ok-report.ensures.report;
 }

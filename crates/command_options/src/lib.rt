@@ -1,0 +1,51 @@
+//! What the command line tells a command beside its files: plain data, which `command_line` reads, and which the
+//! commands take.
+#![tactic(auto)]
+
+use step_trace::Correct;
+
+/// Which part of a report is asked for.
+#[derive(Debug, Drop)]
+pub struct ReportPart {
+    /// The processors that count as correct.
+    pub correct: Correct,
+    /// The tick up to which the trace is reported, as if it had ended there: all of it where there is none.
+    pub until: Option<u64>,
+    /// The tick whose row is printed alone: all rows where there is none.
+    pub at: Option<u64>,
+}
+
+/// What a certificate is checked for.
+#[derive(Debug, Drop)]
+pub struct Claim {
+    /// The processors that count as correct.
+    pub correct: Correct,
+    /// The tick up to which the trace counts, as if it had ended there: all of it where there is none.
+    pub until: Option<u64>,
+}
+
+/// What a picture is asked for.
+#[derive(Debug, Drop)]
+pub struct Drawing {
+    /// The processors that count as correct.
+    pub correct: Correct,
+    /// The first tick to draw: 1 where there is none.
+    pub from: Option<u64>,
+    /// The last tick to draw: 99 ticks later, or the last of the trace, where there is none.
+    pub to: Option<u64>,
+    /// The names of the processors, with commas between them: their numbers where there are none.
+    pub names: Option<String>,
+}
+
+/// How a log is to be read, as texts that are still to be read themselves.
+#[derive(Debug, Drop)]
+pub struct ImportOptions {
+    /// The names of the nodes, with commas between them: those of the log, in their order, where there are none.
+    pub nodes: Option<String>,
+    /// The length of a tick, a number or a duration: 1 where there is none.
+    pub tick: Option<String>,
+    /// The time when the log ends: that of its last event where there is none.
+    pub until: Option<String>,
+    /// Whether events may go to later ticks than those of their times.
+    pub spread: bool,
+}
