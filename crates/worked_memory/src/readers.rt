@@ -121,23 +121,24 @@ fn read_with<R: Threads + Sync>(
     }
 }
 
-/// The first growth among these of which the outcome was wrong, if there was one. Without so many growths at most the
-/// text is read all the same.
+/// The first growth among these of which the outcome was wrong, if there was one. If growths are refused, the text is
+/// read all the same without exactly so many of them, each alone.
 fn first_wrong<R: Threads + Sync>(
     rt: &R,
     alloc: Global,
     text: &[u8],
     way: Way,
     whose: Whose,
-    most_read_alone: usize,
+    read_alone: usize,
 ) -> Option<usize> {
-    let mut read_alone = 0;
+    let mut due = read_alone;
     for growth in 1..MOST_GROWTHS {
         match read_with(rt, alloc, text, way, Refusal::among(growth, whose)) {
-            Outcome::Read => return None,
+            // (the first one ends without it where none is refused)
+            Outcome::Read if growth == 1 || due == 0 => return None,
             Outcome::Refused => {}
-            Outcome::ReadAlone if read_alone < most_read_alone => read_alone += 1,
-            Outcome::ReadAlone | Outcome::Wrong => return Some(growth),
+            Outcome::ReadAlone if due > 0 => due -= 1,
+            Outcome::Read | Outcome::ReadAlone | Outcome::Wrong => return Some(growth),
         }
     }
     Some(MOST_GROWTHS)
@@ -155,7 +156,7 @@ const READ_BY_THREADS: &[(usize, Whose, usize)] = &[
 
 #[test]
 fn threads_read_pieces(rt: HostRuntime) -> Result<(), Fail> {
-    for &(blank_lines, whose, most_read_alone) in READ_BY_THREADS {
+    for &(blank_lines, whose, read_alone) in READ_BY_THREADS {
         let text = text_of(rt.alloc(), blank_lines)?;
         let wrong = first_wrong(
             &rt,
@@ -163,7 +164,7 @@ fn threads_read_pieces(rt: HostRuntime) -> Result<(), Fail> {
             text.as_bytes(),
             Way::ByThreads,
             whose,
-            most_read_alone,
+            read_alone,
         );
         assert!(rt;
             wrong.is_none(),
