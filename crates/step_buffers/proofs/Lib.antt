@@ -12,3 +12,4 @@ pub mod KeptProcessors
 pub mod HeardInboxes
 pub mod RefusedTakes
 pub mod ReplayedSteps
+pub mod MessageOrigins

@@ -10,3 +10,4 @@ pub mod Worlds
 pub mod Progress
 pub mod Dues
 pub mod Replays
+pub mod Origins

@@ -1,19 +1,20 @@
 //! The World: all processors of a configuration, moved one step at a time.
 
-ghost use Rattle.std.specs.Prelude.{◌≡◌, ◌+◌, ◌-◌, ◌<◌, ◌≤◌, ◌++◌, ◌∷◌, [], Some, None, length, option_map, IfOk, OnOk, IfErr, OnErr};
+ghost use Rattle.std.specs.Prelude.{◌≡◌, ◌+◌, ◌-◌, ◌<◌, ◌≤◌, ◌++◌, ◌∷◌, [], Some, None, Contains, length, option_map, IfOk, OnOk, IfErr, OnErr};
 ghost use Rattle.std.specs.List.Sorted.{IsStrictlyIncreasing};
 ghost use Rattle.step_trace.specs.declared.traces.TheConstants.{MAX_STEPS};
 ghost use Rattle.step_trace.specs.Configurations.{IsProc};
 ghost use Rattle.step_trace.specs.Ticks.{IsOnePerTick};
 ghost use Rattle.round_model.specs.RoundStates.{state_after};
 ghost use Rattle.step_buffers.specs.HeardTables.{passed, heard_table};
-ghost use Rattle.step_buffers.specs.Runs.{node_at, IsRun};
+ghost use Rattle.step_buffers.specs.Runs.{node_at, IsSend, IsRun};
 ghost use Rattle.step_buffers.specs.Buffers.{buffer};
+ghost use Rattle.step_buffers.specs.Origins.{sender_of, round_ahead};
 ghost use Rattle.step_buffers.specs.Moves.{next_send, step_of, step_refusal, IsStepRefusal};
 ghost use Rattle.step_buffers.specs.NextSteps.{IsNext, IsGrown};
 
 use crate::copies::{copied_letters, copied_processors};
-use crate::letters::Place;
+use crate::letters::{Place, round_of};
 use crate::moves::{Done, Move, StepError};
 use crate::processors::{Processor, next_send, opening_processors};
 use crate::steps::{act_of, make};
@@ -152,6 +153,22 @@ impl World {
         self.processors[(p - 1) as usize].buffer.as_slice()
     }
 
+    /// Who sent a message that waits for processor `p`, and in which round; 0 for a round that `p` has passed, of
+    /// which it can hear nothing any more. Asks for a processor, and for the id of a message that waits for it.
+    pub fn origin(&self, p: u64, id: u64) -> (u64, u64)
+        requires processor { IsProc self.now.trace.config p }
+        requires waiting { Contains (buffer self.now.trace.steps p) id }
+        ensures sender { result.0 ≡ sender_of self.now.trace.steps id }
+        ensures sent { IsSend self.now.trace.steps result.0 p id }
+        ensures processor { IsProc self.now.trace.config result.0 }
+        ensures round { result.1 ≡ round_ahead self.now.trace.steps p id }
+    {
+        let sender = sender_of(&self.trace, id);
+        let round = round_of(&self.letters, id);
+        let ahead = if round < self.round(p) { 0 } else { round };
+        (sender, ahead)
+    }
+
     /// Where processor `p` sends next in its round; None where all its messages are out. Asks for a processor.
     pub fn next_destination(&self, p: u64) -> Option<u64>
         requires { IsProc self.now.trace.config p }
@@ -268,5 +285,15 @@ impl World {
             Ok(()) => Ok(()),
             Err(_) => Err(StepError::Memory),
         }
+    }
+}
+
+/// Who made the step of this number; 0 where there is no such step.
+fn sender_of(trace: &Trace, id: u64) -> u64
+    ensures { result ≡ sender_of trace.now.steps id }
+{
+    match trace.step(id) {
+        Some(step) => step.proc,
+        None => 0,
     }
 }

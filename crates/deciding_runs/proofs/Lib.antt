@@ -1,0 +1,12 @@
+mod SilentSenders
+mod FirstPlaces
+mod EndedRounds
+mod SentMessages
+mod DecidedMembers
+mod RoundTellers
+mod RoundOrders
+mod HeardOutRounds
+mod NotedPeers
+mod OrderedTakes
+mod PacedSteps
+mod PacedMembers
