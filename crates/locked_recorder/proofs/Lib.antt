@@ -8,3 +8,4 @@ pub mod ComparedSeats
 pub mod Answered
 pub mod SendsFirst
 pub mod DriveMoves
+pub mod PacedSeats

@@ -7,3 +7,4 @@ pub mod Prefixes
 pub mod Audits
 pub mod Comparisons
 pub mod Drives
+pub mod PacedDrives

@@ -7,6 +7,7 @@ mod comparisons;
 mod drives;
 mod errors;
 mod missing_steps;
+mod paced_drives;
 mod prefixes;
 mod recorders;
 mod recordings;
