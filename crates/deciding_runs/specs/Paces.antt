@@ -1,5 +1,5 @@
 -- The pace "heard out" (own): what a processor does next, and which of its Receives ends its round.
-use Rattle.std.specs.Prelude.{ℕ, ◌≡◌, ◌+◌, ◌<◌, ◌≤◌, ◌-◌, List, Some, Bool, true, false, IsTrue, is_some, not, nat_le, ◌==◌, ◌&&◌, ◌||◌, if◌then◌else◌, length, take, map, fold, replicate, slice_set}
+use Rattle.std.specs.Prelude.{ℕ, ◌≡◌, ◌+◌, ◌<◌, ◌≤◌, ◌-◌, List, Some, Bool, true, false, IsTrue, is_some, is_none, not, nat_le, ◌==◌, ◌&&◌, ◌||◌, if◌then◌else◌, length, take, map, fold, replicate, slice_set}
 use Rattle.step_trace.specs.declared.steps.Act.TheVariants.{Receive}
 use Rattle.step_trace.specs.declared.steps.Step.{Step}
 use Rattle.step_trace.specs.Configurations.{Setup}
@@ -60,6 +60,10 @@ ends_round c steps p x = is_over c (node_at c steps p) (passed steps p + 1) p (h
 -- round if the round is over with what it takes.
 abbrev pub paced_move : Setup → List Step → ℕ → Paced → Move
 paced_move c steps p x = if is_some (next_send c steps p) then move.Send else move.Receive All (ends_round c steps p x)
+
+-- whether p has nothing to do until a message comes: nothing to send, and nothing that waits, and its round isn't over
+abbrev pub is_idle : Setup → List Step → ℕ → Paced → Bool
+is_idle c steps p x = is_none (next_send c steps p) && length (buffer steps p) == 0 && not (is_over c (node_at c steps p) (passed steps p + 1) p x)
 
 -- after a Receive that ended the round
 abbrev pub after_round : ℕ → Paced → Paced

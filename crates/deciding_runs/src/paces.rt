@@ -3,7 +3,7 @@
 ghost use Rattle.std.specs.Prelude.{◌≡◌, ◌≤◌, length, fold, IfOk};
 ghost use Rattle.step_trace.specs.Configurations.{IsProc};
 ghost use Rattle.step_buffers.specs.Buffers.{buffer};
-ghost use Rattle.deciding_runs.specs.Paces.{opening_pace, is_complete, is_over, heard_message, heard_waiting, paced_move, after_round, after_wait, after_receive, after_move};
+ghost use Rattle.deciding_runs.specs.Paces.{opening_pace, is_complete, is_over, heard_message, heard_waiting, is_idle, paced_move, after_round, after_wait, after_receive, after_move};
 
 use crate::audible::may_hear_all;
 use crate::peers::{Peer, awaited, end_phase, hear, heard, is_left_behind};
@@ -88,6 +88,22 @@ impl Pace {
             take: Take::All,
             ends,
         }
+    }
+
+    /// Whether processor `p` has nothing to do until a message comes: it has nothing to send, nothing waits for it, and
+    /// its round isn't over. Asks for a processor of the World, and for a pace of as many processors.
+    pub fn is_idle(&self, world: &World, p: u64) -> bool
+        requires processor { IsProc world.now.trace.config p }
+        requires peers { length self.now.peers ≡ world.now.trace.config.n }
+        ensures { result ≡ is_idle world.now.trace.config world.now.trace.steps p self.now }
+    {
+        if world.next_destination(p).is_some() {
+            return false;
+        }
+        if !world.waiting(p).is_empty() {
+            return false;
+        }
+        !self.is_over(world.trace().config(), world.node(p), world.round(p), p)
     }
 
     /// Hears all that waits for processor `p`.

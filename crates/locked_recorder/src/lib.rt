@@ -13,10 +13,12 @@ mod recorders;
 mod recordings;
 mod seat_comparisons;
 mod seats;
+mod sleepers;
 mod step_counts;
 mod views;
 
 pub use errors::{AuditError, DriveError, DriveStop, MineError, PrefixError, RecordError};
 pub use recorders::Recorder;
 pub use seats::Seat;
+pub use sleepers::Sleepers;
 pub use views::View;

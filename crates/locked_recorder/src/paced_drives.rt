@@ -9,11 +9,12 @@ ghost use Rattle.locked_recorder.specs.PacedDrives.{IsPacedAnswer, IsPacedStep, 
 use crate::errors::{DriveError, DriveStop, RecordError};
 use crate::recorders::{Recorder, is_world_of};
 use crate::seats::Seat;
+use crate::sleepers::Sleepers;
 use deciding_runs::Pace;
 use std::alloc::Global;
 use std::sync::Wait;
 use step_buffers::{Done, Move, StepError, World};
-use step_trace::Gate;
+use step_trace::{Act, Gate};
 
 impl Recorder {
     /// Makes so many steps from a seat as `drive` does, by the pace "heard out": it enters the gate once, and then sends
@@ -21,14 +22,39 @@ impl Recorder {
     /// heard that the round can bring, if something of a round more than a phase later was taken, or if it is the
     /// `patience`-th in the round (`Pace` of `deciding_runs`). What was heard before this call doesn't count.
     ///
-    /// Refuses in the order of `DriveStop`; the steps made stay. Waits for the lock. Takes memory for each processor,
-    /// and as `Seat::step` does.
+    /// Before an idle Receive, which would take nothing and not end the round, it sleeps until a message comes, as long
+    /// as another thread of these sleepers is awake. At its end it wakes them.
+    ///
+    /// Refuses in the order of `DriveStop`; the steps made stay. Waits for locks, and asleep. Takes memory for each
+    /// processor, and as `Seat::step` does.
     pub fn drive_heard_out<R: Wait, G: Gate>(
         &self,
         rt: &R,
         alloc: Global,
         seat: &mut Seat,
         gate: &G,
+        sleepers: &Sleepers,
+        patience: u64,
+        steps: u64,
+    ) -> Result<u64, DriveError>
+        ensures entered { MatchResult result (λ _. G.lets gate.now seat.old.proc true) (λ e. G.lets gate.now seat.old.proc (was_let_in e.why)) }
+        ensures steps { IfOk result (λ made. made ≡ steps) }
+        ensures driven { OnOk result (IsPacedDrive self.now patience steps seat.old seat.new) }
+        ensures stopped { IfErr result (λ e. IsPacedStopped self.now patience steps seat.old seat.new e) }
+    {
+        let driven = self.drive_paced(rt, alloc, seat, gate, sleepers, patience, steps);
+        sleepers.leave(rt);
+        driven
+    }
+
+    /// The same, without waking anybody at its end.
+    fn drive_paced<R: Wait, G: Gate>(
+        &self,
+        rt: &R,
+        alloc: Global,
+        seat: &mut Seat,
+        gate: &G,
+        sleepers: &Sleepers,
         patience: u64,
         steps: u64,
     ) -> Result<u64, DriveError>
@@ -56,7 +82,7 @@ impl Recorder {
             }
         };
         for made in 0..steps {
-            if let Err(why) = seat.record_paced(rt, alloc, self, &mut pace) {
+            if let Err(why) = seat.record_paced(rt, alloc, self, sleepers, &mut pace) {
                 return Err(DriveError {
                     made,
                     why: DriveStop::Record(why),
@@ -78,6 +104,26 @@ impl Recorder {
             Ok(pace) => Ok(pace),
             Err(_) => Err(RecordError::Step(StepError::Memory)),
         }
+    }
+
+    /// Sleeps until a message comes, if processor `p` has nothing to do before, and another thread is awake.
+    fn rest<R: Wait>(&self, rt: &R, sleepers: &Sleepers, p: u64, pace: &Pace)
+        requires { length pace.now.peers ≡ self.now.config.n }
+    {
+        if self.lies_down(rt, sleepers, p, pace) {
+            sleepers.sleep(rt, p);
+        }
+    }
+
+    /// Lays a thread down under the lock, so that it sees each message before or is woken by it.
+    fn lies_down<R: Wait>(&self, rt: &R, sleepers: &Sleepers, p: u64, pace: &Pace) -> bool
+        requires { length pace.now.peers ≡ self.now.config.n }
+    {
+        let world = self.world.lock(rt);
+        if !is_world_of(&world, &self.config, self.limit) {
+            return false;
+        }
+        is_idle(&world, p, pace) && sleepers.lie_down(rt, p)
     }
 
     /// Makes one step of processor `p` under the lock, by its pace.
@@ -106,13 +152,14 @@ impl Recorder {
 }
 
 impl Seat {
-    /// Makes one step by its pace, taking the lock once, and keeps what was done. The list grows before the lock is
-    /// taken.
+    /// Makes one step by its pace, and keeps what was done; before an idle Receive it sleeps, and a Send wakes its
+    /// receiver. The list grows before the lock is taken.
     fn record_paced<R: Wait>(
         &mut self,
         rt: &R,
         alloc: Global,
         recorder: &Recorder,
+        sleepers: &Sleepers,
         pace: &mut Pace,
     ) -> Result<(), RecordError>
         requires { length pace.old.peers ≡ recorder.now.config.n }
@@ -128,7 +175,9 @@ impl Seat {
         if self.done.reserve(1).is_err() {
             return Err(RecordError::Step(StepError::Memory));
         }
+        recorder.rest(rt, sleepers, self.proc, pace);
         let done = recorder.make_paced(rt, alloc, self.proc, pace)?;
+        wake_receiver(rt, sleepers, &done);
         self.done.push(done).unwrap();
         Ok(())
     }
@@ -146,4 +195,21 @@ fn next_move<'a>(world: &World, p: u64, pace: &mut Pace) -> Move<'a>
         return Move::Send;
     }
     pace.next_move(world, p)
+}
+
+/// Whether processor `p` has nothing to do until a message comes; not of one that isn't there.
+fn is_idle(world: &World, p: u64, pace: &Pace) -> bool
+    requires { length pace.now.peers ≡ world.now.trace.config.n }
+{
+    if !world.trace().config().is_processor(p) {
+        return false;
+    }
+    pace.is_idle(world, p)
+}
+
+/// Wakes the thread of the processor to which a message was sent, if one was.
+fn wake_receiver<R: Wait>(rt: &R, sleepers: &Sleepers, done: &Done) {
+    if let Act::Send { to } = done.step.act {
+        sleepers.wake(rt, to);
+    }
 }

@@ -5,7 +5,7 @@ use Rattle.deciding_runs.specs.Peers.{unheard}
 use Rattle.locked_recorder.specs.declared.errors.DriveStop.TheVariants.{Record}
 use Rattle.locked_recorder.specs.PacedDrives.{IsPacedStopped}
 use Rattle.locked_recorder.proofs.PacedSeats.{IsPacedUnderWay-none, IsPacedUnderWay-more, IsPacedStopped-refused}
-use Rattle.locked_recorder.proofs.recorders.Recorder.drive_heard_out.Goals as goal
+use Rattle.locked_recorder.proofs.recorders.Recorder.drive_paced.Goals as goal
 
 pub loop-made-init : goal.loop-made-init
 loop-made-init g c = record {

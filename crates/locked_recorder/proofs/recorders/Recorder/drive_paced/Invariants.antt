@@ -1,6 +1,6 @@
 use Rattle.std.proofs.Common.{◌≡◌, length}
 use Rattle.locked_recorder.proofs.PacedSeats.{IsPacedUnderWay}
-use Rattle.locked_recorder.proofs.recorders.Recorder.drive_heard_out.Given as goal
+use Rattle.locked_recorder.proofs.recorders.Recorder.drive_paced.Given as goal
 
 abbrev pub invariant-loop-made : goal.invariant-loop-made
 invariant-loop-made g l = record {
