@@ -40,6 +40,10 @@ impl fmt::Display for HelpLine<'_> {
             LogError::TooManyTicks => f.write_str("\nsynchrony: a greater --tick makes fewer"),
             LogError::NotLater(_, _, hint) => f.write_str(hint_line(*hint)),
             LogError::SecondEvent(_, _, _, hint) => f.write_str(hint_line(*hint)),
+            LogError::Cycle(_, hops) => write!(
+                f,
+                "{hops}\nsynchrony: no clocks make this right: the records of a node are out of order, or a message is named wrongly"
+            ),
             LogError::BadTime(_) => f.write_str(
                 "\nsynchrony: a time is a number, or a time stamp like 2026-11-22T10:00:00.250Z; all times are of the kind of record 2's",
             ),

@@ -7,10 +7,10 @@ use Rattle.timed_events.specs.declared.events.Clock.{Clock}
 use Rattle.timed_events.specs.declared.events.EventError.{EventError}
 use Rattle.timed_events.specs.declared.events.EventError.TheVariants as refused
 use Rattle.timed_events.specs.Firsts.{first_of}
-use Rattle.timed_events.specs.Checks.{earlier_at, event_refusal, events_refusal, is_for, message_refusal, messages_at, messages_refusal, moment_at, processor_at, second_refusal, was_received}
+use Rattle.timed_events.specs.Checks.{earlier_at, event_refusal, events_refusal, first_fault, is_for, message_fault, message_faults, message_refusal, messages_at, messages_refusal, moment_at, processor_at, second_refusal, was_received}
 use Rattle.step_trace.specs.declared.traces.TheConstants.{MAX_TICKS}
 use Rattle.timed_events.specs.Times.{end_time, greatest_time, last_tick, time_ticks, times_refusal}
-use Rattle.timed_events.specs.Spreads.{IsAfterTimes, IsSpreadRefusal, IsTimedRefusal}
+use Rattle.timed_events.specs.Spreads.{IsAfterTimes, IsCausalRefusal, IsSpreadRefusal, IsTimedRefusal}
 use Rattle.timed_events.specs.declared.spread_traces.TimedTrace.{TimedTrace}
 use Rattle.event_log.specs.declared.reading.TheConstants.{MAX_EVENTS}
 use Rattle.event_log.specs.Imports.{event_place}
@@ -58,6 +58,15 @@ second-names events ticks i = names-map i _ (earlier_at events ticks i (moment_a
 event-names : (events : List Event) (ticks : List ℕ) (i : ℕ) → Names i (event_refusal events ticks i)
 event-names events ticks i = names-or i (messages_refusal events ticks i) (second_refusal events ticks i) (messages-name events ticks i) (second-names events ticks i)
 
+fault-names : (events : List Event) (received : ℕ → Bool) (i k : ℕ) (message : Option ℕ) → Names i (message_fault events received i k message)
+fault-names events received i k None = refl
+fault-names events received i k (Some s) = names-if i (is_for events s (processor_at events i)) _ _ (names-if i (received s) _ _ refl tt) refl
+
+faults-name : (events : List Event) (i : ℕ) → Names i (message_faults events i)
+unfolding message_faults
+faults-name events i =
+    names-first i _ (length (messages_at events i)) (λ k. fault-names events (was_received events i k) i k (slice_index_or (messages_at events i) k None))
+
 within-or : (n : ℕ) (a b : Option EventError) → Within n a → Within n b → Within n (option_or a b)
 within-or n (Some a) b h k = h
 within-or n None b h k = k
@@ -78,6 +87,10 @@ events-within : (events : List Event) (ticks : List ℕ) → Within (length even
 unfolding events_refusal
 events-within events ticks = within-first (event_refusal events ticks) (length events) (event-names events ticks)
 
+faults-within : (events : List Event) → Within (length events) (first_fault events)
+unfolding first_fault
+faults-within events = within-first (message_faults events) (length events) (faults-name events)
+
 within-if : (n : ℕ) (t : Bool) (a b : Option EventError) → Within n a → Within n b → Within n (cond t a b)
 within-if n true a b h k = h
 within-if n false a b h k = k
@@ -91,9 +104,23 @@ all-within : (events : List Event) (clock : Clock) (ticks : List ℕ) (why : Eve
 all-within events clock ticks why some e =
     subst (Within (length events)) (sym e) (within-or (length events) (times_refusal events clock) (events_refusal events ticks) (times-within events clock some) (events-within events ticks))
 
+fault-within : (events : List Event) (why : EventError) → first_fault events ≡ Some why → event_place why < length events
+fault-within events why h = subst (Within (length events)) h (faults-within events)
+
+causal-within : (events : List Event) (why : EventError) → IsCausalRefusal events (Some why) → event_place why < length events
+causal-within events (refused.Cycle i) h = h.1.inside
+causal-within events refused.UntilTooEarly h = fault-within events refused.UntilTooEarly h
+causal-within events refused.TooManyTicks h = fault-within events refused.TooManyTicks h
+causal-within events (refused.NeverSent i k) h = fault-within events (refused.NeverSent i k) h
+causal-within events (refused.WrongReceiver i k) h = fault-within events (refused.WrongReceiver i k) h
+causal-within events (refused.ReceivedBefore i k) h = fault-within events (refused.ReceivedBefore i k) h
+causal-within events (refused.NotLater i k hint) h = fault-within events (refused.NotLater i k hint) h
+causal-within events (refused.SecondEvent i tick hint) h = fault-within events (refused.SecondEvent i tick hint) h
+causal-within events refused.Memory h = fault-within events refused.Memory h
+
 after-times-within : (events : List Event) (times : Option EventError) (why : EventError) → Within (length events) times → IsAfterTimes times events (Some why) → event_place why < length events
 after-times-within events (Some reason) why w h = subst (Within (length events)) (sym h) w
-after-times-within events None why w h = subst (Within (length events)) (sym h.first) (events-within events h.ranks)
+after-times-within events None why w h = causal-within events why h
 
 spread-within : (events : List Event) (clock : Clock) (why : EventError) → 0 < length events → IsSpreadRefusal events clock (Some why) → event_place why < length events
 spread-within events clock why some h = after-times-within events (times_refusal events clock) why (times-within events clock some) h

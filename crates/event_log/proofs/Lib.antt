@@ -1,6 +1,7 @@
 pub mod EventPlaces
 pub mod HeaderPlaces
 pub mod ListedNodes
+pub mod LogCycles
 pub mod LogRefusals
 pub mod MeantEvents
 pub mod MessageNames

@@ -3,24 +3,26 @@ use Rattle.std.proofs.Common.{◌≡◌, ◌<◌, ◌⊎◌, ℕ, List, length, 
 use Rattle.std.specs.Prelude.{nat_le, option_map, ⊤, MatchBool}
 use Rattle.std.specs.Borrow.{Bor}
 use Rattle.std.proofs.lemmas.Bool.Decides.{nat_tests}
+use Rattle.timed_events.specs.declared.events.Event.{Event}
+use Rattle.timed_events.specs.declared.events.EventError.{EventError}
 use Rattle.trace_text.specs.declared.byte_loops.TheConstants.{MAX_TEXT_BYTES}
 use Rattle.event_log.specs.declared.options.Options.{Options}
 use Rattle.event_log.specs.declared.refusals.LogError.{LogError}
 use Rattle.event_log.specs.declared.refusals.LogError.TheVariants.{TooLarge, Memory}
-use Rattle.event_log.specs.Imports.{IsLogRefusal, IsRead, IsUnfit, IsUntimed}
-use Rattle.event_log.specs.Naming.{IsUnless, is_memory}
+use Rattle.event_log.specs.Imports.{IsErrorOf, IsErrorUnlessMemory, IsLogRefusal, IsRead, IsUnfit, IsUntimed}
+use Rattle.event_log.specs.Naming.{is_memory}
 
 -- any refusal but want of memory
 refusal-unless_memory : (o : Options) (text : List ℕ) (why : LogError) → (is_memory why ≡ false → IsRead o text (Err why) ⊎ (IsUnfit o text why ⊎ IsUntimed o text why)) → IsLogRefusal o text why
 refusal-unless_memory o text Memory f = tt
 refusal-unless_memory o text why f = f refl
 
-due : (t : Bool) (why e : LogError) → t ≡ false → MatchBool t ⊤ (why ≡ e) → why ≡ e
-due true why e n h = absurd (cc)
-due false why e n h = h
+due : (P : Type 0) (t : Bool) → t ≡ false → MatchBool t ⊤ P → P
+due P true n h = absurd (cc)
+due P false n h = h
 
-pub untimed-refusal : (o : Options) (text : List ℕ) (why e : LogError) → IsUnless is_memory why e → (why ≡ e → IsUntimed o text why) → IsLogRefusal o text why
-untimed-refusal o text why e h f = refusal-unless_memory o text why (λ n. inr (inr (f (due (is_memory why) why e n h))))
+pub untimed-refusal : (o : Options) (text : List ℕ) (nodes : List (List ℕ)) (events : List Event) (reason : EventError) (why : LogError) → IsErrorUnlessMemory text nodes events reason why → (IsErrorOf text nodes events reason why → IsUntimed o text why) → IsLogRefusal o text why
+untimed-refusal o text nodes events reason why h f = refusal-unless_memory o text why (λ n. inr (inr (f (due (IsErrorOf text nodes events reason why) (is_memory why) n h))))
 
 pub unfit-refusal : (o : Options) (text : List ℕ) (why : LogError) → IsUnfit o text why → IsLogRefusal o text why
 unfit-refusal o text why h = refusal-unless_memory o text why (λ n. inr (inl h))

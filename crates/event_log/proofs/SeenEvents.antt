@@ -23,11 +23,12 @@ use Rattle.timed_events.specs.declared.events.Hint.TheVariants.{ShorterTick, Spr
 use Rattle.timed_events.specs.declared.events.Clock.{Clock}
 use Rattle.timed_events.specs.declared.spread_traces.TimedTrace.{TimedTrace}
 use Rattle.timed_events.specs.Firsts.{first_of, any_below}
-use Rattle.timed_events.specs.Checks.{processor_at, messages_at, time_at, is_for, sends_to, received_in, is_message, received_before, was_received, late_hint, message_refusal, messages_refusal, moment_of, moment_at, earlier_at, apart_hint, second_refusal, event_refusal, events_refusal}
+use Rattle.timed_events.specs.Checks.{processor_at, messages_at, time_at, is_for, sends_to, received_in, is_message, received_before, was_received, late_hint, message_fault, message_faults, first_fault, message_refusal, messages_refusal, moment_of, moment_at, earlier_at, apart_hint, second_refusal, event_refusal, events_refusal}
 use Rattle.timed_events.specs.Times.{first_time, least_time, greatest_time, time_tick, time_ticks, last_tick, times_refusal}
 use Rattle.timed_events.specs.Orders.{IsOrder}
 use Rattle.timed_events.specs.TimedTraces.{IsActOf, IsStepAt, IsTraceOf, AreIdsOf}
-use Rattle.timed_events.specs.Spreads.{is_earlier, IsOwnBefore, IsSentTo, IsSpreadAt, AreLeast, AreTicks, last_of, moved_of, IsRankedRefusal, IsAfterTimes, HavePassed, IsTimed}
+use Rattle.timed_events.specs.Causes.{is_earlier, IsOwnBefore, IsSentTo, IsCause, IsCausalPart, IsCausalOrder}
+use Rattle.timed_events.specs.Spreads.{IsSpreadAt, AreLeast, AreTicks, last_of, moved_of, IsCausalRefusal, IsAfterTimes, HavePassed, IsTimed}
 use Rattle.event_log.specs.Events.{Seen, SeenAct, Sends, Receives, seen, seen_act}
 
 -- what is asked of an event, asked of what is seen of it
@@ -149,7 +150,8 @@ module _ (xs ys : List Event) (same : map seen xs ≡ map seen ys) where
 
   late-same : (s i : ℕ) → late_hint xs s i ≡ late_hint ys s i
   late-same s i =
-      ap₂ (λ (x y : ℤ). if int_lt x y then Some ShorterTick else if not (int_lt y x) && nat_lt s i then Some Spread else None) (times s) (times i)
+      ap₂ (λ (x y : ℤ). if int_lt x y then Some ShorterTick else if not (processor_at xs s == processor_at xs i) then Some Spread else if not (int_lt y x) && nat_lt s i then Some Spread else None) (times s) (times i)
+      ∙ ap₂ (λ (p q : ℕ). if int_lt (time_at ys s) (time_at ys i) then Some ShorterTick else if not (p == q) then Some Spread else if not (int_lt (time_at ys i) (time_at ys s)) && nat_lt s i then Some Spread else None) (processors s) (processors i)
 
   message-same : (ticks : List ℕ) (i k : ℕ) (m : Option ℕ) → message_refusal xs ticks (was_received xs i k) i k m ≡ message_refusal ys ticks (was_received ys i k) i k m
   message-same ticks i k None = refl
@@ -165,6 +167,24 @@ module _ (xs ys : List Event) (same : map seen xs ≡ map seen ys) where
       (λ k. message-same ticks i k (slice_index_or (messages_at xs i) k None) ∙ ap (λ ms. message_refusal ys ticks (was_received ys i k) i k (slice_index_or ms k None)) (messages i))
       (length (messages_at xs i))
       ∙ ap (λ ms. first_of (λ k. message_refusal ys ticks (was_received ys i k) i k (slice_index_or (messages_at ys i) k None)) (length ms)) (messages i)
+
+  fault-same : (i k : ℕ) (m : Option ℕ) → message_fault xs (was_received xs i k) i k m ≡ message_fault ys (was_received ys i k) i k m
+  fault-same i k None = refl
+  fault-same i k (Some s) =
+      ap₂ (λ (u v : Bool). cond u (cond v (Some (ReceivedBefore i k)) None) (Some (WrongReceiver i k)))
+      (receivers s (processor_at xs i) ∙ ap (is_for ys s) (processors i)) (was-same i k s)
+
+  faults-same : (i : ℕ) → message_faults xs i ≡ message_faults ys i
+  unfolding message_faults
+  faults-same i =
+      first-same _ (λ k. message_fault ys (was_received ys i k) i k (slice_index_or (messages_at ys i) k None))
+      (λ k. fault-same i k (slice_index_or (messages_at xs i) k None) ∙ ap (λ ms. message_fault ys (was_received ys i k) i k (slice_index_or ms k None)) (messages i))
+      (length (messages_at xs i))
+      ∙ ap (λ ms. first_of (λ k. message_fault ys (was_received ys i k) i k (slice_index_or (messages_at ys i) k None)) (length ms)) (messages i)
+
+  first-faults : first_fault xs ≡ first_fault ys
+  unfolding first_fault
+  first-faults = first-same (message_faults xs) (message_faults ys) faults-same (length xs) ∙ ap (first_of (message_faults ys)) lengths
 
   moments : (ticks : List ℕ) (i : ℕ) → moment_at xs ticks i ≡ moment_at ys ticks i
   moments ticks i = ap (moment_of (slice_index_or ticks i 0)) (processors i)
@@ -246,6 +266,24 @@ sent-to xs ys e i j h = record {
   taken = subst (λ ms. IsTrue (list_any (is_message j) ms)) (messages xs ys e i) h.taken;
 }
 
+cause : (xs ys : List Event) → map seen xs ≡ map seen ys → (i j : ℕ) → IsCause xs i j → IsCause ys i j
+cause xs ys e i j (inl b) = inl (own-before xs ys e i j b)
+cause xs ys e i j (inr b) = inr (sent-to xs ys e i j b)
+
+causal-part : (xs ys : List Event) → map seen xs ≡ map seen ys → (part : List ℕ) → IsCausalPart xs part → IsCausalPart ys part
+causal-part xs ys e part h = record {
+  inside = λ k l. subst (λ n. slice_index part k < n) (lengths xs ys e) (h.inside k l);
+  apart = h.apart;
+  causes = λ k i l c. h.causes k i l (cause ys xs (sym e) (slice_index part k) i c);
+}
+
+causal-order : (xs ys : List Event) → map seen xs ≡ map seen ys → (order : List ℕ) → IsCausalOrder xs order → IsCausalOrder ys order
+causal-order xs ys e order h = record {
+  part = causal-part xs ys e order h.part;
+  long = h.long ∙ lengths xs ys e;
+  found = λ i l. h.found i (subst (λ n. i < n) (sym (lengths xs ys e)) l);
+}
+
 spread-at : (xs ys : List Event) → map seen xs ≡ map seen ys → (own ticks : List ℕ) (i : ℕ) → IsSpreadAt xs own ticks i → IsSpreadAt ys own ticks i
 spread-at xs ys e own ticks i h = record {
   from = h.from;
@@ -253,34 +291,20 @@ spread-at xs ys e own ticks i h = record {
   after_sent = λ j b. h.after_sent j (sent-to ys xs (sym e) i j b);
   least = go h.least;
 } where
-  turned : (j : ℕ) → IsOwnBefore xs i j ⊎ IsSentTo xs i j → IsOwnBefore ys i j ⊎ IsSentTo ys i j
-  turned j (inl b) = inl (own-before xs ys e i j b)
-  turned j (inr b) = inr (sent-to xs ys e i j b)
-
   go : (slice_index ticks i ≡ slice_index own i) ⊎ ((j : ℕ) × (IsOwnBefore xs i j ⊎ IsSentTo xs i j) × (slice_index ticks i ≡ slice_index ticks j + 1))
       → (slice_index ticks i ≡ slice_index own i) ⊎ ((j : ℕ) × (IsOwnBefore ys i j ⊎ IsSentTo ys i j) × (slice_index ticks i ≡ slice_index ticks j + 1))
   go (inl s) = inl s
-  go (inr w) = inr (w.0, turned w.0 w.1, w.2)
+  go (inr w) = inr (w.0, cause xs ys e i w.0 w.1, w.2)
 
 module _ (xs ys : List Event) (same : map seen xs ≡ map seen ys) where
-  ranked : (why : Option EventError) → IsRankedRefusal xs why → IsRankedRefusal ys why
-  ranked why h = record {
-    ranks = h.ranks;
-    ranked = record {
-      long = h.ranked.long ∙ lengths xs ys same;
-      rising = λ j i lj li b. h.ranked.rising j i (subst (λ n. j < n) (sym (lengths xs ys same)) lj) (subst (λ n. i < n) (sym (lengths xs ys same)) li) (subst IsTrue (sym (earlier xs ys same j i)) b);
-    };
-    first = h.first ∙ refused xs ys same h.ranks;
-  }
-
-  after-times : (times why : Option EventError) → IsAfterTimes times xs why → IsAfterTimes times ys why
-  after-times (Some reason) why h = h
-  after-times None why h = ranked why h
+  after-times : (times : Option EventError) → IsAfterTimes times xs None → IsAfterTimes times ys None
+  after-times (Some reason) h = h
+  after-times None h = (sym (first-faults xs ys same) ∙ h.0, (h.1.0, causal-order xs ys same h.1.0 h.1.1))
 
   passed : (spread : Bool) (clock : Clock) → HavePassed spread xs clock → HavePassed spread ys clock
   passed false clock h =
       sym (ap₂ (λ a b. option_or a b) (times-refused xs ys same clock) (refused xs ys same (time_ticks xs clock) ∙ ap (events_refusal ys) (own-ticks xs ys same clock))) ∙ h
-  passed true clock h = subst (λ t. IsAfterTimes t ys None) (times-refused xs ys same clock) (after-times (times_refusal xs clock) None h)
+  passed true clock h = subst (λ t. IsAfterTimes t ys None) (times-refused xs ys same clock) (after-times (times_refusal xs clock) h)
 
   least-ticks : (own ticks : List ℕ) → AreLeast xs own ticks → AreLeast ys own ticks
   least-ticks own ticks h = record {

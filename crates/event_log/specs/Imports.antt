@@ -2,31 +2,33 @@
 use Rattle.std.specs.Prelude.{ℕ, ◌≡◌, ◌+◌, ◌-◌, ◌⊎◌, List, [], map, length, Option, Some, None, Result, Ok, Err, option_map, nat_lt, if◌then◌else◌, slice_get, slice_index_or, unwrap_or, ℤ, MatchBool, ⊤}
 use Rattle.std.specs.Borrow.{Bor}
 use Rattle.std.specs.Option.{option_map_or}
+use Rattle.timed_events.specs.declared.cause_cycles.Hop.{Hop}
 use Rattle.timed_events.specs.declared.events.Event.{Event}
 use Rattle.timed_events.specs.declared.events.EventAct.{EventAct}
 use Rattle.timed_events.specs.declared.events.EventAct.TheVariants as act
 use Rattle.timed_events.specs.declared.events.EventError.{EventError}
 use Rattle.timed_events.specs.declared.events.EventError.TheVariants as refused
 use Rattle.timed_events.specs.declared.events.Clock.{Clock}
-use Rattle.timed_events.specs.Checks.{processor_at, messages_at}
+use Rattle.timed_events.specs.Causes.{IsFirstUnplaceable}
+use Rattle.timed_events.specs.Checks.{first_fault, processor_at, messages_at}
+use Rattle.timed_events.specs.CauseCycles.{BeginsAtLeast, IsCauseCycle}
 use Rattle.timed_events.specs.Spreads.{IsTimed, IsTimedRefusal}
-use Rattle.trace_text.specs.Records.{◌>>=◌, records_of_text, field_of}
-use Rattle.event_log.specs.declared.columns.Column.TheVariants as column
+use Rattle.trace_text.specs.Records.{◌>>=◌}
 use Rattle.event_log.specs.declared.imports.Import.{Import}
 use Rattle.event_log.specs.declared.options.Options.{Options}
 use Rattle.event_log.specs.declared.refusals.LogError.{LogError}
-use Rattle.event_log.specs.declared.refusals.LogError.TheVariants.{TickUnfit, UntilUnfit, TooManyTicks, NeverSent, WrongReceiver, ReceivedBefore, NotLater, SecondEvent, Memory}
+use Rattle.event_log.specs.declared.refusals.LogError.TheVariants.{TickUnfit, UntilUnfit, TooManyTicks, NeverSent, WrongReceiver, ReceivedBefore, NotLater, SecondEvent, Cycle, Memory}
 use Rattle.event_log.specs.declared.times.Moment.{Moment}
 use Rattle.event_log.specs.declared.times.TimeKind.{TimeKind}
 use Rattle.event_log.specs.declared.times.TimeKind.TheVariants as kind
 use Rattle.event_log.specs.declared.times.Width.{Width}
 use Rattle.event_log.specs.declared.times.Width.TheVariants.{Units, Nanoseconds}
-use Rattle.event_log.specs.Columns.{place_in}
 use Rattle.event_log.specs.Events.{seen}
+use Rattle.event_log.specs.HopLines.{hop_lines}
 use Rattle.event_log.specs.Logs.{SeenLog}
-use Rattle.event_log.specs.Names.{parts_of}
 use Rattle.event_log.specs.Naming.{is_memory}
 use Rattle.event_log.specs.Stages.{staged_log}
+use Rattle.event_log.specs.ToldNames.{message_name, node_name}
 
 -- a length above 0
 abbrev pub above_zero : ℕ → Result ℕ LogError
@@ -60,22 +62,6 @@ until_in k (Some m) = time_in k m >>= λ x. Ok (Some x)
 abbrev pub clock_in : Options → TimeKind → Result Clock LogError
 clock_in o k = width_in k o.width >>= λ w. until_in k o.until >>= λ u. Ok (record { width = w; until = u })
 
--- a record of a text, from 0 on, which is the header
-abbrev pub record_at : List ℕ → ℕ → List (List ℕ)
-record_at text i = slice_index_or (records_of_text text) i []
-
--- the place of the column of messages
-abbrev pub message_place : List ℕ → ℕ
-message_place text = unwrap_or (place_in (record_at text 0) column.Message) 0
-
--- the name of message k of the event at place i, as its record has it
-abbrev pub message_name : List ℕ → ℕ → ℕ → List ℕ
-message_name text i k = slice_index_or (parts_of (field_of (record_at text (i + 1)) (message_place text))) k []
-
--- the name of a node, by its number
-abbrev pub node_name : List (List ℕ) → ℕ → List ℕ
-node_name nodes p = slice_index_or nodes (p - 1) []
-
 -- the processor to which an event sends; 0 in a receive
 abbrev pub sent_to : EventAct → ℕ
 sent_to (act.Send to) = to
@@ -98,18 +84,36 @@ event_place (refused.WrongReceiver i k) = i
 event_place (refused.ReceivedBefore i k) = i
 event_place (refused.NotLater i k hint) = i
 event_place (refused.SecondEvent i tick hint) = i
+event_place (refused.Cycle i) = i
 event_place refused.Memory = 0
 
--- the refusal of a log for a reason against its events; the record of the event at place i is number i + 2
-abbrev pub error_of : List ℕ → List (List ℕ) → List Event → EventError → LogError
-error_of text nodes events refused.UntilTooEarly = UntilUnfit
-error_of text nodes events refused.TooManyTicks = TooManyTicks
-error_of text nodes events (refused.NeverSent i k) = NeverSent (i + 2) (message_name text i k)
-error_of text nodes events (refused.WrongReceiver i k) = WrongReceiver (i + 2) (message_name text i k) (node_name nodes (receiver_of events i k))
-error_of text nodes events (refused.ReceivedBefore i k) = ReceivedBefore (i + 2) (message_name text i k)
-error_of text nodes events (refused.NotLater i k hint) = NotLater (i + 2) (message_name text i k) hint
-error_of text nodes events (refused.SecondEvent i tick hint) = SecondEvent (i + 2) (node_name nodes (processor_at events i)) tick hint
-error_of text nodes events refused.Memory = Memory
+-- nothing is against the messages of the events, and event i is the first in a cycle of causes or behind one
+abbrev pub IsBehindCycle : List Event → ℕ → Type 0
+IsBehindCycle events i = (first_fault events ≡ None) × IsFirstUnplaceable events i
+
+-- The refusal tells the first event in a cycle of messages or behind one, and the hops of such a cycle, from the least of
+-- their events on; the record of the event at place i is number i + 2.
+pub record IsCycleError (text : List ℕ) (nodes : List (List ℕ)) (events : List Event) (i : ℕ) (error : LogError) : Type 0 where
+  pub hops : List Hop
+  pub cycle : IsCauseCycle events hops
+  pub first : BeginsAtLeast hops
+  pub is : error ≡ Cycle (i + 2) (hop_lines text nodes events hops)
+
+-- the refusal of a log for a reason against its events
+abbrev pub IsErrorOf : List ℕ → List (List ℕ) → List Event → EventError → LogError → Type 0
+IsErrorOf text nodes events refused.UntilTooEarly error = error ≡ UntilUnfit
+IsErrorOf text nodes events refused.TooManyTicks error = error ≡ TooManyTicks
+IsErrorOf text nodes events (refused.NeverSent i k) error = error ≡ NeverSent (i + 2) (message_name text i k)
+IsErrorOf text nodes events (refused.WrongReceiver i k) error = error ≡ WrongReceiver (i + 2) (message_name text i k) (node_name nodes (receiver_of events i k))
+IsErrorOf text nodes events (refused.ReceivedBefore i k) error = error ≡ ReceivedBefore (i + 2) (message_name text i k)
+IsErrorOf text nodes events (refused.NotLater i k hint) error = error ≡ NotLater (i + 2) (message_name text i k) hint
+IsErrorOf text nodes events (refused.SecondEvent i tick hint) error = error ≡ SecondEvent (i + 2) (node_name nodes (processor_at events i)) tick hint
+IsErrorOf text nodes events (refused.Cycle i) error = IsCycleError text nodes events i error
+IsErrorOf text nodes events refused.Memory error = error ≡ Memory
+
+-- the same, or want of memory
+abbrev pub IsErrorUnlessMemory : List ℕ → List (List ℕ) → List Event → EventError → LogError → Type 0
+IsErrorUnlessMemory text nodes events why error = MatchBool (is_memory error) ⊤ (IsErrorOf text nodes events why error)
 
 -- the events that the records of a text tell, or why they tell none: where nodes are listed, these are numbered first
 pub record IsRead (o : Options) (text : List ℕ) (answer : Result SeenLog LogError) : Type 0 where
@@ -150,7 +154,7 @@ pub record IsUntimed (o : Options) (text : List ℕ) (why : LogError) : Type 0 w
   pub told : AreEventsOf o text log events clock
   pub reason : EventError
   pub untimed : IsTimedRefusal o.spread events clock reason
-  pub is : why ≡ error_of text log.nodes events reason
+  pub is : IsErrorOf text log.nodes events reason why
 
 -- why there is no trace: the first refusal of the text, or else of the options by its times, or else of its events; or
 -- want of memory

@@ -11,4 +11,6 @@ pub mod Logs
 pub mod SoundLogs
 pub mod Stages
 pub mod Options
+pub mod ToldNames
+pub mod HopLines
 pub mod Imports

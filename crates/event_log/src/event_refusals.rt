@@ -1,20 +1,22 @@
 //! The refusals of a log whose events make no trace.
 
-ghost use Rattle.std.specs.Prelude.{◌≡◌, ◌<◌, ◌+◌, None, IfOk, slice_index_or};
-ghost use Rattle.timed_events.specs.Checks.{messages_at, processor_at};
-ghost use Rattle.event_log.specs.Imports.{error_of, event_place, node_name, receiver_at, receiver_of};
-ghost use Rattle.event_log.specs.Naming.{IsUnless, is_memory};
+ghost use Rattle.std.specs.Prelude.{◌≡◌, ◌<◌, ◌≤◌, ◌+◌, ℕ, None, IfOk, length, slice_index_or};
+ghost use Rattle.timed_events.specs.Checks.{messages_at, processor_at, AreOfProcessors};
+ghost use Rattle.event_log.specs.Imports.{event_place, receiver_at, receiver_of, IsBehindCycle, IsCycleError, IsErrorOf, IsErrorUnlessMemory};
+ghost use Rattle.event_log.specs.ToldNames.{node_name};
 
+use crate::hop_lines::hop_lines;
 use crate::message_names::message_name;
 use crate::names::{Name, NameSet};
 use crate::reading::MAX_EVENTS;
 use crate::refusals::LogError;
 use std::alloc::{AllocError, Global};
-use timed_events::{Event, EventAct, EventError};
+use timed_events::{Event, EventAct, EventError, cycle_of_causes};
 
 /// The refusal of a log for a reason against its events, or Memory.
 ///
-/// Asks that the reason names one of `MAX_EVENTS` events, if any.
+/// Asks for a reason that stands, so that it names one of `MAX_EVENTS` events, if any; and where it is a cycle, for events
+/// against whose messages there is nothing.
 pub(crate) fn error_of(
     alloc: Global,
     text: &[u8],
@@ -22,8 +24,11 @@ pub(crate) fn error_of(
     events: &[Event],
     why: EventError,
 ) -> LogError
-    requires { event_place why < MAX_EVENTS }
-    ensures { IsUnless is_memory result (error_of text.now nodes.now events.now why) }
+    requires place { event_place why < MAX_EVENTS }
+    requires few { length events.now ≤ MAX_EVENTS }
+    requires processors { AreOfProcessors events.now }
+    requires behind { (i : ℕ) → why ≡ EventError.Cycle i → IsBehindCycle events.now i }
+    ensures { IsErrorUnlessMemory text.now nodes.now events.now why result }
 {
     match told_error(alloc, text, nodes, events, why) {
         Ok(error) => error,
@@ -38,8 +43,11 @@ fn told_error(
     events: &[Event],
     why: EventError,
 ) -> Result<LogError, AllocError>
-    requires { event_place why < MAX_EVENTS }
-    ensures { IfOk result (λ error. error ≡ error_of text.now nodes.now events.now why) }
+    requires place { event_place why < MAX_EVENTS }
+    requires few { length events.now ≤ MAX_EVENTS }
+    requires processors { AreOfProcessors events.now }
+    requires behind { (i : ℕ) → why ≡ EventError.Cycle i → IsBehindCycle events.now i }
+    ensures { IfOk result (λ error. IsErrorOf text.now nodes.now events.now why error) }
 {
     Ok(match why {
         EventError::UntilTooEarly => LogError::UntilUnfit,
@@ -69,8 +77,28 @@ fn told_error(
             let node = node_name(alloc, nodes, processor_at(events, event))?;
             LogError::SecondEvent(record_number(event), node, tick, hint)
         }
+        EventError::Cycle { event } => cycle_error(alloc, text, nodes, events, event)?,
         EventError::Memory => LogError::Memory,
     })
+}
+
+/// The refusal of a log with the event at a place behind a cycle.
+fn cycle_error(
+    alloc: Global,
+    text: &[u8],
+    nodes: &NameSet,
+    events: &[Event],
+    event: usize,
+) -> Result<LogError, AllocError>
+    requires place { event < MAX_EVENTS }
+    requires few { length events.now ≤ MAX_EVENTS }
+    requires processors { AreOfProcessors events.now }
+    requires behind { IsBehindCycle events.now event }
+    ensures { IfOk result (λ error. IsCycleError text.now nodes.now events.now event error) }
+{
+    let hops = cycle_of_causes(alloc, events)?;
+    let lines = hop_lines(alloc, text, nodes, events, &hops)?;
+    Ok(LogError::Cycle(record_number(event), lines))
 }
 
 /// The number of the record of the event at a place: the first event is in record 2.
@@ -82,7 +110,7 @@ fn record_number(event: usize) -> u64
 }
 
 /// The name of a node, by its number.
-fn node_name(alloc: Global, nodes: &NameSet, number: u64) -> Result<Name, AllocError>
+pub(crate) fn node_name(alloc: Global, nodes: &NameSet, number: u64) -> Result<Name, AllocError>
     ensures { IfOk result (λ name. name ≡ node_name nodes.now number) }
 {
     match nodes.name_at(number.saturating_sub(1) as usize) {
@@ -92,7 +120,7 @@ fn node_name(alloc: Global, nodes: &NameSet, number: u64) -> Result<Name, AllocE
 }
 
 /// The processor of the event at a place, or 0 where there is none.
-fn processor_at(events: &[Event], place: usize) -> u64
+pub(crate) fn processor_at(events: &[Event], place: usize) -> u64
     ensures { result ≡ processor_at events.now place }
 {
     match events.get(place) {

@@ -1,8 +1,9 @@
 //! Logs read as traces.
 
-ghost use Rattle.std.specs.Prelude.{◌≡◌, ◌<◌, ◌≤◌, [], Err, Ok, IfErr, IfOk, length, unwrap_or};
+ghost use Rattle.std.specs.Prelude.{◌≡◌, ◌<◌, ◌≤◌, ℕ, [], Err, Ok, IfErr, IfOk, length, unwrap_or};
+ghost use Rattle.timed_events.specs.Checks.{AreOfProcessors};
 ghost use Rattle.timed_events.specs.Spreads.{IsTimed, IsTimedRefusal};
-ghost use Rattle.event_log.specs.Imports.{IsImportOf, IsLogRefusal, IsRead, IsReadRefusal, above_zero, clock_in, event_place, until_in, width_in};
+ghost use Rattle.event_log.specs.Imports.{IsBehindCycle, IsImportOf, IsLogRefusal, IsRead, IsReadRefusal, above_zero, clock_in, event_place, until_in, width_in};
 ghost use Rattle.event_log.specs.Logs.{seen_log};
 ghost use Rattle.event_log.specs.SoundLogs.{IsSound};
 
@@ -32,7 +33,8 @@ pub struct Import {
 /// Reads a log as a trace: each event is one step, in the tick of its time or, where events may be spread, as little later
 /// as need be.
 ///
-/// Refuses in the order of `LogError`. Memory comes only for a text that isn't too large.
+/// Refuses in the order of `LogError`; where events may be spread, none is NotLater or SecondEvent, Cycle comes after the
+/// other refusals of events, and TooManyTicks last where an event came too far. Memory comes only for a text that isn't too large.
 pub fn read_log(alloc: Global, text: &[u8], options: &Options) -> Result<Import, LogError>
     ensures import { IfOk result (λ import. IsImportOf options.now text.now import) }
     ensures refused { IfErr result (λ why. IsLogRefusal options.now text.now why) }
@@ -138,6 +140,9 @@ fn trace_of_log(
     ensures trace { IfOk result (λ timed. IsTimed spread (length log.now.nodes) log.now.events.items clock.now timed) }
     ensures refused { IfErr result (λ why. IsTimedRefusal spread log.now.events.items clock.now why) }
     ensures place { IfErr result (λ why. event_place why < MAX_EVENTS) }
+    ensures behind { IfErr result (λ why. (i : ℕ) → why ≡ EventError.Cycle i → IsBehindCycle log.now.events.items i) }
+    ensures few { length log.now.events.items ≤ MAX_EVENTS }
+    ensures processors { AreOfProcessors log.now.events.items }
 {
     trace_of_events(
         alloc,

@@ -5,6 +5,7 @@
 mod columns;
 mod event_refusals;
 mod events;
+mod hop_lines;
 mod imports;
 mod laws;
 mod logs;
@@ -20,6 +21,7 @@ mod results;
 mod times;
 
 pub use columns::Column;
+pub use hop_lines::HopLines;
 pub use imports::{Import, read_log};
 pub use laws::log_laws;
 pub use logs::{NamedEvents, events_of_log};

@@ -2,7 +2,7 @@
 
 ghost use Rattle.std.specs.Prelude.{◌≡◌, ◌<◌, [], IfOk, slice_index_or};
 ghost use Rattle.csv.specs.Records.{fields_of};
-ghost use Rattle.event_log.specs.Imports.{message_name, message_place, record_at};
+ghost use Rattle.event_log.specs.ToldNames.{message_name, message_place, record_at};
 ghost use Rattle.event_log.specs.Names.{parts_of};
 
 use crate::columns::{Column, place_in};

@@ -106,6 +106,7 @@ fn words_of(why: &LogError) -> Words<'_>
             Words::Message(*no, message, " is received no later than it was sent")
         }
         LogError::SecondEvent(no, node, tick, _) => Words::SecondEvent(*no, node, *tick),
+        LogError::Cycle(no, _) => Words::Record(*no, "behind a cycle of messages"),
         LogError::Memory => Words::Log("out of memory"),
     }
 }

@@ -1,6 +1,7 @@
 //! Why a log is refused.
 
 use crate::columns::Column;
+use crate::hop_lines::HopLines;
 use crate::names::Name;
 use timed_events::Hint;
 
@@ -50,6 +51,8 @@ pub enum LogError {
     NotLater(u64, Name, Option<Hint>),
     /// An earlier record is of the same node in the same tick; with what would help.
     SecondEvent(u64, Name, u64, Option<Hint>),
+    /// The event is in a cycle of messages or behind one, and none before it is; with the lines of the hops of such a cycle.
+    Cycle(u64, HopLines),
     /// There was no memory.
     Memory,
 }

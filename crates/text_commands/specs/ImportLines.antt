@@ -4,7 +4,7 @@ use Rattle.std.specs.List.{flat_map, range_with_len}
 use Rattle.timed_events.specs.declared.spread_traces.Moved.{Moved}
 use Rattle.event_log.specs.declared.imports.Import.{Import}
 use Rattle.event_log.specs.declared.options.Options.{Options}
-use Rattle.event_log.specs.Imports.{node_name}
+use Rattle.event_log.specs.ToldNames.{node_name}
 use Rattle.event_log.specs.RefusalTexts.{printed}
 
 -- the line that tells which node the processor of this number is

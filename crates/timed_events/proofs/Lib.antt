@@ -23,3 +23,10 @@ pub mod OneOrder
 pub mod OneTrace
 pub mod OneSpread
 pub mod BriefEvents
+pub mod CausalWalks
+pub mod OwnSequences
+pub mod CausalOrders
+pub mod MessageFaults
+pub mod SpreadRefusals
+pub mod CauseCycles
+pub mod TurnedCycles

@@ -51,10 +51,12 @@ received_before events i s = any_below (λ j. list_any (is_message s) (messages_
 abbrev pub was_received : List Event → ℕ → ℕ → ℕ → Bool
 was_received events i k s = received_before events i s || list_any (is_message s) (take k (messages_at events i))
 
--- what would help against a receive at i no later than the Send at s
+-- what would help against a receive at i no later than the Send at s; nothing does where one processor receives its own
+-- message before it sends it
 abbrev pub late_hint : List Event → ℕ → ℕ → Option Hint
 late_hint events s i =
     if int_lt (time_at events s) (time_at events i) then Some ShorterTick
+    else if not (processor_at events s == processor_at events i) then Some Spread
     else if not (int_lt (time_at events i) (time_at events s)) && nat_lt s i then Some Spread
     else None
 
@@ -71,6 +73,23 @@ message_refusal events ticks received i k (Some s) =
 -- the first reason against the messages of event i
 unfoldable pub messages_refusal : List Event → List ℕ → ℕ → Option EventError
 messages_refusal events ticks i = first_of (λ k. message_refusal events ticks (was_received events i k) i k (slice_index_or (messages_at events i) k None)) (length (messages_at events i))
+
+-- the reason against a message whatever the ticks, by a test of which were received before
+abbrev pub message_fault : List Event → (ℕ → Bool) → ℕ → ℕ → Option ℕ → Option EventError
+message_fault events received i k None = Some (NeverSent i k)
+message_fault events received i k (Some s) =
+    if is_for events s (processor_at events i) then
+    (if received s then Some (ReceivedBefore i k)
+    else None)
+    else Some (WrongReceiver i k)
+
+-- the first such reason against the messages of event i
+unfoldable pub message_faults : List Event → ℕ → Option EventError
+message_faults events i = first_of (λ k. message_fault events (was_received events i k) i k (slice_index_or (messages_at events i) k None)) (length (messages_at events i))
+
+-- the first such reason against the events, in their order
+unfoldable pub first_fault : List Event → Option EventError
+first_fault events = first_of (message_faults events) (length events)
 
 -- the moment of a step of p in a tick, as one number: first the tick, then the processor
 abbrev pub moment_of : ℕ → ℕ → ℕ

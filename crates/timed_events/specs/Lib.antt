@@ -5,3 +5,6 @@ pub mod Orders
 pub mod TimedTraces
 pub mod Spreads
 pub mod Briefs
+pub mod Causes
+pub mod CausalWalks
+pub mod CauseCycles

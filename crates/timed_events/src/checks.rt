@@ -135,7 +135,7 @@ fn sent_before(
 
 /// Whether the event at `place` is a Send to this processor, by the briefs of the events, which are read by the clauses
 /// alone.
-fn is_sent_to(events: &[Event], briefs: &[Brief], place: usize, processor: u64) -> bool
+pub(crate) fn is_sent_to(events: &[Event], briefs: &[Brief], place: usize, processor: u64) -> bool
     requires briefs { briefs.now ≡ map brief_of events.now }
     requires processor { (1 ≤ processor) × (processor ≤ MAX_PROCESSORS) }
     ensures value { result ≡ is_for events.now place processor }
@@ -147,7 +147,8 @@ fn is_sent_to(events: &[Event], briefs: &[Brief], place: usize, processor: u64) 
     }
 }
 
-/// What would help against a receive no later than its Send.
+/// What would help against a receive no later than its Send: nothing does where a processor receives its own message before
+/// it sends it.
 fn late_hint(events: &[Event], sent: usize, place: usize) -> Option<Hint>
     requires sent { sent < length events.now }
     requires inside { place < length events.now }
@@ -155,6 +156,9 @@ fn late_hint(events: &[Event], sent: usize, place: usize) -> Option<Hint>
 {
     if events[sent].time < events[place].time {
         return Some(Hint::ShorterTick);
+    }
+    if events[sent].processor != events[place].processor {
+        return Some(Hint::Spread);
     }
     if !(events[place].time < events[sent].time) && sent < place {
         return Some(Hint::Spread);

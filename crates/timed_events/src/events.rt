@@ -51,13 +51,14 @@ pub struct Clock {
 pub enum Hint {
     /// Shorter ticks, since the times differ.
     ShorterTick,
-    /// Spreading the events, since their times are the same.
+    /// Spreading the events, unless their causes are in a cycle.
     Spread,
 }
 
 /// Why events make no trace, in the order in which the reasons are tested: first those of the times, then those of
-/// the events in their order; of one event those of its messages in their order. `event` is a place among the
-/// events, `message` one among the messages of that event.
+/// the events in their order; of one event those of its messages in their order. Where events may be spread, `Cycle` comes
+/// after those of the messages of all events, and none is `NotLater` or `SecondEvent`. `event` is a place among the events,
+/// `message` one among the messages of that event.
 #[derive(Clone, Copy, Debug, PartialEq, Eq)]
 pub enum EventError {
     /// The log ends before the time of some event.
@@ -90,6 +91,10 @@ pub enum EventError {
         event: usize,
         tick: u64,
         hint: Option<Hint>,
+    },
+    /// Where events may be spread: this one, and none before it, is in a cycle of causes or behind one.
+    Cycle {
+        event: usize,
     },
     /// There was no memory.
     Memory,

@@ -2,10 +2,14 @@
 #![tactic(auto)]
 
 mod briefs;
+mod causal_orders;
+mod cause_cycles;
 mod checks;
 mod events;
 mod laws;
+mod message_checks;
 mod orders;
+mod own_sequences;
 mod passing;
 mod spread_ticks;
 mod spread_traces;
@@ -14,9 +18,11 @@ mod time_orders;
 mod timed_traces;
 mod times;
 
+pub use cause_cycles::{Hop, cycle_of_causes};
 pub use checks::{are_meant, check_events};
 pub use events::{Clock, Event, EventAct, EventError, Hint};
-pub use laws::trace_laws;
+pub use laws::{cause_laws, trace_laws};
+pub use message_checks::check_messages;
 pub use orders::{numbers_of, order_of};
 pub use spread_traces::{Moved, TimedTrace, trace_of_events};
 pub use timed_traces::trace_in_time;

@@ -5,9 +5,11 @@ ghost use Rattle.timed_events.specs.Checks.{AreMeant};
 ghost use Rattle.timed_events.specs.Spreads.{moved_of, IsTimed, IsTimedRefusal};
 ghost use Rattle.timed_events.specs.Times.{times_refusal};
 
+use crate::causal_orders::causal_order;
 use crate::events::{Clock, Event, EventError};
+use crate::message_checks::check_messages;
 use crate::spread_ticks::spread_ticks;
-use crate::time_orders::checked_order;
+use crate::time_orders::time_order_of;
 use crate::timed_traces::{trace_in_time, trace_of_ticks};
 use crate::times::{span_of, ticks_of};
 use std::alloc::Global;
@@ -35,9 +37,8 @@ pub struct TimedTrace {
 /// ticks, and in a tick of their processors; a message's id is the number of its Send.
 ///
 /// Asks for 2 to 64 processors, at least one event and at most `MAX_STEPS`, each of one of the processors and to one of
-/// them, and ticks that have a length. Refuses in the order of `EventError`; where events may be spread, none is refused as
-/// a second one in its tick, and TooManyTicks comes last where an event came too far. Memory comes only where the times
-/// aren't refused.
+/// them, and ticks that have a length. Refuses in the order of `EventError`; where events may be spread, no event is refused
+/// for its tick, and TooManyTicks comes last where an event came too far. Memory comes only where the times aren't refused.
 pub fn trace_of_events(
     alloc: Global,
     n: u64,
@@ -84,7 +85,10 @@ fn spread_trace(
     ensures more { result ≡ Err EventError.Memory → times_refusal events.now clock.now ≡ None }
 {
     let span = span_of(events, clock)?;
-    let order = checked_order(alloc, events)?;
+    check_messages(alloc, events)?;
+    let times = time_order_of(alloc, events)?;
+    let order = causal_order(alloc, events, &times)?;
+    drop(times);
     let own = ticks_of(alloc, events, clock, span.least)?;
     let ticks = spread_ticks(alloc, events, &own, &order)?;
     drop(order);

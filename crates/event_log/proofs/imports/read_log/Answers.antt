@@ -1,6 +1,6 @@
-use Rattle.std.proofs.Common.{inl, refl, sym}
+use Rattle.std.proofs.Common.{inl, refl, sym, subst}
 use Rattle.std.proofs.lemmas.Result.{err_from_is_err_and}
-use Rattle.event_log.specs.Imports.{error_of}
+use Rattle.event_log.specs.Imports.{IsBehindCycle}
 use Rattle.event_log.specs.Logs.{seen_log}
 use Rattle.event_log.proofs.LogRefusals.{large-text, unfit-refusal, untimed-refusal}
 use Rattle.event_log.proofs.imports.read_log.Goals as goal
@@ -22,7 +22,7 @@ returns-in-Err-clause-refused c =
     let log = c.in_ok-log.log in
     let events = log.events.items in
     let why = c.in-Err.why in
-    untimed-refusal c.args.options.now c.args.text.now c.error_of.result (error_of c.args.text.now log.nodes events why) (rw c.as_slice.ensures.value at c.error_of.ensures)
+    untimed-refusal c.args.options.now c.args.text.now log.nodes events why c.error_of.result (rw c.as_slice.ensures.value at c.error_of.ensures)
     (λ same. record {
       log = seen_log log;
       events = events;
@@ -32,3 +32,6 @@ returns-in-Err-clause-refused c =
       untimed = c.in-Err.ensures.refused;
       is = same;
     })
+
+pub error_of-requires-clause-behind : goal.error_of-requires-clause-behind
+error_of-requires-clause-behind c = λ i e. subst (λ events. IsBehindCycle events i) (sym c.as_slice.ensures.value) (c.in-Err.ensures.behind i e)

@@ -4,7 +4,7 @@ use Rattle.std.specs.List.{flat_map, range_with_len}
 use Rattle.std.proofs.lemmas.List.{flat_map_more}
 use Rattle.std.proofs.lemmas.Option.{unwrap_or-slice_get}
 use Rattle.round_model.proofs.ProcessorRanges.{range_with_len-more}
-use Rattle.event_log.specs.Imports.{node_name}
+use Rattle.event_log.specs.ToldNames.{node_name}
 use Rattle.text_commands.specs.ImportLines.{node_line}
 use Rattle.text_commands.proofs.import_lines.node_lines.Goals as goal
 
