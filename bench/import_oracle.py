@@ -31,6 +31,7 @@ COLUMNS = (b"time", b"node", b"event", b"to", b"message")
 FEWER_TICKS = b"a greater --tick makes fewer"
 SHORTER_TICK = b"a shorter --tick sets them apart"
 SPREAD = b"--spread sets them apart"
+NO_CLOCKS = b"no clocks make this right: the records of a node are out of order, or a message is named wrongly"
 
 
 class Refused(Exception):
@@ -240,7 +241,7 @@ def last_tick_of(events, are_stamps, width, until):
 
 
 def test_steps(events, sends, spread):
-    """Refuses the first event that can't be a step where it stands."""
+    """Refuses the first event that can't be a step, where it stands or, with spread, anywhere."""
     received, filled = set(), {}
     for it in events:
         for name in it.messages if it.to is None else []:
@@ -263,24 +264,79 @@ def fault_of(receive, name, sends, received, spread):
         return b" is for " + send.to, None
     if name in received:
         return b" was received before", None
-    is_after = (receive.time, receive.record) > (send.time, send.record)
-    if is_after if spread else receive.tick > send.tick:
+    if spread or receive.tick > send.tick:
         return None, None
-    hint = None if spread or not is_after else SHORTER_TICK if receive.time > send.time else SPREAD
+    is_first = receive.node == send.node and own_place(receive) < own_place(send)
+    hint = SHORTER_TICK if receive.time > send.time else None if is_first else SPREAD
     return b" is received no later than it was sent", hint
 
 
-def spread_out(events, sends):
-    """Puts events into later ticks, no later than needed, and returns how many went, and how far at most."""
+def own_place(event):
+    """Its place among the events of its node."""
+    return event.time, event.record
+
+
+def order_of_causes(events, sends):
+    """The events, each behind its causes; refuses those that are in a cycle of causes or behind one."""
+    own = {}
+    for it in events:
+        own.setdefault(it.node, []).append(it)
+    own = {node: sorted(its, key=own_place) for node, its in own.items()}
+    order, is_placed, begun = [], set(), dict.fromkeys(own, 0)
+    placed_more = True
+    while placed_more:
+        placed_more = False
+        for node, its in own.items():
+            while begun[node] < len(its) and not unplaced_of(its[begun[node]], sends, is_placed):
+                is_placed.add(its[begun[node]].record)
+                order.append(its[begun[node]])
+                begun[node] += 1
+                placed_more = True
+    heads = {node: its[begun[node]] for node, its in own.items() if begun[node] < len(its)}
+    if heads:
+        first = min((it for it in events if it.record not in is_placed), key=lambda it: it.record)
+        hops = cycle_from(first.node, heads, sends, is_placed)
+        shown = [hop_line(*hop, hops[(at + 1) % len(hops)][0]) for at, hop in enumerate(hops)][:8]
+        more = [b"and %d more" % (len(hops) - 8)] if len(hops) > 8 else []
+        raise Refused(3, b"log: record %d: behind a cycle of messages" % first.record, *shown, *more, NO_CLOCKS)
+    return order
+
+
+def unplaced_of(event, sends, is_placed):
+    """The sends of the messages that it received, as far as they aren't placed."""
+    return [sends[name] for name in event.messages if event.to is None and sends[name].record not in is_placed]
+
+
+def cycle_from(node, heads, sends, is_placed):
+    """The cycle that is met from this node on: each node's first event that isn't placed waits for the first of its messages
+    whose send isn't. As pairs of the event and that send, from the first record on."""
+    path = []
+    while node not in [event.node for event, _ in path]:
+        send = unplaced_of(heads[node], sends, is_placed)[0]
+        path.append((heads[node], send))
+        node = send.node
+    cycle = path[[event.node for event, _ in path].index(node) :]
+    least = cycle.index(min(cycle, key=lambda hop: hop[0].record))
+    return cycle[least:] + cycle[:least]
+
+
+def hop_line(event, send, after):
+    return b"record %d: %b receives %b, which %b sends in record %d, after record %d" % (
+        event.record, event.node, send.messages[0], send.node, send.record, after.record)
+
+
+def spread_out(order, sends):
+    """Puts events, each behind its causes, into later ticks, no later than needed; returns how many went, and how far at
+    most."""
     far, busy = [], {}
-    for it in sorted(events, key=lambda it: (it.time, it.record)):
+    for it in order:
         after = [busy.get(it.node, 0)]
         if it.to is None:
             after += [sends[name].tick for name in it.messages]
         tick = max(it.tick, *(tick + 1 for tick in after))
         far.append(tick - it.tick)
         it.tick = busy[it.node] = tick
-    if max(it.tick for it in events) > TICK_LIMIT:
+    if max(it.tick for it in order) > TICK_LIMIT:
         refuse_log(b"too many ticks", FEWER_TICKS)
     return sum(it > 0 for it in far), max(far)
 
@@ -313,7 +369,7 @@ def imported(log, options):
     test_steps(events, sends, options.spread)
     told = [] if listed else [b"processor %d is %b" % (at, name) for at, name in enumerate(nodes, 1)]
     if options.spread:
-        count, most = spread_out(events, sends)
+        count, most = spread_out(order_of_causes(events, sends), sends)
         far = b"" if most == 0 else b", by at most 1 tick" if most == 1 else b", by at most %d ticks" % most
         told.append(b"%d of %d events moved" % (count, len(events)) + far)
         last_tick = max(last_tick, max(it.tick for it in events))

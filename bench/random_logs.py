@@ -310,6 +310,34 @@ def second_event(chance, log):
         log.options.pop("spread", None)
 
 
+def skewed(chance, log):
+    """The clocks of some nodes are ahead of the others'."""
+    log.options["spread"] = ""
+    for node in log.nodes:
+        ahead = chance.choice([0, 0, 1, log.width, 3 * log.width, 20 * log.width])
+        for row in log.rows:
+            if row["node"] == node and "at" in row:
+                row["at"] += ahead
+    log.options.pop("until", None)
+
+
+def cycle(chance, log):
+    """Receives go to other times, so that some come before the sends that others wait for; or nodes in a ring do."""
+    log.options["spread"] = ""
+    log.options.pop("until", None)
+    if chance.random() < 0.5:
+        for row in chance.sample(log.rows, (len(log.rows) + 1) // chance.choice([2, 3, 6])):
+            row["at"] = chance.randrange(1 + max(it["at"] for it in log.rows))
+        return
+    at, ring = chance.choice([0, 5]), chance.sample(log.nodes, chance.randrange(1, 1 + len(log.nodes)))
+    for place, node in enumerate(ring):
+        to = ring[(place + 1) % len(ring)]
+        first = {"at": at, "node": node, "event": "receive", "to": "", "message": f"r{place}"}
+        then = {"at": at + chance.choice([0, 0, 1, 9]), "node": node, "event": "send", "to": to, "message": f"r{(place + 1) % len(ring)}"}
+        for row in [first, then]:
+            log.rows.insert(len(log.rows) if chance.random() < 0.7 else chance.randrange(len(log.rows) + 1), row)
+
+
 def spread_past(chance, log):
     """Some events of one node at the last tick that there may be."""
     log.options["spread"] = ""
@@ -321,7 +349,7 @@ def spread_past(chance, log):
 AIMS = [
     bad_nodes, bad_tick, bad_until, no_log, no_column, two_columns, bad_fields, bad_time, bad_event, bad_node, bad_message,
     no_events, too_many_nodes, sent_before, too_few_nodes, tick_of_another_kind, until_of_another_kind, too_many_ticks,
-    never_sent, for_another, received_before, no_later, longer_ticks, second_event, spread_past,
+    never_sent, for_another, received_before, no_later, longer_ticks, second_event, skewed, cycle, spread_past,
 ]
 
 
