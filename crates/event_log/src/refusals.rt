@@ -3,11 +3,12 @@
 use crate::columns::Column;
 use crate::hop_lines::HopLines;
 use crate::names::Name;
+use thiserror::Error;
 use timed_events::Hint;
 
 /// Why a log is refused, in the order in which the stages and their reasons are tested. A record's number is its place
 /// among all records, from 1; the header is record 1.
-#[derive(Debug, Drop)]
+#[derive(Debug, Drop, Error)]
 pub enum LogError {
     /// The text has more than 67,108,864 bytes.
     TooLarge,
@@ -56,5 +57,3 @@ pub enum LogError {
     /// There was no memory.
     Memory,
 }
-
-impl std::error::Error for LogError {}
