@@ -1,5 +1,5 @@
 -- Words of a command line that are no flags, and lines of them in which nothing is refused.
-use Rattle.std.proofs.Common.{◌≡◌, ◌∙◌, ap, ap₂, refl, ℕ, Bool, true, false, ◌==◌, List, [], ◌∷◌, Some, None}
+use Rattle.std.proofs.Common.{◌≡◌, ◌∙◌, ap, ap₂, refl, subst, ℕ, Bool, true, false, ◌==◌, List, [], ◌∷◌, Some, None}
 use Rattle.std.specs.Prelude.{◌&&◌, if◌then◌else◌, fold, find, option_and_then, unwrap_or}
 use Rattle.std.specs.Str.{bytes_eq}
 use Rattle.clap.specs.Faults.{level_fault, settle_fault, defaults_fault, check_fault, step_fault, turn_fault, walk_fault}
@@ -9,8 +9,12 @@ use Rattle.clap.specs.Simple.{Shape, built, names_of}
 use Rattle.clap.specs.Walk.{Held, Text, Waiting, Walk, after_step, finished, nothing_held, plain_word, settled, subcommand_met, walk, walk_from, walked, word_met}
 use Rattle.clap.specs.Words.{Rule, fault_of, subcommand_of}
 use Rattle.command_line.specs.Arguments.{is_flag}
-use Rattle.command_line.specs.Commands.{AreRowsOf, Asked, command_of, program}
-use Rattle.command_line.specs.Jobs.{Names}
+use Rattle.command_line.specs.declared.jobs.Job.{Job}
+use Rattle.command_line.specs.declared.line_errors.LineError.{LineError}
+use Rattle.command_line.specs.declared.line_errors.LineError.TheVariants as unread
+use Rattle.command_line.specs.Answers.{Given, answers}
+use Rattle.command_line.specs.Commands.{program}
+use Rattle.command_line.specs.Jobs.{IsGivenIn}
 
 -- a word that is no flag is neither `--` nor a long nor a short flag
 not_dashes : (word : Text) → is_flag word ≡ false → bytes_eq word (45 ∷ 45 ∷ []) ≡ false
@@ -99,21 +103,24 @@ level_end s met w =
 abbrev pub line_fault : List Text → Kinds → Kinds
 line_fault words below = level_fault (built program).top (names_of (built program)) nothing_held words true below
 
--- Words with no fault that ask for this.
-pub record IsPlain (words : List Text) (a : Asked) : Type 0 where
+-- Words with no fault, whose subcommand gives such a job, or is refused so.
+pub record IsPlain (words : List Text) (IsJob : Job → Type 0) (IsRefusal : LineError → Type 0) : Type 0 where
   pub faultless : fault_of program words ≡ []
-  pub asks : Names (subcommand_of program words) a
+  pub memory : IsRefusal unread.Memory
+  pub gives : (given : Given) → IsGivenIn (subcommand_of program words) given → answers IsJob IsRefusal given
 
 -- a command's words that pass, and that leave nothing unsaid
-pub plain_line : (s : Shape) (words : List Text) (end : Walk) (a : Asked) (line : List Text) → Passes s (walk_from nothing_held) words end → level_end s [] end ≡ []
-    → AreRowsOf a (finished s.rules end.held) → line_fault (command_of a ∷ words) [] ≡ []
-    → fault_of program line ≡ line_fault (command_of a ∷ words) (level_fault s [] nothing_held words false [])
-    → subcommand_of program line ≡ Some (command_of a, finished s.rules (walk s.rules [] nothing_held words).held) → IsPlain line a
-plain_line s words end a line p ends has above faults sub = record {
-  faultless = faults ∙ ap (line_fault (command_of a ∷ words)) (ap₂ (level_end s) p.faultless p.goes ∙ ends) ∙ above;
-  asks = record {
-    rows = finished s.rules end.held;
-    named = sub ∙ ap (λ (w : Walk). Some (command_of a, finished s.rules w.held)) p.goes;
-    has = has;
-  };
-}
+pub plain_line : (name : Text) (words : List Text) (end : Walk) (line : List Text) (IsJob : Job → Type 0) (IsRefusal : LineError → Type 0)
+    → Passes (shape_of_command name) (walk_from nothing_held) words end → level_end (shape_of_command name) [] end ≡ [] → line_fault (name ∷ words) [] ≡ []
+    → fault_of program line ≡ line_fault (name ∷ words) (level_fault (shape_of_command name) [] nothing_held words false [])
+    → subcommand_of program line ≡ Some (name, finished (shape_of_command name).rules (walk (shape_of_command name).rules [] nothing_held words).held)
+    → IsRefusal unread.Memory
+    → ((given : Given) → IsGivenIn (Some (name, finished (shape_of_command name).rules end.held)) given → answers IsJob IsRefusal given)
+    → IsPlain line IsJob IsRefusal
+plain_line name words end line IsJob IsRefusal p ends above faults sub memory gives =
+    let s = shape_of_command name in
+    record {
+      faultless = faults ∙ ap (line_fault (name ∷ words)) (ap₂ (level_end s) p.faultless p.goes ∙ ends) ∙ above;
+      memory = memory;
+      gives = λ given h. gives given (subst (λ named. IsGivenIn named given) (sub ∙ ap (λ (w : Walk). Some (name, finished s.rules w.held)) p.goes) h);
+    }

@@ -1,7 +1,9 @@
 -- The arguments that several commands take, what the words of a command line say of them, and why they are refused.
-use Rattle.std.specs.Prelude.{ℕ, ◌≡◌, ◌≤◌, ◌-◌, ◌^◌, ◌++◌, Bool, false, true, ◌==◌, List, [], ◌∷◌, Option, Some, None, codes, string_bytes, ⊤}
-use Rattle.std.specs.Str.Parse.{IsNumeral, digits_value, without_leading_plus}
-use Rattle.clap.specs.Words.{App, Row, Rule, Text, app_of, first_of, new_rule, rule_of}
+use Rattle.std.specs.Prelude.{ℕ, ◌≡◌, ◌-◌, ◌^◌, ◌++◌, Bool, false, true, ◌==◌, if◌then◌else◌, List, [], ◌∷◌, Option, Some, None, codes, option_and_then, option_map, string_bytes, ⊤}
+use Rattle.std.specs.Str.{bytes_eq}
+use Rattle.std.specs.Str.Parse.{digits_value, without_leading_plus}
+use Rattle.clap.specs.ValueTests.{is_unsigned_in}
+use Rattle.clap.specs.Words.{App, Row, Rule, Text, app_of, first_of, new_app, new_rule, rule_of}
 use Rattle.clap.specs.declared.builder.Arg.{Arg}
 use Rattle.clap.specs.declared.builder.ArgAction.TheVariants.{Set, SetTrue}
 use Rattle.clap.specs.declared.builder.Command.{Command}
@@ -21,6 +23,16 @@ pub record IsArgument (rule : Rule) (a : Arg) : Type 0 where
 pub record IsCommand (app : App) (c : Command) : Type 0 where
   pub app_is : app_of c ≡ app
   pub local : (out-Command c).has_globals ≡ false
+
+-- the arguments have these rules, one each
+abbrev pub AreArguments : List Rule → List Arg → Type 0
+AreArguments [] [] = Unit {0}
+AreArguments (rule ∷ rules) (a ∷ others) = IsArgument rule a × AreArguments rules others
+AreArguments _ _ = ⊥
+
+-- the command of this name that takes these
+abbrev pub command_app : Text → List Rule → App
+command_app name rules = record { top = record (new_app name).top { rules = rules }; subs = [] }
 
 -- an argument that is known by its place
 abbrev pub positional_rule : Text → Rule
@@ -54,24 +66,28 @@ file_rule = positional_rule (codes "file")
 abbrev pub correct_rule : Rule
 correct_rule = option_rule (codes "correct")
 
--- The rows have a number of this name, as the reader of 64-bit numbers reads it, within these bounds.
-pub record HasNumber (rows : List Row) (name : Text) (least most value : ℕ) : Type 0 where
-  pub text : Text
-  pub text_is : first_of name rows ≡ Some text
-  pub numeral : IsNumeral 10 (without_leading_plus text)
-  pub value_is : value ≡ digits_value 10 (without_leading_plus text)
-  pub low : least ≤ value
-  pub high : value ≤ most
+-- the number that a text is to the reader of 64-bit numbers, where it lies within these bounds
+abbrev pub number_of : ℕ → ℕ → Text → Option ℕ
+number_of least most text = if is_unsigned_in least most text then Some (digits_value 10 (without_leading_plus text)) else None
 
--- they have such a number, or no word of this name
-abbrev pub HasOptionalNumber : List Row → Text → ℕ → ℕ → Option ℕ → Type 0
-HasOptionalNumber rows name least most None = first_of name rows ≡ None
-HasOptionalNumber rows name least most (Some value) = HasNumber rows name least most value
+-- the number of this name in the rows
+abbrev pub number_in : List Row → Text → ℕ → ℕ → Option ℕ
+number_in rows name least most = option_and_then (number_of least most) (first_of name rows)
 
--- they say of the flag of this name whether it was given
-abbrev pub HasFlag : List Row → Text → Bool → Type 0
-HasFlag rows name true = first_of name rows ≡ Some (codes "true")
-HasFlag rows name false = first_of name rows ≡ Some (codes "false")
+-- the tick that an option has, or none where it is left out; nothing where its text is no tick
+abbrev pub tick_of : Option Text → Option (Option ℕ)
+tick_of None = Some None
+tick_of (Some text) = option_map (λ tick. Some tick) (number_of 0 (2 ^ 64 - 1) text)
+
+abbrev pub tick_in : List Row → Text → Option (Option ℕ)
+tick_in rows name = tick_of (first_of name rows)
+
+-- whether a flag was given, as its text says
+abbrev pub flag_of : Text → Option Bool
+flag_of text = if bytes_eq text (codes "true") then Some true else (if bytes_eq text (codes "false") then Some false else None)
+
+abbrev pub flag_in : List Row → Text → Option Bool
+flag_in rows name = option_and_then flag_of (first_of name rows)
 
 -- the word begins with a hyphen and goes on
 abbrev pub is_flag : Text → Bool
@@ -88,6 +104,15 @@ IsMemory _ = ⊥
 abbrev pub IsLineFault : LineError → Type 0
 IsLineFault (unread.Refused text) = Unit {0}
 IsLineFault _ = ⊥
+
+-- the words in which a line is refused that has none of the commands, or lacks a word of its command
+abbrev pub unknown_words : List ℕ
+unknown_words = codes "synchrony: bad command line"
+
+-- it is refused in these words
+abbrev pub IsUnknown : LineError → Type 0
+IsUnknown (unread.Refused text) = string_bytes text ≡ unknown_words
+IsUnknown _ = ⊥
 
 -- the text names no processors: it is neither `all` nor `none`, and no list
 abbrev pub IsNoList : List ℕ → Type 0

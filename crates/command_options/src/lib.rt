@@ -2,7 +2,38 @@
 //! commands take.
 #![tactic(auto)]
 
-use step_trace::Correct;
+ghost use Rattle.std.specs.Prelude.{◌*◌, ◌≤◌};
+ghost use Rattle.step_trace.specs.declared.traces.TheConstants.{MAX_STEPS};
+ghost use Rattle.command_options.specs.declared.TheConstants.{MAX_WORKERS};
+
+use step_trace::{Config, Correct};
+
+/// The greatest number of workers that may be asked for.
+pub const MAX_WORKERS: u64 = 64;
+
+/// How many workers read a trace and find the bounds of its report.
+#[derive(Clone, Copy, Debug)]
+pub struct Workers {
+    /// From 1 to `MAX_WORKERS`.
+    pub count: u64,
+    ghost some: { 1 ≤ count },
+    ghost few: { count ≤ MAX_WORKERS },
+}
+
+/// What a run of the nodes of a configuration is asked for.
+#[derive(Debug, Drop)]
+pub struct RunOptions {
+    /// The processors and their initial values.
+    pub config: Config,
+    /// Which Receive of a round ends it, from 1 on.
+    pub patience: u64,
+    /// How many steps each processor makes; all together make at most `MAX_STEPS`.
+    pub steps: u64,
+    /// The processors that count as correct for one who follows the run, if it is followed.
+    pub follow: Option<Correct>,
+    ghost patient: { 1 ≤ patience },
+    ghost room: { config.n * steps ≤ MAX_STEPS },
+}
 
 /// Which part of a report is asked for.
 #[derive(Debug, Drop)]

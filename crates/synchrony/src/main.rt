@@ -3,10 +3,6 @@
 //! it, or checks a report by it; reads a log as such a trace; or makes such a run in threads, and prints its trace.
 #![tactic(auto)]
 
-ghost use Rattle.std.specs.Prelude.{◌*◌, ◌≤◌};
-ghost use Rattle.chunk_join.specs.declared.analyses.TheConstants.{MAX_WORKERS};
-ghost use Rattle.step_trace.specs.declared.traces.TheConstants.{MAX_STEPS};
-
 mod inputs;
 mod line_faults;
 mod outputs;
@@ -15,15 +11,16 @@ use crate::inputs::Input;
 use crate::line_faults::refused_line;
 use crate::outputs::{Output, stopped};
 use command_faults::{Fault, print, status, tell};
+use command_line::jobs::{CheckJob, DrawJob, ImportJob, ReportJob};
 use command_line::{Job, read_command, refuse_words};
-use command_options::{Claim, Drawing, ReportPart};
+use command_options::{ReportPart, RunOptions, Workers};
 use node_runs::{follower_for, run_nodes};
 use std::env;
 use std::process::ExitCode;
 use std::sync::Wait;
 use std::thread::Threads;
 use std::time::Clock;
-use step_trace::{Config, Correct, OpenGate};
+use step_trace::{Correct, OpenGate};
 use text_commands::{
     Answer, Replay, Upgrade, import_options, run_check, run_import, run_report, serve,
     verdict_status,
@@ -47,56 +44,13 @@ fn run<R: Threads + Wait + Clock + Sync>(rt: &HostRuntime, threads: &R) -> Resul
     let job = read_command(rt.alloc(), words(rt)?).map_err(refused_line)?;
     // (each function takes what the job holds, and lets go of it)
     match job {
-        Job::Report {
-            file,
-            correct,
-            workers,
-        } => report(rt, threads, file, correct, workers),
-        Job::ReportPart {
-            file,
-            correct,
-            until,
-            at,
-        } => {
-            let part = ReportPart { correct, until, at };
-            answer(rt, file, &part)
-        }
-        Job::Replay { file } => answer(rt, file, &Replay),
-        Job::Run {
-            config,
-            patience,
-            steps,
-            follow,
-        } => run_of(rt, threads, config, patience, steps, follow),
-        Job::Upgrade { file } => answer(rt, file, &Upgrade),
-        Job::Check {
-            file,
-            certificate,
-            correct,
-            until,
-        } => check(rt, file, certificate, Claim { correct, until }),
-        Job::Draw {
-            file,
-            correct,
-            from,
-            to,
-            names,
-        } => {
-            let drawing = Drawing {
-                correct,
-                from,
-                to,
-                names,
-            };
-            answer(rt, file, &drawing)
-        }
-        Job::Import {
-            file,
-            nodes,
-            tick,
-            until,
-            spread,
-        } => import(rt, file, nodes, tick, until, spread),
+        Job::Report(job) => report(rt, threads, job),
+        Job::Replay(job) => answer(rt, job.file, &Replay),
+        Job::Run(options) => run_of(rt, threads, options),
+        Job::Upgrade(job) => answer(rt, job.file, &Upgrade),
+        Job::Check(job) => check(rt, job),
+        Job::Draw(job) => answer(rt, job.file, &job.drawing),
+        Job::Import(job) => import(rt, job),
         Job::Help(text) => help(rt, text),
     }
 }
@@ -128,14 +82,14 @@ fn words(rt: &HostRuntime) -> Result<Vec<String>, Fault> {
 fn run_of<T: Threads + Wait + Clock + Sync>(
     rt: &HostRuntime,
     threads: &T,
-    config: Config,
-    patience: u64,
-    steps: u64,
-    follow: Option<Correct>,
-) -> Result<u8, Fault>
-    requires patience { 1 ≤ patience }
-    requires room { config.n * steps ≤ MAX_STEPS }
-{
+    options: RunOptions,
+) -> Result<u8, Fault> {
+    let RunOptions {
+        config,
+        patience,
+        steps,
+        follow,
+    } = options;
     let all = config.n() * steps;
     let errors = Counting::new(rt.stderr());
     let mut follower = follower_for(rt.alloc(), &config, follow, all, errors)?;
@@ -153,17 +107,27 @@ fn run_of<T: Threads + Wait + Clock + Sync>(
     output.ended(made)
 }
 
-/// Prints the report of the trace in a file. `threads` starts the threads of the workers.
+/// Prints the report of the trace in a file, or the part of it that is asked for. `threads` starts the threads of the
+/// workers of a whole one.
 fn report<T: Threads + Wait + Sync>(
+    rt: &HostRuntime,
+    threads: &T,
+    job: ReportJob,
+) -> Result<u8, Fault> {
+    match (job.part.until, job.part.at) {
+        (None, None) => whole_report(rt, threads, job.file, job.part.correct, job.workers),
+        _ => answer(rt, job.file, &job.part),
+    }
+}
+
+/// Prints all of the report of the trace in a file.
+fn whole_report<T: Threads + Wait + Sync>(
     rt: &HostRuntime,
     threads: &T,
     file: String,
     correct: Correct,
-    workers: u64,
-) -> Result<u8, Fault>
-    requires some { 1 ≤ workers }
-    requires few { workers ≤ MAX_WORKERS }
-{
+    workers: Workers,
+) -> Result<u8, Fault> {
     let mut trace = Input::open(rt, file)?;
     let mut output = Output::new(rt.stdout());
     let told = run_report(
@@ -172,7 +136,7 @@ fn report<T: Threads + Wait + Sync>(
         &mut Counting::new(&mut trace),
         &mut Counting::new(&mut output),
         correct,
-        workers,
+        workers.count,
         &OpenGate,
     );
     output.ended(told.map_err(|fault| trace.named(fault)))
@@ -200,22 +164,15 @@ fn text_in(text: &Option<String>) -> Option<&str> {
 }
 
 /// Prints the trace of the log in a file, and tells on standard error how it was read. The options are looked at first.
-fn import(
-    rt: &HostRuntime,
-    file: String,
-    nodes: Option<String>,
-    tick: Option<String>,
-    until: Option<String>,
-    spread: bool,
-) -> Result<u8, Fault> {
+fn import(rt: &HostRuntime, job: ImportJob) -> Result<u8, Fault> {
     let options = import_options(
         rt.alloc(),
-        text_in(&nodes),
-        text_in(&tick),
-        text_in(&until),
-        spread,
+        text_in(&job.options.nodes),
+        text_in(&job.options.tick),
+        text_in(&job.options.until),
+        job.options.spread,
     )?;
-    let mut log = Input::open(rt, file)?;
+    let mut log = Input::open(rt, job.file)?;
     let mut output = Output::new(rt.stdout());
     let mut notes = Counting::new(rt.stderr());
     let told = run_import(
@@ -230,13 +187,13 @@ fn import(
 
 /// Prints the verdict on the certificate in a file, for the trace in another, and gives its exit status. Both files are
 /// opened before one is read.
-fn check(rt: &HostRuntime, file: String, certificate: String, claim: Claim) -> Result<u8, Fault> {
-    let mut trace = Input::open(rt, file)?;
-    let mut claimed = Input::open(rt, certificate)?;
+fn check(rt: &HostRuntime, job: CheckJob) -> Result<u8, Fault> {
+    let mut trace = Input::open(rt, job.file)?;
+    let mut claimed = Input::open(rt, job.certificate)?;
     let mut output = Output::new(rt.stdout());
     let judged = run_check(
         rt.alloc(),
-        &claim,
+        &job.claim,
         &mut Counting::new(&mut trace),
         &mut Counting::new(&mut claimed),
         &mut Counting::new(&mut output),

@@ -42,13 +42,13 @@ fn line_of(alloc: Global, words: &[&str]) -> Result<Vec<String>, AllocError> {
 fn is_job(job: &Job, given: Given) -> bool {
     match (job, given) {
         (Job::Help(text), Given::Text(begins)) => text.as_str().starts_with(begins),
-        (Job::Report { .. }, Given::Report)
-        | (Job::Replay { .. }, Given::Replay)
-        | (Job::Run { .. }, Given::Run)
-        | (Job::Upgrade { .. }, Given::Upgrade)
-        | (Job::Check { .. }, Given::Check)
-        | (Job::Draw { .. }, Given::Draw)
-        | (Job::Import { .. }, Given::Import) => true,
+        (Job::Report(_), Given::Report)
+        | (Job::Replay(_), Given::Replay)
+        | (Job::Run(_), Given::Run)
+        | (Job::Upgrade(_), Given::Upgrade)
+        | (Job::Check(_), Given::Check)
+        | (Job::Draw(_), Given::Draw)
+        | (Job::Import(_), Given::Import) => true,
         _ => false,
     }
 }

@@ -1,19 +1,35 @@
 //! The arguments that several commands take, and what the words of a command line say of them.
 
-ghost use Rattle.std.specs.Prelude.{◌≡◌, ◌≢◌, ◌↔◌, ℕ, List, Option, IfOk, IfErr, IfSome, IfNone, IsTrue, Bool, codes, option_map, string_bytes};
-ghost use Rattle.clap.specs.Words.{first_of, found_of, rows_of};
+ghost use Rattle.std.specs.Prelude.{◌≡◌, ◌↔◌, ◌≤◌, List, IfOk, IfErr, IfSome, IsTrue, codes, option_map, string_bytes};
+ghost use Rattle.clap.specs.Words.{Rule, first_of, found_of, rows_of};
 ghost use Rattle.step_trace.specs.CorrectSets.{IsCorrectIn};
-ghost use Rattle.command_line.specs.Arguments.{HasFlag, HasNumber, HasOptionalNumber, IsArgument, IsLineFault, IsListFaultOf, TellsList, correct_rule, file_rule, option_rule, optional_rule, positional_rule, tick_rule};
+ghost use Rattle.command_line.specs.Arguments.{AreArguments, IsArgument, IsCommand, IsListFaultOf, IsUnknown, TellsList, command_app, correct_rule, file_rule, flag_in, number_in, option_rule, optional_rule, positional_rule, tick_in, tick_rule};
 
 use crate::line_errors::LineError;
 use clap::builder::ValueParser;
-use clap::{Arg, ArgAction, ArgMatches};
+use clap::{Arg, ArgAction, ArgMatches, Command};
 use std::alloc::{AllocError, Global};
 use step_trace::Correct;
 
 const FILE_HELP: &str = "The trace text; - is standard input";
 
 const CORRECT_HELP: &str = "The correct processors, from 1 to 64: 1,2,5, or all, or none";
+
+/// The command of this name, with these texts for its help, that takes these arguments.
+pub fn new_command<'a>(
+    alloc: Global,
+    name: &'a str,
+    about: &'a str,
+    help: &'a str,
+    arguments: Vec<Arg<'a>>,
+) -> Result<Command<'a>, AllocError>
+    ensures { (rules : List Rule) → AreArguments rules arguments.entry.items → IfOk result (IsCommand (command_app name.entry.now rules)) }
+{
+    Command::new(alloc, name)
+        .about(about)
+        .after_help(help)
+        .args(arguments)
+}
 
 /// The argument FILE.
 pub fn file_argument<'a>(alloc: Global) -> Arg<'a>
@@ -80,25 +96,25 @@ pub fn tick_argument<'a>(alloc: Global, name: &'a str, help: &'a str) -> Arg<'a>
     optional_argument(alloc, name, "TICK", help).value_parser(ValueParser::unsigned(0, u64::MAX))
 }
 
-/// The text of this name, where the matches have one.
+/// The text of this name, where the matches have one: a word that its command requires.
 pub fn text<'a>(found: &ArgMatches<'a>, name: &str) -> Option<&'a str>
-    ensures some { IfSome result (λ text. first_of name.now (rows_of (found_of found.now)) ≡ Some text.now) }
-    ensures none { IfNone result ((text : List ℕ) → first_of name.now (rows_of (found_of found.now)) ≢ Some text) }
-{
-    optional_text(found, name)
-}
-
-/// The text of this name, or none where the matches have none.
-pub fn optional_text<'a>(found: &ArgMatches<'a>, name: &str) -> Option<&'a str>
     ensures { option_map (λ text. text.now) result ≡ first_of name.now (rows_of (found_of found.now)) }
 {
     found.get_str(name)
 }
 
+/// The text of this name, where the matches have one: a word that may be left out.
+pub fn optional_text<'a>(found: &ArgMatches<'a>, name: &str) -> Option<&'a str>
+    ensures { option_map (λ text. text.now) result ≡ first_of name.now (rows_of (found_of found.now)) }
+{
+    text(found, name)
+}
+
 /// The number of this name, where the matches have one within these bounds.
 pub fn number(found: &ArgMatches<'_>, name: &str, least: u64, most: u64) -> Option<u64>
-    ensures some { IfSome result (λ value. HasNumber (rows_of (found_of found.now)) name.now least most value) }
-    ensures none { IfNone result ((value : ℕ) → ¬ HasNumber (rows_of (found_of found.now)) name.now least most value) }
+    ensures value { result ≡ number_in (rows_of (found_of found.now)) name.now least most }
+    ensures low { IfSome result (λ value. least ≤ value) }
+    ensures high { IfSome result (λ value. value ≤ most) }
 {
     let word = text(found, name)?;
     let Ok(value) = word.parse::<u64>() else {
@@ -110,27 +126,19 @@ pub fn number(found: &ArgMatches<'_>, name: &str, least: u64, most: u64) -> Opti
     Some(value)
 }
 
-/// The number of this name within these bounds, or none where the matches have no word of this name. None where they
-/// have another word of it.
-pub fn optional_number(
-    found: &ArgMatches<'_>,
-    name: &str,
-    least: u64,
-    most: u64,
-) -> Option<Option<u64>>
-    ensures some { IfSome result (HasOptionalNumber (rows_of (found_of found.now)) name.now least most) }
-    ensures none { IfNone result ((value : Option ℕ) → ¬ HasOptionalNumber (rows_of (found_of found.now)) name.now least most value) }
+/// The tick of this name, or none where the matches have no word of this name. None where they have another word of it.
+pub fn tick(found: &ArgMatches<'_>, name: &str) -> Option<Option<u64>>
+    ensures { result ≡ tick_in (rows_of (found_of found.now)) name.now }
 {
-    match optional_text(found, name) {
-        Some(_) => Some(Some(number(found, name, least, most)?)),
+    match text(found, name) {
+        Some(_) => Some(Some(number(found, name, 0, u64::MAX)?)),
         None => Some(None),
     }
 }
 
 /// Whether the flag of this name was given, where the matches say it.
 pub fn flag(found: &ArgMatches<'_>, name: &str) -> Option<bool>
-    ensures some { IfSome result (HasFlag (rows_of (found_of found.now)) name.now) }
-    ensures none { IfNone result ((value : Bool) → ¬ HasFlag (rows_of (found_of found.now)) name.now value) }
+    ensures { result ≡ flag_in (rows_of (found_of found.now)) name.now }
 {
     match text(found, name)? {
         "true" => Some(true),
@@ -179,7 +187,7 @@ pub fn names_standard_input(file: &str) -> bool
 
 /// The refusal of a command line that has none of the commands, or lacks a word of its command.
 pub fn unknown(alloc: Global) -> Result<LineError, AllocError>
-    ensures { IfOk result IsLineFault }
+    ensures { IfOk result IsUnknown }
 {
     let text = String::from_str(alloc, "synchrony: bad command line")?;
     Ok(LineError::Refused(text))

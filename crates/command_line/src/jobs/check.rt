@@ -1,94 +1,87 @@
 //! The command `check`: its words and its help text, and the job that they give.
 
-ghost use Rattle.std.specs.Prelude.{◌≡◌, List, ℕ, None, Option, IfOk, IfErr, IfSome, codes};
+ghost use Rattle.std.specs.Prelude.{IfOk, IfErr};
 ghost use Rattle.clap.specs.Words.{found_of, rows_of};
 ghost use Rattle.command_line.specs.Arguments.{IsCommand};
-ghost use Rattle.command_line.specs.Commands.{AreCheckRows, IsCheck, IsFilesFault, check_app};
-ghost use Rattle.command_line.specs.Jobs.{IsAnswerIn};
+ghost use Rattle.command_line.specs.Commands.Check.{IsCheck, IsFilesFault, check_app, check_given};
 
 use crate::jobs::Job;
 use crate::jobs::arguments::{
-    correct_argument, correct_in, file_argument, names_standard_input, optional_number,
-    positional_argument, text, tick_argument, unknown,
+    correct_argument, correct_in, file_argument, names_standard_input, new_command,
+    positional_argument, text, tick, tick_argument,
 };
 use crate::line_errors::LineError;
 use clap::{ArgMatches, Command};
+use command_options::Claim;
 use std::alloc::{AllocError, Global};
+
+const ABOUT: &str = "Checks a report of a trace by the trace, and prints the verdict";
 
 const CERTIFICATE_HELP: &str = "The report to check; - is standard input";
 
 const UNTIL_HELP: &str = "Checks it by the trace as if that had ended at this tick";
 
-/// What the words after `check` say.
-#[derive(Clone, Copy)]
-struct CheckWords<'a> {
-    /// The path of the trace's file.
-    file: &'a str,
-    /// The path of the certificate's file.
-    certificate: &'a str,
-    /// The list of the correct processors.
-    list: &'a str,
-    /// The tick up to which the trace is checked.
-    until: Option<u64>,
+/// The check of a certificate against a trace. One of the two files at most is standard input.
+#[derive(Debug, Drop)]
+pub struct CheckJob {
+    /// The path of the trace's file; `-` is standard input.
+    pub file: String,
+    /// The path of the certificate's file; `-` is standard input.
+    pub certificate: String,
+    /// What the certificate is checked for.
+    pub claim: Claim,
 }
 
 /// The command `check`, as the command line's reader takes it.
 pub fn command<'a>(alloc: Global) -> Result<Command<'a>, AllocError>
     ensures { IfOk result (IsCommand check_app) }
 {
-    Command::new(alloc, "check")
-        .about("Checks a report of a trace by the trace, and prints the verdict")
-        .after_help(help())
-        .arg(file_argument(alloc))?
-        .arg(positional_argument(alloc, "certificate", "CERT", CERTIFICATE_HELP))?
-        .arg(correct_argument(alloc))?
-        .arg(tick_argument(alloc, "until", UNTIL_HELP))
+    let arguments = vec![in alloc;
+        file_argument(alloc),
+        positional_argument(alloc, "certificate", "CERT", CERTIFICATE_HELP),
+        correct_argument(alloc),
+        tick_argument(alloc, "until", UNTIL_HELP),
+    ]?;
+    new_command(alloc, "check", ABOUT, help(), arguments)
 }
 
-/// The job that the words after `check` ask for.
+/// The job that the words after `check` ask for; none where one of them lacks.
 ///
-/// Refuses words that aren't all there; a list that isn't one; and two files that are both standard input.
-/// Memory may come instead.
-pub fn job(alloc: Global, found: &ArgMatches<'_>) -> Result<Job, LineError>
-    ensures { IsAnswerIn (Some (codes "check", rows_of (found_of found.now))) result }
+/// Refuses a list that isn't one, and then two files that are both standard input. Memory may come instead.
+pub fn job(alloc: Global, found: &ArgMatches<'_>) -> Option<Result<Job, LineError>>
+    ensures { check_given (rows_of (found_of found.now)) result }
 {
-    match words(found) {
-        Some(words) => check(alloc, words),
-        None => Err(unknown(alloc)?),
-    }
-}
-
-/// What the matches below `check` say, where they have all of it.
-fn words<'a>(found: &ArgMatches<'a>) -> Option<CheckWords<'a>>
-    ensures some { IfSome result (λ w. AreCheckRows (rows_of (found_of found.now)) w.file.now w.certificate.now w.list.now w.until) }
-    ensures none { result ≡ None → (file certificate list : List ℕ) (until : Option ℕ) → ¬ AreCheckRows (rows_of (found_of found.now)) file certificate list until }
-{
-    Some(CheckWords {
-        file: text(found, "file")?,
-        certificate: text(found, "certificate")?,
-        list: text(found, "correct")?,
-        until: optional_number(found, "until", 0, u64::MAX)?,
-    })
+    let file = text(found, "file")?;
+    let certificate = text(found, "certificate")?;
+    let list = text(found, "correct")?;
+    let until = tick(found, "until")?;
+    Some(check(alloc, file, certificate, list, until))
 }
 
 /// The job of a check with these words.
-fn check(alloc: Global, words: CheckWords<'_>) -> Result<Job, LineError>
-    ensures job { IfOk result (IsCheck words.entry.file.now words.entry.certificate.now words.entry.list.now words.entry.until) }
-    ensures refused { IfErr result (IsFilesFault words.entry.file.now words.entry.certificate.now words.entry.list.now) }
+fn check(
+    alloc: Global,
+    file: &str,
+    certificate: &str,
+    list: &str,
+    until: Option<u64>,
+) -> Result<Job, LineError>
+    ensures job { IfOk result (IsCheck file.now certificate.now list.now until) }
+    ensures refused { IfErr result (IsFilesFault file.now certificate.now list.now) }
 {
-    let correct = correct_in(alloc, "correct", words.list)?;
-    if names_standard_input(words.file) && names_standard_input(words.certificate) {
+    let correct = correct_in(alloc, "correct", list)?;
+    if names_standard_input(file) && names_standard_input(certificate) {
         let text = String::from_str(alloc, "synchrony: only one file can be -")?;
         return Err(LineError::Refused(text));
     }
-    let file = String::from_str(alloc, words.file)?;
-    let certificate = String::from_str(alloc, words.certificate)?;
-    Ok(Job::Check {
+    let file = String::from_str(alloc, file)?;
+    let certificate = String::from_str(alloc, certificate)?;
+    let claim = Claim { correct, until };
+    Ok(Job::Check(CheckJob {
         file,
         certificate,
-        correct,
-        until: words.until,
-    })
+        claim,
+    }))
 }
 
 /// What a check says of a report.

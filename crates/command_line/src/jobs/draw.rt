@@ -1,19 +1,22 @@
 //! The command `draw`: its words and its help text, and the job that they give.
 
-ghost use Rattle.std.specs.Prelude.{◌≡◌, List, ℕ, None, Option, IfOk, IfErr, IfSome, codes, option_map};
+ghost use Rattle.std.specs.Prelude.{IfOk, IfErr, option_map};
 ghost use Rattle.clap.specs.Words.{found_of, rows_of};
 ghost use Rattle.command_line.specs.Arguments.{IsCommand, IsListFault};
-ghost use Rattle.command_line.specs.Commands.{AreDrawRows, IsDraw, draw_app};
-ghost use Rattle.command_line.specs.Jobs.{IsAnswerIn};
+ghost use Rattle.command_line.specs.Commands.Draw.{IsDraw, draw_app, draw_given};
 
 use crate::jobs::Job;
 use crate::jobs::arguments::{
-    correct_argument, correct_in, file_argument, kept, optional_argument, optional_number,
-    optional_text, text, tick_argument, unknown,
+    correct_argument, correct_in, file_argument, kept, new_command, optional_argument,
+    optional_text, text, tick, tick_argument,
 };
 use crate::line_errors::LineError;
 use clap::{ArgMatches, Command};
+use command_options::Drawing;
 use std::alloc::{AllocError, Global};
+
+const ABOUT: &str =
+    "Draws a trace and the bounds of its report as SVG, for a set of correct processors";
 
 const FROM_HELP: &str = "The first tick to draw; 1 where it is left out";
 
@@ -23,76 +26,65 @@ const TO_HELP: &str =
 const NAMES_HELP: &str =
     "The names of all processors, in their order; their numbers where it is left out";
 
-/// What the words after `draw` say.
-#[derive(Clone, Copy)]
-struct DrawWords<'a> {
-    /// The path of the trace's file.
-    file: &'a str,
-    /// The list of the correct processors.
-    list: &'a str,
-    /// The first tick to draw.
-    from: Option<u64>,
-    /// The last tick to draw.
-    to: Option<u64>,
-    /// The list of the processors' names.
-    names: Option<&'a str>,
+/// The picture of the trace in a file, as SVG.
+#[derive(Debug, Drop)]
+pub struct DrawJob {
+    /// The path of the file; `-` is standard input.
+    pub file: String,
+    /// What the picture is asked for.
+    pub drawing: Drawing,
 }
 
 /// The command `draw`, as the command line's reader takes it.
 pub fn command<'a>(alloc: Global) -> Result<Command<'a>, AllocError>
     ensures { IfOk result (IsCommand draw_app) }
 {
-    Command::new(alloc, "draw")
-        .about("Draws a trace and the bounds of its report as SVG, for a set of correct processors")
-        .after_help(help())
-        .arg(file_argument(alloc))?
-        .arg(correct_argument(alloc))?
-        .arg(tick_argument(alloc, "from", FROM_HELP))?
-        .arg(tick_argument(alloc, "to", TO_HELP))?
-        .arg(optional_argument(alloc, "names", "A,B,C", NAMES_HELP))
+    let arguments = vec![in alloc;
+        file_argument(alloc),
+        correct_argument(alloc),
+        tick_argument(alloc, "from", FROM_HELP),
+        tick_argument(alloc, "to", TO_HELP),
+        optional_argument(alloc, "names", "A,B,C", NAMES_HELP),
+    ]?;
+    new_command(alloc, "draw", ABOUT, help(), arguments)
 }
 
-/// The job that the words after `draw` ask for.
+/// The job that the words after `draw` ask for; none where one of them lacks.
 ///
-/// Refuses words that aren't all there, and a list that isn't one. Memory may come instead.
-pub fn job(alloc: Global, found: &ArgMatches<'_>) -> Result<Job, LineError>
-    ensures { IsAnswerIn (Some (codes "draw", rows_of (found_of found.now))) result }
+/// Refuses a list that isn't one. Memory may come instead.
+pub fn job(alloc: Global, found: &ArgMatches<'_>) -> Option<Result<Job, LineError>>
+    ensures { draw_given (rows_of (found_of found.now)) result }
 {
-    match words(found) {
-        Some(words) => draw(alloc, words),
-        None => Err(unknown(alloc)?),
-    }
-}
-
-/// What the matches below `draw` say, where they have all of it.
-fn words<'a>(found: &ArgMatches<'a>) -> Option<DrawWords<'a>>
-    ensures some { IfSome result (λ w. AreDrawRows (rows_of (found_of found.now)) w.file.now w.list.now w.from w.to (option_map (λ n. n.now) w.names)) }
-    ensures none { result ≡ None → (file list : List ℕ) (from to : Option ℕ) (names : Option (List ℕ)) → ¬ AreDrawRows (rows_of (found_of found.now)) file list from to names }
-{
-    Some(DrawWords {
-        file: text(found, "file")?,
-        list: text(found, "correct")?,
-        from: optional_number(found, "from", 0, u64::MAX)?,
-        to: optional_number(found, "to", 0, u64::MAX)?,
-        names: optional_text(found, "names"),
-    })
+    let file = text(found, "file")?;
+    let list = text(found, "correct")?;
+    let from = tick(found, "from")?;
+    let to = tick(found, "to")?;
+    let names = optional_text(found, "names");
+    Some(draw(alloc, file, list, from, to, names))
 }
 
 /// The job of a picture with these words.
-fn draw(alloc: Global, words: DrawWords<'_>) -> Result<Job, LineError>
-    ensures job { IfOk result (IsDraw words.entry.file.now words.entry.list.now words.entry.from words.entry.to (option_map (λ n. n.now) words.entry.names)) }
-    ensures refused { IfErr result (IsListFault words.entry.list.now) }
+fn draw(
+    alloc: Global,
+    file: &str,
+    list: &str,
+    from: Option<u64>,
+    to: Option<u64>,
+    names: Option<&str>,
+) -> Result<Job, LineError>
+    ensures job { IfOk result (IsDraw file.now list.now from to (option_map (λ n. n.now) names.entry)) }
+    ensures refused { IfErr result (IsListFault list.now) }
 {
-    let correct = correct_in(alloc, "correct", words.list)?;
-    let file = String::from_str(alloc, words.file)?;
-    let names = kept(alloc, words.names)?;
-    Ok(Job::Draw {
-        file,
+    let correct = correct_in(alloc, "correct", list)?;
+    let file = String::from_str(alloc, file)?;
+    let names = kept(alloc, names)?;
+    let drawing = Drawing {
         correct,
-        from: words.from,
-        to: words.to,
+        from,
+        to,
         names,
-    })
+    };
+    Ok(Job::Draw(DrawJob { file, drawing }))
 }
 
 /// What a picture shows.

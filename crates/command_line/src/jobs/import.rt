@@ -1,18 +1,20 @@
 //! The command `import`: its words and its help text, and the job that they give.
 
-ghost use Rattle.std.specs.Prelude.{◌≡◌, Bool, List, ℕ, None, Option, IfOk, IfErr, IfSome, codes, option_map};
+ghost use Rattle.std.specs.Prelude.{IfOk, IfErr, codes, option_map};
 ghost use Rattle.clap.specs.Words.{found_of, rows_of};
 ghost use Rattle.command_line.specs.Arguments.{IsArgument, IsCommand, IsMemory, flag_rule};
-ghost use Rattle.command_line.specs.Commands.{AreImportRows, IsImport, import_app};
-ghost use Rattle.command_line.specs.Jobs.{IsAnswerIn};
+ghost use Rattle.command_line.specs.Commands.Import.{IsImport, import_app, import_given};
 
 use crate::jobs::Job;
 use crate::jobs::arguments::{
-    flag, kept, optional_argument, optional_text, positional_argument, text, unknown,
+    flag, kept, new_command, optional_argument, optional_text, positional_argument, text,
 };
 use crate::line_errors::LineError;
 use clap::{Arg, ArgAction, ArgMatches, Command};
+use command_options::ImportOptions;
 use std::alloc::{AllocError, Global};
+
+const ABOUT: &str = "Makes a trace of a log with time stamps";
 
 const LOG_HELP: &str = "The log; - is standard input";
 
@@ -22,33 +24,27 @@ const TICK_HELP: &str = "The length of a tick; 1 where it is left out";
 
 const UNTIL_HELP: &str = "When LOG ends; at its last event where it is left out";
 
-/// What the words after `import` say.
-#[derive(Clone, Copy)]
-struct ImportWords<'a> {
-    /// The path of the log's file.
-    log: &'a str,
-    /// The list of the nodes' names.
-    nodes: Option<&'a str>,
-    /// The length of a tick.
-    tick: Option<&'a str>,
-    /// When the log ends.
-    until: Option<&'a str>,
-    /// Whether events may go to later ticks.
-    spread: bool,
+/// The trace that a log stands for, as a text of version 2.
+#[derive(Debug, Drop)]
+pub struct ImportJob {
+    /// The path of the log's file; `-` is standard input.
+    pub file: String,
+    /// How the log is to be read.
+    pub options: ImportOptions,
 }
 
 /// The command `import`, as the command line's reader takes it.
 pub fn command<'a>(alloc: Global) -> Result<Command<'a>, AllocError>
     ensures { IfOk result (IsCommand import_app) }
 {
-    Command::new(alloc, "import")
-        .about("Makes a trace of a log with time stamps")
-        .after_help(help())
-        .arg(positional_argument(alloc, "log", "LOG", LOG_HELP))?
-        .arg(optional_argument(alloc, "nodes", "A,B,C", NODES_HELP))?
-        .arg(optional_argument(alloc, "tick", "W", TICK_HELP))?
-        .arg(optional_argument(alloc, "until", "X", UNTIL_HELP))?
-        .arg(spread_argument(alloc))
+    let arguments = vec![in alloc;
+        positional_argument(alloc, "log", "LOG", LOG_HELP),
+        optional_argument(alloc, "nodes", "A,B,C", NODES_HELP),
+        optional_argument(alloc, "tick", "W", TICK_HELP),
+        optional_argument(alloc, "until", "X", UNTIL_HELP),
+        spread_argument(alloc),
+    ]?;
+    new_command(alloc, "import", ABOUT, help(), arguments)
 }
 
 /// The flag --spread.
@@ -61,48 +57,39 @@ fn spread_argument<'a>(alloc: Global) -> Arg<'a>
         .action(ArgAction::SetTrue)
 }
 
-/// The job that the words after `import` ask for. What the texts say is looked at elsewhere.
-///
-/// Refuses words that aren't all there. Memory may come instead.
-pub fn job(alloc: Global, found: &ArgMatches<'_>) -> Result<Job, LineError>
-    ensures { IsAnswerIn (Some (codes "import", rows_of (found_of found.now))) result }
+/// The job that the words after `import` ask for; none where one of them lacks. What the texts say is looked at
+/// elsewhere. Memory is the only refusal.
+pub fn job(alloc: Global, found: &ArgMatches<'_>) -> Option<Result<Job, LineError>>
+    ensures { import_given (rows_of (found_of found.now)) result }
 {
-    match words(found) {
-        Some(words) => import(alloc, words),
-        None => Err(unknown(alloc)?),
-    }
+    let log = text(found, "log")?;
+    let spread = flag(found, "spread")?;
+    let nodes = optional_text(found, "nodes");
+    let tick = optional_text(found, "tick");
+    let until = optional_text(found, "until");
+    Some(import(alloc, log, nodes, tick, until, spread))
 }
 
-/// What the matches below `import` say, where they have all of it.
-fn words<'a>(found: &ArgMatches<'a>) -> Option<ImportWords<'a>>
-    ensures some { IfSome result (λ w. AreImportRows (rows_of (found_of found.now)) w.log.now (option_map (λ t. t.now) w.nodes) (option_map (λ t. t.now) w.tick) (option_map (λ t. t.now) w.until) w.spread) }
-    ensures none { result ≡ None → (log : List ℕ) (nodes tick until : Option (List ℕ)) (spread : Bool) → ¬ AreImportRows (rows_of (found_of found.now)) log nodes tick until spread }
-{
-    Some(ImportWords {
-        log: text(found, "log")?,
-        nodes: optional_text(found, "nodes"),
-        tick: optional_text(found, "tick"),
-        until: optional_text(found, "until"),
-        spread: flag(found, "spread")?,
-    })
-}
-
-/// The job of an import with these words. Memory is its only refusal.
-fn import(alloc: Global, words: ImportWords<'_>) -> Result<Job, LineError>
-    ensures job { IfOk result (IsImport words.entry.log.now (option_map (λ t. t.now) words.entry.nodes) (option_map (λ t. t.now) words.entry.tick) (option_map (λ t. t.now) words.entry.until) words.entry.spread) }
+/// The job of an import with these words.
+fn import(
+    alloc: Global,
+    log: &str,
+    nodes: Option<&str>,
+    tick: Option<&str>,
+    until: Option<&str>,
+    spread: bool,
+) -> Result<Job, LineError>
+    ensures job { IfOk result (IsImport log.now (option_map (λ t. t.now) nodes.entry) (option_map (λ t. t.now) tick.entry) (option_map (λ t. t.now) until.entry) spread) }
     ensures refused { IfErr result IsMemory }
 {
-    let file = String::from_str(alloc, words.log)?;
-    let nodes = kept(alloc, words.nodes)?;
-    let tick = kept(alloc, words.tick)?;
-    let until = kept(alloc, words.until)?;
-    Ok(Job::Import {
-        file,
-        nodes,
-        tick,
-        until,
-        spread: words.spread,
-    })
+    let file = String::from_str(alloc, log)?;
+    let options = ImportOptions {
+        nodes: kept(alloc, nodes)?,
+        tick: kept(alloc, tick)?,
+        until: kept(alloc, until)?,
+        spread,
+    };
+    Ok(Job::Import(ImportJob { file, options }))
 }
 
 /// What a log is, and how it becomes a trace.

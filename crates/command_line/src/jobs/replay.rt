@@ -1,39 +1,48 @@
 //! The command `replay`: its words and its help text, and the job that they give.
 
-ghost use Rattle.std.specs.Prelude.{IfOk, codes};
+ghost use Rattle.std.specs.Prelude.{IfOk, IfErr};
 ghost use Rattle.clap.specs.Words.{found_of, rows_of};
-ghost use Rattle.command_line.specs.Arguments.{IsCommand};
-ghost use Rattle.command_line.specs.Commands.{replay_app};
-ghost use Rattle.command_line.specs.Jobs.{IsAnswerIn};
+ghost use Rattle.command_line.specs.Arguments.{IsCommand, IsMemory};
+ghost use Rattle.command_line.specs.Commands.Replay.{IsReplay, replay_app, replay_given};
 
 use crate::jobs::Job;
-use crate::jobs::arguments::{file_argument, text, unknown};
+use crate::jobs::arguments::{file_argument, new_command, text};
 use crate::line_errors::LineError;
 use clap::{ArgMatches, Command};
 use std::alloc::{AllocError, Global};
+
+const ABOUT: &str = "Prints each processor's round and decision at the end of a run";
+
+/// The replay of the trace in a file: the round and the decision of each processor at its end.
+#[derive(Debug, Drop)]
+pub struct ReplayJob {
+    /// The path of the file; `-` is standard input.
+    pub file: String,
+}
 
 /// The command `replay`, as the command line's reader takes it.
 pub fn command<'a>(alloc: Global) -> Result<Command<'a>, AllocError>
     ensures { IfOk result (IsCommand replay_app) }
 {
-    Command::new(alloc, "replay")
-        .about("Prints each processor's round and decision at the end of a run")
-        .after_help(help())
-        .arg(file_argument(alloc))
+    let arguments = vec![in alloc; file_argument(alloc)]?;
+    new_command(alloc, "replay", ABOUT, help(), arguments)
 }
 
-/// The job that the words after `replay` ask for.
-///
-/// Refuses words that aren't all there. Memory may come instead.
-#[tactic(auto, using(crate::proofs::Commands::replay_asked))]
-pub fn job(alloc: Global, found: &ArgMatches<'_>) -> Result<Job, LineError>
-    ensures { IsAnswerIn (Some (codes "replay", rows_of (found_of found.now))) result }
+/// The job that the words after `replay` ask for; none where one of them lacks. Memory is the only refusal.
+pub fn job(alloc: Global, found: &ArgMatches<'_>) -> Option<Result<Job, LineError>>
+    ensures { replay_given (rows_of (found_of found.now)) result }
 {
-    let Some(file) = text(found, "file") else {
-        return Err(unknown(alloc)?);
-    };
+    let file = text(found, "file")?;
+    Some(replay(alloc, file))
+}
+
+/// The job of a replay with this file.
+fn replay(alloc: Global, file: &str) -> Result<Job, LineError>
+    ensures job { IfOk result (IsReplay file.now) }
+    ensures refused { IfErr result IsMemory }
+{
     let file = String::from_str(alloc, file)?;
-    Ok(Job::Replay { file })
+    Ok(Job::Replay(ReplayJob { file }))
 }
 
 /// How a trace is replayed, and what is printed of it.

@@ -1,23 +1,23 @@
 //! The command `report`: its words and its help text, and the job that they give.
 
-ghost use Rattle.std.specs.Prelude.{◌≡◌, List, ℕ, None, Option, IfOk, IfErr, IfSome, codes};
+ghost use Rattle.std.specs.Prelude.{◌≤◌, IfOk, IfErr};
 ghost use Rattle.clap.specs.Words.{found_of, rows_of};
 ghost use Rattle.command_line.specs.Arguments.{IsArgument, IsCommand, IsListFault};
-ghost use Rattle.command_line.specs.Commands.{AreReportRows, IsReportFor, report_app, workers_rule};
-ghost use Rattle.command_line.specs.Jobs.{IsAnswerIn};
+ghost use Rattle.command_line.specs.Commands.Report.{IsReport, report_app, report_given, workers_rule};
 
 use crate::jobs::Job;
 use crate::jobs::arguments::{
-    correct_argument, correct_in, file_argument, number, optional_argument, optional_number, text,
-    tick_argument, unknown,
+    correct_argument, correct_in, file_argument, new_command, number, optional_argument, text,
+    tick, tick_argument,
 };
 use crate::line_errors::LineError;
 use clap::builder::ValueParser;
 use clap::{Arg, ArgMatches, Command};
+pub use command_options::MAX_WORKERS;
+use command_options::{ReportPart, Workers};
 use std::alloc::{AllocError, Global};
 
-/// The greatest number of workers that a command line may ask for.
-pub const MAX_WORKERS: u64 = 64;
+const ABOUT: &str = "Prints the report of a trace, for a set of correct processors";
 
 const WORKERS_HELP: &str = "How many workers read and analyse it, from 1 to 64";
 
@@ -25,33 +25,29 @@ const UNTIL_HELP: &str = "Reports the trace as if it had ended at this tick";
 
 const AT_HELP: &str = "Prints only the row that serves this tick";
 
-/// What the words after `report` say.
-#[derive(Clone, Copy)]
-struct ReportWords<'a> {
-    /// The path of the trace's file.
-    file: &'a str,
-    /// The list of the correct processors.
-    list: &'a str,
-    /// How many workers read the trace and find the bounds.
-    workers: u64,
-    /// The tick up to which the trace is reported.
-    until: Option<u64>,
-    /// The tick whose row is printed.
-    at: Option<u64>,
+/// The report of the trace in a file, or a part of it.
+#[derive(Debug, Drop)]
+pub struct ReportJob {
+    /// The path of the file; `-` is standard input.
+    pub file: String,
+    /// Which part of the report is asked for.
+    pub part: ReportPart,
+    /// How many workers a whole report has.
+    pub workers: Workers,
 }
 
 /// The command `report`, as the command line's reader takes it.
 pub fn command<'a>(alloc: Global) -> Result<Command<'a>, AllocError>
     ensures { IfOk result (IsCommand report_app) }
 {
-    Command::new(alloc, "report")
-        .about("Prints the report of a trace, for a set of correct processors")
-        .after_help(help())
-        .arg(file_argument(alloc))?
-        .arg(correct_argument(alloc))?
-        .arg(workers_argument(alloc))?
-        .arg(tick_argument(alloc, "until", UNTIL_HELP))?
-        .arg(tick_argument(alloc, "at", AT_HELP))
+    let arguments = vec![in alloc;
+        file_argument(alloc),
+        correct_argument(alloc),
+        workers_argument(alloc),
+        tick_argument(alloc, "until", UNTIL_HELP),
+        tick_argument(alloc, "at", AT_HELP),
+    ]?;
+    new_command(alloc, "report", ABOUT, help(), arguments)
 }
 
 /// The option --workers W.
@@ -63,52 +59,43 @@ fn workers_argument<'a>(alloc: Global) -> Arg<'a>
         .value_parser(ValueParser::unsigned(1, MAX_WORKERS))
 }
 
-/// The job that the words after `report` ask for.
+/// The job that the words after `report` ask for; none where one of them lacks.
 ///
-/// Refuses words that aren't all there, and a list that isn't one. Memory may come instead.
-pub fn job(alloc: Global, found: &ArgMatches<'_>) -> Result<Job, LineError>
-    ensures { IsAnswerIn (Some (codes "report", rows_of (found_of found.now))) result }
+/// Refuses a list that isn't one. Memory may come instead.
+pub fn job(alloc: Global, found: &ArgMatches<'_>) -> Option<Result<Job, LineError>>
+    ensures { report_given (rows_of (found_of found.now)) result }
 {
-    match words(found) {
-        Some(words) => report(alloc, words),
-        None => Err(unknown(alloc)?),
-    }
+    let file = text(found, "file")?;
+    let list = text(found, "correct")?;
+    let workers = number(found, "workers", 1, MAX_WORKERS)?;
+    let until = tick(found, "until")?;
+    let at = tick(found, "at")?;
+    Some(report(alloc, file, list, workers, until, at))
 }
 
-/// What the matches below `report` say, where they have all of it.
-fn words<'a>(found: &ArgMatches<'a>) -> Option<ReportWords<'a>>
-    ensures some { IfSome result (λ w. AreReportRows (rows_of (found_of found.now)) w.file.now w.list.now w.workers w.until w.at) }
-    ensures none { result ≡ None → (file list : List ℕ) (workers : ℕ) (until at : Option ℕ) → ¬ AreReportRows (rows_of (found_of found.now)) file list workers until at }
+/// The job of a report with these words.
+fn report(
+    alloc: Global,
+    file: &str,
+    list: &str,
+    workers: u64,
+    until: Option<u64>,
+    at: Option<u64>,
+) -> Result<Job, LineError>
+    requires some { 1 ≤ workers }
+    requires few { workers ≤ MAX_WORKERS }
+    ensures job { IfOk result (IsReport file.now list.now workers until at) }
+    ensures refused { IfErr result (IsListFault list.now) }
 {
-    Some(ReportWords {
-        file: text(found, "file")?,
-        list: text(found, "correct")?,
-        workers: number(found, "workers", 1, MAX_WORKERS)?,
-        until: optional_number(found, "until", 0, u64::MAX)?,
-        at: optional_number(found, "at", 0, u64::MAX)?,
-    })
-}
-
-/// The job of a report with these words: of the whole report where they have no tick, else of a part of it.
-fn report(alloc: Global, words: ReportWords<'_>) -> Result<Job, LineError>
-    ensures job { IfOk result (IsReportFor words.entry.file.now words.entry.list.now words.entry.workers words.entry.until words.entry.at) }
-    ensures refused { IfErr result (IsListFault words.entry.list.now) }
-{
-    let correct = correct_in(alloc, "correct", words.list)?;
-    let file = String::from_str(alloc, words.file)?;
-    Ok(match (words.until, words.at) {
-        (None, None) => Job::Report {
-            file,
-            correct,
-            workers: words.workers,
-        },
-        (until, at) => Job::ReportPart {
-            file,
-            correct,
-            until,
-            at,
-        },
-    })
+    let correct = correct_in(alloc, "correct", list)?;
+    let file = String::from_str(alloc, file)?;
+    let part = ReportPart { correct, until, at };
+    let workers = Workers { count: workers };
+    Ok(Job::Report(ReportJob {
+        file,
+        part,
+        workers,
+    }))
 }
 
 /// How a report is asked for, and how it is read.

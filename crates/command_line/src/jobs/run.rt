@@ -1,23 +1,25 @@
 //! The command `run`: its words and its help text, and the job that they give.
 
-ghost use Rattle.std.specs.Prelude.{◌≡◌, ◌↔◌, ◌*◌, ◌<◌, ◌≤◌, ℕ, List, Option, None, IfOk, IfErr, IfSome, IsTrue, codes, option_map};
+ghost use Rattle.std.specs.Prelude.{◌≡◌, ◌↔◌, ◌*◌, ◌<◌, ◌≤◌, IfOk, IfErr, IsTrue, option_map};
 ghost use Rattle.clap.specs.Words.{found_of, rows_of};
 ghost use Rattle.step_trace.specs.declared.traces.TheConstants.{MAX_STEPS};
 ghost use Rattle.command_line.specs.Arguments.{IsArgument, IsCommand, number_rule};
-ghost use Rattle.command_line.specs.Commands.{AreRunRows, plain_run_app, run_app};
-ghost use Rattle.command_line.specs.Jobs.{IsAnswerIn};
+ghost use Rattle.command_line.specs.Commands.Run.{run_app, run_given};
 ghost use Rattle.command_line.specs.RunJobs.{AreListed, IsConfigFault, IsConfigOf, IsFollowFault, IsFollowed, IsLimitFault, IsRunFault, IsRunJob, TellsConfig};
 
 use crate::jobs::Job;
 use crate::jobs::arguments::{
-    correct_in, number, option_argument, optional_argument, optional_text, text, unknown,
+    correct_in, new_command, number, option_argument, optional_argument, optional_text, text,
 };
 use crate::jobs::value_lists::read_values;
 use crate::line_errors::LineError;
 use clap::builder::ValueParser;
 use clap::{Arg, ArgMatches, Command};
+use command_options::RunOptions;
 use std::alloc::{AllocError, Global};
 use step_trace::{Config, ConfigError, Correct, MAX_STEPS};
+
+const ABOUT: &str = "Runs the agreement algorithm and prints the trace of its steps";
 
 const NODES_HELP: &str = "The number of processors, from 2 to 64";
 
@@ -35,43 +37,19 @@ const FOLLOW_HELP: &str =
 /// The greatest patience.
 const MAX_PATIENCE: u64 = 1_000_000;
 
-/// What the words after `run` say.
-#[derive(Clone, Copy)]
-struct RunWords<'a> {
-    /// The number of processors.
-    nodes: u64,
-    /// How many of them may be faulty.
-    faults: u64,
-    /// The list of their initial values.
-    values: &'a str,
-    /// Which Receive of a round ends it.
-    patience: u64,
-    /// How many steps each processor makes.
-    steps: u64,
-    /// The list of the processors for which the run is followed.
-    follow: Option<&'a str>,
-}
-
 /// The command `run`, as the command line's reader takes it.
-#[tactic(auto, using(crate::proofs::Shapes::one_argument))]
 pub fn command<'a>(alloc: Global) -> Result<Command<'a>, AllocError>
     ensures { IfOk result (IsCommand run_app) }
 {
-    plain_command(alloc)?.arg(optional_argument(alloc, "follow", "LIST", FOLLOW_HELP))
-}
-
-/// The command with the options that it requires.
-fn plain_command<'a>(alloc: Global) -> Result<Command<'a>, AllocError>
-    ensures { IfOk result (IsCommand plain_run_app) }
-{
-    Command::new(alloc, "run")
-        .about("Runs the agreement algorithm and prints the trace of its steps")
-        .after_help(help())
-        .arg(number_option(alloc, "nodes", "N", NODES_HELP, 0, u64::MAX))?
-        .arg(number_option(alloc, "faults", "T", FAULTS_HELP, 0, u64::MAX))?
-        .arg(option_argument(alloc, "values", "V1,..,VN", VALUES_HELP))?
-        .arg(number_option(alloc, "patience", "P", PATIENCE_HELP, 1, MAX_PATIENCE))?
-        .arg(number_option(alloc, "steps", "S", STEPS_HELP, 0, MAX_STEPS as u64))
+    let arguments = vec![in alloc;
+        number_option(alloc, "nodes", "N", NODES_HELP, 0, u64::MAX),
+        number_option(alloc, "faults", "T", FAULTS_HELP, 0, u64::MAX),
+        option_argument(alloc, "values", "V1,..,VN", VALUES_HELP),
+        number_option(alloc, "patience", "P", PATIENCE_HELP, 1, MAX_PATIENCE),
+        number_option(alloc, "steps", "S", STEPS_HELP, 0, MAX_STEPS as u64),
+        optional_argument(alloc, "follow", "LIST", FOLLOW_HELP),
+    ]?;
+    new_command(alloc, "run", ABOUT, help(), arguments)
 }
 
 /// A required option `--NAME VALUE`, whose value is a number within these bounds.
@@ -88,51 +66,45 @@ fn number_option<'a>(
     option_argument(alloc, name, value_name, help).value_parser(ValueParser::unsigned(least, most))
 }
 
-/// The job that the words after `run` ask for.
+/// The job that the words after `run` ask for; none where one of them lacks.
 ///
-/// Refuses words that aren't all there; a list of processors that isn't one; a number of processors outside
-/// its limits; too many that may be faulty; values that aren't one for each processor; and more than
-/// `MAX_STEPS` steps of all processors together. Memory may come instead.
-pub fn job(alloc: Global, found: &ArgMatches<'_>) -> Result<Job, LineError>
-    ensures { IsAnswerIn (Some (codes "run", rows_of (found_of found.now))) result }
+/// Refuses a list of processors that isn't one; a number of processors outside its limits; too many that may be
+/// faulty; values that aren't one for each processor; and more than `MAX_STEPS` steps of all processors together.
+/// Memory may come instead.
+pub fn job(alloc: Global, found: &ArgMatches<'_>) -> Option<Result<Job, LineError>>
+    ensures { run_given (rows_of (found_of found.now)) result }
 {
-    match words(found) {
-        Some(words) => run(alloc, words),
-        None => Err(unknown(alloc)?),
-    }
-}
-
-/// What the matches below `run` say, where they have all of it.
-fn words<'a>(found: &ArgMatches<'a>) -> Option<RunWords<'a>>
-    ensures some { IfSome result (λ w. AreRunRows (rows_of (found_of found.now)) w.nodes w.faults w.values.now w.patience w.steps (option_map (λ list. list.now) w.follow)) }
-    ensures none { result ≡ None → (n t : ℕ) (values : List ℕ) (patience steps : ℕ) (follow : Option (List ℕ))
-        → ¬ AreRunRows (rows_of (found_of found.now)) n t values patience steps follow }
-{
-    Some(RunWords {
-        nodes: number(found, "nodes", 0, u64::MAX)?,
-        faults: number(found, "faults", 0, u64::MAX)?,
-        values: text(found, "values")?,
-        patience: number(found, "patience", 1, MAX_PATIENCE)?,
-        steps: number(found, "steps", 0, MAX_STEPS as u64)?,
-        follow: optional_text(found, "follow"),
-    })
+    let n = number(found, "nodes", 0, u64::MAX)?;
+    let t = number(found, "faults", 0, u64::MAX)?;
+    let values = text(found, "values")?;
+    let patience = number(found, "patience", 1, MAX_PATIENCE)?;
+    let steps = number(found, "steps", 0, MAX_STEPS as u64)?;
+    let follow = optional_text(found, "follow");
+    Some(run(alloc, n, t, values, patience, steps, follow))
 }
 
 /// The job of a run with these words.
-fn run(alloc: Global, words: RunWords<'_>) -> Result<Job, LineError>
-    ensures job { IfOk result (IsRunJob words.entry.nodes words.entry.faults words.entry.values.now words.entry.patience words.entry.steps
-        (option_map (λ list. list.now) words.entry.follow)) }
-    ensures refused { IfErr result (IsRunFault words.entry.nodes words.entry.faults words.entry.values.now words.entry.steps
-        (option_map (λ list. list.now) words.entry.follow)) }
+fn run(
+    alloc: Global,
+    n: u64,
+    t: u64,
+    values: &str,
+    patience: u64,
+    steps: u64,
+    follow: Option<&str>,
+) -> Result<Job, LineError>
+    requires patient { 1 ≤ patience }
+    ensures job { IfOk result (IsRunJob n t values.now patience steps (option_map (λ list. list.now) follow.entry)) }
+    ensures refused { IfErr result (IsRunFault n t values.now steps (option_map (λ list. list.now) follow.entry)) }
 {
-    let follow = followed(alloc, words.follow)?;
-    let config = limited(alloc, words.nodes, words.faults, words.values, words.steps)?;
-    Ok(Job::Run {
+    let follow = followed(alloc, follow)?;
+    let config = limited(alloc, n, t, values, steps)?;
+    Ok(Job::Run(RunOptions {
         config,
-        patience: words.patience,
-        steps: words.steps,
+        patience,
+        steps,
         follow,
-    })
+    }))
 }
 
 /// The processors for which a run is followed, where there is a list of them.

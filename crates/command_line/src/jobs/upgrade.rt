@@ -1,39 +1,48 @@
 //! The command `upgrade`: its words and its help text, and the job that they give.
 
-ghost use Rattle.std.specs.Prelude.{IfOk, codes};
+ghost use Rattle.std.specs.Prelude.{IfOk, IfErr};
 ghost use Rattle.clap.specs.Words.{found_of, rows_of};
-ghost use Rattle.command_line.specs.Arguments.{IsCommand};
-ghost use Rattle.command_line.specs.Commands.{upgrade_app};
-ghost use Rattle.command_line.specs.Jobs.{IsAnswerIn};
+ghost use Rattle.command_line.specs.Arguments.{IsCommand, IsMemory};
+ghost use Rattle.command_line.specs.Commands.Upgrade.{IsUpgrade, upgrade_app, upgrade_given};
 
 use crate::jobs::Job;
-use crate::jobs::arguments::{file_argument, text, unknown};
+use crate::jobs::arguments::{file_argument, new_command, text};
 use crate::line_errors::LineError;
 use clap::{ArgMatches, Command};
 use std::alloc::{AllocError, Global};
+
+const ABOUT: &str = "Prints a trace of either version as a trace text of version 2";
+
+/// The version 2 text of the trace in a file.
+#[derive(Debug, Drop)]
+pub struct UpgradeJob {
+    /// The path of the file; `-` is standard input.
+    pub file: String,
+}
 
 /// The command `upgrade`, as the command line's reader takes it.
 pub fn command<'a>(alloc: Global) -> Result<Command<'a>, AllocError>
     ensures { IfOk result (IsCommand upgrade_app) }
 {
-    Command::new(alloc, "upgrade")
-        .about("Prints a trace of either version as a trace text of version 2")
-        .after_help(help())
-        .arg(file_argument(alloc))
+    let arguments = vec![in alloc; file_argument(alloc)]?;
+    new_command(alloc, "upgrade", ABOUT, help(), arguments)
 }
 
-/// The job that the words after `upgrade` ask for.
-///
-/// Refuses words that aren't all there. Memory may come instead.
-#[tactic(auto, using(crate::proofs::Commands::upgrade_asked))]
-pub fn job(alloc: Global, found: &ArgMatches<'_>) -> Result<Job, LineError>
-    ensures { IsAnswerIn (Some (codes "upgrade", rows_of (found_of found.now))) result }
+/// The job that the words after `upgrade` ask for; none where one of them lacks. Memory is the only refusal.
+pub fn job(alloc: Global, found: &ArgMatches<'_>) -> Option<Result<Job, LineError>>
+    ensures { upgrade_given (rows_of (found_of found.now)) result }
 {
-    let Some(file) = text(found, "file") else {
-        return Err(unknown(alloc)?);
-    };
+    let file = text(found, "file")?;
+    Some(upgrade(alloc, file))
+}
+
+/// The job of an upgrade with this file.
+fn upgrade(alloc: Global, file: &str) -> Result<Job, LineError>
+    ensures job { IfOk result (IsUpgrade file.now) }
+    ensures refused { IfErr result IsMemory }
+{
     let file = String::from_str(alloc, file)?;
-    Ok(Job::Upgrade { file })
+    Ok(Job::Upgrade(UpgradeJob { file }))
 }
 
 /// What an upgrade prints.

@@ -1,0 +1,33 @@
+-- The command `draw`: what it takes, and the job that its words give.
+use Rattle.std.specs.Prelude.{ℕ, ◌≡◌, List, [], ◌∷◌, Option, codes, option_map, string_bytes}
+use Rattle.clap.specs.Words.{App, Row, Text, first_of}
+use Rattle.step_trace.specs.CorrectSets.{IsCorrectIn}
+use Rattle.command_line.specs.declared.jobs.Job.{Job}
+use Rattle.command_line.specs.declared.jobs.Job.TheVariants as job
+use Rattle.command_line.specs.Answers.{Given, ◌>>=◌, answers}
+use Rattle.command_line.specs.Arguments.{command_app, IsListFault, correct_rule, file_rule, optional_rule, tick_in, tick_rule}
+
+-- draw FILE --correct LIST --from TICK --to TICK --names LIST
+abbrev pub draw_app : App
+draw_app = command_app (codes "draw") (file_rule ∷ correct_rule ∷ tick_rule (codes "from")
+    ∷ tick_rule (codes "to") ∷ optional_rule (codes "names") ∷ [])
+
+-- the line `draw FILE --correct LIST`, after the program's name
+abbrev pub draw_line : Text → Text → Text → List Text
+draw_line name file list = name ∷ codes "draw" ∷ file ∷ codes "--correct" ∷ list ∷ []
+
+-- the picture of the file of this name, for the processors that this list names, with these ticks and names
+abbrev pub IsDraw : List ℕ → List ℕ → Option ℕ → Option ℕ → Option (List ℕ) → Job → Type 0
+IsDraw name list from to names (job.Draw j) =
+    (string_bytes j.file ≡ name) × IsCorrectIn list j.drawing.correct × (j.drawing.from ≡ from) × (j.drawing.to ≡ to)
+    × (option_map string_bytes j.drawing.names ≡ names)
+IsDraw name list from to names _ = ⊥
+
+-- what the rows below `draw` give
+abbrev pub draw_given : List Row → Given → Type 0
+draw_given rows = do
+  file ← first_of (codes "file") rows
+  list ← first_of (codes "correct") rows
+  from ← tick_in rows (codes "from")
+  to ← tick_in rows (codes "to")
+  answers (IsDraw file list from to (first_of (codes "names") rows)) (IsListFault list)
