@@ -13,7 +13,7 @@ use crate::outputs::{Output, stopped};
 use command_faults::{Fault, print, status, tell};
 use command_line::jobs::{CheckJob, DrawJob, ImportJob, ReportJob};
 use command_line::{Job, read_command, refuse_words};
-use command_options::{ReportPart, RunOptions, Workers};
+use command_options::{RunOptions, Workers};
 use node_runs::{follower_for, run_nodes};
 use std::env;
 use std::process::ExitCode;
