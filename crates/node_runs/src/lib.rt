@@ -3,11 +3,13 @@
 #![tactic(auto)]
 
 mod followers;
+mod paces;
 mod runs;
 mod standing_lines;
 mod standings;
 
 pub use followers::{Follower, follower_for};
+pub use paces::Pace;
 pub use runs::run_nodes;
 pub use standing_lines::{tell_standing, tell_stop};
 pub use standings::{LeastBounds, RECENT_TICKS, Standing, standing_of};

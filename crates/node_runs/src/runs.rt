@@ -9,11 +9,12 @@ ghost use Rattle.trace_text.specs.ByteLoops.{WasFaultless};
 ghost use Rattle.trace_text.specs.Faults.{inner_of, is_flushed};
 ghost use Rattle.command_faults.specs.Printing.{IsWriteFault};
 ghost use Rattle.node_runs.specs.Followers.{HasFollowed, HasTold, IsLine};
-ghost use Rattle.node_runs.specs.Runs.{HaveDone, IsEvenRun, IsEvenRunText, IsFaultOfNodes, IsFaultOfThreads, IsUnwrittenRun, ending_of, gravity, fault_of_ending};
+ghost use Rattle.node_runs.specs.Runs.{HaveDone, IsEvenRun, IsEvenRunText, IsFaultOfNodes, IsFaultOfThreads, IsUnwrittenRun, ending_of, gravity, fault_of_ending, patience_of};
 
 use crate::followers::Follower;
+use crate::paces::{Pace, driven};
 use command_faults::Fault;
-use locked_recorder::{AuditError, DriveError, DriveStop, RecordError, Recorder, Seat};
+use locked_recorder::{AuditError, DriveError, DriveStop, RecordError, Recorder, Seat, Sleepers};
 use std::alloc::Global;
 use std::io::Write;
 use std::sync::Wait;
@@ -39,11 +40,11 @@ enum Ending {
 }
 
 /// Runs the nodes of a configuration, a thread for each, which makes so many steps; and writes the trace of all
-/// their steps. The `patience`-th Receive of a round ends the round. Each thread enters the gate before its
+/// their steps. The pace says when a Receive ends a round. Each thread enters the gate before its
 /// first step. Nothing is written before all threads have ended. A follower, if there is one, tells of the run
 /// meanwhile, and of the whole of it at its end; whatever becomes of that, the run is the same.
 ///
-/// Asks for a patience of at least 1, and for at most `MAX_STEPS` steps of all processors together. Waits for
+/// Asks for a pace of a patience of at least 1, and for at most `MAX_STEPS` steps of all processors together. Waits for
 /// the threads. Refuses, in this order: Threads where a thread wasn't started or the gate held it back; Memory;
 /// NotARun(0) where a step is refused, or where what was done doesn't make up one run; Write with the number
 /// of bytes that went out before.
@@ -51,13 +52,13 @@ pub fn run_nodes<R: Threads + Wait + Clock + Sync, W: Write, G: Gate, E: Write +
     rt: &R,
     alloc: Global,
     config: &Config,
-    patience: u64,
+    pace: Pace,
     steps: u64,
     gate: &G,
     follower: &mut Option<Follower<E>>,
     writer: &mut Counting<W>,
 ) -> Result<(), Fault>
-    requires patient { 1 ≤ patience }
+    requires patient { 1 ≤ patience_of pace }
     requires room { config.now.n * steps ≤ MAX_STEPS }
     ensures run { OnOk result ((text : List ℕ) × IsEvenRunText config.now steps text
         × Appends (W.contents (inner_of writer.old)) (W.contents (inner_of writer.new)) text) }
@@ -69,7 +70,7 @@ pub fn run_nodes<R: Threads + Wait + Clock + Sync, W: Write, G: Gate, E: Write +
     ensures unwritten { IfErr result (IsWriteFault writer.old writer.new) }
     ensures followed { HasFollowed E.contents config.now follower.old follower.new }
 {
-    let world = world_made(rt, alloc, config, patience, steps, gate, follower)?;
+    let world = world_made(rt, alloc, config, pace, steps, gate, follower)?;
     tell_whole(alloc, &world, follower);
     Ok(write_trace(alloc, world.trace(), writer)?)
 }
@@ -88,12 +89,12 @@ fn world_made<R: Threads + Wait + Clock + Sync, G: Gate, E: Write + Send>(
     rt: &R,
     alloc: Global,
     config: &Config,
-    patience: u64,
+    pace: Pace,
     steps: u64,
     gate: &G,
     follower: &mut Option<Follower<E>>,
 ) -> Result<World, Fault>
-    requires patient { 1 ≤ patience }
+    requires patient { 1 ≤ patience_of pace }
     requires room { config.now.n * steps ≤ MAX_STEPS }
     ensures run { IfOk result (λ world. IsEvenRun config.now steps world.trace) }
     ensures own { IfErr result IsFaultOfThreads }
@@ -101,11 +102,14 @@ fn world_made<R: Threads + Wait + Clock + Sync, G: Gate, E: Write + Send>(
 {
     let room = config.n() * steps;
     let (recorder, mut seats) = Recorder::new(alloc, config.copy(alloc)?, 0, room)?;
+    let sleepers = Sleepers::new(alloc, config.n())?;
     let ending = match follower {
         Some(follower) => drive_followed(
-            rt, alloc, &recorder, &mut seats, patience, steps, gate, follower,
+            rt, alloc, &recorder, &sleepers, &mut seats, pace, steps, gate, follower,
         ),
-        None => drive_all(rt, alloc, &recorder, &mut seats, patience, steps, gate),
+        None => drive_all(
+            rt, alloc, &recorder, &sleepers, &mut seats, pace, steps, gate,
+        ),
     };
     judged(ending)?;
     audited(alloc, recorder, &seats, steps)
@@ -117,13 +121,14 @@ fn drive_followed<R: Threads + Wait + Clock + Sync, G: Gate, E: Write + Send>(
     rt: &R,
     alloc: Global,
     recorder: &Recorder,
+    sleepers: &Sleepers,
     seats: &mut [Seat],
-    patience: u64,
+    pace: Pace,
     steps: u64,
     gate: &G,
     follower: &mut Follower<E>,
 ) -> Ending
-    requires { 1 ≤ patience }
+    requires { 1 ≤ patience_of pace }
     ensures set { follower.new.analyst.set ≡ follower.old.analyst.set }
     ensures told { HasTold (IsLine recorder.now.config follower.old.analyst.set) (E.contents (inner_of follower.old.writer)) (E.contents (inner_of follower.new.writer)) }
 {
@@ -135,8 +140,12 @@ fn drive_followed<R: Threads + Wait + Clock + Sync, G: Gate, E: Write + Send>(
             ensures told { HasTold (IsLine recorder.entry.now.config follower.entry.now.analyst.set) (E.contents (inner_of follower.entry.now.writer)) (E.contents (inner_of follower.exit.now.writer)) }
         { follower.follow(rt, alloc, recorder, ended) },
         &mut || -> Ending
-            requires { 1 ≤ patience }
-        { drive_to_end(rt, alloc, recorder, gate, patience, steps, ended, seats) },
+            requires { 1 ≤ patience_of pace }
+        {
+            drive_to_end(
+                rt, alloc, recorder, sleepers, gate, pace, steps, ended, seats,
+            )
+        },
     );
     ending
 }
@@ -146,15 +155,16 @@ fn drive_to_end<R: Threads + Wait + Sync, G: Gate>(
     rt: &R,
     alloc: Global,
     recorder: &Recorder,
+    sleepers: &Sleepers,
     gate: &G,
-    patience: u64,
+    pace: Pace,
     steps: u64,
     ended: &AtomicBool,
     seats: &mut [Seat],
 ) -> Ending
-    requires { 1 ≤ patience }
+    requires { 1 ≤ patience_of pace }
 {
-    let ending = drive_all(rt, alloc, recorder, seats, patience, steps, gate);
+    let ending = drive_all(rt, alloc, recorder, sleepers, seats, pace, steps, gate);
     ended.store(true, Ordering::SeqCst);
     ending
 }
@@ -164,28 +174,30 @@ fn drive_all<R: Threads + Wait + Sync, G: Gate>(
     rt: &R,
     alloc: Global,
     recorder: &Recorder,
+    sleepers: &Sleepers,
     seats: &mut [Seat],
-    patience: u64,
+    pace: Pace,
     steps: u64,
     gate: &G,
 ) -> Ending
-    requires { 1 ≤ patience }
+    requires { 1 ≤ patience_of pace }
 {
     thread::scope(
         thread::scope_env(),
         rt,
         |scope| -> Ending
-            requires { 1 ≤ patience }
+            requires { 1 ≤ patience_of pace }
         {
             let Ok(mut threads) = Vec::with_capacity(alloc, seats.len()) else {
                 return Ending::NoMemory;
             };
             for seat in seats.iter_mut() {
                 let drive = move || -> Ending
-                    requires { 1 ≤ patience }
-                { how_ended(recorder.drive(rt, alloc, seat, gate, patience, steps)) };
+                    requires { 1 ≤ patience_of pace }
+                { how_ended(driven(rt, alloc, recorder, seat, gate, sleepers, pace, steps)) };
                 // The threads that run are joined where the scope ends.
                 let Ok(started) = scope.spawn(drive) else {
+                    sleepers.rouse(rt);
                     return Ending::Held;
                 };
                 if threads.push(started).is_err() {

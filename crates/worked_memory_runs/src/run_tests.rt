@@ -4,7 +4,7 @@
 ghost use Rattle.std.specs.Prelude.{◌≡◌, IfSome};
 
 use command_faults::Fault;
-use node_runs::{follower_for, run_nodes};
+use node_runs::{Pace, follower_for, run_nodes};
 use refused_growths::{Outcome, Refusal, judged};
 use std::alloc::Global;
 use std::sync::Wait;
@@ -56,7 +56,7 @@ fn run_three<R: Threads + Wait + Clock + Sync>(
         rt,
         alloc,
         config,
-        1,
+        Pace::Patience(1),
         20,
         &OpenGate,
         &mut follower,

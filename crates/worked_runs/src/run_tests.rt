@@ -4,7 +4,7 @@ ghost use Rattle.std.specs.Prelude.{◌≡◌, ◌*◌, ◌≤◌, IfSome, lengt
 ghost use Rattle.step_trace.specs.declared.traces.TheConstants.{MAX_STEPS};
 
 use command_faults::{Fault, fault_text, status};
-use node_runs::{Follower, follower_for, run_nodes};
+use node_runs::{Follower, Pace, follower_for, run_nodes};
 use std::alloc::{AllocError, Global};
 use std::io::ErrorKind;
 use std::sync::Wait;
@@ -48,7 +48,7 @@ fn run_each<R: Threads + Wait + Clock + Sync, G: Gate>(
         rt,
         alloc,
         &config,
-        1,
+        Pace::Patience(1),
         steps,
         gate,
         &mut nobody(),
@@ -170,7 +170,7 @@ fn run_followed<R: Threads + Wait + Clock + Sync>(
         rt,
         alloc,
         &config,
-        1,
+        Pace::Patience(1),
         steps,
         &OpenGate,
         &mut follower,
@@ -236,7 +236,7 @@ fn run_followed_twice<R: Threads + Wait + Clock + Sync>(
             rt,
             alloc,
             &config,
-            1,
+            Pace::Patience(1),
             steps,
             &OpenGate,
             &mut follower,
