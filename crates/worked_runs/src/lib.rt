@@ -3,6 +3,8 @@
 #![tactic(auto)]
 
 #[cfg(test)]
+mod heard_out_tests;
+#[cfg(test)]
 mod run_tests;
 #[cfg(test)]
 mod standing_tests;
