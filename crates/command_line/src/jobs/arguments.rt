@@ -96,18 +96,11 @@ pub fn tick_argument<'a>(alloc: Global, name: &'a str, help: &'a str) -> Arg<'a>
     optional_argument(alloc, name, "TICK", help).value_parser(ValueParser::unsigned(0, u64::MAX))
 }
 
-/// The text of this name, where the matches have one: a word that its command requires.
+/// The text of this name, where the matches have one.
 pub fn text<'a>(found: &ArgMatches<'a>, name: &str) -> Option<&'a str>
     ensures { option_map (λ text. text.now) result ≡ first_of name.now (rows_of (found_of found.now)) }
 {
     found.get_str(name)
-}
-
-/// The text of this name, where the matches have one: a word that may be left out.
-pub fn optional_text<'a>(found: &ArgMatches<'a>, name: &str) -> Option<&'a str>
-    ensures { option_map (λ text. text.now) result ≡ first_of name.now (rows_of (found_of found.now)) }
-{
-    text(found, name)
 }
 
 /// The number of this name, where the matches have one within these bounds.

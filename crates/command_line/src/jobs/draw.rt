@@ -7,8 +7,8 @@ ghost use Rattle.command_line.specs.Commands.Draw.{IsDraw, draw_app, draw_given}
 
 use crate::jobs::Job;
 use crate::jobs::arguments::{
-    correct_argument, correct_in, file_argument, kept, new_command, optional_argument,
-    optional_text, text, tick, tick_argument,
+    correct_argument, correct_in, file_argument, kept, new_command, optional_argument, text, tick,
+    tick_argument,
 };
 use crate::line_errors::LineError;
 use clap::{ArgMatches, Command};
@@ -59,7 +59,7 @@ pub fn job(alloc: Global, found: &ArgMatches<'_>) -> Option<Result<Job, LineErro
     let list = text(found, "correct")?;
     let from = tick(found, "from")?;
     let to = tick(found, "to")?;
-    let names = optional_text(found, "names");
+    let names = text(found, "names");
     Some(draw(alloc, file, list, from, to, names))
 }
 

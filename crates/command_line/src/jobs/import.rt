@@ -7,7 +7,7 @@ ghost use Rattle.command_line.specs.Commands.Import.{IsImport, import_app, impor
 
 use crate::jobs::Job;
 use crate::jobs::arguments::{
-    flag, kept, new_command, optional_argument, optional_text, positional_argument, text,
+    flag, kept, new_command, optional_argument, positional_argument, text,
 };
 use crate::line_errors::LineError;
 use clap::{Arg, ArgAction, ArgMatches, Command};
@@ -64,9 +64,9 @@ pub fn job(alloc: Global, found: &ArgMatches<'_>) -> Option<Result<Job, LineErro
 {
     let log = text(found, "log")?;
     let spread = flag(found, "spread")?;
-    let nodes = optional_text(found, "nodes");
-    let tick = optional_text(found, "tick");
-    let until = optional_text(found, "until");
+    let nodes = text(found, "nodes");
+    let tick = text(found, "tick");
+    let until = text(found, "until");
     Some(import(alloc, log, nodes, tick, until, spread))
 }
 

@@ -9,7 +9,7 @@ ghost use Rattle.command_line.specs.RunJobs.{AreListed, IsConfigFault, IsConfigO
 
 use crate::jobs::Job;
 use crate::jobs::arguments::{
-    correct_in, new_command, number, option_argument, optional_argument, optional_text, text,
+    correct_in, new_command, number, option_argument, optional_argument, text,
 };
 use crate::jobs::value_lists::read_values;
 use crate::line_errors::LineError;
@@ -79,7 +79,7 @@ pub fn job(alloc: Global, found: &ArgMatches<'_>) -> Option<Result<Job, LineErro
     let values = text(found, "values")?;
     let patience = number(found, "patience", 1, MAX_PATIENCE)?;
     let steps = number(found, "steps", 0, MAX_STEPS as u64)?;
-    let follow = optional_text(found, "follow");
+    let follow = text(found, "follow");
     Some(run(alloc, n, t, values, patience, steps, follow))
 }
 
