@@ -3,7 +3,10 @@
 use crate::lines::{Line, StepLine, TICKS_OF_ONE, TWO_NODES, TWO_NODES_STEPS, events_of, has_step};
 use std::alloc::Global;
 use std::test::Fail;
-use timed_events::{Clock, EventError, Hint, Moved, TimedTrace, are_meant, trace_of_events};
+use timed_events::{
+    Clock, EventError, Hint, Hop, Moved, TimedTrace, are_meant, check_messages, cycle_of_causes,
+    trace_of_events,
+};
 
 const NO_END: Clock = Clock {
     width: 1,
@@ -25,6 +28,37 @@ const RECEIVED_FIRST: &[Line] = &[
     (10, 1, 3, &[]),
     (10, 3, 0, &[Some(2)]),
 ];
+
+/// Two nodes, of which the second has a clock that is behind: it receives and answers before the first sends.
+const CLOCK_BEHIND: &[Line] = &[
+    (10, 2, 0, &[Some(1)]),
+    (13, 1, 2, &[]),
+    (11, 2, 1, &[]),
+    (14, 1, 0, &[Some(2)]),
+];
+
+/// Nodes 1 and 2 each wait for the other's message, and node 3 for nobody.
+const EACH_WAITS: &[Line] = &[
+    (9, 3, 1, &[]),
+    (10, 1, 0, &[Some(4)]),
+    (11, 1, 2, &[]),
+    (10, 2, 0, &[Some(2)]),
+    (11, 2, 1, &[]),
+];
+
+/// Node 3 waits for a message that node 2 sends behind the same cycle.
+const BEHIND_A_CYCLE: &[Line] = &[
+    (9, 3, 0, &[Some(5)]),
+    (10, 1, 0, &[Some(6)]),
+    (11, 1, 2, &[]),
+    (8, 3, 1, &[]),
+    (10, 2, 0, &[Some(2)]),
+    (11, 2, 3, &[]),
+    (12, 2, 1, &[]),
+];
+
+/// Node 1 receives its own message before it sends it.
+const TO_ITSELF: &[Line] = &[(10, 2, 1, &[]), (10, 1, 0, &[Some(2)]), (11, 1, 1, &[])];
 
 /// Two events of one node in the last tick that a trace may have.
 const TWICE_AT_THE_END: &[Line] = &[(0, 1, 2, &[]), (999_999, 1, 2, &[]), (999_999, 1, 2, &[])];
@@ -53,6 +87,36 @@ const STAYED: Moved = Moved {
 
 const TRACES: &[Row] = &[
     (TWO_NODES, TICKS_OF_ONE, TWO_NODES_STEPS, 7, STAYED),
+    (
+        RECEIVED_FIRST,
+        NO_END,
+        &[
+            (1, 1, 1, 2, &[]),
+            (2, 2, 1, 3, &[]),
+            (3, 2, 2, 0, &[1]),
+            (4, 3, 3, 0, &[2]),
+        ],
+        3,
+        Moved {
+            events: 3,
+            ticks: 2,
+        },
+    ),
+    (
+        CLOCK_BEHIND,
+        NO_END,
+        &[
+            (1, 4, 1, 2, &[]),
+            (2, 5, 2, 0, &[1]),
+            (3, 6, 2, 1, &[]),
+            (4, 7, 1, 0, &[3]),
+        ],
+        7,
+        Moved {
+            events: 3,
+            ticks: 4,
+        },
+    ),
     (
         BROADCAST,
         NO_END,
@@ -145,7 +209,7 @@ fn reason(alloc: Global, lines: &[Line], clock: &Clock, spread: bool) -> Option<
 const TOO_LATE: EventError = EventError::NotLater {
     event: 0,
     message: 0,
-    hint: None,
+    hint: Some(Hint::Spread),
 };
 
 const REASONS: &[(&[Line], Clock, bool, EventError)] = &[
@@ -160,13 +224,38 @@ const REASONS: &[(&[Line], Clock, bool, EventError)] = &[
         },
     ),
     (RECEIVED_FIRST, NO_END, false, TOO_LATE),
-    (RECEIVED_FIRST, NO_END, true, TOO_LATE),
-    // Received before it was sent, by the clocks.
+    (EACH_WAITS, NO_END, true, EventError::Cycle { event: 1 }),
+    // The same, and a message that went to another.
     (
-        &[(10, 2, 0, &[Some(1)]), (11, 1, 2, &[])],
+        &[
+            (9, 3, 1, &[]),
+            (10, 1, 0, &[Some(4)]),
+            (11, 1, 2, &[]),
+            (10, 2, 0, &[Some(2)]),
+            (11, 2, 1, &[]),
+            (12, 3, 0, &[Some(0)]),
+        ],
         NO_END,
         true,
-        TOO_LATE,
+        EventError::WrongReceiver {
+            event: 5,
+            message: 0,
+        },
+    ),
+    // The clock of the second is behind: no shorter tick helps.
+    (CLOCK_BEHIND, NO_END, false, TOO_LATE),
+    (BEHIND_A_CYCLE, NO_END, true, EventError::Cycle { event: 0 }),
+    (TO_ITSELF, NO_END, true, EventError::Cycle { event: 1 }),
+    // Nothing helps.
+    (
+        TO_ITSELF,
+        NO_END,
+        false,
+        EventError::NotLater {
+            event: 1,
+            message: 0,
+            hint: None,
+        },
     ),
     (
         &[(10, 1, 2, &[]), (10, 3, 0, &[Some(0)])],
@@ -225,6 +314,35 @@ fn reasons(rt: HostRuntime) -> Result<(), Fail> {
             found == Some(*due),
             "{lines:?}: {found:?} where {due:?} is due"
         );
+    }
+    Ok(())
+}
+
+/// Events, and the hops of the cycle of their causes, as pairs of their places.
+const CYCLES: &[(&[Line], &[(u32, u32)])] = &[
+    (EACH_WAITS, &[(1, 4), (3, 2)]),
+    (BEHIND_A_CYCLE, &[(1, 6), (4, 2)]),
+    (TO_ITSELF, &[(1, 2)]),
+    (CLOCK_BEHIND, &[]),
+];
+
+/// The cycle of causes of at most 9 events of 3 processors; nothing where nothing is promised.
+fn cycle_of(alloc: Global, lines: &[Line]) -> Option<Vec<Hop>> {
+    let events = events_of(alloc, lines).ok()?;
+    if !are_meant(&events, 3) || events.len() > 9 || check_messages(alloc, &events).is_err() {
+        return None;
+    }
+    cycle_of_causes(alloc, &events).ok()
+}
+
+#[test]
+fn cycles(rt: HostRuntime) -> Result<(), Fail> {
+    for &(lines, hops) in CYCLES {
+        let cycle = cycle_of(rt.alloc(), lines).ok_or("an answer is due")?;
+        assert_eq!(rt; cycle.len(), hops.len());
+        for (hop, &(event, message)) in cycle.iter().zip(hops) {
+            assert_eq!(rt; *hop, Hop { event, message });
+        }
     }
     Ok(())
 }
