@@ -50,6 +50,10 @@ option_rule name = record (optional_rule name) { required = true }
 abbrev pub number_rule : Text → ℕ → ℕ → Rule
 number_rule name least most = record (option_rule name) { parser = Some (vp.Unsigned least most) }
 
+-- the same, which may be left out
+abbrev pub optional_number_rule : Text → ℕ → ℕ → Rule
+optional_number_rule name least most = record (optional_rule name) { parser = Some (vp.Unsigned least most) }
+
 -- --NAME TICK, which may be left out
 abbrev pub tick_rule : Text → Rule
 tick_rule name = record (optional_rule name) { parser = Some (vp.Unsigned 0 (2 ^ 64 - 1)) }
@@ -73,6 +77,14 @@ number_of least most text = if is_unsigned_in least most text then Some (digits_
 -- the number of this name in the rows
 abbrev pub number_in : List Row → Text → ℕ → ℕ → Option ℕ
 number_in rows name least most = option_and_then (number_of least most) (first_of name rows)
+
+-- the number that an option has, or none where it is left out; nothing where its text is no number within these bounds
+abbrev pub optional_number_of : ℕ → ℕ → Option Text → Option (Option ℕ)
+optional_number_of least most None = Some None
+optional_number_of least most (Some text) = option_map (λ number. Some number) (number_of least most text)
+
+abbrev pub optional_number_in : List Row → Text → ℕ → ℕ → Option (Option ℕ)
+optional_number_in rows name least most = optional_number_of least most (first_of name rows)
 
 -- the tick that an option has, or none where it is left out; nothing where its text is no tick
 abbrev pub tick_of : Option Text → Option (Option ℕ)

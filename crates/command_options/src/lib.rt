@@ -5,6 +5,7 @@
 ghost use Rattle.std.specs.Prelude.{◌*◌, ◌≤◌};
 ghost use Rattle.step_trace.specs.declared.traces.TheConstants.{MAX_STEPS};
 ghost use Rattle.command_options.specs.declared.TheConstants.{MAX_WORKERS};
+ghost use Rattle.command_options.specs.Paces.{patience_of};
 
 use step_trace::{Config, Correct};
 
@@ -20,18 +21,28 @@ pub struct Workers {
     ghost few: { count ≤ MAX_WORKERS },
 }
 
+/// When a Receive ends the round of a node.
+#[derive(Clone, Copy, Debug)]
+pub enum Pace {
+    /// If it is the last of so many Receives in the round, whatever was heard.
+    Patience(u64),
+    /// Once all has been heard that the round can bring; or if it is the last of so many Receives in the round. A
+    /// thread whose node has nothing to do sleeps until a message comes.
+    HeardOut(u64),
+}
+
 /// What a run of the nodes of a configuration is asked for.
 #[derive(Debug, Drop)]
 pub struct RunOptions {
     /// The processors and their initial values.
     pub config: Config,
-    /// Which Receive of a round ends it, from 1 on.
-    pub patience: u64,
+    /// When a Receive ends a round; its patience is at least 1.
+    pub pace: Pace,
     /// How many steps each processor makes; all together make at most `MAX_STEPS`.
     pub steps: u64,
     /// The processors that count as correct for one who follows the run, if it is followed.
     pub follow: Option<Correct>,
-    ghost patient: { 1 ≤ patience },
+    ghost patient: { 1 ≤ patience_of pace },
     ghost room: { config.n * steps ≤ MAX_STEPS },
 }
 

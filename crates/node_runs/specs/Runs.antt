@@ -14,8 +14,6 @@ use Rattle.locked_recorder.specs.Prefixes.{IsRunOf}
 use Rattle.locked_recorder.specs.Seats.{Turns}
 use Rattle.command_faults.specs.declared.faults.Fault.{Fault}
 use Rattle.command_faults.specs.declared.faults.Fault.TheVariants as fault
-use Rattle.node_runs.specs.declared.paces.Pace.{Pace}
-use Rattle.node_runs.specs.declared.paces.Pace.TheVariants as pace
 use Rattle.node_runs.specs.declared.runs.Ending.{Ending}
 use Rattle.node_runs.specs.declared.runs.Ending.TheVariants as ending
 
@@ -33,11 +31,6 @@ pub record IsEvenRunText (c : Setup) (steps : ℕ) (text : List ℕ) : Type 0 wh
 -- so many things were done from each seat
 abbrev pub HaveDone : ℕ → List Turns → Type 0
 HaveDone steps seats = All (λ s. length s.done ≡ steps) seats
-
--- the patience of a pace: how many Receives a round takes at most
-abbrev pub patience_of : Pace → ℕ
-patience_of (pace.Patience n) = n
-patience_of (pace.HeardOut n) = n
 
 -- how a thread ended whose drive stopped for this reason
 abbrev pub ending_of : DriveStop → Ending

@@ -8,8 +8,8 @@ mod runs;
 mod standing_lines;
 mod standings;
 
+pub use command_options::Pace;
 pub use followers::{Follower, follower_for};
-pub use paces::Pace;
 pub use runs::run_nodes;
 pub use standing_lines::{tell_standing, tell_stop};
 pub use standings::{LeastBounds, RECENT_TICKS, Standing, standing_of};

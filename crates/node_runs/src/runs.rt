@@ -2,6 +2,7 @@
 
 ghost use Rattle.std.specs.Prelude.{◌≡◌, ◌≢◌, ◌↔◌, ◌*◌, ◌≤◌, ℕ, List, Some, None, IfOk, IfErr, OnOk, MatchResult, IsTrue, length, ◌⊎◌};
 ghost use Rattle.std.specs.Io.KnownBytes.{Appends};
+ghost use Rattle.command_options.specs.Paces.{patience_of};
 ghost use Rattle.step_trace.specs.declared.traces.TheConstants.{MAX_STEPS};
 ghost use Rattle.step_trace.specs.Configurations.{Setup};
 ghost use Rattle.locked_recorder.specs.Prefixes.{IsRunOf};
@@ -9,11 +10,12 @@ ghost use Rattle.trace_text.specs.ByteLoops.{WasFaultless};
 ghost use Rattle.trace_text.specs.Faults.{inner_of, is_flushed};
 ghost use Rattle.command_faults.specs.Printing.{IsWriteFault};
 ghost use Rattle.node_runs.specs.Followers.{HasFollowed, HasTold, IsLine};
-ghost use Rattle.node_runs.specs.Runs.{HaveDone, IsEvenRun, IsEvenRunText, IsFaultOfNodes, IsFaultOfThreads, IsUnwrittenRun, ending_of, gravity, fault_of_ending, patience_of};
+ghost use Rattle.node_runs.specs.Runs.{HaveDone, IsEvenRun, IsEvenRunText, IsFaultOfNodes, IsFaultOfThreads, IsUnwrittenRun, ending_of, gravity, fault_of_ending};
 
 use crate::followers::Follower;
-use crate::paces::{Pace, driven};
+use crate::paces::driven;
 use command_faults::Fault;
+use command_options::Pace;
 use locked_recorder::{AuditError, DriveError, DriveStop, RecordError, Recorder, Seat, Sleepers};
 use std::alloc::Global;
 use std::io::Write;

@@ -14,7 +14,7 @@ use command_faults::{Fault, print, status, tell};
 use command_line::jobs::{CheckJob, DrawJob, ImportJob, ReportJob};
 use command_line::{Job, read_command, refuse_words};
 use command_options::{RunOptions, Workers};
-use node_runs::{Pace, follower_for, run_nodes};
+use node_runs::{follower_for, run_nodes};
 use std::env;
 use std::process::ExitCode;
 use std::sync::Wait;
@@ -86,7 +86,7 @@ fn run_of<T: Threads + Wait + Clock + Sync>(
 ) -> Result<u8, Fault> {
     let RunOptions {
         config,
-        patience,
+        pace,
         steps,
         follow,
     } = options;
@@ -98,7 +98,7 @@ fn run_of<T: Threads + Wait + Clock + Sync>(
         threads,
         rt.alloc(),
         &config,
-        Pace::Patience(patience),
+        pace,
         steps,
         &OpenGate,
         &mut follower,

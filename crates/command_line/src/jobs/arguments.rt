@@ -3,7 +3,7 @@
 ghost use Rattle.std.specs.Prelude.{◌≡◌, ◌↔◌, ◌≤◌, List, IfOk, IfErr, IfSome, IsTrue, codes, option_map, string_bytes};
 ghost use Rattle.clap.specs.Words.{Rule, first_of, found_of, rows_of};
 ghost use Rattle.step_trace.specs.CorrectSets.{IsCorrectIn};
-ghost use Rattle.command_line.specs.Arguments.{AreArguments, IsArgument, IsCommand, IsListFaultOf, IsUnknown, TellsList, command_app, correct_rule, file_rule, flag_in, number_in, option_rule, optional_rule, positional_rule, tick_in, tick_rule};
+ghost use Rattle.command_line.specs.Arguments.{AreArguments, IsArgument, IsCommand, IsListFaultOf, IsUnknown, TellsList, command_app, correct_rule, file_rule, flag_in, number_in, optional_number_in, option_rule, optional_rule, positional_rule, tick_in, tick_rule};
 
 use crate::line_errors::LineError;
 use clap::builder::ValueParser;
@@ -117,6 +117,23 @@ pub fn number(found: &ArgMatches<'_>, name: &str, least: u64, most: u64) -> Opti
         return None;
     }
     Some(value)
+}
+
+/// The number of this name within these bounds, or none where the matches have no word of this name. None where they have
+/// another word of it.
+pub fn optional_number(
+    found: &ArgMatches<'_>,
+    name: &str,
+    least: u64,
+    most: u64,
+) -> Option<Option<u64>>
+    ensures value { result ≡ optional_number_in (rows_of (found_of found.now)) name.now least most }
+    ensures low { IfSome result (λ given. IfSome given (λ value. least ≤ value)) }
+{
+    match text(found, name) {
+        Some(_) => Some(Some(number(found, name, least, most)?)),
+        None => Some(None),
+    }
 }
 
 /// The tick of this name, or none where the matches have no word of this name. None where they have another word of it.

@@ -1,23 +1,26 @@
 //! The command `run`: its words and its help text, and the job that they give.
 
-ghost use Rattle.std.specs.Prelude.{◌≡◌, ◌↔◌, ◌*◌, ◌<◌, ◌≤◌, IfOk, IfErr, IsTrue, option_map};
+ghost use Rattle.std.specs.Prelude.{◌≡◌, ◌↔◌, ◌*◌, ◌<◌, ◌≤◌, Ok, Some, IfOk, IfErr, IfSome, IsTrue, codes, option_map};
 ghost use Rattle.clap.specs.Words.{found_of, rows_of};
+ghost use Rattle.command_options.specs.Paces.{patience_of};
+ghost use Rattle.step_trace.specs.declared.configurations.TheConstants.{MAX_PROCESSORS};
 ghost use Rattle.step_trace.specs.declared.traces.TheConstants.{MAX_STEPS};
-ghost use Rattle.command_line.specs.Arguments.{IsArgument, IsCommand, number_rule};
+ghost use Rattle.command_line.specs.declared.jobs.run.TheConstants.{MAX_PATIENCE};
+ghost use Rattle.command_line.specs.Arguments.{IsArgument, IsCommand, number_rule, optional_number_rule};
 ghost use Rattle.command_line.specs.Commands.Run.{run_app, run_given};
-ghost use Rattle.command_line.specs.RunJobs.{AreListed, IsConfigFault, IsConfigOf, IsFollowFault, IsFollowed, IsLimitFault, IsRunFault, IsRunJob, TellsConfig};
+ghost use Rattle.command_line.specs.RunJobs.{AreListed, IsConfigFault, IsConfigOf, IsFollowFault, IsFollowed, IsLimitFault, IsPaceFault, IsRefusedIn, IsRunFault, IsRunJob, TellsConfig, pace_of, usual_patience};
 
 use crate::jobs::Job;
 use crate::jobs::arguments::{
-    correct_in, new_command, number, option_argument, optional_argument, text,
+    correct_in, new_command, number, option_argument, optional_argument, optional_number, text,
 };
 use crate::jobs::value_lists::read_values;
 use crate::line_errors::LineError;
 use clap::builder::ValueParser;
 use clap::{Arg, ArgMatches, Command};
-use command_options::RunOptions;
+use command_options::{Pace, RunOptions};
 use std::alloc::{AllocError, Global};
-use step_trace::{Config, ConfigError, Correct, MAX_STEPS};
+use step_trace::{Config, ConfigError, Correct, MAX_PROCESSORS, MAX_STEPS};
 
 const ABOUT: &str = "Runs the agreement algorithm and prints the trace of its steps";
 
@@ -27,12 +30,19 @@ const FAULTS_HELP: &str = "How many may be faulty; 2 * T + 1 is at most N";
 
 const VALUES_HELP: &str = "Their initial values, with one comma between each two";
 
-const PATIENCE_HELP: &str = "Which Receive of a round ends it, from 1 to 1000000";
+const PACE_HELP: &str = "When rounds end: heard-out or patience";
+
+const PATIENCE_HELP: &str = "How many Receives a round takes at most, from 1 to 1000000";
 
 const STEPS_HELP: &str = "The steps that each makes; N * S is at most 1000000";
 
 const FOLLOW_HELP: &str =
     "Tells of the bounds of these processors meanwhile: 1,2,5, or all, or none";
+
+const BAD_PACE: &str = "synchrony: bad --pace\nsynchrony: --pace takes heard-out or patience";
+
+const NO_PATIENCE: &str =
+    "synchrony: bad --patience\nsynchrony: --pace patience takes --patience P too";
 
 /// The greatest patience.
 const MAX_PATIENCE: u64 = 1_000_000;
@@ -45,7 +55,8 @@ pub fn command<'a>(alloc: Global) -> Result<Command<'a>, AllocError>
         number_option(alloc, "nodes", "N", NODES_HELP, 0, u64::MAX),
         number_option(alloc, "faults", "T", FAULTS_HELP, 0, u64::MAX),
         option_argument(alloc, "values", "V1,..,VN", VALUES_HELP),
-        number_option(alloc, "patience", "P", PATIENCE_HELP, 1, MAX_PATIENCE),
+        optional_argument(alloc, "pace", "NAME", PACE_HELP),
+        patience_option(alloc),
         number_option(alloc, "steps", "S", STEPS_HELP, 0, MAX_STEPS as u64),
         optional_argument(alloc, "follow", "LIST", FOLLOW_HELP),
     ]?;
@@ -66,9 +77,19 @@ fn number_option<'a>(
     option_argument(alloc, name, value_name, help).value_parser(ValueParser::unsigned(least, most))
 }
 
+/// The option --patience P, which may be left out.
+fn patience_option<'a>(alloc: Global) -> Arg<'a>
+    ensures { IsArgument (optional_number_rule (codes "patience") 1 MAX_PATIENCE) result }
+{
+    optional_argument(alloc, "patience", "P", PATIENCE_HELP).value_parser(ValueParser::unsigned(
+        1,
+        MAX_PATIENCE,
+    ))
+}
+
 /// The job that the words after `run` ask for; none where one of them lacks.
 ///
-/// Refuses a list of processors that isn't one; a number of processors outside its limits; too many that may be
+/// Refuses a list of processors that isn't one; a pace that isn't one, or that needs a patience; a number of processors outside its limits; too many that may be
 /// faulty; values that aren't one for each processor; and more than `MAX_STEPS` steps of all processors together.
 /// Memory may come instead.
 pub fn job(alloc: Global, found: &ArgMatches<'_>) -> Option<Result<Job, LineError>>
@@ -77,10 +98,11 @@ pub fn job(alloc: Global, found: &ArgMatches<'_>) -> Option<Result<Job, LineErro
     let n = number(found, "nodes", 0, u64::MAX)?;
     let t = number(found, "faults", 0, u64::MAX)?;
     let values = text(found, "values")?;
-    let patience = number(found, "patience", 1, MAX_PATIENCE)?;
+    let pace = text(found, "pace");
+    let patience = optional_number(found, "patience", 1, MAX_PATIENCE)?;
     let steps = number(found, "steps", 0, MAX_STEPS as u64)?;
     let follow = text(found, "follow");
-    Some(run(alloc, n, t, values, patience, steps, follow))
+    Some(run(alloc, n, t, values, pace, patience, steps, follow))
 }
 
 /// The job of a run with these words.
@@ -89,19 +111,23 @@ fn run(
     n: u64,
     t: u64,
     values: &str,
-    patience: u64,
+    name: Option<&str>,
+    patience: Option<u64>,
     steps: u64,
     follow: Option<&str>,
 ) -> Result<Job, LineError>
-    requires patient { 1 ≤ patience }
-    ensures job { IfOk result (IsRunJob n t values.now patience steps (option_map (λ list. list.now) follow.entry)) }
-    ensures refused { IfErr result (IsRunFault n t values.now steps (option_map (λ list. list.now) follow.entry)) }
+    requires patient { IfSome patience (λ p. 1 ≤ p) }
+    ensures job { IfOk result (IsRunJob n t values.now (option_map (λ text. text.now) name.entry) patience steps
+        (option_map (λ list. list.now) follow.entry)) }
+    ensures refused { IfErr result (IsRunFault n t values.now (option_map (λ text. text.now) name.entry) patience steps
+        (option_map (λ list. list.now) follow.entry)) }
 {
     let follow = followed(alloc, follow)?;
+    let pace = paced(alloc, most_patience(n), name, patience)?;
     let config = limited(alloc, n, t, values, steps)?;
     Ok(Job::Run(RunOptions {
         config,
-        patience,
+        pace,
         steps,
         follow,
     }))
@@ -116,6 +142,63 @@ fn followed(alloc: Global, list: Option<&str>) -> Result<Option<Correct>, LineEr
         Some(list) => Ok(Some(correct_in(alloc, "follow", list)?)),
         None => Ok(None),
     }
+}
+
+/// The usual patience of so many processors. (Of more than there may be, which are refused, it is that of the most.)
+fn most_patience(n: u64) -> u64
+    ensures { n ≤ MAX_PROCESSORS → result ≡ usual_patience n }
+{
+    4 * n.min(MAX_PROCESSORS)
+}
+
+/// The pace that a name and a patience ask for, where that usual patience is the one of "heard out".
+fn paced(
+    alloc: Global,
+    usual: u64,
+    name: Option<&str>,
+    patience: Option<u64>,
+) -> Result<Pace, LineError>
+    requires patient { IfSome patience (λ p. 1 ≤ p) }
+    ensures patient { 1 ≤ usual → IfOk result (λ pace. 1 ≤ patience_of pace) }
+    ensures pace { IfOk result (λ pace. pace_of usual (option_map (λ text. text.now) name.entry) patience ≡ Ok pace) }
+    ensures refused { IfErr result (IsPaceFault usual (option_map (λ text. text.now) name.entry) patience) }
+{
+    match name {
+        Some(name) => named_pace(alloc, usual, name, patience),
+        None => match patience {
+            Some(patience) => Ok(Pace::Patience(patience)),
+            None => Ok(Pace::HeardOut(usual)),
+        },
+    }
+}
+
+/// The pace of this name, with this patience.
+fn named_pace(
+    alloc: Global,
+    usual: u64,
+    name: &str,
+    patience: Option<u64>,
+) -> Result<Pace, LineError>
+    requires patient { IfSome patience (λ p. 1 ≤ p) }
+    ensures patient { 1 ≤ usual → IfOk result (λ pace. 1 ≤ patience_of pace) }
+    ensures pace { IfOk result (λ pace. pace_of usual (Some name.now) patience ≡ Ok pace) }
+    ensures refused { IfErr result (IsPaceFault usual (Some name.now) patience) }
+{
+    match name {
+        "heard-out" => Ok(Pace::HeardOut(patience.unwrap_or(usual))),
+        "patience" => match patience {
+            Some(patience) => Ok(Pace::Patience(patience)),
+            None => Err(refused_in(alloc, NO_PATIENCE)?),
+        },
+        _ => Err(refused_in(alloc, BAD_PACE)?),
+    }
+}
+
+/// The refusal in these words.
+fn refused_in(alloc: Global, words: &str) -> Result<LineError, AllocError>
+    ensures { IfOk result (IsRefusedIn words.now) }
+{
+    Ok(LineError::Refused(String::from_str(alloc, words)?))
 }
 
 /// The configuration of these numbers and of the values that a text lists, whose processors may make so many
@@ -181,10 +264,18 @@ fn is_too_long(n: u64, steps: u64) -> bool
 fn help() -> &'static str {
     "\
 Each processor is a thread. While it has something to send in its round it
-sends; otherwise it receives all that waits for it, and its P-th Receive of a
-round ends the round. Each makes S steps, in whatever order the threads run.
-The trace of all steps is printed as `report` and `replay` read it. The values
-are numbers of 64 bits.
+sends; otherwise it receives all that waits for it. The pace says which Receive
+ends the round:
+  heard-out  the first by which all has been heard that the round can bring, or
+             something of a round more than 4 later; or else the P-th. P is
+             4 * N without --patience. A processor of which nothing comes in a
+             phase, 4 rounds, isn't waited for again until something does. A
+             thread that has nothing to do sleeps until a message comes.
+  patience   the P-th of the round, whatever was heard. Threads step in bursts,
+             so a round often ends before a message of it comes.
+Without --pace it is heard-out, or patience where --patience is given. Each makes
+S steps, in whatever order the threads run. The trace of all steps is printed as
+`report` and `replay` read it. The values are numbers of 64 bits.
 
 With --follow LIST, standard error tells meanwhile how synchronous the threads
 are so far, where the processors of LIST count as correct: in a line when at
@@ -200,15 +291,15 @@ prints
   dls-trace,1,3,1
   init,5,7,7
   end,0
-Whether the processors decide depends on the order of their steps; the greater P
-is, the more of each other's messages they hear in time:
-  ./synchrony run --nodes 3 --faults 1 --values 5,7,7 --patience 10000 \\
-    --steps 200000 | ./synchrony replay -
+Whether the processors decide depends on the order of their steps. By heard-out
+they mostly do:
+  ./synchrony run --nodes 3 --faults 1 --values 5,7,7 --steps 2000 |
+    ./synchrony replay -
 
 Exit status:
   0  the trace is printed, or this text
-  2  the command line is refused, or a number or a value in it; LIST is no list,
-     or it has a processor above N
+  2  the command line is refused, or a number, a value or a pace in it; LIST is
+     no list, or it has a processor above N
   5  out of memory
   6  the output can't be written
   7  the threads' steps make no run, which is a fault of this program
