@@ -57,6 +57,15 @@ pub struct ReportPart {
     pub at: Option<u64>,
 }
 
+/// Of which trace the brief report is asked for.
+#[derive(Debug, Drop)]
+pub struct Brief {
+    /// The processors that count as correct.
+    pub correct: Correct,
+    /// The tick up to which the trace is reported, as if it had ended there: all of it where there is none.
+    pub until: Option<u64>,
+}
+
 /// What a certificate is checked for.
 #[derive(Debug, Drop)]
 pub struct Claim {

@@ -45,6 +45,7 @@ fn run<R: Threads + Wait + Clock + Sync>(rt: &HostRuntime, threads: &R) -> Resul
     // (each function takes what the job holds, and lets go of it)
     match job {
         Job::Report(job) => report(rt, threads, job),
+        Job::Brief(job) => answer(rt, job.file, &job.brief),
         Job::Replay(job) => answer(rt, job.file, &Replay),
         Job::Run(options) => run_of(rt, threads, options),
         Job::Upgrade(job) => answer(rt, job.file, &Upgrade),

@@ -1,5 +1,6 @@
 -- Why the program doesn't check a certificate by a trace, and the line that it writes where it does.
-use Rattle.std.specs.Prelude.{ℕ, ◌≡◌, ◌≢◌, ◌⊎◌, List, Err, ⊤}
+use Rattle.std.specs.Prelude.{ℕ, ◌≡◌, ◌≢◌, ◌⊎◌, List, Option, Err, ⊤}
+use Rattle.step_trace.specs.declared.correct_sets.Correct.{Correct}
 use Rattle.step_trace.specs.Traces.{Recorded}
 use Rattle.certificate_checker.specs.declared.verdicts.Verdict.{Verdict}
 use Rattle.trace_text.specs.Faults.{Rose}
@@ -33,10 +34,14 @@ IsBadCertificate certificate (fault.Certificate reason) = (rows_of_text certific
 IsBadCertificate certificate fault.Memory = ⊤
 IsBadCertificate certificate _ = ⊥
 
--- for what no certificate is checked by the trace: a correct processor that it hasn't, or else a tick
+-- for what a trace isn't cut: a correct processor that it hasn't, or else a tick
+abbrev pub IsUncutAt : Correct → Option ℕ → Recorded → Fault → Type 0
+IsUncutAt correct until t (fault.Report option.Until o) = HasCorrect correct t × IsNoTickOf until t o
+IsUncutAt correct until t w = IsOutside correct t w
+
+-- for what no certificate is checked by the trace
 abbrev pub IsUncut : Claim → Recorded → Fault → Type 0
-IsUncut claim t (fault.Report option.Until o) = HasCorrect claim.correct t × IsNoTickOf claim.until t o
-IsUncut claim t w = IsOutside claim.correct t w
+IsUncut claim = IsUncutAt claim.correct claim.until
 
 -- for what this one isn't: the same, or else the first refusal of the certificate
 abbrev pub IsUnchecked : Claim → List ℕ → Recorded → Fault → Type 0

@@ -9,4 +9,5 @@ pub mod ReplayTexts
 pub mod Replays
 pub mod Upgrades
 pub mod Checks
+pub mod Briefs
 pub mod Imports

@@ -5,6 +5,7 @@
 #![tactic(auto)]
 
 mod answers;
+mod briefs;
 mod checks;
 mod drawings;
 mod import_lines;

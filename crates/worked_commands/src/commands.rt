@@ -2,7 +2,7 @@
 
 use chunk_join::MAX_WORKERS;
 use command_faults::{Fault, fault_text, status};
-use command_options::{Claim, ReportPart};
+use command_options::{Brief, Claim, ReportPart};
 use std::alloc::{AllocError, Global};
 use std::sync::Wait;
 use std::thread::Threads;
@@ -17,6 +17,7 @@ pub(crate) enum Command<'a> {
     Report(&'a str),
     /// With the tick up to which the trace is reported, and the tick whose row is printed.
     Part(&'a str, Option<u64>, Option<u64>),
+    Brief(&'a str),
     Replay,
     Upgrade,
     Check(&'a str, &'a str),
@@ -79,6 +80,13 @@ pub(crate) fn ended<T: Threads + Wait + Sync>(
                 at,
             };
             serve(alloc, &part, &mut trace, &mut Counting::new(writer))?;
+        }
+        Command::Brief(list) => {
+            let brief = Brief {
+                correct: named(list)?,
+                until: None,
+            };
+            serve(alloc, &brief, &mut trace, &mut Counting::new(writer))?;
         }
         Command::Replay => run_replay(alloc, &mut trace, &mut Counting::new(writer))?,
         Command::Upgrade => serve(alloc, &Upgrade, &mut trace, &mut Counting::new(writer))?,

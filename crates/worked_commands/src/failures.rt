@@ -1,6 +1,6 @@
 //! What each command refuses, and leaves half written, where a device fails after each number of bytes.
 
-use crate::commands::Command::{Check, Part, Replay, Report, Upgrade};
+use crate::commands::Command::{Brief, Check, Part, Replay, Report, Upgrade};
 use crate::commands::{Command, Cut, Input, WHOLE, ended, has_refused, whole};
 use command_faults::{Fault, status};
 use std::alloc::{AllocError, Global};
@@ -8,6 +8,7 @@ use std::io::ErrorKind;
 use std::sync::Wait;
 use std::test::Fail;
 use std::thread::Threads;
+use test_support::report_text;
 use test_support::texts::{
     DECIDES_SEVEN, DECIDES_SEVEN_REPLAY, NEVER_DELIVERED, NEVER_DELIVERED_REPORT, ONE_MISS,
     ONE_MISS_REPORT, ONE_MISS_UPGRADE,
@@ -125,10 +126,14 @@ fn endless_texts_are_refused(rt: HostRuntime) -> Result<(), Fail> {
     Ok(())
 }
 
+/// The rows of the report of `ONE_MISS` that name other evidence than the row before.
+const ONE_MISS_BRIEF: &str = report_text!("1,2,3,1,2,1,2,3\n2,1,3,,,1,2,3\n");
+
 /// Commands, their trace texts, and what they write where the device doesn't fail.
 const WRITTEN: &[(Command, &str, &str)] = &[
     (Report("1,2"), ONE_MISS, ONE_MISS_REPORT),
     (Part("1,2", Some(3), None), ONE_MISS, ONE_MISS_REPORT),
+    (Brief("1,2"), ONE_MISS, ONE_MISS_BRIEF),
     (Replay, DECIDES_SEVEN, DECIDES_SEVEN_REPLAY),
     (Upgrade, ONE_MISS, ONE_MISS_UPGRADE),
     (
