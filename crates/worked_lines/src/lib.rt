@@ -3,3 +3,5 @@
 
 #[cfg(test)]
 mod command_line_tests;
+#[cfg(test)]
+mod pace_tests;
