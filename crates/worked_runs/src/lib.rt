@@ -3,8 +3,6 @@
 #![tactic(auto)]
 
 #[cfg(test)]
-mod heard_out_tests;
-#[cfg(test)]
 mod run_tests;
 #[cfg(test)]
 mod standing_tests;
