@@ -60,6 +60,10 @@ const BROADCAST: &str =
     "time,node,event,to,message\n10,a,send,b,m1\n10,a,send,c,m2\n10,b,receive,,m1\n\
     10,c,receive,,m2\n";
 
+/// Nodes a and b each wait for the other's message.
+const EACH_WAITS: &str =
+    "time,node,event,to,message\n1,a,receive,,q\n2,a,send,b,p\n1,b,receive,,p\n2,b,send,a,q\n";
+
 const SPREAD: Given = Given {
     log: BROADCAST,
     nodes: None,
@@ -137,6 +141,17 @@ const REFUSED: &[(Given, u8, &str)] = &[
         3,
         "synchrony: log: record 4: message m2 is received no later than it was sent\n\
         synchrony: a shorter --tick sets them apart",
+    ),
+    (
+        Given {
+            log: EACH_WAITS,
+            ..SPREAD
+        },
+        3,
+        "synchrony: log: record 2: behind a cycle of messages\n\
+        synchrony: record 2: a receives q, which b sends in record 5, after record 4\n\
+        synchrony: record 4: b receives p, which a sends in record 3, after record 2\n\
+        synchrony: no clocks make this right: the records of a node are out of order, or a message is named wrongly",
     ),
     (
         Given {

@@ -61,6 +61,10 @@ const SPREAD_STEPS: &[StepLine] = &[
 /// The records of a message's send and its receive the other way round.
 const TURNED_ROUND: &str = "time,node,event,to,message\n10,b,receive,,m1\n10,a,send,b,m1\n";
 
+/// Nodes a and b each wait for the other's message.
+const EACH_WAITS: &str = "time,node,event,to,message\n0,c,receive,,\n1,a,receive,,q\n2,a,send,b,p\n\
+    1,b,receive,,p\n2,b,send,a,q\n";
+
 /// A log, what is asked of it, how many nodes and steps, the last tick, how many events moved, and how far at most.
 type Imported = (&'static str, Asked, u64, &'static [StepLine], u64, u64, u64);
 
@@ -156,6 +160,15 @@ const IMPORTED: &[Imported] = &[
 const IMPORTED_SPREAD: &[Imported] = &[
     (SPREAD, (None, None, None, true), 3, SPREAD_STEPS, 3, 3, 2),
     (
+        TURNED_ROUND,
+        (None, None, None, true),
+        2,
+        &[(1, 1, 2, 1, &[]), (2, 2, 1, 0, &[1])],
+        2,
+        1,
+        1,
+    ),
+    (
         TWO_NODES,
         (Some("a,b"), None, Some("16"), true),
         2,
@@ -244,6 +257,7 @@ fn told(answer: &Result<Import, LogError>) -> Option<(u64, Option<Hint>)> {
     match answer {
         Err(LogError::NotLater(record, _, hint)) => Some((*record, *hint)),
         Err(LogError::SecondEvent(record, _, _, hint)) => Some((*record, *hint)),
+        Err(LogError::Cycle(record, _)) => Some((*record, None)),
         Err(LogError::TooManyTicks) => Some((0, None)),
         _ => None,
     }
@@ -255,14 +269,14 @@ fn refuses_what_spreading_mends(rt: HostRuntime) {
     let answer = import(rt.alloc(), SPREAD, &still);
     assert_eq!(rt; told(&answer), Some((3, Some(Hint::Spread))));
     let answer = import(rt.alloc(), TURNED_ROUND, &still);
-    assert_eq!(rt; told(&answer), Some((2, None)));
+    assert_eq!(rt; told(&answer), Some((2, Some(Hint::Spread))));
 }
 
 #[test]
 fn refuses_what_spreading_does_not_mend(rt: HostRuntime) {
     let spread = (None, None, None, true);
-    let answer = import(rt.alloc(), TURNED_ROUND, &spread);
-    assert_eq!(rt; told(&answer), Some((2, None)));
+    let answer = import(rt.alloc(), EACH_WAITS, &spread);
+    assert_eq!(rt; told(&answer), Some((3, None)));
     let late = "time,node,event,to,message\n0,a,send,b,m\n999999,a,send,b,n\n999999,a,send,b,o\n";
     let answer = import(rt.alloc(), late, &spread);
     assert_eq!(rt; told(&answer), Some((0, None)));

@@ -136,7 +136,7 @@ const STEPS: &[Refused] = &[
         None,
         None,
         "record 3: message m is received no later than it was sent",
-        None,
+        Some(Hint::Spread),
     ),
     (
         "1,a,send,b,m\n1,b,receive,,m\n",
@@ -147,6 +147,14 @@ const STEPS: &[Refused] = &[
     ),
     (
         "1,b,receive,,m\n1,a,send,b,m\n",
+        None,
+        None,
+        "record 2: message m is received no later than it was sent",
+        Some(Hint::Spread),
+    ),
+    // One node receives its own message first: nothing helps.
+    (
+        "1,a,receive,,m\n1,a,send,a,m\n2,b,receive,,\n",
         None,
         None,
         "record 2: message m is received no later than it was sent",
