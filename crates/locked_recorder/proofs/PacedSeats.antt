@@ -11,7 +11,7 @@ use Rattle.step_buffers.specs.declared.moves.StepError.TheVariants.{Full, BadPro
 use Rattle.step_buffers.specs.Progress.{Progress}
 use Rattle.step_buffers.specs.Moves.{move_refusal, step_refusal, IsStepRefusal}
 use Rattle.deciding_runs.specs.Paces.{Paced, opening_pace, paced_move, after_move}
-use Rattle.locked_recorder.specs.declared.errors.DriveStop.TheVariants.{Held, Record}
+use Rattle.locked_recorder.specs.declared.errors.DriveStop.TheVariants.{Record}
 use Rattle.locked_recorder.specs.declared.errors.RecordError.{RecordError}
 use Rattle.locked_recorder.specs.declared.errors.RecordError.TheVariants as record_error
 use Rattle.locked_recorder.specs.Seats.{Turns, with_done}
@@ -139,10 +139,6 @@ IsPacedUnderWay-more r patience steps pace after old mid new so tagged moved =
       };
       now = refl;
     }
-
--- the gate holds the processor back
-pub IsPacedStopped-held : (r : Identity) (patience steps : ℕ) (s : Turns) → IsPacedStopped r patience steps s s (record { made = 0; why = Held })
-IsPacedStopped-held r patience steps s = record { driven = (IsPacedUnderWay-none r patience s (opening_pace r.config patience) refl).driven; stop = refl }
 
 -- the next step is refused
 pub IsPacedStopped-refused : (r : Identity) (patience steps made : ℕ) (pace : Paced) (old new : Turns) (why : RecordError) → made < steps
