@@ -1,4 +1,4 @@
-/* The analyser and the checker as C functions: ./library builds out/libsynchrony.a and out/libsynchrony.so. */
+/* The analyser, the checker and the other commands as C functions: ./library builds out/libsynchrony.a and out/libsynchrony.so. */
 #ifndef SYNCHRONY_H
 #define SYNCHRONY_H
 
@@ -18,6 +18,7 @@ enum {
     SYNCHRONY_BAD_TRACE = 3,       /* the text stands for no trace; why stands in out */
     SYNCHRONY_BAD_CERTIFICATE = 4, /* the certificate stands for no rows; why stands in out */
     SYNCHRONY_NO_MEMORY = 5,
+    SYNCHRONY_NOT_A_RUN = 7,       /* of `replay`: the steps aren't those of the algorithm */
     SYNCHRONY_NO_ROOM = 9          /* the answer has *size bytes, more than room */
 };
 
@@ -36,20 +37,30 @@ uint32_t synchrony_report(uint64_t correct, const uint8_t *text, size_t length, 
 uint32_t synchrony_check(uint64_t correct, const uint8_t *text, size_t length, const uint8_t *certificate,
                          size_t certificate_length, uint8_t *out, size_t room, size_t *size);
 
-/* Both write in out, and in *size, nothing else but this: with SYNCHRONY_NO_ROOM the length that the answer has into
+/* Does what the words of a command line ask for, with texts in place of its files, and answers the exit status that the
+   program has. `words` has the words after the program's name, with a line feed between each two and none at the end, as
+   in "draw\n-\n--correct\nall". `text` is the text of the file `-`. `second`, which only `check` reads, is the certificate,
+   whatever name the words have for it. Written over the first bytes of out, and its length into *size, is what the program
+   prints: with 0 and 1 its standard output (the notes of an `import` are left out), else its standard error. Refused, with
+   status 2, are `run` and each file that has another name than `-`. With SYNCHRONY_NO_ROOM only *size is written, the
+   length that the answer has, and with SYNCHRONY_NO_MEMORY nothing. */
+uint32_t synchrony_answer(const uint8_t *words, size_t words_length, const uint8_t *text, size_t length,
+                          const uint8_t *second, size_t second_length, uint8_t *out, size_t room, size_t *size);
+
+/* The first two write in out, and in *size, nothing else but this: with SYNCHRONY_NO_ROOM the length that the answer has into
    *size; with SYNCHRONY_BAD_TRACE and SYNCHRONY_BAD_CERTIFICATE the words for the first refusal of the text over the
    first bytes of out, as far as there is room ("step 3: message 1 was received before", with no line feed), and the
    length of all of them into *size.
 
    That is proved of callers that keep five duties, which nothing checks:
 
-   1. text and certificate point to as many bytes as is said, which nobody writes during the call; out to `room` bytes
+   1. words, text, second and certificate point to as many bytes as is said, which nobody writes during the call; out to `room` bytes
       and size to one size_t, which nobody else reads or writes during the call. out and *size share no byte with each
       other or with a text. No pointer is null, also where there are no bytes. Each length is below 2^63.
    2. malloc, realloc and free are of one allocator, which aligns a block to each power of two up to 16 that divides the
       block's size. (A host may bring a heap of its own in their place: tests/hosts/refused.c does.)
    3. No call comes from a signal handler, nor from the forked child of a process with threads.
-   4. The stack has room: 64 KiB are enough by measurement. The proof is about a machine whose stack has no end.
+   4. The stack has room: 256 KiB are enough by measurement. The proof is about a machine whose stack has no end.
    5. The processor has the features of x86-64-v2. A call doesn't test that.
 
    Calls may come from several threads at once, each with an out and a size of its own. */

@@ -1,4 +1,4 @@
-"""The analyser and the checker for Python: calls of out/libsynchrony.so, which ./library builds.
+"""The analyser, the checker and the other commands for Python: calls of out/libsynchrony.so, which ./library builds.
 
     >>> import synchrony
     >>> trace = open("examples/one-miss.trace", "rb").read()
@@ -29,19 +29,28 @@ Correct = Union[Iterable[int], str]
 
 
 class Refused(ValueError):
-    """There is no answer: a text is refused, or the set. Its words are those of the program."""
+    """There is no answer: a text is refused, or the set. Its words are those of the program; `status` is the exit status that
+    the program has in the same case."""
+
+    status: Optional[int] = None
 
 
 class TraceRefused(Refused):
     """The text stands for no trace, for instance since step 3 takes a message that was received before."""
 
+    status = BAD_TRACE
+
 
 class SetRefused(Refused):
     """A processor is named as correct that the trace hasn't."""
 
+    status = BAD_SET
+
 
 class CertificateRefused(Refused):
     """The certificate stands for no rows."""
+
+    status = BAD_CERTIFICATE
 
 
 class Row(NamedTuple):
@@ -77,8 +86,7 @@ class Verdict:
 
 def report(trace: bytes, correct: Correct) -> list[Row]:
     """The rows of the report of a trace text, with these processors as the correct ones."""
-    lines = report_text(trace, correct).decode().splitlines()[1:]
-    return [Row(*[int(it) if it else None for it in line.split(",")]) for line in lines]
+    return _rows(report_text(trace, correct))
 
 
 def report_text(trace: bytes, correct: Correct) -> bytes:
@@ -87,6 +95,48 @@ def report_text(trace: bytes, correct: Correct) -> bytes:
     answer, out = _with_room(_room_for(trace), lambda *room: _library().synchrony_report(*given, *room))
     _refuse(answer, out)
     return out
+
+
+def report_part(trace: bytes, correct: Correct, until: Optional[int] = None, at: Optional[int] = None) -> list[Row]:
+    """The rows of the report of the trace as if it had ended at the tick `until`; with `at` the one that serves that tick."""
+    return _rows(_asked("report", trace, correct=correct, until=until, at=at))
+
+
+def brief(trace: bytes, correct: Correct, until: Optional[int] = None) -> list[Row]:
+    """The rows of a report that name other evidence than the row before."""
+    return _rows(_asked("brief", trace, correct=correct, until=until))
+
+
+def replay(trace: bytes) -> bytes:
+    """What each processor decided, as a CSV, where the steps are those of the agreement algorithm."""
+    return _asked("replay", trace)
+
+
+def upgrade(trace: bytes) -> bytes:
+    """The trace as a text of version 2."""
+    return _asked("upgrade", trace)
+
+
+def draw(
+    trace: bytes,
+    correct: Correct,
+    from_tick: Optional[int] = None,
+    to_tick: Optional[int] = None,
+    names: Optional[Iterable[str]] = None,
+) -> bytes:
+    """A picture of the trace and its bounds, as SVG. `names` are names for the processors, in their order."""
+    return _asked("draw", trace, correct=correct, from_tick=from_tick, to_tick=to_tick, names=names)
+
+
+def import_log(
+    log: bytes,
+    nodes: Optional[Iterable[str]] = None,
+    tick: Union[int, str, None] = None,
+    until: Union[int, str, None] = None,
+    spread: bool = False,
+) -> bytes:
+    """The trace of a log, as a text of version 2. Nodes are numbered in the order of `nodes`, or else as the log names them."""
+    return _asked("import", log, nodes=nodes, tick=tick, until=until, spread=spread)
 
 
 def frame(trace: bytes, correct: Correct):
@@ -105,6 +155,62 @@ def check(trace: bytes, certificate: bytes, correct: Correct) -> Verdict:
         return Verdict(reason, tuple(map(int, numbers)))
     _refuse(answer, out)
     return Verdict(None, ())
+
+
+# The options of the program by the names of arguments, each with what makes a word of it.
+OPTIONS = {
+    "correct": ("--correct", lambda it: _list_of(it)),
+    "until": ("--until", str),
+    "at": ("--at", str),
+    "from_tick": ("--from", str),
+    "to_tick": ("--to", str),
+    "names": ("--names", lambda it: ",".join(it)),
+    "nodes": ("--nodes", lambda it: ",".join(it)),
+    "tick": ("--tick", str),
+    "spread": ("--spread", None),
+}
+
+
+def _asked(command, text, **given):
+    """What the program prints for a command with these options; None and False leave one out."""
+    words = [command, "-"]
+    for name, value in given.items():
+        option, word_of = OPTIONS[name]
+        if word_of is None:
+            words += [option] if value else []
+        elif value is not None:
+            words.append(f"{option}={word_of(value)}")
+    status, out = _answer(words, text)
+    if status == NO_MEMORY:
+        raise MemoryError
+    if status:
+        refused = Refused(out.decode().rstrip("\n"))
+        refused.status = status
+        raise refused
+    return out
+
+
+def _answer(words, text, second=b""):
+    """The exit status that the program has for these words, and what it prints: with 0 and 1 its standard output, else its
+    standard error."""
+    if any("\n" in it for it in words):
+        raise ValueError("no word of a command line has a line feed")
+    lines = "\n".join(words).encode()
+    given = [lines, len(lines), text, len(text), second, len(second)]
+    return _with_room(_room_for(text), lambda *room: _library().synchrony_answer(*given, *room))
+
+
+def _rows(report):
+    """The rows of the text of a report."""
+    lines = report.decode().splitlines()[1:]
+    return [Row(*[int(it) if it else None for it in line.split(",")]) for line in lines]
+
+
+def _list_of(correct):
+    """The correct processors as a command line lists them."""
+    if isinstance(correct, str):
+        return correct
+    return ",".join(map(str, sorted(set(correct)))) or "none"
 
 
 def _refuse(answer, out):
@@ -163,5 +269,7 @@ def _library():
         for name, texts in (("synchrony_report", text), ("synchrony_check", text * 2)):
             getattr(library, name).argtypes = [ctypes.c_uint64, *texts, *room, size]
             getattr(library, name).restype = ctypes.c_uint32
+        library.synchrony_answer.argtypes = [*text * 3, *room, size]
+        library.synchrony_answer.restype = ctypes.c_uint32
         _loaded = library
     return _loaded

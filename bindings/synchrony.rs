@@ -1,4 +1,4 @@
-//! The analyser and the checker for Rust: two safe functions over `out/libsynchrony.a`, which `./library` builds.
+//! The analyser, the checker and the other commands for Rust: three safe functions over `out/libsynchrony.a`, which `./library` builds.
 //!
 //! Make it a module of a crate, and link with `rustc -L native=out`. Nothing here is proved but what is called:
 //! `bindings/synchrony.h` says what the library asks of its callers.
@@ -12,6 +12,17 @@ unsafe extern "C" {
         length: usize,
         certificate: *const u8,
         certificate_length: usize,
+        out: *mut u8,
+        room: usize,
+        size: &mut usize,
+    ) -> u32;
+    fn synchrony_answer(
+        words: *const u8,
+        words_length: usize,
+        text: *const u8,
+        length: usize,
+        second: *const u8,
+        second_length: usize,
         out: *mut u8,
         room: usize,
         size: &mut usize,
@@ -89,6 +100,32 @@ pub fn check(text: &[u8], certificate: &[u8], correct: u64) -> Result<Verdict, R
         1 => Ok(Verdict::No(words(&out).trim_end().trim_start_matches("no ").to_string())),
         _ => Err(refusal(answer, &out)),
     }
+}
+
+/// The exit status that the program has for these words after its name, and what it prints: with 0 and 1 its standard output,
+/// else its standard error. `text` is the text of the file `-`, and `second` that of the certificate of a `check`. Want of
+/// memory is the status 5, with nothing printed.
+///
+/// # Panics
+///
+/// Where a word has a line feed, or there is none.
+pub fn answer(words: &[&str], text: &[u8], second: &[u8]) -> (u32, Vec<u8>) {
+    assert!(!words.is_empty() && words.iter().all(|it| !it.contains('\n')), "words of a command line, with no line feed");
+    let words = words.join("\n");
+    // (SAFETY: as above)
+    with_room((1 << 20).min(4096 + 4 * text.len()), |out, size| unsafe {
+        synchrony_answer(
+            words.as_ptr(),
+            words.len(),
+            text.as_ptr(),
+            text.len(),
+            second.as_ptr(),
+            second.len(),
+            out.as_mut_ptr(),
+            out.len(),
+            size,
+        )
+    })
 }
 
 /// What a call answers and writes, in as much room as it asks for.

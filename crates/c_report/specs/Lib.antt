@@ -1,3 +1,4 @@
 pub mod Rooms
 pub mod CorrectMasks
 pub mod Answers
+pub mod Commands

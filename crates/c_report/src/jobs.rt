@@ -1,0 +1,162 @@
+//! What is printed for the job of a command line, of the texts that a caller lends.
+
+ghost use Rattle.std.specs.Prelude.{◌≡◌, ◌≢◌, ◌<◌, IfOk, IfErr, OnOk, option_map, codes, string_bytes};
+ghost use Rattle.c_report.specs.Commands.{IsImportFor, IsLineOf, IsPrintedFor, IsPrintedOf, IsSaid, IsTraceOfLog, IsUnimportedFor, IsUnprintedFor, IsUnprintedOf, lent, other_file_words, run_words};
+ghost use Rattle.c_report.specs.declared.answers.TheConstants.{NO_MEMORY, NO_ROOM};
+ghost use Rattle.text_commands.specs.Answers.{IsAnswerTo, IsUnanswered};
+ghost use Rattle.text_commands.specs.Checks.{IsUnchecked};
+ghost use Rattle.text_commands.specs.Imports.{IsUnimported};
+ghost use Rattle.text_verdicts.specs.Checks.{IsVerdictOn};
+ghost use Rattle.text_verdicts.specs.Texts.{OfTrace};
+
+use command_faults::Fault;
+use command_line::jobs::{CheckJob, ImportJob};
+use command_line::{Job, names_standard_input};
+use command_options::ImportOptions;
+use event_log::{Options, read_log};
+use std::alloc::{AllocError, Global};
+use text_commands::{Answer, Replay, Upgrade, answer_to, import_options, verdict_on};
+use text_verdicts::{verdict_status, verdict_text};
+
+/// What the program prints, and the exit status that it has.
+#[derive(Drop)]
+pub(crate) struct Printed {
+    pub(crate) status: u32,
+    pub(crate) text: Vec<u8>,
+    ghost known: { status < NO_ROOM },
+    ghost there: { status ≢ NO_MEMORY },
+}
+
+/// What is printed for a job.
+pub(crate) fn printed_for(
+    alloc: Global,
+    job: Job,
+    text: &[u8],
+    second: &[u8],
+) -> Result<Printed, Fault>
+    ensures printed { IfOk result (λ p. IsPrintedFor job text.now second.now p.status p.text.items) }
+    ensures refused { IfErr result (IsUnprintedFor job text.now second.now) }
+{
+    match job {
+        Job::Report(job) => answer(alloc, job.file.as_str(), &job.part, text),
+        Job::Brief(job) => answer(alloc, job.file.as_str(), &job.brief, text),
+        Job::Replay(job) => answer(alloc, job.file.as_str(), &Replay, text),
+        Job::Upgrade(job) => answer(alloc, job.file.as_str(), &Upgrade, text),
+        Job::Draw(job) => answer(alloc, job.file.as_str(), &job.drawing, text),
+        Job::Import(job) => import(alloc, &job, text),
+        Job::Check(job) => check(alloc, &job, text, second),
+        Job::Help(help) => Ok(well(help.into_bytes())),
+        Job::Run(_) => Err(refused_run(alloc)),
+    }
+}
+
+/// What is printed where all went well.
+fn well(text: Vec<u8>) -> Printed
+    ensures status { result.status ≡ 0 }
+    ensures text { result.text ≡ text }
+{
+    Printed { status: 0, text }
+}
+
+/// The answer of a command to the trace in a file.
+fn answer<A: Answer>(
+    alloc: Global,
+    file: &str,
+    command: &A,
+    text: &[u8],
+) -> Result<Printed, Fault>
+    ensures printed { IfOk result (λ p. IsPrintedOf file.now (IsAnswerTo (A.Gives command.now) text.now) p.status p.text.items) }
+    ensures refused { IfErr result (IsUnprintedOf file.now (IsUnanswered (A.Declines command.now) text.now)) }
+{
+    test_file(alloc, file)?;
+    Ok(well(answer_to(alloc, command, text)?))
+}
+
+/// The verdict on the second text.
+fn check(alloc: Global, job: &CheckJob, text: &[u8], second: &[u8]) -> Result<Printed, Fault>
+    ensures printed { IfOk result (λ p. IsLineOf (string_bytes job.now.file) (λ verdict. OfTrace (IsVerdictOn job.now.claim.correct job.now.claim.until second.now verdict) text.now) p.status p.text.items) }
+    ensures refused { IfErr result (IsUnprintedOf (string_bytes job.now.file) (IsUnanswered (IsUnchecked job.now.claim second.now) text.now)) }
+{
+    test_file(alloc, job.file.as_str())?;
+    let verdict = verdict_on(alloc, &job.claim, text, second)?;
+    let text = verdict_text(alloc, verdict)?.into_bytes();
+    let status = u32::from(verdict_status(verdict));
+    Ok(Printed { status, text })
+}
+
+/// The trace of the log in a file.
+fn import(alloc: Global, job: &ImportJob, text: &[u8]) -> Result<Printed, Fault>
+    ensures printed { IfOk result (λ p. IsPrintedOf (string_bytes job.now.file) (IsImportFor job.now.options text.now) p.status p.text.items) }
+    ensures refused { IfErr result (IsUnprintedOf (string_bytes job.now.file) (IsUnimportedFor job.now.options text.now)) }
+{
+    test_file(alloc, job.file.as_str())?;
+    Ok(well(imported(alloc, &job.options, text)?))
+}
+
+/// The text of the trace of a log. Nothing is told of how the log was read.
+fn imported(alloc: Global, given: &ImportOptions, text: &[u8]) -> Result<Vec<u8>, Fault>
+    ensures imported { IfOk result (λ out. IsImportFor given.now text.now out.items) }
+    ensures refused { IfErr result (IsUnimportedFor given.now text.now) }
+{
+    let options = import_options(
+        alloc,
+        text_in(&given.nodes),
+        text_in(&given.tick),
+        text_in(&given.until),
+        given.spread,
+    )?;
+    trace_text_of(alloc, text, &options)
+}
+
+/// The text of the trace of a log, which is read so.
+fn trace_text_of(alloc: Global, text: &[u8], options: &Options) -> Result<Vec<u8>, Fault>
+    ensures trace { IfOk result (λ out. IsTraceOfLog options.now text.now out.items) }
+    ensures refused { IfErr result (IsUnimported options.now text.now) }
+{
+    let import = read_log(alloc, text, options)?;
+    Upgrade.answer(alloc, import.trace)
+}
+
+/// The text, where there is one.
+fn text_in(text: &Option<String>) -> Option<&str>
+    ensures { option_map (λ t. t.now) result ≡ option_map string_bytes text.now }
+{
+    match text {
+        Some(text) => Some(text.as_str()),
+        None => None,
+    }
+}
+
+/// Refuses a file of another name than that of the text which is lent.
+fn test_file(alloc: Global, file: &str) -> Result<(), Fault>
+    ensures lent { OnOk result (file.now ≡ lent) }
+    ensures refused { IfErr result (λ w. (file.now ≢ lent) × IsSaid other_file_words w) }
+{
+    if names_standard_input(file) {
+        return Ok(());
+    }
+    Err(refused(
+        alloc,
+        "synchrony: the library reads the file - alone",
+    ))
+}
+
+/// The refusal of a run.
+fn refused_run(alloc: Global) -> Fault
+    ensures { IsSaid run_words result }
+{
+    refused(
+        alloc,
+        "synchrony: run starts threads, which the library does not",
+    )
+}
+
+/// A refusal in these words.
+fn refused(alloc: Global, words: &str) -> Fault
+    ensures { IsSaid words.now result }
+{
+    match String::from_str(alloc, words) {
+        Ok(words) => Fault::Command(words),
+        Err(AllocError) => Fault::Memory,
+    }
+}
