@@ -59,12 +59,7 @@ fn well(text: Vec<u8>) -> Printed
 }
 
 /// The answer of a command to the trace in a file.
-fn answer<A: Answer>(
-    alloc: Global,
-    file: &str,
-    command: &A,
-    text: &[u8],
-) -> Result<Printed, Fault>
+fn answer<A: Answer>(alloc: Global, file: &str, command: &A, text: &[u8]) -> Result<Printed, Fault>
     ensures printed { IfOk result (λ p. IsPrintedOf file.now (IsAnswerTo (A.Gives command.now) text.now) p.status p.text.items) }
     ensures refused { IfErr result (IsUnprintedOf file.now (IsUnanswered (A.Declines command.now) text.now)) }
 {
@@ -135,10 +130,7 @@ fn test_file(alloc: Global, file: &str) -> Result<(), Fault>
     if names_standard_input(file) {
         return Ok(());
     }
-    Err(refused(
-        alloc,
-        "synchrony: the library reads the file - alone",
-    ))
+    Err(refused(alloc, "synchrony: the library reads the file - alone"))
 }
 
 /// The refusal of a run.
