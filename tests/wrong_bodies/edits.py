@@ -42,7 +42,10 @@ def pairs_of(edit):
         elif line.startswith("new:"):
             if not path or not old:
                 raise Bad("a `new:` line stands before any `file:` or `old:` line")
-            pairs.append((path, after, old, line.removeprefix("new:").removeprefix(" ")))
+            new = line.removeprefix("new:").removeprefix(" ")
+            if new == old:
+                raise Bad("an `old:` text and its `new:` text are the same")
+            pairs.append((path, after, old, new))
             after, old = "", ""
     if not pairs:
         raise Bad("it has no pair of `old:` and `new:`")
