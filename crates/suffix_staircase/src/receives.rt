@@ -13,7 +13,7 @@ use step_trace::{Act, ProcSet, Step, Trace};
 /// What is known of the Receives after a step. One list has an entry for each step, so the entries are no wider than a
 /// number of a step needs.
 #[derive(Debug, Drop)]
-pub(crate) struct Receives {
+pub struct Receives {
     // For each message, the Receive after the step that takes it; and for each Receive after the step, the one of the
     // same processor right before it, if that comes after the step too.
     links: Vec<u32>,
@@ -24,7 +24,7 @@ pub(crate) struct Receives {
 }
 
 /// The step of this number.
-pub(crate) fn step_of(trace: &Trace, no: u64) -> &Step
+pub fn step_of(trace: &Trace, no: u64) -> &Step
     requires low { 1 ≤ no }
     requires high { no ≤ length trace.now.steps }
     ensures step { step_at trace.now.steps no ≡ Some result.now }
@@ -45,7 +45,7 @@ fn zeros(alloc: Global, count: usize) -> Result<Vec<u32>, AllocError>
 
 impl Receives {
     /// What is known after the last step: there is none.
-    pub(crate) fn after_all(alloc: Global, trace: &Trace) -> Result<Self, AllocError>
+    pub fn after_all(alloc: Global, trace: &Trace) -> Result<Self, AllocError>
         ensures { IfOk result (λ r. KnowsReceives trace.now (length trace.now.steps) r) }
     {
         let steps = trace.len() + 1;
@@ -59,7 +59,7 @@ impl Receives {
 
     /// Goes back over a step, and gives the last Receive that misses its message: 0 if none does, or
     /// if it is no message between members.
-    pub(crate) fn step_back(&mut self, trace: &Trace, set: ProcSet, no: u64) -> u64
+    pub fn step_back(&mut self, trace: &Trace, set: ProcSet, no: u64) -> u64
         requires low { 1 ≤ no }
         requires high { no ≤ length trace.now.steps }
         requires known { KnowsReceives trace.now no self.old }

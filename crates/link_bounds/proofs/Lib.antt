@@ -1,0 +1,3 @@
+pub mod NotedEvidence
+pub mod OwnGaps
+pub mod LinkMisses

@@ -1,0 +1,6 @@
+pub mod Links
+pub mod Rows
+pub mod Evidence
+pub mod KnownGaps
+pub mod KnownMisses
+pub mod Passes

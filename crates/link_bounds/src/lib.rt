@@ -1,0 +1,14 @@
+//! Who is to blame for the bounds of a trace: the least bounds of each processor and of each link from one tick on, found by
+//! one backward pass.
+#![tactic(auto)]
+
+mod bounds;
+mod copies;
+mod links;
+mod paces;
+mod passes;
+mod rows;
+
+pub use bounds::LeastBound;
+pub use passes::bound_rows;
+pub use rows::BoundRow;

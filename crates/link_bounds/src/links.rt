@@ -1,0 +1,78 @@
+//! How late the messages of each processor to each other are: their misses, going back over a trace.
+
+ghost use Rattle.std.specs.Prelude.{◌≡◌, ◌-◌, ◌≤◌, length, IfOk};
+ghost use Rattle.step_trace.specs.declared.processors.TheConstants.{MAX_MEMBER};
+ghost use Rattle.step_trace.specs.declared.configurations.TheConstants.{MAX_PROCESSORS};
+ghost use Rattle.step_trace.specs.declared.traces.TheConstants.{MAX_TICKS};
+ghost use Rattle.step_trace.specs.Processors.{IsWithin};
+ghost use Rattle.step_trace.specs.Ticks.{tick_of, IsTrace};
+ghost use Rattle.suffix_staircase.specs.Receives.{IsLastMissByNumber};
+ghost use Rattle.link_bounds.specs.KnownMisses.{KnowsLinks, place_of};
+
+use crate::bounds::LeastBound;
+use crate::copies::copies;
+use std::alloc::{AllocError, Global};
+use step_trace::{MAX_MEMBER, Miss, ProcSet, Trace, receiver};
+use suffix_staircase::step_of;
+
+/// How many places a sender has: one for each receiver, and one for number 0, which is no processor.
+pub(crate) const RECEIVERS: u64 = MAX_MEMBER + 1;
+
+/// What is known of the messages of each link after a step.
+#[derive(Debug, Drop)]
+pub(crate) struct Links {
+    // For each sender and receiver the bound that the misses of their messages leave possible, if there is a message.
+    bounds: Vec<Option<LeastBound<Miss>>>,
+}
+
+impl Links {
+    /// What is known after the last step.
+    pub(crate) fn after_all(alloc: Global, trace: &Trace, set: ProcSet) -> Result<Self, AllocError>
+        ensures { IfOk result (λ links. KnowsLinks set trace.now (length trace.now.steps) links) }
+    {
+        let senders = trace.config().n() + 1;
+        let places = senders * RECEIVERS;
+        Ok(Links {
+            bounds: copies(alloc, None, places as usize)?,
+        })
+    }
+
+    /// Goes back over a step, whose message the Receive of number `missed` is the last to miss.
+    pub(crate) fn step_back(&mut self, trace: &Trace, set: ProcSet, no: u64, missed: u64)
+        requires low { 1 ≤ no }
+        requires high { no ≤ length trace.now.steps }
+        requires within { IsWithin set trace.now.config.n }
+        requires sound { IsTrace trace.now }
+        requires missed { IsLastMissByNumber set trace.now.steps no missed }
+        requires known { KnowsLinks set trace.now no self.old }
+        ensures { KnowsLinks set trace.now (no - 1) self.new }
+    {
+        let Some(to) = receiver(trace, set, no) else {
+            return;
+        };
+        let from = step_of(trace, no).proc;
+        let place = place_of(from, to);
+        let mut bound = self.bounds[place].unwrap_or(LeastBound::without_evidence());
+        let long = tick_of(trace, missed).saturating_sub(trace.tick(no));
+        bound.note(Miss { sent: no, missed }, long);
+        self.bounds[place] = Some(bound);
+    }
+}
+
+/// Where the bound of a link stands.
+fn place_of(from: u64, to: u64) -> usize
+    requires from { from ≤ MAX_PROCESSORS }
+    requires to { to ≤ MAX_MEMBER }
+    ensures { result ≡ place_of from to }
+{
+    (from * RECEIVERS + to) as usize
+}
+
+/// The tick of the step of this number, and 0 for number 0.
+fn tick_of(trace: &Trace, no: u64) -> u64
+    requires { no ≤ length trace.now.steps }
+    ensures value { result ≡ tick_of trace.now no }
+    ensures limit { result ≤ MAX_TICKS }
+{
+    if no == 0 { 0 } else { trace.tick(no) }
+}
