@@ -1,16 +1,14 @@
 -- The misses of one link, going back over a step.
-use Rattle.std.proofs.Common.{ℕ, ◌≡◌, ◌≢◌, ◌+◌, ◌-◌, ◌*◌, ◌<◌, ◌≤◌, ◌⊎◌, inl, inr, List, length, get_or, set, replicate, Option, Some, None, IsTrue, refl, sym, ap, subst, ◌∙◌, arith, get_or-set_same, get_or-set_other}
+use Rattle.std.proofs.Common.{ℕ, ◌≡◌, ◌≢◌, ◌+◌, ◌-◌, ◌*◌, ◌<◌, ◌≤◌, inl, inr, List, length, get_or, set, Option, Some, None, sym, ap, subst, ◌∙◌, arith, get_or-set_same, get_or-set_other}
 use Rattle.std.specs.Prelude.{unwrap_or}
-use Rattle.std.proofs.lemmas.Bool.{cases_eq, cases_lt}
+use Rattle.std.proofs.lemmas.Bool.{cases_eq}
 use Rattle.std.proofs.lemmas.Option.{same_Some}
-use Rattle.std.proofs.lemmas.List.{get_or-replicate}
 use Rattle.step_trace.specs.declared.rows.Miss.{Miss}
-use Rattle.step_trace.specs.declared.steps.Act.TheVariants.{Send}
 use Rattle.step_trace.specs.declared.steps.Step.{Step}
 use Rattle.step_trace.specs.declared.processors.TheConstants.{MAX_MEMBER}
 use Rattle.step_trace.specs.Steps.{act_dest}
-use Rattle.step_trace.specs.Traces.{Recorded, step_at}
-use Rattle.step_trace.specs.Ticks.{tick_of, IsTrace}
+use Rattle.step_trace.specs.Traces.{Recorded}
+use Rattle.step_trace.specs.Ticks.{tick_of}
 use Rattle.step_trace.specs.Bounds.{IsMessage}
 use Rattle.step_trace.specs.Witnesses.{IsMiss}
 use Rattle.step_trace.proofs.StepPositions.{step_at_within}
@@ -18,8 +16,8 @@ use Rattle.suffix_staircase.proofs.MissNumbers.{IsLastMissOf}
 use Rattle.link_bounds.specs.declared.bounds.LeastBound.{LeastBound}
 use Rattle.link_bounds.specs.declared.links.Links.{Links}
 use Rattle.link_bounds.specs.declared.links.TheConstants.{RECEIVERS}
-use Rattle.link_bounds.specs.Evidence.{AllowsAll, noted, without_evidence}
-use Rattle.link_bounds.specs.Links.{IsMessageOn, IsLinkMiss}
+use Rattle.link_bounds.specs.Evidence.{noted, without_evidence}
+use Rattle.link_bounds.specs.Links.{IsMessageOn}
 use Rattle.link_bounds.specs.KnownMisses.{IsLaterMiss, KnowsMissesOf, KnowsLink, KnowsLinks, place_of}
 use Rattle.link_bounds.proofs.NotedEvidence.{GrowsBy, AllowsAll-noted, AllowsAll-nothing, AllowsAll-same}
 
@@ -39,12 +37,11 @@ KnowsLink-pass members t p q x None low other k = λ s later m. elim (cases_eq s
 ]
 KnowsLink-pass members t p q x (Some bound) low other k =
     let some = k.0 in
-    let after = some.1 in
-    (
+    let after = some.1 in (
       (some.0, omega arith, some.2),
       AllowsAll-same Miss (λ m. m.sent) (λ m. tick_of t m.sent) (λ m. tick_of t m.missed) (IsLaterMiss members t p q x) (IsLaterMiss members t p q (x - 1)) bound
-      (λ m o. record { miss = o.miss; after = let a = o.after in omega arith })
-      (λ m o. record { miss = o.miss; after = later m o }) k.1,
+          (λ m o. record { miss = o.miss; after = let a = o.after in omega arith })
+          (λ m o. record { miss = o.miss; after = later m o }) k.1,
     ) where
       later : (m : Miss) → IsLaterMiss members t p q (x - 1) m → x < m.sent
       later m o = elim (cases_eq m.sent x) [

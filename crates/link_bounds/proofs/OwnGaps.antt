@@ -1,5 +1,5 @@
 -- The gaps of one processor, going back over its steps.
-use Rattle.std.proofs.Common.{ℕ, ◌≡◌, ◌+◌, ◌-◌, ◌<◌, ◌≤◌, ◌==◌, ◌&&◌, inl, inr, List, length, get_or, set, replicate, get_or-set_same, get_or-set_other, ◌≢◌, suc, zero, Some, IsTrue, true, refl, sym, ap, subst, ◌∙◌, arith}
+use Rattle.std.proofs.Common.{ℕ, ◌≡◌, ◌+◌, ◌-◌, ◌<◌, ◌≤◌, inl, inr, List, length, get_or, set, get_or-set_same, get_or-set_other, ◌≢◌, Some, IsTrue, true, refl, sym, subst, arith}
 use Rattle.std.specs.Prelude.{nat_lt, nat_le}
 use Rattle.std.proofs.lemmas.Bool.{cases_eq, cases_lt}
 use Rattle.std.proofs.lemmas.Bool.Decides.{nat_tests}
@@ -14,8 +14,7 @@ use Rattle.step_trace.specs.Ticks.{tick_of, IsTimed, StepsIn}
 use Rattle.step_trace.specs.Witnesses.{IsGap}
 use Rattle.step_trace.proofs.StepPositions.{step_at_within}
 use Rattle.step_trace.proofs.TickOrder.{ticks_rise, own_ticks_rise}
-use Rattle.suffix_staircase.specs.NextSteps.{IsNextTick, AreNextTicks}
-use Rattle.suffix_staircase.proofs.NextSteps.{AreNextTicks-back}
+use Rattle.suffix_staircase.specs.NextSteps.{IsNextTick}
 use Rattle.link_bounds.specs.declared.bounds.LeastBound.{LeastBound}
 use Rattle.link_bounds.specs.Evidence.{noted, without_evidence}
 use Rattle.link_bounds.specs.Links.{only}
@@ -106,13 +105,13 @@ KnowsGapsOf-step : (t : Recorded) (p g : ℕ) (bound : LeastBound Gap) → 1 ≤
 KnowsGapsOf-step t p g bound low steps k = AllowsAll-same Gap (λ w. w.from) (λ w. w.from) (λ w. w.to + 1) (IsOwnGap t p (g + 1)) (IsOwnGap t p g) bound
     (λ w o. record { gap = o.gap; from = let from = o.from in omega arith })
     (λ w o. record { gap = o.gap; from = later w o }) k where
-  later : (w : Gap) → IsOwnGap t p g w → g + 1 ≤ w.from
-  later w o = elim (cases_eq w.from g) [
-    | inl e ↦ absurd (let gap = o.gap in let order = gap.order in
-        let own = only_member p w.proc low gap.member in
-        gap.silent g (omega arith) (omega arith) (subst (λ (q : ℕ). StepsIn t g q) (sym own) steps))
-    | inr ne ↦ (let from = o.from in omega (arith, ne))
-  ]
+      later : (w : Gap) → IsOwnGap t p g w → g + 1 ≤ w.from
+      later w o = elim (cases_eq w.from g) [
+        | inl e ↦ absurd (let gap = o.gap in let order = gap.order in
+            let own = only_member p w.proc low gap.member in
+            gap.silent g (omega arith) (omega arith) (subst (λ (q : ℕ). StepsIn t g q) (sym own) steps))
+        | inr ne ↦ (let from = o.from in omega (arith, ne))
+      ]
 
 -- after a step of p, its next step is in a later tick
 IsNextFrom-step : (t : Recorded) → IsTimed t → (x next : ℕ) (s : Step) → step_at t.steps x ≡ Some s → IsNextTick t s.proc x next → IsNextFrom t s.proc (tick_of t x + 1) x next

@@ -1,8 +1,9 @@
 -- What is known of the gaps of each processor after a step.
-use Rattle.std.specs.Prelude.{ℕ, ◌≡◌, ◌+◌, ◌-◌, ◌≤◌, List, length, slice_index, slice_index_or}
+use Rattle.std.specs.Prelude.{ℕ, ◌≡◌, ◌+◌, ◌-◌, ◌≤◌, length, slice_index, slice_index_or}
 use Rattle.step_trace.specs.declared.rows.Gap.{Gap}
 use Rattle.step_trace.specs.declared.processors.TheConstants.{MAX_MEMBER}
 use Rattle.step_trace.specs.Traces.{Recorded}
+use Rattle.step_trace.specs.Ticks.{IsTrace}
 use Rattle.step_trace.specs.Witnesses.{IsGap}
 use Rattle.suffix_staircase.specs.NextSteps.{AreNextTicks}
 use Rattle.link_bounds.specs.declared.bounds.LeastBound.{LeastBound}
@@ -21,6 +22,7 @@ KnowsGapsOf trace p g bound = AllowsAll Gap (IsOwnGap trace p g) (λ w. w.from) 
 
 -- what is known of the gaps of each processor after number done
 pub record KnowsPaces (trace : Recorded) (done : ℕ) (paces : Paces) : Type 0 where
+  pub sound : IsTrace trace
   pub few : trace.config.n ≤ MAX_MEMBER
   pub next : AreNextTicks trace done paces.next_steps.items
   pub long : length paces.bounds.items ≡ trace.config.n + 1

@@ -1,5 +1,5 @@
 -- What a backward pass knows after a step, and the rows that were listed so far.
-use Rattle.std.specs.Prelude.{ℕ, ◌≡◌, ◌+◌, ◌<◌, ◌≤◌, List, length, Some, Contains, AllPairs, IsTrue}
+use Rattle.std.specs.Prelude.{ℕ, ◌≡◌, ◌+◌, ◌<◌, ◌≤◌, List, Some, Contains, AllPairs, IsTrue}
 use Rattle.step_trace.specs.declared.rows.Miss.{Miss}
 use Rattle.step_trace.specs.declared.rows.Gap.{Gap}
 use Rattle.step_trace.specs.declared.steps.Step.{Step}
@@ -9,6 +9,8 @@ use Rattle.step_trace.specs.Ticks.{tick_of}
 use Rattle.suffix_staircase.specs.Receives.{KnowsReceives}
 use Rattle.link_bounds.specs.declared.bounds.LeastBound.{LeastBound}
 use Rattle.link_bounds.specs.declared.links.TheConstants.{RECEIVERS}
+use Rattle.link_bounds.specs.declared.links.Links.{Links}
+use Rattle.link_bounds.specs.declared.paces.Paces.{Paces}
 use Rattle.link_bounds.specs.declared.passes.Pass.{Pass}
 use Rattle.link_bounds.specs.declared.rows.BoundRow.{BoundRow}
 use Rattle.link_bounds.specs.declared.rows.BoundRow.TheVariants.{Phi, Delta}
@@ -27,6 +29,24 @@ pub record KnowsAfter (set : ℕ) (trace : Recorded) (done : ℕ) (pass : Pass) 
 pub record AreBefore (trace : Recorded) (g done : ℕ) : Type 0 where
   pub below : (k : ℕ) (x : Step) → step_at trace.steps k ≡ Some x → k ≤ done → tick_of trace k < g
   pub above : (k : ℕ) (x : Step) → step_at trace.steps k ≡ Some x → done < k → g ≤ tick_of trace k
+
+-- the pass has gone back over the steps from tick g on
+pub record KnowsFrom (set : ℕ) (trace : Recorded) (g : ℕ) (pass : Pass) : Type 0 where
+  pub done : ℕ
+  pub known : KnowsAfter set trace done pass
+  pub before : AreBefore trace g done
+
+-- so do the gaps that it knows
+pub record KnowsPacesFrom (trace : Recorded) (g : ℕ) (paces : Paces) : Type 0 where
+  pub done : ℕ
+  pub known : KnowsPaces trace done paces
+  pub before : AreBefore trace g done
+
+-- and the misses
+pub record KnowsLinksFrom (set : ℕ) (trace : Recorded) (g : ℕ) (links : Links) : Type 0 where
+  pub done : ℕ
+  pub known : KnowsLinks set trace done links
+  pub before : AreBefore trace g done
 
 -- where a row stands among all that may be
 abbrev pub rank_of : BoundRow → ℕ

@@ -1,16 +1,20 @@
 //! How late the messages of each processor to each other are: their misses, going back over a trace.
 
-ghost use Rattle.std.specs.Prelude.{◌≡◌, ◌-◌, ◌≤◌, length, IfOk};
+ghost use Rattle.std.specs.Prelude.{◌≡◌, ℕ, ◌-◌, ◌/◌, ◌%◌, ◌≤◌, length, IfOk, OnOk};
 ghost use Rattle.step_trace.specs.declared.processors.TheConstants.{MAX_MEMBER};
 ghost use Rattle.step_trace.specs.declared.configurations.TheConstants.{MAX_PROCESSORS};
 ghost use Rattle.step_trace.specs.declared.traces.TheConstants.{MAX_TICKS};
 ghost use Rattle.step_trace.specs.Processors.{IsWithin};
-ghost use Rattle.step_trace.specs.Ticks.{tick_of, IsTrace};
+ghost use Rattle.step_trace.specs.Ticks.{tick_of, IsTimed, IsTrace};
+ghost use Rattle.step_trace.specs.Traces.{Recorded};
 ghost use Rattle.suffix_staircase.specs.Receives.{IsLastMissByNumber};
+ghost use Rattle.link_bounds.specs.Passes.{KnowsLinksFrom, ListsBefore};
+ghost use Rattle.link_bounds.specs.Rows.{AreRows};
 ghost use Rattle.link_bounds.specs.KnownMisses.{KnowsLinks, place_of};
 
 use crate::bounds::LeastBound;
 use crate::copies::copies;
+use crate::rows::BoundRow;
 use std::alloc::{AllocError, Global};
 use step_trace::{MAX_MEMBER, Miss, ProcSet, Trace, receiver};
 use suffix_staircase::step_of;
@@ -56,6 +60,30 @@ impl Links {
         let long = tick_of(trace, missed).saturating_sub(trace.tick(no));
         bound.note(Miss { sent: no, missed }, long);
         self.bounds[place] = Some(bound);
+    }
+
+    /// Pushes the row of each link that has a message, after those of processors.
+    pub(crate) fn push_rows(&self, rows: &mut Vec<BoundRow>) -> Result<(), AllocError>
+        ensures { (set : ℕ) (trace : Recorded) (at : ℕ) → IsTimed trace → IsWithin set trace.config.n → KnowsLinksFrom set trace at self.now
+            → ListsBefore set trace at RECEIVERS rows.old.items → OnOk result (AreRows set trace at rows.new.items) }
+    {
+        for place in 0..self.bounds.len() {
+            if let Some(bound) = self.bounds[place] {
+                rows.push(row_at(place as u64, bound))?;
+            }
+        }
+        Ok(())
+    }
+}
+
+/// The row of the link whose bound stands at this place.
+fn row_at(place: u64, bound: LeastBound<Miss>) -> BoundRow
+    ensures { result ≡ BoundRow.Delta (place / RECEIVERS) (place % RECEIVERS) bound }
+{
+    BoundRow::Delta {
+        from: place / RECEIVERS,
+        to: place % RECEIVERS,
+        bound,
     }
 }
 

@@ -1,20 +1,24 @@
 //! How slow each processor is: the gaps between its steps, going back over a trace.
 
-ghost use Rattle.std.specs.Prelude.{◌≡◌, ◌+◌, ◌-◌, ◌<◌, ◌≤◌, length, slice_index, IfOk};
+ghost use Rattle.std.specs.Prelude.{◌≡◌, ◌+◌, ◌-◌, ◌<◌, ◌≤◌, length, slice_index, [], IfOk, OnOk};
 ghost use Rattle.step_trace.specs.declared.traces.TheConstants.{MAX_TICKS};
-ghost use Rattle.step_trace.specs.Ticks.{IsTimed};
+ghost use Rattle.step_trace.specs.Processors.{IsWithin};
+ghost use Rattle.link_bounds.specs.declared.links.TheConstants.{RECEIVERS};
+ghost use Rattle.link_bounds.specs.Passes.{KnowsPacesFrom, ListsBefore};
 ghost use Rattle.link_bounds.specs.KnownGaps.{KnowsPaces, bound_from};
 
 use crate::bounds::LeastBound;
 use crate::copies::copies;
+use crate::rows::BoundRow;
 use std::alloc::{AllocError, Global};
-use step_trace::{Gap, Trace};
-use suffix_staircase::{no_next_steps, step_of};
+use step_trace::{Gap, ProcSet, Trace};
+use suffix_staircase::step_of;
 
 /// What is known of the gaps of each processor after a step.
 #[derive(Debug, Drop)]
 pub(crate) struct Paces {
-    // For each processor the tick of its next step: one after the last where there is none.
+    // For each processor the tick of its next step: one after the last where there is none. The entry of number 0, which is
+    // no processor, is 0.
     next_steps: Vec<u64>,
     // For each processor the bound that its gaps from its next step on leave possible.
     bounds: Vec<LeastBound<Gap>>,
@@ -26,8 +30,10 @@ impl Paces {
         ensures { IfOk result (λ paces. KnowsPaces trace.now (length trace.now.steps) paces) }
     {
         let processors = trace.config().n() as usize + 1;
+        let mut next_steps = copies(alloc, trace.last_tick() + 1, processors)?;
+        next_steps[0] = 0;
         Ok(Paces {
-            next_steps: no_next_steps(alloc, trace)?,
+            next_steps,
             bounds: copies(alloc, LeastBound::without_evidence(), processors)?,
         })
     }
@@ -36,7 +42,6 @@ impl Paces {
     pub(crate) fn step_back(&mut self, trace: &Trace, no: u64)
         requires low { 1 ≤ no }
         requires high { no ≤ length trace.now.steps }
-        requires timed { IsTimed trace.now }
         requires known { KnowsPaces trace.now no self.old }
         ensures { KnowsPaces trace.now (no - 1) self.new }
     {
@@ -65,7 +70,7 @@ impl Paces {
         bound
     }
 
-    /// Pushes the row of each member from tick `at` on, before which so many steps come.
+    /// Pushes the row of each member, from the tick on to which the steps were gone over.
     pub(crate) fn push_rows(
         &self,
         trace: &Trace,
@@ -73,7 +78,12 @@ impl Paces {
         at: u64,
         rows: &mut Vec<BoundRow>,
     ) -> Result<(), AllocError>
+        requires within { IsWithin set trace.now.config.n }
+        requires start { 1 ≤ at }
+        requires end { at ≤ trace.now.last + 1 }
+        requires known { KnowsPacesFrom trace.now at self.now }
         requires none { rows.old.items ≡ [] }
+        ensures { OnOk result (ListsBefore set trace.now at RECEIVERS rows.new.items) }
     {
         for proc in 1..trace.config().n() + 1 {
             if set.contains(proc) {

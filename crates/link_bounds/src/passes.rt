@@ -3,8 +3,7 @@
 ghost use Rattle.std.specs.Prelude.{◌+◌, ◌-◌, ◌≤◌, length, IfOk};
 ghost use Rattle.step_trace.specs.Processors.{IsWithin};
 ghost use Rattle.step_trace.specs.Bounds.{IsDelta, IsPhi};
-ghost use Rattle.step_trace.specs.Ticks.{IsTrace};
-ghost use Rattle.link_bounds.specs.Passes.{AreBefore, KnowsAfter};
+ghost use Rattle.link_bounds.specs.Passes.{KnowsAfter, KnowsFrom};
 ghost use Rattle.link_bounds.specs.Rows.{AreRows, greatest_delta, greatest_phi};
 
 use crate::links::Links;
@@ -36,21 +35,18 @@ impl Pass {
         })
     }
 
-    /// Goes back over the steps in tick `at` and later. Gives how many steps come before.
-    fn back_to(&mut self, trace: &Trace, at: u64) -> u64
+    /// Goes back over the steps in tick `at` and later.
+    fn back_to(&mut self, trace: &Trace, at: u64)
         requires within { IsWithin self.old.set trace.now.config.n }
-        requires sound { IsTrace trace.now }
         requires known { KnowsAfter self.old.set trace.now (length trace.now.steps) self.old }
-        ensures known { KnowsAfter self.old.set trace.now result self.new }
-        ensures before { AreBefore trace.now at result }
+        ensures { KnowsFrom self.old.set trace.now at self.new }
     {
         for no in (1..trace.len() as u64 + 1).rev() {
             if trace.tick(no) < at {
-                return no;
+                return;
             }
             self.step_back(trace, no);
         }
-        0
     }
 
     /// Goes back over a step.
@@ -58,7 +54,6 @@ impl Pass {
         requires low { 1 ≤ no }
         requires high { no ≤ length trace.now.steps }
         requires within { IsWithin self.old.set trace.now.config.n }
-        requires sound { IsTrace trace.now }
         requires known { KnowsAfter self.old.set trace.now no self.old }
         ensures { KnowsAfter self.old.set trace.now (no - 1) self.new }
     {

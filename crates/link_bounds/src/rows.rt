@@ -7,7 +7,10 @@ use step_trace::{Gap, Miss};
 #[derive(Clone, Copy, Debug, PartialEq, Eq)]
 pub enum BoundRow {
     /// The processor bound of one processor, with its named gap.
-    Phi { proc: u64, bound: LeastBound<Gap> },
+    Phi {
+        proc: u64,
+        bound: LeastBound<Gap>,
+    },
     /// The communication bound of the messages of one processor to another, or to itself, with its named miss.
     Delta {
         from: u64,

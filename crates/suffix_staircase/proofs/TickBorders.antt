@@ -18,7 +18,7 @@ pub record IsBorder (trace : Recorded) (done g : ℕ) : Type 0 where
   pub below : (k : ℕ) (x : Step) → step_at trace.steps k ≡ Some x → g ≤ tick_of trace k → done < k
 
 -- a number up to that of the last step is 0 or that of a step
-step_or_zero : (steps : List Step) (k : ℕ) → k ≤ length steps → (k ≡ 0) ⊎ ((z : Step) × (step_at steps k ≡ Some z))
+pub step_or_zero : (steps : List Step) (k : ℕ) → k ≤ length steps → (k ≡ 0) ⊎ ((z : Step) × (step_at steps k ≡ Some z))
 step_or_zero steps zero l = inl refl
 step_or_zero steps (suc k) l = inr (found steps k (omega arith)) where
   found : (steps : List Step) (k : ℕ) → k < length steps → (z : Step) × (step_at steps (suc k) ≡ Some z)

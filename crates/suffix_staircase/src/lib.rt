@@ -10,6 +10,5 @@ mod stretches;
 
 pub use backward_pass::{note_gap, note_miss};
 pub use levels::Level;
-pub use next_steps::no_next_steps;
 pub use receives::{Receives, step_of};
 pub use staircases::{StairBuilder, Stairs};

@@ -67,7 +67,7 @@ impl NextSteps {
 }
 
 /// The next steps from the end of a trace on: each is one after the last tick.
-pub fn no_next_steps(alloc: Global, trace: &Trace) -> Result<Vec<u64>, AllocError>
+fn no_next_steps(alloc: Global, trace: &Trace) -> Result<Vec<u64>, AllocError>
     ensures { IfOk result (λ n. AreNextTicks trace.now (length trace.now.steps) n.items) }
 {
     let processors = trace.config().n() as usize + 1;

@@ -1,8 +1,7 @@
-use Rattle.std.proofs.Common.{ℕ, ◌≡◌, ◌+◌, ◌-◌, ◌*◌, ◌<◌, ◌≤◌, List, length, get_or, set, Option, None, IsTrue, ◌∙◌, sym, ap, subst, arith}
+use Rattle.std.proofs.Common.{ℕ, ◌≡◌, ◌-◌, ◌<◌, length, get_or, Option, None, ◌∙◌, sym, ap, subst, arith}
 use Rattle.std.proofs.lemmas.List.{length-set, get_or_read}
 use Rattle.std.proofs.lemmas.Option.{same_Some}
 use Rattle.step_trace.specs.declared.steps.Step.{Step}
-use Rattle.step_trace.specs.Processors.{has_proc}
 use Rattle.suffix_staircase.proofs.LongestGaps.{member_range}
 use Rattle.suffix_staircase.proofs.MissNumbers.{IsLastMissOf-from_numbers, last_miss_bound}
 use Rattle.link_bounds.specs.Evidence.{noted, without_evidence}
@@ -40,11 +39,11 @@ returns c =
     let at = place_of from to in
     let slot : c.index.result.now ≡ get_or bounds at None = get_or_read bounds at c.index.result.now place (rw c.place_of-place.ensures at c.index.ensures) None in
     let bound : c.unwrap_or-bound.result ≡ unwrap_or (get_or bounds at None) without_evidence =
-            c.unwrap_or-bound.ensures ∙ ap (λ (b : LeastBound Miss). unwrap_or c.index.result.now b) c.without_evidence.ensures ∙ ap (λ (o : Option (LeastBound Miss)). unwrap_or o without_evidence) slot in
+    c.unwrap_or-bound.ensures ∙ ap (λ (b : LeastBound Miss). unwrap_or c.index.result.now b) c.without_evidence.ensures ∙ ap (λ (o : Option (LeastBound Miss)). unwrap_or o without_evidence) slot in
     let span : c.saturating_sub-long.result ≡ tick_of t c.args.missed - tick_of t c.args.no = omega (arith, c.saturating_sub-long.ensures, c.tick_of.ensures.value, c.tick.ensures.value) in
     let miss : Miss = record { sent = c.args.no; missed = c.args.missed } in
     let new : c.note.new.self ≡ noted (unwrap_or (get_or bounds at None) without_evidence) miss (tick_of t c.args.missed - tick_of t c.args.no) =
-            c.note.ensures ∙ ap (λ (b : LeastBound Miss). noted b miss c.saturating_sub-long.result) bound ∙ ap (λ (n : ℕ). noted (unwrap_or (get_or bounds at None) without_evidence) miss n) span in
+    c.note.ensures ∙ ap (λ (b : LeastBound Miss). noted b miss c.saturating_sub-long.result) bound ∙ ap (λ (n : ℕ). noted (unwrap_or (get_or bounds at None) without_evidence) miss n) span in
     record {
       long = length-set bounds _ _ ∙ known.long;
       each = λ p q a b. rw (c.place_of-place.ensures, new) (each p q a b);
