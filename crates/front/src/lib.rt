@@ -12,6 +12,6 @@ pub mod row_records;
 
 pub use refusals::ReportError;
 pub use report_reading::read_report;
-pub use report_texts::{report_text_of, write_report};
+pub use report_texts::{push_entry, report_text_of, write_report};
 pub use reports::{Report, front};
 pub use step_trace::Row;

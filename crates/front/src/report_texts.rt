@@ -82,8 +82,12 @@ fn write_row(alloc: Global, writer: &mut Writer<Vec<u8>>, row: &Row) -> Result<(
     write_byte_record(writer, &fields)
 }
 
-/// One more field: a number, or none.
-fn push_entry(alloc: Global, fields: &mut ByteRecord, entry: Option<u64>) -> Result<(), AllocError>
+/// One more field: a number, or none. Refuses only for want of memory.
+pub fn push_entry(
+    alloc: Global,
+    fields: &mut ByteRecord,
+    entry: Option<u64>,
+) -> Result<(), AllocError>
     requires { partial_of fields.old ≡ [] }
     ensures whole { OnOk result (partial_of fields.new ≡ []) }
     ensures text { OnOk result (fields_of fields.new ≡ fields_of fields.old ++ entry_text entry ∷ []) }

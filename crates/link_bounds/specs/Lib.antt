@@ -4,3 +4,4 @@ pub mod Evidence
 pub mod KnownGaps
 pub mod KnownMisses
 pub mod Passes
+pub mod RowTexts

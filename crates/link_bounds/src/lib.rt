@@ -1,5 +1,5 @@
 //! Who is to blame for the bounds of a trace: the least bounds of each processor and of each link from one tick on, found by
-//! one backward pass.
+//! one backward pass, and their text.
 #![tactic(auto)]
 
 mod bounds;
@@ -7,8 +7,10 @@ mod copies;
 mod links;
 mod paces;
 mod passes;
+mod row_texts;
 mod rows;
 
 pub use bounds::LeastBound;
 pub use passes::bound_rows;
+pub use row_texts::bounds_text_of;
 pub use rows::BoundRow;
