@@ -18,6 +18,7 @@ use Rattle.text_commands.specs.Answers.{IsAnswerTo, IsUnanswered}
 use Rattle.text_commands.specs.Briefs.{IsBriefOf, IsNoBrief}
 use Rattle.text_commands.specs.Checks.{IsUnchecked}
 use Rattle.text_commands.specs.Drawings.{IsDrawingOf, IsUndrawnTrace}
+use Rattle.text_commands.specs.EachBounds.{IsEachOf, IsNoEach}
 use Rattle.text_commands.specs.Imports.{IsImportOptionFault, IsUnimported}
 use Rattle.text_commands.specs.Replays.{IsOffRun, IsReplayOf}
 use Rattle.text_commands.specs.ReportParts.{IsPartOfReport, IsUntoldPart}
@@ -103,6 +104,7 @@ IsUnimportedFor given log w = IsImportOptionFault (option_map string_bytes given
 abbrev pub IsPrintedFor : Job → List ℕ → List ℕ → ℕ → List ℕ → Type 0
 IsPrintedFor (job.Report j) text second = IsPrintedOf (string_bytes j.file) (IsAnswerTo (IsPartOfReport j.part) text)
 IsPrintedFor (job.Brief j) text second = IsPrintedOf (string_bytes j.file) (IsAnswerTo (IsBriefOf j.brief) text)
+IsPrintedFor (job.Each j) text second = IsPrintedOf (string_bytes j.file) (IsAnswerTo (IsEachOf j.each) text)
 IsPrintedFor (job.Replay j) text second = IsPrintedOf (string_bytes j.file) (IsAnswerTo IsReplayOf text)
 IsPrintedFor (job.Upgrade j) text second = IsPrintedOf (string_bytes j.file) (IsAnswerTo IsUpgradeOf text)
 IsPrintedFor (job.Draw j) text second = IsPrintedOf (string_bytes j.file) (IsAnswerTo (IsDrawingOf j.drawing) text)
@@ -115,6 +117,7 @@ IsPrintedFor (job.Run j) text second = λ status out. ⊥
 abbrev pub IsUnprintedFor : Job → List ℕ → List ℕ → Fault → Type 0
 IsUnprintedFor (job.Report j) text second = IsUnprintedOf (string_bytes j.file) (IsUnanswered (IsUntoldPart j.part) text)
 IsUnprintedFor (job.Brief j) text second = IsUnprintedOf (string_bytes j.file) (IsUnanswered (IsNoBrief j.brief) text)
+IsUnprintedFor (job.Each j) text second = IsUnprintedOf (string_bytes j.file) (IsUnanswered (IsNoEach j.each) text)
 IsUnprintedFor (job.Replay j) text second = IsUnprintedOf (string_bytes j.file) (IsUnanswered IsOffRun text)
 IsUnprintedFor (job.Upgrade j) text second = IsUnprintedOf (string_bytes j.file) (IsUnanswered IsNothingElse text)
 IsUnprintedFor (job.Draw j) text second = IsUnprintedOf (string_bytes j.file) (IsUnanswered (IsUndrawnTrace j.drawing) text)

@@ -66,6 +66,17 @@ pub struct Brief {
     pub until: Option<u64>,
 }
 
+/// Of which trace, and from which tick on, the bounds of each processor and of each link are asked for.
+#[derive(Debug, Drop)]
+pub struct Each {
+    /// The processors that count as correct.
+    pub correct: Correct,
+    /// The tick up to which the trace counts, as if it had ended there: all of it where there is none.
+    pub until: Option<u64>,
+    /// The tick from which on the bounds hold: 1 where there is none.
+    pub at: Option<u64>,
+}
+
 /// What a certificate is checked for.
 #[derive(Debug, Drop)]
 pub struct Claim {

@@ -10,4 +10,5 @@ pub mod Replays
 pub mod Upgrades
 pub mod Checks
 pub mod Briefs
+pub mod EachBounds
 pub mod Imports

@@ -8,6 +8,7 @@ mod answers;
 mod briefs;
 mod checks;
 mod drawings;
+mod each_bounds;
 mod import_lines;
 mod imports;
 mod replay_texts;

@@ -81,7 +81,7 @@ fn row_at(alloc: Global, trace: &Trace, set: ProcSet, tick: u64) -> Result<Row, 
 }
 
 /// The fault of a tick that the trace hasn't, for which this option asks.
-fn outside(option: ReportOption, trace: &Trace, tick: u64) -> Fault
+pub(crate) fn outside(option: ReportOption, trace: &Trace, tick: u64) -> Fault
     ensures { result ≡ Fault.Report option (record { tick = tick; last = trace.now.last }) }
 {
     let last = trace.last_tick();
@@ -89,7 +89,7 @@ fn outside(option: ReportOption, trace: &Trace, tick: u64) -> Fault
 }
 
 /// Whether this is a tick of the trace.
-fn has_tick(trace: &Trace, tick: u64) -> bool
+pub(crate) fn has_tick(trace: &Trace, tick: u64) -> bool
     ensures exact { IsTrue result ↔ IsTickOf trace.now tick }
     ensures timed { IsTimed trace.now }
 {

@@ -10,6 +10,10 @@ pub returns-in-Brief-clause-printed : goal.returns-in-Brief-clause-printed
 returns-in-Brief-clause-printed c = rw c.in-Brief.is (rw (sym c.as_str-in-Brief.ensures.value) c.answer-in-Brief.ensures.printed)
 
 -- src/jobs.rt:39:1
+pub returns-in-Each-clause-printed : goal.returns-in-Each-clause-printed
+returns-in-Each-clause-printed c = rw c.in-Each.is (rw (sym c.as_str-in-Each.ensures.value) c.answer-in-Each.ensures.printed)
+
+-- src/jobs.rt:39:1
 pub returns-in-Replay-clause-printed : goal.returns-in-Replay-clause-printed
 returns-in-Replay-clause-printed c = rw c.in-Replay.is (rw (sym c.as_str-in-Replay.ensures.value) c.answer-in-Replay.ensures.printed)
 
