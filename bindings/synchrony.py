@@ -68,6 +68,19 @@ class Row(NamedTuple):
     to_tick: Optional[int]
 
 
+class Bound(NamedTuple):
+    """A least bound of one processor or of one link from a tick on. `bound` is "phi" or "delta". Of "phi" `to` is None, and the
+    processor `proc` takes no step from tick `first` to tick `last`; of "delta" the message of the step `first` from `proc` to
+    `to` wasn't delivered at the step `last`. At a value of 1 `first` and `last` are None."""
+
+    bound: str
+    proc: int
+    to: Optional[int]
+    value: int
+    first: Optional[int]
+    last: Optional[int]
+
+
 @dataclass(frozen=True)
 class Verdict:
     """What a check says of a certificate: it is true if the certificate's rows are the report of the trace. Else `reason`
@@ -105,6 +118,12 @@ def report_part(trace: bytes, correct: Correct, until: Optional[int] = None, at:
 def brief(trace: bytes, correct: Correct, until: Optional[int] = None) -> list[Row]:
     """The rows of a report that name other evidence than the row before."""
     return _rows(_asked("brief", trace, correct=correct, until=until))
+
+
+def each(trace: bytes, correct: Correct, at: Optional[int] = None, until: Optional[int] = None) -> list[Bound]:
+    """The bounds of each processor and of each link from the tick `at` on, of the trace as if it had ended at `until`."""
+    lines = _asked("each", trace, correct=correct, at=at, until=until).decode().splitlines()[1:]
+    return [Bound(bound, *[int(it) if it else None for it in rest]) for bound, *rest in (line.split(",") for line in lines)]
 
 
 def replay(trace: bytes) -> bytes:

@@ -2,7 +2,7 @@
 
 use chunk_join::MAX_WORKERS;
 use command_faults::{Fault, fault_text, status};
-use command_options::{Brief, Claim, ReportPart};
+use command_options::{Brief, Claim, Each, ReportPart};
 use std::alloc::{AllocError, Global};
 use std::sync::Wait;
 use std::thread::Threads;
@@ -18,6 +18,7 @@ pub(crate) enum Command<'a> {
     /// With the tick up to which the trace is reported, and the tick whose row is printed.
     Part(&'a str, Option<u64>, Option<u64>),
     Brief(&'a str),
+    Each(&'a str),
     Replay,
     Upgrade,
     Check(&'a str, &'a str),
@@ -87,6 +88,14 @@ pub(crate) fn ended<T: Threads + Wait + Sync>(
                 until: None,
             };
             serve(alloc, &brief, &mut trace, &mut Counting::new(writer))?;
+        }
+        Command::Each(list) => {
+            let each = Each {
+                correct: named(list)?,
+                until: None,
+                at: None,
+            };
+            serve(alloc, &each, &mut trace, &mut Counting::new(writer))?;
         }
         Command::Replay => run_replay(alloc, &mut trace, &mut Counting::new(writer))?,
         Command::Upgrade => serve(alloc, &Upgrade, &mut trace, &mut Counting::new(writer))?,
