@@ -11,7 +11,7 @@ use std::thread::Threads;
 use test_support::report_text;
 use test_support::texts::{
     DECIDES_SEVEN, DECIDES_SEVEN_REPLAY, NEVER_DELIVERED, NEVER_DELIVERED_REPORT, ONE_MISS,
-    ONE_MISS_REPORT, ONE_MISS_UPGRADE,
+    ONE_MISS_EACH, ONE_MISS_REPORT, ONE_MISS_UPGRADE,
 };
 use trace_text::failing_devices::{AfterBytes, FailingWriter, WriteFailure};
 
@@ -128,9 +128,6 @@ fn endless_texts_are_refused(rt: HostRuntime) -> Result<(), Fail> {
 
 /// The rows of the report of `ONE_MISS` that name other evidence than the row before.
 const ONE_MISS_BRIEF: &str = report_text!("1,2,3,1,2,1,2,3\n2,1,3,,,1,2,3\n");
-
-/// The bounds of each processor and of each link of `ONE_MISS`.
-const ONE_MISS_EACH: &str = "bound,proc,to,value,first,last\nphi,1,,3,2,3\nphi,2,,2,1,1\ndelta,1,2,2,1,2\n";
 
 /// Commands, their trace texts, and what they write where the device doesn't fail.
 const WRITTEN: &[(Command, &str, &str)] = &[

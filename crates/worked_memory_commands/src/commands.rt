@@ -2,7 +2,7 @@
 
 use chunk_join::MAX_WORKERS;
 use command_faults::Fault;
-use command_options::{Claim, Drawing, ReportPart};
+use command_options::{Claim, Drawing, Each, ReportPart};
 use refused_growths::{Outcome, Refusal, judged};
 use std::alloc::{AllocError, Global};
 use std::sync::Wait;
@@ -10,7 +10,7 @@ use std::thread::Threads;
 use step_trace::{Correct, OpenGate};
 use test_support::texts::{
     DECIDES_SEVEN, DECIDES_SEVEN_REPLAY, NEVER_DELIVERED, NEVER_DELIVERED_REPORT, ONE_MISS,
-    ONE_MISS_UPGRADE, SMALL_PHI, UNTIL_THREE_AT_TWO,
+    ONE_MISS_EACH, ONE_MISS_UPGRADE, SMALL_PHI, UNTIL_THREE_AT_TWO,
 };
 use text_commands::{
     Upgrade, import_options, run_check, run_import, run_replay, run_report, serve,
@@ -42,6 +42,7 @@ enum Command {
     Report(u64),
     /// Up to a tick, and the row of a tick.
     Part(u64, u64),
+    Each,
     Replay,
     Upgrade,
     /// Of this certificate.
@@ -89,6 +90,14 @@ fn ended<T: Threads + Wait + Sync>(
                 at: Some(at),
             };
             serve(alloc, &part, &mut trace, &mut output)
+        }
+        Command::Each => {
+            let each = Each {
+                correct: Correct::All,
+                until: None,
+                at: None,
+            };
+            serve(alloc, &each, &mut trace, &mut output)
         }
         Command::Replay => run_replay(alloc, &mut trace, &mut output),
         Command::Upgrade => serve(alloc, &Upgrade, &mut trace, &mut output),
@@ -171,6 +180,7 @@ const SERVED: &[(Command, &str, &str)] = &[
     (Command::Report(1), NEVER_DELIVERED, NEVER_DELIVERED_REPORT),
     (Command::Report(3), NEVER_DELIVERED, NEVER_DELIVERED_REPORT),
     (Command::Part(3, 2), NEVER_DELIVERED, UNTIL_THREE_AT_TWO),
+    (Command::Each, ONE_MISS, ONE_MISS_EACH),
     (Command::Replay, DECIDES_SEVEN, DECIDES_SEVEN_REPLAY),
     (Command::Upgrade, ONE_MISS, ONE_MISS_UPGRADE),
     (Command::Draw, ONE_MISS, "</svg>\n"),
