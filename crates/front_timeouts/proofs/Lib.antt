@@ -1,0 +1,4 @@
+pub mod TextsRead
+pub mod MoreFollowers
+pub mod ListedFollowers
+pub mod AskedRows
