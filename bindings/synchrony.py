@@ -79,6 +79,22 @@ class Bound(NamedTuple):
     value: int
     first: Optional[int]
     last: Optional[int]
+class Timeout(NamedTuple):
+    """How long a follower has to wait for its leader's next message, in ticks, from the tick gst on. `timeout` is enough in
+    every run that keeps heartbeat, poll and delta, and `quick` in every run that keeps heartbeat and delay. `least` would
+    have been enough in this trace. The trace shows `timeout` after `tried` ticks: where that is 0 it says nothing."""
+
+    follower: int
+    gst: int
+    delta: int
+    phi: int
+    heartbeat: int
+    poll: int
+    timeout: int
+    delay: int
+    quick: int
+    least: int
+    tried: int
 
 
 @dataclass(frozen=True)
@@ -124,6 +140,19 @@ def each(trace: bytes, correct: Correct, at: Optional[int] = None, until: Option
     """The bounds of each processor and of each link from the tick `at` on, of the trace as if it had ended at `until`."""
     lines = _asked("each", trace, correct=correct, at=at, until=until).decode().splitlines()[1:]
     return [Bound(bound, *[int(it) if it else None for it in rest]) for bound, *rest in (line.split(",") for line in lines)]
+def timeouts(
+    trace: bytes,
+    leader: int,
+    followers: Optional[Correct] = None,
+    every: Optional[int] = None,
+    polls: Optional[int] = None,
+    until: Optional[int] = None,
+    at: Optional[int] = None,
+) -> list[Timeout]:
+    """How long the followers of a leader have to wait for its next message. Without `followers` they are those to which it
+    sends."""
+    text = _asked("timeouts", trace, leader=leader, followers=followers, every=every, polls=polls, until=until, at=at)
+    return [Timeout(*map(int, line.split(","))) for line in text.decode().splitlines()[1:]]
 
 
 def replay(trace: bytes) -> bytes:
@@ -186,6 +215,10 @@ OPTIONS = {
     "names": ("--names", lambda it: ",".join(it)),
     "nodes": ("--nodes", lambda it: ",".join(it)),
     "tick": ("--tick", str),
+    "leader": ("--from", str),
+    "followers": ("--to", lambda it: _list_of(it)),
+    "every": ("--every", str),
+    "polls": ("--polls", str),
     "spread": ("--spread", None),
 }
 

@@ -22,6 +22,7 @@ use Rattle.text_commands.specs.EachBounds.{IsEachOf, IsNoEach}
 use Rattle.text_commands.specs.Imports.{IsImportOptionFault, IsUnimported}
 use Rattle.text_commands.specs.Replays.{IsOffRun, IsReplayOf}
 use Rattle.text_commands.specs.ReportParts.{IsPartOfReport, IsUntoldPart}
+use Rattle.text_commands.specs.TimeoutTables.{AreTimeoutsOf, IsNoTable}
 use Rattle.text_commands.specs.Upgrades.{IsNothingElse, IsUpgradeOf}
 use Rattle.command_line.specs.declared.jobs.Job.{Job}
 use Rattle.command_line.specs.declared.jobs.Job.TheVariants as job
@@ -105,6 +106,7 @@ abbrev pub IsPrintedFor : Job → List ℕ → List ℕ → ℕ → List ℕ →
 IsPrintedFor (job.Report j) text second = IsPrintedOf (string_bytes j.file) (IsAnswerTo (IsPartOfReport j.part) text)
 IsPrintedFor (job.Brief j) text second = IsPrintedOf (string_bytes j.file) (IsAnswerTo (IsBriefOf j.brief) text)
 IsPrintedFor (job.Each j) text second = IsPrintedOf (string_bytes j.file) (IsAnswerTo (IsEachOf j.each) text)
+IsPrintedFor (job.Timeouts j) text second = IsPrintedOf (string_bytes j.file) (IsAnswerTo (AreTimeoutsOf j.table) text)
 IsPrintedFor (job.Replay j) text second = IsPrintedOf (string_bytes j.file) (IsAnswerTo IsReplayOf text)
 IsPrintedFor (job.Upgrade j) text second = IsPrintedOf (string_bytes j.file) (IsAnswerTo IsUpgradeOf text)
 IsPrintedFor (job.Draw j) text second = IsPrintedOf (string_bytes j.file) (IsAnswerTo (IsDrawingOf j.drawing) text)
@@ -118,6 +120,7 @@ abbrev pub IsUnprintedFor : Job → List ℕ → List ℕ → Fault → Type 0
 IsUnprintedFor (job.Report j) text second = IsUnprintedOf (string_bytes j.file) (IsUnanswered (IsUntoldPart j.part) text)
 IsUnprintedFor (job.Brief j) text second = IsUnprintedOf (string_bytes j.file) (IsUnanswered (IsNoBrief j.brief) text)
 IsUnprintedFor (job.Each j) text second = IsUnprintedOf (string_bytes j.file) (IsUnanswered (IsNoEach j.each) text)
+IsUnprintedFor (job.Timeouts j) text second = IsUnprintedOf (string_bytes j.file) (IsUnanswered (IsNoTable j.table) text)
 IsUnprintedFor (job.Replay j) text second = IsUnprintedOf (string_bytes j.file) (IsUnanswered IsOffRun text)
 IsUnprintedFor (job.Upgrade j) text second = IsUnprintedOf (string_bytes j.file) (IsUnanswered IsNothingElse text)
 IsUnprintedFor (job.Draw j) text second = IsUnprintedOf (string_bytes j.file) (IsUnanswered (IsUndrawnTrace j.drawing) text)

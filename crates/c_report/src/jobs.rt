@@ -41,6 +41,7 @@ pub(crate) fn printed_for(
         Job::Report(job) => answer(alloc, job.file.as_str(), &job.part, text),
         Job::Brief(job) => answer(alloc, job.file.as_str(), &job.brief, text),
         Job::Each(job) => answer(alloc, job.file.as_str(), &job.each, text),
+        Job::Timeouts(job) => answer(alloc, job.file.as_str(), &job.table, text),
         Job::Replay(job) => answer(alloc, job.file.as_str(), &Replay, text),
         Job::Upgrade(job) => answer(alloc, job.file.as_str(), &Upgrade, text),
         Job::Draw(job) => answer(alloc, job.file.as_str(), &job.drawing, text),

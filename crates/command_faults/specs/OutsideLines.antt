@@ -12,11 +12,15 @@ use Rattle.command_faults.specs.declared.faults.TickOutside.{TickOutside}
 abbrev pub set_option_words : SetOption → List ℕ
 set_option_words set_option.Correct = codes "--correct"
 set_option_words set_option.Follow = codes "--follow"
+set_option_words set_option.From = codes "--from"
+set_option_words set_option.To = codes "--to"
 
 -- whose processors they are
 abbrev pub whose_words : SetOption → List ℕ
 whose_words set_option.Correct = codes "the trace"
 whose_words set_option.Follow = codes "the run"
+whose_words set_option.From = codes "the trace"
+whose_words set_option.To = codes "the trace"
 
 -- which processor is named, and which there are
 abbrev pub member_line : SetOption → MemberOutside → List ℕ

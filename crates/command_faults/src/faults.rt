@@ -52,6 +52,10 @@ pub enum SetOption {
     Correct,
     /// Those for which a run is followed.
     Follow,
+    /// The leader of a table of timeouts.
+    From,
+    /// The followers of a table of timeouts.
+    To,
 }
 
 /// The least processor that is named and that there isn't, and how many there are.

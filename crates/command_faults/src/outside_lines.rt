@@ -33,7 +33,7 @@ fn whose(option: SetOption) -> &'static str
     ensures { result.now ≡ whose_words option }
 {
     match option {
-        SetOption::Correct => "the trace",
+        SetOption::Correct | SetOption::From | SetOption::To => "the trace",
         SetOption::Follow => "the run",
     }
 }
@@ -49,6 +49,8 @@ impl fmt::Display for SetOption {
         match self {
             SetOption::Correct => f.write_str("--correct"),
             SetOption::Follow => f.write_str("--follow"),
+            SetOption::From => f.write_str("--from"),
+            SetOption::To => f.write_str("--to"),
         }
     }
 }

@@ -3,8 +3,10 @@
 #![tactic(auto)]
 
 ghost use Rattle.std.specs.Prelude.{◌*◌, ◌≤◌};
+ghost use Rattle.std.specs.Option.{ForSome};
+ghost use Rattle.step_trace.specs.declared.processors.TheConstants.{MAX_MEMBER};
 ghost use Rattle.step_trace.specs.declared.traces.TheConstants.{MAX_STEPS};
-ghost use Rattle.command_options.specs.declared.TheConstants.{MAX_WORKERS};
+ghost use Rattle.command_options.specs.declared.TheConstants.{MAX_TURNS, MAX_WORKERS};
 ghost use Rattle.command_options.specs.Paces.{patience_of};
 
 use step_trace::{Config, Correct};
@@ -75,6 +77,30 @@ pub struct Each {
     pub until: Option<u64>,
     /// The tick from which on the bounds hold: 1 where there is none.
     pub at: Option<u64>,
+}
+
+/// The greatest number of steps that one may be known to follow another within.
+pub const MAX_TURNS: u64 = 1_000_000;
+
+/// Which followers of a leader are asked for, and what is known of their steps.
+#[derive(Debug, Drop)]
+pub struct TimeoutTable {
+    /// The leader, from 1 to `MAX_MEMBER`.
+    pub from: u64,
+    /// The followers: those to which the leader sends at all where there is none.
+    pub to: Option<Correct>,
+    /// Of each so many steps of the leader one is a Send to the follower, where that is known.
+    pub every: Option<u64>,
+    /// Of each so many steps of the follower one is a Receive, where that is known.
+    pub polls: Option<u64>,
+    /// The tick up to which the trace counts, as if it had ended there: all of it where there is none.
+    pub until: Option<u64>,
+    /// The tick whose row alone is asked for: all rows where there is none.
+    pub at: Option<u64>,
+    ghost low: { 1 ≤ from },
+    ghost high: { from ≤ MAX_MEMBER },
+    ghost few_every: { ForSome every (λ k. k ≤ MAX_TURNS) },
+    ghost few_polls: { ForSome polls (λ m. m ≤ MAX_TURNS) },
 }
 
 /// What a certificate is checked for.

@@ -47,6 +47,7 @@ fn run<R: Threads + Wait + Clock + Sync>(rt: &HostRuntime, threads: &R) -> Resul
         Job::Report(job) => report(rt, threads, job),
         Job::Brief(job) => answer(rt, job.file, &job.brief),
         Job::Each(job) => answer(rt, job.file, &job.each),
+        Job::Timeouts(job) => answer(rt, job.file, &job.table),
         Job::Replay(job) => answer(rt, job.file, &Replay),
         Job::Run(options) => run_of(rt, threads, options),
         Job::Upgrade(job) => answer(rt, job.file, &Upgrade),

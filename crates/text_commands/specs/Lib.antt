@@ -11,4 +11,5 @@ pub mod Upgrades
 pub mod Checks
 pub mod Briefs
 pub mod EachBounds
+pub mod TimeoutTables
 pub mod Imports

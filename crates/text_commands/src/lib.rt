@@ -17,6 +17,7 @@ mod report_parts;
 mod reports;
 mod serving;
 mod texts;
+mod timeout_tables;
 mod traces;
 mod upgrades;
 mod verdict_lines;

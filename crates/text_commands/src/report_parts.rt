@@ -1,7 +1,7 @@
 //! A part of the report of a trace: of the trace up to a tick or of all of it, all rows or the one that serves a tick. The
 //! command `report`, but for its workers (`reports.rt`).
 
-ghost use Rattle.std.specs.Prelude.{◌≡◌, ◌↔◌, Some, IfOk, IfErr, IsTrue};
+ghost use Rattle.std.specs.Prelude.{◌≡◌, ◌↔◌, Some, IfOk, IfErr, IfSome, IsTrue, OnOk};
 ghost use Rattle.step_trace.specs.Fronts.{IsReport};
 ghost use Rattle.step_trace.specs.Processors.{IsWithin};
 ghost use Rattle.step_trace.specs.Ticks.{IsTimed};
@@ -78,6 +78,22 @@ fn row_at(alloc: Global, trace: &Trace, set: ProcSet, tick: u64) -> Result<Row, 
         Some(row) => Ok(row),
         None => unreachable!(),
     }
+}
+
+/// Tests whether the tick that is asked for, if one is, is one of the trace.
+///
+/// Refuses only Report, if it isn't.
+pub(crate) fn test_at(trace: &Trace, at: Option<u64>) -> Result<(), Fault>
+    ensures inside { OnOk result (IfSome at (IsTickOf trace.now)) }
+    ensures refused { IfErr result (IsAtFault at trace.now) }
+{
+    let Some(tick) = at else {
+        return Ok(());
+    };
+    if !has_tick(trace, tick) {
+        return Err(outside(ReportOption::At, trace, tick));
+    }
+    Ok(())
 }
 
 /// The fault of a tick that the trace hasn't, for which this option asks.

@@ -2,7 +2,7 @@
 
 use chunk_join::MAX_WORKERS;
 use command_faults::{Fault, fault_text, status};
-use command_options::{Brief, Claim, Each, ReportPart};
+use command_options::{Brief, Claim, Each, ReportPart, TimeoutTable};
 use std::alloc::{AllocError, Global};
 use std::sync::Wait;
 use std::thread::Threads;
@@ -19,6 +19,8 @@ pub(crate) enum Command<'a> {
     Part(&'a str, Option<u64>, Option<u64>),
     Brief(&'a str),
     Each(&'a str),
+    /// Of processor 1.
+    Timeouts,
     Replay,
     Upgrade,
     Check(&'a str, &'a str),
@@ -96,6 +98,17 @@ pub(crate) fn ended<T: Threads + Wait + Sync>(
                 at: None,
             };
             serve(alloc, &each, &mut trace, &mut Counting::new(writer))?;
+        }
+        Command::Timeouts => {
+            let table = TimeoutTable {
+                from: 1,
+                to: None,
+                every: None,
+                polls: None,
+                until: None,
+                at: None,
+            };
+            serve(alloc, &table, &mut trace, &mut Counting::new(writer))?;
         }
         Command::Replay => run_replay(alloc, &mut trace, &mut Counting::new(writer))?,
         Command::Upgrade => serve(alloc, &Upgrade, &mut trace, &mut Counting::new(writer))?,

@@ -1,6 +1,6 @@
 //! What each command refuses, and leaves half written, where a device fails after each number of bytes.
 
-use crate::commands::Command::{Brief, Check, Each, Part, Replay, Report, Upgrade};
+use crate::commands::Command::{Brief, Check, Each, Part, Replay, Report, Timeouts, Upgrade};
 use crate::commands::{Command, Cut, Input, WHOLE, ended, has_refused, whole};
 use command_faults::{Fault, status};
 use std::alloc::{AllocError, Global};
@@ -129,12 +129,17 @@ fn endless_texts_are_refused(rt: HostRuntime) -> Result<(), Fail> {
 /// The rows of the report of `ONE_MISS` that name other evidence than the row before.
 const ONE_MISS_BRIEF: &str = report_text!("1,2,3,1,2,1,2,3\n2,1,3,,,1,2,3\n");
 
+/// The timeouts of the followers of 1 in `ONE_MISS`.
+const ONE_MISS_TIMEOUTS: &str = "follower,gst,delta,phi,heartbeat,poll,timeout,delay,quick,least,tried\n\
+2,1,2,3,3,2,5,2,4,2,0\n2,2,1,3,3,1,3,1,3,2,0\n2,3,1,2,2,1,2,1,2,1,0\n";
+
 /// Commands, their trace texts, and what they write where the device doesn't fail.
 const WRITTEN: &[(Command, &str, &str)] = &[
     (Report("1,2"), ONE_MISS, ONE_MISS_REPORT),
     (Part("1,2", Some(3), None), ONE_MISS, ONE_MISS_REPORT),
     (Brief("1,2"), ONE_MISS, ONE_MISS_BRIEF),
     (Each("1,2"), ONE_MISS, ONE_MISS_EACH),
+    (Timeouts, ONE_MISS, ONE_MISS_TIMEOUTS),
     (Replay, DECIDES_SEVEN, DECIDES_SEVEN_REPLAY),
     (Upgrade, ONE_MISS, ONE_MISS_UPGRADE),
     (

@@ -129,6 +129,7 @@ pub fn optional_number(
 ) -> Option<Option<u64>>
     ensures value { result ≡ optional_number_in (rows_of (found_of found.now)) name.now least most }
     ensures low { IfSome result (λ given. IfSome given (λ value. least ≤ value)) }
+    ensures high { IfSome result (λ given. IfSome given (λ value. value ≤ most)) }
 {
     match text(found, name) {
         Some(_) => Some(Some(number(found, name, least, most)?)),
