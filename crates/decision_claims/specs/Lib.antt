@@ -1,0 +1,6 @@
+pub mod Formulas
+pub mod Decisions
+pub mod Claims
+pub mod LateRows
+pub mod Margins
+pub mod FormulaTexts

@@ -1,0 +1,21 @@
+//! Claims about when the processors of a run decide: "from a stabilization time on, each correct processor decides
+//! within so many ticks, by a formula of the bounds that hold from then on". `specs/` has the definitions.
+#![tactic(auto)]
+
+mod agreement;
+mod decisions;
+mod factors;
+mod formula_texts;
+mod formulas;
+mod lateness;
+mod laws;
+mod margins;
+
+pub use agreement::{first_difference, first_foreign};
+pub use decisions::{Decision, first_decision, has_decided_by, latest_decision, least_undecided};
+pub use factors::least_factor;
+pub use formula_texts::{FormulaError, parse_formula};
+pub use formulas::{Formula, Operand, Part, Words};
+pub use lateness::{Late, due_deadline, due_rows, first_late, least_due};
+pub use laws::claim_laws;
+pub use margins::{Tested, tested_by};
