@@ -1,0 +1,18 @@
+use Rattle.std.proofs.Common.{refl, true≢false, arith}
+use Rattle.judged_runs.proofs.EarlierPrefixes.{before_all, late_refutes}
+use Rattle.judged_runs.proofs.prefixes.first_late_in_time.Goals as goal
+
+pub returns-in-LateBy-clause-kept : goal.returns-in-LateBy-clause-kept
+returns-in-LateBy-clause-kept c = (
+  λ none. absurd (true≢false none),
+  λ kept. absurd (late_refutes c.args.set c.args.trace.now c.args.decisions.now _ c.in-LateBy.late c.last_tick.ensures.well_formed (rw c.in-LateBy.is at c.in_ok-late.ensures) kept),
+)
+
+pub returns-clause-kept : goal.returns-clause-kept
+returns-clause-kept c =
+    let past = c.loop-x-test.false in
+    let last = c.last_tick.ensures.value in (
+      λ none. before_all c.args.set c.args.trace.now c.args.decisions.now _ c.loop-x.x
+          (λ y l m. c.undecided_until-end.ensures.decided y (omega (arith, past, l)) (omega (arith, m, last))) c.loop-x.invariant.before,
+      λ kept. refl,
+    )

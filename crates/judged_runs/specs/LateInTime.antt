@@ -1,0 +1,41 @@
+-- Evidence that a claim isn't kept in time (own).
+use Rattle.std.specs.Prelude.{ℕ, ◌≡◌, ◌≤◌, ◌<◌, ◌+◌, List, Some, slice_get}
+use Rattle.step_trace.specs.Traces.{Recorded}
+use Rattle.step_trace.specs.Ticks.{IsTrace}
+use Rattle.step_trace.specs.Cuts.{IsCutAt}
+use Rattle.step_trace.specs.declared.rows.Row.{Row}
+use Rattle.step_trace.specs.Fronts.{Triple, IsFeasible, triple_of}
+use Rattle.decision_claims.specs.declared.decisions.Decision.{Decision}
+use Rattle.decision_claims.specs.declared.lateness.Late.{Late}
+use Rattle.decision_claims.specs.Decisions.{HaveDecidedBy}
+use Rattle.decision_claims.specs.LateRows.{IsLeastUndecided}
+use Rattle.judged_runs.specs.declared.prefixes.Looked.{Looked}
+use Rattle.judged_runs.specs.declared.prefixes.Looked.TheVariants.{LateBy, GoOn}
+
+-- the deadlines before tick x are kept in time
+pub record KeepsBefore (set : ℕ) (trace : Recorded) (decisions : List Decision) (deadline : Triple → ℕ) (x : ℕ) : Type 0 where
+  pub each : (t : Triple) (cut : Recorded) → deadline t < x → IsTrace cut → IsCutAt trace (deadline t) cut → IsFeasible set cut t → HaveDecidedBy set decisions (deadline t)
+
+-- The bounds of the row hold from its stabilization time up to the deadline, a tick of the trace, by which the
+-- processor is the least member that had not decided. Each earlier deadline was kept.
+pub record IsLateInTime (set : ℕ) (trace : Recorded) (decisions : List Decision) (deadline : Triple → ℕ) (w : Late) : Type 0 where
+  pub by : w.deadline ≡ deadline (triple_of w.row)
+  pub due : w.deadline ≤ trace.last
+  pub proc : IsLeastUndecided set decisions w.deadline w.proc
+  pub feasible : (cut : Recorded) → IsTrace cut → IsCutAt trace w.deadline cut → IsFeasible set cut (triple_of w.row)
+  pub first : KeepsBefore set trace decisions deadline w.deadline
+
+-- what a look at the prefix that ends in tick x finds, where each deadline before x was kept
+abbrev pub IsLook : ℕ → Recorded → List Decision → (Triple → ℕ) → ℕ → Looked → Type 0
+IsLook set trace decisions deadline x (LateBy w) = IsLateInTime set trace decisions deadline w
+IsLook set trace decisions deadline x (GoOn next) = (x < next) × KeepsBefore set trace decisions deadline next
+
+-- the least bounds that there are, from the tick after x on
+abbrev pub begun_after : ℕ → Triple
+begun_after x = record { gst = x + 1; delta = 1; phi = 1 }
+
+-- A tick after x. If it isn't the next one, no row has an earlier deadline, and no bounds that hold from a tick after x on.
+pub record IsNextLook (rows : List Row) (deadline : Triple → ℕ) (x next : ℕ) : Type 0 where
+  pub later : x < next
+  pub of_rows : x + 1 < next → (k : ℕ) (r : Row) → slice_get rows k ≡ Some r → next ≤ deadline (triple_of r)
+  pub of_others : x + 1 < next → next ≤ deadline (begun_after x)

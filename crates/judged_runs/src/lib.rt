@@ -1,0 +1,6 @@
+//! Judges.
+#![tactic(auto)]
+
+mod prefixes;
+
+pub use prefixes::first_late_in_time;
