@@ -1,6 +1,16 @@
-//! Judges.
+//! Judges the decisions of a run: agreement, validity, and the claim that each correct processor decides in time. Has the
+//! search by prefixes of the run, the reader of decisions' texts, and the line of a verdict; `specs/` has the definitions.
 #![tactic(auto)]
 
+mod decision_texts;
+mod judgements;
 mod prefixes;
+mod refusal_texts;
+mod refusals;
+mod verdict_lines;
 
+pub use decision_texts::decisions_of_text;
+pub use judgements::{Demands, Verdict, judge};
 pub use prefixes::first_late_in_time;
+pub use refusals::DecisionsError;
+pub use verdict_lines::{verdict_status, verdict_text};

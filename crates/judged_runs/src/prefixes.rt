@@ -6,7 +6,7 @@ ghost use Rattle.step_trace.specs.Fronts.{triple_of};
 ghost use Rattle.step_trace.specs.declared.traces.TheConstants.{MAX_TICKS};
 ghost use Rattle.decision_claims.specs.Decisions.{HaveDecidedBy};
 ghost use Rattle.decision_claims.specs.Formulas.{deadline};
-ghost use Rattle.decision_claims.specs.Claims.{KeepsClaimInTime};
+ghost use Rattle.decision_claims.specs.Claims.{KeepsClaim, KeepsClaimInTime};
 ghost use Rattle.judged_runs.specs.LateInTime.{IsLateInTime, IsLook, IsNextLook, KeepsBefore, begun_after};
 
 use decision_claims::{
@@ -43,6 +43,7 @@ pub fn first_late_in_time(
     requires { IsWithin set trace.now.config.n }
     ensures late { IfOk result (λ found. IfSome found (IsLateInTime set trace.now decisions.now (deadline trace.now.config start formula.now))) }
     ensures kept { IfOk result (λ found. IsNone found ↔ KeepsClaimInTime set trace.now decisions.now (deadline trace.now.config start formula.now)) }
+    ensures whole { IfOk result (λ found. IsNone found → KeepsClaim set trace.now decisions.now (deadline trace.now.config start formula.now)) }
 {
     let end = undecided_until(set, decisions, trace.last_tick());
     let mut x = 0u64;

@@ -1,4 +1,6 @@
 use Rattle.std.proofs.Common.{refl, true≢false, arith}
+use Rattle.decision_claims.proofs.FrontClaims.{deadline-later}
+use Rattle.decision_claims.proofs.PrefixClaims.{KeepsClaim-in_time}
 use Rattle.judged_runs.proofs.EarlierPrefixes.{before_all, late_refutes}
 use Rattle.judged_runs.proofs.prefixes.first_late_in_time.Goals as goal
 
@@ -16,3 +18,10 @@ returns-clause-kept c =
           (λ y l m. c.undecided_until-end.ensures.decided y (omega (arith, past, l)) (omega (arith, m, last))) c.loop-x.invariant.before,
       λ kept. refl,
     )
+
+pub returns-in-LateBy-clause-whole : goal.returns-in-LateBy-clause-whole
+returns-in-LateBy-clause-whole c = λ none. absurd (true≢false none)
+
+pub returns-clause-whole : goal.returns-clause-whole
+returns-clause-whole c = λ none. KeepsClaim-in_time c.args.set c.args.trace.now c.args.decisions.now _ c.last_tick.ensures.well_formed
+    (deadline-later c.args.trace.now.config c.args.start c.args.formula.now) ((returns-clause-kept c).0 none)
