@@ -10,3 +10,4 @@ mod NotedPeers
 mod OrderedTakes
 mod PacedSteps
 mod PacedMembers
+pub mod CountedRounds

@@ -4,3 +4,5 @@ pub mod Audible
 pub mod HeardOut
 pub mod Peers
 pub mod Paces
+pub mod Decisions
+pub mod RoundCounts

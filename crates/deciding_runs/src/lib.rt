@@ -4,9 +4,11 @@
 #![tactic(auto)]
 
 mod audible;
+mod decisions;
 mod laws;
 mod paces;
 mod peers;
 
+pub use decisions::{Decision, decisions_of};
 pub use laws::{deciding_laws, heard_out_laws, pace_laws};
 pub use paces::Pace;
