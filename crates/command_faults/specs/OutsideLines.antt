@@ -1,12 +1,13 @@
 -- What the line of a fault says more of a processor or a tick that is asked for, and that a trace or a run hasn't: a second
 -- line, with the line feed before it.
-use Rattle.std.specs.Prelude.{ℕ, List, ◌∷◌, ◌++◌, ◌==◌, if◌then◌else◌, codes, decimal}
+use Rattle.std.specs.Prelude.{ℕ, List, ◌++◌, codes, decimal}
 use Rattle.command_faults.specs.declared.faults.MemberOutside.{MemberOutside}
 use Rattle.command_faults.specs.declared.faults.ReportOption.{ReportOption}
 use Rattle.command_faults.specs.declared.faults.ReportOption.TheVariants as report_option
 use Rattle.command_faults.specs.declared.faults.SetOption.{SetOption}
 use Rattle.command_faults.specs.declared.faults.SetOption.TheVariants as set_option
 use Rattle.command_faults.specs.declared.faults.TickOutside.{TickOutside}
+use Rattle.command_faults.specs.Hints.{hint, ticks_words}
 
 -- an option that names correct processors, as the command line has it
 abbrev pub set_option_words : SetOption → List ℕ
@@ -24,18 +25,14 @@ whose_words set_option.To = codes "the trace"
 
 -- which processor is named, and which there are
 abbrev pub member_line : SetOption → MemberOutside → List ℕ
-member_line option o = 10 ∷ (codes "synchrony: " ++ (set_option_words option ++ (codes " names processor " ++ (decimal o.member
-    ++ (codes ", and " ++ (whose_words option ++ (codes " has processors 1 to " ++ decimal o.count)))))))
+member_line option o = hint (set_option_words option ++ (codes " names processor " ++ (decimal o.member
+    ++ (codes ", and " ++ (whose_words option ++ (codes " has processors 1 to " ++ decimal o.count))))))
 
 -- an option of a part of a report, as the command line has it
 abbrev pub report_option_words : ReportOption → List ℕ
 report_option_words report_option.Until = codes "--until"
 report_option_words report_option.At = codes "--at"
 
--- the ticks of a trace with this last one
-abbrev pub ticks_words : ℕ → List ℕ
-ticks_words last = if last == 0 then codes "no ticks" else codes "ticks 1 to " ++ decimal last
-
 -- which tick is asked for, and which there are
 abbrev pub tick_line : ReportOption → TickOutside → List ℕ
-tick_line option o = 10 ∷ (codes "synchrony: " ++ (report_option_words option ++ (codes " is " ++ (decimal o.tick ++ (codes ", and the trace has " ++ ticks_words o.last)))))
+tick_line option o = hint (report_option_words option ++ (codes " is " ++ (decimal o.tick ++ (codes ", and the trace has " ++ ticks_words o.last))))

@@ -188,7 +188,7 @@ impl fmt::Display for NameCount {
 
 /// The ticks of a trace with this last one.
 #[derive(Clone, Copy)]
-struct Ticks(u64);
+pub(crate) struct Ticks(pub(crate) u64);
 
 impl fmt::Display for Ticks {
     ghost use Rattle.std.specs.Prelude.{Some};

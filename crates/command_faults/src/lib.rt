@@ -16,5 +16,5 @@ pub use faults::{
     Fault, ImportOption, MemberOutside, PictureOption, ReportOption, SetOption, TickOutside, status,
 };
 pub use files::{FileTrouble, unopened, unread};
-pub use printing::{print, tell};
+pub use printing::{print, print_notes, tell};
 pub use sets::correct_set;

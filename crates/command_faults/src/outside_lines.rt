@@ -4,6 +4,7 @@ ghost use Rattle.std.specs.Prelude.{◌≡◌};
 ghost use Rattle.command_faults.specs.OutsideLines.{whose_words};
 
 use crate::faults::{MemberOutside, ReportOption, SetOption, TickOutside};
+use crate::hints::Ticks;
 use std::fmt;
 
 /// Which processor is named, and which there are, after a line feed.
@@ -73,24 +74,6 @@ impl fmt::Display for TickLine<'_> {
             self.1.tick,
             Ticks(self.1.last)
         )
-    }
-}
-
-/// The ticks of a trace with this last one.
-#[derive(Clone, Copy)]
-struct Ticks(u64);
-
-impl fmt::Display for Ticks {
-    ghost use Rattle.std.specs.Prelude.{Some};
-    ghost use Rattle.command_faults.specs.OutsideLines.{ticks_words};
-
-    ghost output = { λ ticks. Some (ticks_words ticks.0) };
-
-    fn fmt<W: fmt::Write>(&self, f: &mut fmt::Formatter<W>) -> fmt::Result {
-        if self.0 == 0 {
-            return f.write_str("no ticks");
-        }
-        write!(f, "ticks 1 to {}", self.0)
     }
 }
 

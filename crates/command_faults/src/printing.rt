@@ -5,7 +5,7 @@ ghost use Rattle.std.specs.Io.KnownBytes.{Appends};
 ghost use Rattle.trace_text.specs.ByteLoops.{WasFaultless};
 ghost use Rattle.trace_text.specs.Faults.{inner_of, is_flushed};
 ghost use Rattle.command_faults.specs.FaultLines.{fault_line, ended_line};
-ghost use Rattle.command_faults.specs.Printing.{IsUnprinted, IsUntold, IsWriteFault};
+ghost use Rattle.command_faults.specs.Printing.{IsUnprinted, IsUntold, IsWriteFault, WentOut};
 
 use crate::fault_lines::told_line;
 use crate::faults::Fault;
@@ -25,6 +25,16 @@ pub fn print<W: Write>(text: &str, writer: &mut Counting<W>) -> Result<(), Fault
     ensures cause { IfErr result (IsWriteFault writer.old writer.new) }
 {
     Ok(write_text(text.as_bytes(), writer)?)
+}
+
+/// Prints notes on what is printed elsewhere, if it can: that they can't be printed stops nothing.
+pub fn print_notes<W: Write>(text: &str, writer: &mut Counting<W>)
+    ensures { WentOut W.contents writer.old writer.new text.now }
+{
+    match write_text(text.as_bytes(), writer) {
+        Ok(()) => {}
+        Err(_) => {}
+    }
 }
 
 /// Tells a fault, on a line of its own.

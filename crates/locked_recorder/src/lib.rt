@@ -3,6 +3,7 @@
 #![tactic(auto)]
 
 mod audits;
+mod company;
 mod comparisons;
 mod drives;
 mod errors;
@@ -15,10 +16,11 @@ mod seat_comparisons;
 mod seats;
 mod sleepers;
 mod step_counts;
+mod undecided;
 mod views;
 
+pub use company::Company;
 pub use errors::{AuditError, DriveError, DriveStop, MineError, PrefixError, RecordError};
 pub use recorders::Recorder;
 pub use seats::Seat;
-pub use sleepers::Sleepers;
 pub use views::View;

@@ -1,11 +1,12 @@
 //! Drives by the pace "heard out".
 
-ghost use Rattle.std.specs.Prelude.{◌≡◌, ◌≤◌, length, true, MatchResult, IfOk, IfErr, OnOk, OnErr};
+ghost use Rattle.std.specs.Prelude.{◌≡◌, ◌≤◌, length, true, false, MatchResult, IfOk, IfErr, OnOk, OnErr};
 ghost use Rattle.step_trace.specs.Configurations.{IsProc};
 ghost use Rattle.deciding_runs.specs.Paces.{opening_pace, paced_move, after_move};
 ghost use Rattle.locked_recorder.specs.Drives.{was_let_in};
 ghost use Rattle.locked_recorder.specs.PacedDrives.{IsPacedAnswer, IsPacedStep, IsPaceRefused, IsPaceRefusal, IsPacedDrive, IsPacedStopped};
 
+use crate::company::Company;
 use crate::errors::{DriveError, DriveStop, RecordError};
 use crate::recorders::{Recorder, is_world_of};
 use crate::seats::Seat;
@@ -23,7 +24,7 @@ impl Recorder {
     /// `patience`-th in the round (`Pace` of `deciding_runs`). What was heard before this call doesn't count.
     ///
     /// Before an idle Receive, which would take nothing and not end the round, it sleeps until a message comes, as long
-    /// as another thread of these sleepers is awake. At its end it wakes them.
+    /// as another thread of this company is awake. At its end it wakes them.
     ///
     /// Refuses in the order of `DriveStop`; the steps made stay. Waits for locks, and asleep. Takes memory for each
     /// processor, and as `Seat::step` does.
@@ -33,7 +34,7 @@ impl Recorder {
         alloc: Global,
         seat: &mut Seat,
         gate: &G,
-        sleepers: &Sleepers,
+        company: &Company,
         patience: u64,
         steps: u64,
     ) -> Result<u64, DriveError>
@@ -42,25 +43,52 @@ impl Recorder {
         ensures driven { OnOk result (IsPacedDrive self.now patience steps seat.old seat.new) }
         ensures stopped { IfErr result (λ e. IsPacedStopped self.now patience steps seat.old seat.new e) }
     {
-        let driven = self.drive_paced(rt, alloc, seat, gate, sleepers, patience, steps);
-        sleepers.leave(rt);
+        let driven = self.drive_paced(rt, alloc, seat, gate, company, false, patience, steps);
+        company.sleepers.leave(rt);
         driven
     }
 
-    /// The same, without waking anybody at its end.
+    /// Makes steps from a seat as `drive_heard_out` does, until all processors of this company have decided, but no more
+    /// than `steps`; and says how many it made. A processor counts as decided from the first step on that its thread makes
+    /// with a decision.
+    ///
+    /// Refuses, waits and takes memory as `drive_heard_out` does.
+    pub fn drive_until_decided<R: Wait, G: Gate>(
+        &self,
+        rt: &R,
+        alloc: Global,
+        seat: &mut Seat,
+        gate: &G,
+        company: &Company,
+        patience: u64,
+        steps: u64,
+    ) -> Result<u64, DriveError>
+        ensures entered { MatchResult result (λ _. G.lets gate.now seat.old.proc true) (λ e. G.lets gate.now seat.old.proc (was_let_in e.why)) }
+        ensures steps { IfOk result (λ made. made ≤ steps) }
+        ensures driven { IfOk result (λ made. IsPacedDrive self.now patience made seat.old seat.new) }
+        ensures stopped { IfErr result (λ e. IsPacedStopped self.now patience steps seat.old seat.new e) }
+    {
+        let driven = self.drive_paced(rt, alloc, seat, gate, company, true, patience, steps);
+        company.sleepers.leave(rt);
+        driven
+    }
+
+    /// The same, without waking anybody at its end; until all have decided, if it is asked for that.
     fn drive_paced<R: Wait, G: Gate>(
         &self,
         rt: &R,
         alloc: Global,
         seat: &mut Seat,
         gate: &G,
-        sleepers: &Sleepers,
+        company: &Company,
+        until_decided: bool,
         patience: u64,
         steps: u64,
     ) -> Result<u64, DriveError>
         ensures entered { MatchResult result (λ _. G.lets gate.now seat.old.proc true) (λ e. G.lets gate.now seat.old.proc (was_let_in e.why)) }
-        ensures steps { IfOk result (λ made. made ≡ steps) }
-        ensures driven { OnOk result (IsPacedDrive self.now patience steps seat.old seat.new) }
+        ensures steps { IfOk result (λ made. made ≤ steps) }
+        ensures whole { until_decided ≡ false → IfOk result (λ made. made ≡ steps) }
+        ensures driven { IfOk result (λ made. IsPacedDrive self.now patience made seat.old seat.new) }
         ensures stopped { IfErr result (λ e. IsPacedStopped self.now patience steps seat.old seat.new e) }
     {
         if !gate.enter(seat.proc) {
@@ -81,13 +109,18 @@ impl Recorder {
                 });
             }
         };
+        let mut has_decided = false;
         for made in 0..steps {
-            if let Err(why) = seat.record_paced(rt, alloc, self, sleepers, &mut pace) {
+            if until_decided && company.undecided.is_none() {
+                return Ok(made);
+            }
+            if let Err(why) = seat.record_paced(rt, alloc, self, &company.sleepers, &mut pace) {
                 return Err(DriveError {
                     made,
                     why: DriveStop::Record(why),
                 });
             }
+            has_decided = count_decision(company, seat, has_decided);
         }
         Ok(steps)
     }
@@ -205,6 +238,22 @@ fn is_idle(world: &World, p: u64, pace: &Pace) -> bool
         return false;
     }
     pace.is_idle(world, p)
+}
+
+/// Counts the processor of a seat as decided, unless that was done before: if its last step left it with a decision.
+/// Says whether it is counted now.
+fn count_decision(company: &Company, seat: &Seat, has_decided: bool) -> bool {
+    if has_decided {
+        return true;
+    }
+    let Some(done) = seat.done().last() else {
+        return false;
+    };
+    if done.decision.is_none() {
+        return false;
+    }
+    company.undecided.decide();
+    true
 }
 
 /// Wakes the thread of the processor to which a message was sent, if one was.

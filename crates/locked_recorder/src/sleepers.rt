@@ -8,7 +8,7 @@ use std::sync::{Condvar, Mutex, Wait};
 /// A thread lies down only while another one stays awake, so there is always one that makes steps. It is woken by a
 /// message to its processor, and when all others sleep that still make steps.
 #[derive(Drop)]
-pub struct Sleepers {
+pub(crate) struct Sleepers {
     beds: Mutex<Beds>,
     // One for each processor, so that a message wakes its receiver alone.
     bells: Vec<Condvar>,
@@ -23,7 +23,7 @@ struct Beds {
 
 impl Sleepers {
     /// For the threads of processors 1 to `n`, all of which are awake. Takes memory for each.
-    pub fn new(alloc: Global, n: u64) -> Result<Self, AllocError> {
+    pub(crate) fn new(alloc: Global, n: u64) -> Result<Self, AllocError> {
         let mut bells = Vec::with_capacity(alloc, n as usize)?;
         for _ in 0..n {
             bells.push(Condvar::new())?;
@@ -39,7 +39,7 @@ impl Sleepers {
 
     /// Wakes all threads for good: none lies down any more. For a thread that can't be started, for which others would
     /// wait.
-    pub fn rouse<R: Wait>(&self, rt: &R) {
+    pub(crate) fn rouse<R: Wait>(&self, rt: &R) {
         self.beds.lock(rt).working = 0;
         self.ring_all();
     }

@@ -33,11 +33,6 @@ pub record IsImportTold (o : Options) (Told : List ℕ → Type 0) (text out : L
   pub written : IsUpgradeOf import.trace out
   pub told : Told (notes_of o import)
 
--- a text went out whole, and was flushed; or the writer met a fault, after so many of its first bytes
-abbrev pub WentOut : {T : Type 0} → (T → Option (List ℕ)) → Counting T → Counting T → List ℕ → Type 0
-WentOut taken old new text = (Wrote taken old new text × IsTrue (is_flushed new))
-    ⊎ ((e : WriteError) × WroteFront e text (taken (inner_of old)) (taken (inner_of new)) × MetOneFault old new)
-
 -- The fault has its cause in the log: its first refusal; or it is want of memory, which is a fault of its own.
 abbrev pub IsUnimported : Options → List ℕ → Fault → Type 0
 IsUnimported o text (fault.Log reason) = IsLogRefusal o text reason × (reason ≢ no_log.Memory)

@@ -1,15 +1,16 @@
 //! The trace of a log, from a reader to a writer.
 
 ghost use Rattle.std.specs.Prelude.{◌≡◌, IfOk, IfErr, option_map, string_bytes};
+ghost use Rattle.command_faults.specs.Printing.{WentOut};
 ghost use Rattle.event_log.specs.Imports.{IsImportOf};
 ghost use Rattle.event_log.specs.Options.{AreOptions};
-ghost use Rattle.text_commands.specs.Imports.{IsImportOptionFault, IsImportTold, IsQuietFault, IsToldOfLogs, IsUnimported, WentOut};
+ghost use Rattle.text_commands.specs.Imports.{IsImportOptionFault, IsImportTold, IsQuietFault, IsToldOfLogs, IsUnimported};
 ghost use Rattle.text_commands.specs.Serving.{Serves};
 
 use crate::import_lines::notes_text;
 use crate::texts::read_whole;
 use crate::upgrades::text_2_of;
-use command_faults::Fault;
+use command_faults::{Fault, print_notes};
 use event_log::{Import, LogError, Options, read_log, read_options};
 use std::alloc::Global;
 use std::io::{Read, Write};
@@ -51,7 +52,7 @@ pub fn run_import<R: Read, W: Write, N: Write>(
 {
     let text = read_whole(alloc, reader, Fault::Log(LogError::TooLarge))?;
     let texts = texts_of(alloc, text, options)?;
-    tell_notes(texts.notes.as_str(), notes);
+    print_notes(texts.notes.as_str(), notes);
     Ok(write_text(&texts.trace, writer)?)
 }
 
@@ -81,14 +82,4 @@ fn import_of(alloc: Global, text: Vec<u8>, options: &Options) -> Result<Import, 
     ensures refused { IfErr result (IsUnimported options.now text.items) }
 {
     Ok(read_log(alloc, &text, options)?)
-}
-
-/// Tells the notes on a log, if it can.
-fn tell_notes<N: Write>(text: &str, notes: &mut Counting<N>)
-    ensures { WentOut N.contents notes.old notes.new text.now }
-{
-    match write_text(text.as_bytes(), notes) {
-        Ok(()) => {}
-        Err(_) => {}
-    }
 }

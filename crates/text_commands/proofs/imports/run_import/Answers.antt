@@ -1,6 +1,7 @@
 use Rattle.std.proofs.Common.{refl, rules, sym}
 use Rattle.std.proofs.lemmas.Result.{err_from_is_err_and}
-use Rattle.text_commands.specs.Imports.{IsImportTold, IsToldOfLogs, IsUnimported, WentOut}
+use Rattle.command_faults.specs.Printing.{WentOut}
+use Rattle.text_commands.specs.Imports.{IsImportTold, IsToldOfLogs, IsUnimported}
 use Rattle.text_commands.specs.Serving.{IsServeFault}
 use Rattle.text_commands.proofs.ImportFaults.{now_told, unread-served, unread-told, unread-unwritten}
 use Rattle.text_commands.proofs.WrittenAnswers.{cut, front-untold, of_known, write-told}
@@ -23,12 +24,12 @@ pub returns-in_err-write_text-clause-served : goal.returns-in_err-write_text-cla
 returns-in_err-write_text-clause-served g c =
     let p = err_from_is_err_and c.from_residual-in_err-write_text.result c.from_residual-in_err-write_text.ensures.1 in
     let o = c.args.options.now in
-    let Told = WentOut g.N.Write.contents c.args.notes.now c.tell_notes.new.notes in
+    let Told = WentOut g.N.Write.contents c.args.notes.now c.print_notes.new.notes in
     let text = c.in_ok-text.text.items in
     let told = rw (sym c.as_str.ensures.value) at c.in_ok-texts.ensures.texts in
     rw (p.1, p.2) (record {
       cause = of_known (λ known. IsServeFault (IsImportTold o Told) (IsUnimported o) known _ _ _) text _ c.in_ok-text.ensures.text
-          (cut (IsImportTold o Told) (IsUnimported o) text c.deref.result.now _ _ _ (rw c.deref.ensures.value (now_told o Told _ _ _ told c.tell_notes.ensures)) tt
+          (cut (IsImportTold o Told) (IsUnimported o) text c.deref.result.now _ _ _ (rw c.deref.ensures.value (now_told o Told _ _ _ told c.print_notes.ensures)) tt
           (front-untold _ _ _ _ c.in_err-write_text.ensures.part));
       own = write-told IsToldOfLogs _;
       unread = search rules;
@@ -44,7 +45,7 @@ returns-clause-served g c =
       out = c.deref.result.now;
       all = c.in_ok-text.ensures.text;
       end = search rules;
-      gives = rw c.deref.ensures.value (now_told o (WentOut g.N.Write.contents c.args.notes.now c.tell_notes.new.notes) _ _ _ told c.tell_notes.ensures);
+      gives = rw c.deref.ensures.value (now_told o (WentOut g.N.Write.contents c.args.notes.now c.print_notes.new.notes) _ _ _ told c.print_notes.ensures);
       whole = c.in_ok-write_text.ensures.whole;
       flushed = search rules;
       readable = search rules;
