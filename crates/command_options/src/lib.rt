@@ -33,6 +33,15 @@ pub enum Pace {
     HeardOut(u64),
 }
 
+/// When a run ends.
+#[derive(Clone, Copy, Debug)]
+pub enum RunEnd {
+    /// When each processor has made its steps.
+    Steps,
+    /// When all processors have decided, or else when each has made its steps.
+    Decided,
+}
+
 /// What a run of the nodes of a configuration is asked for.
 #[derive(Debug, Drop)]
 pub struct RunOptions {
@@ -40,7 +49,9 @@ pub struct RunOptions {
     pub config: Config,
     /// When a Receive ends a round; its patience is at least 1.
     pub pace: Pace,
-    /// How many steps each processor makes; all together make at most `MAX_STEPS`.
+    /// When the run ends.
+    pub end: RunEnd,
+    /// How many steps each processor makes, or makes at most; all together make at most `MAX_STEPS`.
     pub steps: u64,
     /// The processors that count as correct for one who follows the run, if it is followed.
     pub follow: Option<Correct>,

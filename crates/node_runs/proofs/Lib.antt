@@ -1,3 +1,3 @@
-pub mod EvenRuns
+pub mod EndedRuns
 pub mod ToldLines
 pub mod SilentMembers

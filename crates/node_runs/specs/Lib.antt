@@ -2,3 +2,4 @@ pub mod Standings
 pub mod StandingLines
 pub mod Followers
 pub mod Runs
+pub mod DecisionLines

@@ -2,13 +2,15 @@
 //! lines that tell meanwhile how such a run stands. `specs/` has the definitions that the contracts cite.
 #![tactic(auto)]
 
+mod decision_lines;
 mod followers;
 mod paces;
 mod runs;
 mod standing_lines;
 mod standings;
 
-pub use command_options::Pace;
+pub use command_options::{Pace, RunEnd};
+pub use decision_lines::decisions_text;
 pub use followers::{Follower, follower_for};
 pub use runs::run_nodes;
 pub use standing_lines::{tell_standing, tell_stop};

@@ -3,29 +3,35 @@
 ghost use Rattle.std.specs.Prelude.{◌≤◌};
 ghost use Rattle.command_options.specs.Paces.{patience_of};
 
-use command_options::Pace;
-use locked_recorder::{DriveError, Recorder, Seat, Sleepers};
+use command_options::{Pace, RunEnd};
+use locked_recorder::{Company, DriveError, Recorder, Seat};
 use std::alloc::Global;
 use std::sync::Wait;
 use step_trace::Gate;
 
-/// Drives a seat by a pace.
+/// Drives a seat by a pace, to the end that a run is to have. By patience alone it makes all its steps.
 pub(crate) fn driven<R: Wait, G: Gate>(
     rt: &R,
     alloc: Global,
     recorder: &Recorder,
     seat: &mut Seat,
     gate: &G,
-    sleepers: &Sleepers,
+    company: &Company,
     pace: Pace,
+    end: RunEnd,
     steps: u64,
 ) -> Result<u64, DriveError>
     requires { 1 ≤ patience_of pace }
 {
     match pace {
         Pace::Patience(patience) => recorder.drive(rt, alloc, seat, gate, patience, steps),
-        Pace::HeardOut(patience) => {
-            recorder.drive_heard_out(rt, alloc, seat, gate, sleepers, patience, steps)
-        }
+        Pace::HeardOut(patience) => match end {
+            RunEnd::Steps => {
+                recorder.drive_heard_out(rt, alloc, seat, gate, company, patience, steps)
+            }
+            RunEnd::Decided => {
+                recorder.drive_until_decided(rt, alloc, seat, gate, company, patience, steps)
+            }
+        },
     }
 }

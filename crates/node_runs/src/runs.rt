@@ -1,6 +1,6 @@
 //! Runs of the agreement algorithm: a thread for each processor, and the trace of what they did together.
 
-ghost use Rattle.std.specs.Prelude.{◌≡◌, ◌≢◌, ◌↔◌, ◌*◌, ◌≤◌, ℕ, List, Some, None, IfOk, IfErr, OnOk, MatchResult, IsTrue, length, ◌⊎◌};
+ghost use Rattle.std.specs.Prelude.{◌≡◌, ◌≢◌, ◌↔◌, ◌*◌, ◌≤◌, ℕ, List, Some, None, IfOk, IfErr, OnOk, OnErr, MatchResult, IsTrue, length, ◌⊎◌};
 ghost use Rattle.std.specs.Io.KnownBytes.{Appends};
 ghost use Rattle.command_options.specs.Paces.{patience_of};
 ghost use Rattle.step_trace.specs.declared.traces.TheConstants.{MAX_STEPS};
@@ -8,15 +8,16 @@ ghost use Rattle.step_trace.specs.Configurations.{Setup};
 ghost use Rattle.locked_recorder.specs.Prefixes.{IsRunOf};
 ghost use Rattle.trace_text.specs.ByteLoops.{WasFaultless};
 ghost use Rattle.trace_text.specs.Faults.{inner_of, is_flushed};
-ghost use Rattle.command_faults.specs.Printing.{IsWriteFault};
+ghost use Rattle.command_faults.specs.Printing.{IsWriteFault, WentOut};
 ghost use Rattle.node_runs.specs.Followers.{HasFollowed, HasTold, IsLine};
-ghost use Rattle.node_runs.specs.Runs.{HaveDone, IsEvenRun, IsEvenRunText, IsFaultOfNodes, IsFaultOfThreads, IsUnwrittenRun, ending_of, gravity, fault_of_ending};
+ghost use Rattle.node_runs.specs.Runs.{AllDecided, HaveDone, HaveDoneAtMost, HaveEnded, IsEndedRun, IsEndedRunText, IsFaultOfNodes, IsFaultOfThreads, IsUnwrittenRun, ending_of, gravity, fault_of_ending};
 
+use crate::decision_lines::decisions_text;
 use crate::followers::Follower;
 use crate::paces::driven;
-use command_faults::Fault;
-use command_options::Pace;
-use locked_recorder::{AuditError, DriveError, DriveStop, RecordError, Recorder, Seat, Sleepers};
+use command_faults::{Fault, print_notes};
+use command_options::{Pace, RunEnd};
+use locked_recorder::{AuditError, Company, DriveError, DriveStop, RecordError, Recorder, Seat};
 use std::alloc::Global;
 use std::io::Write;
 use std::sync::Wait;
@@ -41,40 +42,47 @@ enum Ending {
     Refused,
 }
 
-/// Runs the nodes of a configuration, a thread for each, which makes so many steps; and writes the trace of all
-/// their steps. The pace says when a Receive ends a round. Each thread enters the gate before its
-/// first step. Nothing is written before all threads have ended. A follower, if there is one, tells of the run
-/// meanwhile, and of the whole of it at its end; whatever becomes of that, the run is the same.
+/// Runs the nodes of a configuration, a thread for each; and writes the trace of all their steps. The pace says when a
+/// Receive ends a round, and `end` when the run ends: each thread makes so many steps at most. Each thread enters the
+/// gate before its first step. Nothing is written before all threads have ended. A follower, if there is one, tells of the
+/// run meanwhile, and of the whole of it at its end. When the trace is written, the notes get a line that says who decided
+/// what, and in which tick. Whatever becomes of what is told, the run is the same.
 ///
 /// Asks for a pace of a patience of at least 1, and for at most `MAX_STEPS` steps of all processors together. Waits for
 /// the threads. Refuses, in this order: Threads where a thread wasn't started or the gate held it back; Memory;
-/// NotARun(0) where a step is refused, or where what was done doesn't make up one run; Write with the number
-/// of bytes that went out before.
-pub fn run_nodes<R: Threads + Wait + Clock + Sync, W: Write, G: Gate, E: Write + Send>(
+/// NotARun(0) where a step is refused, or where what was done doesn't make up one run that has ended; Write with the
+/// number of bytes that went out before.
+pub fn run_nodes<R: Threads + Wait + Clock + Sync, W: Write, G: Gate, E: Write + Send, N: Write>(
     rt: &R,
     alloc: Global,
     config: &Config,
     pace: Pace,
+    end: RunEnd,
     steps: u64,
     gate: &G,
     follower: &mut Option<Follower<E>>,
     writer: &mut Counting<W>,
+    notes: &mut Counting<N>,
 ) -> Result<(), Fault>
     requires patient { 1 ≤ patience_of pace }
     requires room { config.now.n * steps ≤ MAX_STEPS }
-    ensures run { OnOk result ((text : List ℕ) × IsEvenRunText config.now steps text
+    ensures run { OnOk result ((text : List ℕ) × IsEndedRunText end config.now steps (WentOut N.contents notes.old notes.new) text
         × Appends (W.contents (inner_of writer.old)) (W.contents (inner_of writer.new)) text) }
     ensures flushed { OnOk result (IsTrue (is_flushed writer.new)) }
     ensures faultless { OnOk result (WasFaultless writer.old writer.new) }
     ensures own { IfErr result IsFaultOfNodes }
     ensures part { IfErr result
-        (IsUnwrittenRun config.now steps (W.contents (inner_of writer.old)) (W.contents (inner_of writer.new))) }
+        (IsUnwrittenRun end config.now steps (W.contents (inner_of writer.old)) (W.contents (inner_of writer.new))) }
     ensures unwritten { IfErr result (IsWriteFault writer.old writer.new) }
+    ensures quiet { OnErr result (notes.new ≡ notes.old) }
     ensures followed { HasFollowed E.contents config.now follower.old follower.new }
 {
-    let world = world_made(rt, alloc, config, pace, steps, gate, follower)?;
+    let world = world_made(rt, alloc, config, pace, end, steps, gate, follower)?;
+    let decided = decisions_text(alloc, &world)?;
     tell_whole(alloc, &world, follower);
-    Ok(write_trace(alloc, world.trace(), writer)?)
+    write_trace(alloc, world.trace(), writer)?;
+    print_notes(decided.as_str(), notes);
+    Ok(())
 }
 
 /// Tells of the whole of a run, where there is a follower.
@@ -92,29 +100,30 @@ fn world_made<R: Threads + Wait + Clock + Sync, G: Gate, E: Write + Send>(
     alloc: Global,
     config: &Config,
     pace: Pace,
+    end: RunEnd,
     steps: u64,
     gate: &G,
     follower: &mut Option<Follower<E>>,
 ) -> Result<World, Fault>
     requires patient { 1 ≤ patience_of pace }
     requires room { config.now.n * steps ≤ MAX_STEPS }
-    ensures run { IfOk result (λ world. IsEvenRun config.now steps world.trace) }
+    ensures run { IfOk result (λ world. IsEndedRun end config.now steps world.trace) }
     ensures own { IfErr result IsFaultOfThreads }
     ensures followed { HasFollowed E.contents config.now follower.old follower.new }
 {
     let room = config.n() * steps;
     let (recorder, mut seats) = Recorder::new(alloc, config.copy(alloc)?, 0, room)?;
-    let sleepers = Sleepers::new(alloc, config.n())?;
+    let company = Company::new(alloc, config.n())?;
     let ending = match follower {
         Some(follower) => drive_followed(
-            rt, alloc, &recorder, &sleepers, &mut seats, pace, steps, gate, follower,
+            rt, alloc, &recorder, &company, &mut seats, pace, end, steps, gate, follower,
         ),
         None => drive_all(
-            rt, alloc, &recorder, &sleepers, &mut seats, pace, steps, gate,
+            rt, alloc, &recorder, &company, &mut seats, pace, end, steps, gate,
         ),
     };
     judged(ending)?;
-    audited(alloc, recorder, &seats, steps)
+    audited(alloc, recorder, &seats, end, steps)
 }
 
 /// Drives each seat in a thread of its own, while another thread follows; and tells the gravest ending of all.
@@ -123,9 +132,10 @@ fn drive_followed<R: Threads + Wait + Clock + Sync, G: Gate, E: Write + Send>(
     rt: &R,
     alloc: Global,
     recorder: &Recorder,
-    sleepers: &Sleepers,
+    company: &Company,
     seats: &mut [Seat],
     pace: Pace,
+    end: RunEnd,
     steps: u64,
     gate: &G,
     follower: &mut Follower<E>,
@@ -145,7 +155,7 @@ fn drive_followed<R: Threads + Wait + Clock + Sync, G: Gate, E: Write + Send>(
             requires { 1 ≤ patience_of pace }
         {
             drive_to_end(
-                rt, alloc, recorder, sleepers, gate, pace, steps, ended, seats,
+                rt, alloc, recorder, company, gate, pace, end, steps, ended, seats,
             )
         },
     );
@@ -157,16 +167,17 @@ fn drive_to_end<R: Threads + Wait + Sync, G: Gate>(
     rt: &R,
     alloc: Global,
     recorder: &Recorder,
-    sleepers: &Sleepers,
+    company: &Company,
     gate: &G,
     pace: Pace,
+    end: RunEnd,
     steps: u64,
     ended: &AtomicBool,
     seats: &mut [Seat],
 ) -> Ending
     requires { 1 ≤ patience_of pace }
 {
-    let ending = drive_all(rt, alloc, recorder, sleepers, seats, pace, steps, gate);
+    let ending = drive_all(rt, alloc, recorder, company, seats, pace, end, steps, gate);
     ended.store(true, Ordering::SeqCst);
     ending
 }
@@ -176,9 +187,10 @@ fn drive_all<R: Threads + Wait + Sync, G: Gate>(
     rt: &R,
     alloc: Global,
     recorder: &Recorder,
-    sleepers: &Sleepers,
+    company: &Company,
     seats: &mut [Seat],
     pace: Pace,
+    end: RunEnd,
     steps: u64,
     gate: &G,
 ) -> Ending
@@ -196,10 +208,10 @@ fn drive_all<R: Threads + Wait + Sync, G: Gate>(
             for seat in seats.iter_mut() {
                 let drive = move || -> Ending
                     requires { 1 ≤ patience_of pace }
-                { how_ended(driven(rt, alloc, recorder, seat, gate, sleepers, pace, steps)) };
+                { how_ended(driven(rt, alloc, recorder, seat, gate, company, pace, end, steps)) };
                 // The threads that run are joined where the scope ends.
                 let Ok(started) = scope.spawn(drive) else {
-                    sleepers.rouse(rt);
+                    company.rouse(rt);
                     return Ending::Held;
                 };
                 if threads.push(started).is_err() {
@@ -272,9 +284,15 @@ fn judged(ending: Ending) -> Result<(), Fault>
     }
 }
 
-/// The World of a recorder, if what was done from its seats makes up one run of so many steps of each.
-fn audited(alloc: Global, recorder: Recorder, seats: &[Seat], steps: u64) -> Result<World, Fault>
-    ensures run { IfOk result (λ world. IsEvenRun recorder.config steps world.trace) }
+/// The World of a recorder, if what was done from its seats makes up one run that has ended.
+fn audited(
+    alloc: Global,
+    recorder: Recorder,
+    seats: &[Seat],
+    end: RunEnd,
+    steps: u64,
+) -> Result<World, Fault>
+    ensures run { IfOk result (λ world. IsEndedRun end recorder.config steps world.trace) }
     ensures own { IfErr result IsFaultOfThreads }
     ensures no_threads { IfErr result (λ why. why ≢ Fault.Threads) }
 {
@@ -283,10 +301,34 @@ fn audited(alloc: Global, recorder: Recorder, seats: &[Seat], steps: u64) -> Res
         Err(AuditError::Memory) => return Err(Fault::Memory),
         Err(_) => return Err(Fault::NotARun(0, None)),
     };
-    if !have_done(seats, steps) {
+    if !have_ended(&world, seats, end, steps) {
         return Err(Fault::NotARun(0, None));
     }
     Ok(world)
+}
+
+/// Whether what was done from the seats is all of a run that has ended, where each makes so many steps at most.
+fn have_ended(world: &World, seats: &[Seat], end: RunEnd, steps: u64) -> bool
+    ensures { IsTrue result → HaveEnded end world.now.trace.config steps world.now.trace.steps seats.now }
+{
+    match end {
+        RunEnd::Steps => have_done(seats, steps),
+        RunEnd::Decided => {
+            have_done_at_most(seats, steps) && (have_decided(world) || have_done(seats, steps))
+        }
+    }
+}
+
+/// Whether all processors have decided.
+fn have_decided(world: &World) -> bool
+    ensures { IsTrue result → AllDecided world.now.trace.config world.now.trace.steps }
+{
+    for p in 1..world.trace().config().n() + 1 {
+        if world.decision(p).is_none() {
+            return false;
+        }
+    }
+    true
 }
 
 /// Whether so many steps were made from each seat.
@@ -296,9 +338,23 @@ fn have_done(seats: &[Seat], steps: u64) -> bool
     seats.iter().all(|seat| has_done(seat, steps))
 }
 
+/// Whether at most so many steps were made from each seat.
+fn have_done_at_most(seats: &[Seat], steps: u64) -> bool
+    ensures { IsTrue result ↔ HaveDoneAtMost steps seats.now }
+{
+    seats.iter().all(|seat| has_done_at_most(seat, steps))
+}
+
 /// Whether so many steps were made from a seat.
 fn has_done(seat: &Seat, steps: u64) -> bool
     ensures { IsTrue result ↔ (length seat.now.done ≡ steps) }
 {
     seat.done().len() as u64 == steps
+}
+
+/// Whether at most so many steps were made from a seat.
+fn has_done_at_most(seat: &Seat, steps: u64) -> bool
+    ensures { IsTrue result ↔ (length seat.now.done ≤ steps) }
+{
+    seat.done().len() as u64 <= steps
 }

@@ -81,7 +81,8 @@ fn words(rt: &HostRuntime) -> Result<Vec<String>, Fault> {
     Ok(words)
 }
 
-/// Prints the trace of a run of the nodes. Where it is to be followed, tells of the run meanwhile.
+/// Prints the trace of a run of the nodes, and says on standard error who decided. Where it is to be followed, tells of the
+/// run meanwhile.
 fn run_of<T: Threads + Wait + Clock + Sync>(
     rt: &HostRuntime,
     threads: &T,
@@ -90,6 +91,7 @@ fn run_of<T: Threads + Wait + Clock + Sync>(
     let RunOptions {
         config,
         pace,
+        end,
         steps,
         follow,
     } = options;
@@ -102,10 +104,12 @@ fn run_of<T: Threads + Wait + Clock + Sync>(
         rt.alloc(),
         &config,
         pace,
+        end,
         steps,
         &OpenGate,
         &mut follower,
         &mut Counting::new(&mut output),
+        &mut Counting::new(rt.stderr()),
     );
     output.ended(made)
 }

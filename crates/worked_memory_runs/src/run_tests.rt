@@ -4,7 +4,7 @@
 ghost use Rattle.std.specs.Prelude.{◌≡◌, IfSome};
 
 use command_faults::Fault;
-use node_runs::{Pace, follower_for, run_nodes};
+use node_runs::{Pace, RunEnd, follower_for, run_nodes};
 use refused_growths::{Outcome, Refusal, judged};
 use std::alloc::Global;
 use std::sync::Wait;
@@ -57,10 +57,12 @@ fn run_three<R: Threads + Wait + Clock + Sync>(
         alloc,
         config,
         Pace::Patience(1),
+        RunEnd::Steps,
         20,
         &OpenGate,
         &mut follower,
         &mut output,
+        &mut Counting::new(&mut Vec::new(alloc)),
     )
 }
 

@@ -4,7 +4,7 @@ ghost use Rattle.std.specs.Prelude.{◌≡◌, ◌*◌, ◌≤◌, IfSome, lengt
 ghost use Rattle.step_trace.specs.declared.traces.TheConstants.{MAX_STEPS};
 
 use command_faults::{Fault, fault_text, status};
-use node_runs::{Follower, Pace, follower_for, run_nodes};
+use node_runs::{Follower, Pace, RunEnd, follower_for, run_nodes};
 use std::alloc::{AllocError, Global};
 use std::io::ErrorKind;
 use std::sync::Wait;
@@ -49,10 +49,12 @@ fn run_each<R: Threads + Wait + Clock + Sync, G: Gate>(
         alloc,
         &config,
         Pace::Patience(1),
+        RunEnd::Steps,
         steps,
         gate,
         &mut nobody(),
         &mut Counting::new(writer),
+        &mut Counting::new(&mut Vec::new(alloc)),
     )
 }
 
@@ -171,10 +173,12 @@ fn run_followed<R: Threads + Wait + Clock + Sync>(
         alloc,
         &config,
         Pace::Patience(1),
+        RunEnd::Steps,
         steps,
         &OpenGate,
         &mut follower,
         &mut Counting::new(writer),
+        &mut Counting::new(&mut Vec::new(alloc)),
     )
 }
 
@@ -237,10 +241,12 @@ fn run_followed_twice<R: Threads + Wait + Clock + Sync>(
             alloc,
             &config,
             Pace::Patience(1),
+            RunEnd::Steps,
             steps,
             &OpenGate,
             &mut follower,
             &mut Counting::new(&mut writer),
+            &mut Counting::new(&mut Vec::new(alloc)),
         )?;
     }
     Ok(())

@@ -8,7 +8,7 @@ ghost use Rattle.step_trace.specs.declared.traces.TheConstants.{MAX_STEPS};
 ghost use Rattle.command_line.specs.declared.jobs.run.TheConstants.{MAX_PATIENCE};
 ghost use Rattle.command_line.specs.Arguments.{IsArgument, IsCommand, number_rule, optional_number_rule};
 ghost use Rattle.command_line.specs.Commands.Run.{run_app, run_given};
-ghost use Rattle.command_line.specs.RunJobs.{AreListed, IsConfigFault, IsConfigOf, IsFollowFault, IsFollowed, IsLimitFault, IsPaceFault, IsRefusedIn, IsRunFault, IsRunJob, TellsConfig, pace_of, usual_patience};
+ghost use Rattle.command_line.specs.RunJobs.{AreListed, IsConfigFault, IsConfigOf, IsEndFault, IsFollowFault, IsFollowed, IsLimitFault, IsPaceFault, IsRefusedIn, IsRunFault, IsRunJob, TellsConfig, end_of, pace_of, usual_patience};
 
 use crate::jobs::Job;
 use crate::jobs::arguments::{
@@ -18,7 +18,7 @@ use crate::jobs::value_lists::read_values;
 use crate::line_errors::LineError;
 use clap::builder::ValueParser;
 use clap::{Arg, ArgMatches, Command};
-use command_options::{Pace, RunOptions};
+use command_options::{Pace, RunEnd, RunOptions};
 use std::alloc::{AllocError, Global};
 use step_trace::{Config, ConfigError, Correct, MAX_PROCESSORS, MAX_STEPS};
 
@@ -36,6 +36,8 @@ const PATIENCE_HELP: &str = "How many Receives a round takes at most, from 1 to 
 
 const STEPS_HELP: &str = "The steps that each makes; N * S is at most 1000000";
 
+const UNTIL_HELP: &str = "Ends the run once all have decided: decided";
+
 const FOLLOW_HELP: &str =
     "Tells of the bounds of these processors meanwhile: 1,2,5, or all, or none";
 
@@ -43,6 +45,11 @@ const BAD_PACE: &str = "synchrony: bad --pace\nsynchrony: --pace takes heard-out
 
 const NO_PATIENCE: &str =
     "synchrony: bad --patience\nsynchrony: --pace patience takes --patience P too";
+
+const BAD_END: &str = "synchrony: bad --until\nsynchrony: --until takes decided";
+
+const NEEDS_HEARD_OUT: &str =
+    "synchrony: bad --until\nsynchrony: --until decided takes --pace heard-out too";
 
 /// The greatest patience.
 const MAX_PATIENCE: u64 = 1_000_000;
@@ -58,6 +65,7 @@ pub fn command<'a>(alloc: Global) -> Result<Command<'a>, AllocError>
         optional_argument(alloc, "pace", "NAME", PACE_HELP),
         patience_option(alloc),
         number_option(alloc, "steps", "S", STEPS_HELP, 0, MAX_STEPS as u64),
+        optional_argument(alloc, "until", "decided", UNTIL_HELP),
         optional_argument(alloc, "follow", "LIST", FOLLOW_HELP),
     ]?;
     new_command(alloc, "run", ABOUT, help(), arguments)
@@ -89,9 +97,9 @@ fn patience_option<'a>(alloc: Global) -> Arg<'a>
 
 /// The job that the words after `run` ask for; none where one of them lacks.
 ///
-/// Refuses a list of processors that isn't one; a pace that isn't one, or that needs a patience; a number of processors outside its limits; too many that may be
-/// faulty; values that aren't one for each processor; and more than `MAX_STEPS` steps of all processors together.
-/// Memory may come instead.
+/// Refuses a list of processors that isn't one; a pace that isn't one, or that needs a patience; an end that isn't one, or
+/// that its pace can't have; a number of processors outside its limits; too many that may be faulty; values that aren't
+/// one for each processor; and more than `MAX_STEPS` steps of all processors together. Memory may come instead.
 pub fn job(alloc: Global, found: &ArgMatches<'_>) -> Option<Result<Job, LineError>>
     ensures { run_given (rows_of (found_of found.now)) result }
 {
@@ -101,8 +109,9 @@ pub fn job(alloc: Global, found: &ArgMatches<'_>) -> Option<Result<Job, LineErro
     let pace = text(found, "pace");
     let patience = optional_number(found, "patience", 1, MAX_PATIENCE)?;
     let steps = number(found, "steps", 0, MAX_STEPS as u64)?;
+    let until = text(found, "until");
     let follow = text(found, "follow");
-    Some(run(alloc, n, t, values, pace, patience, steps, follow))
+    Some(run(alloc, n, t, values, pace, patience, steps, until, follow))
 }
 
 /// The job of a run with these words.
@@ -114,20 +123,23 @@ fn run(
     name: Option<&str>,
     patience: Option<u64>,
     steps: u64,
+    until: Option<&str>,
     follow: Option<&str>,
 ) -> Result<Job, LineError>
     requires patient { IfSome patience (λ p. 1 ≤ p) }
     ensures job { IfOk result (IsRunJob n t values.now (option_map (λ text. text.now) name.entry) patience steps
-        (option_map (λ list. list.now) follow.entry)) }
+        (option_map (λ text. text.now) until.entry) (option_map (λ list. list.now) follow.entry)) }
     ensures refused { IfErr result (IsRunFault n t values.now (option_map (λ text. text.now) name.entry) patience steps
-        (option_map (λ list. list.now) follow.entry)) }
+        (option_map (λ text. text.now) until.entry) (option_map (λ list. list.now) follow.entry)) }
 {
     let follow = followed(alloc, follow)?;
     let pace = paced(alloc, most_patience(n), name, patience)?;
+    let end = ended(alloc, pace, until)?;
     let config = limited(alloc, n, t, values, steps)?;
     Ok(Job::Run(RunOptions {
         config,
         pace,
+        end,
         steps,
         follow,
     }))
@@ -191,6 +203,31 @@ fn named_pace(
             None => Err(refused_in(alloc, NO_PATIENCE)?),
         },
         _ => Err(refused_in(alloc, BAD_PACE)?),
+    }
+}
+
+/// The end that a run of this pace is to have, where one is asked for: that of its steps, or of the decisions.
+fn ended(alloc: Global, pace: Pace, until: Option<&str>) -> Result<RunEnd, LineError>
+    ensures end { IfOk result (λ end. end_of pace (option_map (λ text. text.now) until.entry) ≡ Ok end) }
+    ensures refused { IfErr result (IsEndFault pace (option_map (λ text. text.now) until.entry)) }
+{
+    match until {
+        None => Ok(RunEnd::Steps),
+        Some(name) => named_end(alloc, pace, name),
+    }
+}
+
+/// The end of this name.
+fn named_end(alloc: Global, pace: Pace, name: &str) -> Result<RunEnd, LineError>
+    ensures end { IfOk result (λ end. end_of pace (Some name.now) ≡ Ok end) }
+    ensures refused { IfErr result (IsEndFault pace (Some name.now)) }
+{
+    match name {
+        "decided" => match pace {
+            Pace::HeardOut(_) => Ok(RunEnd::Decided),
+            Pace::Patience(_) => Err(refused_in(alloc, NEEDS_HEARD_OUT)?),
+        },
+        _ => Err(refused_in(alloc, BAD_END)?),
     }
 }
 
@@ -273,9 +310,13 @@ ends the round:
              thread that has nothing to do sleeps until a message comes.
   patience   the P-th of the round, whatever was heard. Threads step in bursts,
              so a round often ends before a message of it comes.
-Without --pace it is heard-out, or patience where --patience is given. Each makes
-S steps, in whatever order the threads run. The trace of all steps is printed as
-`report` and `replay` read it. The values are numbers of 64 bits.
+Without --pace it is heard-out, or patience if --patience is given. Each makes
+S steps, in whatever order the threads run. With --until decided, which takes the
+pace heard-out, the run ends once all have decided, and S is how many each makes
+at most. The trace of all steps is printed as `report` and `replay` read it. The
+values are numbers of 64 bits. Then standard error has a line that says who
+decided, as
+  synchrony: 2 of 3 processors decided; 3 decided 7 in tick 31; 1 decided 7 in tick 36
 
 With --follow LIST, standard error tells meanwhile how synchronous the threads
 are so far, where the processors of LIST count as correct: in a line when at
@@ -291,10 +332,10 @@ prints
   dls-trace,1,3,1
   init,5,7,7
   end,0
-Whether the processors decide depends on the order of their steps. By heard-out
-they mostly do:
-  ./synchrony run --nodes 3 --faults 1 --values 5,7,7 --steps 2000 |
-    ./synchrony replay -
+and standard error says that 0 of 3 processors decided. Whether the processors
+decide depends on the order of their steps. By heard-out they mostly do:
+  ./synchrony run --nodes 3 --faults 1 --values 5,7,7 --steps 2000 \\
+    --until decided >decided.trace
 
 Exit status:
   0  the trace is printed, or this text

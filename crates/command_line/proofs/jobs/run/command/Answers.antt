@@ -9,7 +9,7 @@ returns c = c.new_command.ensures _ (rw c.in_ok-arguments.ensures.items (
       c.option_argument.ensures,
       (
         c.optional_argument.ensures,
-        (c.patience_option.ensures, (c.number_option-3.ensures, (c.optional_argument-2.ensures, tt))),
+        (c.patience_option.ensures, (c.number_option-3.ensures, (c.optional_argument-2.ensures, (c.optional_argument-3.ensures, tt)))),
       ),
     ),
   ),
