@@ -1,5 +1,5 @@
 #!/usr/bin/env python3
-"""Which of two schedulers keeps the smaller bounds: 200 runs of each, judged by the library, as a test harness would.
+"""Which of two schedulers keeps the smaller bounds: a survey of 200 runs of each, as a test harness would make it.
 
     examples/compare_schedulers.py [--runs N] [--steps N] [--tick N] [--seed N]
 
@@ -10,12 +10,11 @@ from the tick on, over all runs of a scheduler. Without the library (`./library`
 """
 import argparse
 import random
-import statistics
 import sys
 from pathlib import Path
 
-sys.path.insert(0, str(Path(__file__).resolve().parent.parent / "bindings"))
-import synchrony
+sys.path.insert(0, str(Path(__file__).resolve().parent.parent / "python/src"))
+import synchrony as sy
 
 PROCESSORS = [1, 2, 3, 4]
 CHANCE = 3 / 4
@@ -50,9 +49,12 @@ def trace_of(schedule, steps, chance):
     return "\n".join([*lines, f"end,{steps}", ""]).encode()
 
 
-def row_at(rows, tick):
-    """The row that serves a tick: the last one that begins no later."""
-    return [it for it in rows if it.gst <= tick][-1]
+def traces_of(words):
+    """The traces of both schedulers, each with its scheduler's name, made as they are needed."""
+    for schedule in (in_turns, at_random):
+        chance = random.Random(words.seed)
+        for _ in range(words.runs):
+            yield schedule.__name__, trace_of(schedule(chance), words.steps, chance)
 
 
 def main():
@@ -61,13 +63,9 @@ def main():
         words.add_argument(f"--{name}", type=int, default=usual)
     words = words.parse_args()
     print("scheduler,bound,least,median,greatest")
-    for schedule in (in_turns, at_random):
-        chance = random.Random(words.seed)
-        traces = [trace_of(schedule(chance), words.steps, chance) for _ in range(words.runs)]
-        rows = [row_at(synchrony.report(it, PROCESSORS), words.tick) for it in traces]
-        for bound in ("delta", "phi"):
-            found = [getattr(it, bound) for it in rows]
-            print(f"{schedule.__name__},{bound},{min(found)},{statistics.median(found):g},{max(found)}")
+    # (the name of a trace is also its group)
+    for it in sy.survey(traces_of(words), PROCESSORS, at=words.tick, group=str).groups():
+        print(f"{it.group},{it.bound},{it.least},{it.median:g},{it.greatest}")
 
 
 if __name__ == "__main__":

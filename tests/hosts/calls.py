@@ -8,10 +8,8 @@ import sys
 from pathlib import Path
 
 sys.dont_write_bytecode = True
-sys.path.insert(0, str(Path(__file__).resolve().parents[2] / "bindings"))
+sys.path.insert(0, str(Path(__file__).resolve().parents[2] / "python/src"))
 import synchrony
-
-SAID = {synchrony.TraceRefused: ("trace: ", 3), synchrony.CertificateRefused: ("certificate: ", 4)}
 
 
 def main(command, correct, *certificate):
@@ -23,13 +21,9 @@ def main(command, correct, *certificate):
         verdict = synchrony.check(trace, Path(certificate[0]).read_bytes(), correct)
         print(verdict)
         return 0 if verdict else 1
-    except synchrony.SetRefused:
-        print("synchrony: no such processor in --correct", file=sys.stderr)
-        return 2
-    except synchrony.Refused as why:
-        lead, status = SAID[type(why)]
-        print(f"synchrony: {lead}{why}", file=sys.stderr)
-        return status
+    except synchrony.SynchronyError as why:
+        print(f"synchrony: {why}", file=sys.stderr)
+        return why.status
 
 
 if __name__ == "__main__":

@@ -1,0 +1,440 @@
+"""Many traces, one table: the bounds of each, computed by the proved library on as many workers as there are.
+
+    table = survey(Path("runs").glob("*.trace"), correct="all", at=500, group="parent")
+    print(table.csv())
+    for it in table.groups():
+        print(it.group, it.bound, it.median, it.greatest)
+
+The work is given to an Executor of concurrent.futures: processes of this machine as a rule, or a cluster, as
+dask.distributed.Client(..).get_executor() and mpi4py.futures give one. No work is distributed by any other means.
+"""
+
+from __future__ import annotations
+
+import csv
+import io
+import math
+import multiprocessing
+import os
+import statistics
+import sys
+from collections import deque
+from concurrent.futures import BrokenExecutor, Executor, Future, ProcessPoolExecutor
+from dataclasses import dataclass, field
+from pathlib import Path, PurePath
+from typing import TYPE_CHECKING, Any, Callable, Deque, Dict, Iterable, Iterator, List, NamedTuple, Optional, Sequence, Tuple, Union
+
+from . import library
+
+if TYPE_CHECKING:
+    import pandas
+
+# A batch is full with so many traces, or with so many bytes of them where bytes are sent.
+BATCH_TRACES = 100
+BATCH_BYTES = 4 << 20
+
+# A trace to survey: a path, or its text, which may have a name before it.
+Source = Union[library.Text, Tuple[str, library.Text]]
+Group = Union[None, str, Callable[[str], str]]
+# What is sent of a trace: its place in the input, its name, and its text or a path.
+Piece = Tuple[int, str, Union[bytes, str]]
+
+
+class Bounds(NamedTuple):
+    """The least bounds that hold from a tick on to the end of a trace, in ticks."""
+
+    delta: int
+    phi: int
+
+
+class Surveyed(NamedTuple):
+    """What a survey says of one trace: its steps and ticks, and its bounds from each tick of the survey on, which are None
+    where the trace ends before. Of a trace without an answer `error` has the words, and nothing else is said."""
+
+    name: str
+    group: str
+    steps: Optional[int]
+    ticks: Optional[int]
+    bounds: Tuple[Optional[Bounds], ...]
+    error: Optional[str]
+
+
+class Spread(NamedTuple):
+    """How one bound is spread over the traces of a group. A share of 90 % is the least value that at least 90 % of the traces
+    don't exceed; the median is that of statistics, between the two in the middle."""
+
+    group: str
+    bound: str
+    traces: int
+    least: int
+    median: float
+    ninety: int
+    ninety_nine: int
+    greatest: int
+
+
+@dataclass(frozen=True)
+class Table:
+    """A row for each trace, in the order in which the traces were given."""
+
+    ticks: Tuple[int, ...]
+    rows: List[Surveyed] = field(default_factory=list)
+
+    def columns(self) -> List[str]:
+        """The names of the bounds: delta and phi, with their tick where there are several."""
+        if len(self.ticks) == 1:
+            return ["delta", "phi"]
+        return [f"{bound}@{tick}" for tick in self.ticks for bound in ("delta", "phi")]
+
+    def header(self) -> List[str]:
+        return ["name", "group", "steps", "ticks", *self.columns(), "error"]
+
+    def values(self) -> Iterator[List[Any]]:
+        """The values of each row, in the order of the header."""
+        for it in self.rows:
+            yield [it.name, it.group, it.steps, it.ticks, *_flat(it.bounds or (None,) * len(self.ticks)), it.error]
+
+    def csv(self) -> str:
+        """The table as a CSV with a header."""
+        return _csv([self.header(), *self.values()])
+
+    def frame(self) -> pandas.DataFrame:
+        """The table as a frame of pandas, which has to be installed."""
+        import pandas
+
+        frame = pandas.DataFrame(list(self.values()), columns=self.header())
+        return frame.astype({it: "Int64" for it in ("steps", "ticks", *self.columns())})
+
+    def groups(self) -> List[Spread]:
+        """How each bound is spread over the traces of each group that have it, in the order in which the groups came."""
+        found: Dict[Tuple[str, int], List[int]] = {}
+        for row in self.rows:
+            for at, value in enumerate(_flat(row.bounds)):
+                if value is not None:
+                    found.setdefault((row.group, at), []).append(value)
+        order = {row.group: at for at, row in reversed(list(enumerate(self.rows)))}
+        columns = self.columns()
+        return [_spread(group, columns[at], sorted(values)) for (group, at), values in sorted(found.items(), key=lambda it: (order[it[0][0]], it[0][1]))]
+
+    def groups_csv(self) -> str:
+        """The same as a CSV with a header."""
+        return _csv([["group", "bound", "count", "least", "median", "90%", "99%", "greatest"], *([*it[:4], f"{it.median:g}", *it[5:]] for it in self.groups())])
+
+    def errors(self) -> List[Surveyed]:
+        """The rows without an answer."""
+        return [it for it in self.rows if it.error is not None]
+
+
+def survey(
+    traces: Iterable[Source],
+    correct: library.Correct = "all",
+    at: Union[int, Iterable[int], None] = None,
+    group: Group = None,
+    executor: Optional[Executor] = None,
+    send_paths: Optional[bool] = None,
+    workers: Optional[int] = None,
+    batch: int = BATCH_TRACES,
+    progress: bool = False,
+) -> Table:
+    """One row for each trace, in their order: its bounds from each tick of `at` on, which is one tick, several, or left out
+    for tick 1.
+
+    `traces` are paths, texts, or pairs of a name and a text; a str is a text. They are read lazily: no more of them are
+    held than the workers have before them. `group` names the group of a trace: None for one group, "parent" for the folder
+    of a path, or a function of the trace's name.
+
+    `executor` is any Executor of concurrent.futures, which stays open; else so many processes as `workers` says, or as
+    there are processors, work on it. (Processes import the module that calls this, so a script needs its
+    `if __name__ == "__main__":`.) To them paths are sent, and to any other executor bytes; `send_paths` says otherwise,
+    for workers that share a file system.
+
+    A trace that is refused or can't be read has a row with its error. Where a worker dies, each trace of its batch is tried
+    once more, alone; a trace whose worker dies again has an error. If a given executor doesn't work any more, all that it
+    hasn't answered has an error.
+    """
+    ticks = (1,) if at is None else (at,) if isinstance(at, int) else tuple(at)
+    if not all(it >= 1 for it in ticks):
+        raise ValueError("a tick is at least 1")
+    _, listed = library._set_of(correct)
+    job = _Job("all" if listed == "all" else [int(it) for it in listed.split(",") if it != "none"], ticks)
+    work = _Work(job, executor, _processors() if workers is None else workers)
+    with_paths = executor is None if send_paths is None else send_paths
+    rows: List[Optional[Surveyed]] = []
+    told = _Progress(progress)
+    try:
+        for pieces, found in work.answers(_batches(_pieces(traces, with_paths), batch)):
+            rows += [None] * (pieces[-1][0] + 1 - len(rows))
+            for (place, name, _), answer in zip(pieces, found):
+                rows[place] = Surveyed(name, _group_of(group, name), *answer)
+            told.tell(len(pieces))
+    finally:
+        work.close()
+        told.close()
+    return Table(ticks, [it for it in rows if it is not None])
+
+
+# What a worker answers of a trace: the last four fields of a row.
+Answer = Tuple[Optional[int], Optional[int], Tuple[Optional[Bounds], ...], Optional[str]]
+
+
+class _Job(NamedTuple):
+    """What is asked of each trace."""
+
+    correct: Union[str, List[int]]
+    ticks: Tuple[int, ...]
+
+
+def _answers(job: _Job, pieces: Sequence[Piece]) -> List[Answer]:
+    """What a worker does with a batch."""
+    return [_answer(job, text) for _, _, text in pieces]
+
+
+def _answer(job: _Job, text: Union[bytes, str]) -> Answer:
+    """The answer for a text, or for the file of a path."""
+    try:
+        if isinstance(text, str):
+            with open(text, "rb", buffering=0) as file:
+                text = file.read()
+        report = library.report_text(text, job.correct)
+    except library.SynchronyError as why:
+        return None, None, (), str(why).partition("\n")[0]
+    except MemoryError:
+        return None, None, (), "out of memory"
+    except OSError as why:
+        return None, None, (), f"cannot read: {why.strerror or why}"
+    steps, last = _length(text)
+    return steps, last, tuple(_bounds_at(report, it) if it <= last else None for it in job.ticks), None
+
+
+def _length(trace: bytes) -> Tuple[int, int]:
+    """The numbers of steps and of ticks of a trace text that was accepted: by its last two records."""
+    rest, end = _last_record(trace)
+    _, before = _last_record(rest)
+    return (0 if before[0] == b"init" else int(before[0])), int(end[1])
+
+
+def _last_record(text: bytes) -> Tuple[bytes, List[bytes]]:
+    """What is before the last record, and its fields, which may be quoted. Blank lines are none."""
+    text = text.rstrip(b"\r\n")
+    at = max(text.rfind(b"\n"), text.rfind(b"\r"))
+    return text[: at + 1], [it.strip(b'"') for it in text[at + 1 :].split(b",")]
+
+
+def _bounds_at(report: bytes, tick: int) -> Bounds:
+    """The bounds of the row that applies to a tick: the last one that begins no later. Rows begin with rising ticks, so each
+    look halves what is left."""
+    low, high = report.index(b"\n") + 1, len(report)
+    # (a row that begins no later begins at low, and all that begin at high or behind it begin later)
+    while True:
+        at = report.rfind(b"\n", low, (low + high) // 2) + 1
+        if at <= low:
+            at = report.find(b"\n", low) + 1
+            if at >= high or at == 0:
+                break
+        if int(report[at : report.index(b",", at)]) <= tick:
+            low = at
+        else:
+            high = at
+    _, delta, phi = report[low : report.index(b"\n", low)].split(b",", 3)[:3]
+    return Bounds(int(delta), int(phi))
+
+
+def _pieces(traces: Iterable[Source], with_paths: bool) -> Iterator[Tuple[Piece, Optional[str]]]:
+    """What is sent of each trace, and the error of a file that can't be read here."""
+    for place, it in enumerate(traces):
+        name = None
+        if isinstance(it, tuple):
+            name, it = it
+        if isinstance(it, os.PathLike):
+            path = os.fspath(it)
+            name = path if name is None else name
+            if with_paths:
+                yield (place, name, os.path.abspath(path)), None
+                continue
+            try:
+                yield (place, name, Path(path).read_bytes()), None
+            except OSError as why:
+                yield (place, name, b""), f"cannot read: {why.strerror or why}"
+        else:
+            yield (place, str(place + 1) if name is None else name, library._bytes_of(it)), None
+
+
+# A batch: what is sent, or the one trace that can't be and its error.
+_Batch = Tuple[List[Piece], Optional[str]]
+
+
+def _batches(pieces: Iterable[Tuple[Piece, Optional[str]]], most: int) -> Iterator[_Batch]:
+    """The pieces in batches; one that has an error already is a batch of its own."""
+    batch: List[Piece] = []
+    size = 0
+    for piece, error in pieces:
+        if error is not None:
+            yield [piece], error
+            continue
+        batch.append(piece)
+        size += len(piece[2])
+        if len(batch) >= most or size >= BATCH_BYTES:
+            yield batch, None
+            batch, size = [], 0
+    if batch:
+        yield batch, None
+
+
+class _Work:
+    """Batches before an executor, some of them at a time, each of which is answered once."""
+
+    def __init__(self, job: _Job, given: Optional[Executor], workers: int) -> None:
+        self.job, self.given, self.workers = job, given, max(1, workers)
+        self.own: Optional[Executor] = None
+        self.most = 4 * self.workers if given is None else 64
+
+    def executor(self) -> Executor:
+        """The executor that was given, or processes that are started where there are none."""
+        if self.given is not None:
+            return self.given
+        if self.own is None:
+            # (the library isn't called in the forked child of a process with threads)
+            methods = multiprocessing.get_all_start_methods()
+            context = multiprocessing.get_context("forkserver" if "forkserver" in methods else "spawn")
+            self.own = ProcessPoolExecutor(self.workers, mp_context=context)
+        return self.own
+
+    def close(self) -> None:
+        if self.own is not None:
+            self.own.shutdown(cancel_futures=True)
+            self.own = None
+
+    def renew(self) -> None:
+        """New processes in place of broken ones. RuntimeError is raised where these don't even start."""
+        self.close()
+        try:
+            self.executor().submit(int).result()
+        except (BrokenExecutor, RuntimeError):
+            raise RuntimeError("the processes of a survey don't start: is it called below `if __name__ == \"__main__\":`?") from None
+
+    def answers(self, batches: Iterable[_Batch]) -> Iterator[Tuple[List[Piece], List[Answer]]]:
+        """Each batch with its answers, in no order but nearly theirs."""
+        before: Deque[Tuple[List[Piece], Optional[Future[List[Answer]]]]] = deque()
+        for pieces, error in batches:
+            if error is not None:
+                yield pieces, [_refused(error)]
+                continue
+            before.append((pieces, self.submit(pieces)))
+            if len(before) >= self.most:
+                yield from self.answered(before)
+        while before:
+            yield from self.answered(before)
+
+    def submit(self, pieces: List[Piece]) -> Optional[Future[List[Answer]]]:
+        """The batch before the executor, or None where that takes nothing any more."""
+        try:
+            return self.executor().submit(_answers, self.job, pieces)
+        except (BrokenExecutor, RuntimeError):
+            return None
+
+    def answered(self, before: Deque[Tuple[List[Piece], Optional[Future[List[Answer]]]]]) -> Iterator[Tuple[List[Piece], List[Answer]]]:
+        """The first batch with its answers. Where a worker died, all that was before the executor is looked after."""
+        pieces, future = before.popleft()
+        found = _result(future)
+        if isinstance(found, list):
+            yield pieces, found
+            return
+        lost = [pieces]
+        if self.given is None:
+            # One dead process ends all work of its pool: of the other batches those that aren't answered are lost too.
+            others = list(before)
+            before.clear()
+            for pieces, future in others:
+                done = _result(future)
+                if isinstance(done, list):
+                    yield pieces, done
+                else:
+                    lost.append(pieces)
+            self.renew()
+        for pieces in lost:
+            yield pieces, [self.again(it) for it in pieces]
+
+    def again(self, piece: Piece) -> Answer:
+        """The answer for a trace that is tried once more, alone."""
+        found = _result(self.submit([piece]))
+        if isinstance(found, list):
+            return found[0]
+        if self.given is None:
+            self.renew()
+        return _refused(f"no answer: {found}")
+
+
+def _result(future: Optional[Future[List[Answer]]]) -> Union[List[Answer], str]:
+    """The answers of a batch, or why there are none."""
+    if future is None:
+        return "the executor takes no work any more"
+    try:
+        return future.result()
+    except ImportError:
+        # (no worker has the library, and none will)
+        raise
+    except Exception as why:
+        return f"{type(why).__name__}: {why}".partition("\n")[0] if not isinstance(why, BrokenExecutor) else "its worker died"
+
+
+def _processors() -> int:
+    """How many processors there are for this process."""
+    return len(os.sched_getaffinity(0)) if hasattr(os, "sched_getaffinity") else os.cpu_count() or 1
+
+
+def _refused(error: str) -> Answer:
+    return None, None, (), error
+
+
+def _group_of(group: Group, name: str) -> str:
+    if group is None:
+        return ""
+    if group == "parent":
+        return PurePath(name).parent.name
+    if callable(group):
+        return str(group(name))
+    raise ValueError(f'a group is "parent" or a function of the name, not {group!r}')
+
+
+def _flat(bounds: Iterable[Optional[Bounds]]) -> Iterator[Optional[int]]:
+    for it in bounds:
+        yield from (None, None) if it is None else it
+
+
+def _spread(group: str, bound: str, values: List[int]) -> Spread:
+    """How these values are spread, which rise."""
+    ninety, ninety_nine = (values[math.ceil(share * len(values) / 100) - 1] for share in (90, 99))
+    return Spread(group, bound, len(values), values[0], statistics.median(values), ninety, ninety_nine, values[-1])
+
+
+def _csv(rows: Iterable[Iterable[Any]]) -> str:
+    text = io.StringIO()
+    csv.writer(text, lineterminator="\n").writerows(rows)
+    return text.getvalue()
+
+
+class _Progress:
+    """A line on standard error that says how many traces are done; tqdm draws it where it is installed."""
+
+    def __init__(self, is_on: bool) -> None:
+        self.done, self.is_on, self.bar = 0, is_on, None
+        if is_on:
+            try:
+                import tqdm
+
+                self.bar = tqdm.tqdm(unit=" traces", file=sys.stderr)
+            except ImportError:
+                pass
+
+    def tell(self, count: int) -> None:
+        self.done += count
+        if self.bar is not None:
+            self.bar.update(count)
+        elif self.is_on:
+            print(f"\r{self.done} traces", end="", file=sys.stderr, flush=True)
+
+    def close(self) -> None:
+        if self.bar is not None:
+            self.bar.close()
+        elif self.is_on:
+            print(file=sys.stderr)

@@ -1,0 +1,125 @@
+"""The calls of the library: what a trace and a set may be, what is answered, and what is raised."""
+
+import tempfile
+import threading
+from pathlib import Path
+
+import synchrony as sy
+from support import EXAMPLES, ONE_MISS, ONE_MISS_REPORT, needs, python, raises
+from synchrony import library
+
+
+def test_a_trace_may_be_bytes_and_their_like_a_str_or_a_path():
+    for trace in (ONE_MISS, bytearray(ONE_MISS), memoryview(ONE_MISS), memoryview(b"x" + ONE_MISS)[1:], ONE_MISS.decode(), EXAMPLES / "one-miss.trace"):
+        assert sy.report_text(trace, [1, 2]) == ONE_MISS_REPORT
+        assert sy.report_part(trace, "all", until=2, at=2)[0][:3] == (2, 1, 2)
+        assert sy.check(trace, ONE_MISS_REPORT, "all")
+    for certificate in (bytearray(ONE_MISS_REPORT), memoryview(ONE_MISS_REPORT), ONE_MISS_REPORT.decode()):
+        assert sy.check(ONE_MISS, certificate, [1, 2])
+    with raises(TypeError, "not list"):
+        sy.report([ONE_MISS], "all")
+    with raises(FileNotFoundError):
+        sy.report(Path("no such file"), "all")
+
+
+def test_rows_have_their_witnesses():
+    assert sy.report(ONE_MISS, [1, 2]) == [(1, 2, 3, 1, 2, 1, 2, 3), (2, 1, 3, None, None, 1, 2, 3), (3, 1, 2, None, None, 1, 3, 3)]
+    assert sy.report(b"dls-trace,1,2,0\ninit,5,7\nend,0\n", "all") == []
+
+
+def test_the_correct_processors_may_be_any_iterable_which_is_read_once():
+    for correct in ([1, 2], (2, 1, 2), {1, 2}, range(1, 3), iter([1, 2]), {1: "a", 2: "b"}, "all"):
+        assert sy.report_text(ONE_MISS, correct) == ONE_MISS_REPORT
+    # (a report that needs a second call, in more room)
+    idle = b"dls-trace,2,2,0\ninit,0,0\nend,1000\n"
+    library._rooms.room = None
+    assert [it[:3] for it in sy.report(idle, correct=(p for p in (1, 2)))] == [(tick, 1, 1002 - tick) for tick in range(1, 1001)]
+    assert [it[:3] for it in sy.report_part(idle, correct=(p for p in (1, 2)), until=10)] == [(tick, 1, 12 - tick) for tick in range(1, 11)]
+    # (without a correct processor there is nothing to keep)
+    assert [it[:3] for it in sy.report(ONE_MISS, [])] == [(1, 1, 1)]
+
+
+def test_a_set_that_the_trace_does_not_have_is_refused():
+    # (the library takes all 64 for all processors of the trace; named one by one they aren't)
+    for correct in ([3], [1, 2, 64], range(1, 65), [0], [65], "1,2", "none"):
+        for call in (sy.report, sy.report_text, sy.brief, sy.draw, lambda trace, them: sy.check(trace, ONE_MISS_REPORT, them)):
+            with raises(sy.SetRefused) as caught:
+                call(ONE_MISS, correct)
+            assert caught[0].status == 2
+    for correct in ([1.0], ["1"], 1):
+        with raises(TypeError):
+            sy.report(ONE_MISS, correct)
+
+
+def test_all_64_processors_may_be_named():
+    trace = f"dls-trace,1,64,0\ninit{',0' * 64}\n1,1,S,2\nend,1\n"
+    assert sy.report(trace, range(1, 65)) == sy.report(trace, "all") != []
+    assert sy.check(trace, sy.report_text(trace, "all"), range(1, 65))
+    assert not sy.check(trace, ONE_MISS_REPORT, range(1, 65))
+
+
+def test_errors_have_the_words_of_the_program():
+    twice = b"dls-trace,1,2,0\ninit,5,7\n1,1,S,2\n2,2,R,1\n3,2,R,1\nend,3\n"
+    for call, kind, words, status in [
+        (lambda: sy.report(twice, "all"), sy.TraceRefused, "trace: step 3: message 1 was received before", 3),
+        (lambda: sy.upgrade(twice), sy.TraceRefused, "trace: step 3: message 1 was received before", 3),
+        (lambda: sy.check(twice, b"", "all"), sy.TraceRefused, "trace: step 3: message 1 was received before", 3),
+        (lambda: sy.check(ONE_MISS, b"x", "all"), sy.CertificateRefused, "certificate: bad header", 4),
+        (lambda: sy.report(ONE_MISS, [3]), sy.SetRefused, "no such processor in --correct", 2),
+        (lambda: sy.report_part(ONE_MISS, "all", until=9), sy.SynchronyError, "bad --until", 2),
+        (lambda: sy.draw(ONE_MISS, "all", names=["a"]), sy.SynchronyError, "bad --names", 2),
+        (lambda: sy.import_log(b"x"), sy.TraceRefused, "log: no column time", 3),
+        (lambda: sy.replay(ONE_MISS), sy.SynchronyError, "not a run: step 1", 7),
+    ]:
+        with raises(sy.SynchronyError) as caught:
+            call()
+        assert (type(caught[0]), str(caught[0]).split("\n")[0], caught[0].status) == (kind, words, status)
+        assert isinstance(caught[0], ValueError)
+    with raises(ValueError, "line feed"):
+        sy.draw(ONE_MISS, "all", names=["a\n", "b"])
+
+
+def test_errors_survive_a_pickle():
+    import pickle
+
+    for kind in (sy.SynchronyError, sy.TraceRefused, sy.SetRefused, sy.CertificateRefused):
+        again = pickle.loads(pickle.dumps(kind("trace: bad header", 3)))
+        assert (type(again), str(again), again.status) == (kind, "trace: bad header", 3)
+
+
+def test_a_verdict_is_true_if_it_is_a_yes():
+    yes, no = sy.check(ONE_MISS, ONE_MISS_REPORT, "all"), sy.check(ONE_MISS, ONE_MISS_REPORT.replace(b"1,2,3,1,2,1,2,3\n", b""), "all")
+    assert (bool(yes), yes.reason, yes.numbers, str(yes)) == (True, None, (), "yes")
+    assert (bool(no), no.reason, no.numbers, str(no)) == (False, "FirstNotOne", (), "no FirstNotOne")
+
+
+def test_threads_have_rooms_of_their_own():
+    traces = [ONE_MISS, b"dls-trace,2,2,0\ninit,0,0\nend,1000\n"]
+    due, seen = [sy.report_text(it, "all") for it in traces], []
+
+    def work():
+        seen.append(all([sy.report_text(it, "all") for it in traces] == due for _ in range(200)))
+
+    threads = [threading.Thread(target=work) for _ in range(4)]
+    for it in threads:
+        it.start()
+    for it in threads:
+        it.join()
+    assert seen == [True] * 4
+
+
+def test_a_missing_library_is_an_import_error_that_says_what_to_run():
+    words = "import synchrony as sy; sy.simulate(lambda *_: (it for it in ()), [1, 2]); sy.report(b'', 'all')"
+    status, _, said = python("-c", words, SYNCHRONY_LIBRARY="/no/such/file.so")
+    last = said.strip().split("\n")[-1]
+    assert status == 1 and last.startswith("ImportError: libsynchrony.so isn't there: run ./library"), said
+    with tempfile.NamedTemporaryFile(suffix=".so") as file:
+        status, _, said = python("-c", "import synchrony as sy; sy.report(b'', 'all')", SYNCHRONY_LIBRARY=file.name)
+        assert status == 1 and "ImportError: " in said and file.name in said, said
+
+
+def test_a_frame_of_pandas():
+    needs("pandas")
+    frame = sy.frame(ONE_MISS, "all")
+    assert frame.delta.tolist() == [2, 1, 1] and list(frame.columns) == list(sy.Row._fields)
+    assert frame.sent.isna().tolist() == [False, True, True]

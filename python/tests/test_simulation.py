@@ -1,0 +1,208 @@
+"""Simulated runs: that a run is the schedule's, that its bounds are kept, and that the same arguments give it again."""
+
+import random
+import time
+
+import synchrony as sy
+from support import needs, raises
+from synchrony import AfterSends, Decide, Receive, Schedule, Send, broadcast, simulate, smallest
+
+RUNS = 10_000
+
+
+def ring(me, n, value):
+    while True:
+        yield Send(me % n + 1, value)
+        yield Receive()
+
+
+def steps_of(run):
+    """The steps of a run: number, tick, processor, operation and argument."""
+    return [(int(no), int(tick), int(p), op, arg) for no, tick, p, op, arg in (it.split(",") for it in run.trace.decode().split("\n")[2:-2])]
+
+
+def test_a_run_that_was_written_down_by_hand():
+    def node(me, n, value):
+        yield Send(me % n + 1, value)
+        taken = yield Receive()
+        yield Decide(taken)
+
+    run = simulate(node, [5, 7], Schedule(speed=1, prompt=1), ticks=3)
+    assert run.trace == b"dls-trace,2,2,0\ninit,5,7\n1,1,1,S,2\n2,1,2,S,1\n3,2,1,R,2\n4,2,2,R,1\n5,3,1,R,\n6,3,2,R,\nend,3\n"
+    assert run.decisions == [(1, 2, [(2, 7)]), (2, 2, [(1, 5)])] and run.decided() == {1: [(2, 7)], 2: [(1, 5)]}
+    assert (run.correct, run.steps, run.ticks) == ([1, 2], 6, 3)
+    assert run.check() and str(run.check()) == "from tick 1 on: delta 1 of 1, phi 1 of 1"
+
+
+def random_node(me, n, value):
+    """Some Sends, broadcasts and Receives, as chance has it, and an end."""
+    chance = random.Random(1000 * value + me)
+    for _ in range(value):
+        what = chance.random()
+        if what < 0.3:
+            yield Send(int(chance.random() * n) + 1, value)
+        elif what < 0.4:
+            yield from broadcast(n, value)
+        elif what < 0.5:
+            yield Decide(value)
+        else:
+            yield Receive()
+
+
+def random_schedule(chance, n):
+    chances = lambda: chance.choice([0, 0.2, 0.5, 1])
+    several = lambda: {it: chances() for it in range(1, n + 1) if chance.random() < 0.7} if chance.random() < 0.3 else chances()
+    crash = lambda: chance.randint(1, 50) if chance.random() < 0.5 else AfterSends(chance.randint(1, 6))
+    return Schedule(
+        gst=chance.choice([1, chance.randint(1, 30)]),
+        delta=chance.randint(1, 6),
+        phi=chance.randint(1, 6),
+        seed=chance.randint(0, 1 << 40),
+        speed=several(),
+        speed_before=several(),
+        prompt=chances(),
+        loss=several(),
+        crashed={it: crash() for it in range(1, n + 1) if chance.random() < 0.2},
+    )
+
+
+def test_10_000_runs_over_random_schedules():
+    chance, tight = random.Random(1), [0, 0]
+    for no in range(RUNS):
+        n = chance.randint(2, 5)
+        schedule, values = random_schedule(chance, n), [chance.randint(0, 40) for _ in range(n)]
+        ticks = schedule.gst - 1 + chance.randint(1, 40)
+        run = simulate(random_node, values, schedule, ticks)
+        # (a text that is none of a trace is refused here)
+        kept = run.check()
+        assert kept, (no, schedule, values, ticks, str(kept))
+        again = simulate(random_node, values, schedule, ticks)
+        assert (again.trace, again.decisions) == (run.trace, run.decisions), (no, schedule)
+        tight = [count + (least == asked > 1) for count, least, asked in zip(tight, kept[1:3], kept[3:])]
+    # (and the bounds that were asked for are reached: the schedules use what they may)
+    assert min(tight) > RUNS // 20, tight
+
+
+def test_what_is_between_two_runs_is_the_seed():
+    one, two = (simulate(ring, [1] * 3, Schedule(seed=it, delta=3, phi=3), ticks=50) for it in (1, 2))
+    assert one.trace != two.trace and one == simulate(ring, [1] * 3, Schedule(seed=1, delta=3, phi=3), ticks=50)
+
+
+def test_bounds_that_are_not_kept_are_seen():
+    """A run that is judged by smaller bounds than its schedule's."""
+    run = simulate(ring, [1] * 3, Schedule(delta=5, phi=5, speed=0.2, prompt=0.1), ticks=300)
+    worse = sy.Run(run.trace, run.decisions, run.correct, Schedule(delta=2, phi=5), run.ticks, run.steps)
+    assert run.check() and not worse.check() and worse.check().delta > 2
+    assert "delta 5 of 2" in str(worse.check())
+
+
+def test_a_run_that_ends_before_gst():
+    run = simulate(ring, [1, 2], Schedule(gst=100), ticks=20)
+    assert run.check() and run.check().delta is None and str(run.check()) == "the run ends before tick 100"
+    assert simulate(ring, [1, 2], ticks=0).trace == b"dls-trace,2,2,0\ninit,1,2\nend,0\n"
+
+
+def test_a_crash_in_the_middle_of_a_broadcast():
+    def node(me, n, value):
+        yield from broadcast(n, value)
+        yield Decide(value)
+        while True:
+            yield Receive()
+
+    run = simulate(node, [1] * 5, Schedule(crashed={2: AfterSends(3), 4: AfterSends(0)}, seed=3), ticks=40)
+    assert [(op, arg) for _, _, p, op, arg in steps_of(run) if p == 2] == [("S", "1"), ("S", "2"), ("S", "3")]
+    assert all(p != 4 for _, _, p, _, _ in steps_of(run))
+    assert run.correct == [1, 3, 5] and set(run.decided()) == {1, 3, 5} and run.check()
+    # (a crash right behind the last Send of the broadcast: it decides no more)
+    assert 2 not in simulate(node, [1] * 5, Schedule(crashed={2: AfterSends(5)}), ticks=40).decided()
+
+
+def test_a_crash_at_a_tick():
+    run = simulate(ring, [1] * 3, Schedule(speed=1, crashed={2: 7}), ticks=20)
+    assert [tick for _, tick, p, _, _ in steps_of(run) if p == 2] == list(range(1, 7))
+    assert run.check() and run.correct == [1, 3]
+
+
+def test_loss_and_speed_of_each_processor():
+    slow = Schedule(gst=201, loss={1: 1.0, 2: 0.0}, speed_before={1: 0.9, 2: 0.3, 3: 0.0}, prompt=1, seed=5)
+    steps = steps_of(simulate(ring, [1] * 3, slow, ticks=200))
+    sent = {p: {str(no) for no, _, it, op, _ in steps if (it, op) == (p, "S")} for p in (1, 2)}
+    taken = {it for _, _, _, op, arg in steps if op == "R" for it in arg.split()}
+    # (1 sends to 2, which receives, and 2 to 3, which makes no step)
+    assert sent[1] and not sent[1] & taken and all(p != 3 for _, _, p, _, _ in steps)
+    counts = [sum(p == it for _, _, it, _, _ in steps) for p in (1, 2)]
+    assert 160 < counts[0] < 200 and 40 < counts[1] < 80, counts
+    kept = steps_of(simulate(ring, [1] * 3, Schedule(gst=201, loss={1: 1.0, 2: 0.0}, prompt=1, seed=5, speed_before=1), ticks=200))
+    taken = {it for _, _, _, op, arg in kept if op == "R" for it in arg.split()}
+    assert {str(no) for no, tick, it, op, _ in kept if (it, op) == (2, "S") and tick < 199} <= taken
+
+
+def test_several_step_in_a_tick():
+    ticks = [tick for _, tick, _, _, _ in steps_of(simulate(ring, [1] * 4, Schedule(speed=0.5, phi=3), ticks=60))]
+    assert {ticks.count(it) for it in ticks} >= {1, 2, 3}
+
+
+def test_a_million_steps_take_at_most_five_seconds():
+    began = time.process_time()
+    run = simulate(ring, [1] * 4, Schedule(gst=100, delta=3, phi=4, seed=1, speed=1), ticks=250_000)
+    seconds = time.process_time() - began
+    assert run.steps > 999_000 and seconds <= 5, (run.steps, seconds)
+    assert run.check()
+
+
+def test_what_is_no_run_is_refused():
+    def to_nobody(me, n, value):
+        yield Send(n + 1, value)
+
+    def not_a_step(me, n, value):
+        yield Receive
+
+    def late(me, n, value):
+        yield Receive()
+        yield Send(0, value)
+
+    for error, words, call in [
+        (ValueError, "2 to 64 processors, not 1", lambda: simulate(ring, [1])),
+        (ValueError, "2 to 64 processors, not 65", lambda: simulate(ring, [1] * 65)),
+        (ValueError, "at most 1000000 ticks", lambda: simulate(ring, [1, 2], ticks=1_000_001)),
+        (ValueError, "more than 1000000 steps", lambda: simulate(ring, [1] * 64, Schedule(speed=1), ticks=20_000)),
+        (ValueError, "64 bits", lambda: simulate(ring, [-1, 2])),
+        (ValueError, "64 bits", lambda: simulate(ring, [1 << 64, 2])),
+        (ValueError, "none of 1 to 2", lambda: simulate(to_nobody, [1, 2])),
+        (ValueError, "none of 1 to 2", lambda: simulate(late, [1, 2])),
+        (TypeError, "no Send, Receive or Decide", lambda: simulate(not_a_step, [1, 2])),
+        (TypeError, "a protocol is a generator function", lambda: simulate(lambda *_: iter([]), [1, 2])),
+        (ValueError, "one of 1 to 2", lambda: simulate(ring, [1, 2], Schedule(crashed={3: 1}))),
+        (ValueError, "at most 0 of 2", lambda: simulate(ring, [1, 2], faults=1)),
+        (ValueError, "gst is", lambda: Schedule(gst=0)),
+        (ValueError, "delta is", lambda: Schedule(delta=0)),
+        (ValueError, "phi is", lambda: Schedule(phi=0)),
+        (ValueError, "speed is", lambda: Schedule(speed=1.5)),
+        (ValueError, "loss is", lambda: Schedule(loss={1: -0.5})),
+    ]:
+        with raises(error, words):
+            call()
+
+
+def test_the_smallest_schedule_that_fails():
+    schedule = Schedule(gst=77, delta=9, phi=6, seed=12, loss=0.5, crashed={1: 3, 2: 5})
+    found = smallest(schedule, lambda it: it.delta >= 4 and it.gst + it.phi >= 30 and 2 in it.crashed)
+    assert found == Schedule(gst=29, delta=4, phi=1, seed=0, loss=0.0, crashed={2: 5}) or found.gst + found.phi == 30
+    with raises(ValueError, "doesn't fail"):
+        smallest(schedule, lambda it: False)
+
+
+def test_strategies_of_hypothesis():
+    needs("hypothesis")
+    from hypothesis import find, given, settings
+    from synchrony.strategies import schedules
+
+    @settings(max_examples=200, deadline=None, database=None)
+    @given(schedules(4, most_crashed=1))
+    def bounds_are_kept(schedule):
+        assert simulate(random_node, [20] * 4, schedule, ticks=schedule.gst + 30).check()
+
+    bounds_are_kept()
+    # (a schedule that is found is a small one)
+    found = find(schedules(3), lambda it: it.delta >= 3, settings=settings(database=None))
+    assert (found.gst, found.delta, found.phi, found.seed, found.loss, found.crashed) == (1, 3, 1, 0, 0, {})

@@ -1,0 +1,259 @@
+"""Surveys: the rows of many traces, on whatever executor, none lost and none doubled."""
+
+import math
+import multiprocessing
+import os
+import random
+import signal
+import statistics
+import tempfile
+import time
+from concurrent.futures import Future, ProcessPoolExecutor, ThreadPoolExecutor
+from pathlib import Path
+
+import synchrony as sy
+from support import EXAMPLES, ONE_MISS, ONE_MISS_REPORT, needs, python, raises
+from synchrony import Schedule, surveys
+
+TWICE = b"dls-trace,1,2,0\ninit,5,7\n1,1,S,2\n2,2,R,1\n3,2,R,1\nend,3\n"
+
+
+class Deadly(str):
+    """A name that ends the process to which it is sent."""
+
+    def __reduce__(self):
+        return os._exit, (1,)
+
+
+class Recording(ThreadPoolExecutor):
+    """An executor that remembers how many traces are before it at most."""
+
+    def __init__(self):
+        super().__init__(2)
+        self.given = 0
+
+    def submit(self, function, job, pieces):
+        self.given += len(pieces)
+        return super().submit(function, job, pieces)
+
+
+def many(count):
+    """So many small traces, which differ."""
+    for seed in range(count):
+        yield sy.simulate(ring, [1, 2], Schedule(seed=seed, delta=3, phi=3, speed=0.4), ticks=20 + seed % 7).trace
+
+
+def ring(me, n, value):
+    while True:
+        yield sy.Send(me % n + 1, value)
+        yield sy.Receive()
+
+
+def due(traces, at=1):
+    """The rows of a survey, by one report after the other."""
+    for no, trace in enumerate(traces, 1):
+        rows, last = sy.report(trace, "all"), int(trace.split(b"end,")[1])
+        row = [it for it in rows if it.gst <= at][-1]
+        yield sy.Surveyed(str(no), "", trace.count(b"\n") - 3, last, (row[1:3],), None)
+
+
+def test_the_examples():
+    names = ["one-miss", "shared-ticks", "no-steps", "redelivered", "no such file"]
+    table = sy.survey([EXAMPLES / f"{it}.trace" for it in names], at=[1, 2, 6, 100], executor=ThreadPoolExecutor(1))
+    assert table.header() == ["name", "group", "steps", "ticks", "delta@1", "phi@1", "delta@2", "phi@2", "delta@6", "phi@6", "delta@100", "phi@100", "error"]
+    assert [it[1:] for it in table.rows] == [
+        ("", 3, 3, ((2, 3), (1, 3), None, None), None),
+        ("", 5, 7, ((4, 4), (1, 4), (1, 3), None), None),
+        ("", 0, 0, (None, None, None, None), None),
+        ("", None, None, (), "trace: step 3: message 1 was received before"),
+        ("", None, None, (), "cannot read: No such file or directory"),
+    ]
+    assert [it.name for it in table.rows] == [str(EXAMPLES / f"{it}.trace") for it in names]
+    assert [it.name for it in table.errors()] == [str(EXAMPLES / f"{it}.trace") for it in names[3:]]
+
+
+def test_the_rows_are_the_same_whoever_works():
+    traces = list(many(250))
+    wanted = list(due(traces, at=5))
+    for how in ({}, {"batch": 1, "workers": 2}, {"batch": 7, "workers": 3}, {"executor": ThreadPoolExecutor(3), "batch": 10}):
+        assert sy.survey(traces, at=5, **how).rows == wanted, how
+    with ProcessPoolExecutor(2, mp_context=multiprocessing.get_context("spawn")) as pool:
+        assert sy.survey(iter(traces), (p for p in (1, 2)), at=5, executor=pool, batch=9).rows == wanted
+
+
+def test_paths_and_texts_and_names():
+    with tempfile.TemporaryDirectory() as folder:
+        (Path(folder) / "fast").mkdir()
+        file = Path(folder) / "fast/a.trace"
+        file.write_bytes(ONE_MISS)
+        given = [file, ("other", file), ONE_MISS, ONE_MISS.decode(), ("named", bytearray(ONE_MISS))]
+        for how in ({}, {"executor": ThreadPoolExecutor(2)}, {"executor": ThreadPoolExecutor(2), "send_paths": True}, {"send_paths": False}):
+            table = sy.survey(given, group="parent", **how)
+            assert [it[:2] for it in table.rows] == [(str(file), "fast"), ("other", ""), ("3", ""), ("4", ""), ("named", "")]
+            assert {it[2:] for it in table.rows} == {(3, 3, ((2, 3),), None)}
+        assert [it.group for it in sy.survey(given, group=len, executor=ThreadPoolExecutor(1)).rows] == [str(len(str(file))), "5", "1", "1", "5"]
+    with raises(ValueError, "parent"):
+        sy.survey(given, group="child", executor=ThreadPoolExecutor(1))
+    with raises(ValueError, "at least 1"):
+        sy.survey(given, at=0)
+    with raises(sy.SetRefused):
+        sy.survey(given, "1,2")
+
+
+def test_traces_are_read_as_they_are_needed():
+    executor, read = Recording(), 0
+
+    def traces():
+        nonlocal read
+        for it in range(1000):
+            # (so many were before the executor, and the first of them was answered)
+            assert read <= executor.given + 5
+            read += 1
+            yield ONE_MISS
+
+    table = sy.survey(traces(), executor=executor, batch=5)
+    assert (len(table.rows), read, executor.given) == (1000, 1000, 1000)
+
+
+def test_a_set_that_some_traces_do_not_have():
+    three = b"dls-trace,1,3,0\ninit,1,2,3\nend,0\n"
+    table = sy.survey([ONE_MISS, three, TWICE], [3], executor=ThreadPoolExecutor(1))
+    assert [it.error for it in table.rows] == ["no such processor in --correct", None, "trace: step 3: message 1 was received before"]
+
+
+def test_a_dead_worker_costs_its_traces_one_try():
+    """A trace that ends each worker has an error, and each other one its row, as often as it was given."""
+    traces = list(many(60))
+    wanted = list(due(traces))
+    for place in (0, 31, 59):
+        table = sy.survey([(Deadly("deadly") if no == place else str(no + 1), it) for no, it in enumerate(traces)], batch=8, workers=2)
+        assert len(table.rows) == 60
+        assert [it for no, it in enumerate(table.rows) if no != place] == [it for no, it in enumerate(wanted) if no != place]
+        assert table.rows[place][1:] == ("", None, None, (), "no answer: its worker died")
+
+
+def test_a_worker_that_is_killed_in_the_middle():
+    traces, killed = list(many(400)), []
+
+    def given():
+        for no, it in enumerate(traces):
+            if no == 200:
+                children = [it for it in multiprocessing.active_children() if it.is_alive()]
+                os.kill(children[0].pid, signal.SIGKILL)
+                killed.append(children[0].pid)
+            yield it
+
+    assert sy.survey(given(), batch=4, workers=3).rows == list(due(traces)) and len(killed) == 1
+
+
+def test_an_executor_that_breaks():
+    """One that was given can't be mended: what it hasn't answered has an error, and no row is missing."""
+    traces = [("deadly", ONE_MISS)] + [(str(no), ONE_MISS) for no in range(200)]
+    traces[0] = (Deadly("deadly"), ONE_MISS)
+    with ProcessPoolExecutor(2, mp_context=multiprocessing.get_context("spawn")) as pool:
+        table = sy.survey(traces, executor=pool, batch=10)
+    assert [it.name for it in table.rows] == [it[0] for it in traces]
+    assert all((it.bounds == ((2, 3),)) != ("no answer" in (it.error or "")) for it in table.rows)
+    assert table.rows[0].error
+
+
+def test_a_table_as_text_and_as_groups():
+    runs = {"slow,er": [3, 1, 2, 10], "fast": [1]}
+    table = sy.Table((5,), [sy.Surveyed(f"{group}/{value}", group, 9, 8, (sy.Bounds(value, 7),), None) for group, values in runs.items() for value in values])
+    table.rows.append(sy.Surveyed("bad", "fast", None, None, (), 'it says "no"'))
+    table.rows.append(sy.Surveyed("short", "fast", 2, 3, (None,), None))
+    assert table.csv() == (
+        "name,group,steps,ticks,delta,phi,error\n"
+        '"slow,er/3","slow,er",9,8,3,7,\n"slow,er/1","slow,er",9,8,1,7,\n"slow,er/2","slow,er",9,8,2,7,\n"slow,er/10","slow,er",9,8,10,7,\n'
+        'fast/1,fast,9,8,1,7,\nbad,fast,,,,,"it says ""no"""\nshort,fast,2,3,,,\n'
+    )
+    assert table.groups() == [("slow,er", "delta", 4, 1, 2.5, 10, 10, 10), ("slow,er", "phi", 4, 7, 7, 7, 7, 7), ("fast", "delta", 1, 1, 1, 1, 1, 1), ("fast", "phi", 1, 7, 7, 7, 7, 7)]
+    assert table.groups_csv() == 'group,bound,count,least,median,90%,99%,greatest\n"slow,er",delta,4,1,2.5,10,10,10\n"slow,er",phi,4,7,7,7,7,7\nfast,delta,1,1,1,1,1,1\nfast,phi,1,7,7,7,7,7\n'
+    assert (surveys.Table((1,)).csv(), surveys.Table((1,)).groups()) == ("name,group,steps,ticks,delta,phi,error\n", [])
+
+
+def test_shares_are_the_least_values_that_suffice():
+    chance = random.Random(2)
+    for _ in range(300):
+        values = sorted(chance.randint(1, 30) for _ in range(chance.randint(1, 250)))
+        found = surveys._spread("", "delta", values)
+        for share, seen in ((90, found.ninety), (99, found.ninety_nine)):
+            # (whole numbers: so many of the values are at most this)
+            assert 100 * sum(it <= seen for it in values) >= share * len(values) > 100 * sum(it < seen for it in values), (values, share)
+        assert (found.least, found.median, found.greatest, found.traces) == (values[0], statistics.median(values), values[-1], len(values))
+
+
+def test_a_frame_of_pandas():
+    needs("pandas")
+    table = sy.survey([ONE_MISS, TWICE, ONE_MISS], at=[1, 3], executor=ThreadPoolExecutor(1))
+    frame = table.frame()
+    assert frame["delta@1"].fillna(0).tolist() == [2, 0, 2] and frame["phi@3"].fillna(0).tolist() == [2, 0, 2]
+    assert list(frame.columns) == table.header() and frame.error.notna().tolist() == [False, True, False]
+
+
+def test_the_row_of_a_tick_and_the_length_of_a_trace():
+    chance = random.Random(3)
+    for _ in range(300):
+        gsts = [1, *sorted(chance.sample(range(2, 3000), chance.randint(0, 60)))]
+        report = b"gst,delta,phi,sent,missed,proc,from,to\n" + b"".join(b"%d,%d,%d,,,,,\n" % (it, 2 * it, 3 * it) for it in gsts)
+        for tick in chance.sample(range(1, 3000), 30) + gsts:
+            last = max(it for it in gsts if it <= tick)
+            assert surveys._bounds_at(report, tick) == (2 * last, 3 * last), (report, tick)
+    for text, length in [
+        (ONE_MISS, (3, 3)),
+        (ONE_MISS.replace(b"\n", b"\r\n") + b"\r\n\r\n", (3, 3)),
+        (ONE_MISS.replace(b"\n", b"\n\n").replace(b"end,3", b'"end","3"').rstrip(b"\n"), (3, 3)),
+        (b"dls-trace,2,2,0\ninit,5,7\n1,4,1,S,2\nend,9", (1, 9)),
+        (b'\xef\xbb\xbfdls-trace,2,2,0\r"init",5,7\r\rend,9\r', (0, 9)),
+    ]:
+        assert sy.report(text, "all") is not None and surveys._length(text) == length, text
+
+
+def test_the_command_line():
+    files = [str(EXAMPLES / f"{it}.trace") for it in ("one-miss", "shared-ticks")]
+    status, output, said = python("-m", "synchrony", "survey", *files, "--at", "1", "--workers", "2")
+    assert (status, said) == (0, "") and output == f"name,group,steps,ticks,delta,phi,error\n{files[0]},,3,3,2,3,\n{files[1]},,5,7,4,4,\n"
+    status, output, said = python("-m", "synchrony", "survey", *files, str(EXAMPLES / "redelivered.trace"), "--correct", "1,2", "--at", "1,2", "--group-by", "parent", "--groups")
+    assert status == 1 and "redelivered.trace: trace: step 3: message 1 was received before" in said
+    assert output == "group,bound,count,least,median,90%,99%,greatest\n" + "".join(f"examples,{it}\n" for it in ("delta@1,2,2,3,4,4,4", "phi@1,2,3,3.5,4,4,4", "delta@2,2,1,1,1,1,1", "phi@2,2,3,3.5,4,4,4"))
+    for words, why in [
+        (["survey"], "TRACE"),
+        (["survey", files[0], "--at", "0"], "--at takes numbers"),
+        (["survey", files[0], "--correct", "1,x"], "--correct takes numbers"),
+        (["survey", files[0], "--correct", "99"], "no processor 99"),
+        (["survey", files[0], "--workers", "0"], "--workers"),
+        (["other"], "invalid choice"),
+    ]:
+        status, output, said = python("-m", "synchrony", *words)
+        assert status == 2 and why in said and not output, (words, status, said)
+    assert python("-m", "synchrony", "--version")[1] == "synchrony 0.1.0\n"
+
+
+def test_an_unguarded_script_is_told_so():
+    with tempfile.TemporaryDirectory() as folder:
+        script = Path(folder) / "script.py"
+        script.write_text(f"import synchrony as sy\nprint(len(sy.survey([{ONE_MISS!r}] * 3).rows))\n")
+        status, output, said = python(str(script))
+        assert status == 1 and '__name__ == "__main__"' in said.strip().split("\n")[-1], said
+
+
+def test_a_cluster_of_dask():
+    needs("distributed")
+    from distributed import Client, LocalCluster
+
+    traces = list(many(300))
+    wanted = list(due(traces))
+    with LocalCluster(n_workers=2, threads_per_worker=1, dashboard_address=None) as cluster, Client(cluster) as client:
+        executor = client.get_executor()
+        assert sy.survey(traces, executor=executor, batch=10).rows == wanted
+        killed = []
+
+        def given():
+            for no, it in enumerate(traces):
+                if no == 150:
+                    pid = client.submit(os.getpid, pure=False).result()
+                    os.kill(pid, signal.SIGKILL)
+                    killed.append(pid)
+                yield it
+
+        assert sy.survey(given(), executor=executor, batch=2).rows == wanted and len(killed) == 1
