@@ -25,6 +25,9 @@ enum {
 /* As `correct`: all processors of the trace, however many there are. */
 #define SYNCHRONY_ALL UINT64_MAX
 
+/* The version of these declarations, which is that of the program. */
+#define SYNCHRONY_VERSION "0.1.0"
+
 /* The longest text that is read, in bytes. */
 #define SYNCHRONY_MAX_TEXT 67108864
 

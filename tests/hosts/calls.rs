@@ -2,7 +2,7 @@
 //! calls check CORRECT CERTIFICATE <TRACE
 //!
 //! Says and ends as the program does.
-#[path = "../../bindings/synchrony.rs"]
+#[path = "../../bindings/rust/src/lib.rs"]
 mod synchrony;
 
 use std::io::{Read, Write};
@@ -29,19 +29,11 @@ fn main() -> ExitCode {
 }
 
 fn check(trace: &[u8], certificate: &[u8], correct: u64) -> Result<(Vec<u8>, u8), Refusal> {
-    Ok(match synchrony::check(trace, certificate, correct)? {
-        Verdict::Yes => (b"yes\n".to_vec(), 0),
-        Verdict::No(why) => (format!("no {why}\n").into_bytes(), 1),
-    })
+    let verdict = synchrony::check(trace, certificate, correct)?;
+    Ok((format!("{verdict}\n").into_bytes(), u8::from(verdict != Verdict::Yes)))
 }
 
 fn tell(why: Refusal) -> ExitCode {
-    let (words, status) = match why {
-        Refusal::Set => ("no such processor in --correct".to_string(), 2),
-        Refusal::Trace(words) => (format!("trace: {words}"), 3),
-        Refusal::Certificate(words) => (format!("certificate: {words}"), 4),
-        Refusal::Memory => ("out of memory".to_string(), 5),
-    };
-    eprintln!("synchrony: {words}");
-    ExitCode::from(status)
+    eprintln!("synchrony: {why}");
+    ExitCode::from(why.status())
 }

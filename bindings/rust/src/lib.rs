@@ -1,7 +1,19 @@
-//! The analyser, the checker and the other commands for Rust: three safe functions over `out/libsynchrony.a`, which `./library` builds.
+//! How synchronous was a recorded run? Safe functions over the proved library, `libsynchrony.a`, which `./library` builds.
 //!
-//! Make it a module of a crate, and link with `rustc -L native=out`. Nothing here is proved but what is called:
+//! ```
+//! use synchrony::{ALL, Verdict};
+//!
+//! let trace = b"dls-trace,1,2,0\ninit,5,7\n1,1,S,2\n2,2,R,\n3,2,R,1\nend,3\n";
+//! let report = synchrony::report(trace, ALL)?;
+//! assert!(report.starts_with(b"gst,delta,phi,sent,missed,proc,from,to\n1,2,3,1,2,1,2,3\n"));
+//! assert_eq!(synchrony::check(trace, &report, synchrony::set_of(&[1, 2]))?, Verdict::Yes);
+//! # Ok::<(), synchrony::Refusal>(())
+//! ```
+//!
+//! A crate depends on it by its path, `synchrony = { path = ".../bindings/rust" }`. Nothing here is proved but what is called:
 //! `bindings/synchrony.h` says what the library asks of its callers.
+
+use std::{error, fmt};
 
 #[link(name = "synchrony", kind = "static")]
 unsafe extern "C" {
@@ -42,6 +54,38 @@ pub enum Refusal {
     Memory,
 }
 
+impl Refusal {
+    /// The exit status that the program has in the same case.
+    pub fn status(&self) -> u8 {
+        match self {
+            Refusal::Set => 2,
+            Refusal::Trace(_) => 3,
+            Refusal::Certificate(_) => 4,
+            Refusal::Memory => 5,
+        }
+    }
+}
+
+/// The words that the program has for it, behind `synchrony: `.
+///
+/// ```
+/// let refused = synchrony::report(b"x", synchrony::ALL).unwrap_err();
+/// assert_eq!(refused.to_string(), "trace: bad header");
+/// assert_eq!(refused.status(), 3);
+/// ```
+impl fmt::Display for Refusal {
+    fn fmt(&self, f: &mut fmt::Formatter<'_>) -> fmt::Result {
+        match self {
+            Refusal::Set => f.write_str("no such processor in --correct"),
+            Refusal::Trace(words) => write!(f, "trace: {words}"),
+            Refusal::Certificate(words) => write!(f, "certificate: {words}"),
+            Refusal::Memory => f.write_str("out of memory"),
+        }
+    }
+}
+
+impl error::Error for Refusal {}
+
 /// The verdict on a certificate.
 #[derive(Clone, Debug, PartialEq, Eq)]
 pub enum Verdict {
@@ -51,11 +95,25 @@ pub enum Verdict {
     No(String),
 }
 
+/// The verdict line of the program, without its line feed.
+impl fmt::Display for Verdict {
+    fn fmt(&self, f: &mut fmt::Formatter<'_>) -> fmt::Result {
+        match self {
+            Verdict::Yes => f.write_str("yes"),
+            Verdict::No(why) => write!(f, "no {why}"),
+        }
+    }
+}
+
 /// The set of these processors, as the library takes it. Processors are numbered from 1 to 64.
 ///
 /// # Panics
 ///
 /// Where a number is another one.
+///
+/// ```
+/// assert_eq!(synchrony::set_of(&[1, 3]), 0b101);
+/// ```
 pub fn set_of(processors: &[u32]) -> u64 {
     processors.iter().fold(0, |set, &it| {
         assert!((1..=64).contains(&it), "there is no processor {it}");
@@ -109,6 +167,12 @@ pub fn check(text: &[u8], certificate: &[u8], correct: u64) -> Result<Verdict, R
 /// # Panics
 ///
 /// Where a word has a line feed, or there is none.
+///
+/// ```
+/// let trace = b"dls-trace,1,2,0\ninit,5,7\nend,0\n";
+/// let (status, text) = synchrony::answer(&["upgrade", "-"], trace, b"");
+/// assert_eq!((status, text.as_slice()), (0, b"dls-trace,2,2,0\ninit,5,7\nend,0\n".as_slice()));
+/// ```
 pub fn answer(words: &[&str], text: &[u8], second: &[u8]) -> (u32, Vec<u8>) {
     assert!(!words.is_empty() && words.iter().all(|it| !it.contains('\n')), "words of a command line, with no line feed");
     let words = words.join("\n");
