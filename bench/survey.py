@@ -8,6 +8,7 @@ program, and W processes of bench/survey.c, each over its share. Both answers ar
 seconds, the CPU times of all processes, and the ratios of the medians.
 """
 import argparse
+import ctypes
 import os
 import resource
 import statistics
@@ -21,6 +22,8 @@ sys.dont_write_bytecode = True
 TOP = Path(__file__).resolve().parent.parent
 sys.path.insert(0, str(TOP / "python/src"))
 import synchrony as sy
+
+PR_SET_CHILD_SUBREAPER = 36
 
 
 def ring(me, n, value):
@@ -42,7 +45,14 @@ def timed(work):
     """What it answers, the wall-clock time, and the CPU time of its processes."""
     before, began = resource.getrusage(resource.RUSAGE_CHILDREN), time.monotonic()
     answer = work()
-    took, after = time.monotonic() - began, resource.getrusage(resource.RUSAGE_CHILDREN)
+    took = time.monotonic() - began
+    # (the server that forks the workers of a survey ends a moment after it, and is left to this process with them)
+    while True:
+        try:
+            os.waitpid(-1, 0)
+        except ChildProcessError:
+            break
+    after = resource.getrusage(resource.RUSAGE_CHILDREN)
     return answer, took, after.ru_utime + after.ru_stime - before.ru_utime - before.ru_stime
 
 
@@ -73,6 +83,7 @@ def main():
     for name, usual in (("traces", 10_000), ("steps", 1000), ("workers", 4), ("rounds", 5)):
         words.add_argument(f"--{name}", type=int, default=usual)
     words = words.parse_args()
+    ctypes.CDLL(None).prctl(PR_SET_CHILD_SUBREAPER, 1)
     subprocess.run([TOP / "library"], stdout=subprocess.DEVNULL, check=True)
     with tempfile.TemporaryDirectory() as folder:
         folder = Path(folder)

@@ -18,8 +18,8 @@ from synchrony import Schedule, surveys
 TWICE = b"dls-trace,1,2,0\ninit,5,7\n1,1,S,2\n2,2,R,1\n3,2,R,1\nend,3\n"
 
 
-class Deadly(str):
-    """A name that ends the process to which it is sent."""
+class Deadly(bytes):
+    """A trace that ends the process to which it is sent."""
 
     def __reduce__(self):
         return os._exit, (1,)
@@ -32,9 +32,9 @@ class Recording(ThreadPoolExecutor):
         super().__init__(2)
         self.given = 0
 
-    def submit(self, function, job, pieces):
-        self.given += len(pieces)
-        return super().submit(function, job, pieces)
+    def submit(self, function, job, texts):
+        self.given += len(texts)
+        return super().submit(function, job, texts)
 
 
 def many(count):
@@ -126,10 +126,10 @@ def test_a_dead_worker_costs_its_traces_one_try():
     traces = list(many(60))
     wanted = list(due(traces))
     for place in (0, 31, 59):
-        table = sy.survey([(Deadly("deadly") if no == place else str(no + 1), it) for no, it in enumerate(traces)], batch=8, workers=2)
+        table = sy.survey([Deadly(it) if no == place else it for no, it in enumerate(traces)], batch=8, workers=2)
         assert len(table.rows) == 60
         assert [it for no, it in enumerate(table.rows) if no != place] == [it for no, it in enumerate(wanted) if no != place]
-        assert table.rows[place][1:] == ("", None, None, (), "no answer: its worker died")
+        assert table.rows[place] == (str(place + 1), "", None, None, (), "no answer: its worker died")
 
 
 def test_a_worker_that_is_killed_in_the_middle():
@@ -148,8 +148,7 @@ def test_a_worker_that_is_killed_in_the_middle():
 
 def test_an_executor_that_breaks():
     """One that was given can't be mended: what it hasn't answered has an error, and no row is missing."""
-    traces = [("deadly", ONE_MISS)] + [(str(no), ONE_MISS) for no in range(200)]
-    traces[0] = (Deadly("deadly"), ONE_MISS)
+    traces = [("deadly", Deadly(ONE_MISS)), *((str(no), ONE_MISS) for no in range(200))]
     with ProcessPoolExecutor(2, mp_context=multiprocessing.get_context("spawn")) as pool:
         table = sy.survey(traces, executor=pool, batch=10)
     assert [it.name for it in table.rows] == [it[0] for it in traces]
@@ -229,12 +228,20 @@ def test_the_command_line():
     assert python("-m", "synchrony", "--version")[1] == "synchrony 0.1.0\n"
 
 
-def test_an_unguarded_script_is_told_so():
+def test_an_unguarded_script():
+    """Processes are forked where there is no other thread; else they import the script, which is told where it can't be."""
+    survey = f"print(len(sy.survey([{ONE_MISS!r}] * 3).rows))\n"
+    lines = "import synchrony as sy, threading, time\n", "threading.Thread(target=time.sleep, args=[60], daemon=True).start()\n"
     with tempfile.TemporaryDirectory() as folder:
         script = Path(folder) / "script.py"
-        script.write_text(f"import synchrony as sy\nprint(len(sy.survey([{ONE_MISS!r}] * 3).rows))\n")
+        script.write_text(lines[0] + survey)
+        status, output, said = python(str(script))
+        assert (status, output) == (0, "3\n") or '__name__ == "__main__"' in said, said
+        script.write_text(lines[0] + lines[1] + survey)
         status, output, said = python(str(script))
         assert status == 1 and '__name__ == "__main__"' in said.strip().split("\n")[-1], said
+        script.write_text(f'{lines[0]}if __name__ == "__main__":\n    {lines[1]}    {survey}')
+        assert python(str(script))[:2] == (0, "3\n")
 
 
 def test_a_cluster_of_dask():

@@ -36,7 +36,7 @@ BATCH_BYTES = 4 << 20
 # A trace to survey: a path, or its text, which may have a name before it.
 Source = Union[library.Text, Tuple[str, library.Text]]
 Group = Union[None, str, Callable[[str], str]]
-# What is sent of a trace: its place in the input, its name, and its text or a path.
+# A trace before it is sent: its place in the input, its name, and its text or a path.
 Piece = Tuple[int, str, Union[bytes, str]]
 
 
@@ -144,8 +144,8 @@ def survey(
     of a path, or a function of the trace's name.
 
     `executor` is any Executor of concurrent.futures, which stays open; else so many processes as `workers` says, or as
-    there are processors, work on it. (Processes import the module that calls this, so a script needs its
-    `if __name__ == "__main__":`.) To them paths are sent, and to any other executor bytes; `send_paths` says otherwise,
+    there are processors, work on it. (Where this process has threads, the others import the module that calls this, so a
+    script needs its `if __name__ == "__main__":`.) To them paths are sent, and to any other executor bytes; `send_paths` says otherwise,
     for workers that share a file system.
 
     A trace that is refused or can't be read has a row with its error. Where a worker dies, each trace of its batch is tried
@@ -184,9 +184,9 @@ class _Job(NamedTuple):
     ticks: Tuple[int, ...]
 
 
-def _answers(job: _Job, pieces: Sequence[Piece]) -> List[Answer]:
+def _answers(job: _Job, texts: Sequence[Union[bytes, str]]) -> List[Answer]:
     """What a worker does with a batch."""
-    return [_answer(job, text) for _, _, text in pieces]
+    return [_answer(job, it) for it in texts]
 
 
 def _answer(job: _Job, text: Union[bytes, str]) -> Answer:
@@ -293,10 +293,7 @@ class _Work:
         if self.given is not None:
             return self.given
         if self.own is None:
-            # (the library isn't called in the forked child of a process with threads)
-            methods = multiprocessing.get_all_start_methods()
-            context = multiprocessing.get_context("forkserver" if "forkserver" in methods else "spawn")
-            self.own = ProcessPoolExecutor(self.workers, mp_context=context)
+            self.own = ProcessPoolExecutor(self.workers, mp_context=multiprocessing.get_context(_start_method()))
         return self.own
 
     def close(self) -> None:
@@ -328,7 +325,7 @@ class _Work:
     def submit(self, pieces: List[Piece]) -> Optional[Future[List[Answer]]]:
         """The batch before the executor, or None where that takes nothing any more."""
         try:
-            return self.executor().submit(_answers, self.job, pieces)
+            return self.executor().submit(_answers, self.job, [text for _, _, text in pieces])
         except (BrokenExecutor, RuntimeError):
             return None
 
@@ -375,6 +372,17 @@ def _result(future: Optional[Future[List[Answer]]]) -> Union[List[Answer], str]:
         raise
     except Exception as why:
         return f"{type(why).__name__}: {why}".partition("\n")[0] if not isinstance(why, BrokenExecutor) else "its worker died"
+
+
+def _start_method() -> str:
+    """How processes are started. The library may not be called in the forked child of a process with threads: so they are
+    forked, which is fastest, only where this process has no other thread. (Since Python 3.11 a pool forks all its processes
+    before it starts a thread of its own.)"""
+    try:
+        is_alone = len(os.listdir("/proc/self/task")) == 1 and sys.version_info >= (3, 11)
+    except OSError:
+        is_alone = False
+    return "fork" if is_alone else "forkserver" if "forkserver" in multiprocessing.get_all_start_methods() else "spawn"
 
 
 def _processors() -> int:
