@@ -31,8 +31,8 @@ pub(crate) struct Links {
 
 impl Links {
     /// What is known after the last step.
-    pub(crate) fn after_all(alloc: Global, trace: &Trace, set: ProcSet) -> Result<Self, AllocError>
-        ensures { IfOk result (λ links. KnowsLinks set trace.now (length trace.now.steps) links) }
+    pub(crate) fn after_all(alloc: Global, trace: &Trace) -> Result<Self, AllocError>
+        ensures { IfOk result (λ links. (set : ℕ) → KnowsLinks set trace.now (length trace.now.steps) links) }
     {
         let senders = trace.config().n() + 1;
         let places = senders * RECEIVERS;

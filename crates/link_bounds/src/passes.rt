@@ -31,7 +31,7 @@ impl Pass {
             set,
             receives: Receives::after_all(alloc, trace)?,
             paces: Paces::after_all(alloc, trace)?,
-            links: Links::after_all(alloc, trace, set)?,
+            links: Links::after_all(alloc, trace)?,
         })
     }
 
