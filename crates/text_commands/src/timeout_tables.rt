@@ -44,10 +44,7 @@ fn test_link(table: &TimeoutTable, n: u64) -> Result<(), Fault>
 {
     let member = table.from;
     if member > n {
-        return Err(Fault::Set(
-            SetOption::From,
-            MemberOutside { member, count: n },
-        ));
+        return Err(Fault::Set(SetOption::From, MemberOutside { member, count: n }));
     }
     if let Some(followers) = table.to {
         correct_set(SetOption::To, followers, n)?;
@@ -67,9 +64,7 @@ fn table_of(alloc: Global, table: &TimeoutTable, trace: &Trace) -> Result<Vec<u8
         every: table.every.unwrap_or(0),
         polls: table.polls.unwrap_or(0),
     };
-    Ok(timeouts_text_of(
-        alloc, trace, table.from, followers, turns, table.at,
-    )?)
+    Ok(timeouts_text_of(alloc, trace, table.from, followers, turns, table.at)?)
 }
 
 /// The followers that are named, or all to which the leader sends.

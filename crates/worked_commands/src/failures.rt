@@ -130,7 +130,8 @@ fn endless_texts_are_refused(rt: HostRuntime) -> Result<(), Fail> {
 const ONE_MISS_BRIEF: &str = report_text!("1,2,3,1,2,1,2,3\n2,1,3,,,1,2,3\n");
 
 /// The timeouts of the followers of 1 in `ONE_MISS`.
-const ONE_MISS_TIMEOUTS: &str = "follower,gst,delta,phi,heartbeat,poll,timeout,delay,quick,least,tried\n\
+const ONE_MISS_TIMEOUTS: &str =
+    "follower,gst,delta,phi,heartbeat,poll,timeout,delay,quick,least,tried\n\
 2,1,2,3,3,2,5,2,4,2,0\n2,2,1,3,3,1,3,1,3,2,0\n2,3,1,2,2,1,2,1,2,1,0\n";
 
 /// Commands, their trace texts, and what they write where the device doesn't fail.

@@ -23,8 +23,7 @@ const ABOUT: &str = "Prints how long the followers of a leader have to wait for 
 
 const FROM_HELP: &str = "The leader, a processor of the trace";
 
-const TO_HELP: &str =
-    "The followers: 2,3,5, or all; those to which P sends where it is left out";
+const TO_HELP: &str = "The followers: 2,3,5, or all; those to which P sends where it is left out";
 
 const EVERY_HELP: &str = "Of each K steps of P one is a Send to the follower, from 1 to 1000000";
 
@@ -63,21 +62,18 @@ pub fn command<'a>(alloc: Global) -> Result<Command<'a>, AllocError>
 fn from_argument<'a>(alloc: Global) -> Arg<'a>
     ensures { IsArgument (number_rule (codes "from") 1 MAX_MEMBER) result }
 {
-    option_argument(alloc, "from", "P", FROM_HELP)
-        .value_parser(ValueParser::unsigned(1, MAX_MEMBER))
+    option_argument(alloc, "from", "P", FROM_HELP).value_parser(ValueParser::unsigned(
+        1, MAX_MEMBER,
+    ))
 }
 
 /// An option `--NAME K` for a number of steps, which may be left out.
-fn turns_argument<'a>(
-    alloc: Global,
-    name: &'a str,
-    value_name: &'a str,
-    help: &'a str,
-) -> Arg<'a>
+fn turns_argument<'a>(alloc: Global, name: &'a str, value_name: &'a str, help: &'a str) -> Arg<'a>
     ensures { IsArgument (optional_number_rule name.entry.now 1 MAX_TURNS) result }
 {
-    optional_argument(alloc, name, value_name, help)
-        .value_parser(ValueParser::unsigned(1, MAX_TURNS))
+    optional_argument(alloc, name, value_name, help).value_parser(ValueParser::unsigned(
+        1, MAX_TURNS,
+    ))
 }
 
 /// The job that the words after `timeouts` ask for; none where one of them lacks.
