@@ -111,8 +111,8 @@ def tell_wrong(count, file):
     disagrees = lambda it: len(sy.simulate(node, values, it, TICKS).values_decided()) > 1
     small = sy.smallest(schedule, disagrees)
     run = sy.simulate(node, values, small, TICKS)
-    print(f"the first one, made small: values {values}, gst {small.gst}, delta {small.delta}, phi {small.phi}, crashed {dict(small.crashed)}")
-    print(f"the bounds were kept: {run.check()}")
+    print(f"the first one, made small: values {values}, gst {small.gst}, delta {small.delta}, phi {small.phi}, loss {small.loss}, crashed {dict(small.crashed)}")
+    print(f"the bounds were kept, {run.check()}")
     for value in run.values_decided():
         it = next(it for it in run.decisions if it.value == value)
         print(f"processor {it.proc} decides {value} at tick {it.tick}")

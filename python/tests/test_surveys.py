@@ -201,6 +201,8 @@ def test_the_row_of_a_tick_and_the_length_of_a_trace():
     for text, length in [
         (ONE_MISS, (3, 3)),
         (ONE_MISS.replace(b"\n", b"\r\n") + b"\r\n\r\n", (3, 3)),
+        (ONE_MISS + b"\n" * 10_000, (3, 3)),
+        (ONE_MISS.replace(b"end", b"\n" * 4095 + b"end"), (3, 3)),
         (ONE_MISS.replace(b"\n", b"\n\n").replace(b"end,3", b'"end","3"').rstrip(b"\n"), (3, 3)),
         (b"dls-trace,2,2,0\ninit,5,7\n1,4,1,S,2\nend,9", (1, 9)),
         (b'\xef\xbb\xbfdls-trace,2,2,0\r"init",5,7\r\rend,9\r', (0, 9)),

@@ -208,16 +208,22 @@ def _answer(job: _Job, text: Union[bytes, str]) -> Answer:
 
 def _length(trace: bytes) -> Tuple[int, int]:
     """The numbers of steps and of ticks of a trace text that was accepted: by its last two records."""
-    rest, end = _last_record(trace)
-    _, before = _last_record(rest)
+    at, end = _last_record(trace, len(trace))
+    _, before = _last_record(trace, at)
     return (0 if before[0] == b"init" else int(before[0])), int(end[1])
 
 
-def _last_record(text: bytes) -> Tuple[bytes, List[bytes]]:
-    """What is before the last record, and its fields, which may be quoted. Blank lines are none."""
-    text = text.rstrip(b"\r\n")
-    at = max(text.rfind(b"\n"), text.rfind(b"\r"))
-    return text[: at + 1], [it.strip(b'"') for it in text[at + 1 :].split(b",")]
+def _last_record(text: bytes, end: int) -> Tuple[int, List[bytes]]:
+    """Where the last record before this end begins, and its fields, which may be quoted. Blank lines are none."""
+    tail = b""
+    # (a slice is a copy, so only the last bytes are looked at)
+    while not tail:
+        part = text[max(0, end - 4096) : end]
+        tail = part.rstrip(b"\r\n")
+        end -= len(part) - len(tail)
+    line = text.rfind(b"\n", 0, end) + 1
+    at = max(line, text.rfind(b"\r", line, end) + 1)
+    return at, [it.strip(b'"') for it in text[at:end].split(b",")]
 
 
 def _bounds_at(report: bytes, tick: int) -> Bounds:
