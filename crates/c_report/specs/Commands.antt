@@ -7,6 +7,8 @@ use Rattle.event_log.specs.declared.imports.Import.{Import}
 use Rattle.event_log.specs.declared.options.Options.{Options}
 use Rattle.event_log.specs.Imports.{IsImportOf}
 use Rattle.event_log.specs.Options.{AreOptions}
+use Rattle.judged_runs.specs.declared.judgements.Verdict.{Verdict as Judgement}
+use Rattle.judged_runs.specs.VerdictLines.{status_of_verdict as status_of_judgement, told_verdict as told_judgement}
 use Rattle.text_verdicts.specs.Checks.{IsVerdictOn}
 use Rattle.text_verdicts.specs.Texts.{OfTrace}
 use Rattle.text_verdicts.specs.VerdictLines.{status_of_verdict, told_verdict}
@@ -20,6 +22,7 @@ use Rattle.text_commands.specs.Checks.{IsUnchecked}
 use Rattle.text_commands.specs.Drawings.{IsDrawingOf, IsUndrawnTrace}
 use Rattle.text_commands.specs.EachBounds.{IsEachOf, IsNoEach}
 use Rattle.text_commands.specs.Imports.{IsImportOptionFault, IsUnimported}
+use Rattle.text_commands.specs.Judgings.{IsJudgementOn, IsUnjudged}
 use Rattle.text_commands.specs.Replays.{IsOffRun, IsReplayOf}
 use Rattle.text_commands.specs.ReportParts.{IsPartOfReport, IsUntoldPart}
 use Rattle.text_commands.specs.TimeoutTables.{AreTimeoutsOf, IsNoTable}
@@ -82,6 +85,14 @@ pub record IsLineOf (file : List ℕ) (Judges : Verdict → Type 0) (status : �
   pub status_is : status ≡ status_of_verdict verdict
   pub written : out ≡ told_verdict verdict
 
+-- The same of the line of a verdict on decisions.
+pub record IsJudgementLineOf (file : List ℕ) (Judges : Judgement → Type 0) (status : ℕ) (out : List ℕ) : Type 0 where
+  pub reads : file ≡ lent
+  pub verdict : Judgement
+  pub exact : Judges verdict
+  pub status_is : status ≡ status_of_judgement verdict
+  pub written : out ≡ told_judgement verdict
+
 -- the texts tell these options of a log
 abbrev pub AreImportOptions : ImportOptions → Options → Type 0
 AreImportOptions given o = AreOptions (option_map string_bytes given.nodes) (option_map string_bytes given.tick) (option_map string_bytes given.until) given.spread o
@@ -112,6 +123,7 @@ IsPrintedFor (job.Upgrade j) text second = IsPrintedOf (string_bytes j.file) (Is
 IsPrintedFor (job.Draw j) text second = IsPrintedOf (string_bytes j.file) (IsAnswerTo (IsDrawingOf j.drawing) text)
 IsPrintedFor (job.Import j) text second = IsPrintedOf (string_bytes j.file) (IsImportFor j.options text)
 IsPrintedFor (job.Check j) text second = IsLineOf (string_bytes j.file) (λ verdict. OfTrace (IsVerdictOn j.claim.correct j.claim.until second verdict) text)
+IsPrintedFor (job.Judge j) text second = IsJudgementLineOf (string_bytes j.file) (λ verdict. OfTrace (IsJudgementOn j.judging second verdict) text)
 IsPrintedFor (job.Help help) text second = λ status out. (status ≡ 0) × (out ≡ string_bytes help)
 IsPrintedFor (job.Run j) text second = λ status out. ⊥
 
@@ -126,6 +138,7 @@ IsUnprintedFor (job.Upgrade j) text second = IsUnprintedOf (string_bytes j.file)
 IsUnprintedFor (job.Draw j) text second = IsUnprintedOf (string_bytes j.file) (IsUnanswered (IsUndrawnTrace j.drawing) text)
 IsUnprintedFor (job.Import j) text second = IsUnprintedOf (string_bytes j.file) (IsUnimportedFor j.options text)
 IsUnprintedFor (job.Check j) text second = IsUnprintedOf (string_bytes j.file) (IsUnanswered (IsUnchecked j.claim second) text)
+IsUnprintedFor (job.Judge j) text second = IsUnprintedOf (string_bytes j.file) (IsUnanswered (IsUnjudged j.judging second) text)
 IsUnprintedFor (job.Help help) text second = λ w. ⊥
 IsUnprintedFor (job.Run j) text second = IsSaid run_words
 

@@ -8,6 +8,10 @@ use Rattle.step_buffers.specs.declared.replays.ReplayError.{ReplayError}
 use Rattle.step_buffers.specs.declared.replays.ReplayError.TheVariants as unreplayed
 use Rattle.front.specs.declared.refusals.ReportError.{ReportError}
 use Rattle.front.specs.declared.refusals.ReportError.TheVariants as uncertified
+use Rattle.decision_claims.specs.declared.formula_texts.FormulaError.{FormulaError}
+use Rattle.decision_claims.specs.declared.formula_texts.FormulaError.TheVariants as no_formula
+use Rattle.judged_runs.specs.declared.refusals.DecisionsError.{DecisionsError}
+use Rattle.judged_runs.specs.declared.refusals.DecisionsError.TheVariants as undecided
 use Rattle.event_log.specs.declared.options.OptionError.{OptionError}
 use Rattle.event_log.specs.declared.options.OptionError.TheVariants as no_options
 use Rattle.event_log.specs.declared.refusals.LogError.{LogError}
@@ -15,6 +19,8 @@ use Rattle.event_log.specs.declared.refusals.LogError.TheVariants as no_log
 use Rattle.command_faults.specs.declared.faults.Fault.{Fault}
 use Rattle.command_faults.specs.declared.faults.Fault.TheVariants as fault
 use Rattle.command_faults.specs.declared.faults.ImportOption.TheVariants as option
+use Rattle.command_faults.specs.declared.faults.ReportOption.{ReportOption}
+use Rattle.command_faults.specs.declared.faults.ReportOption.TheVariants as report_option
 
 -- the exit status of a refused log: that of the command line, where an option doesn't fit the times
 abbrev pub status_of_log : LogError → ℕ
@@ -22,12 +28,20 @@ status_of_log no_log.TickUnfit = 2
 status_of_log no_log.UntilUnfit = 2
 status_of_log e = 3
 
+-- the exit status of a tick that the trace hasn't: where nothing else can be asked of it, it is that of a refused trace
+abbrev pub status_of_tick : ReportOption → ℕ
+status_of_tick report_option.Until = 2
+status_of_tick report_option.At = 2
+status_of_tick report_option.Start = 3
+
 -- the exit status of each fault
 abbrev pub status_of : Fault → ℕ
 status_of (fault.Command text) = 2
 status_of (fault.Set option o) = 2
 status_of (fault.Trace e) = 3
 status_of (fault.Certificate e) = 4
+status_of (fault.Decisions e) = 4
+status_of (fault.Within operand) = 2
 status_of fault.Memory = 5
 status_of fault.Read = 6
 status_of (fault.Unread file trouble) = 6
@@ -35,7 +49,7 @@ status_of (fault.Write written) = 6
 status_of (fault.NotARun number due) = 7
 status_of fault.Threads = 8
 status_of (fault.Picture option) = 2
-status_of (fault.Report option o) = 2
+status_of (fault.Report option o) = status_of_tick option
 status_of (fault.Log e) = status_of_log e
 status_of (fault.Import option) = 2
 
@@ -50,6 +64,16 @@ abbrev pub fault_of_certificate : ReportError → Fault
 fault_of_certificate uncertified.Read = fault.Read
 fault_of_certificate uncertified.Memory = fault.Memory
 fault_of_certificate e = fault.Certificate e
+
+-- the fault that a refusal of decisions is, likewise
+abbrev pub fault_of_decisions : DecisionsError → Fault
+fault_of_decisions undecided.Memory = fault.Memory
+fault_of_decisions e = fault.Decisions e
+
+-- the fault that a text which is no formula is
+abbrev pub fault_of_formula : FormulaError → Fault
+fault_of_formula (no_formula.BadOperand operand) = fault.Within operand
+fault_of_formula no_formula.Memory = fault.Memory
 
 -- the fault that a trace which wasn't replayed is
 abbrev pub fault_of_replay : ReplayError → Fault

@@ -4,6 +4,8 @@ use Rattle.trace_text.specs.declared.refusals.TextError.{TextError}
 use Rattle.trace_text.specs.declared.refusals.TextError.TheVariants as why
 use Rattle.front.specs.declared.refusals.ReportError.{ReportError}
 use Rattle.front.specs.declared.refusals.ReportError.TheVariants as uncertified
+use Rattle.judged_runs.specs.declared.refusals.DecisionsError.{DecisionsError}
+use Rattle.judged_runs.specs.declared.refusals.DecisionsError.TheVariants as undecided
 use Rattle.step_buffers.specs.declared.dues.Due.{Due}
 use Rattle.step_buffers.specs.declared.dues.DueStep.{DueStep}
 use Rattle.step_buffers.specs.declared.dues.DueStep.TheVariants.{SendTo, SendFirst, Receive}
@@ -37,6 +39,15 @@ trace_hint e = []
 abbrev pub certificate_hint : ReportError → List ℕ
 certificate_hint uncertified.BadHeader = hint (codes "a certificate begins with gst,delta,phi,sent,missed,proc,from,to; the trace comes before it")
 certificate_hint e = []
+
+-- likewise of decisions
+abbrev pub decisions_hint : DecisionsError → List ℕ
+decisions_hint undecided.BadHeader = hint (codes "decisions begin with proc,tick,value; the trace comes before them")
+decisions_hint e = []
+
+-- which operand of a formula is none, by its number from 1, and which there are
+abbrev pub operand_hint : ℕ → List ℕ
+operand_hint operand = hint (codes "operand " ++ (decimal operand ++ codes " of the formula is no number and none of delta, phi, n, t"))
 
 -- what a processor had to do in place of a step that is none of a run
 abbrev pub due_words : DueStep → List ℕ

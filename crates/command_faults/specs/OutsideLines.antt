@@ -32,6 +32,7 @@ member_line option o = hint (set_option_words option ++ (codes " names processor
 abbrev pub report_option_words : ReportOption → List ℕ
 report_option_words report_option.Until = codes "--until"
 report_option_words report_option.At = codes "--at"
+report_option_words report_option.Start = codes "--start"
 
 -- which tick is asked for, and which there are
 abbrev pub tick_line : ReportOption → TickOutside → List ℕ

@@ -4,7 +4,9 @@ ghost use Rattle.std.specs.Prelude.{◌≡◌, IfOk, string_bytes};
 ghost use Rattle.command_faults.specs.FaultLines.{fault_line, ended_line};
 
 use crate::faults::{Fault, ImportOption, PictureOption};
-use crate::hints::{CertificateHint, DueHint, FileHint, PictureHint, TraceHint};
+use crate::hints::{
+    CertificateHint, DecisionsHint, DueHint, FileHint, OperandHint, PictureHint, TraceHint,
+};
 use crate::log_fault_lines::{HelpLine, LogLead};
 use crate::outside_lines::{MemberLine, TickLine};
 use std::alloc::{AllocError, Global};
@@ -45,6 +47,12 @@ impl fmt::Display for Fault {
             Fault::Trace(why) => { write!(f, "synchrony: trace: {why}{}", TraceHint(why)) }
             Fault::Certificate(why) => {
                 write!(f, "synchrony: certificate: {why}{}", CertificateHint(why))
+            }
+            Fault::Decisions(why) => {
+                write!(f, "synchrony: decisions: {why}{}", DecisionsHint(why))
+            }
+            Fault::Within(operand) => {
+                write!(f, "synchrony: bad --within{}", OperandHint(*operand))
             }
             Fault::Memory => f.write_str("synchrony: out of memory"),
             Fault::Read => f.write_str("synchrony: cannot read"),

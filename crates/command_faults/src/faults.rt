@@ -4,8 +4,10 @@ ghost use Rattle.std.specs.Prelude.{◌≡◌};
 ghost use Rattle.command_faults.specs.Faults.{status_of};
 
 use crate::files::FileTrouble;
+use decision_claims::FormulaError;
 use event_log::{LogError, OptionError};
 use front::ReportError;
+use judged_runs::DecisionsError;
 use std::alloc::AllocError;
 use step_buffers::{Due, ReplayError};
 use thiserror::Error;
@@ -22,6 +24,10 @@ pub enum Fault {
     Trace(TextError),
     /// The certificate is refused. `Read` and `Memory` are faults of their own.
     Certificate(ReportError),
+    /// The text of decisions is refused. `Memory` is a fault of its own.
+    Decisions(DecisionsError),
+    /// The text of a deadline is no formula: this operand, counted from 1, is none.
+    Within(u64),
     /// There was no memory.
     Memory,
     /// The input can't be read.
@@ -91,13 +97,15 @@ pub enum PictureOption {
     To(u64, u64),
 }
 
-/// An option that a part of a report is asked for with, or the check of one.
+/// An option that a part of a report is asked for with, or the check of one, or the judgement of decisions.
 #[derive(Clone, Copy, Debug, PartialEq, Eq)]
 pub enum ReportOption {
     /// The tick up to which the trace is reported, or checked.
     Until,
     /// The tick whose row is printed.
     At,
+    /// The tick in which an instance of agreement started.
+    Start,
 }
 
 /// An option by which a log is read.
@@ -145,6 +153,32 @@ impl From<ReportError> for Fault {
             ReportError::Read => Fault::Read,
             ReportError::Memory => Fault::Memory,
             why => Fault::Certificate(why),
+        }
+    }
+}
+
+impl From<DecisionsError> for Fault {
+    ghost use Rattle.command_faults.specs.Faults.{fault_of_decisions};
+
+    ghost from_gives = { λ why made. made ≡ fault_of_decisions why };
+
+    fn from(why: DecisionsError) -> Fault {
+        match why {
+            DecisionsError::Memory => Fault::Memory,
+            why => Fault::Decisions(why),
+        }
+    }
+}
+
+impl From<FormulaError> for Fault {
+    ghost use Rattle.command_faults.specs.Faults.{fault_of_formula};
+
+    ghost from_gives = { λ why made. made ≡ fault_of_formula why };
+
+    fn from(why: FormulaError) -> Fault {
+        match why {
+            FormulaError::BadOperand(operand) => Fault::Within(operand),
+            FormulaError::Memory => Fault::Memory,
         }
     }
 }
@@ -208,11 +242,12 @@ pub fn status(fault: &Fault) -> u8
     ensures { result ≡ status_of fault.now }
 {
     match fault {
-        Fault::Command(_) | Fault::Set(_, _) => 2,
+        Fault::Command(_) | Fault::Set(_, _) | Fault::Within(_) => 2,
+        Fault::Report(ReportOption::Start, _) => 3,
         Fault::Picture(_) | Fault::Report(_, _) | Fault::Import(_) => 2,
         Fault::Log(LogError::TickUnfit | LogError::UntilUnfit) => 2,
         Fault::Trace(_) | Fault::Log(_) => 3,
-        Fault::Certificate(_) => 4,
+        Fault::Certificate(_) | Fault::Decisions(_) => 4,
         Fault::Memory => 5,
         Fault::Read | Fault::Unread(..) | Fault::Write(_) => 6,
         Fault::NotARun(..) => 7,

@@ -6,6 +6,7 @@ ghost use Rattle.std.specs.Prelude.{◌≡◌, ◌+◌, ◌-◌, ◌^◌, min};
 use crate::faults::PictureOption;
 use crate::files::FileTrouble;
 use front::ReportError;
+use judged_runs::DecisionsError;
 use std::fmt;
 use step_buffers::{Due, DueStep};
 use trace_text::TextError;
@@ -79,6 +80,45 @@ impl fmt::Display for CertificateHint<'_> {
             ),
             _ => f.write_str(""),
         }
+    }
+}
+
+/// What decisions begin with, where a text doesn't begin as theirs.
+#[derive(Clone, Copy)]
+pub(crate) struct DecisionsHint<'a>(pub(crate) &'a DecisionsError);
+
+impl fmt::Display for DecisionsHint<'_> {
+    ghost use Rattle.std.specs.Prelude.{Some};
+    ghost use Rattle.command_faults.specs.Hints.{decisions_hint};
+
+    ghost output = { λ hint. Some (decisions_hint hint.0.now) };
+
+    fn fmt<W: fmt::Write>(&self, f: &mut fmt::Formatter<W>) -> fmt::Result {
+        match self.0 {
+            DecisionsError::BadHeader => f.write_str(
+                "\nsynchrony: decisions begin with proc,tick,value; the trace comes before them",
+            ),
+            _ => f.write_str(""),
+        }
+    }
+}
+
+/// Which operand of a formula is none, by its number from 1, and which there are.
+#[derive(Clone, Copy)]
+pub(crate) struct OperandHint(pub(crate) u64);
+
+impl fmt::Display for OperandHint {
+    ghost use Rattle.std.specs.Prelude.{Some};
+    ghost use Rattle.command_faults.specs.Hints.{operand_hint};
+
+    ghost output = { λ hint. Some (operand_hint hint.0) };
+
+    fn fmt<W: fmt::Write>(&self, f: &mut fmt::Formatter<W>) -> fmt::Result {
+        write!(
+            f,
+            "\nsynchrony: operand {} of the formula is no number and none of delta, phi, n, t",
+            self.0
+        )
     }
 }
 

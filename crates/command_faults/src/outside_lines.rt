@@ -88,6 +88,7 @@ impl fmt::Display for ReportOption {
         match self {
             ReportOption::Until => f.write_str("--until"),
             ReportOption::At => f.write_str("--at"),
+            ReportOption::Start => f.write_str("--start"),
         }
     }
 }

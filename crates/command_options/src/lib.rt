@@ -123,6 +123,23 @@ pub struct Claim {
     pub until: Option<u64>,
 }
 
+/// What the decisions of a run are judged for.
+#[derive(Debug, Drop)]
+pub struct Judging {
+    /// The processors that count as correct.
+    pub correct: Correct,
+    /// The text of a formula: within so many ticks each of them has to decide.
+    pub within: String,
+    /// The tick in which the instance of agreement started: 1 where there is none.
+    pub start: Option<u64>,
+    /// Whether each decision has to be an initial value.
+    pub valid: bool,
+    /// Whether the bounds of the whole run alone count, and not those of its prefixes.
+    pub whole: bool,
+    /// How many rows of the report have to be due at least: none where there is none.
+    pub due: Option<u64>,
+}
+
 /// What a picture is asked for.
 #[derive(Debug, Drop)]
 pub struct Drawing {

@@ -1,6 +1,6 @@
 //! The program: reads a trace of Send and Receive steps, and prints the report of its bounds, for the
 //! processors that are named as correct, replays it as a run of the agreement algorithm, upgrades its text, draws
-//! it, or checks a report by it; reads a log as such a trace; or makes such a run in threads, and prints its trace.
+//! it, checks a report by it, or judges by it when its processors decided; reads a log as such a trace; or makes such a run in threads, and prints its trace.
 #![tactic(auto)]
 
 mod inputs;
@@ -11,7 +11,7 @@ use crate::inputs::Input;
 use crate::line_faults::refused_line;
 use crate::outputs::{Output, stopped};
 use command_faults::{Fault, print, status, tell};
-use command_line::jobs::{CheckJob, DrawJob, ImportJob, ReportJob};
+use command_line::jobs::{CheckJob, DrawJob, ImportJob, JudgeJob, ReportJob};
 use command_line::{Job, read_command, refuse_words};
 use command_options::{RunOptions, Workers};
 use node_runs::{follower_for, run_nodes};
@@ -22,8 +22,8 @@ use std::thread::Threads;
 use std::time::Clock;
 use step_trace::{Correct, OpenGate};
 use text_commands::{
-    Answer, Replay, Upgrade, import_options, run_check, run_import, run_report, serve,
-    verdict_status,
+    Answer, Replay, Upgrade, import_options, judgement_status, read_decisions, run_check,
+    run_import, run_judge, run_report, serve, verdict_status,
 };
 use trace_text::Counting;
 
@@ -52,6 +52,7 @@ fn run<R: Threads + Wait + Clock + Sync>(rt: &HostRuntime, threads: &R) -> Resul
         Job::Run(options) => run_of(rt, threads, options),
         Job::Upgrade(job) => answer(rt, job.file, &Upgrade),
         Job::Check(job) => check(rt, job),
+        Job::Judge(job) => judge(rt, job),
         Job::Draw(job) => answer(rt, job.file, &job.drawing),
         Job::Import(job) => import(rt, job),
         Job::Help(text) => help(rt, text),
@@ -209,5 +210,26 @@ fn check(rt: &HostRuntime, job: CheckJob) -> Result<u8, Fault> {
         Ok(verdict) => Ok(verdict_status(verdict)),
         // (a fault that isn't a failed read of the one stays as it is, and is then looked at for the other)
         Err(fault) => stopped(output.is_closed(), claimed.named(trace.named(fault))),
+    }
+}
+
+/// Prints the verdict on the decisions in a file, for the trace in another, and gives its exit status. Both files are opened
+/// before one is read; the decisions are read first.
+fn judge(rt: &HostRuntime, job: JudgeJob) -> Result<u8, Fault> {
+    let mut trace = Input::open(rt, job.file)?;
+    let mut decided = Input::open(rt, job.decisions)?;
+    let read = read_decisions(rt.alloc(), &mut Counting::new(&mut decided));
+    let decisions = read.map_err(|fault| decided.named(fault))?;
+    let mut output = Output::new(rt.stdout());
+    let judged = run_judge(
+        rt.alloc(),
+        &job.judging,
+        &decisions,
+        &mut Counting::new(&mut trace),
+        &mut Counting::new(&mut output),
+    );
+    match judged {
+        Ok(verdict) => Ok(judgement_status(verdict)),
+        Err(fault) => stopped(output.is_closed(), trace.named(fault)),
     }
 }

@@ -1,5 +1,6 @@
 pub mod DeclinedTraces
 pub mod WrittenAnswers
 pub mod CheckFaults
+pub mod JudgedTraces
 pub mod ImportFaults
 pub mod ReadBack

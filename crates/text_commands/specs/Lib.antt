@@ -13,3 +13,4 @@ pub mod Briefs
 pub mod EachBounds
 pub mod TimeoutTables
 pub mod Imports
+pub mod Judgings

@@ -1,5 +1,5 @@
 -- What the program makes of a trace in a part of its report.
-use Rattle.std.specs.Prelude.{ℕ, ◌≡◌, ◌≤◌, List, [], ◌∷◌, Option, Some, None, ⊤}
+use Rattle.std.specs.Prelude.{ℕ, ◌≡◌, List, [], ◌∷◌, Option, Some, None, ⊤}
 use Rattle.step_trace.specs.declared.rows.Row.{Row}
 use Rattle.step_trace.specs.CorrectSets.{named}
 use Rattle.step_trace.specs.Traces.{Recorded}
@@ -53,6 +53,7 @@ pub record IsPartOfReport (part : ReportPart) (t : Recorded) (out : List ℕ) : 
 abbrev pub IsTickOutsideFor : ReportPart → Recorded → ReportOption → TickOutside → Type 0
 IsTickOutsideFor part t option.Until o = IsNoTickOf part.until t o
 IsTickOutsideFor part t option.At o = (reported : Recorded) × IsReportedTo part.until t reported × IsNoTickOf part.at reported o
+IsTickOutsideFor part t option.Start o = ⊥
 
 -- a fault of the trace to be reported
 abbrev pub IsUntilFault : Option ℕ → Recorded → Fault → Type 0

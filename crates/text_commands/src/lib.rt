@@ -1,7 +1,7 @@
 //! The commands that make text of text. Each that makes a text of a trace is an `Answer`: the report of the trace, its
 //! replay, its upgrade, its picture. Two doors lead to an answer: `serve`, from a reader to a writer, and `answer_to`, of a
-//! text in memory. Reports by several workers, checks of reports and imports of logs have bodies of their own, and cite the
-//! same definitions (`specs/`).
+//! text in memory. Reports by several workers, checks of reports, judgements of decisions and imports of logs have bodies of
+//! their own, and cite the same definitions (`specs/`).
 #![tactic(auto)]
 
 mod answers;
@@ -11,6 +11,7 @@ mod drawings;
 mod each_bounds;
 mod import_lines;
 mod imports;
+mod judgings;
 mod replay_texts;
 mod replays;
 mod report_parts;
@@ -25,6 +26,8 @@ mod verdict_lines;
 pub use answers::{Answer, answer_to};
 pub use checks::{run_check, verdict_on};
 pub use imports::{import_options, run_import};
+pub use judged_runs::verdict_status as judgement_status;
+pub use judgings::{judgement_on, read_decisions, run_judge};
 pub use replays::{Replay, run_replay};
 pub use reports::run_report;
 pub use serving::serve;

@@ -129,6 +129,20 @@ class Verdict:
         return "yes" if self.reason is None else " ".join(["no", self.reason, *map(str, self.numbers)])
 
 
+@dataclass(frozen=True)
+class Judgement:
+    """What `judge` says of the decisions of a run: it is true if they keep the claim. `str()` of it is the program's verdict
+    line."""
+
+    line: str
+
+    def __bool__(self) -> bool:
+        return self.line.split()[0] == "yes"
+
+    def __str__(self) -> str:
+        return self.line
+
+
 def report(trace: Text, correct: Correct) -> List[Row]:
     """The rows of the report of a trace, with these processors as the correct ones."""
     return _rows(report_text(trace, correct))
@@ -230,6 +244,21 @@ def check(trace: Text, certificate: Text, correct: Correct) -> Verdict:
     return _verdict(out)
 
 
+def judge(
+    trace: Text,
+    decisions: Text,
+    correct: Correct,
+    within: str,
+    start: Optional[int] = None,
+    valid: bool = False,
+    whole: bool = False,
+    due: Optional[int] = None,
+) -> Judgement:
+    """Whether all correct processors decided within a formula of the bounds, by a CSV of their decisions."""
+    given = {"correct": _set_of(correct)[1], "within": within, "start": start, "valid": valid, "whole": whole, "due": due}
+    return Judgement(_asked("judge", trace, _bytes_of(decisions), **given).decode().rstrip("\n"))
+
+
 # The options of the program by the names of arguments, each with what makes a word of it.
 OPTIONS: Dict[str, Tuple[str, Optional[Callable[[Any], str]]]] = {
     "correct": ("--correct", str),
@@ -245,6 +274,11 @@ OPTIONS: Dict[str, Tuple[str, Optional[Callable[[Any], str]]]] = {
     "nodes": ("--nodes", ",".join),
     "tick": ("--tick", str),
     "spread": ("--spread", None),
+    "within": ("--within", str),
+    "start": ("--start", str),
+    "valid": ("--valid", None),
+    "whole": ("--whole", None),
+    "due": ("--due", str),
 }
 # The error of each status; of any other one it is SynchronyError itself.
 ERRORS = {BAD_TRACE: TraceRefused, BAD_CERTIFICATE: CertificateRefused}

@@ -3,7 +3,7 @@
 ghost use Rattle.std.specs.Prelude.{◌≡◌, ◌↔◌, ◌≤◌, List, IfOk, IfErr, IfSome, IsTrue, codes, option_map, string_bytes};
 ghost use Rattle.clap.specs.Words.{Rule, first_of, found_of, rows_of};
 ghost use Rattle.step_trace.specs.CorrectSets.{IsCorrectIn};
-ghost use Rattle.command_line.specs.Arguments.{AreArguments, IsArgument, IsCommand, IsListFaultOf, IsUnknown, TellsList, command_app, correct_rule, file_rule, flag_in, number_in, optional_number_in, option_rule, optional_rule, positional_rule, tick_in, tick_rule};
+ghost use Rattle.command_line.specs.Arguments.{AreArguments, IsArgument, IsCommand, IsListFaultOf, IsUnknown, TellsList, command_app, correct_rule, file_rule, flag_in, flag_rule, number_in, optional_number_in, option_rule, optional_rule, positional_rule, tick_in, tick_rule};
 
 use crate::line_errors::LineError;
 use clap::builder::ValueParser;
@@ -94,6 +94,16 @@ pub fn tick_argument<'a>(alloc: Global, name: &'a str, help: &'a str) -> Arg<'a>
     ensures { IsArgument (tick_rule name.entry.now) result }
 {
     optional_argument(alloc, name, "TICK", help).value_parser(ValueParser::unsigned(0, u64::MAX))
+}
+
+/// A flag `--NAME`, which takes no value.
+pub fn flag_argument<'a>(alloc: Global, name: &'a str, help: &'a str) -> Arg<'a>
+    ensures { IsArgument (flag_rule name.entry.now) result }
+{
+    Arg::new(alloc, name)
+        .long(name)
+        .help(help)
+        .action(ArgAction::SetTrue)
 }
 
 /// The text of this name, where the matches have one.

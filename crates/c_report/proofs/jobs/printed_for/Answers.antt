@@ -34,3 +34,7 @@ returns-in-Import-clause-printed c = rw c.in-Import.is c.import.ensures.printed
 -- src/jobs.rt:39:1
 pub returns-in-Check-clause-printed : goal.returns-in-Check-clause-printed
 returns-in-Check-clause-printed c = rw c.in-Check.is c.check.ensures.printed
+
+-- src/jobs.rt:39:1
+pub returns-in-Judge-clause-printed : goal.returns-in-Judge-clause-printed
+returns-in-Judge-clause-printed c = rw c.in-Judge.is c.judge.ensures.printed

@@ -1,4 +1,4 @@
-use Rattle.std.proofs.Common.{refl, rules, sym}
+use Rattle.std.proofs.Common.{rules, sym}
 use Rattle.std.proofs.lemmas.Result.{err_from_is_err_and}
 use Rattle.command_faults.specs.Printing.{WentOut}
 use Rattle.text_commands.specs.Imports.{IsImportTold, IsToldOfLogs, IsUnimported}

@@ -1,0 +1,188 @@
+"""What `synchrony judge` says, straight from the definitions: every triple of a stabilization time and two bounds is tried,
+in every prefix of a run. Slow, for small runs, and sharing no line with the program.
+"""
+import re
+from dataclasses import dataclass
+from functools import cached_property, lru_cache
+
+GREATEST = 2**64 - 1
+
+
+@dataclass(frozen=True)
+class Run:
+    """Steps are (tick, processor, destination, None) or (tick, processor, None, taken ids), numbered from 1."""
+
+    n: int
+    t: int
+    init: tuple
+    steps: tuple
+    last: int
+
+    def until(self, tick):
+        return Run(self.n, self.t, self.init, tuple(it for it in self.steps if it[0] <= tick), tick)
+
+
+@lru_cache(maxsize=None)
+def delta_holds(run, members, g, d):
+    """Each Receive that comes d or more ticks after a message to its processor finds it delivered."""
+    for number, (sent, sender, to, _) in enumerate(run.steps, 1):
+        if to is None or sent < g or not {sender, to} <= members:
+            continue
+        for tick, receiver, _, ids in run.steps:
+            if ids is not None and receiver == to and sent + d <= tick:
+                if not any(sent < other <= tick and taken is not None and number in taken for other, _, _, taken in run.steps):
+                    return False
+    return True
+
+
+@lru_cache(maxsize=None)
+def phi_holds(run, members, g, f):
+    """In each f ticks in a row, from g on and up to the last one, each member takes a step."""
+    ticks = {(tick, proc) for tick, proc, _, _ in run.steps}
+    windows = (range(x, x + f) for x in range(g, run.last - f + 2))
+    return all(any((tick, p) in ticks for tick in window) for window in windows for p in members)
+
+
+def is_feasible(run, members, triple):
+    g, d, f = triple
+    return 1 <= g <= run.last and delta_holds(run, members, g, d) and phi_holds(run, members, g, f)
+
+
+def triples(run):
+    """Bounds above the last tick hold wherever those of one tick more do, and set no earlier deadline."""
+    some = range(1, run.last + 2)
+    return [(g, d, f) for g in range(1, run.last + 1) for d in some for f in some]
+
+
+@lru_cache(maxsize=None)
+def front(run, members):
+    """The feasible triples that no other one is at or below in all three, in rising stabilization time."""
+    feasible = [it for it in triples(run) if is_feasible(run, members, it)]
+    return [it for it in feasible if not any(o != it and all(a <= b for a, b in zip(o, it)) for o in feasible)]
+
+
+class BadOperand(Exception):
+    pass
+
+
+def formula(text):
+    """The sums of products that a text writes, as lists of operands."""
+    pieces = re.split(r"([+*])", text)
+    operands = [it.strip(" \t\n\f\r") for it in pieces[::2]]
+    for place, word in enumerate(operands, 1):
+        if word not in ("delta", "phi", "n", "t") and not (re.fullmatch(r"0|[1-9][0-9]*", word) and int(word) <= GREATEST):
+            raise BadOperand(place)
+    terms = [[operands[0]]]
+    for sign, word in zip(pieces[1::2], operands[1:]):
+        if sign == "+":
+            terms.append([word])
+        else:
+            terms[-1].append(word)
+    return terms
+
+
+def value(terms, words):
+    total = 0
+    for term in terms:
+        product = 1
+        for word in term:
+            product *= words[word] if word in words else int(word)
+        total += product
+    return total
+
+
+@dataclass
+class Judge:
+    run: Run
+    members: frozenset
+    decisions: list
+    terms: list
+    start: int = 1
+    valid: bool = False
+    whole: bool = False
+    due: int = 0
+
+    def deadline(self, triple):
+        g, d, f = triple
+        return max(g, self.start) + value(self.terms, {"delta": d, "phi": f, "n": self.run.n, "t": self.run.t})
+
+    def undecided(self, y):
+        """The least member that hadn't decided by a tick, if there is one."""
+        done = {p for p, tick, _ in self.decisions if tick <= y}
+        return min(self.members - done, default=None)
+
+    @cached_property
+    def decided(self):
+        """The first tick by which all members have decided."""
+        return next(y for y in range(self.run.last + 1) if self.undecided(y) is None)
+
+    def late_in_whole(self):
+        for triple in front(self.run, self.members):
+            y = self.deadline(triple)
+            if y <= self.run.last and self.undecided(y) is not None:
+                return triple, y
+
+    def late_in_time(self):
+        """The least deadline that was missed though its bounds held up to it, and the first row of the run up to it that sets
+        it."""
+        missed = {}
+        for triple in triples(self.run):
+            y = self.deadline(triple)
+            if y <= self.run.last and self.undecided(y) is not None:
+                missed.setdefault(y, []).append(triple)
+        for y in sorted(missed):
+            cut = self.run.until(y)
+            if any(is_feasible(cut, self.members, it) for it in missed[y]):
+                return next(it for it in front(cut, self.members) if self.deadline(it) <= y), y
+
+    def verdict(self):
+        own = [it for it in self.decisions if it[0] in self.members]
+        for p, tick, decided in own:
+            if decided != own[0][2]:
+                return "no agreement {} {} {} {} {} {}".format(*own[0], p, tick, decided)
+        for p, tick, decided in own:
+            if self.valid and decided not in self.run.init:
+                return f"no validity {p} {tick} {decided}"
+        late = self.late_in_whole() if self.whole else self.late_in_time()
+        if late:
+            (g, d, f), y = late
+            return f"no deadline {g} {d} {f} {y} {self.undecided(y)}"
+        deadlines = [self.deadline(it) for it in front(self.run, self.members)]
+        due = [it for it in deadlines if it <= self.run.last]
+        if len(due) < self.due:
+            return f"no due {len(due)}"
+        margin = f" margin {min(due) - self.decided}" if due else ""
+        return f"yes {len(due)} due {len(deadlines) - len(due)} later{margin}"
+
+
+def refusal_of_decisions(records, run):
+    """Why the records after the header are refused, if they are."""
+    for number, record in enumerate(records, 1):
+        if len(record) != 3:
+            return f"record {number}: bad fields"
+        if not all(re.fullmatch(r"0|[1-9][0-9]*", it) and int(it) <= GREATEST for it in record):
+            return f"record {number}: bad number"
+        if not 1 <= int(record[0]) <= run.n:
+            return f"record {number}: no such processor"
+        if not 1 <= int(record[1]) <= run.last:
+            return f"record {number}: no such tick"
+
+
+def answer(run, members, text, records, start=None, valid=False, whole=False, due=None):
+    """The status, and what is printed or told. The members are numbers, of which some may be above n."""
+    above = sorted(it for it in members if it > run.n)
+    if above:
+        return 2, f"no such processor in --correct\nsynchrony: --correct names processor {above[0]}, and the trace has processors 1 to {run.n}"
+    try:
+        terms = formula(text)
+    except BadOperand as place:
+        return 2, f"bad --within\nsynchrony: operand {place} of the formula is no number and none of delta, phi, n, t"
+    if start is not None and not 1 <= start <= run.last:
+        ticks = f"ticks 1 to {run.last}" if run.last else "no ticks"
+        return 3, f"bad --start\nsynchrony: --start is {start}, and the trace has {ticks}"
+    why = refusal_of_decisions(records, run)
+    if why:
+        return 4, f"decisions: {why}"
+    decisions = [tuple(map(int, it)) for it in records]
+    line = Judge(run, frozenset(members), decisions, terms, 1 if start is None else start, valid, whole, due or 0).verdict()
+    return (0 if line.startswith("yes") else 1), line

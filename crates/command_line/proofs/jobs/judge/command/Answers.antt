@@ -1,0 +1,16 @@
+use Rattle.command_line.proofs.jobs.judge.command.Goals as goal
+
+pub returns : goal.returns
+returns c = c.new_command.ensures _ (rw c.in_ok-arguments.ensures.items (
+  c.file_argument.ensures,
+  (
+    c.positional_argument.ensures,
+    (
+      c.correct_argument.ensures,
+      (
+        c.option_argument.ensures,
+        (c.tick_argument.ensures, (c.flag_argument.ensures, (c.flag_argument-2.ensures, (c.due_argument.ensures, tt)))),
+      ),
+    ),
+  ),
+))

@@ -1,0 +1,179 @@
+//! The command `judge`: its words and its help text, and the job that they give.
+
+ghost use Rattle.std.specs.Prelude.{◌≡◌, IfOk, IfErr, codes};
+ghost use Rattle.clap.specs.Words.{found_of, rows_of};
+ghost use Rattle.command_line.specs.Arguments.{IsArgument, IsCommand, tick_rule};
+ghost use Rattle.command_line.specs.Commands.Check.{IsFilesFault};
+ghost use Rattle.command_line.specs.Commands.Judge.{IsJudge, judge_app, judge_given};
+
+use crate::jobs::Job;
+use crate::jobs::arguments::{
+    correct_argument, correct_in, file_argument, flag, flag_argument, names_standard_input,
+    new_command, option_argument, optional_argument, positional_argument, text, tick,
+    tick_argument,
+};
+use crate::line_errors::LineError;
+use clap::builder::ValueParser;
+use clap::{Arg, ArgMatches, Command};
+use command_options::Judging;
+use std::alloc::{AllocError, Global};
+
+const ABOUT: &str = "Says whether all correct processors of a run decided in time";
+
+const DECISIONS_HELP: &str = "Who decided what, and when; - is standard input";
+
+const WITHIN_HELP: &str = "How many ticks they have, such as 3*phi*n + delta";
+
+const START_HELP: &str = "The tick in which the instance started; 1 where it is left out";
+
+const VALID_HELP: &str = "Asks that each decision is an initial value, too";
+
+const WHOLE_HELP: &str = "Judges by the bounds of the whole run alone, not in time";
+
+const DUE_HELP: &str = "Asks that so many rows are due; 0 where it is left out";
+
+/// The judgement of decisions by a trace. One of the two files at most is standard input.
+#[derive(Debug, Drop)]
+pub struct JudgeJob {
+    /// The path of the trace's file; `-` is standard input.
+    pub file: String,
+    /// The path of the decisions' file; `-` is standard input.
+    pub decisions: String,
+    /// What the decisions are judged for.
+    pub judging: Judging,
+}
+
+/// The command `judge`, as the command line's reader takes it.
+pub fn command<'a>(alloc: Global) -> Result<Command<'a>, AllocError>
+    ensures { IfOk result (IsCommand judge_app) }
+{
+    let arguments = vec![in alloc;
+        file_argument(alloc),
+        positional_argument(alloc, "decisions", "DECISIONS", DECISIONS_HELP),
+        correct_argument(alloc),
+        option_argument(alloc, "within", "FORMULA", WITHIN_HELP),
+        tick_argument(alloc, "start", START_HELP),
+        flag_argument(alloc, "valid", VALID_HELP),
+        flag_argument(alloc, "whole", WHOLE_HELP),
+        due_argument(alloc),
+    ]?;
+    new_command(alloc, "judge", ABOUT, help(), arguments)
+}
+
+/// The option --due K.
+fn due_argument<'a>(alloc: Global) -> Arg<'a>
+    ensures { IsArgument (tick_rule (codes "due")) result }
+{
+    optional_argument(alloc, "due", "K", DUE_HELP).value_parser(ValueParser::unsigned(0, u64::MAX))
+}
+
+/// The job that the words after `judge` ask for; none where one of them lacks. What the formula says is looked at elsewhere.
+///
+/// Refuses a list that isn't one, and then two files that are both standard input. Memory may come instead.
+pub fn job(alloc: Global, found: &ArgMatches<'_>) -> Option<Result<Job, LineError>>
+    ensures { judge_given (rows_of (found_of found.now)) result }
+{
+    let file = text(found, "file")?;
+    let decisions = text(found, "decisions")?;
+    let list = text(found, "correct")?;
+    let within = text(found, "within")?;
+    let start = tick(found, "start")?;
+    let valid = flag(found, "valid")?;
+    let whole = flag(found, "whole")?;
+    let due = tick(found, "due")?;
+    Some(judge(
+        alloc, file, decisions, list, within, start, valid, whole, due,
+    ))
+}
+
+/// The job of a judgement with these words.
+fn judge(
+    alloc: Global,
+    file: &str,
+    decisions: &str,
+    list: &str,
+    within: &str,
+    start: Option<u64>,
+    valid: bool,
+    whole: bool,
+    due: Option<u64>,
+) -> Result<Job, LineError>
+    ensures job { IfOk result (IsJudge file.now decisions.now list.now within.now start valid whole due) }
+    ensures refused { IfErr result (IsFilesFault file.now decisions.now list.now) }
+{
+    let correct = correct_in(alloc, "correct", list)?;
+    if names_standard_input(file) && names_standard_input(decisions) {
+        let text = String::from_str(alloc, "synchrony: only one file can be -")?;
+        return Err(LineError::Refused(text));
+    }
+    let file = String::from_str(alloc, file)?;
+    let decisions = String::from_str(alloc, decisions)?;
+    let judging = Judging {
+        correct,
+        within: String::from_str(alloc, within)?,
+        start,
+        valid,
+        whole,
+        due,
+    };
+    Ok(Job::Judge(JudgeJob {
+        file,
+        decisions,
+        judging,
+    }))
+}
+
+/// What is judged of a run, and by what.
+fn help() -> &'static str {
+    "\
+DECISIONS is CSV with the header proc,tick,value, and then a record for each
+decision in any order: which processor decided, in which tick of the trace, and
+what. The processors of LIST have to agree, and each of them has to decide
+within FORMULA ticks from a stabilization time on, by the bounds delta and phi
+that hold from there. So each row of the report sets a deadline, gst + FORMULA;
+with --start TICK it counts from TICK on where that is later than gst.
+
+FORMULA is a sum of products of numbers and the words delta, phi, n (how many
+processors there are) and t (how many may be faulty), such as 3*phi*n + delta.
+
+What comes after a deadline doesn't count: where bounds hold up to the deadline
+that they set, all have to decide by then, though the bounds may break down
+later. --whole judges by the bounds of the whole run alone, which can hide a
+processor that was late.
+
+What is printed is one line: the first thing that is wrong, or yes.
+
+  yes D due L later margin M  D rows of the report of the whole run have a
+                              deadline by the last tick, and L a later one; all
+                              had decided M ticks before the least deadline of
+                              the D. Of 0 due rows there is no margin, and then
+                              little was tested
+  no agreement P A V Q B W    processor P decided V in tick A, Q another value W
+                              in tick B
+  no validity P A V           with --valid: V is nobody's initial value
+  no deadline G D F Y P       from tick G on the bounds delta D and phi F hold;
+                              processor P hadn't decided by their deadline Y
+  no due D                    with --due K: fewer than K rows are due
+
+Example, at the top of the repository:
+  printf '%s\\n' proc,tick,value 1,2,5 2,3,5 |
+    ./synchrony judge examples/one-miss.trace - --correct all --within delta
+prints
+  yes 2 due 1 later margin 0
+The deadlines of the report's rows are 3, 3 and 4, the last tick is 3, and both
+had decided by tick 3. With --within 1 it prints
+  no deadline 1 2 2 2 2
+Up to tick 2 both bounds were 2, and processor 2 hadn't decided by then.
+
+Exit status:
+  0  the verdict is yes, or this text was asked for
+  1  the verdict is no
+  2  the command line is refused, LIST is no list, or it has a processor above
+     the trace's number of processors; FORMULA is no formula
+  3  the trace is refused, or hasn't the tick of --start
+  4  DECISIONS is refused: a record that isn't as said, of no processor or tick
+     of the trace, or more than 1,000,000 of them
+  5  out of memory
+  6  a file can't be opened or read, or the output can't be written
+A fault is told on standard error. Nothing is printed before the verdict stands."
+}

@@ -1,0 +1,28 @@
+use Rattle.std.proofs.Common.{◌≡◌, ◌∙◌, Ok, refl}
+use Rattle.std.proofs.lemmas.Result.{err_from_is_err_and}
+use Rattle.judged_runs.specs.DecisionTexts.{decisions_of_text}
+use Rattle.text_commands.proofs.JudgedTraces.{formula-declined}
+use Rattle.text_commands.proofs.judgings.verdict_for.Goals as goal
+
+-- the deadline is no formula
+pub returns-in_err-formula-clause-refused : goal.returns-in_err-formula-clause-refused
+returns-in_err-formula-clause-refused c =
+    let p = err_from_is_err_and c.from_residual-in_err-formula.result c.from_residual-in_err-formula.ensures.1 in
+    rw (p.1, p.2) (formula-declined c.args.judging.now c.args.decisions.now c.args.trace.now c.as_bytes.result.now _ _ refl (c.as_bytes.ensures.value ∙ c.as_str.ensures.value) c.in_ok-set.ensures.within
+    c.in_err-formula.ensures.bad c.in_err-formula.ensures.refused)
+
+pub returns-clause-verdict : goal.returns-clause-verdict
+returns-clause-verdict c =
+    let trace = c.args.trace.now in
+    let read : decisions_of_text trace.config.n trace.last c.args.decisions.now ≡ Ok c.in_ok-decisions.decisions.items = rw (c.n.ensures.value, c.config-config.ensures, c.last_tick.ensures.value) at c.in_ok-decisions.ensures in
+    record {
+      asked = record {
+        within = c.in_ok-set.ensures.within;
+        formula = c.in_ok-formula.formula;
+        written = rw (c.as_bytes.ensures.value, c.as_str.ensures.value) at c.in_ok-formula.ensures.ok;
+      };
+      started = c.in_ok-test_start.ensures.started;
+      decisions = c.in_ok-decisions.decisions.items;
+      read = read;
+      exact = rw (c.in_ok-set.ensures.set, c.deref.ensures.value, c.unwrap_or.ensures, c.unwrap_or-2.ensures) at c.in_ok-judge.ensures;
+    }

@@ -1,0 +1,63 @@
+-- The verdict on the decisions of a run, and why there is none.
+use Rattle.std.specs.Prelude.{ℕ, ◌≡◌, ◌≢◌, List, Option, Some, None, Err, Ok, string_bytes, unwrap_or}
+use Rattle.step_trace.specs.CorrectSets.{named}
+use Rattle.step_trace.specs.Traces.{Recorded}
+use Rattle.decision_claims.specs.declared.decisions.Decision.{Decision}
+use Rattle.decision_claims.specs.Formulas.{Terms}
+use Rattle.decision_claims.specs.FormulaTexts.{IsBadOperand, IsFormulaText}
+use Rattle.judged_runs.specs.declared.judgements.Demands.{Demands}
+use Rattle.judged_runs.specs.declared.judgements.Verdict.{Verdict}
+use Rattle.judged_runs.specs.declared.refusals.DecisionsError.TheVariants as undecided
+use Rattle.judged_runs.specs.DecisionTexts.{decisions_of_text}
+use Rattle.judged_runs.specs.Judgements.{IsVerdict}
+use Rattle.judged_runs.specs.VerdictLines.{told_verdict}
+use Rattle.text_verdicts.specs.Cuts.{IsTickOf}
+use Rattle.text_verdicts.specs.Texts.{HasCorrect}
+use Rattle.command_faults.specs.declared.faults.Fault.{Fault}
+use Rattle.command_faults.specs.declared.faults.Fault.TheVariants as fault
+use Rattle.command_faults.specs.declared.faults.ReportOption.TheVariants as option
+use Rattle.command_options.specs.declared.Judging.{Judging}
+use Rattle.text_commands.specs.Answers.{IsOutside}
+use Rattle.text_commands.specs.ReportParts.{IsNoTickOf}
+
+-- what is demanded of the decisions: the instance starts in tick 1, and no row has to be due, where nothing else is said
+abbrev pub demands_of : Judging → Demands
+demands_of j = record { start = unwrap_or j.start 1; valid = j.valid; whole = j.whole; due = unwrap_or j.due 0 }
+
+-- the trace has the tick in which the instance started, if one is given
+abbrev pub HasStart : Option ℕ → Recorded → Type 0
+HasStart None t = Unit {0}
+HasStart (Some tick) t = IsTickOf t tick
+
+-- The trace has all correct processors, and the deadline's text is a formula.
+pub record HasFormula (j : Judging) (t : Recorded) : Type 0 where
+  pub within : HasCorrect j.correct t
+  pub formula : Terms
+  pub written : IsFormulaText (string_bytes j.within) formula
+
+-- This is the verdict on the decisions of a text, by the trace.
+pub record IsJudgementOn (j : Judging) (text : List ℕ) (v : Verdict) (t : Recorded) : Type 0 where
+  pub asked : HasFormula j t
+  pub started : HasStart j.start t
+  pub decisions : List Decision
+  pub read : decisions_of_text t.config.n t.last text ≡ Ok decisions
+  pub exact : IsVerdict (named j.correct t.config.n) t decisions asked.formula (demands_of j) v
+
+-- the line is that of the verdict
+pub record IsJudgedLine (j : Judging) (text : List ℕ) (t : Recorded) (line : List ℕ) : Type 0 where
+  pub verdict : Verdict
+  pub exact : IsJudgementOn j text verdict t
+  pub told : line ≡ told_verdict verdict
+
+-- the fault of a start that is no tick of the trace
+abbrev pub IsStartFault : Option ℕ → Recorded → Fault → Type 0
+IsStartFault start t (fault.Report option.Start o) = IsNoTickOf start t o
+IsStartFault start t _ = ⊥
+
+-- For what the decisions of a text aren't judged by the trace: a correct processor that it hasn't; or else an operand of the
+-- formula; or else the tick of the start, which the trace hasn't; or else the first refusal of the text.
+abbrev pub IsUnjudged : Judging → List ℕ → Recorded → Fault → Type 0
+IsUnjudged j text t (fault.Within operand) = HasCorrect j.correct t × IsBadOperand (string_bytes j.within) operand × ((terms : Terms) → ¬ IsFormulaText (string_bytes j.within) terms)
+IsUnjudged j text t (fault.Report option.Start o) = HasFormula j t × IsNoTickOf j.start t o
+IsUnjudged j text t (fault.Decisions reason) = HasFormula j t × HasStart j.start t × (decisions_of_text t.config.n t.last text ≡ Err reason) × (reason ≢ undecided.Memory)
+IsUnjudged j text t w = IsOutside j.correct t w

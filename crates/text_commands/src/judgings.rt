@@ -1,0 +1,141 @@
+//! The verdict on the decisions of a run: the command `judge`.
+
+ghost use Rattle.std.specs.Prelude.{◌≡◌, ℕ, List, OnOk, IfOk, IfErr, IfSome};
+ghost use Rattle.judged_runs.specs.VerdictLines.{told_verdict};
+ghost use Rattle.text_commands.specs.Answers.{IsDeclined, IsUnanswered};
+ghost use Rattle.text_commands.specs.Judgings.{HasStart, IsJudgedLine, IsJudgementOn, IsStartFault, IsUnjudged};
+ghost use Rattle.text_commands.specs.Serving.{Appends, IsAtEnd, IsReadFault, ServesTrace, faults_of, inner_of};
+ghost use Rattle.text_commands.specs.Texts.{IsUnreadWhole};
+ghost use Rattle.text_verdicts.specs.Texts.{OfTrace};
+
+use crate::report_parts::{has_tick, outside};
+use crate::texts::read_whole;
+use crate::traces::{read_text, set_of, trace_of};
+use command_faults::{Fault, ReportOption};
+use command_options::Judging;
+use decision_claims::parse_formula;
+use judged_runs::{DecisionsError, Demands, Verdict, decisions_of_text, judge, verdict_text};
+use std::alloc::Global;
+use std::io::{Read, Write};
+use step_trace::Trace;
+use trace_text::{Counting, write_text};
+
+/// Reads a text of decisions to its end. What it says is looked at by `run_judge`.
+///
+/// Refuses Read at the first fault, and Decisions for a text that is too large. Memory may come instead.
+pub fn read_decisions<R: Read>(alloc: Global, reader: &mut Counting<R>) -> Result<Vec<u8>, Fault>
+    ensures text { IfOk result (λ text. IfSome (R.remaining (inner_of reader.old)) (λ known. text.items ≡ known)) }
+    ensures end { OnOk result (IsAtEnd (R.remaining (inner_of reader.new))) }
+    ensures faultless { OnOk result (faults_of reader.new ≡ faults_of reader.old) }
+    ensures refused { IfErr result (IsUnreadWhole (Fault.Decisions DecisionsError.TooLarge) (R.remaining (inner_of reader.old))) }
+    ensures read { IfErr result (IsReadFault (faults_of reader.old) (faults_of reader.new)) }
+{
+    read_whole(alloc, reader, Fault::Decisions(DecisionsError::TooLarge))
+}
+
+/// Reads a trace text to its end, judges the decisions of another text by the trace, and writes the line of the verdict.
+/// Nothing is written before the verdict stands.
+///
+/// Refuses, in this order: Read, or Trace for a trace text that is too large; Trace for any other refusal of it; Set if a
+/// correct processor is above the trace's number of processors; Within for a deadline that is no formula; Report if the trace
+/// hasn't the tick of the start; Decisions with the first refusal of the decisions; Write with the number of bytes that went
+/// out before. Memory may come at any step before the first write.
+pub fn run_judge<R: Read, W: Write>(
+    alloc: Global,
+    judging: &Judging,
+    decisions: &[u8],
+    reader: &mut Counting<R>,
+    writer: &mut Counting<W>,
+) -> Result<Verdict, Fault>
+    ensures served { ServesTrace (IsJudgedLine judging.now decisions.now) (IsUnjudged judging.now decisions.now) R.remaining W.contents reader.old reader.new writer.old writer.new result }
+    ensures verdict { IfOk result (λ verdict. (text : List ℕ) × IfSome (R.remaining (inner_of reader.old)) (λ known. text ≡ known)
+        × OfTrace (IsJudgementOn judging.now decisions.now verdict) text
+        × Appends (W.contents (inner_of writer.old)) (W.contents (inner_of writer.new)) (told_verdict verdict)) }
+{
+    let trace = read_text(alloc, reader)?;
+    let told = told_for(alloc, judging, decisions, &trace)?;
+    write_text(&told.line, writer)?;
+    Ok(told.verdict)
+}
+
+/// A verdict and its line.
+#[derive(Drop)]
+struct Told {
+    verdict: Verdict,
+    line: Vec<u8>,
+}
+
+/// The verdict on the decisions of a text by a trace, and its line.
+fn told_for(
+    alloc: Global,
+    judging: &Judging,
+    decisions: &[u8],
+    trace: &Trace,
+) -> Result<Told, Fault>
+    ensures line { IfOk result (λ told. IsJudgedLine judging.now decisions.now trace.now told.line.items) }
+    ensures verdict { IfOk result (λ told. IsJudgementOn judging.now decisions.now told.verdict trace.now) }
+    ensures same { IfOk result (λ told. told.line.items ≡ told_verdict told.verdict) }
+    ensures refused { IfErr result (IsDeclined (IsUnjudged judging.now decisions.now trace.now)) }
+{
+    let verdict = verdict_for(alloc, judging, decisions, trace)?;
+    let line = verdict_text(alloc, verdict)?.into_bytes();
+    Ok(Told { verdict, line })
+}
+
+/// The verdict on the decisions of a text by a trace text, both in memory.
+///
+/// Refuses, in this order: Trace with the first refusal of the trace text; Set, Within, Report and Decisions as `run_judge`
+/// does. Memory may come instead.
+pub fn judgement_on(
+    alloc: Global,
+    judging: &Judging,
+    text: &[u8],
+    decisions: &[u8],
+) -> Result<Verdict, Fault>
+    ensures verdict { IfOk result (λ verdict. OfTrace (IsJudgementOn judging.now decisions.now verdict) text.now) }
+    ensures refused { IfErr result (IsUnanswered (IsUnjudged judging.now decisions.now) text.now) }
+{
+    let trace = trace_of(alloc, text)?;
+    verdict_for(alloc, judging, decisions, &trace)
+}
+
+/// The verdict on the decisions of a text by a trace.
+fn verdict_for(
+    alloc: Global,
+    judging: &Judging,
+    decisions: &[u8],
+    trace: &Trace,
+) -> Result<Verdict, Fault>
+    ensures verdict { IfOk result (λ verdict. IsJudgementOn judging.now decisions.now verdict trace.now) }
+    ensures refused { IfErr result (IsDeclined (IsUnjudged judging.now decisions.now trace.now)) }
+{
+    let set = set_of(judging.correct, trace)?;
+    let formula = parse_formula(alloc, judging.within.as_str().as_bytes())?;
+    test_start(judging.start, trace)?;
+    let config = trace.config();
+    let decisions = decisions_of_text(alloc, decisions, config.n(), trace.last_tick())?;
+    let demands = Demands {
+        start: judging.start.unwrap_or(1),
+        valid: judging.valid,
+        whole: judging.whole,
+        due: judging.due.unwrap_or(0),
+    };
+    Ok(judge(alloc, trace, set, &decisions, &formula, demands)?)
+}
+
+/// Refuses Report for a start that is none of the ticks of the trace.
+fn test_start(start: Option<u64>, trace: &Trace) -> Result<(), Fault>
+    ensures started { OnOk result (HasStart start trace.now) }
+    ensures refused { IfErr result (IsStartFault start trace.now) }
+{
+    match start {
+        Some(tick) => {
+            if has_tick(trace, tick) {
+                Ok(())
+            } else {
+                Err(outside(ReportOption::Start, trace, tick))
+            }
+        }
+        None => Ok(()),
+    }
+}
