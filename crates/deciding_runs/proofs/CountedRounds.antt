@@ -46,13 +46,6 @@ round_at-passed steps k x h ends =
     let within : passed (before steps (k + 1)) x.proc ≤ passed steps x.proc = passed-before steps x.proc (k + 1) in
     omega arith
 
--- before the first step each processor is in its first round
-pub AreRounds-opening : (c : Setup) (steps : List Step) → AreRounds c steps 1 (replicate c.n 1)
-AreRounds-opening c steps = record {
-  count = length-replicate c.n 1;
-  each = λ p is. (let low = is.0 in let high = is.1 in get_or-replicate c.n (p - 1) 1 0 (omega arith));
-}
-
 and-none : (a : Bool) → (a && false) ≡ false
 and-none true = refl
 and-none false = refl

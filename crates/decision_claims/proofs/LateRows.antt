@@ -68,9 +68,6 @@ abbrev pub DueBefore : Recorded → List Row → (Triple → ℕ) → ℕ → Op
 DueBefore trace rows due k None = AreLaterBefore trace rows due k
 DueBefore trace rows due k (Some y) = IsLeastBefore trace rows due k y
 
-pub due_first : (trace : Recorded) (rows : List Row) (due : Triple → ℕ) → DueBefore trace rows due 0 None
-due_first trace rows due = record { each = λ j r l. absurd (omega (arith, l)) }
-
 -- what is so of the rows before place k and of the row there is so of those before the next place
 one_more : (P : Row → Type 0) (rows : List Row) (k : ℕ) → k < length rows → P (get_or rows k no_row)
     → ((j : ℕ) (r : Row) → j < k → slice_get rows j ≡ Some r → P r) → (j : ℕ) (r : Row) → j < k + 1 → slice_get rows j ≡ Some r → P r

@@ -19,9 +19,6 @@ use Rattle.decision_claims.proofs.FrontClaims.{front-below}
 use Rattle.decision_claims.proofs.PrefixClaims.{has_cut, IsCutAt-twice, IsFeasible-cut}
 use Rattle.judged_runs.specs.LateInTime.{IsLateInTime, IsNextLook, KeepsBefore, begun_after}
 
-pub before_none : (set : ℕ) (trace : Recorded) (decisions : List Decision) (due : Triple → ℕ) → KeepsBefore set trace decisions due 0
-before_none set trace decisions due = record { each = λ t cut l. absurd (omega (arith, l)) }
-
 -- what is kept before a tick is kept before each earlier one
 before_less : (set : ℕ) (trace : Recorded) (decisions : List Decision) (due : Triple → ℕ) (x y : ℕ) → y ≤ x → KeepsBefore set trace decisions due x → KeepsBefore set trace decisions due y
 before_less set trace decisions due x y l before = record { each = λ t cut m. before.each t cut (omega (arith, l, m)) }

@@ -25,10 +25,6 @@ use Rattle.link_bounds.proofs.NotedEvidence.{GrowsBy, AllowsAll-noted, AllowsAll
 pub IsMessage-from_link : (members : ℕ) (steps : List Step) (p q s : ℕ) → IsMessageOn members steps p q s → IsMessage members steps s q
 IsMessage-from_link members steps p q s m = record { from = p; sent = m.sent; sender = m.sender; receiver = m.receiver }
 
--- after the last step there is no message
-pub KnowsLink-after_all : (members : ℕ) (t : Recorded) (p q : ℕ) → KnowsLink members t p q (length t.steps) None
-KnowsLink-after_all members t p q = λ s later m. (let inside = (step_at_within t.steps s _ m.sent).1 in absurd (omega arith))
-
 -- back over a step that is no message of it, nothing changes on a link
 pub KnowsLink-pass : (members : ℕ) (t : Recorded) (p q x : ℕ) (slot : Option (LeastBound Miss)) → 1 ≤ x → ¬ IsMessageOn members t.steps p q x → KnowsLink members t p q x slot → KnowsLink members t p q (x - 1) slot
 KnowsLink-pass members t p q x None low other k = λ s later m. elim (cases_eq s x) [

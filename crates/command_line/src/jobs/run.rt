@@ -36,7 +36,7 @@ const PATIENCE_HELP: &str = "How many Receives a round takes at most, from 1 to 
 
 const STEPS_HELP: &str = "The steps that each makes; N * S is at most 1000000";
 
-const UNTIL_HELP: &str = "Ends the run once all have decided: decided";
+const UNTIL_HELP: &str = "decided: the run ends once all have decided";
 
 const FOLLOW_HELP: &str =
     "Tells of the bounds of these processors meanwhile: 1,2,5, or all, or none";
@@ -65,7 +65,7 @@ pub fn command<'a>(alloc: Global) -> Result<Command<'a>, AllocError>
         optional_argument(alloc, "pace", "NAME", PACE_HELP),
         patience_option(alloc),
         number_option(alloc, "steps", "S", STEPS_HELP, 0, MAX_STEPS as u64),
-        optional_argument(alloc, "until", "decided", UNTIL_HELP),
+        optional_argument(alloc, "until", "END", UNTIL_HELP),
         optional_argument(alloc, "follow", "LIST", FOLLOW_HELP),
     ]?;
     new_command(alloc, "run", ABOUT, help(), arguments)
