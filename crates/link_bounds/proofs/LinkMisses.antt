@@ -11,7 +11,6 @@ use Rattle.step_trace.specs.Traces.{Recorded}
 use Rattle.step_trace.specs.Ticks.{tick_of}
 use Rattle.step_trace.specs.Bounds.{IsMessage}
 use Rattle.step_trace.specs.Witnesses.{IsMiss}
-use Rattle.step_trace.proofs.StepPositions.{step_at_within}
 use Rattle.suffix_staircase.proofs.MissNumbers.{IsLastMissOf}
 use Rattle.link_bounds.specs.declared.bounds.LeastBound.{LeastBound}
 use Rattle.link_bounds.specs.declared.links.Links.{Links}

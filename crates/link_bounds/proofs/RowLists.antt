@@ -9,7 +9,6 @@ use Rattle.step_trace.specs.declared.rows.Miss.{Miss}
 use Rattle.step_trace.specs.declared.processors.TheConstants.{MAX_MEMBER}
 use Rattle.step_trace.specs.Processors.{has_proc, IsWithin}
 use Rattle.step_trace.specs.Traces.{Recorded}
-use Rattle.step_trace.proofs.ListMembers.{Contains-nil}
 use Rattle.suffix_staircase.proofs.LongestGaps.{member_range}
 use Rattle.link_bounds.specs.declared.bounds.LeastBound.{LeastBound}
 use Rattle.link_bounds.specs.declared.links.TheConstants.{RECEIVERS}
@@ -44,15 +43,6 @@ module _ (members : ℕ) (t : Recorded) (g : ℕ) where
       let range' = (member_range members s y.sent.1.message.receiver).1 in
       elim (cases_lt p r) [ inl below ↦ inl below | inr above ↦ inr (omega arith, omega arith) ]
 
-  -- no row stands before the first place
-  pub ListsBefore-none : ListsBefore members t g 1 []
-  ListsBefore-none = record {
-    right = λ r c. absurd (Contains-nil r c);
-    processors = λ p m l. absurd (let range = (member_range members p m).0 in omega arith);
-    links = λ p q s sent l. absurd (omega arith);
-    ordered = λ i j d l u. absurd (omega arith);
-  }
-
   -- one row more
   pub ListsBefore-push : (k : ℕ) (rows : List BoundRow) (r : BoundRow) → IsRow members t g r → rank_of r ≡ k → ListsBefore members t g k rows → ListsBefore members t g (k + 1) (rows ++ r ∷ [])
   ListsBefore-push k rows r row place lists = record {
@@ -83,15 +73,6 @@ module _ (members : ℕ) (t : Recorded) (g : ℕ) where
       | inl e ↦ absurd (unsent p q s e sent)
       | inr ne ↦ lists.links p q s sent (omega (arith, ne))
     ];
-    ordered = lists.ordered;
-  }
-
-  -- the rows of all processors are those before the places of links
-  pub ListsBefore-processors : (k : ℕ) (rows : List BoundRow) → k ≤ RECEIVERS → ((p : ℕ) → IsTrue (has_proc members p) → p < k) → ListsBefore members t g k rows → ListsBefore members t g RECEIVERS rows
-  ListsBefore-processors k rows few all lists = record {
-    right = λ r c. (let h = lists.right r c in let below = h.1 in (h.0, omega arith));
-    processors = λ p m l. lists.processors p m (all p m);
-    links = λ p q s sent l. absurd (omega arith);
     ordered = lists.ordered;
   }
 
