@@ -21,7 +21,8 @@ pub const ONE_MISS: &str = "dls-trace,1,2,0\ninit,5,7\n1,1,S,2\n2,2,R,\n3,2,R,1\
 pub const ONE_MISS_REPORT: &str = report_text!("1,2,3,1,2,1,2,3\n2,1,3,,,1,2,3\n3,1,2,,,1,3,3\n");
 
 /// The bounds of each processor and of each link of `ONE_MISS`.
-pub const ONE_MISS_EACH: &str = "bound,proc,to,value,first,last\nphi,1,,3,2,3\nphi,2,,2,1,1\ndelta,1,2,2,1,2\n";
+pub const ONE_MISS_EACH: &str =
+    "bound,proc,to,value,first,last\nphi,1,,3,2,3\nphi,2,,2,1,1\ndelta,1,2,2,1,2\n";
 
 /// One-miss in version 2.
 pub const ONE_MISS_UPGRADE: &str =

@@ -12,6 +12,7 @@ returns-in-Brief-clause-printed c = rw c.in-Brief.is (rw (sym c.as_str-in-Brief.
 -- src/jobs.rt:39:1
 pub returns-in-Each-clause-printed : goal.returns-in-Each-clause-printed
 returns-in-Each-clause-printed c = rw c.in-Each.is (rw (sym c.as_str-in-Each.ensures.value) c.answer-in-Each.ensures.printed)
+
 pub returns-in-Timeouts-clause-printed : goal.returns-in-Timeouts-clause-printed
 returns-in-Timeouts-clause-printed c = rw c.in-Timeouts.is (rw (sym c.as_str-in-Timeouts.ensures.value) c.answer-in-Timeouts.ensures.printed)
 
