@@ -8,7 +8,7 @@ import signal
 import statistics
 import tempfile
 import time
-from concurrent.futures import Future, ProcessPoolExecutor, ThreadPoolExecutor
+from concurrent.futures import Executor, Future, ProcessPoolExecutor, ThreadPoolExecutor
 from pathlib import Path
 
 import synchrony as sy
@@ -25,16 +25,23 @@ class Deadly(bytes):
         return os._exit, (1,)
 
 
-class Recording(ThreadPoolExecutor):
-    """An executor that remembers how many traces are before it at most."""
+class Recording(Executor):
+    """An executor that works where an answer is asked for, and remembers how many batches were before it at most."""
 
     def __init__(self):
-        super().__init__(2)
-        self.given = 0
+        self.before, self.most, self.traces = 0, 0, 0
 
     def submit(self, function, job, texts):
-        self.given += len(texts)
-        return super().submit(function, job, texts)
+        future = Future()
+
+        def work(timeout=None):
+            self.before -= 1
+            return function(job, texts)
+
+        future.result = work
+        self.before, self.traces = self.before + 1, self.traces + len(texts)
+        self.most = max(self.most, self.before)
+        return future
 
 
 def many(count):
@@ -59,10 +66,10 @@ def due(traces, at=1):
 
 def test_the_examples():
     names = ["one-miss", "shared-ticks", "no-steps", "redelivered", "no such file"]
-    table = sy.survey([EXAMPLES / f"{it}.trace" for it in names], at=[1, 2, 6, 100], executor=ThreadPoolExecutor(1))
-    assert table.header() == ["name", "group", "steps", "ticks", "delta@1", "phi@1", "delta@2", "phi@2", "delta@6", "phi@6", "delta@100", "phi@100", "error"]
+    table = sy.survey([EXAMPLES / f"{it}.trace" for it in names], at=[1, 3, 6, 100], executor=ThreadPoolExecutor(1))
+    assert table.header() == ["name", "group", "steps", "ticks", "delta@1", "phi@1", "delta@3", "phi@3", "delta@6", "phi@6", "delta@100", "phi@100", "error"]
     assert [it[1:] for it in table.rows] == [
-        ("", 3, 3, ((2, 3), (1, 3), None, None), None),
+        ("", 3, 3, ((2, 3), (1, 2), None, None), None),
         ("", 5, 7, ((4, 4), (1, 4), (1, 3), None), None),
         ("", 0, 0, (None, None, None, None), None),
         ("", None, None, (), "trace: step 3: message 1 was received before"),
@@ -106,13 +113,13 @@ def test_traces_are_read_as_they_are_needed():
     def traces():
         nonlocal read
         for it in range(1000):
-            # (so many were before the executor, and the first of them was answered)
-            assert read <= executor.given + 5
+            # (what was read before this one is before the executor, but for a batch that isn't full)
+            assert read <= executor.traces + 4
             read += 1
             yield ONE_MISS
 
     table = sy.survey(traces(), executor=executor, batch=5)
-    assert (len(table.rows), read, executor.given) == (1000, 1000, 1000)
+    assert (len(table.rows), read, executor.traces) == (1000, 1000, 1000) and 2 <= executor.most <= 64
 
 
 def test_a_set_that_some_traces_do_not_have():

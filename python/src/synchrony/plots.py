@@ -26,8 +26,10 @@ def plot_report(rows: Sequence[Row], last: Optional[int] = None) -> Figure:
         values = [getattr(it, bound) for it in rows]
         part.step(ticks, [*values, *values[-1:]] or [0], where="post", color="C0" if bound == "delta" else "C1")
         part.set_ylabel(NAMES[bound])
-        part.set_ylim(bottom=0)
+        part.set_ylim(0, 1.08 * max([1, *values]))
+        part.yaxis.get_major_locator().set_params(integer=True)
         part.grid(alpha=0.3)
+    parts[-1].xaxis.get_major_locator().set_params(integer=True)
     parts[-1].set_xlabel("from tick")
     parts[0].set_title("Least bounds that hold to the end of the trace")
     return figure
@@ -38,18 +40,22 @@ def plot_survey(table: Table) -> Figure:
     bounds are those from the first tick of the survey on."""
     figure, parts = _figure(1, 2)
     groups = list(dict.fromkeys(it.group for it in table.rows))
+    # (a trace that ends before the tick, or has an error, has no bounds)
+    rows = [(it.group, it.bounds[0]) for it in table.rows if it.bounds and it.bounds[0]]
     for at, (part, bound) in enumerate(zip(parts, NAMES)):
+        greatest = max([1, *(bounds[at] for _, bounds in rows)])
         for group in groups:
-            # (a trace that ends before the tick, or has an error, has no bounds)
-            values = sorted(it.bounds[0][at] for it in table.rows if it.group == group and it.bounds and it.bounds[0])
+            values = sorted(bounds[at] for it, bounds in rows if it == group)
             if values:
                 shares = [(no + 1) / len(values) for no in range(len(values))]
-                part.step([values[0], *values], [0, *shares], where="post", label=f"{group or 'all'} ({len(values)})")
+                part.step([values[0], *values, greatest], [0, *shares, 1], where="post", label=f"{group or 'all'} ({len(values)})")
         part.set_xlabel(NAMES[bound])
-        part.set_xlim(left=0)
+        part.set_xlim(0, 1.04 * greatest)
+        part.xaxis.get_major_locator().set_params(integer=True)
         part.set_ylim(0, 1.02)
         part.grid(alpha=0.3)
-        part.legend(loc="lower right", fontsize="small")
+        if rows:
+            part.legend(fontsize="small")
     parts[0].set_ylabel("share of the traces with at most this bound")
     figure.suptitle(f"Least bounds from tick {table.ticks[0]} on")
     return figure

@@ -165,12 +165,17 @@ def survey(
         for pieces, found in work.answers(_batches(_pieces(traces, with_paths), batch)):
             rows += [None] * (pieces[-1][0] + 1 - len(rows))
             for (place, name, _), answer in zip(pieces, found):
+                if rows[place] is not None:
+                    raise AssertionError(f"trace {place + 1} is answered twice")
                 rows[place] = Surveyed(name, _group_of(group, name), *answer)
             told.tell(len(pieces))
     finally:
         work.close()
         told.close()
-    return Table(ticks, [it for it in rows if it is not None])
+    found_rows = [it for it in rows if it is not None]
+    if len(found_rows) != len(rows):
+        raise AssertionError("a trace has no answer")
+    return Table(ticks, found_rows)
 
 
 # What a worker answers of a trace: the last four fields of a row.
