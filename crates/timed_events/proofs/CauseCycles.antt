@@ -8,7 +8,7 @@ use Rattle.timed_events.specs.declared.cause_cycles.Hop.{Hop}
 use Rattle.timed_events.specs.declared.events.Event.{Event}
 use Rattle.timed_events.specs.Checks.{AreOfProcessors}
 use Rattle.timed_events.specs.Causes.{IsFrom, IsSentTo, IsCause, IsCausalOrder}
-use Rattle.timed_events.specs.CausalWalks.{index_at, IsIn, IsWaiting, IsWalked, AreWaiting}
+use Rattle.timed_events.specs.CausalWalks.{index_at, IsWaiting, IsWalked, AreWaiting}
 use Rattle.timed_events.specs.CauseCycles.{IsCauseCycle}
 use Rattle.timed_events.proofs.CausalOrders.{causes-before}
 use Rattle.timed_events.proofs.CausalWalks.{zero-each}

@@ -8,3 +8,5 @@ pub mod Briefs
 pub mod Causes
 pub mod CausalWalks
 pub mod CauseCycles
+pub mod Received
+pub mod Lateness

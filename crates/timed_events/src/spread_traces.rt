@@ -1,6 +1,6 @@
 //! The trace of events that may go to later ticks than those of their times.
 
-ghost use Rattle.std.specs.Prelude.{◌≡◌, ◌<◌, ◌≤◌, fold, length, max, true, Err, IfErr, IfOk, None};
+ghost use Rattle.std.specs.Prelude.{◌≡◌, ◌<◌, ◌≤◌, ◌+◌, fold, if◌then◌else◌, length, max, nat_lt, true, Err, IfErr, IfOk, None, Some};
 ghost use Rattle.timed_events.specs.Checks.{AreMeant};
 ghost use Rattle.timed_events.specs.Spreads.{moved_of, IsTimed, IsTimedRefusal};
 ghost use Rattle.timed_events.specs.Times.{times_refusal};
@@ -22,6 +22,8 @@ pub struct Moved {
     pub events: u64,
     /// By how many ticks at most.
     pub ticks: u64,
+    /// The place of the event that moved by as many, the first of several; nothing if none moved.
+    pub farthest: Option<usize>,
 }
 
 /// A trace of events, and how far they went.
@@ -63,6 +65,7 @@ pub fn trace_of_events(
     let moved = Moved {
         events: 0,
         ticks: 0,
+        farthest: None,
     };
     Ok(TimedTrace { trace, moved })
 }
@@ -115,18 +118,35 @@ fn last_of(last: u64, ticks: &[u32]) -> u64
 
 /// How far events went from their own ticks, those of their times.
 fn moved_of(own: &[u32], ticks: &[u32]) -> Moved
-    requires { length ticks.now ≡ length own.now }
+    requires long { length ticks.now ≡ length own.now }
+    requires few { length own.now ≤ MAX_STEPS }
     ensures { result ≡ moved_of own.now ticks.now }
 {
     let mut moved = Moved {
         events: 0,
         ticks: 0,
+        farthest: None,
     };
     for k in 0..own.len() {
         if own[k] < ticks[k] {
-            moved.events += 1;
-            moved.ticks = moved.ticks.max(u64::from(ticks[k] - own[k]));
+            moved = with_event(moved, k, u64::from(ticks[k] - own[k]));
         }
     }
     moved
+}
+
+/// With one event more, that at `place`, which moved by so many ticks.
+fn with_event(moved: Moved, place: usize, ticks: u64) -> Moved
+    requires { moved.events < MAX_STEPS }
+    ensures events { result.events ≡ moved.events + 1 }
+    ensures ticks { result.ticks ≡ max moved.ticks ticks }
+    ensures farthest { result.farthest ≡ (if nat_lt moved.ticks ticks then Some place else moved.farthest) }
+{
+    let mut more = moved;
+    more.events += 1;
+    if moved.ticks < ticks {
+        more.ticks = ticks;
+        more.farthest = Some(place);
+    }
+    more
 }

@@ -4,8 +4,8 @@ use crate::lines::{Line, StepLine, TICKS_OF_ONE, TWO_NODES, TWO_NODES_STEPS, eve
 use std::alloc::Global;
 use std::test::Fail;
 use timed_events::{
-    Clock, EventError, Hint, Hop, Moved, TimedTrace, are_meant, check_messages, cycle_of_causes,
-    trace_of_events,
+    Clock, EventError, Hint, Hop, LateMessage, Lateness, Moved, TimedTrace, are_meant,
+    check_messages, cycle_of_causes, lateness_of, trace_of_events,
 };
 
 const NO_END: Clock = Clock {
@@ -83,6 +83,7 @@ type Row = (&'static [Line], Clock, &'static [StepLine], u64, Moved);
 const STAYED: Moved = Moved {
     events: 0,
     ticks: 0,
+    farthest: None,
 };
 
 const TRACES: &[Row] = &[
@@ -100,6 +101,7 @@ const TRACES: &[Row] = &[
         Moved {
             events: 3,
             ticks: 2,
+            farthest: Some(3),
         },
     ),
     (
@@ -115,6 +117,7 @@ const TRACES: &[Row] = &[
         Moved {
             events: 3,
             ticks: 4,
+            farthest: Some(0),
         },
     ),
     (
@@ -130,6 +133,7 @@ const TRACES: &[Row] = &[
         Moved {
             events: 3,
             ticks: 2,
+            farthest: Some(3),
         },
     ),
     // In the order of their times, not of the file.
@@ -141,6 +145,7 @@ const TRACES: &[Row] = &[
         Moved {
             events: 1,
             ticks: 1,
+            farthest: Some(2),
         },
     ),
     // A node's events push one another on.
@@ -162,6 +167,7 @@ const TRACES: &[Row] = &[
         Moved {
             events: 2,
             ticks: 1,
+            farthest: Some(1),
         },
     ),
     (
@@ -194,6 +200,61 @@ fn without_spread(rt: HostRuntime) -> Result<(), Fail> {
     assert_eq!(rt; timed.moved, STAYED);
     for line in TWO_NODES_STEPS {
         assert!(rt; has_step(&timed.trace, line), "{line:?}");
+    }
+    Ok(())
+}
+
+/// Events, how many of their messages are late, and the worst of those.
+const LATE: &[(&[Line], u64, Option<LateMessage>)] = &[
+    (TWO_NODES, 0, None),
+    // At the time of their Sends.
+    (
+        BROADCAST,
+        2,
+        Some(LateMessage {
+            event: 2,
+            message: 0,
+            by: 0,
+        }),
+    ),
+    (
+        CLOCK_BEHIND,
+        1,
+        Some(LateMessage {
+            event: 0,
+            message: 1,
+            by: 3,
+        }),
+    ),
+    // The first of the worst, which isn't the first of all.
+    (
+        &[
+            (10, 1, 0, &[Some(3)]),
+            (10, 1, 0, &[None, Some(4), Some(9), Some(5)]),
+            (10, 2, 0, &[Some(6)]),
+            (11, 2, 1, &[]),
+            (15, 2, 1, &[]),
+            (15, 2, 1, &[]),
+            (9, 1, 2, &[]),
+        ],
+        3,
+        Some(LateMessage {
+            event: 1,
+            message: 4,
+            by: 5,
+        }),
+    ),
+];
+
+#[test]
+fn late_messages(rt: HostRuntime) -> Result<(), Fail> {
+    for &(lines, messages, worst) in LATE {
+        let events = events_of(rt.alloc(), lines)?;
+        if events.len() > 9 {
+            return Err(Fail::from("too many events"));
+        }
+        let lateness = lateness_of(rt.alloc(), &events)?;
+        assert_eq!(rt; lateness, Lateness { messages, worst });
     }
     Ok(())
 }

@@ -1,4 +1,4 @@
-use Rattle.std.proofs.Common.{◌≡◌, ◌∙◌, ◌++◌, take, ap}
+use Rattle.std.proofs.Common.{◌∙◌, ◌++◌, take, ap}
 use Rattle.timed_events.proofs.TurnedCycles.{AreTurned, rest-whole, turned-least}
 use Rattle.timed_events.proofs.cause_cycles.begun_at_least.Goals as goal
 
