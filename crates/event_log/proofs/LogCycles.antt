@@ -1,5 +1,5 @@
 -- Where events are refused for a cycle, nothing is against their messages.
-use Rattle.std.proofs.Common.{◌≡◌, ℕ, zero, suc, List, length, Option, Some, None, Bool, true, false, cond, refl, subst, sym}
+use Rattle.std.proofs.Common.{◌≡◌, ℕ, zero, suc, List, length, Option, Some, None, Bool, true, false, cond, subst, sym}
 use Rattle.std.specs.Prelude.{⊤, IfErr, Ok, Err, Result, int_lt, nat_lt, option_map, slice_index_or}
 use Rattle.std.specs.Option.{option_or}
 use Rattle.step_trace.specs.declared.traces.TheConstants.{MAX_TICKS}

@@ -4,6 +4,7 @@ use Rattle.std.specs.Prelude.{◌&&◌, ◌==◌, nat_le, option_map, unwrap_or}
 use Rattle.std.specs.Option.{ok_or}
 use Rattle.std.specs.Borrow.{Bor}
 use Rattle.step_trace.specs.Traces.{Recorded}
+use Rattle.timed_events.specs.declared.lateness.Lateness.{Lateness}
 use Rattle.timed_events.specs.declared.spread_traces.Moved.{Moved}
 use Rattle.timed_events.specs.declared.spread_traces.TimedTrace.{TimedTrace}
 use Rattle.timed_events.specs.Spreads.{IsTimed}
@@ -26,7 +27,7 @@ use Rattle.event_log.specs.LogRecords.{Said, accepted, are_messages, are_nodes_b
 use Rattle.event_log.specs.Logs.{SeenLog, resolved_log}
 use Rattle.event_log.specs.Names.{has_name}
 use Rattle.event_log.specs.Stages.{header_stage, names_stage, rules, says_of, staged_log, with_said}
-use Rattle.event_log.proofs.SeenEvents.{timed-as-seen}
+use Rattle.event_log.proofs.SeenEvents.{lateness-same, timed-as-seen}
 
 -- steps that go on in the same way
 then-same : {A B : Type 0} (r : Result A LogError) (f g : A → Result B LogError) → ((x : A) → f x ≡ g x) → r >>= f ≡ r >>= g
@@ -85,13 +86,13 @@ IsRead-unique o text a b s t = sym s.staged ∙ staged-same s.listed t.listed (s
 same-Ok : {A : Type 0} {x y : A} → ◌≡◌ {A = Result A LogError} (Ok x) (Ok y) → x ≡ y
 same-Ok e = cc e
 
-same-import : (a b : Import) → a.trace ≡ b.trace → a.nodes ≡ b.nodes → a.moved ≡ b.moved → a ≡ b
-same-import a b t n m =
-    ap₂ (λ (trace : Recorded) (nodes : List (List ℕ)). let z : Import = record { trace = trace; nodes = nodes; moved = a.moved } in z) t n
-    ∙ ap (λ (moved : Moved). let z : Import = record { trace = b.trace; nodes = b.nodes; moved = moved } in z) m
+same-import : (a b : Import) → a.trace ≡ b.trace → a.nodes ≡ b.nodes → a.moved ≡ b.moved → a.lateness ≡ b.lateness → a ≡ b
+same-import a b t n m l =
+    ap₂ (λ (trace : Recorded) (nodes : List (List ℕ)). let z : Import = record { trace = trace; nodes = nodes; moved = a.moved; lateness = a.lateness } in z) t n
+    ∙ ap₂ (λ (moved : Moved) (lateness : Lateness). let z : Import = record { trace = b.trace; nodes = b.nodes; moved = moved; lateness = lateness } in z) m l
 
 pub IsImportOf-unique : (o : Options) (text : List ℕ) (a b : Import) → IsImportOf o text a → IsImportOf o text b → a ≡ b
-IsImportOf-unique o text a b s t = same-import a b (ap (λ x. x.trace) timed) (s.nodes ∙ ap (λ l. l.nodes) log ∙ sym t.nodes) (ap (λ x. x.moved) timed) where
+IsImportOf-unique o text a b s t = same-import a b (ap (λ x. x.trace) timed) (s.nodes ∙ ap (λ l. l.nodes) log ∙ sym t.nodes) (ap (λ x. x.moved) timed) late where
   log : s.log ≡ t.log
   log = same-Ok (IsRead-unique o text (Ok s.log) (Ok t.log) s.told.read t.told.read)
 
@@ -100,6 +101,9 @@ IsImportOf-unique o text a b s t = same-import a b (ap (λ x. x.trace) timed) (s
 
   events : map seen t.events ≡ map seen s.events
   events = t.told.same ∙ sym (ap (λ l. l.events) log) ∙ sym s.told.same
+
+  late : a.lateness ≡ b.lateness
+  late = s.lateness ∙ sym (lateness-same t.events s.events events) ∙ sym t.lateness
 
   A : TimedTrace
   A = record { trace = a.trace; moved = a.moved }

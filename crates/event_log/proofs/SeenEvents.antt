@@ -1,9 +1,9 @@
 -- Events that a contract sees as the same make the same trace, moved in the same way.
-use Rattle.std.proofs.Common.{ℕ, zero, suc, ◌≡◌, ◌<◌, ◌∙◌, ◌⊎◌, inl, inr, Bool, true, false, cond, IsTrue, List, [], ◌∷◌, length, map, take, max, Option, Some, None, refl, sym, ap, ap₂, subst, ℤ, ◌-ℤ◌}
+use Rattle.std.proofs.Common.{ℕ, zero, suc, ◌≡◌, ◌<◌, ◌∙◌, ◌⊎◌, inl, inr, Bool, true, false, cond, IsTrue, List, [], ◌∷◌, ◌++◌, length, map, take, max, Option, Some, None, refl, sym, ap, ap₂, subst, ℤ, ◌-ℤ◌}
 use Rattle.std.specs.Prelude.{◌+◌, ◌/◌, pos, int_lt, nat_lt, fold, unwrap_or, slice_get, slice_index, slice_index_or, option_map, if◌then◌else◌, ◌||◌, ◌&&◌, not, ◌==◌}
 use Rattle.std.specs.Int.{int_min, int_max}
 use Rattle.std.specs.Int.RustNames.{unsigned_abs}
-use Rattle.std.specs.List.{AllZip, list_any, range_with_len}
+use Rattle.std.specs.List.{AllZip, filter, flat_map, list_any, range_with_len}
 use Rattle.std.specs.List.Sorted.{IsPermutation}
 use Rattle.std.specs.Option.{option_map_or, option_or}
 use Rattle.std.proofs.lemmas.List.{length-map}
@@ -13,6 +13,7 @@ use Rattle.step_trace.specs.declared.steps.Act.{Act}
 use Rattle.step_trace.specs.declared.steps.Act.TheVariants as step_act
 use Rattle.step_trace.specs.declared.steps.Step.{Step}
 use Rattle.step_trace.specs.Traces.{Recorded}
+use Rattle.timed_events.specs.declared.cause_cycles.Hop.{Hop}
 use Rattle.timed_events.specs.declared.events.Event.{Event}
 use Rattle.timed_events.specs.declared.events.EventAct.{EventAct}
 use Rattle.timed_events.specs.declared.events.EventAct.TheVariants as act
@@ -21,6 +22,8 @@ use Rattle.timed_events.specs.declared.events.EventError.TheVariants.{UntilTooEa
 use Rattle.timed_events.specs.declared.events.Hint.{Hint}
 use Rattle.timed_events.specs.declared.events.Hint.TheVariants.{ShorterTick, Spread}
 use Rattle.timed_events.specs.declared.events.Clock.{Clock}
+use Rattle.timed_events.specs.declared.lateness.LateMessage.{LateMessage}
+use Rattle.timed_events.specs.declared.lateness.Lateness.{Lateness}
 use Rattle.timed_events.specs.declared.spread_traces.TimedTrace.{TimedTrace}
 use Rattle.timed_events.specs.Firsts.{first_of, any_below}
 use Rattle.timed_events.specs.Checks.{processor_at, messages_at, time_at, is_for, sends_to, received_in, is_message, received_before, was_received, late_hint, message_fault, message_faults, first_fault, message_refusal, messages_refusal, moment_of, moment_at, earlier_at, apart_hint, second_refusal, event_refusal, events_refusal}
@@ -28,7 +31,9 @@ use Rattle.timed_events.specs.Times.{first_time, least_time, greatest_time, time
 use Rattle.timed_events.specs.Orders.{IsOrder}
 use Rattle.timed_events.specs.TimedTraces.{IsActOf, IsStepAt, IsTraceOf, AreIdsOf}
 use Rattle.timed_events.specs.Causes.{is_earlier, IsOwnBefore, IsSentTo, IsCause, IsCausalPart, IsCausalOrder}
-use Rattle.timed_events.specs.Spreads.{IsSpreadAt, AreLeast, AreTicks, last_of, moved_of, IsCausalRefusal, IsAfterTimes, HavePassed, IsTimed}
+use Rattle.timed_events.specs.Lateness.{is_late, late_message, lateness_among, lateness_of, worse}
+use Rattle.timed_events.specs.Received.{hop_in, hops_at, hops_of}
+use Rattle.timed_events.specs.Spreads.{IsSpreadAt, AreLeast, AreTicks, last_of, moved_of, IsAfterTimes, HavePassed, IsTimed}
 use Rattle.event_log.specs.Events.{Seen, SeenAct, Sends, Receives, seen, seen_act}
 
 -- what is asked of an event, asked of what is seen of it
@@ -80,6 +85,10 @@ first-same f g h (suc n) = ap₂ (λ a b. option_or a b) (first-same f g h n) (h
 any-same : (p q : ℕ → Bool) → ((i : ℕ) → p i ≡ q i) → (n : ℕ) → any_below p n ≡ any_below q n
 any-same p q h zero = refl
 any-same p q h (suc n) = ap₂ (λ a b. a || b) (any-same p q h n) (h n)
+
+each-hops : (f g : ℕ → List Hop) → ((i : ℕ) → f i ≡ g i) → (xs : List ℕ) → flat_map f xs ≡ flat_map g xs
+each-hops f g h [] = refl
+each-hops f g h (x ∷ xs) = ap₂ (λ (a b : List Hop). a ++ b) (h x) (each-hops f g h xs)
 
 -- an event that is seen at a place of the one list stands at that of the other
 found-by : (o : Option Event) (s : Seen) → option_map seen o ≡ Some s → (e : Event) × (o ≡ Some e) × (seen e ≡ s)
@@ -217,6 +226,34 @@ module _ (xs ys : List Event) (same : map seen xs ≡ map seen ys) where
   earlier : (j i : ℕ) → is_earlier xs j i ≡ is_earlier ys j i
   earlier j i = ap₂ (λ (x y : ℤ). int_lt x y || (not (int_lt y x) && nat_lt j i)) (times j) (times i)
 
+  -- the messages that are late
+  hops-at : (i : ℕ) → hops_at xs i ≡ hops_at ys i
+  hops-at i = ap₂ (λ (n : ℕ) (ms : List (Option ℕ)). flat_map (hop_in n i) ms) lengths (messages i)
+
+  hops : hops_of xs ≡ hops_of ys
+  hops = each-hops (hops_at xs) (hops_at ys) hops-at (range_with_len 0 (length xs)) ∙ ap (λ n. flat_map (hops_at ys) (range_with_len 0 n)) lengths
+
+  late : (hop : Hop) → is_late xs hop ≡ is_late ys hop
+  late hop = ap₂ (λ (s r : ℤ). not (int_lt s r)) (times hop.message) (times hop.event)
+
+  late-message : (hop : Hop) → late_message xs hop ≡ late_message ys hop
+  late-message hop = ap₂ (λ (s r : ℤ). let m : LateMessage = record { event = hop.event; message = hop.message; by = unsigned_abs (s -ℤ r) } in m) (times hop.message) (times hop.event)
+
+  lates : (hs : List Hop) → filter (is_late xs) hs ≡ filter (is_late ys) hs
+  lates [] = refl
+  lates (h ∷ hs) = ap₂ (λ (t : Bool) (ms : List Hop). cond t (h ∷ ms) ms) (late h) (lates hs)
+
+  late-messages : (hs : List Hop) → map (late_message xs) hs ≡ map (late_message ys) hs
+  late-messages [] = refl
+  late-messages (h ∷ hs) = ap₂ (λ (m : LateMessage) (ms : List LateMessage). m ∷ ms) (late-message h) (late-messages hs)
+
+  lateness-as-seen : lateness_of xs ≡ lateness_of ys
+  lateness-as-seen =
+      ap (lateness_among xs) hops
+      ∙ ap₂ (λ (hs : List Hop) (ms : List LateMessage). let l : Lateness = record { messages = length hs; worst = fold (λ worst late. Some (worse worst late)) None ms } in l)
+      (lates (hops_of ys))
+      (late-messages (filter (is_late xs) (hops_of ys)) ∙ ap (map (late_message ys)) (lates (hops_of ys)))
+
   -- the trace
   orders : (ticks order : List ℕ) → IsOrder xs ticks order → IsOrder ys ticks order
   orders ticks order o = record { places = subst (λ n. IsPermutation (range_with_len 0 n) order) lengths o.places; rising = rising } where
@@ -325,3 +362,7 @@ module _ (xs ys : List Event) (same : map seen xs ≡ map seen ys) where
     trace = subst (λ last. IsTraceOf n ys t.ticks last timed.trace) (lasts xs ys same clock t.ticks) (traces xs ys same n t.ticks (last_of xs clock t.ticks) timed.trace t.trace);
     moved = t.moved ∙ ap (λ own. moved_of own t.ticks) (own-ticks xs ys same clock);
   }
+
+-- and so are their late messages
+pub lateness-same : (xs ys : List Event) → map seen xs ≡ map seen ys → lateness_of xs ≡ lateness_of ys
+lateness-same xs ys same = lateness-as-seen xs ys same

@@ -1,5 +1,5 @@
 -- Logs read as traces.
-use Rattle.std.specs.Prelude.{ℕ, ◌≡◌, ◌+◌, ◌-◌, ◌⊎◌, List, [], map, length, Option, Some, None, Result, Ok, Err, option_map, nat_lt, if◌then◌else◌, slice_get, slice_index_or, unwrap_or, ℤ, MatchBool, ⊤}
+use Rattle.std.specs.Prelude.{ℕ, ◌≡◌, ◌+◌, ◌⊎◌, List, [], map, length, Option, Some, None, Result, Ok, Err, option_map, nat_lt, if◌then◌else◌, slice_get, slice_index_or, unwrap_or, ℤ, MatchBool, ⊤}
 use Rattle.std.specs.Borrow.{Bor}
 use Rattle.std.specs.Option.{option_map_or}
 use Rattle.timed_events.specs.declared.cause_cycles.Hop.{Hop}
@@ -12,6 +12,7 @@ use Rattle.timed_events.specs.declared.events.Clock.{Clock}
 use Rattle.timed_events.specs.Causes.{IsFirstUnplaceable}
 use Rattle.timed_events.specs.Checks.{first_fault, processor_at, messages_at}
 use Rattle.timed_events.specs.CauseCycles.{BeginsAtLeast, IsCauseCycle}
+use Rattle.timed_events.specs.Lateness.{lateness_of}
 use Rattle.timed_events.specs.Spreads.{IsTimed, IsTimedRefusal}
 use Rattle.trace_text.specs.Records.{◌>>=◌}
 use Rattle.event_log.specs.declared.imports.Import.{Import}
@@ -131,7 +132,8 @@ pub record AreEventsOf (o : Options) (text : List ℕ) (log : SeenLog) (events :
   pub same : map seen events ≡ log.events
   pub fits : clock_in o log.kind ≡ Ok clock
 
--- The trace is that of the events that the text tells, by the options; the nodes are the processors, in their order.
+-- The trace is that of the events that the text tells, by the options; the nodes are the processors, in their order; and
+-- so many messages of the events are late.
 pub record IsImportOf (o : Options) (text : List ℕ) (import : Import) : Type 0 where
   pub log : SeenLog
   pub events : List Event
@@ -139,6 +141,7 @@ pub record IsImportOf (o : Options) (text : List ℕ) (import : Import) : Type 0
   pub told : AreEventsOf o text log events clock
   pub timed : IsTimed o.spread (length log.nodes) events clock (record { trace = import.trace; moved = import.moved })
   pub nodes : import.nodes ≡ log.nodes
+  pub lateness : import.lateness ≡ lateness_of events
 
 -- the events are told, and an option doesn't fit their times
 pub record IsUnfit (o : Options) (text : List ℕ) (why : LogError) : Type 0 where

@@ -2,6 +2,7 @@
 
 ghost use Rattle.std.specs.Prelude.{◌≡◌, ◌<◌, ◌≤◌, ℕ, [], Err, Ok, IfErr, IfOk, length, unwrap_or};
 ghost use Rattle.timed_events.specs.Checks.{AreOfProcessors};
+ghost use Rattle.timed_events.specs.Lateness.{lateness_of};
 ghost use Rattle.timed_events.specs.Spreads.{IsTimed, IsTimedRefusal};
 ghost use Rattle.event_log.specs.Imports.{IsBehindCycle, IsImportOf, IsLogRefusal, IsRead, IsReadRefusal, above_zero, clock_in, event_place, until_in, width_in};
 ghost use Rattle.event_log.specs.Logs.{seen_log};
@@ -16,7 +17,7 @@ use crate::refusals::LogError;
 use crate::times::{Moment, TimeKind, Width};
 use std::alloc::{AllocError, Global};
 use step_trace::Trace;
-use timed_events::{Clock, EventError, Moved, TimedTrace, trace_of_events};
+use timed_events::{Clock, EventError, Lateness, Moved, TimedTrace, lateness_of, trace_of_events};
 use trace_text::MAX_TEXT_BYTES;
 
 /// A log read as a trace.
@@ -28,6 +29,8 @@ pub struct Import {
     pub nodes: NameSet,
     /// How far events went from the ticks of their times.
     pub moved: Moved,
+    /// How many messages are received no later than they are sent, by the times of the events.
+    pub lateness: Lateness,
 }
 
 /// Reads a log as a trace: each event is one step, in the tick of its time or, where events may be spread, as little later
@@ -45,11 +48,13 @@ pub fn read_log(alloc: Global, text: &[u8], options: &Options) -> Result<Import,
     }
     let log = events_by(alloc, text, options)?;
     let clock = clock_for(options, log.kind)?;
+    let lateness = lateness_in(alloc, &log)?;
     match trace_of_log(alloc, &log, &clock, options.spread) {
         Ok(timed) => Ok(Import {
             trace: timed.trace,
             nodes: log.nodes,
             moved: timed.moved,
+            lateness,
         }),
         Err(why) => Err(error_of(alloc, text, &log.nodes, log.events.as_slice(), why)),
     }
@@ -125,6 +130,18 @@ fn until_for(kind: TimeKind, until: Option<Moment>) -> Result<Option<i128>, LogE
         (TimeKind::Number, TimeKind::Number) => Ok(Some(moment.time)),
         (TimeKind::Stamp, TimeKind::Stamp) => Ok(Some(moment.time)),
         _ => Err(LogError::UntilUnfit),
+    }
+}
+
+/// How many messages of a log are received no later than they are sent.
+fn lateness_in(alloc: Global, log: &NamedEvents) -> Result<Lateness, LogError>
+    requires sound { IsSound (seen_log log.now) }
+    ensures lateness { IfOk result (λ l. l ≡ lateness_of log.now.events.items) }
+    ensures refused { IfErr result (λ why. why ≡ LogError.Memory) }
+{
+    match lateness_of(alloc, log.events.as_slice()) {
+        Ok(lateness) => Ok(lateness),
+        Err(_) => Err(LogError::Memory),
     }
 }
 

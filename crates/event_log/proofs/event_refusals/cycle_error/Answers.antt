@@ -1,6 +1,5 @@
-use Rattle.std.proofs.Common.{◌<◌, ◌≤◌, ◌⊎◌, inl, inr, ◌∙◌, List, length, zero, ap, ap₂, arith}
+use Rattle.std.proofs.Common.{◌<◌, ◌≤◌, ◌⊎◌, inl, inr, ◌∙◌, length, ap, ap₂, arith}
 use Rattle.std.proofs.lemmas.Bool.{cases_lt}
-use Rattle.timed_events.specs.declared.cause_cycles.Hop.{Hop}
 use Rattle.timed_events.proofs.CausalOrders.{unplaceable-none}
 use Rattle.event_log.specs.declared.refusals.LogError.TheVariants.{Cycle}
 use Rattle.event_log.specs.HopLines.{hop_lines}

@@ -1,6 +1,6 @@
 use Rattle.std.proofs.Common.{ℕ, ◌≡◌, ◌+◌, ◌∙◌, List, ap}
 use Rattle.event_log.specs.HopLines.{named_hop_line}
-use Rattle.event_log.specs.ToldNames.{message_name, node_name}
+use Rattle.event_log.specs.ToldNames.{node_name}
 use Rattle.event_log.proofs.hop_lines.hop_line.Goals as goal
 
 -- a line with the same names and records
