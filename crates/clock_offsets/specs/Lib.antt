@@ -1,0 +1,5 @@
+pub mod ClockOffsets
+pub mod Matrices
+pub mod EventNeeds
+pub mod MovedClocks
+pub mod ClockCycles
