@@ -104,7 +104,7 @@ all-within : (events : List Event) (clock : Clock) (ticks : List ℕ) (why : Eve
 all-within events clock ticks why some e =
     subst (Within (length events)) (sym e) (within-or (length events) (times_refusal events clock) (events_refusal events ticks) (times-within events clock some) (events-within events ticks))
 
-fault-within : (events : List Event) (why : EventError) → first_fault events ≡ Some why → event_place why < length events
+pub fault-within : (events : List Event) (why : EventError) → first_fault events ≡ Some why → event_place why < length events
 fault-within events why h = subst (Within (length events)) h (faults-within events)
 
 causal-within : (events : List Event) (why : EventError) → IsCausalRefusal events (Some why) → event_place why < length events

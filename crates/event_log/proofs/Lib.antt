@@ -12,3 +12,5 @@ pub mod SoundLogs
 pub mod Stages
 pub mod Texts
 pub mod Views
+pub mod AlignedLogs
+pub mod OneAlignment

@@ -9,7 +9,7 @@ use Rattle.timed_events.specs.declared.events.EventError.{EventError}
 use Rattle.timed_events.specs.declared.events.EventError.TheVariants as refused
 use Rattle.timed_events.specs.declared.spread_traces.TimedTrace.{TimedTrace}
 use Rattle.timed_events.specs.Firsts.{first_of}
-use Rattle.timed_events.specs.Checks.{earlier_at, event_refusal, events_refusal, is_for, message_refusal, messages_at, messages_refusal, moment_at, processor_at, second_refusal, was_received}
+use Rattle.timed_events.specs.Checks.{earlier_at, event_refusal, events_refusal, first_fault, is_for, message_fault, message_faults, message_refusal, messages_at, messages_refusal, moment_at, processor_at, second_refusal, was_received}
 use Rattle.timed_events.specs.Times.{end_time, greatest_time, last_tick, time_ticks, times_refusal}
 use Rattle.timed_events.specs.Spreads.{IsAfterTimes, IsTimedRefusal}
 use Rattle.event_log.specs.Imports.{IsBehindCycle}
@@ -52,6 +52,22 @@ event-no events ticks i =
 events-no : (events : List Event) (ticks : List ℕ) → NoCycle (events_refusal events ticks)
 unfolding events_refusal
 events-no events ticks = no-first (event_refusal events ticks) (length events) (event-no events ticks)
+
+fault-no : (events : List Event) (received : ℕ → Bool) (i k : ℕ) (message : Option ℕ) → NoCycle (message_fault events received i k message)
+fault-no events received i k None = tt
+fault-no events received i k (Some s) = no-if (is_for events s (processor_at events i)) _ _ (no-if (received s) _ _ tt tt) tt
+
+faults-no : (events : List Event) (i : ℕ) → NoCycle (message_faults events i)
+unfolding message_faults
+faults-no events i = no-first _ (length (messages_at events i)) (λ k. fault-no events (was_received events i k) i k (slice_index_or (messages_at events i) k None))
+
+first-no : (events : List Event) → NoCycle (first_fault events)
+unfolding first_fault
+first-no events = no-first (message_faults events) (length events) (faults-no events)
+
+-- no fault of a message is a cycle
+pub fault-behind : (events : List Event) (i : ℕ) → first_fault events ≡ Some (refused.Cycle i) → IsBehindCycle events i
+fault-behind events i h = absurd (subst NoCycle h (first-no events))
 
 times-no : (events : List Event) (clock : Clock) → NoCycle (times_refusal events clock)
 times-no events clock =

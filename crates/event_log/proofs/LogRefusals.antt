@@ -9,11 +9,11 @@ use Rattle.trace_text.specs.declared.byte_loops.TheConstants.{MAX_TEXT_BYTES}
 use Rattle.event_log.specs.declared.options.Options.{Options}
 use Rattle.event_log.specs.declared.refusals.LogError.{LogError}
 use Rattle.event_log.specs.declared.refusals.LogError.TheVariants.{TooLarge, Memory}
-use Rattle.event_log.specs.Imports.{IsErrorOf, IsErrorUnlessMemory, IsLogRefusal, IsRead, IsUnfit, IsUntimed}
+use Rattle.event_log.specs.Imports.{IsAlignRefusal, IsErrorOf, IsErrorUnlessMemory, IsLogRefusal, IsRead, IsUnaligned, IsUnalignedFor, IsUnfit, IsUntimed}
 use Rattle.event_log.specs.Naming.{is_memory}
 
 -- any refusal but want of memory
-refusal-unless_memory : (o : Options) (text : List ℕ) (why : LogError) → (is_memory why ≡ false → IsRead o text (Err why) ⊎ (IsUnfit o text why ⊎ IsUntimed o text why)) → IsLogRefusal o text why
+refusal-unless_memory : (o : Options) (text : List ℕ) (why : LogError) → (is_memory why ≡ false → IsRead o text (Err why) ⊎ (IsUnfit o text why ⊎ (IsUnaligned o text why ⊎ IsUntimed o text why))) → IsLogRefusal o text why
 refusal-unless_memory o text Memory f = tt
 refusal-unless_memory o text why f = f refl
 
@@ -22,7 +22,10 @@ due P true n h = absurd (cc)
 due P false n h = h
 
 pub untimed-refusal : (o : Options) (text : List ℕ) (nodes : List (List ℕ)) (events : List Event) (reason : EventError) (why : LogError) → IsErrorUnlessMemory text nodes events reason why → (IsErrorOf text nodes events reason why → IsUntimed o text why) → IsLogRefusal o text why
-untimed-refusal o text nodes events reason why h f = refusal-unless_memory o text why (λ n. inr (inr (f (due (IsErrorOf text nodes events reason why) (is_memory why) n h))))
+untimed-refusal o text nodes events reason why h f = refusal-unless_memory o text why (λ n. inr (inr (inr (f (due (IsErrorOf text nodes events reason why) (is_memory why) n h)))))
+
+pub unaligned-refusal : (o : Options) (text : List ℕ) (nodes : List (List ℕ)) (events : List Event) (why : LogError) → IsAlignRefusal text nodes events why → (IsUnalignedFor text nodes events why → IsUnaligned o text why) → IsLogRefusal o text why
+unaligned-refusal o text nodes events why h f = refusal-unless_memory o text why (λ n. inr (inr (inl (f (due (IsUnalignedFor text nodes events why) (is_memory why) n h)))))
 
 pub unfit-refusal : (o : Options) (text : List ℕ) (why : LogError) → IsUnfit o text why → IsLogRefusal o text why
 unfit-refusal o text why h = refusal-unless_memory o text why (λ n. inr (inl h))

@@ -1,5 +1,5 @@
 -- A text and options have one import.
-use Rattle.std.proofs.Common.{ℕ, ◌≡◌, ◌∙◌, ◌+◌, Bool, List, [], ◌∷◌, length, map, Option, Some, None, Result, Ok, Err, cond, refl, sym, ap, ap₂, subst}
+use Rattle.std.proofs.Common.{ℕ, ℤ, ◌≡◌, ◌∙◌, ◌+◌, Bool, List, [], ◌∷◌, length, map, Option, Some, None, Result, Ok, Err, cond, refl, sym, ap, ap₂, subst}
 use Rattle.std.specs.Prelude.{◌&&◌, ◌==◌, nat_le, option_map, unwrap_or}
 use Rattle.std.specs.Option.{ok_or}
 use Rattle.std.specs.Borrow.{Bor}
@@ -20,6 +20,7 @@ use Rattle.event_log.specs.declared.records.Verb.TheVariants as verb
 use Rattle.event_log.specs.declared.refusals.LogError.{LogError}
 use Rattle.event_log.specs.declared.refusals.LogError.TheVariants.{BadFields, BadTime, BadEvent, BadNode, BadMessage, TooLarge, TooManyEvents}
 use Rattle.event_log.specs.declared.times.TimeKind.{TimeKind}
+use Rattle.event_log.specs.Alignments.{AreAligned}
 use Rattle.event_log.specs.Columns.{columns_of}
 use Rattle.event_log.specs.Events.{seen}
 use Rattle.event_log.specs.Imports.{IsImportOf, IsRead, clock_in}
@@ -27,6 +28,7 @@ use Rattle.event_log.specs.LogRecords.{Said, accepted, are_messages, are_nodes_b
 use Rattle.event_log.specs.Logs.{SeenLog, resolved_log}
 use Rattle.event_log.specs.Names.{has_name}
 use Rattle.event_log.specs.Stages.{header_stage, names_stage, rules, says_of, staged_log, with_said}
+use Rattle.event_log.proofs.OneAlignment.{aligned-once}
 use Rattle.event_log.proofs.SeenEvents.{lateness-same, timed-as-seen}
 
 -- steps that go on in the same way
@@ -86,13 +88,14 @@ IsRead-unique o text a b s t = sym s.staged ∙ staged-same s.listed t.listed (s
 same-Ok : {A : Type 0} {x y : A} → ◌≡◌ {A = Result A LogError} (Ok x) (Ok y) → x ≡ y
 same-Ok e = cc e
 
-same-import : (a b : Import) → a.trace ≡ b.trace → a.nodes ≡ b.nodes → a.moved ≡ b.moved → a.lateness ≡ b.lateness → a ≡ b
-same-import a b t n m l =
-    ap₂ (λ (trace : Recorded) (nodes : List (List ℕ)). let z : Import = record { trace = trace; nodes = nodes; moved = a.moved; lateness = a.lateness } in z) t n
-    ∙ ap₂ (λ (moved : Moved) (lateness : Lateness). let z : Import = record { trace = b.trace; nodes = b.nodes; moved = moved; lateness = lateness } in z) m l
+same-import : (a b : Import) → a.trace ≡ b.trace → a.nodes ≡ b.nodes → a.moved ≡ b.moved → a.lateness ≡ b.lateness → a.offsets ≡ b.offsets → a ≡ b
+same-import a b t n m l o =
+    ap₂ (λ (trace : Recorded) (nodes : List (List ℕ)). let z : Import = record { trace = trace; nodes = nodes; moved = a.moved; lateness = a.lateness; offsets = a.offsets } in z) t n
+    ∙ ap₂ (λ (moved : Moved) (lateness : Lateness). let z : Import = record { trace = b.trace; nodes = b.nodes; moved = moved; lateness = lateness; offsets = a.offsets } in z) m l
+    ∙ ap (λ (offsets : Option (List ℤ)). let z : Import = record { trace = b.trace; nodes = b.nodes; moved = b.moved; lateness = b.lateness; offsets = offsets } in z) o
 
 pub IsImportOf-unique : (o : Options) (text : List ℕ) (a b : Import) → IsImportOf o text a → IsImportOf o text b → a ≡ b
-IsImportOf-unique o text a b s t = same-import a b (ap (λ x. x.trace) timed) (s.nodes ∙ ap (λ l. l.nodes) log ∙ sym t.nodes) (ap (λ x. x.moved) timed) late where
+IsImportOf-unique o text a b s t = same-import a b (ap (λ x. x.trace) timed) (s.nodes ∙ ap (λ l. l.nodes) log ∙ sym t.nodes) (ap (λ x. x.moved) timed) late one.0 where
   log : s.log ≡ t.log
   log = same-Ok (IsRead-unique o text (Ok s.log) (Ok t.log) s.told.read t.told.read)
 
@@ -102,8 +105,12 @@ IsImportOf-unique o text a b s t = same-import a b (ap (λ x. x.trace) timed) (s
   events : map seen t.events ≡ map seen s.events
   events = t.told.same ∙ sym (ap (λ l. l.events) log) ∙ sym s.told.same
 
+  -- the offsets are one, and the aligned events are seen as the same
+  one : (a.offsets ≡ b.offsets) × (map seen t.aligned ≡ map seen s.aligned)
+  one = aligned-once o.align (length s.log.nodes) s.events t.events a.offsets b.offsets s.aligned t.aligned (sym events) s.clocks (subst (λ l. AreAligned o.align (length l.nodes) t.events b.offsets t.aligned) (sym log) t.clocks)
+
   late : a.lateness ≡ b.lateness
-  late = s.lateness ∙ sym (lateness-same t.events s.events events) ∙ sym t.lateness
+  late = s.lateness ∙ sym (lateness-same t.aligned s.aligned one.1) ∙ sym t.lateness
 
   A : TimedTrace
   A = record { trace = a.trace; moved = a.moved }
@@ -111,11 +118,11 @@ IsImportOf-unique o text a b s t = same-import a b (ap (λ x. x.trace) timed) (s
   B : TimedTrace
   B = record { trace = b.trace; moved = b.moved }
 
-  other : IsTimed o.spread (length s.log.nodes) s.events s.clock B
+  other : IsTimed o.spread (length s.log.nodes) s.aligned s.clock B
   other =
-      subst (λ l. IsTimed o.spread (length l.nodes) s.events s.clock B) (sym log)
-      (subst (λ c. IsTimed o.spread (length t.log.nodes) s.events c B) (sym clock)
-      (timed-as-seen t.events s.events events o.spread (length t.log.nodes) t.clock B t.timed))
+      subst (λ l. IsTimed o.spread (length l.nodes) s.aligned s.clock B) (sym log)
+      (subst (λ c. IsTimed o.spread (length t.log.nodes) s.aligned c B) (sym clock)
+      (timed-as-seen t.aligned s.aligned one.1 o.spread (length t.log.nodes) t.clock B t.timed))
 
   timed : A ≡ B
-  timed = IsTimed-unique o.spread (length s.log.nodes) s.events s.clock A B s.timed other
+  timed = IsTimed-unique o.spread (length s.log.nodes) s.aligned s.clock A B s.timed other

@@ -366,3 +366,13 @@ module _ (xs ys : List Event) (same : map seen xs ≡ map seen ys) where
 -- and so are their late messages
 pub lateness-same : (xs ys : List Event) → map seen xs ≡ map seen ys → lateness_of xs ≡ lateness_of ys
 lateness-same xs ys same = lateness-as-seen xs ys same
+
+-- and what is asked of each of them
+pub hops-same : (xs ys : List Event) → map seen xs ≡ map seen ys → hops_of xs ≡ hops_of ys
+hops-same xs ys same = hops xs ys same
+
+pub processors-same : (xs ys : List Event) → map seen xs ≡ map seen ys → (i : ℕ) → processor_at xs i ≡ processor_at ys i
+processors-same xs ys same = processors xs ys same
+
+pub times-same : (xs ys : List Event) → map seen xs ≡ map seen ys → (i : ℕ) → time_at xs i ≡ time_at ys i
+times-same xs ys same = times xs ys same

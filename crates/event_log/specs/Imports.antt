@@ -1,5 +1,5 @@
 -- Logs read as traces.
-use Rattle.std.specs.Prelude.{ℕ, ◌≡◌, ◌+◌, ◌⊎◌, List, [], map, length, Option, Some, None, Result, Ok, Err, option_map, nat_lt, if◌then◌else◌, slice_get, slice_index_or, unwrap_or, ℤ, MatchBool, ⊤}
+use Rattle.std.specs.Prelude.{ℕ, ◌≡◌, ◌+◌, ◌⊎◌, List, [], map, length, Option, Some, None, Result, Ok, Err, option_map, nat_lt, if◌then◌else◌, slice_get, slice_index_or, unwrap_or, ℤ, true, IfSome, MatchBool, ⊤}
 use Rattle.std.specs.Borrow.{Bor}
 use Rattle.std.specs.Option.{option_map_or}
 use Rattle.timed_events.specs.declared.cause_cycles.Hop.{Hop}
@@ -18,12 +18,17 @@ use Rattle.trace_text.specs.Records.{◌>>=◌}
 use Rattle.event_log.specs.declared.imports.Import.{Import}
 use Rattle.event_log.specs.declared.options.Options.{Options}
 use Rattle.event_log.specs.declared.refusals.LogError.{LogError}
-use Rattle.event_log.specs.declared.refusals.LogError.TheVariants.{TickUnfit, UntilUnfit, TooManyTicks, NeverSent, WrongReceiver, ReceivedBefore, NotLater, SecondEvent, Cycle, Memory}
+use Rattle.event_log.specs.declared.refusals.LogError.TheVariants.{TickUnfit, UntilUnfit, TooManyTicks, NeverSent, WrongReceiver, ReceivedBefore, NotLater, SecondEvent, Cycle, NoOffsets, TooLate, Memory}
 use Rattle.event_log.specs.declared.times.Moment.{Moment}
 use Rattle.event_log.specs.declared.times.TimeKind.{TimeKind}
 use Rattle.event_log.specs.declared.times.TimeKind.TheVariants as kind
 use Rattle.event_log.specs.declared.times.Width.{Width}
 use Rattle.event_log.specs.declared.times.Width.TheVariants.{Units, Nanoseconds}
+use Rattle.clock_offsets.specs.declared.clock_cycles.ClockCycle.{ClockCycle}
+use Rattle.clock_offsets.specs.ClockCycles.{IsClockCycle}
+use Rattle.clock_offsets.specs.EventNeeds.{AreInOrder}
+use Rattle.event_log.specs.Alignments.{AreAligned}
+use Rattle.event_log.specs.ClockLines.{clock_lines}
 use Rattle.event_log.specs.Events.{seen}
 use Rattle.event_log.specs.HopLines.{hop_lines}
 use Rattle.event_log.specs.Logs.{SeenLog}
@@ -116,6 +121,23 @@ IsErrorOf text nodes events refused.Memory error = error ≡ Memory
 abbrev pub IsErrorUnlessMemory : List ℕ → List (List ℕ) → List Event → EventError → LogError → Type 0
 IsErrorUnlessMemory text nodes events why error = MatchBool (is_memory error) ⊤ (IsErrorOf text nodes events why error)
 
+-- no offsets bring the messages into order, which a cycle of clocks tells, if one is told
+pub record HaveNoOffsets (text : List ℕ) (nodes : List (List ℕ)) (events : List Event) (why : LogError) : Type 0 where
+  pub none : (y : ℕ → ℤ) → ¬ AreInOrder events y
+  pub cycle : Option ClockCycle
+  pub sound : IfSome cycle (λ c. IsClockCycle events c)
+  pub is : why ≡ NoOffsets (clock_lines text nodes events cycle)
+
+-- why the clocks of events aren't aligned: the first reason against their messages; or that no offsets bring these into
+-- order; or that times would be too late
+abbrev pub IsUnalignedFor : List ℕ → List (List ℕ) → List Event → LogError → Type 0
+IsUnalignedFor text nodes events why = ((reason : EventError) × (first_fault events ≡ Some reason) × IsErrorOf text nodes events reason why)
+    ⊎ (((first_fault events ≡ None) × HaveNoOffsets text nodes events why) ⊎ ((first_fault events ≡ None) × (why ≡ TooLate)))
+
+-- the same, or want of memory
+abbrev pub IsAlignRefusal : List ℕ → List (List ℕ) → List Event → LogError → Type 0
+IsAlignRefusal text nodes events why = MatchBool (is_memory why) ⊤ (IsUnalignedFor text nodes events why)
+
 -- the events that the records of a text tell, or why they tell none: where nodes are listed, these are numbered first
 pub record IsRead (o : Options) (text : List ℕ) (answer : Result SeenLog LogError) : Type 0 where
   pub listed : Option (Bor (List (List ℕ)))
@@ -132,16 +154,18 @@ pub record AreEventsOf (o : Options) (text : List ℕ) (log : SeenLog) (events :
   pub same : map seen events ≡ log.events
   pub fits : clock_in o log.kind ≡ Ok clock
 
--- The trace is that of the events that the text tells, by the options; the nodes are the processors, in their order; and
--- so many messages of the events are late.
+-- The trace is that of the events that the text tells, by the options, with their clocks aligned if that is asked for; the
+-- nodes are the processors, in their order; and so many messages of the events are late.
 pub record IsImportOf (o : Options) (text : List ℕ) (import : Import) : Type 0 where
   pub log : SeenLog
   pub events : List Event
   pub clock : Clock
   pub told : AreEventsOf o text log events clock
-  pub timed : IsTimed o.spread (length log.nodes) events clock (record { trace = import.trace; moved = import.moved })
+  pub aligned : List Event
+  pub clocks : AreAligned o.align (length log.nodes) events import.offsets aligned
+  pub timed : IsTimed o.spread (length log.nodes) aligned clock (record { trace = import.trace; moved = import.moved })
   pub nodes : import.nodes ≡ log.nodes
-  pub lateness : import.lateness ≡ lateness_of events
+  pub lateness : import.lateness ≡ lateness_of aligned
 
 -- the events are told, and an option doesn't fit their times
 pub record IsUnfit (o : Options) (text : List ℕ) (why : LogError) : Type 0 where
@@ -155,12 +179,24 @@ pub record IsUntimed (o : Options) (text : List ℕ) (why : LogError) : Type 0 w
   pub events : List Event
   pub clock : Clock
   pub told : AreEventsOf o text log events clock
+  pub offsets : Option (List ℤ)
+  pub aligned : List Event
+  pub clocks : AreAligned o.align (length log.nodes) events offsets aligned
   pub reason : EventError
-  pub untimed : IsTimedRefusal o.spread events clock reason
-  pub is : IsErrorOf text log.nodes events reason why
+  pub untimed : IsTimedRefusal o.spread aligned clock reason
+  pub is : IsErrorOf text log.nodes aligned reason why
 
--- why there is no trace: the first refusal of the text, or else of the options by its times, or else of its events; or
--- want of memory
+-- the events are told, and their clocks aren't aligned, though that is asked for
+pub record IsUnaligned (o : Options) (text : List ℕ) (why : LogError) : Type 0 where
+  pub log : SeenLog
+  pub events : List Event
+  pub clock : Clock
+  pub told : AreEventsOf o text log events clock
+  pub asked : o.align ≡ true
+  pub unaligned : IsUnalignedFor text log.nodes events why
+
+-- why there is no trace: the first refusal of the text, or else of the options by its times, or else of its clocks, or else
+-- of its events; or want of memory
 abbrev pub IsLogRefusal : Options → List ℕ → LogError → Type 0
 IsLogRefusal o text Memory = ⊤
-IsLogRefusal o text why = IsRead o text (Err why) ⊎ (IsUnfit o text why ⊎ IsUntimed o text why)
+IsLogRefusal o text why = IsRead o text (Err why) ⊎ (IsUnfit o text why ⊎ (IsUnaligned o text why ⊎ IsUntimed o text why))

@@ -14,3 +14,5 @@ pub mod Options
 pub mod ToldNames
 pub mod HopLines
 pub mod Imports
+pub mod Alignments
+pub mod ClockLines

@@ -49,11 +49,12 @@ IsUntilIn None until = until ≡ None
 IsUntilIn (Some text) until = (moment : Moment) × (moment_of text ≡ Some moment) × (until ≡ Some moment)
 
 -- the options that the three texts tell
-pub record AreOptions (nodes tick until : Option (List ℕ)) (spread : Bool) (o : Options) : Type 0 where
+pub record AreOptions (nodes tick until : Option (List ℕ)) (spread align : Bool) (o : Options) : Type 0 where
   pub nodes_are : AreNodesIn nodes o.nodes
   pub width_is : IsWidthIn tick o.width
   pub until_is : IsUntilIn until o.until
   pub spread_is : o.spread ≡ spread
+  pub align_is : o.align ≡ align
 
 -- a text that lists no nodes, one that tells no length of a tick, and one that tells no end
 abbrev pub HasBadNodes : Option (List ℕ) → Type 0

@@ -1,7 +1,7 @@
 -- What is told of a refused log.
 use Rattle.std.specs.Prelude.{ℕ, List, ◌++◌, codes, decimal, unwrap_or}
 use Rattle.event_log.specs.declared.refusals.LogError.{LogError}
-use Rattle.event_log.specs.declared.refusals.LogError.TheVariants.{TooLarge, NoColumn, TwoColumns, TooManyEvents, BadFields, BadTime, BadEvent, BadNode, BadMessage, NoEvents, TooManyNodes, SentBefore, TooFewNodes, TickUnfit, UntilUnfit, TooManyTicks, NeverSent, WrongReceiver, ReceivedBefore, NotLater, SecondEvent, Cycle, Memory}
+use Rattle.event_log.specs.declared.refusals.LogError.TheVariants.{TooLarge, NoColumn, TwoColumns, TooManyEvents, BadFields, BadTime, BadEvent, BadNode, BadMessage, NoEvents, TooManyNodes, SentBefore, TooFewNodes, TickUnfit, UntilUnfit, TooManyTicks, NeverSent, WrongReceiver, ReceivedBefore, NotLater, SecondEvent, Cycle, NoOffsets, TooLate, Memory}
 use Rattle.event_log.specs.declared.refusal_texts.Words.{Words}
 use Rattle.event_log.specs.declared.refusal_texts.Words.TheVariants as words
 use Rattle.event_log.specs.Columns.{name_of}
@@ -56,4 +56,6 @@ log_error_text (ReceivedBefore number message) = of_message number message (code
 log_error_text (NotLater number message hint) = of_message number message (codes " is received no later than it was sent")
 log_error_text (SecondEvent number node tick hint) = in_second number node tick
 log_error_text (Cycle number hops) = in_record number (codes "behind a cycle of messages")
+log_error_text (NoOffsets lines) = codes "no offsets of clocks bring the messages into order"
+log_error_text TooLate = codes "times are too late to align the clocks"
 log_error_text Memory = codes "out of memory"

@@ -16,7 +16,7 @@ use timed_events::{Event, Hop};
 /// The greatest number of hops that are told one by one.
 pub(crate) const MAX_SHOWN: usize = 8;
 
-/// The lines of a cycle of messages, each after a line feed.
+/// The lines of a cycle of messages or of clocks, each after a line feed.
 #[derive(Debug, Drop)]
 pub struct HopLines {
     text: String,
@@ -28,6 +28,15 @@ impl Model for HopLines {
     ghost Value = { List ℕ };
 
     ghost view = { λ lines. string_bytes lines.text };
+}
+
+impl HopLines {
+    /// These lines.
+    pub(crate) fn new(text: String) -> Self
+        ensures { result ≡ string_bytes text }
+    {
+        HopLines { text }
+    }
 }
 
 impl fmt::Display for HopLines {
@@ -133,7 +142,7 @@ impl fmt::Display for HopLine<'_> {
 
 /// How many hops more there are, after a line feed; nothing if there are none.
 #[derive(Clone, Copy)]
-struct MoreLine(usize);
+pub(crate) struct MoreLine(pub(crate) usize);
 
 impl fmt::Display for MoreLine {
     ghost use Rattle.std.specs.Prelude.{Some};

@@ -4,10 +4,11 @@ ghost use Rattle.std.specs.Prelude.{◌≡◌, ◌<◌, ◌≤◌, ℕ, [], Err,
 ghost use Rattle.timed_events.specs.Checks.{AreOfProcessors};
 ghost use Rattle.timed_events.specs.Lateness.{lateness_of};
 ghost use Rattle.timed_events.specs.Spreads.{IsTimed, IsTimedRefusal};
-ghost use Rattle.event_log.specs.Imports.{IsBehindCycle, IsImportOf, IsLogRefusal, IsRead, IsReadRefusal, above_zero, clock_in, event_place, until_in, width_in};
+ghost use Rattle.event_log.specs.Imports.{IsBehindCycle, IsErrorUnlessMemory, IsImportOf, IsLogRefusal, IsRead, IsReadRefusal, above_zero, clock_in, event_place, until_in, width_in};
 ghost use Rattle.event_log.specs.Logs.{seen_log};
 ghost use Rattle.event_log.specs.SoundLogs.{IsSound};
 
+use crate::alignments::{AlignedLog, aligned_log};
 use crate::event_refusals::error_of;
 use crate::logs::{NamedEvents, events_of_log};
 use crate::names::NameSet;
@@ -15,6 +16,7 @@ use crate::options::Options;
 use crate::reading::MAX_EVENTS;
 use crate::refusals::LogError;
 use crate::times::{Moment, TimeKind, Width};
+use clock_offsets::Offsets;
 use std::alloc::{AllocError, Global};
 use step_trace::Trace;
 use timed_events::{Clock, EventError, Lateness, Moved, TimedTrace, lateness_of, trace_of_events};
@@ -31,10 +33,14 @@ pub struct Import {
     pub moved: Moved,
     /// How many messages are received no later than they are sent, by the times of the events.
     pub lateness: Lateness,
+    /// By how much the clocks of the nodes were moved, where they were to be aligned.
+    pub offsets: Option<Offsets>,
 }
 
 /// Reads a log as a trace: each event is one step, in the tick of its time or, where events may be spread, as little later
 /// as need be.
+///
+/// Where clocks are to be aligned, each is moved first, and the end of the log is one by the moved times.
 ///
 /// Refuses in the order of `LogError`; where events may be spread, none is NotLater or SecondEvent, Cycle comes after the
 /// other refusals of events, and TooManyTicks last where an event came too far. Memory comes only for a text that isn't too large.
@@ -48,16 +54,39 @@ pub fn read_log(alloc: Global, text: &[u8], options: &Options) -> Result<Import,
     }
     let log = events_by(alloc, text, options)?;
     let clock = clock_for(options, log.kind)?;
-    let lateness = lateness_in(alloc, &log)?;
-    match trace_of_log(alloc, &log, &clock, options.spread) {
-        Ok(timed) => Ok(Import {
-            trace: timed.trace,
-            nodes: log.nodes,
-            moved: timed.moved,
-            lateness,
-        }),
-        Err(why) => Err(error_of(alloc, text, &log.nodes, log.events.as_slice(), why)),
+    let aligned = aligned_log(alloc, text, log, options.align)?;
+    let lateness = lateness_in(alloc, &aligned.log)?;
+    match trace_of_log(alloc, &aligned.log, &clock, options.spread) {
+        Ok(timed) => Ok(import_of(aligned, timed, lateness)),
+        Err(why) => Err(log_error(alloc, text, &aligned.log, why)),
     }
+}
+
+/// The import of an aligned log, of its trace and its late messages.
+fn import_of(aligned: AlignedLog, timed: TimedTrace, lateness: Lateness) -> Import
+    ensures { result ≡ record { trace = timed.trace; nodes = aligned.log.nodes; moved = timed.moved; lateness = lateness; offsets = aligned.offsets } }
+{
+    let AlignedLog { log, offsets } = aligned;
+    Import {
+        trace: timed.trace,
+        nodes: log.nodes,
+        moved: timed.moved,
+        lateness,
+        offsets,
+    }
+}
+
+/// The refusal of a log for a reason against its events, or Memory.
+///
+/// Asks for the same as `error_of`.
+fn log_error(alloc: Global, text: &[u8], log: &NamedEvents, why: EventError) -> LogError
+    requires place { event_place why < MAX_EVENTS }
+    requires few { length log.now.events.items ≤ MAX_EVENTS }
+    requires processors { AreOfProcessors log.now.events.items }
+    requires behind { (i : ℕ) → why ≡ EventError.Cycle i → IsBehindCycle log.now.events.items i }
+    ensures { IsErrorUnlessMemory text.now log.now.nodes log.now.events.items why result }
+{
+    error_of(alloc, text, &log.nodes, log.events.as_slice(), why)
 }
 
 /// The events that a log records, whose nodes are the listed ones where nodes are listed.

@@ -2,6 +2,8 @@
 //! messages. `specs/` has the definitions that the contracts cite.
 #![tactic(auto)]
 
+mod alignments;
+mod clock_lines;
 mod columns;
 mod event_refusals;
 mod events;

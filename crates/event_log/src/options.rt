@@ -19,6 +19,8 @@ pub struct Options {
     pub until: Option<Moment>,
     /// Whether events may go to later ticks than those of their times.
     pub spread: bool,
+    /// Whether the clocks of the nodes are moved, so that each message is received later than it is sent.
+    pub align: bool,
 }
 
 /// Why texts tell no options, in the order in which they are looked at.
@@ -44,8 +46,9 @@ pub fn read_options(
     tick: Option<&str>,
     until: Option<&str>,
     spread: bool,
+    align: bool,
 ) -> Result<Options, OptionError>
-    ensures options { IfOk result (λ o. AreOptions (option_map (λ t. t.now) nodes.entry) (option_map (λ t. t.now) tick.entry) (option_map (λ t. t.now) until.entry) spread o) }
+    ensures options { IfOk result (λ o. AreOptions (option_map (λ t. t.now) nodes.entry) (option_map (λ t. t.now) tick.entry) (option_map (λ t. t.now) until.entry) spread align o) }
     ensures refused { IfErr result (λ why. IsOptionFault (option_map (λ t. t.now) nodes.entry) (option_map (λ t. t.now) tick.entry) (option_map (λ t. t.now) until.entry) why) }
     ensures more { result ≡ Err OptionError.Memory → IsSome nodes.entry }
 {
@@ -56,6 +59,7 @@ pub fn read_options(
         width,
         until,
         spread,
+        align,
     })
 }
 

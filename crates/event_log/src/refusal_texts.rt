@@ -107,6 +107,10 @@ fn words_of(why: &LogError) -> Words<'_>
         }
         LogError::SecondEvent(no, node, tick, _) => Words::SecondEvent(*no, node, *tick),
         LogError::Cycle(no, _) => Words::Record(*no, "behind a cycle of messages"),
+        LogError::NoOffsets(_) => {
+            Words::Log("no offsets of clocks bring the messages into order")
+        }
+        LogError::TooLate => Words::Log("times are too late to align the clocks"),
         LogError::Memory => Words::Log("out of memory"),
     }
 }

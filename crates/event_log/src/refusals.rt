@@ -6,7 +6,8 @@ use crate::names::Name;
 use thiserror::Error;
 use timed_events::Hint;
 
-/// Why a log is refused, in the order in which the stages and their reasons are tested. A record's number is its place
+/// Why a log is refused, in the order in which the stages and their reasons are tested; where clocks are to be aligned, the
+/// reasons against messages whatever their times, then NoOffsets and TooLate, come before those that the end of the log gives. A record's number is its place
 /// among all records, from 1; the header is record 1.
 #[derive(Debug, Drop, Error)]
 pub enum LogError {
@@ -54,6 +55,10 @@ pub enum LogError {
     SecondEvent(u64, Name, u64, Option<Hint>),
     /// The event is in a cycle of messages or behind one, and none before it is; with the lines of the hops of such a cycle.
     Cycle(u64, HopLines),
+    /// Where clocks are to be aligned: no offsets bring the messages into order; with the lines of a cycle of clocks.
+    NoOffsets(HopLines),
+    /// Where clocks are to be aligned: a time would be later than any of its kind, or a sum of times is too great.
+    TooLate,
     /// There was no memory.
     Memory,
 }

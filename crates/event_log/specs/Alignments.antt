@@ -1,0 +1,26 @@
+-- Logs whose clocks are aligned.
+use Rattle.std.specs.Prelude.{ℕ, ◌≡◌, ℤ, pos, Bool, true, false, List, map, Option, Some, None}
+use Rattle.timed_events.specs.declared.events.Event.{Event}
+use Rattle.timed_events.specs.Checks.{first_fault}
+use Rattle.clock_offsets.specs.EventNeeds.{AreClockOffsets}
+use Rattle.clock_offsets.specs.MovedClocks.{moved_event}
+use Rattle.event_log.specs.declared.times.TimeKind.{TimeKind}
+use Rattle.event_log.specs.declared.times.TimeKind.TheVariants as kind
+
+-- the latest time of a kind: the greatest number of 64 bits, and the last time stamp that is read
+abbrev pub latest_in : TimeKind → ℤ
+latest_in kind.Number = pos 18446744073709551615
+latest_in kind.Stamp = pos 253402207200999999999
+
+-- Nothing is against the messages of the events, the offsets are the least that bring them into order, and each event is
+-- moved by that of its node's clock.
+pub record IsAligned (n : ℕ) (events : List Event) (offsets : List ℤ) (moved : List Event) : Type 0 where
+  pub passed : first_fault events ≡ None
+  pub least : AreClockOffsets n events offsets
+  pub moved_are : moved ≡ map (moved_event offsets) events
+
+-- the events with their clocks aligned, if that is asked for
+abbrev pub AreAligned : Bool → ℕ → List Event → Option (List ℤ) → List Event → Type 0
+AreAligned false n events offsets moved = (offsets ≡ None) × (moved ≡ events)
+AreAligned true n events None moved = ⊥
+AreAligned true n events (Some offsets) moved = IsAligned n events offsets moved
