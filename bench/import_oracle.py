@@ -26,11 +26,15 @@ CASES = sorted(glob.glob(f"{HERE}/../tests/cases/import*.cases"))
 TEXT_LIMIT = 67_108_864
 EVENT_LIMIT = 1_000_000
 TICK_LIMIT = 1_000_000
+LAST_NUMBER = 2**64 - 1
+LAST_STAMP = 253_402_207_200_999_999_999
 NODE_LIMIT = 64
 COLUMNS = (b"time", b"node", b"event", b"to", b"message")
 FEWER_TICKS = b"a greater --tick makes fewer"
 SHORTER_TICK = b"a shorter --tick sets them apart"
 SPREAD = b"--spread sets them apart"
+DRIFT = b"clocks drift or step, or events are logged late; --spread alone places them by cause"
+NO_OFFSETS = b"no offsets of clocks bring the messages into order"
 NO_CLOCKS = b"no clocks make this right: the records of a node are out of order, or a message is named wrongly"
 
 
@@ -43,8 +47,8 @@ class Refused(Exception):
         self.status, self.lines = status, lines
 
 
-def refuse_log(why, hint=None):
-    raise Refused(3, b"log: " + why, *([hint] if hint else []))
+def refuse_log(why, *hints):
+    raise Refused(3, b"log: " + why, *filter(None, hints))
 
 
 def refuse_record(number_of_record, why, hint=None):
@@ -59,6 +63,7 @@ class Options:
     tick: Optional[bytes] = None
     until: Optional[bytes] = None
     spread: bool = False
+    align: bool = False
 
 
 @dataclass
@@ -223,13 +228,19 @@ def numbered(events, listed):
     return nodes, sends
 
 
-def last_tick_of(events, are_stamps, width, until):
-    """Gives each event the tick of its time, and returns the last tick by the times."""
+def check_fit(are_stamps, width, until):
+    """Refuses options that aren't of the kind of the times."""
     if width[1] and not are_stamps:
         raise Refused(2, b"--tick does not fit the times")
+    if until is not None and until[1] != are_stamps:
+        raise Refused(2, b"--until does not fit the times")
+
+
+def last_tick_of(events, are_stamps, width, until):
+    """Gives each event the tick of its time, and returns the last tick by the times."""
     first, last = min(it.time for it in events), max(it.time for it in events)
     if until is not None:
-        if until[1] != are_stamps or until[0] < last:
+        if until[0] < last:
             raise Refused(2, b"--until does not fit the times")
         last = until[0]
     for it in events:
@@ -238,6 +249,92 @@ def last_tick_of(events, are_stamps, width, until):
     if last_tick > TICK_LIMIT:
         refuse_log(b"too many ticks", FEWER_TICKS)
     return last_tick
+
+
+def receipts(events, sends):
+    """The pairs of a receive and a send whose message it took, in the order of the receives."""
+    return [(it, sends[name]) for it in events if it.to is None for name in it.messages]
+
+
+def short_round(events, nodes, sends):
+    """A circle of messages that take less than 1 each, on average: by the greatest needs by way of the first nodes alone, of two
+    more, and so on, until a node would have to be ahead of itself. From the first record on."""
+    need, first = {}, {}
+    for receive, send in receipts(events, sends):
+        way = send.node, receive.node
+        least = send.time - receive.time + 1
+        if way not in need or least > need[way]:
+            need[way], first[way] = least, (receive, send)
+    for by in nodes:
+        if need.get((by, by), 0) > 0:
+            hops, node = [], by
+            while not hops or node != by:
+                hops.append(first[node, by])
+                node = hops[-1][0].node
+            least = hops.index(min(hops, key=lambda hop: hop[0].record))
+            return hops[least:] + hops[:least]
+        known = dict(need)
+        ways = dict(first)
+        for (sender, way), to in known.items():
+            for (start, receiver), back in known.items():
+                if way == by == start and to + back > need.get((sender, receiver), to + back - 1):
+                    need[sender, receiver] = to + back
+                    ways[sender, receiver] = first[sender, by]
+        first = ways
+    raise AssertionError("there is no circle")
+
+
+def clock_line(receive, send):
+    return b"record %d: %b from %b to %b takes %d (record %d)" % (
+        receive.record, send.messages[0], send.node, receive.node, receive.time - send.time, send.record)
+
+
+def align(events, nodes, sends, are_stamps):
+    """Moves the clocks of nodes forward, each by the least that lets every message be received later than it is sent; returns
+    by how much. Goes over the messages until nothing is left to do: where clocks go on and on, they go in a circle."""
+    test_messages(events, sends)
+    offset = dict.fromkeys(nodes, 0)
+    for _ in range(len(nodes) + 1):
+        before = dict(offset)
+        for receive, send in receipts(events, sends):
+            least = send.time + offset[send.node] + 1 - receive.time
+            offset[receive.node] = max(offset[receive.node], least)
+        if offset == before:
+            break
+    else:
+        hops = short_round(events, nodes, sends)
+        shown = [clock_line(*hop) for hop in hops][:8]
+        more = [b"and %d more" % (len(hops) - 8)] if len(hops) > 8 else []
+        together = sum(receive.time - send.time for receive, send in hops)
+        refuse_log(NO_OFFSETS, *shown, *more, b"together %d: " % together + DRIFT)
+    for it in events:
+        it.time += offset[it.node]
+    if max(it.time for it in events) > (LAST_STAMP if are_stamps else LAST_NUMBER):
+        refuse_log(b"times are too late to align the clocks")
+    return offset
+
+
+def test_messages(events, sends):
+    """Refuses the first message that can't be received, whenever that is."""
+    received = set()
+    for it in events:
+        for name in it.messages if it.to is None else []:
+            why, hint = fault_of(it, name, sends, received, True)
+            if why:
+                refuse_record(it.record, b"message " + name + why, hint)
+            received.add(name)
+
+
+def late_lines(events, sends):
+    """What is told of the messages that are received no later than they are sent."""
+    late = [(send.time - receive.time, receive, send) for receive, send in receipts(events, sends) if receive.time <= send.time]
+    if not late:
+        return []
+    by, receive, send = max(late, key=lambda it: it[0])
+    count = b"1 message is received no later than it is sent" if len(late) == 1 else (
+        b"%d messages are received no later than they are sent" % len(late))
+    return [count + b", by the clocks; most by %d in record %d, which record %d sends" % (by, receive.record, send.record),
+            b"--align moves the clocks of nodes, and may bring most of them into order"]
 
 
 def test_steps(events, sends, spread):
@@ -326,19 +423,20 @@ def hop_line(event, send, after):
 
 
 def spread_out(order, sends):
-    """Puts events, each behind its causes, into later ticks, no later than needed; returns how many went, and how far at
-    most."""
+    """Puts events, each behind its causes, into later ticks, no later than needed; returns how many went, how far at
+    most, and the first record that did."""
     far, busy = [], {}
     for it in order:
         after = [busy.get(it.node, 0)]
         if it.to is None:
             after += [sends[name].tick for name in it.messages]
         tick = max(it.tick, *(tick + 1 for tick in after))
-        far.append(tick - it.tick)
+        far.append((tick - it.tick, it.record))
         it.tick = busy[it.node] = tick
     if max(it.tick for it in order) > TICK_LIMIT:
         refuse_log(b"too many ticks", FEWER_TICKS)
-    return sum(it > 0 for it in far), max(far)
+    most = max(by for by, _ in far)
+    return sum(by > 0 for by, _ in far), most, min(record for by, record in far if by == most)
 
 
 def trace_of(events, nodes, sends, last_tick):
@@ -365,13 +463,17 @@ def imported(log, options):
     records = records_of(log)
     events, are_stamps = events_of(records, places_of(records), listed)
     nodes, sends = numbered(events, listed)
+    check_fit(are_stamps, width, until)
+    offset = align(events, nodes, sends, are_stamps) if options.align else {}
     last_tick = last_tick_of(events, are_stamps, width, until)
     test_steps(events, sends, options.spread)
     told = [] if listed else [b"processor %d is %b" % (at, name) for at, name in enumerate(nodes, 1)]
+    told += [b"the clock of %b moved by %d" % (node, offset[node]) for node in nodes if offset.get(node, 0) > 0]
     if options.spread:
-        count, most = spread_out(order_of_causes(events, sends), sends)
-        far = b"" if most == 0 else b", by at most 1 tick" if most == 1 else b", by at most %d ticks" % most
+        count, most, first = spread_out(order_of_causes(events, sends), sends)
+        far = b"" if most == 0 else b", by at most %d tick%b (record %d)" % (most, b"" if most == 1 else b"s", first)
         told.append(b"%d of %d events moved" % (count, len(events)) + far)
+        told += late_lines(events, sends)
         last_tick = max(last_tick, max(it.tick for it in events))
     return trace_of(events, nodes, sends, last_tick), told
 
@@ -416,12 +518,13 @@ def main():
     for name in ("--nodes", "--tick", "--until"):
         command.add_argument(name, type=os.fsencode)
     command.add_argument("--spread", action="store_true")
+    command.add_argument("--align", action="store_true")
     words = words.parse_args()
     if words.self_test:
         return self_test()
     if not hasattr(words, "log"):
         command.error("no command")
-    status, output, told = answer(read_log(words.log), Options(words.nodes, words.tick, words.until, words.spread))
+    status, output, told = answer(read_log(words.log), Options(words.nodes, words.tick, words.until, words.spread, words.align))
     sys.stderr.buffer.write(told)
     sys.stdout.buffer.write(output)
     return status

@@ -108,6 +108,8 @@ def options_of(chance, log):
         options["until"] = time_text(chance, log, max(it["at"] for it in log.rows) + chance.choice([0, 0, 1, 20]))
     if log.spread:
         options["spread"] = ""
+    if chance.random() < 0.2:
+        options["align"] = ""
     return options
 
 
@@ -321,6 +323,14 @@ def skewed(chance, log):
     log.options.pop("until", None)
 
 
+def aligned(chance, log):
+    """The same, and the clocks are to be aligned."""
+    skewed(chance, log)
+    log.options["align"] = ""
+    if chance.random() < 0.3:
+        log.options.pop("spread")
+
+
 def cycle(chance, log):
     """Receives go to other times, so that some come before the sends that others wait for; or nodes in a ring do."""
     log.options["spread"] = ""
@@ -349,7 +359,7 @@ def spread_past(chance, log):
 AIMS = [
     bad_nodes, bad_tick, bad_until, no_log, no_column, two_columns, bad_fields, bad_time, bad_event, bad_node, bad_message,
     no_events, too_many_nodes, sent_before, too_few_nodes, tick_of_another_kind, until_of_another_kind, too_many_ticks,
-    never_sent, for_another, received_before, no_later, longer_ticks, second_event, skewed, cycle, spread_past,
+    never_sent, for_another, received_before, no_later, longer_ticks, second_event, skewed, aligned, aligned, cycle, spread_past,
 ]
 
 

@@ -95,7 +95,7 @@ pub record IsJudgementLineOf (file : List ℕ) (Judges : Judgement → Type 0) (
 
 -- the texts tell these options of a log
 abbrev pub AreImportOptions : ImportOptions → Options → Type 0
-AreImportOptions given o = AreOptions (option_map string_bytes given.nodes) (option_map string_bytes given.tick) (option_map string_bytes given.until) given.spread o
+AreImportOptions given o = AreOptions (option_map string_bytes given.nodes) (option_map string_bytes given.tick) (option_map string_bytes given.until) given.spread given.align o
 
 -- The log is read by these options, and the text is that of its trace in version 2, which is read back as that trace.
 pub record IsTraceOfLog (o : Options) (log out : List ℕ) : Type 0 where

@@ -118,6 +118,7 @@ fn imported(alloc: Global, given: &ImportOptions, text: &[u8]) -> Result<Vec<u8>
         text_in(&given.tick),
         text_in(&given.until),
         given.spread,
+        given.align,
     )?;
     trace_text_of(alloc, text, &options)
 }

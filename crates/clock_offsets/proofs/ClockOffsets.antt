@@ -201,7 +201,7 @@ module _ (n : ℕ) (needs : Needs) (h : HaveNoCycle n needs) where
   pub least-offsets : AreLeastOffsets n needs (offset_of n needs)
   least-offsets = record { right = right; forward = λ i l. best-forward (λ m. through needs n m i) n; least = least }
 
-same-both : (a b : ℤ) → a ≤ℤ b → b ≤ℤ a → a ≡ b
+pub same-both : (a b : ℤ) → a ≤ℤ b → b ≤ℤ a → a ≡ b
 same-both a b u v = omega (arith, ints)
 
 -- there is one list of them

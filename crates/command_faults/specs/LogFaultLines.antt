@@ -4,7 +4,7 @@ use Rattle.timed_events.specs.declared.events.Hint.{Hint}
 use Rattle.timed_events.specs.declared.events.Hint.TheVariants.{ShorterTick, Spread}
 use Rattle.event_log.specs.RefusalTexts.{printed}
 use Rattle.event_log.specs.declared.refusals.LogError.{LogError}
-use Rattle.event_log.specs.declared.refusals.LogError.TheVariants.{BadNode, BadTime, TickUnfit, UntilUnfit, TooManyTicks, NotLater, SecondEvent, Cycle}
+use Rattle.event_log.specs.declared.refusals.LogError.TheVariants.{BadNode, BadTime, TickUnfit, UntilUnfit, TooManyTicks, NotLater, SecondEvent, Cycle, NoOffsets}
 
 -- what stands before the reason of a refused log: nothing where it begins with an option that doesn't fit
 abbrev pub log_lead : LogError → List ℕ
@@ -24,6 +24,7 @@ help_line TooManyTicks = 10 ∷ codes "synchrony: a greater --tick makes fewer"
 help_line (NotLater number message hint) = hint_line hint
 help_line (SecondEvent number node tick hint) = hint_line hint
 help_line (Cycle number hops) = hops ++ 10 ∷ codes "synchrony: no clocks make this right: the records of a node are out of order, or a message is named wrongly"
+help_line (NoOffsets lines) = lines
 help_line (BadTime number) = 10 ∷ codes "synchrony: a time is a number, or a time stamp like 2026-11-22T10:00:00.250Z; all times are of the kind of record 2's"
 help_line (BadNode number None) = 10 ∷ codes "synchrony: the name of a node is text with no control character, and not empty"
 help_line (BadNode number (Some name)) = 10 ∷ (codes "synchrony: \"" ++ (printed name ++ codes "\" is not among --nodes"))

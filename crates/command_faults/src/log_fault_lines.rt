@@ -44,6 +44,7 @@ impl fmt::Display for HelpLine<'_> {
                 f,
                 "{hops}\nsynchrony: no clocks make this right: the records of a node are out of order, or a message is named wrongly"
             ),
+            LogError::NoOffsets(lines) => write!(f, "{lines}"),
             LogError::BadTime(_) => f.write_str(
                 "\nsynchrony: a time is a number, or a time stamp like 2026-11-22T10:00:00.250Z; all times are of the kind of record 2's",
             ),

@@ -164,4 +164,6 @@ pub struct ImportOptions {
     pub until: Option<String>,
     /// Whether events may go to later ticks than those of their times.
     pub spread: bool,
+    /// Whether the clocks of the nodes are moved, so that each message is received later than it is sent.
+    pub align: bool,
 }

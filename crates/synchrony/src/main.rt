@@ -179,6 +179,7 @@ fn import(rt: &HostRuntime, job: ImportJob) -> Result<u8, Fault> {
         text_in(&job.options.tick),
         text_in(&job.options.until),
         job.options.spread,
+        job.options.align,
     )?;
     let mut log = Input::open(rt, job.file)?;
     let mut output = Output::new(rt.stdout());

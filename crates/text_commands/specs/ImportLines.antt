@@ -1,6 +1,9 @@
 -- What is told of a log beside its trace: the notes on it.
-use Rattle.std.specs.Prelude.{ℕ, List, [], ◌∷◌, ◌++◌, ◌==◌, if◌then◌else◌, length, codes, decimal, Bool, true, false, Option, Some, None}
+use Rattle.std.specs.Prelude.{ℕ, ◌+◌, List, [], ◌∷◌, ◌++◌, ◌==◌, if◌then◌else◌, length, codes, decimal, Bool, true, false, Option, Some, None, ℤ, pos, int_lt, slice_index_or}
+use Rattle.std.specs.Fmt.{signed_decimal}
 use Rattle.std.specs.List.{flat_map, range_with_len}
+use Rattle.timed_events.specs.declared.lateness.LateMessage.{LateMessage}
+use Rattle.timed_events.specs.declared.lateness.Lateness.{Lateness}
 use Rattle.timed_events.specs.declared.spread_traces.Moved.{Moved}
 use Rattle.event_log.specs.declared.imports.Import.{Import}
 use Rattle.event_log.specs.declared.options.Options.{Options}
@@ -15,28 +18,66 @@ node_line number name = codes "synchrony: processor " ++ (decimal number ++ (cod
 abbrev pub node_lines : List (List ℕ) → ℕ → List ℕ
 node_lines nodes count = flat_map (λ p. node_line p (node_name nodes p)) (range_with_len 1 count)
 
--- how many ticks events moved at most; nothing if none moved
-abbrev pub distance_words : ℕ → List ℕ
-distance_words ticks =
-    if ticks == 0 then []
-    else if ticks == 1 then codes ", by at most 1 tick"
-    else codes ", by at most " ++ (decimal ticks ++ codes " ticks")
+-- so many ticks
+abbrev pub tick_words : ℕ → List ℕ
+tick_words ticks = if ticks == 1 then codes "1 tick" else decimal ticks ++ codes " ticks"
+
+-- how many ticks events moved at most, and the record of the first that did; nothing if none moved
+abbrev pub distance_words : ℕ → Option ℕ → List ℕ
+distance_words ticks None = []
+distance_words ticks (Some place) = codes ", by at most " ++ (tick_words ticks ++ (codes " (record " ++ (decimal (place + 2) ++ codes ")")))
 
 -- the line that tells how many of so many events moved, and how far
 abbrev pub moved_line : ℕ → Moved → List ℕ
 moved_line count moved =
-    codes "synchrony: " ++ (decimal moved.events ++ (codes " of " ++ (decimal count ++ (codes " events moved" ++ (distance_words moved.ticks ++ 10 ∷ [])))))
+    codes "synchrony: " ++ (decimal moved.events ++ (codes " of " ++ (decimal count ++ (codes " events moved" ++ (distance_words moved.ticks moved.farthest ++ 10 ∷ [])))))
 
 -- the nodes are told where they weren't listed
 abbrev pub node_notes : Option (List (List ℕ)) → List (List ℕ) → List ℕ
 node_notes None nodes = node_lines nodes (length nodes)
 node_notes (Some listed) nodes = []
 
--- how far events went is told where they might
-abbrev pub moved_notes : Bool → ℕ → Moved → List ℕ
-moved_notes true count moved = moved_line count moved
-moved_notes false count moved = []
+-- so many messages that are received no later than they are sent
+abbrev pub late_count_words : ℕ → List ℕ
+late_count_words messages =
+    if messages == 1 then codes "1 message is received no later than it is sent"
+    else decimal messages ++ codes " messages are received no later than they are sent"
+
+-- the lines that tell how many messages are received no later than they are sent, by how much the worst of them, in which
+-- record, which record sends it, and what may help
+abbrev pub named_late_lines : ℕ → ℕ → ℕ → ℕ → List ℕ
+named_late_lines messages by number sent =
+    codes "synchrony: " ++ (late_count_words messages ++ (codes ", by the clocks; most by " ++ (decimal by ++ (codes " in record " ++ (decimal number
+    ++ (codes ", which record " ++ (decimal sent ++ (codes " sends" ++ 10 ∷ (codes "synchrony: --align moves the clocks of nodes, and may bring most of them into order" ++ 10 ∷ [])))))))))
+
+-- the same of so many messages and the worst of them; nothing if there are none
+abbrev pub late_lines : ℕ → Option LateMessage → List ℕ
+late_lines messages None = []
+late_lines messages (Some worst) = named_late_lines messages worst.by (worst.event + 2) (worst.message + 2)
+
+-- how far events went is told where they might, and then which messages are late
+abbrev pub moved_notes : Bool → ℕ → Moved → Lateness → List ℕ
+moved_notes true count moved lateness = moved_line count moved ++ late_lines lateness.messages lateness.worst
+moved_notes false count moved lateness = []
+
+-- the line that tells by how much the clock of a node moved
+abbrev pub clock_line : List ℕ → ℤ → List ℕ
+clock_line name offset = codes "synchrony: the clock of " ++ (printed name ++ (codes " moved by " ++ (signed_decimal offset ++ 10 ∷ [])))
+
+-- the same of the node at a place, counted from 0, if its clock moved
+abbrev pub clock_line_at : List (List ℕ) → List ℤ → ℕ → List ℕ
+clock_line_at nodes offsets place =
+    if int_lt (pos 0) (slice_index_or offsets place (pos 0)) then clock_line (slice_index_or nodes place []) (slice_index_or offsets place (pos 0)) else []
+
+-- the lines of so many nodes
+abbrev pub clock_lines : List (List ℕ) → List ℤ → ℕ → List ℕ
+clock_lines nodes offsets count = flat_map (clock_line_at nodes offsets) (range_with_len 0 count)
+
+-- by how much clocks moved is told where they were to be aligned
+abbrev pub clock_notes : List (List ℕ) → Option (List ℤ) → List ℕ
+clock_notes nodes None = []
+clock_notes nodes (Some offsets) = clock_lines nodes offsets (length nodes)
 
 -- what is told of a log that was read as a trace
 abbrev pub notes_of : Options → Import → List ℕ
-notes_of o import = node_notes o.nodes import.nodes ++ moved_notes o.spread (length import.trace.steps) import.moved
+notes_of o import = node_notes o.nodes import.nodes ++ (clock_notes import.nodes import.offsets ++ moved_notes o.spread (length import.trace.steps) import.moved import.lateness)

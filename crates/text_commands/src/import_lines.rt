@@ -1,12 +1,13 @@
 //! The lines in which it is told how a log was read.
 
-ghost use Rattle.std.specs.Prelude.{◌≡◌, IfOk, length, string_bytes};
-ghost use Rattle.text_commands.specs.ImportLines.{node_lines, notes_of};
+ghost use Rattle.std.specs.Prelude.{◌≡◌, [], IfOk, Some, length, slice_index_or, string_bytes};
+ghost use Rattle.text_commands.specs.ImportLines.{clock_line_at, clock_lines, clock_notes, late_lines, moved_notes, node_lines, notes_of};
 
+use clock_offsets::Offsets;
 use event_log::{Import, NameSet, Options, printed};
 use std::alloc::{AllocError, Global};
 use std::fmt;
-use timed_events::Moved;
+use timed_events::{LateMessage, Lateness, Moved};
 
 /// What is told of a log that was read as a trace: which processor each node is, where the nodes weren't listed; and how far
 /// events went, where they might.
@@ -21,15 +22,131 @@ pub(crate) fn notes_text(
         Some(_) => String::new(alloc),
         None => node_lines(alloc, &import.nodes)?,
     };
-    if options.spread {
+    let clocks = clock_notes(alloc, &import.nodes, &import.offsets)?;
+    notes.push_str(clocks.as_str())?;
+    let moved = moved_notes(alloc, options.spread, import)?;
+    notes.push_str(moved.as_str())?;
+    Ok(notes)
+}
+
+/// How far events went, where they might, and then which messages are late.
+fn moved_notes(alloc: Global, spread: bool, import: &Import) -> Result<String, AllocError>
+    ensures { IfOk result (λ text. string_bytes text ≡ moved_notes spread (length import.now.trace.steps) import.now.moved import.now.lateness) }
+{
+    let mut notes = String::new(alloc);
+    if spread {
         let line = MovedLine {
             moved: import.moved,
             count: import.trace.len(),
         }
         .to_string(alloc)?;
         notes.push_str(line.as_str())?;
+        let late = late_lines(alloc, import.lateness)?;
+        notes.push_str(late.as_str())?;
     }
     Ok(notes)
+}
+
+/// By how much clocks moved, where they were to be aligned.
+fn clock_notes(
+    alloc: Global,
+    nodes: &NameSet,
+    offsets: &Option<Offsets>,
+) -> Result<String, AllocError>
+    ensures { IfOk result (λ text. string_bytes text ≡ clock_notes nodes.now offsets.now) }
+{
+    match offsets {
+        None => Ok(String::new(alloc)),
+        Some(offsets) => clock_lines(alloc, nodes, offsets),
+    }
+}
+
+/// A line for each node whose clock moved.
+fn clock_lines(alloc: Global, nodes: &NameSet, offsets: &Offsets) -> Result<String, AllocError>
+    ensures { IfOk result (λ text. string_bytes text ≡ clock_lines nodes.now offsets.now (length nodes.now)) }
+{
+    let mut lines = String::new(alloc);
+    for place in 0..nodes.len() {
+        let line = clock_line_at(alloc, nodes, offsets, place)?;
+        lines.push_str(line.as_str())?;
+    }
+    Ok(lines)
+}
+
+/// The line of the node at a place, if its clock moved.
+fn clock_line_at(
+    alloc: Global,
+    nodes: &NameSet,
+    offsets: &Offsets,
+    place: usize,
+) -> Result<String, AllocError>
+    ensures { IfOk result (λ text. string_bytes text ≡ clock_line_at nodes.now offsets.now place) }
+{
+    let offset = offsets.at(place);
+    if offset <= 0 {
+        return Ok(String::new(alloc));
+    }
+    let name = name_in(nodes, place);
+    let line = ClockLine { name, offset }.to_string(alloc)?;
+    Ok(line)
+}
+
+/// The name of the node at a place; an empty one where there is none.
+fn name_in(nodes: &NameSet, place: usize) -> &[u8]
+    ensures { result.now ≡ slice_index_or nodes.now place [] }
+{
+    match nodes.name_at(place) {
+        Some(name) => name,
+        None => &[],
+    }
+}
+
+/// By how much the clock of a node moved, on a line of its own.
+#[derive(Clone, Copy)]
+struct ClockLine<'a> {
+    name: &'a [u8],
+    offset: i128,
+}
+
+impl fmt::Display for ClockLine<'_> {
+    ghost use Rattle.std.specs.Prelude.{Some};
+    ghost use Rattle.text_commands.specs.ImportLines.{clock_line};
+
+    ghost output = { λ line. Some (clock_line line.name.now line.offset) };
+
+    fn fmt<W: fmt::Write>(&self, f: &mut fmt::Formatter<W>) -> fmt::Result {
+        writeln!(
+            f,
+            "synchrony: the clock of {} moved by {}",
+            printed(self.name),
+            self.offset
+        )
+    }
+}
+
+/// How many messages are received no later than they are sent, the worst of them, and what may help; nothing if there are
+/// none.
+fn late_lines(alloc: Global, lateness: Lateness) -> Result<String, AllocError>
+    ensures { IfOk result (λ text. string_bytes text ≡ late_lines lateness.messages lateness.worst) }
+{
+    match lateness.worst {
+        None => Ok(String::new(alloc)),
+        Some(worst) => worst_lines(alloc, lateness.messages, worst),
+    }
+}
+
+/// The same where this is the worst of so many.
+fn worst_lines(alloc: Global, messages: u64, worst: LateMessage) -> Result<String, AllocError>
+    ensures { IfOk result (λ text. string_bytes text ≡ late_lines messages (Some worst)) }
+{
+    let lines = LateLines {
+        messages,
+        by: worst.by,
+        number: u64::from(worst.event) + 2,
+        sent: u64::from(worst.message) + 2,
+    }
+    .to_string(alloc)?;
+    Ok(lines)
 }
 
 /// A line for each node: which processor it is.
@@ -92,26 +209,96 @@ impl fmt::Display for MovedLine {
             "synchrony: {} of {} events moved{}",
             self.moved.events,
             self.count,
-            Distance(self.moved.ticks)
+            Distance(self.moved)
         )
     }
 }
 
-/// How many ticks events moved at most; nothing if none moved.
+/// How many ticks events moved at most, and the record of the first that did; nothing if none moved.
 #[derive(Clone, Copy)]
-struct Distance(u64);
+struct Distance(Moved);
 
 impl fmt::Display for Distance {
     ghost use Rattle.std.specs.Prelude.{Some};
     ghost use Rattle.text_commands.specs.ImportLines.{distance_words};
 
-    ghost output = { λ distance. Some (distance_words distance.0) };
+    ghost output = { λ distance. Some (distance_words distance.0.ticks distance.0.farthest) };
+
+    fn fmt<W: fmt::Write>(&self, f: &mut fmt::Formatter<W>) -> fmt::Result {
+        match self.0.farthest {
+            None => f.write_str(""),
+            Some(place) => write!(
+                f,
+                ", by at most {} (record {})",
+                Ticks(self.0.ticks),
+                place as u128 + 2
+            ),
+        }
+    }
+}
+
+/// So many ticks.
+#[derive(Clone, Copy)]
+struct Ticks(u64);
+
+impl fmt::Display for Ticks {
+    ghost use Rattle.std.specs.Prelude.{Some};
+    ghost use Rattle.text_commands.specs.ImportLines.{tick_words};
+
+    ghost output = { λ ticks. Some (tick_words ticks.0) };
 
     fn fmt<W: fmt::Write>(&self, f: &mut fmt::Formatter<W>) -> fmt::Result {
         match self.0 {
-            0 => f.write_str(""),
-            1 => f.write_str(", by at most 1 tick"),
-            ticks => write!(f, ", by at most {ticks} ticks"),
+            1 => f.write_str("1 tick"),
+            ticks => write!(f, "{ticks} ticks"),
+        }
+    }
+}
+
+/// The lines of late messages, with how late the worst is and its records.
+#[derive(Clone, Copy)]
+struct LateLines {
+    messages: u64,
+    by: u128,
+    number: u64,
+    sent: u64,
+}
+
+impl fmt::Display for LateLines {
+    ghost use Rattle.std.specs.Prelude.{Some};
+    ghost use Rattle.text_commands.specs.ImportLines.{named_late_lines};
+
+    ghost output = { λ lines. Some (named_late_lines lines.messages lines.by lines.number lines.sent) };
+
+    fn fmt<W: fmt::Write>(&self, f: &mut fmt::Formatter<W>) -> fmt::Result {
+        write!(
+            f,
+            "synchrony: {}, by the clocks; most by {} in record {}, which record {} sends\nsynchrony: --align moves the clocks of nodes, and may bring most of them into order\n",
+            LateCount(self.messages),
+            self.by,
+            self.number,
+            self.sent
+        )
+    }
+}
+
+/// So many messages that are received no later than they are sent.
+#[derive(Clone, Copy)]
+struct LateCount(u64);
+
+impl fmt::Display for LateCount {
+    ghost use Rattle.std.specs.Prelude.{Some};
+    ghost use Rattle.text_commands.specs.ImportLines.{late_count_words};
+
+    ghost output = { λ count. Some (late_count_words count.0) };
+
+    fn fmt<W: fmt::Write>(&self, f: &mut fmt::Formatter<W>) -> fmt::Result {
+        match self.0 {
+            1 => f.write_str("1 message is received no later than it is sent"),
+            messages => write!(
+                f,
+                "{messages} messages are received no later than they are sent"
+            ),
         }
     }
 }

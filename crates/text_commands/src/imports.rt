@@ -26,11 +26,12 @@ pub fn import_options(
     tick: Option<&str>,
     until: Option<&str>,
     spread: bool,
+    align: bool,
 ) -> Result<Options, Fault>
-    ensures options { IfOk result (λ o. AreOptions (option_map (λ t. t.now) nodes.entry) (option_map (λ t. t.now) tick.entry) (option_map (λ t. t.now) until.entry) spread o) }
+    ensures options { IfOk result (λ o. AreOptions (option_map (λ t. t.now) nodes.entry) (option_map (λ t. t.now) tick.entry) (option_map (λ t. t.now) until.entry) spread align o) }
     ensures refused { IfErr result (IsImportOptionFault (option_map (λ t. t.now) nodes.entry) (option_map (λ t. t.now) tick.entry) (option_map (λ t. t.now) until.entry)) }
 {
-    Ok(read_options(alloc, nodes, tick, until, spread)?)
+    Ok(read_options(alloc, nodes, tick, until, spread, align)?)
 }
 
 /// Reads a log to its end, tells the notes on it, and writes the text of its trace in version 2. The notes are which

@@ -17,6 +17,7 @@ struct Given {
     tick: Option<&'static str>,
     until: Option<&'static str>,
     spread: bool,
+    align: bool,
 }
 
 const TWO_NODES: &str =
@@ -29,6 +30,7 @@ const LISTED: Given = Given {
     tick: None,
     until: Some("16"),
     spread: false,
+    align: false,
 };
 
 const LISTED_TRACE: &str = "dls-trace,2,2,0\ninit,0,0\n1,1,1,S,2\n2,1,2,S,1\n3,4,1,R,2\n4,4,2,R,\n\
@@ -40,6 +42,7 @@ const UNLISTED: Given = Given {
     tick: None,
     until: Some("16"),
     spread: false,
+    align: false,
 };
 
 const UNLISTED_TRACE: &str =
@@ -54,6 +57,7 @@ const UNMOVED: Given = Given {
     tick: None,
     until: Some("16"),
     spread: true,
+    align: false,
 };
 
 const BROADCAST: &str =
@@ -70,6 +74,7 @@ const SPREAD: Given = Given {
     tick: None,
     until: None,
     spread: true,
+    align: false,
 };
 
 const SPREAD_TRACE: &str =
@@ -77,7 +82,9 @@ const SPREAD_TRACE: &str =
 
 const SPREAD_NOTES: &str =
     "synchrony: processor 1 is a\nsynchrony: processor 2 is b\nsynchrony: processor 3 is c\n\
-    synchrony: 3 of 4 events moved, by at most 2 ticks\n";
+    synchrony: 3 of 4 events moved, by at most 2 ticks (record 5)\n\
+    synchrony: 2 messages are received no later than they are sent, by the clocks; most by 0 in record 4, which record 2 sends\n\
+    synchrony: --align moves the clocks of nodes, and may bring most of them into order\n";
 
 /// Logs, what is written of them, and what is told.
 const IMPORTED: &[(Given, &str, &str)] = &[
@@ -88,7 +95,7 @@ const IMPORTED: &[(Given, &str, &str)] = &[
 ];
 
 fn options_of(alloc: Global, given: Given) -> Result<Options, Fault> {
-    import_options(alloc, given.nodes, given.tick, given.until, given.spread)
+    import_options(alloc, given.nodes, given.tick, given.until, given.spread, given.align)
 }
 
 /// Imports a log to two devices.

@@ -11,6 +11,7 @@ type Asked = (
     Option<&'static str>,
     Option<&'static str>,
     bool,
+    bool,
 );
 
 /// A step in one line: its number, tick and processor, whom it sends to (0: it receives), and its ids.
@@ -71,7 +72,7 @@ type Imported = (&'static str, Asked, u64, &'static [StepLine], u64, u64, u64);
 const IMPORTED: &[Imported] = &[
     (
         TWO_NODES,
-        (Some("a,b"), None, Some("16"), false),
+        (Some("a,b"), None, Some("16"), false, false),
         2,
         TWO_NODES_STEPS,
         7,
@@ -80,7 +81,7 @@ const IMPORTED: &[Imported] = &[
     ),
     (
         TWO_NODES,
-        (None, None, Some("16"), false),
+        (None, None, Some("16"), false, false),
         2,
         TWO_NODES_STEPS_OF_B,
         7,
@@ -89,7 +90,7 @@ const IMPORTED: &[Imported] = &[
     ),
     (
         TWO_NODES_TURNED,
-        (Some("a,b"), Some("1"), Some("16"), false),
+        (Some("a,b"), Some("1"), Some("16"), false, false),
         2,
         TWO_NODES_STEPS,
         7,
@@ -102,6 +103,7 @@ const IMPORTED: &[Imported] = &[
             Some("a,b"),
             Some("1ms"),
             Some("2026-11-22T10:00:01.016Z"),
+            false,
             false,
         ),
         2,
@@ -118,6 +120,7 @@ const IMPORTED: &[Imported] = &[
             Some("1000000"),
             Some("2026-11-22T10:00:01.016Z"),
             false,
+            false,
         ),
         2,
         TWO_NODES_STEPS,
@@ -128,7 +131,7 @@ const IMPORTED: &[Imported] = &[
     // A node without an event.
     (
         TWO_NODES,
-        (Some("a,b,c"), None, None, false),
+        (Some("a,b,c"), None, None, false, false),
         3,
         TWO_NODES_STEPS,
         6,
@@ -138,7 +141,7 @@ const IMPORTED: &[Imported] = &[
     // The ends of 64 bits, and a node that is only sent to.
     (
         "time,node,event,to,message\n0,a,send,b,m\n18446744073709551615,a,receive,,\n",
-        (None, Some("18446744073709551615"), None, false),
+        (None, Some("18446744073709551615"), None, false, false),
         2,
         &[(1, 1, 1, 2, &[]), (2, 2, 1, 0, &[])],
         2,
@@ -148,7 +151,7 @@ const IMPORTED: &[Imported] = &[
     // The last tick of all.
     (
         "time,node,event,to,message\n0,a,send,b,m\n999999,b,receive,,m\n",
-        (None, None, None, false),
+        (None, None, None, false, false),
         2,
         &[(1, 1, 1, 2, &[]), (2, 1_000_000, 2, 0, &[1])],
         1_000_000,
@@ -158,10 +161,10 @@ const IMPORTED: &[Imported] = &[
 ];
 
 const IMPORTED_SPREAD: &[Imported] = &[
-    (SPREAD, (None, None, None, true), 3, SPREAD_STEPS, 3, 3, 2),
+    (SPREAD, (None, None, None, true, false), 3, SPREAD_STEPS, 3, 3, 2),
     (
         TURNED_ROUND,
-        (None, None, None, true),
+        (None, None, None, true, false),
         2,
         &[(1, 1, 2, 1, &[]), (2, 2, 1, 0, &[1])],
         2,
@@ -170,7 +173,7 @@ const IMPORTED_SPREAD: &[Imported] = &[
     ),
     (
         TWO_NODES,
-        (Some("a,b"), None, Some("16"), true),
+        (Some("a,b"), None, Some("16"), true, false),
         2,
         TWO_NODES_STEPS,
         7,
@@ -200,8 +203,8 @@ fn has_step(trace: &Trace, line: &StepLine) -> bool {
 
 /// The import of a log, or why it is refused.
 fn import(alloc: Global, text: &str, asked: &Asked) -> Result<Import, LogError> {
-    let &(nodes, tick, until, spread) = asked;
-    match read_options(alloc, nodes, tick, until, spread) {
+    let &(nodes, tick, until, spread, align) = asked;
+    match read_options(alloc, nodes, tick, until, spread, align) {
         Ok(options) => read_log(alloc, text.as_bytes(), &options),
         Err(OptionError::Memory) => Err(LogError::Memory),
         Err(_) => Err(LogError::TickUnfit),
@@ -243,7 +246,7 @@ fn spreads(rt: HostRuntime) {
 
 #[test]
 fn numbers_nodes(rt: HostRuntime) {
-    let is_first = match import(rt.alloc(), TWO_NODES, &(None, None, None, false)) {
+    let is_first = match import(rt.alloc(), TWO_NODES, &(None, None, None, false, false)) {
         Ok(import) => {
             import.nodes.place_of(b"b") == Some(0) && import.nodes.place_of(b"a") == Some(1)
         }
@@ -265,7 +268,7 @@ fn told(answer: &Result<Import, LogError>) -> Option<(u64, Option<Hint>)> {
 
 #[test]
 fn refuses_what_spreading_mends(rt: HostRuntime) {
-    let still = (None, None, None, false);
+    let still = (None, None, None, false, false);
     let answer = import(rt.alloc(), SPREAD, &still);
     assert_eq!(rt; told(&answer), Some((3, Some(Hint::Spread))));
     let answer = import(rt.alloc(), TURNED_ROUND, &still);
@@ -274,7 +277,7 @@ fn refuses_what_spreading_mends(rt: HostRuntime) {
 
 #[test]
 fn refuses_what_spreading_does_not_mend(rt: HostRuntime) {
-    let spread = (None, None, None, true);
+    let spread = (None, None, None, true, false);
     let answer = import(rt.alloc(), EACH_WAITS, &spread);
     assert_eq!(rt; told(&answer), Some((3, None)));
     let late = "time,node,event,to,message\n0,a,send,b,m\n999999,a,send,b,n\n999999,a,send,b,o\n";

@@ -36,7 +36,7 @@ fn refusal(
     tick: Option<&str>,
     until: Option<&str>,
 ) -> Option<OptionError> {
-    match read_options(alloc, nodes, tick, until, false) {
+    match read_options(alloc, nodes, tick, until, false, false) {
         Ok(_) => None,
         Err(why) => Some(why),
     }
@@ -123,12 +123,13 @@ fn is_stamp(until: Option<Moment>, due: i128) -> bool {
 fn reads_all(rt: HostRuntime) {
     let nodes = Some("b a,π");
     let until = Some("1970-01-01T00:00:01.5Z");
-    let is_read = match read_options(rt.alloc(), nodes, Some("1m 30s"), until, true) {
+    let is_read = match read_options(rt.alloc(), nodes, Some("1m 30s"), until, true, true) {
         Ok(options) => {
             are_listed(&options)
                 && is_in_nanoseconds(options.width, 90_000_000_000)
                 && is_stamp(options.until, 1_500_000_000)
                 && options.spread
+                && options.align
         }
         Err(_) => false,
     };
@@ -137,12 +138,13 @@ fn reads_all(rt: HostRuntime) {
 
 #[test]
 fn leaves_out_all(rt: HostRuntime) {
-    let is_read = match read_options(rt.alloc(), None, None, None, false) {
+    let is_read = match read_options(rt.alloc(), None, None, None, false, false) {
         Ok(options) => {
             options.nodes.is_none()
                 && is_in_units(options.width, 1)
                 && options.until.is_none()
                 && !options.spread
+                && !options.align
         }
         Err(_) => false,
     };

@@ -220,9 +220,10 @@ def import_log(
     tick: Union[int, str, None] = None,
     until: Union[int, str, None] = None,
     spread: bool = False,
+    align: bool = False,
 ) -> bytes:
     """The trace of a log, as a text of version 2. Nodes are numbered in the order of `nodes`, or else as the log names them."""
-    return _asked("import", log, nodes=nodes, tick=tick, until=until, spread=spread)
+    return _asked("import", log, nodes=nodes, tick=tick, until=until, spread=spread, align=align)
 
 
 def frame(trace: Text, correct: Correct) -> pandas.DataFrame:
@@ -274,6 +275,7 @@ OPTIONS: Dict[str, Tuple[str, Optional[Callable[[Any], str]]]] = {
     "nodes": ("--nodes", ",".join),
     "tick": ("--tick", str),
     "spread": ("--spread", None),
+    "align": ("--align", None),
     "within": ("--within", str),
     "start": ("--start", str),
     "valid": ("--valid", None),

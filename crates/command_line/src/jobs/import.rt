@@ -43,6 +43,7 @@ pub fn command<'a>(alloc: Global) -> Result<Command<'a>, AllocError>
         optional_argument(alloc, "tick", "W", TICK_HELP),
         optional_argument(alloc, "until", "X", UNTIL_HELP),
         spread_argument(alloc),
+        align_argument(alloc),
     ]?;
     new_command(alloc, "import", ABOUT, help(), arguments)
 }
@@ -57,6 +58,16 @@ fn spread_argument<'a>(alloc: Global) -> Arg<'a>
         .action(ArgAction::SetTrue)
 }
 
+/// The flag --align.
+fn align_argument<'a>(alloc: Global) -> Arg<'a>
+    ensures { IsArgument (flag_rule (codes "align")) result }
+{
+    Arg::new(alloc, "align")
+        .long("align")
+        .help("Moves the clocks of nodes, by no more than needed")
+        .action(ArgAction::SetTrue)
+}
+
 /// The job that the words after `import` ask for; none where one of them lacks. What the texts say is looked at
 /// elsewhere. Memory is the only refusal.
 pub fn job(alloc: Global, found: &ArgMatches<'_>) -> Option<Result<Job, LineError>>
@@ -64,10 +75,11 @@ pub fn job(alloc: Global, found: &ArgMatches<'_>) -> Option<Result<Job, LineErro
 {
     let log = text(found, "log")?;
     let spread = flag(found, "spread")?;
+    let align = flag(found, "align")?;
     let nodes = text(found, "nodes");
     let tick = text(found, "tick");
     let until = text(found, "until");
-    Some(import(alloc, log, nodes, tick, until, spread))
+    Some(import(alloc, log, nodes, tick, until, spread, align))
 }
 
 /// The job of an import with these words.
@@ -78,8 +90,9 @@ fn import(
     tick: Option<&str>,
     until: Option<&str>,
     spread: bool,
+    align: bool,
 ) -> Result<Job, LineError>
-    ensures job { IfOk result (IsImport log.now (option_map (λ t. t.now) nodes.entry) (option_map (λ t. t.now) tick.entry) (option_map (λ t. t.now) until.entry) spread) }
+    ensures job { IfOk result (IsImport log.now (option_map (λ t. t.now) nodes.entry) (option_map (λ t. t.now) tick.entry) (option_map (λ t. t.now) until.entry) spread align) }
     ensures refused { IfErr result IsMemory }
 {
     let file = String::from_str(alloc, log)?;
@@ -88,6 +101,7 @@ fn import(
         tick: kept(alloc, tick)?,
         until: kept(alloc, until)?,
         spread,
+        align,
     };
     Ok(Job::Import(ImportJob { file, options }))
 }
@@ -120,6 +134,17 @@ trace in version 2, whose tick 1 begins at the least time.
   --spread       an event whose tick has an event of its node, or isn't after
                  the send of a message that it took, goes to a later one, no
                  later than needed; standard error tells how far events went
+  --align        the clocks of nodes are moved forward, each by the least that
+                 lets every message be received later than it was sent, by one
+                 unit of the times at least; standard error tells by how much.
+                 X is then by the moved clocks. It is refused where clocks drift
+                 or step
+
+--align puts the fastest message of a way at one unit, so delays that way look
+shorter than they were, and those back longer by as much: the communication
+bound between two nodes is off by no more than the fastest round trip less the
+true delay. Most logs want --spread with it, since the fastest messages are then
+received in the tick in which they were sent.
 
 A node takes at most one step in a tick, and a message is received in a later
 tick than it was sent: without --spread, events that aren't so are refused. With
