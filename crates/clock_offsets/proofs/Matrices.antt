@@ -33,9 +33,6 @@ pub record IsThrough (needs : List (Option ℤ)) (k : ℕ) (items : List (Option
   pub each : (i j : ℕ) → i < 64 → j < 64 → needs_at items i j ≡ through (needs_at needs) k i j
   pub below : (m : ℕ) (by : ℤ) → m < k → through (needs_at needs) m m m ≡ Some by → by ≤ℤ pos 0
 
-pub through-start : (needs items : List (Option ℤ)) → length needs ≡ 4096 → items ≡ needs → IsThrough needs 0 items
-through-start needs items l e = record { long = ap length e ∙ l; each = λ i j li lj. ap (λ xs. needs_at xs i j) e; below = λ m by b. absurd (omega arith) }
-
 pub through-more : (needs items read new : List (Option ℤ)) (k : ℕ) → k < 64 → IsThrough needs k items → read ≡ items → ((by : ℤ) → needs_at items k k ≡ Some by → by ≤ℤ pos 0) → AreNext read k new → IsThrough needs (k + 1) new
 through-more needs items read new k lk h e diag n = record { long = n.long; each = each; below = below } where
   step : (i j : ℕ) → i < 64 → j < 64 → needs_at new i j ≡ greater (needs_at items i j) (plus (needs_at items i k) (needs_at items k j))
@@ -55,12 +52,6 @@ through-more needs items read new k lk h e diag n = record { long = n.long; each
     go : (m < k) ⊎ (k ≤ m) → by ≤ℤ pos 0
     go (inl less) = h.below m by less t
     go (inr more) = let s : m ≡ k = omega arith in diag by (h.each k k lk lk ∙ ap (λ x. through (needs_at needs) x x x) (sym s) ∙ t)
-
-pub through-cycle : (needs items : List (Option ℤ)) (k : ℕ) → k < 64 → IsThrough needs k items → (by : ℤ) × (needs_at items k k ≡ Some by) × (pos 0 <ℤ by) → IsCycleAt (needs_at needs) k
-through-cycle needs items k lk h c = (c.0, sym (h.each k k lk lk) ∙ c.1, c.2)
-
-pub best-next : (f : ℕ → Option ℤ) (n : ℕ) → best_of f (n + 1) ≡ best_with (best_of f n) (f n)
-best-next f n = let e : n + 1 ≡ suc n = omega arith in ap (best_of f) e
 
 best-same : (f g : ℕ → Option ℤ) (n : ℕ) → ((i : ℕ) → i < n → f i ≡ g i) → best_of f n ≡ best_of g n
 best-same f g zero h = refl

@@ -76,22 +76,6 @@ fault-cycle events why h i e = go (due-fault why (first_fault events) h) where
   go (inl m) = absurd (cc (e, m))
   go (inr f) = fault-behind events i (f ∙ ap (λ w. Some w) e)
 
-pub fault-refused : (text : List ℕ) (nodes : List (List ℕ)) (events : List Event) (why : EventError) (error : LogError) → IsEventRefusal why (first_fault events) → IsErrorUnlessMemory text nodes events why error → IsAlignRefusal text nodes events error
-fault-refused text nodes events why error h = go (is_memory error) refl (due-fault why (first_fault events) h) where
-  go : (t : Bool) → is_memory error ≡ t → (why ≡ refused.Memory) ⊎ (first_fault events ≡ Some why) → MatchBool t ⊤ (IsErrorOf text nodes events why error) → MatchBool t ⊤ (IsUnalignedFor text nodes events error)
-  go true e d g = tt
-  go false e (inl m) g =
-      let is : error ≡ Memory = subst (λ w. IsErrorOf text nodes events w error) m g in
-      let no-memory : true ≡ false = sym (ap is_memory is) ∙ e in
-      absurd (cc no-memory)
-  go false e (inr f) g = inl (why, f, g)
-
-pub none-refused : (text : List ℕ) (nodes : List (List ℕ)) (events : List Event) (error : LogError) → first_fault events ≡ None → MatchBool (is_memory error) ⊤ (HaveNoOffsets text nodes events error) → IsAlignRefusal text nodes events error
-none-refused text nodes events error p = go (is_memory error) where
-  go : (t : Bool) → MatchBool t ⊤ (HaveNoOffsets text nodes events error) → MatchBool t ⊤ (IsUnalignedFor text nodes events error)
-  go true h = tt
-  go false h = inr (inl (p, h))
-
 -- the messages of a cycle are those of events
 lead-inside : (events : List Event) (from to : ℕ) (hops : List ClockHop) → LeadFrom events from hops to → (k : ℕ) (d : ClockHop) → k < length hops → (get_or hops k d).message < length events
 lead-inside events from to [] l k d b = absurd (omega arith)

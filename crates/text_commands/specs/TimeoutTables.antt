@@ -73,6 +73,7 @@ IsLinkFault o n _ = ⊥
 abbrev pub IsNoTickFor : TimeoutTable → Recorded → ReportOption → TickOutside → Type 0
 IsNoTickFor o t option.Until x = IsNoTickOf o.until t x
 IsNoTickFor o t option.At x = (reported : Recorded) × IsReportedTo o.until t reported × IsNoTickOf o.at reported x
+IsNoTickFor o t option.Start x = ⊥
 
 -- for what there is no table: the leader or a follower, or else a tick
 abbrev pub IsNoTable : TimeoutTable → Recorded → Fault → Type 0

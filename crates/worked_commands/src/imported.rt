@@ -95,7 +95,14 @@ const IMPORTED: &[(Given, &str, &str)] = &[
 ];
 
 fn options_of(alloc: Global, given: Given) -> Result<Options, Fault> {
-    import_options(alloc, given.nodes, given.tick, given.until, given.spread, given.align)
+    import_options(
+        alloc,
+        given.nodes,
+        given.tick,
+        given.until,
+        given.spread,
+        given.align,
+    )
 }
 
 /// Imports a log to two devices.

@@ -161,7 +161,15 @@ const IMPORTED: &[Imported] = &[
 ];
 
 const IMPORTED_SPREAD: &[Imported] = &[
-    (SPREAD, (None, None, None, true, false), 3, SPREAD_STEPS, 3, 3, 2),
+    (
+        SPREAD,
+        (None, None, None, true, false),
+        3,
+        SPREAD_STEPS,
+        3,
+        3,
+        2,
+    ),
     (
         TURNED_ROUND,
         (None, None, None, true, false),

@@ -24,7 +24,7 @@ pub returns-in_err-write_text-clause-served : goal.returns-in_err-write_text-cla
 returns-in_err-write_text-clause-served g c =
     let p = err_from_is_err_and c.from_residual-in_err-write_text.result c.from_residual-in_err-write_text.ensures.1 in
     let o = c.args.options.now in
-    let Told = WentOut g.N.Write.contents c.args.notes.now c.print_notes.new.notes in
+    let Told = WentOut g.N.Write.contents c.args.notes.now c.print_notes.new.writer in
     let text = c.in_ok-text.text.items in
     let told = rw (sym c.as_str.ensures.value) at c.in_ok-texts.ensures.texts in
     rw (p.1, p.2) (record {
@@ -45,7 +45,7 @@ returns-clause-served g c =
       out = c.deref.result.now;
       all = c.in_ok-text.ensures.text;
       end = search rules;
-      gives = rw c.deref.ensures.value (now_told o (WentOut g.N.Write.contents c.args.notes.now c.print_notes.new.notes) _ _ _ told c.print_notes.ensures);
+      gives = rw c.deref.ensures.value (now_told o (WentOut g.N.Write.contents c.args.notes.now c.print_notes.new.writer) _ _ _ told c.print_notes.ensures);
       whole = c.in_ok-write_text.ensures.whole;
       flushed = search rules;
       readable = search rules;
