@@ -9,6 +9,9 @@ ghost use Rattle.step_trace.specs.declared.traces.TheConstants.{MAX_STEPS};
 ghost use Rattle.command_options.specs.declared.TheConstants.{MAX_TURNS, MAX_WORKERS};
 ghost use Rattle.command_options.specs.Paces.{patience_of};
 
+mod simulations;
+
+pub use simulations::{Crash, Schedule, SimulationOptions, StatedBounds};
 use step_trace::{Config, Correct};
 
 /// The greatest number of workers that may be asked for.

@@ -52,6 +52,14 @@ heard_message steps p peers s =
 abbrev pub heard_waiting : List Step → ℕ → Paced → Paced
 heard_waiting steps p x = record x { peers = fold (heard_message steps p) x.peers (buffer steps p) }
 
+-- p hears these messages
+abbrev pub heard_ids : List Step → ℕ → List ℕ → Paced → Paced
+heard_ids steps p ids x = record x { peers = fold (heard_message steps p) x.peers ids }
+
+-- whether a Receive of p that takes these messages ends its round
+abbrev pub ends_taking : Setup → List Step → ℕ → List ℕ → Paced → Bool
+ends_taking c steps p ids x = is_over c (node_at c steps p) (passed steps p + 1) p (heard_ids steps p ids x)
+
 -- whether the next Receive of p ends its round
 abbrev pub ends_round : Setup → List Step → ℕ → Paced → Bool
 ends_round c steps p x = is_over c (node_at c steps p) (passed steps p + 1) p (heard_waiting steps p x)

@@ -1,9 +1,10 @@
 //! The pace "heard out": what a processor does next, and which of its Receives ends its round.
 
-ghost use Rattle.std.specs.Prelude.{◌≡◌, ◌≤◌, length, fold, IfOk};
+ghost use Rattle.std.specs.Prelude.{◌≡◌, ◌≤◌, ◌+◌, All, Contains, length, fold, IfOk};
 ghost use Rattle.step_trace.specs.Configurations.{IsProc};
 ghost use Rattle.step_buffers.specs.Buffers.{buffer};
-ghost use Rattle.deciding_runs.specs.Paces.{opening_pace, is_complete, is_over, heard_message, heard_waiting, is_idle, paced_move, after_round, after_wait, after_receive, after_move};
+ghost use Rattle.step_buffers.specs.HeardTables.{passed};
+ghost use Rattle.deciding_runs.specs.Paces.{opening_pace, is_complete, is_over, heard_message, heard_ids, heard_waiting, ends_taking, is_idle, paced_move, after_round, after_wait, after_receive, after_move};
 
 use crate::audible::may_hear_all;
 use crate::peers::{Peer, awaited, end_phase, hear, heard, is_left_behind};
@@ -90,6 +91,24 @@ impl Pace {
         }
     }
 
+    /// Whether a Receive of processor `p` that takes these messages ends its round. The pace goes on as after this
+    /// Receive. Asks for a processor of the World, for a pace of as many processors, and for ids of messages that wait
+    /// for `p`.
+    pub fn take(&mut self, world: &World, p: u64, ids: &[u64]) -> bool
+        requires processor { IsProc world.now.trace.config p }
+        requires peers { length self.old.peers ≡ world.now.trace.config.n }
+        requires waiting { All (λ s. Contains (buffer world.now.trace.steps p) s) ids.now }
+        ensures ends { result ≡ ends_taking world.now.trace.config world.now.trace.steps p ids.now self.old }
+        ensures pace { self.new ≡ after_receive result (passed world.now.trace.steps p + 1) (heard_ids world.now.trace.steps p ids.now self.old) }
+        ensures peers { length self.new.peers ≡ length self.old.peers }
+    {
+        self.hear_ids(world, p, ids);
+        let round = world.round(p);
+        let ends = self.is_over(world.trace().config(), world.node(p), round, p);
+        self.receive(ends, round);
+        ends
+    }
+
     /// Whether processor `p` has nothing to do until a message comes: it has nothing to send, nothing waits for it, and
     /// its round isn't over. Asks for a processor of the World, and for a pace of as many processors.
     pub fn is_idle(&self, world: &World, p: u64) -> bool
@@ -114,6 +133,17 @@ impl Pace {
         ensures peers { length self.new.peers ≡ length self.old.peers }
     {
         hear_waiting(&mut self.peers, world, p);
+    }
+
+    /// Hears these messages, which wait for processor `p`.
+    fn hear_ids(&mut self, world: &World, p: u64, ids: &[u64])
+        requires processor { IsProc world.now.trace.config p }
+        requires peers { length self.old.peers ≡ world.now.trace.config.n }
+        requires waiting { All (λ s. Contains (buffer world.now.trace.steps p) s) ids.now }
+        ensures heard { self.new ≡ heard_ids world.now.trace.steps p ids.now self.old }
+        ensures peers { length self.new.peers ≡ length self.old.peers }
+    {
+        hear_all(&mut self.peers, world, p, ids);
     }
 
     /// Whether a Receive ends the round, once what it takes was heard.
@@ -177,6 +207,19 @@ fn hear_waiting(peers: &mut [Peer], world: &World, p: u64)
     ensures { peers.new ≡ fold (heard_message world.now.trace.steps p) peers.old (buffer world.now.trace.steps p) }
 {
     for id in world.waiting(p) {
+        let (from, round) = world.origin(p, *id);
+        hear(peers, from, round);
+    }
+}
+
+/// Hears these messages, which wait for processor `p`.
+fn hear_all(peers: &mut [Peer], world: &World, p: u64, ids: &[u64])
+    requires processor { IsProc world.now.trace.config p }
+    requires peers { length peers.old ≡ world.now.trace.config.n }
+    requires waiting { All (λ s. Contains (buffer world.now.trace.steps p) s) ids.now }
+    ensures { peers.new ≡ fold (heard_message world.now.trace.steps p) peers.old ids.now }
+{
+    for id in ids {
         let (from, round) = world.origin(p, *id);
         hear(peers, from, round);
     }
