@@ -1,3 +1,2 @@
 pub mod Paces
-
 pub mod Simulations

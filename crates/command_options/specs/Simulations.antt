@@ -3,9 +3,13 @@ use Rattle.std.specs.Prelude.{ℕ, ◌≡◌, ◌≤◌, List, Bool, All, not, �
 use Rattle.std.specs.List.{list_any, range_with_len}
 use Rattle.command_options.specs.declared.simulations.Crash.{Crash}
 
+-- whether a crash is one of p
+abbrev pub is_crash_of : ℕ → Crash → Bool
+is_crash_of p crash = crash.proc == p
+
 -- whether p never crashes
 abbrev pub is_live : List Crash → ℕ → Bool
-is_live crashes p = not (list_any (λ crash. crash.proc == p) crashes)
+is_live crashes p = not (list_any (is_crash_of p) crashes)
 
 -- the live ones of n processors
 abbrev pub live : ℕ → List Crash → List ℕ

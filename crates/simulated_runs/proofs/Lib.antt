@@ -1,0 +1,10 @@
+mod PassedTurns
+mod Processors
+mod Filters
+mod DueMessages
+mod UnderWay
+mod LastTicks
+mod KeptDeadlines
+mod KeptBounds
+mod Openings
+mod StepsMade

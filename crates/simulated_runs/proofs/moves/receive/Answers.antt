@@ -1,0 +1,30 @@
+use Rattle.std.proofs.Common.{ℕ, ◌≤◌, ◌++◌, ◌∷◌, [], List, All, Contains, length, sym, ap, subst, ◌∙◌, arith}
+use Rattle.std.proofs.lemmas.List.Elements.{All-contains_itself}
+use Rattle.step_trace.specs.declared.steps.Step.{Step}
+use Rattle.step_buffers.specs.Buffers.{buffer}
+use Rattle.step_buffers.specs.NextSteps.{receiving}
+use Rattle.simulated_runs.specs.Trays.{due_ids}
+use Rattle.simulated_runs.specs.Posts.{tray_of}
+use Rattle.simulated_runs.specs.UnderWay.{AreUnderWay}
+use Rattle.simulated_runs.proofs.UnderWay.{AreUnderWay-received, due-waits}
+use Rattle.simulated_runs.proofs.moves.receive.Goals as goal
+
+pub take-ends-requires-clause-waiting : goal.take-ends-requires-clause-waiting
+take-ends-requires-clause-waiting c =
+    let t = c.args.world.now.trace in
+    let tray = tray_of c.args.post.now.trays.items c.args.p in
+    let high : c.args.p ≤ length c.args.post.now.trays.items = let a = c.requires.processor.1 in let b = c.requires.trays in omega arith in
+    let own = c.requires.under_way c.args.p c.requires.processor.0 high in
+    subst (λ (ids : List ℕ). All (λ s. Contains (buffer t.steps c.args.p) s) ids) (sym (c.deref.ensures.value ∙ c.in-Ok.ensures.due))
+    (λ k d l. due-waits t.steps c.args.p c.args.tick tray own _ (All-contains_itself (due_ids c.args.tick tray) k d l))
+
+pub returns-clause-under_way : goal.returns-clause-under_way
+returns-clause-under_way c =
+    let t = c.args.world.now.trace in
+    let old = c.args.post.now.trays.items in
+    let new = c.take_due.new.self.trays.items in
+    let high : c.args.p ≤ length old = let a = c.requires.processor.1 in let b = c.requires.trays in omega arith in
+    subst (λ (steps : List Step). AreUnderWay steps new)
+    (sym (c.in_ok-make_receive.ensures.made ∙ ap (λ (ids : List ℕ). t.steps ++ receiving c.args.p c.take-ends.result ids ∷ []) (c.deref-2.ensures.value ∙ c.in-Ok.ensures.due)))
+    (AreUnderWay-received t.config t.steps c.args.p c.args.tick c.take-ends.result old new c.requires.well_formed c.requires.processor.0 high
+    c.in-Ok.ensures.count c.in-Ok.ensures.left c.requires.under_way)

@@ -1,0 +1,9 @@
+use Rattle.std.proofs.Common.{ℕ, ◌≡◌, ◌≢◌, ◌+◌, ◌<◌, Some, slice_get}
+use Rattle.simulated_runs.specs.declared.turns.Turn.{Turn}
+use Rattle.simulated_runs.proofs.turns.may_step.Given as goal
+
+abbrev pub invariant-loop-place : goal.invariant-loop-place
+invariant-loop-place l = record {
+  others : (k : ℕ) (t : Turn) → k < l.place → slice_get l.queue k ≡ Some t → t.proc ≢ l.p;
+  time : (k : ℕ) (t : Turn) → k < l.place → slice_get l.queue k ≡ Some t → l.tick + k < t.deadline;
+}

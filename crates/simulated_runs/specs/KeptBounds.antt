@@ -1,0 +1,38 @@
+-- What a schedule keeps: each live processor steps by its deadline, which is its last step, or the stabilization time,
+-- and the processor bound later.
+use Rattle.std.specs.Prelude.{ℕ, ◌≡◌, ◌+◌, ◌<◌, ◌≤◌, ◌⊎◌, List, IsTrue, true, length}
+use Rattle.step_trace.specs.declared.steps.Step.{Step}
+use Rattle.step_trace.specs.Configurations.{Setup, IsProc}
+use Rattle.step_trace.specs.Processors.{has_proc}
+use Rattle.step_trace.specs.Traces.{IsStepOf}
+use Rattle.command_options.specs.declared.simulations.Crash.{Crash}
+use Rattle.command_options.specs.Simulations.{is_live}
+use Rattle.simulated_runs.specs.declared.turns.Turn.{Turn}
+use Rattle.simulated_runs.specs.Turns.{AreInTime, HasTurn, IsTurnIn}
+
+-- p is a processor that never crashes
+abbrev pub IsLive : Setup → List Crash → ℕ → Type 0
+IsLive c crashes p = IsProc c p × (is_live crashes p ≡ true)
+
+-- all members of the set are
+abbrev pub AreLive : ℕ → Setup → List Crash → Type 0
+AreLive set c crashes = (p : ℕ) → IsTrue (has_proc set p) → IsLive c crashes p
+
+-- p makes one of the f steps from number x on
+pub record StepsFrom (steps : List Step) (p x f : ℕ) : Type 0 where
+  pub place : ℕ
+  pub from : x ≤ place
+  pub until : place < x + f
+  pub step : IsStepOf steps place p
+
+-- the turn is due by its processor's last step, or by the stabilization time
+abbrev pub IsSinceStep : ℕ → ℕ → List Step → Turn → Type 0
+IsSinceStep gst phi steps t = (t.deadline ≤ gst + phi) ⊎ ((last : ℕ) × (t.deadline ≡ last + phi) × IsStepOf steps last t.proc)
+
+-- The turns keep the bound for the live processors, and the steps so far kept it from a number on.
+pub record KeepsPhi (c : Setup) (crashes : List Crash) (gst phi : ℕ) (queue : List Turn) (steps : List Step) : Type 0 where
+  pub few : length queue ≤ phi
+  pub in_time : AreInTime queue (length steps)
+  pub since : (t : Turn) → IsTurnIn queue t → IsSinceStep gst phi steps t
+  pub each : (p : ℕ) → IsLive c crashes p → HasTurn queue p
+  pub kept : (x : ℕ) → gst + 1 ≤ x → x + phi ≤ length steps + 1 → (p : ℕ) → IsLive c crashes p → StepsFrom steps p x phi

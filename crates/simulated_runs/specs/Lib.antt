@@ -1,0 +1,10 @@
+pub mod Generators
+pub mod Turns
+pub mod Crashes
+pub mod Trays
+pub mod Nominations
+pub mod Posts
+pub mod UnderWay
+pub mod Moves
+pub mod KeptBounds
+pub mod Simulations

@@ -1,0 +1,20 @@
+//! Simulated runs of Algorithm 1 (section 3 of Dwork, Lynch and Stockmeyer, "Consensus in the Presence of Partial
+//! Synchrony", 1988): one step in each tick, by a schedule that is drawn from a seed, which keeps stated bounds from a
+//! tick on. `specs/` has the definitions that the contracts cite.
+#![tactic(auto)]
+
+mod crashes;
+mod decisions;
+mod generators;
+mod moves;
+mod nominations;
+mod post;
+mod runs;
+mod simulations;
+mod trays;
+mod turns;
+
+pub use command_options::{Crash, Schedule, SimulationOptions, StatedBounds};
+pub use decisions::Decision;
+pub use generators::Generator;
+pub use runs::{Simulated, simulate};
