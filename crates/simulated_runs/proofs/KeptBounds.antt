@@ -1,14 +1,15 @@
 -- A bound that the numbers of steps keep is kept by their ticks.
-use Rattle.std.proofs.Common.{ℕ, ◌+◌, List, Option, Some, None, IfSome, arith}
-use Rattle.step_trace.specs.Bounds.{PhiHolds, StepsWithin}
+use Rattle.std.proofs.Common.{ℕ, ◌+◌, ◌≤◌, List, Option, Some, None, IfSome, length, arith}
+use Rattle.step_trace.specs.Bounds.{DeltaHolds, IsDelivered, PhiHolds, StepsWithin}
 use Rattle.step_trace.specs.Configurations.{Setup}
-use Rattle.step_trace.specs.Ticks.{IsOnePerTick}
+use Rattle.step_trace.specs.Ticks.{IsOnePerTick, tick_of}
 use Rattle.step_trace.specs.Traces.{Recorded}
 use Rattle.step_trace.proofs.StepPositions.{step_at_within}
 use Rattle.command_options.specs.declared.simulations.Crash.{Crash}
 use Rattle.command_options.specs.declared.simulations.StatedBounds.{StatedBounds}
+use Rattle.simulated_runs.specs.declared.trays.Posted.{Posted}
 use Rattle.simulated_runs.specs.declared.turns.Turn.{Turn}
-use Rattle.simulated_runs.specs.KeptBounds.{AreLive, KeepsPhi, StepsFrom}
+use Rattle.simulated_runs.specs.KeptBounds.{AreLive, IsTakenBy, KeepsDelta, KeepsPhi, StepsFrom}
 
 within-ticks : (trace : Recorded) (p x f : ℕ) → IsOnePerTick trace → StepsFrom trace.steps p x f → StepsWithin trace p x f
 within-ticks trace p x f one w = record {
@@ -24,4 +25,28 @@ pub PhiHolds-kept : (c : Setup) (crashes : List Crash) (bounds : Option StatedBo
 PhiHolds-kept c crashes None queue trace one w = w
 PhiHolds-kept c crashes (Some b) queue trace one w = λ set live. record {
   each = λ x low high p member. within-ticks trace p x b.phi one (w.kept x low (let e = one.end in omega arith) p (live p member));
+}
+
+delivered : (trace : Recorded) (s r y : ℕ) → IsOnePerTick trace → s ≤ length trace.steps → r ≤ y → IsTakenBy trace.steps s r → IsDelivered trace s y
+delivered trace s r y one early late w =
+    let inside = (step_at_within trace.steps w.place _ w.takes.1).1 in
+    let a = one.each s early in
+    let b = one.each w.place inside in
+    let after = w.after in
+    let until = w.until in
+    record { place = w.place; after = omega arith; until = omega arith; takes = w.takes }
+
+pub DeltaHolds-kept : (bounds : Option StatedBounds) (trays : List (List Posted)) (trace : Recorded) → IsOnePerTick trace
+    → IfSome bounds (λ b. KeepsDelta b.gst b.delta trace.steps trays)
+    → IfSome bounds (λ b. (set : ℕ) → DeltaHolds set trace (b.gst + 1) b.delta)
+DeltaHolds-kept None trays trace one w = w
+DeltaHolds-kept (Some b) trays trace one w = λ set. record {
+  each = λ s late. record {
+    on_time = λ r p message receive by.
+        let early = (step_at_within trace.steps s _ message.sent).1 in
+        let inside = (step_at_within trace.steps r _ receive.step).1 in
+        let x = one.each s early in
+        let y = one.each r inside in
+        delivered trace s r (tick_of trace r) one early (omega arith) (w.kept s p r (omega arith) (message.from, message.sent) receive (omega arith));
+  };
 }

@@ -8,3 +8,4 @@ mod KeptDeadlines
 mod KeptBounds
 mod Openings
 mod StepsMade
+mod KeptDues

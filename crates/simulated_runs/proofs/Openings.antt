@@ -20,11 +20,12 @@ use Rattle.simulated_runs.specs.declared.turns.Turn.{Turn}
 use Rattle.simulated_runs.specs.declared.turns.Turns.{Turns}
 use Rattle.simulated_runs.specs.declared.simulations.Simulation.{Simulation}
 use Rattle.simulated_runs.specs.Crashes.{last_tick, lasts_of}
-use Rattle.simulated_runs.specs.KeptBounds.{IsLive, KeepsPhi}
+use Rattle.simulated_runs.specs.KeptBounds.{IsLive, KeepsDelta, KeepsPhi}
 use Rattle.simulated_runs.specs.Nominations.{IsNominating}
 use Rattle.simulated_runs.specs.Posts.{tray_of}
 use Rattle.simulated_runs.specs.Turns.{IsTurnIn}
 use Rattle.simulated_runs.specs.UnderWay.{AreUnderWay, IsUnderWay}
+use Rattle.simulated_runs.proofs.KeptDues.{KeepsDelta-opening}
 use Rattle.simulated_runs.specs.Simulations.{AreOpeningTurns, HasRun}
 
 -- what was mapped
@@ -145,6 +146,7 @@ HasRun-opening c crashes bounds s patience setup config none decisions paces las
   turns = fit.live_ones;
   crashed = λ k x h. absurd (step-none k x (subst (λ (xs : List Step). step_at xs k ≡ Some x) none h));
   phi = kept bounds fit.phi_kept;
+  delta = on_time bounds;
   gst_is = fit.gst_same;
   phi_is = fit.phi_same;
 }
@@ -154,6 +156,10 @@ HasRun-opening c crashes bounds s patience setup config none decisions paces las
 
     fit : AreFit c crashes bounds s.turns
     fit = AreFit-opening c crashes bounds s.turns few low turns
+
+    on_time : (b : Option StatedBounds) → IfSome b (λ b. KeepsDelta b.gst b.delta s.world.trace.steps s.post.trays.items)
+    on_time None = tt
+    on_time (Some b) = subst (λ (xs : List Step). KeepsDelta b.gst b.delta xs s.post.trays.items) (sym none) (KeepsDelta-opening b.gst b.delta s.post.trays.items)
 
     lasts-long : length (lasts_of c.n crashes) ≡ c.n
     lasts-long = length-map-range_with_len (last_tick crashes) 1 c.n

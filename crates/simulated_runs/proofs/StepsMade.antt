@@ -8,7 +8,7 @@ use Rattle.simulated_runs.specs.declared.turns.Turn.{Turn}
 use Rattle.simulated_runs.specs.declared.simulations.Simulation.{Simulation}
 use Rattle.simulated_runs.specs.Turns.{ArePassed, IsTurnIn}
 use Rattle.simulated_runs.specs.Crashes.{IsSomeUp, IsUpIn, StepBeforeCrashes, lasts_of}
-use Rattle.simulated_runs.specs.KeptBounds.{IsLive, KeepsPhi}
+use Rattle.simulated_runs.specs.KeptBounds.{DeltaGoesOn, IsLive, KeepsDelta, KeepsPhi}
 use Rattle.simulated_runs.specs.Simulations.{HasRun, IsReady, IsStepped}
 use Rattle.simulated_runs.proofs.LastTicks.{IsUpIn-live, StepBeforeCrashes-stepped}
 use Rattle.simulated_runs.proofs.KeptDeadlines.{KeepsPhi-stepped}
@@ -29,8 +29,9 @@ some-up c crashes bounds s ticks r early p =
 
 pub HasRun-stepped : (c : Setup) (crashes : List Crash) (bounds : Option StatedBounds) (old new : Simulation) (ticks : ℕ) → HasRun c crashes bounds old ticks
     → IsStepped old new → IsReady new → new.lasts ≡ old.lasts → new.turns.gst ≡ old.turns.gst → new.turns.phi ≡ old.turns.phi → new.post.bounds ≡ old.post.bounds
+    → DeltaGoesOn old.post.bounds old.world.trace.steps old.post.trays.items new.world.trace.steps new.post.trays.items
     → HasRun c crashes bounds new (ticks + 1)
-HasRun-stepped c crashes bounds old new ticks r stepped ready lasts gst phi same = record {
+HasRun-stepped c crashes bounds old new ticks r stepped ready lasts gst phi same goes_on = record {
   ready = ready;
   config = stepped.made.config ∙ r.config;
   count = ap length stepped.made.steps ∙ length-append old.world.trace.steps (step ∷ []) ∙ ap (λ n. n + 1) r.count;
@@ -40,6 +41,7 @@ HasRun-stepped c crashes bounds old new ticks r stepped ready lasts gst phi same
   crashed = subst (λ (xs : List Step). StepBeforeCrashes crashes xs) (sym stepped.made.steps)
       (StepBeforeCrashes-stepped c.n crashes old.world.trace.steps step up r.crashed);
   phi = kept bounds r.phi r.gst_is r.phi_is;
+  delta = delta_of bounds r.delta (subst (λ (b : Option StatedBounds). DeltaGoesOn b old.world.trace.steps old.post.trays.items new.world.trace.steps new.post.trays.items) r.bounds_are goes_on);
   gst_is = gst_of bounds r.gst_is;
   phi_is = phi_of bounds r.phi_is;
 }
@@ -58,6 +60,12 @@ HasRun-stepped c crashes bounds old new ticks r stepped ready lasts gst phi same
           let own = moved.0 in
           subst (λ (q : ℕ). IsLive c crashes q) (own.2 ∙ sym (ap (λ (z : Turn). z.proc) moved.1)) (r.turns own.0 own.1)
     ]
+
+    delta_of : (b : Option StatedBounds) → IfSome b (λ b. KeepsDelta b.gst b.delta old.world.trace.steps old.post.trays.items)
+        → DeltaGoesOn b old.world.trace.steps old.post.trays.items new.world.trace.steps new.post.trays.items
+        → IfSome b (λ b. KeepsDelta b.gst b.delta new.world.trace.steps new.post.trays.items)
+    delta_of None k f = k
+    delta_of (Some b) k f = f k
 
     gst_of : (b : Option StatedBounds) → IfSome b (λ b. old.turns.gst ≡ b.gst) → IfSome b (λ b. new.turns.gst ≡ b.gst)
     gst_of (Some b) e = gst ∙ e

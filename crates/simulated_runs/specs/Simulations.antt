@@ -10,7 +10,7 @@ use Rattle.simulated_runs.specs.declared.turns.Turns.{Turns}
 use Rattle.simulated_runs.specs.declared.simulations.Simulation.{Simulation}
 use Rattle.simulated_runs.specs.Turns.{ArePassed, IsTurnIn, MayStep}
 use Rattle.simulated_runs.specs.Crashes.{IsUpIn, StepBeforeCrashes, lasts_of}
-use Rattle.simulated_runs.specs.KeptBounds.{IsLive, KeepsPhi}
+use Rattle.simulated_runs.specs.KeptBounds.{IsLive, KeepsDelta, KeepsPhi}
 use Rattle.simulated_runs.specs.Nominations.{IsNominating}
 use Rattle.simulated_runs.specs.UnderWay.{AreUnderWay}
 use Rattle.simulated_runs.specs.Moves.{IsMade}
@@ -52,5 +52,6 @@ pub record HasRun (c : Setup) (crashes : List Crash) (bounds : Option StatedBoun
   pub turns : (t : Turn) → IsTurnIn s.turns.queue.items t → IsLive c crashes t.proc
   pub crashed : StepBeforeCrashes crashes s.world.trace.steps
   pub phi : IfSome bounds (λ b. KeepsPhi c crashes b.gst b.phi s.turns.queue.items s.world.trace.steps)
+  pub delta : IfSome bounds (λ b. KeepsDelta b.gst b.delta s.world.trace.steps s.post.trays.items)
   pub gst_is : IfSome bounds (λ b. s.turns.gst ≡ b.gst)
   pub phi_is : IfSome bounds (λ b. s.turns.phi ≡ b.phi)

@@ -7,6 +7,7 @@ ghost use Rattle.step_trace.specs.declared.traces.TheConstants.{MAX_STEPS};
 ghost use Rattle.step_buffers.specs.Buffers.{buffer};
 ghost use Rattle.step_buffers.specs.Moves.{next_send};
 ghost use Rattle.step_buffers.specs.NextSteps.{receiving, sending};
+ghost use Rattle.simulated_runs.specs.KeptBounds.{DeltaGoesOn};
 ghost use Rattle.simulated_runs.specs.Moves.{IsMade};
 ghost use Rattle.simulated_runs.specs.UnderWay.{AreUnderWay};
 
@@ -36,6 +37,7 @@ pub(crate) fn move_on(
     requires under_way { AreUnderWay world.old.trace.steps post.old.trays.items }
     ensures made { OnOk result (IsMade world.old.trace world.new.trace p) }
     ensures under_way { OnOk result (AreUnderWay world.new.trace.steps post.new.trays.items) }
+    ensures delta { OnOk result (DeltaGoesOn post.old.bounds world.old.trace.steps post.old.trays.items world.new.trace.steps post.new.trays.items) }
     ensures limit { world.new.limit ≡ world.old.limit }
     ensures trays { length post.new.trays.items ≡ length post.old.trays.items }
     ensures bounds { post.new.bounds ≡ post.old.bounds }
@@ -67,6 +69,7 @@ fn send(
     requires under_way { AreUnderWay world.old.trace.steps post.old.trays.items }
     ensures made { OnOk result (IsMade world.old.trace world.new.trace p) }
     ensures under_way { OnOk result (AreUnderWay world.new.trace.steps post.new.trays.items) }
+    ensures delta { OnOk result (DeltaGoesOn post.old.bounds world.old.trace.steps post.old.trays.items world.new.trace.steps post.new.trays.items) }
     ensures limit { world.new.limit ≡ world.old.limit }
     ensures trays { length post.new.trays.items ≡ length post.old.trays.items }
     ensures bounds { post.new.bounds ≡ post.old.bounds }
@@ -88,12 +91,14 @@ fn receive(
     tick: u64,
 ) -> Result<(), StepError>
     requires processor { IsProc world.old.trace.config p }
+    requires next { tick ≡ length world.old.trace.steps + 1 }
     requires trays { length post.old.trays.items ≡ world.old.trace.config.n }
     requires peers { length pace.old.peers ≡ world.old.trace.config.n }
     requires well_formed { IsWellFormed world.old.trace.config world.old.trace.steps }
     requires under_way { AreUnderWay world.old.trace.steps post.old.trays.items }
     ensures made { OnOk result (IsMade world.old.trace world.new.trace p) }
     ensures under_way { OnOk result (AreUnderWay world.new.trace.steps post.new.trays.items) }
+    ensures delta { OnOk result (DeltaGoesOn post.old.bounds world.old.trace.steps post.old.trays.items world.new.trace.steps post.new.trays.items) }
     ensures limit { world.new.limit ≡ world.old.limit }
     ensures trays { length post.new.trays.items ≡ length post.old.trays.items }
     ensures bounds { post.new.bounds ≡ post.old.bounds }

@@ -1,7 +1,7 @@
 //! Simulated runs, from what is asked for to the run.
 
 ghost use Rattle.std.specs.Prelude.{ℕ, ◌≡◌, ◌+◌, ◌≤◌, [], IfOk, IfSome, Some, length, replicate};
-ghost use Rattle.step_trace.specs.Bounds.{PhiHolds};
+ghost use Rattle.step_trace.specs.Bounds.{DeltaHolds, PhiHolds};
 ghost use Rattle.step_trace.specs.Configurations.{IsProc};
 ghost use Rattle.step_buffers.specs.Runs.{IsRun};
 ghost use Rattle.step_trace.specs.Ticks.{IsOnePerTick};
@@ -37,8 +37,8 @@ pub struct Simulated {
 /// The run that is asked for: one step in each tick. All that is drawn follows from the seed, so the same options give
 /// the same run.
 ///
-/// No processor steps after it crashed. Where bounds are stated, the processor bound holds for each set of live
-/// processors from the first tick after the stabilization time on.
+/// No processor steps after it crashed. Where bounds are stated, from the first tick after the stabilization time on the
+/// processor bound holds for each set of live processors, and the communication bound for any set.
 pub fn simulate(alloc: Global, options: SimulationOptions) -> Result<Simulated, StepError>
     ensures config { IfOk result (λ s. s.world.trace.config ≡ options.config) }
     ensures steps { IfOk result (λ s. length s.world.trace.steps ≡ options.steps) }
@@ -46,6 +46,7 @@ pub fn simulate(alloc: Global, options: SimulationOptions) -> Result<Simulated, 
     ensures crashed { IfOk result (λ s. StepBeforeCrashes options.crashes.items s.world.trace.steps) }
     ensures phi { IfOk result (λ s. IfSome options.bounds (λ b. (set : ℕ)
         → AreLive set options.config options.crashes.items → PhiHolds set s.world.trace (b.gst + 1) b.phi)) }
+    ensures delta { IfOk result (λ s. IfSome options.bounds (λ b. (set : ℕ) → DeltaHolds set s.world.trace (b.gst + 1) b.delta)) }
 {
     let steps = options.steps;
     let Ok(mut simulation) = opening(alloc, options) else {

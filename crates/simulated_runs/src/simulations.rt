@@ -8,6 +8,7 @@ ghost use Rattle.command_options.specs.declared.simulations.TheConstants.{MAX_BO
 ghost use Rattle.simulated_runs.specs.declared.turns.Turn.{Turn as LiveTurn};
 ghost use Rattle.simulated_runs.specs.Turns.{IsTurnIn, MayStep};
 ghost use Rattle.simulated_runs.specs.Crashes.{IsSomeUp, IsUpIn};
+ghost use Rattle.simulated_runs.specs.KeptBounds.{DeltaGoesOn};
 ghost use Rattle.simulated_runs.specs.Nominations.{IsNominating};
 ghost use Rattle.simulated_runs.specs.Simulations.{IsReady, IsStepped};
 
@@ -46,6 +47,7 @@ impl Simulation {
         requires turns { (t : LiveTurn) → IsTurnIn self.old.turns.queue.items t → IsUpIn self.old.lasts.items t.proc (length self.old.world.trace.steps + 1) }
         ensures stepped { OnOk result (IsStepped self.old self.new) }
         ensures ready { OnOk result (IsReady self.new) }
+        ensures delta { OnOk result (DeltaGoesOn self.old.post.bounds self.old.world.trace.steps self.old.post.trays.items self.new.world.trace.steps self.new.post.trays.items) }
         ensures lasts { self.new.lasts ≡ self.old.lasts }
         ensures gst { self.new.turns.gst ≡ self.old.turns.gst }
         ensures phi { self.new.turns.phi ≡ self.old.turns.phi }

@@ -4,7 +4,7 @@ use Rattle.step_buffers.specs.Progress.{Progress}
 use Rattle.simulated_runs.specs.Crashes.{StepBeforeCrashes}
 use Rattle.simulated_runs.proofs.LastTicks.{live-some}
 use Rattle.simulated_runs.proofs.StepsMade.{HasRun-stepped, some-up, turns-up}
-use Rattle.simulated_runs.proofs.KeptBounds.{PhiHolds-kept}
+use Rattle.simulated_runs.proofs.KeptBounds.{DeltaHolds-kept, PhiHolds-kept}
 use Rattle.simulated_runs.proofs.runs.simulate.Goals as goal
 
 pub step-requires-clause-some : goal.step-requires-clause-some
@@ -25,7 +25,7 @@ pub loop-preserved : goal.loop-preserved
 loop-preserved c =
     let o = c.args.options in
     let e = c.in_ok-step.ensures in
-    HasRun-stepped o.config o.crashes.items o.bounds c.loop.simulation c.step.new.self c.loop.counter c.loop.invariant e.stepped e.ready e.lasts e.gst e.phi e.bounds
+    HasRun-stepped o.config o.crashes.items o.bounds c.loop.simulation c.step.new.self c.loop.counter c.loop.invariant e.stepped e.ready e.lasts e.gst e.phi e.bounds e.delta
 
 pub returns-clause-crashed : goal.returns-clause-crashed
 returns-clause-crashed c =
@@ -37,3 +37,7 @@ returns-clause-phi c =
     let s = c.loop.simulation in
     PhiHolds-kept o.config o.crashes.items o.bounds s.turns.queue.items c.ended.result.world.trace c.ended.ensures.one_per_tick
     (rw c.ended.ensures.world c.loop.invariant.phi)
+
+pub returns-clause-delta : goal.returns-clause-delta
+returns-clause-delta c =
+    DeltaHolds-kept c.args.options.bounds c.loop.simulation.post.trays.items c.ended.result.world.trace c.ended.ensures.one_per_tick (rw c.ended.ensures.world c.loop.invariant.delta)
