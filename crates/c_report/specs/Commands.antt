@@ -67,6 +67,10 @@ other_file_words = codes "synchrony: the library reads the file - alone"
 abbrev pub run_words : List ℕ
 run_words = codes "synchrony: run starts threads, which the library does not"
 
+-- and of one that would simulate a run
+abbrev pub simulation_words : List ℕ
+simulation_words = codes "synchrony: the library simulates no runs"
+
 -- The command reads the file that is lent; what is printed is right.
 pub record IsPrintedOf (file : List ℕ) (Gives : List ℕ → Type 0) (status : ℕ) (out : List ℕ) : Type 0 where
   pub reads : file ≡ lent
@@ -126,6 +130,7 @@ IsPrintedFor (job.Check j) text second = IsLineOf (string_bytes j.file) (λ verd
 IsPrintedFor (job.Judge j) text second = IsJudgementLineOf (string_bytes j.file) (λ verdict. OfTrace (IsJudgementOn j.judging second verdict) text)
 IsPrintedFor (job.Help help) text second = λ status out. (status ≡ 0) × (out ≡ string_bytes help)
 IsPrintedFor (job.Run j) text second = λ status out. ⊥
+IsPrintedFor (job.Simulate j) text second = λ status out. ⊥
 
 -- why nothing is printed for a job
 abbrev pub IsUnprintedFor : Job → List ℕ → List ℕ → Fault → Type 0
@@ -141,6 +146,7 @@ IsUnprintedFor (job.Check j) text second = IsUnprintedOf (string_bytes j.file) (
 IsUnprintedFor (job.Judge j) text second = IsUnprintedOf (string_bytes j.file) (IsUnanswered (IsUnjudged j.judging second) text)
 IsUnprintedFor (job.Help help) text second = λ w. ⊥
 IsUnprintedFor (job.Run j) text second = IsSaid run_words
+IsUnprintedFor (job.Simulate j) text second = IsSaid simulation_words
 
 -- The lines ask for a job, for which this is printed.
 pub record HasPrinted (lines text second : List ℕ) (status : ℕ) (out : List ℕ) : Type 0 where

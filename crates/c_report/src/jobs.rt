@@ -1,7 +1,7 @@
 //! What is printed for the job of a command line, of the texts that a caller lends.
 
 ghost use Rattle.std.specs.Prelude.{◌≡◌, ◌≢◌, ◌<◌, IfOk, IfErr, OnOk, option_map, codes, string_bytes};
-ghost use Rattle.c_report.specs.Commands.{IsImportFor, IsJudgementLineOf, IsLineOf, IsPrintedFor, IsPrintedOf, IsSaid, IsTraceOfLog, IsUnimportedFor, IsUnprintedFor, IsUnprintedOf, lent, other_file_words, run_words};
+ghost use Rattle.c_report.specs.Commands.{IsImportFor, IsJudgementLineOf, IsLineOf, IsPrintedFor, IsPrintedOf, IsSaid, IsTraceOfLog, IsUnimportedFor, IsUnprintedFor, IsUnprintedOf, lent, other_file_words, run_words, simulation_words};
 ghost use Rattle.c_report.specs.declared.answers.TheConstants.{NO_MEMORY, NO_ROOM};
 ghost use Rattle.text_commands.specs.Answers.{IsAnswerTo, IsUnanswered};
 ghost use Rattle.text_commands.specs.Checks.{IsUnchecked};
@@ -54,6 +54,7 @@ pub(crate) fn printed_for(
         Job::Judge(job) => judge(alloc, &job, text, second),
         Job::Help(help) => Ok(well(help.into_bytes())),
         Job::Run(_) => Err(refused_run(alloc)),
+        Job::Simulate(_) => Err(refused_simulation(alloc)),
     }
 }
 
@@ -161,6 +162,13 @@ fn refused_run(alloc: Global) -> Fault
         alloc,
         "synchrony: run starts threads, which the library does not",
     )
+}
+
+/// The refusal of a simulation, which the library doesn't make.
+fn refused_simulation(alloc: Global) -> Fault
+    ensures { IsSaid simulation_words result }
+{
+    refused(alloc, "synchrony: the library simulates no runs")
 }
 
 /// A refusal in these words.

@@ -1,6 +1,7 @@
 //! The program: reads a trace of Send and Receive steps, and prints the report of its bounds, for the
 //! processors that are named as correct, replays it as a run of the agreement algorithm, upgrades its text, draws
-//! it, checks a report by it, or judges by it when its processors decided; reads a log as such a trace; or makes such a run in threads, and prints its trace.
+//! it, checks a report by it, or judges by it when its processors decided; reads a log as such a trace; or makes such a
+//! run in threads, or simulates one, and prints its trace.
 #![tactic(auto)]
 
 mod inputs;
@@ -13,8 +14,9 @@ use crate::outputs::{Output, stopped};
 use command_faults::{Fault, print, status, tell};
 use command_line::jobs::{CheckJob, DrawJob, ImportJob, JudgeJob, ReportJob};
 use command_line::{Job, read_command, refuse_words};
-use command_options::{RunOptions, Workers};
+use command_options::{RunOptions, SimulationOptions, Workers};
 use node_runs::{follower_for, run_nodes};
+use simulated_texts::run_simulation;
 use std::env;
 use std::process::ExitCode;
 use std::sync::Wait;
@@ -50,6 +52,7 @@ fn run<R: Threads + Wait + Clock + Sync>(rt: &HostRuntime, threads: &R) -> Resul
         Job::Timeouts(job) => answer(rt, job.file, &job.table),
         Job::Replay(job) => answer(rt, job.file, &Replay),
         Job::Run(options) => run_of(rt, threads, options),
+        Job::Simulate(options) => simulation_of(rt, options),
         Job::Upgrade(job) => answer(rt, job.file, &Upgrade),
         Job::Check(job) => check(rt, job),
         Job::Judge(job) => judge(rt, job),
@@ -111,6 +114,19 @@ fn run_of<T: Threads + Wait + Clock + Sync>(
         &mut follower,
         &mut Counting::new(&mut output),
         &mut Counting::new(rt.stderr()),
+    );
+    output.ended(made)
+}
+
+/// Prints the trace of a simulated run, and tells on standard error what was decided.
+fn simulation_of(rt: &HostRuntime, options: SimulationOptions) -> Result<u8, Fault> {
+    let mut output = Output::new(rt.stdout());
+    let mut notes = Counting::new(rt.stderr());
+    let made = run_simulation(
+        rt.alloc(),
+        options,
+        &mut Counting::new(&mut output),
+        &mut notes,
     );
     output.ended(made)
 }

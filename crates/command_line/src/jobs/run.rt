@@ -72,7 +72,7 @@ pub fn command<'a>(alloc: Global) -> Result<Command<'a>, AllocError>
 }
 
 /// A required option `--NAME VALUE`, whose value is a number within these bounds.
-fn number_option<'a>(
+pub(super) fn number_option<'a>(
     alloc: Global,
     name: &'a str,
     value_name: &'a str,
@@ -232,7 +232,7 @@ fn named_end(alloc: Global, pace: Pace, name: &str) -> Result<RunEnd, LineError>
 }
 
 /// The refusal in these words.
-fn refused_in(alloc: Global, words: &str) -> Result<LineError, AllocError>
+pub(super) fn refused_in(alloc: Global, words: &str) -> Result<LineError, AllocError>
     ensures { IfOk result (IsRefusedIn words.now) }
 {
     Ok(LineError::Refused(String::from_str(alloc, words)?))
@@ -254,7 +254,7 @@ fn limited(alloc: Global, n: u64, t: u64, list: &str, steps: u64) -> Result<Conf
 }
 
 /// The configuration of these numbers and of the values that a text lists.
-fn configuration(alloc: Global, n: u64, t: u64, list: &str) -> Result<Config, LineError>
+pub(super) fn configuration(alloc: Global, n: u64, t: u64, list: &str) -> Result<Config, LineError>
     ensures config { IfOk result (IsConfigOf n t list.now) }
     ensures refused { IfErr result (IsConfigFault n t list.now) }
 {

@@ -1,0 +1,66 @@
+//! Crashes, as a command line lists them.
+
+ghost use Rattle.std.specs.Prelude.{◌≡◌, ◌≤◌, length};
+ghost use Rattle.command_options.specs.Simulations.{is_crash_of, is_live, live};
+ghost use Rattle.std.specs.List.{list_any};
+
+use command_options::Crash;
+use std::alloc::{AllocError, Global};
+use step_trace::{Config, read_number};
+
+/// The crashes that a text lists: P@TICK, two numbers as traces write them, with one comma between each two. None where
+/// the text is anything else.
+pub fn read_crashes(alloc: Global, text: &str) -> Result<Option<Vec<Crash>>, AllocError> {
+    let mut crashes = Vec::new(alloc);
+    for piece in text.split(',') {
+        let Some(crash) = read_crash(piece) else {
+            return Ok(None);
+        };
+        crashes.push(crash)?;
+    }
+    Ok(Some(crashes))
+}
+
+/// The crash that a text names.
+fn read_crash(text: &str) -> Option<Crash> {
+    let (proc, tick) = text.split_once('@')?;
+    Some(Crash {
+        proc: read_number(proc.as_bytes())?,
+        tick: read_number(tick.as_bytes())?,
+    })
+}
+
+/// How many of the processors never crash.
+pub fn live_count(config: &Config, crashes: &[Crash]) -> u64
+    ensures count { result ≡ length (live config.now.n crashes.now) }
+    ensures most { result ≤ config.now.n }
+{
+    let mut count = 0;
+    for i in 0..config.n() {
+        if is_live(crashes, i + 1) {
+            count += 1;
+        }
+    }
+    count
+}
+
+/// Whether processor `p` never crashes.
+fn is_live(crashes: &[Crash], p: u64) -> bool
+    ensures { result ≡ is_live crashes.now p }
+{
+    !has_crash(crashes, p)
+}
+
+/// Whether one of these is a crash of processor `p`.
+fn has_crash(crashes: &[Crash], p: u64) -> bool
+    ensures { result ≡ list_any (is_crash_of p) crashes.now }
+{
+    crashes.iter().any(|crash| is_crash_of(crash, p))
+}
+
+/// Whether a crash is one of processor `p`.
+fn is_crash_of(crash: &Crash, p: u64) -> bool
+    ensures { result ≡ is_crash_of p crash.now }
+{
+    crash.proc == p
+}
