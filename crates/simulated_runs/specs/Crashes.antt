@@ -27,7 +27,3 @@ lasts_of n crashes = map (last_tick crashes) (range_with_len 1 n)
 -- no processor steps after it crashed
 abbrev pub StepBeforeCrashes : List Crash → List Step → Type 0
 StepBeforeCrashes crashes steps = (k : ℕ) (step : Step) → step_at steps k ≡ Some step → IsUp crashes step.proc k
-
--- the table is of these crashes: who may step by it hasn't crashed
-abbrev pub AreLasts : List Crash → List ℕ → Type 0
-AreLasts crashes lasts = (p x : ℕ) → IsUpIn lasts p x → IsUp crashes p x

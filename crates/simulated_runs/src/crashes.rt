@@ -3,7 +3,7 @@
 ghost use Rattle.std.specs.Prelude.{ℕ, ◌≡◌, ◌+◌, ◌-◌, ◌<◌, ◌≤◌, ◌^◌, All, IfOk, IfSome, IfNone, length, map, slice_index, filter};
 ghost use Rattle.std.specs.List.{list_any};
 ghost use Rattle.command_options.specs.Simulations.{is_crash_of, is_live, live};
-ghost use Rattle.simulated_runs.specs.Crashes.{AreLasts, IsSomeUp, IsUpIn, last_tick, lasts_of};
+ghost use Rattle.simulated_runs.specs.Crashes.{IsSomeUp, IsUpIn, last_tick, lasts_of};
 
 use command_options::Crash;
 use std::alloc::{AllocError, Global};
