@@ -249,14 +249,9 @@ def simulated(words):
     lines = [f"dls-trace,1,{o.nodes},{o.faults}", "init," + ",".join(str(v) for v in o.values)]
     lines += [run.step(x) for x in range(1, o.steps + 1)]
     lines.append(f"end,{o.steps}")
-    told = []
-    for p in range(1, o.nodes + 1):
-        if p in run.decided:
-            value, tick = run.decided[p]
-            told.append(f"synchrony: processor {p} decided {value} in tick {tick}")
-        else:
-            told.append(f"synchrony: processor {p} decided nothing")
-    return "".join(line + "\n" for line in lines), "".join(line + "\n" for line in told)
+    told = [f"{p} decided {value} in tick {tick}" for p, (value, tick) in sorted(run.decided.items(), key=lambda it: it[1][1])]
+    line = "; ".join([f"synchrony: {len(told)} of {o.nodes} processors decided", *told])
+    return "".join(line + "\n" for line in lines), line + "\n"
 
 
 if __name__ == "__main__":

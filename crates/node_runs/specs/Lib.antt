@@ -3,3 +3,4 @@ pub mod StandingLines
 pub mod Followers
 pub mod Runs
 pub mod DecisionLines
+pub mod Simulations

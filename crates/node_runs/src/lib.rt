@@ -1,11 +1,12 @@
-//! Runs of the agreement algorithm on threads: a thread for each processor, the trace of what they did together, and the
-//! lines that tell meanwhile how such a run stands. `specs/` has the definitions that the contracts cite.
+//! Runs of the agreement algorithm: on threads, one for each processor, with the lines that tell meanwhile how such a run
+//! stands; and simulated ones. Of both: the trace of what was done, and the line that tells who decided. `specs/` has the definitions that the contracts cite.
 #![tactic(auto)]
 
 mod decision_lines;
 mod followers;
 mod paces;
 mod runs;
+mod simulations;
 mod standing_lines;
 mod standings;
 
@@ -13,5 +14,6 @@ pub use command_options::{Pace, RunEnd};
 pub use decision_lines::decisions_text;
 pub use followers::{Follower, follower_for};
 pub use runs::run_nodes;
+pub use simulations::run_simulation;
 pub use standing_lines::{tell_standing, tell_stop};
 pub use standings::{LeastBounds, RECENT_TICKS, Standing, standing_of};

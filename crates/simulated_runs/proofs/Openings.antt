@@ -121,14 +121,13 @@ AreFit-opening c crashes (Some b) s few low w = record {
 }
 
 pub HasRun-opening : (c : Setup) (crashes : List Crash) (bounds : Option StatedBounds) (s : Simulation) (patience : ℕ) → IsSetup c → s.world.trace.config ≡ c → s.world.trace.steps ≡ []
-    → length s.decisions.items ≡ c.n → s.paces.items ≡ replicate c.n (opening_pace c patience) → s.lasts.items ≡ lasts_of c.n crashes → s.post.trays.items ≡ replicate c.n []
+    → s.paces.items ≡ replicate c.n (opening_pace c patience) → s.lasts.items ≡ lasts_of c.n crashes → s.post.trays.items ≡ replicate c.n []
     → s.post.bounds ≡ bounds → IsNominating 0 s.nominator → AreOpeningTurns c.n crashes bounds s.turns
     → IfSome bounds (λ b. length (live c.n crashes) ≤ b.phi) → IfSome bounds (λ b. (b.gst ≤ MAX_BOUND) × (b.phi ≤ MAX_BOUND))
     → HasRun c crashes bounds s 0
-HasRun-opening c crashes bounds s patience setup config none decisions paces lasts trays stated nominating turns few low = record {
+HasRun-opening c crashes bounds s patience setup config none paces lasts trays stated nominating turns few low = record {
   ready = record {
     setup = subst (λ (d : Setup). IsSetup d) (sym config) setup;
-    decisions = decisions ∙ sym size;
     paces = ap length paces ∙ length-replicate c.n (opening_pace c patience) ∙ sym size;
     peers = subst (λ (xs : List Paced). All (λ pace. length pace.peers ≡ s.world.trace.config.n) xs) (sym paces)
         (λ k d l. ap (λ (x : Paced). length x.peers) (get_or-replicate c.n k (opening_pace c patience) d (let e = length-replicate c.n (opening_pace c patience) in omega arith)) ∙ length-replicate c.n _ ∙ sym size);

@@ -18,7 +18,6 @@ use Rattle.simulated_runs.specs.Moves.{IsMade}
 -- What is kept of a run: of each processor its pace and until when it may step; whose turn it is; and what is under way.
 pub record IsReady (s : Simulation) : Type 0 where
   pub setup : IsSetup s.world.trace.config
-  pub decisions : length s.decisions.items ≡ s.world.trace.config.n
   pub paces : length s.paces.items ≡ s.world.trace.config.n
   pub peers : All (λ pace. length pace.peers ≡ s.world.trace.config.n) s.paces.items
   pub lasts : length s.lasts.items ≡ s.world.trace.config.n

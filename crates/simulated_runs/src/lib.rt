@@ -4,7 +4,6 @@
 #![tactic(auto)]
 
 mod crashes;
-mod decisions;
 mod generators;
 mod moves;
 mod nominations;
@@ -15,6 +14,5 @@ mod trays;
 mod turns;
 
 pub use command_options::{Crash, Schedule, SimulationOptions, StatedBounds};
-pub use decisions::Decision;
 pub use generators::Generator;
-pub use runs::{Simulated, simulate};
+pub use runs::simulate;

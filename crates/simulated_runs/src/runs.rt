@@ -13,7 +13,6 @@ ghost use Rattle.simulated_runs.specs.KeptBounds.{AreLive};
 ghost use Rattle.simulated_runs.specs.Simulations.{AreOpeningTurns, HasRun};
 
 use crate::crashes::{last_ticks, live};
-use crate::decisions::Decision;
 use crate::generators::Generator;
 use crate::nominations::Nominator;
 use crate::post::Post;
@@ -25,28 +24,19 @@ use std::alloc::{AllocError, Global};
 use step_buffers::{StepError, World};
 use step_trace::Config;
 
-/// A simulated run.
-#[derive(Debug, Drop)]
-pub struct Simulated {
-    /// The World that was moved; its trace is the run.
-    pub world: World,
-    /// For each processor what it decided and when, if it did.
-    pub decisions: Vec<Option<Decision>>,
-}
-
-/// The run that is asked for: one step in each tick. All that is drawn follows from the seed, so the same options give
-/// the same run.
+/// A World that made the run that is asked for: one step in each tick. All that is drawn follows from the seed, so the
+/// same options give the same run.
 ///
 /// No processor steps after it crashed. Where bounds are stated, from the first tick after the stabilization time on the
 /// processor bound holds for each set of live processors, and the communication bound for any set.
-pub fn simulate(alloc: Global, options: SimulationOptions) -> Result<Simulated, StepError>
-    ensures config { IfOk result (λ s. s.world.trace.config ≡ options.config) }
-    ensures steps { IfOk result (λ s. length s.world.trace.steps ≡ options.steps) }
-    ensures run { IfOk result (λ s. IsRun s.world.trace.config s.world.trace.steps) }
-    ensures crashed { IfOk result (λ s. StepBeforeCrashes options.crashes.items s.world.trace.steps) }
-    ensures phi { IfOk result (λ s. IfSome options.bounds (λ b. (set : ℕ)
-        → AreLive set options.config options.crashes.items → PhiHolds set s.world.trace (b.gst + 1) b.phi)) }
-    ensures delta { IfOk result (λ s. IfSome options.bounds (λ b. (set : ℕ) → DeltaHolds set s.world.trace (b.gst + 1) b.delta)) }
+pub fn simulate(alloc: Global, options: SimulationOptions) -> Result<World, StepError>
+    ensures config { IfOk result (λ world. world.trace.config ≡ options.config) }
+    ensures steps { IfOk result (λ world. length world.trace.steps ≡ options.steps) }
+    ensures run { IfOk result (λ world. IsRun world.trace.config world.trace.steps) }
+    ensures crashed { IfOk result (λ world. StepBeforeCrashes options.crashes.items world.trace.steps) }
+    ensures phi { IfOk result (λ world. IfSome options.bounds (λ b. (set : ℕ)
+        → AreLive set options.config options.crashes.items → PhiHolds set world.trace (b.gst + 1) b.phi)) }
+    ensures delta { IfOk result (λ world. IfSome options.bounds (λ b. (set : ℕ) → DeltaHolds set world.trace (b.gst + 1) b.delta)) }
 {
     let steps = options.steps;
     let Ok(mut simulation) = opening(alloc, options) else {
@@ -58,19 +48,15 @@ pub fn simulate(alloc: Global, options: SimulationOptions) -> Result<Simulated, 
     Ok(ended(simulation))
 }
 
-/// The run that was made.
-fn ended(simulation: Simulation) -> Simulated
-    ensures world { result.world ≡ simulation.world }
-    ensures run { IsRun result.world.trace.config result.world.trace.steps }
-    ensures one_per_tick { IsOnePerTick result.world.trace }
+/// The World of a run that was made.
+fn ended(simulation: Simulation) -> World
+    ensures world { result ≡ simulation.world }
+    ensures run { IsRun result.trace.config result.trace.steps }
+    ensures one_per_tick { IsOnePerTick result.trace }
 {
-    let Simulation {
-        world,
-        decisions,
-        ..
-    } = simulation;
+    let Simulation { world, .. } = simulation;
     let _run = world.trace();
-    Simulated { world, decisions }
+    world
 }
 
 /// Before the first step.
@@ -93,10 +79,8 @@ fn opening(alloc: Global, options: SimulationOptions) -> Result<Simulation, Allo
     let turns = opening_turns(alloc, n, &crashes, bounds)?;
     let lasts = last_ticks(alloc, n, &crashes)?;
     let post = Post::new(alloc, n, bounds, loss)?;
-    let decisions = no_decisions(alloc, n)?;
     Ok(Simulation {
         world: World::new(alloc, config, steps)?,
-        decisions,
         paces,
         lasts,
         nominator: Nominator::new(schedule),
@@ -115,13 +99,6 @@ fn opening_paces(alloc: Global, config: &Config, patience: u64) -> Result<Vec<Pa
         paces.push(Pace::new(alloc, config, patience)?)?;
     }
     Ok(paces)
-}
-
-/// No processor of `n` has decided.
-fn no_decisions(alloc: Global, n: u64) -> Result<Vec<Option<Decision>>, AllocError>
-    ensures { IfOk result (λ decisions. length decisions.items ≡ n) }
-{
-    vec![in alloc; None; n as usize]
 }
 
 /// The turns of the live ones of `n` processors before the first step, where bounds are stated.

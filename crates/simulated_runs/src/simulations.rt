@@ -12,7 +12,6 @@ ghost use Rattle.simulated_runs.specs.KeptBounds.{DeltaGoesOn};
 ghost use Rattle.simulated_runs.specs.Nominations.{IsNominating};
 ghost use Rattle.simulated_runs.specs.Simulations.{IsReady, IsStepped};
 
-use crate::decisions::Decision;
 use crate::generators::Generator;
 use crate::moves::move_on;
 use crate::nominations::Nominator;
@@ -26,8 +25,6 @@ use step_buffers::{StepError, World};
 #[derive(Debug, Drop)]
 pub(crate) struct Simulation {
     pub(crate) world: World,
-    /// For each processor what it decided and when, if it did.
-    pub(crate) decisions: Vec<Option<Decision>>,
     pub(crate) paces: Vec<Pace>,
     /// For each processor the last tick in which it may step.
     pub(crate) lasts: Vec<u64>,
@@ -73,9 +70,7 @@ impl Simulation {
             &mut self.generator,
             p,
             tick,
-        )?;
-        note_decision(&mut self.decisions, &self.world, p, tick);
-        Ok(())
+        )
     }
 }
 
@@ -104,20 +99,5 @@ fn chosen(
     match turns.first() {
         Some(first) => first,
         None => p,
-    }
-}
-
-/// Notes what processor `p` has decided, if it wasn't noted.
-fn note_decision(decisions: &mut [Option<Decision>], world: &World, p: u64, tick: u64)
-    requires processor { IsProc world.now.trace.config p }
-    requires count { length decisions.old ≡ world.now.trace.config.n }
-    ensures count { length decisions.new ≡ length decisions.old }
-{
-    let place = (p - 1) as usize;
-    if decisions[place].is_some() {
-        return;
-    }
-    if let Some(value) = world.decision(p) {
-        decisions[place] = Some(Decision { value, tick });
     }
 }

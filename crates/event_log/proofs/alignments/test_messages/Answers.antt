@@ -1,7 +1,4 @@
-use Rattle.std.proofs.Common.{subst, sym}
-use Rattle.timed_events.specs.Checks.{AreOfProcessors, first_fault, IsEventRefusal}
-use Rattle.event_log.specs.Imports.{IsErrorUnlessMemory}
-use Rattle.event_log.proofs.AlignedLogs.{few-events, some-events, of-processors, fault-place, fault-cycle, fault-refused}
+use Rattle.event_log.proofs.AlignedLogs.{few-events, some-events, of-processors, fault-place, fault-cycle}
 use Rattle.event_log.proofs.alignments.test_messages.Goals as goal
 
 pub check_messages-requires : goal.check_messages-requires

@@ -1,6 +1,3 @@
-use Rattle.std.proofs.Common.{◌≡◌, ◌∙◌, subst, sym, arith, length}
-use Rattle.std.proofs.lemmas.List.{length-map}
-use Rattle.event_log.specs.Events.{seen}
 use Rattle.event_log.proofs.AlignedLogs.{cycle-inside, few-events}
 use Rattle.event_log.proofs.alignments.told_cycle.Goals as goal
 

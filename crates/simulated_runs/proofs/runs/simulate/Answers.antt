@@ -35,9 +35,9 @@ pub returns-clause-phi : goal.returns-clause-phi
 returns-clause-phi c =
     let o = c.args.options in
     let s = c.loop.simulation in
-    PhiHolds-kept o.config o.crashes.items o.bounds s.turns.queue.items c.ended.result.world.trace c.ended.ensures.one_per_tick
+    PhiHolds-kept o.config o.crashes.items o.bounds s.turns.queue.items c.ended.result.trace c.ended.ensures.one_per_tick
     (rw c.ended.ensures.world c.loop.invariant.phi)
 
 pub returns-clause-delta : goal.returns-clause-delta
 returns-clause-delta c =
-    DeltaHolds-kept c.args.options.bounds c.loop.simulation.post.trays.items c.ended.result.world.trace c.ended.ensures.one_per_tick (rw c.ended.ensures.world c.loop.invariant.delta)
+    DeltaHolds-kept c.args.options.bounds c.loop.simulation.post.trays.items c.ended.result.trace c.ended.ensures.one_per_tick (rw c.ended.ensures.world c.loop.invariant.delta)

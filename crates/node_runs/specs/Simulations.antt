@@ -1,0 +1,28 @@
+-- Simulated runs: what is printed of one.
+use Rattle.std.specs.Prelude.{ℕ, ◌≡◌, ◌+◌, List, Option, IfSome, length}
+use Rattle.step_trace.specs.Bounds.{DeltaHolds, PhiHolds}
+use Rattle.step_trace.specs.Traces.{Recorded}
+use Rattle.trace_text.specs.TraceTexts.{trace_text}
+use Rattle.step_buffers.specs.Runs.{IsRun}
+use Rattle.command_options.specs.declared.simulations.SimulationOptions.{SimulationOptions}
+use Rattle.simulated_runs.specs.Crashes.{StepBeforeCrashes}
+use Rattle.simulated_runs.specs.KeptBounds.{AreLive}
+use Rattle.node_runs.specs.DecisionLines.{told_decisions}
+
+-- A run of the configuration with so many steps, in which no processor steps after it crashed. Where bounds are stated,
+-- from the tick after the stabilization time on the processor bound holds for each set of live processors, and the
+-- communication bound for each set.
+pub record IsSimulated (o : SimulationOptions) (trace : Recorded) : Type 0 where
+  pub config : trace.config ≡ o.config
+  pub run : IsRun trace.config trace.steps
+  pub count : length trace.steps ≡ o.steps
+  pub crashed : StepBeforeCrashes o.crashes.items trace.steps
+  pub phi : IfSome o.bounds (λ b. (set : ℕ) → AreLive set o.config o.crashes.items → PhiHolds set trace (b.gst + 1) b.phi)
+  pub delta : IfSome o.bounds (λ b. (set : ℕ) → DeltaHolds set trace (b.gst + 1) b.delta)
+
+-- The text is that of such a run, and the notes say who decided in it.
+pub record IsSimulationText (o : SimulationOptions) (Noted : List ℕ → Type 0) (text : List ℕ) : Type 0 where
+  pub trace : Recorded
+  pub simulated : IsSimulated o trace
+  pub written : text ≡ trace_text trace
+  pub noted : Noted (told_decisions trace.config trace.steps)
