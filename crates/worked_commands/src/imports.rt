@@ -25,6 +25,7 @@ fn refuses(
         width: Width::Units(1),
         until: None,
         spread: true,
+        align: false,
     };
     let bytes = LOG.as_bytes();
     let first = bytes.get(..cut.count).unwrap_or(bytes);
