@@ -46,6 +46,7 @@ fn run_three<R: Threads + Wait + Clock + Sync>(
     config: &Config,
     follow: Option<Correct>,
     errors: &mut Vec<u8>,
+    notes: &mut Vec<u8>,
     output: &mut Vec<u8>,
 ) -> Result<(), Fault>
     requires { config.now.n ≡ 3 }
@@ -62,7 +63,7 @@ fn run_three<R: Threads + Wait + Clock + Sync>(
         &OpenGate,
         &mut follower,
         &mut output,
-        &mut Counting::new(&mut Vec::new(alloc)),
+        &mut Counting::new(notes),
     )
 }
 
@@ -72,13 +73,14 @@ fn run<R: Threads + Wait + Clock + Sync>(
     alloc: Global,
     is_followed: bool,
     errors: &mut Vec<u8>,
+    notes: &mut Vec<u8>,
     output: &mut Vec<u8>,
 ) -> Ending {
     let Some(config) = three_nodes(alloc) else {
         return Ending::Wanting;
     };
     let follow = is_followed.then_some(Correct::These(ProcSet::empty().with(1).with(2)));
-    match run_three(rt, alloc, &config, follow, errors, output) {
+    match run_three(rt, alloc, &config, follow, errors, notes, output) {
         Ok(()) => Ending::Made,
         Err(Fault::Memory | Fault::Threads) => Ending::Wanting,
         Err(_) => Ending::Faulty,
@@ -103,7 +105,15 @@ fn has_told(errors: &[u8], was_refused: bool) -> bool {
 /// Whether a run is right where memory is ample.
 fn is_right<R: Threads + Wait + Clock + Sync>(rt: &R, alloc: Global, is_followed: bool) -> bool {
     let mut output = Vec::new(alloc);
-    let ending = run(rt, alloc, is_followed, &mut Vec::new(alloc), &mut output);
+    let mut notes = Vec::new(alloc);
+    let ending = run(
+        rt,
+        alloc,
+        is_followed,
+        &mut Vec::new(alloc),
+        &mut notes,
+        &mut output,
+    );
     ending == Ending::Made && is_whole(alloc, &output)
 }
 
@@ -119,8 +129,12 @@ fn attempt<R: Threads + Wait + Clock + Sync>(
     let Ok(mut output) = Vec::with_capacity(alloc, ROOM) else {
         return Outcome::Wrong;
     };
+    // (what can't be noted stops no run, so the notes have their room before)
+    let Ok(mut notes) = Vec::with_capacity(alloc, ROOM) else {
+        return Outcome::Wrong;
+    };
     refusal.begin(alloc);
-    let ending = run(rt, alloc, is_followed, &mut errors, &mut output);
+    let ending = run(rt, alloc, is_followed, &mut errors, &mut notes, &mut output);
     let was_refused = refusal.end(alloc);
     if ending == Ending::Wanting {
         let again = output.is_empty() && is_right(rt, alloc, is_followed);
