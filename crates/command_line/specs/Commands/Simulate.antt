@@ -1,8 +1,11 @@
 -- The command `simulate`: what it takes, and the job that its words give.
-use Rattle.std.specs.Prelude.{ℕ, ◌≡◌, ◌-◌, ◌^◌, if◌then◌else◌, [], ◌∷◌, List, Option, Some, None, codes, unwrap_or, ⊤}
+use Rattle.std.specs.Prelude.{ℕ, ◌≡◌, ◌+◌, ◌-◌, ◌^◌, ◌≤◌, ◌⊎◌, ◌++◌, if◌then◌else◌, [], ◌∷◌, All, List, Option, Some, None, codes, length, nat_lt, string_bytes, unwrap_or, ⊤}
 use Rattle.std.specs.Str.{bytes_eq}
 use Rattle.clap.specs.Words.{App, Row, Text, first_of}
 use Rattle.step_trace.specs.declared.traces.TheConstants.{MAX_STEPS}
+use Rattle.step_trace.specs.Configurations.{IsProc, Setup}
+use Rattle.command_options.specs.Simulations.{live}
+use Rattle.command_options.specs.declared.simulations.Crash.{Crash}
 use Rattle.command_options.specs.declared.simulations.Schedule.{Schedule}
 use Rattle.command_options.specs.declared.simulations.Schedule.TheVariants as schedule
 use Rattle.command_options.specs.declared.simulations.StatedBounds.{StatedBounds}
@@ -12,9 +15,11 @@ use Rattle.command_line.specs.declared.jobs.Job.{Job}
 use Rattle.command_line.specs.declared.jobs.Job.TheVariants as job
 use Rattle.command_line.specs.declared.jobs.simulate.TheConstants.{MAX_PATIENCE}
 use Rattle.command_line.specs.declared.line_errors.LineError.{LineError}
+use Rattle.command_line.specs.declared.line_errors.LineError.TheVariants as unread
 use Rattle.command_line.specs.Answers.{Given, ◌>>=◌, answers}
 use Rattle.command_line.specs.Arguments.{command_app, number_in, number_rule, option_rule, optional_number_in, optional_number_rule, optional_rule}
-use Rattle.command_line.specs.RunJobs.{IsConfigOf}
+use Rattle.command_line.specs.CrashLists.{IsCrashList}
+use Rattle.command_line.specs.RunJobs.{IsConfigFault, IsConfigOf}
 
 -- simulate --nodes N --faults T --values V1,..,VN --patience P --steps S --seed K --schedule NAME --gst G --delta D --phi F
 -- --crash P@TICK,.. --loss PERCENT
@@ -37,23 +42,113 @@ AreStated (Some gst) (Some delta) (Some phi) (Some b) = (b.gst ≡ gst) × (b.de
 AreStated None None None None = ⊤
 AreStated _ _ _ _ = ⊥
 
--- The job is the simulation of this configuration, with these numbers. (Whom the list of crashes names isn't said.)
-pub record IsSimulationOf (n t : ℕ) (values : List ℕ) (patience steps seed : ℕ) (name : Option (List ℕ)) (gst delta phi loss : Option ℕ) (o : SimulationOptions) : Type 0 where
+-- the words in which a schedule of another name is refused
+abbrev pub bad_schedule_words : List ℕ
+bad_schedule_words = codes "synchrony: bad --schedule" ++ (10 ∷ codes "synchrony: --schedule takes turns, random or bursts")
+
+-- there is no schedule of this name; or there was no memory
+abbrev pub IsScheduleFault : Option Text → LineError → Type 0
+IsScheduleFault name (unread.Refused words) = (schedule_of name ≡ None) × (string_bytes words ≡ bad_schedule_words)
+IsScheduleFault name unread.Memory = ⊤
+
+-- the crashes that are named, if any
+abbrev pub AreNamed : Option Text → List Crash → Type 0
+AreNamed None crashes = crashes ≡ []
+AreNamed (Some text) crashes = IsCrashList text crashes
+
+-- the words in which a list of crashes is refused that is none, or that doesn't fit the processors
+abbrev pub bad_crash_words : List ℕ
+bad_crash_words = codes "synchrony: bad --crash" ++ (10 ∷ codes "synchrony: --crash takes P@TICK with one comma between each two, each P once")
+
+-- the text lists no crashes; or there was no memory
+abbrev pub IsCrashListFault : Option Text → LineError → Type 0
+IsCrashListFault name (unread.Refused words) = ((crashes : List Crash) → ¬ AreNamed name crashes) × (string_bytes words ≡ bad_crash_words)
+IsCrashListFault name unread.Memory = ⊤
+
+-- no more crash than may be faulty
+abbrev pub AreFew : Setup → List Crash → Type 0
+AreFew config crashes = config.n ≤ length (live config.n crashes) + config.t
+
+-- each is a crash of a processor, and there are as many as processors that crash, so no two of one
+abbrev pub AreOfEach : Setup → List Crash → Type 0
+AreOfEach config crashes = All (λ crash. IsProc config crash.proc) crashes × (length crashes + length (live config.n crashes) ≡ config.n)
+
+-- the words in which too many crashes are refused
+abbrev pub too_many_crashes_words : List ℕ
+too_many_crashes_words = codes "synchrony: bad --crash" ++ (10 ∷ codes "synchrony: more processors crash than may be faulty")
+
+-- more crash than may be faulty, or else they aren't one of a processor each; or there was no memory
+abbrev pub IsCrashFault : Setup → List Crash → LineError → Type 0
+IsCrashFault config crashes (unread.Refused words) = (¬ AreFew config crashes × (string_bytes words ≡ too_many_crashes_words))
+    ⊎ (AreFew config crashes × ¬ AreOfEach config crashes × (string_bytes words ≡ bad_crash_words))
+IsCrashFault config crashes unread.Memory = ⊤
+
+-- the words in which bounds are refused of which one lacks, and a processor bound that no schedule keeps
+abbrev pub bad_bounds_words : List ℕ
+bad_bounds_words = codes "synchrony: bad --gst" ++ (10 ∷ codes "synchrony: --gst, --delta and --phi are given together or not at all")
+
+abbrev pub bad_phi_words : List ℕ
+bad_phi_words = codes "synchrony: bad --phi" ++ (10 ∷ codes "synchrony: no schedule keeps it: it is below the number of live processors")
+
+-- the words in which these bounds are refused where so many are live; none where they aren't
+abbrev pub bounds_refusal : ℕ → Option ℕ → Option ℕ → Option ℕ → Option (List ℕ)
+bounds_refusal lives (Some gst) (Some delta) (Some phi) = if nat_lt phi lives then Some bad_phi_words else None
+bounds_refusal lives None None None = None
+bounds_refusal lives _ _ _ = Some bad_bounds_words
+
+-- they are refused in these words; or there was no memory
+abbrev pub IsBoundsFault : ℕ → Option ℕ → Option ℕ → Option ℕ → LineError → Type 0
+IsBoundsFault lives gst delta phi (unread.Refused words) = bounds_refusal lives gst delta phi ≡ Some (string_bytes words)
+IsBoundsFault lives gst delta phi unread.Memory = ⊤
+
+-- The job is the simulation of this configuration, with these numbers, this schedule, these bounds and these crashes.
+pub record IsSimulationOf (n t : ℕ) (values : List ℕ) (patience steps seed : ℕ) (name : Option Text) (gst delta phi : Option ℕ) (crash : Option Text) (loss : Option ℕ) (o : SimulationOptions) : Type 0 where
   pub config : IsConfigOf n t values o.config
   pub patience_is : o.patience ≡ patience
   pub steps_is : o.steps ≡ steps
   pub seed_is : o.seed ≡ seed
   pub schedule_is : schedule_of name ≡ Some o.schedule
   pub bounds_are : AreStated gst delta phi o.bounds
+  pub crashes_are : AreNamed crash o.crashes.items
+  pub one_each : AreOfEach o.config o.crashes.items
   pub loss_is : o.loss ≡ unwrap_or loss 0
 
-abbrev pub IsSimulation : ℕ → ℕ → List ℕ → ℕ → ℕ → ℕ → Option (List ℕ) → Option ℕ → Option ℕ → Option ℕ → Option ℕ → Job → Type 0
-IsSimulation n t values patience steps seed name gst delta phi loss (job.Simulate o) = IsSimulationOf n t values patience steps seed name gst delta phi loss o
-IsSimulation n t values patience steps seed name gst delta phi loss _ = ⊥
+abbrev pub IsSimulation : ℕ → ℕ → List ℕ → ℕ → ℕ → ℕ → Option Text → Option ℕ → Option ℕ → Option ℕ → Option Text → Option ℕ → Job → Type 0
+IsSimulation n t values patience steps seed name gst delta phi crash loss (job.Simulate o) = IsSimulationOf n t values patience steps seed name gst delta phi crash loss o
+IsSimulation n t values patience steps seed name gst delta phi crash loss _ = ⊥
 
--- it is refused, or there was no memory
-abbrev pub IsStopped : LineError → Type 0
-IsStopped why = ⊤
+-- There is such a schedule, but the crashes are no list.
+pub record IsOfNoCrashes (name crash : Option Text) (why : LineError) : Type 0 where
+  pub schedule : Schedule
+  pub scheduled : schedule_of name ≡ Some schedule
+  pub refused : IsCrashListFault crash why
+
+-- Schedule and crashes are what they should be, but there is no such configuration.
+pub record IsOfNoConfig (n t : ℕ) (values : List ℕ) (name crash : Option Text) (why : LineError) : Type 0 where
+  pub schedule : Schedule
+  pub scheduled : schedule_of name ≡ Some schedule
+  pub crashes : List Crash
+  pub named : AreNamed crash crashes
+  pub refused : IsConfigFault n t values why
+
+-- There is such a configuration too, but the bounds are refused for its live processors, or else the crashes are.
+pub record IsUnkept (n t : ℕ) (values : List ℕ) (name : Option Text) (gst delta phi : Option ℕ) (crash : Option Text) (why : LineError) : Type 0 where
+  pub schedule : Schedule
+  pub scheduled : schedule_of name ≡ Some schedule
+  pub crashes : List Crash
+  pub named : AreNamed crash crashes
+  pub config : Setup
+  pub configured : IsConfigOf n t values config
+  pub refused : IsBoundsFault (length (live config.n crashes)) gst delta phi why
+      ⊎ ((bounds_refusal (length (live config.n crashes)) gst delta phi ≡ None) × IsCrashFault config crashes why)
+
+-- the schedule is refused, or else the list of crashes, or else the configuration, or else the bounds, or else who crashes;
+-- or there was no memory
+abbrev pub IsSimulationFault : ℕ → ℕ → List ℕ → Option Text → Option ℕ → Option ℕ → Option ℕ → Option Text → LineError → Type 0
+IsSimulationFault n t values name gst delta phi crash (unread.Refused words) = IsScheduleFault name (unread.Refused words)
+    ⊎ (IsOfNoCrashes name crash (unread.Refused words) ⊎ (IsOfNoConfig n t values name crash (unread.Refused words)
+    ⊎ IsUnkept n t values name gst delta phi crash (unread.Refused words)))
+IsSimulationFault n t values name gst delta phi crash unread.Memory = ⊤
 
 -- what the rows below `simulate` give
 abbrev pub simulate_given : List Row → Given → Type 0
@@ -68,4 +163,5 @@ simulate_given rows = do
   delta ← optional_number_in rows (codes "delta") 1 MAX_BOUND
   phi ← optional_number_in rows (codes "phi") 1 MAX_BOUND
   loss ← optional_number_in rows (codes "loss") 0 100
-  answers (IsSimulation n t values patience steps seed (first_of (codes "schedule") rows) gst delta phi loss) IsStopped
+  answers (IsSimulation n t values patience steps seed (first_of (codes "schedule") rows) gst delta phi (first_of (codes "crash") rows) loss)
+      (IsSimulationFault n t values (first_of (codes "schedule") rows) gst delta phi (first_of (codes "crash") rows))

@@ -1,6 +1,6 @@
 -- The command `timeouts`: what it takes, and the job that its words give.
 use Rattle.std.specs.Prelude.{ℕ, ◌≡◌, List, [], ◌∷◌, Option, Some, None, codes, string_bytes}
-use Rattle.clap.specs.Words.{App, Row, Rule, first_of}
+use Rattle.clap.specs.Words.{App, Row, first_of}
 use Rattle.step_trace.specs.declared.correct_sets.Correct.{Correct}
 use Rattle.step_trace.specs.declared.processors.TheConstants.{MAX_MEMBER}
 use Rattle.step_trace.specs.CorrectSets.{IsCorrectIn}

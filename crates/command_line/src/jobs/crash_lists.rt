@@ -1,16 +1,21 @@
 //! Crashes, as a command line lists them.
 
-ghost use Rattle.std.specs.Prelude.{◌≡◌, ◌≤◌, length};
+ghost use Rattle.std.specs.Prelude.{◌≡◌, ◌≢◌, ◌≤◌, IfNone, IfOk, IfSome, List, length};
 ghost use Rattle.command_options.specs.Simulations.{is_crash_of, is_live, live};
 ghost use Rattle.std.specs.List.{list_any};
+ghost use Rattle.command_options.specs.declared.simulations.Crash.{Crash};
+ghost use Rattle.command_line.specs.CrashLists.{IsCrash64, IsCrashList, crash_text};
 
 use command_options::Crash;
 use std::alloc::{AllocError, Global};
 use step_trace::{Config, read_number};
 
 /// The crashes that a text lists: P@TICK, two numbers as traces write them, with one comma between each two. None where
-/// the text is anything else.
-pub fn read_crashes(alloc: Global, text: &str) -> Result<Option<Vec<Crash>>, AllocError> {
+/// the text is anything else. Memory is the only refusal.
+pub fn read_crashes(alloc: Global, text: &str) -> Result<Option<Vec<Crash>>, AllocError>
+    ensures crashes { IfOk result (λ read. IfSome read (λ crashes. IsCrashList text.now crashes.items)) }
+    ensures refused { IfOk result (λ read. IfNone read ((crashes : List Crash) → ¬ IsCrashList text.now crashes)) }
+{
     let mut crashes = Vec::new(alloc);
     for piece in text.split(',') {
         let Some(crash) = read_crash(piece) else {
@@ -22,7 +27,11 @@ pub fn read_crashes(alloc: Global, text: &str) -> Result<Option<Vec<Crash>>, All
 }
 
 /// The crash that a text names.
-fn read_crash(text: &str) -> Option<Crash> {
+fn read_crash(text: &str) -> Option<Crash>
+    ensures some { IfSome result (λ crash. text.now ≡ crash_text crash) }
+    ensures small { IfSome result IsCrash64 }
+    ensures none { IfNone result ((crash : Crash) → IsCrash64 crash → text.now ≢ crash_text crash) }
+{
     let (proc, tick) = text.split_once('@')?;
     Some(Crash {
         proc: read_number(proc.as_bytes())?,

@@ -1,12 +1,13 @@
 //! The command `simulate`: its words and its help text, and the job that they give.
 
-ghost use Rattle.std.specs.Prelude.{◌≡◌, ◌+◌, ◌≤◌, ◌↔◌, All, Some, IfOk, IfSome, IsTrue, OnOk, option_map};
+ghost use Rattle.std.specs.Prelude.{◌≡◌, ◌≤◌, ◌↔◌, All, None, Some, IfErr, IfOk, IfSome, IsTrue, OnOk, length, option_map};
 ghost use Rattle.clap.specs.Words.{found_of, rows_of};
 ghost use Rattle.step_trace.specs.Configurations.{IsProc};
 ghost use Rattle.step_trace.specs.declared.traces.TheConstants.{MAX_STEPS};
 ghost use Rattle.command_options.specs.declared.simulations.TheConstants.{MAX_BOUND};
 ghost use Rattle.command_line.specs.Arguments.{IsArgument, IsCommand, optional_number_rule};
-ghost use Rattle.command_line.specs.Commands.Simulate.{AreStated, IsSimulation, schedule_of, simulate_app, simulate_given};
+ghost use Rattle.command_options.specs.Simulations.{live};
+ghost use Rattle.command_line.specs.Commands.Simulate.{AreFew, AreNamed, AreOfEach, AreStated, IsBoundsFault, IsCrashFault, IsCrashListFault, IsScheduleFault, IsSimulation, IsSimulationFault, bounds_refusal, schedule_of, simulate_app, simulate_given};
 
 use crate::jobs::Job;
 use crate::jobs::arguments::{
@@ -104,10 +105,10 @@ fn limited_option<'a>(
 
 /// The job that the words after `simulate` ask for; none where one of them lacks.
 ///
-/// Refuses a schedule that isn't one, and crashes that aren't; a number of processors outside its limits; too many that
-/// may be faulty; values that aren't one for each processor; a processor bound below the number of live processors; more
-/// crashes than may be faulty; a crash of no processor, or two of one; and bounds of which one lacks. Memory may come
-/// instead.
+/// Refuses, in this order: a schedule that isn't one; a list of crashes that isn't one; a number of processors outside its
+/// limits; too many that may be faulty; values that aren't one for each processor; one or two of the three bounds; a
+/// processor bound below the number of live processors; more crashes than may be faulty; and a crash of no processor, or
+/// two of one. Memory may come instead.
 pub fn job(alloc: Global, found: &ArgMatches<'_>) -> Option<Result<Job, LineError>>
     ensures { simulate_given (rows_of (found_of found.now)) result }
 {
@@ -149,7 +150,10 @@ fn simulation(
     requires some { IfSome delta (λ d. 1 ≤ d) }
     requires soon { IfSome delta (λ d. d ≤ MAX_BOUND) }
     requires often { IfSome phi (λ f. f ≤ MAX_BOUND) }
-    ensures job { IfOk result (IsSimulation n t values.now patience steps seed (option_map (λ text. text.now) schedule.entry) gst delta phi loss) }
+    ensures job { IfOk result (IsSimulation n t values.now patience steps seed (option_map (λ text. text.now) schedule.entry) gst delta phi
+        (option_map (λ text. text.now) crash.entry) loss) }
+    ensures refused { IfErr result (IsSimulationFault n t values.now (option_map (λ text. text.now) schedule.entry) gst delta phi
+        (option_map (λ text. text.now) crash.entry)) }
 {
     let schedule = scheduled(alloc, schedule)?;
     let crashes = crashed(alloc, crash)?;
@@ -172,6 +176,7 @@ fn simulation(
 /// The schedule of this name; without a name it is random.
 fn scheduled(alloc: Global, name: Option<&str>) -> Result<Schedule, LineError>
     ensures schedule { IfOk result (λ s. schedule_of (option_map (λ text. text.now) name.entry) ≡ Some s) }
+    ensures refused { IfErr result (IsScheduleFault (option_map (λ text. text.now) name.entry)) }
 {
     match name {
         Some(name) => named_schedule(alloc, name),
@@ -182,6 +187,7 @@ fn scheduled(alloc: Global, name: Option<&str>) -> Result<Schedule, LineError>
 /// The schedule of this name.
 fn named_schedule(alloc: Global, name: &str) -> Result<Schedule, LineError>
     ensures schedule { IfOk result (λ s. schedule_of (Some name.now) ≡ Some s) }
+    ensures refused { IfErr result (IsScheduleFault (Some name.now)) }
 {
     match name {
         "turns" => Ok(Schedule::Turns),
@@ -192,7 +198,10 @@ fn named_schedule(alloc: Global, name: &str) -> Result<Schedule, LineError>
 }
 
 /// The crashes that a text lists; none without a text.
-fn crashed(alloc: Global, list: Option<&str>) -> Result<Vec<Crash>, LineError> {
+fn crashed(alloc: Global, list: Option<&str>) -> Result<Vec<Crash>, LineError>
+    ensures crashes { IfOk result (λ crashes. AreNamed (option_map (λ text. text.now) list.entry) crashes.items) }
+    ensures refused { IfErr result (IsCrashListFault (option_map (λ text. text.now) list.entry)) }
+{
     match list {
         Some(list) => match read_crashes(alloc, list)? {
             Some(crashes) => Ok(crashes),
@@ -216,6 +225,8 @@ fn stated(
     requires often { IfSome phi (λ f. f ≤ MAX_BOUND) }
     ensures bounds { IfOk result (AreStated gst delta phi) }
     ensures kept { IfOk result (λ bounds. IfSome bounds (λ b. live ≤ b.phi)) }
+    ensures none_refused { OnOk result (bounds_refusal live gst delta phi ≡ None) }
+    ensures refused { IfErr result (IsBoundsFault live gst delta phi) }
 {
     match (gst, delta, phi) {
         (Some(gst), Some(delta), Some(phi)) => {
@@ -235,16 +246,18 @@ fn are_possible(
     alloc: Global,
     config: &Config,
     crashes: &[Crash],
-    live: u64,
+    lives: u64,
 ) -> Result<(), LineError>
-    requires { live ≤ config.now.n }
-    ensures most { OnOk result (config.now.n ≤ live + config.now.t) }
-    ensures processors { OnOk result (All (λ crash. IsProc config.now crash.proc) crashes.now) }
+    requires counted { lives ≡ length (live config.now.n crashes.now) }
+    requires few { lives ≤ config.now.n }
+    ensures most { OnOk result (AreFew config.now crashes.now) }
+    ensures each { OnOk result (AreOfEach config.now crashes.now) }
+    ensures refused { IfErr result (IsCrashFault config.now crashes.now) }
 {
-    if live < config.n() - config.t() {
+    if lives < config.n() - config.t() {
         return Err(refused_in(alloc, TOO_MANY_CRASHES)?);
     }
-    if !are_processors(config, crashes) || crashes.len() as u64 != config.n() - live {
+    if !are_processors(config, crashes) || crashes.len() as u64 != config.n() - lives {
         return Err(refused_in(alloc, BAD_CRASH)?);
     }
     Ok(())
