@@ -96,6 +96,38 @@ def test_bounds_that_are_not_kept_are_seen():
     assert "delta 5 of 2" in str(worse.check())
 
 
+def test_a_claim_about_a_run():
+    def node(me, n, value):
+        yield from broadcast(n, value)
+        heard = []
+        while len(heard) < n:
+            heard += [body for _, body in (yield Receive())]
+        yield Decide(min(heard))
+        while True:
+            yield Receive()
+
+    run = simulate(node, [5, 7, 7], Schedule(delta=3, phi=4, seed=1), ticks=300)
+    last = max(it.tick for it in run.decisions)
+    assert run.judge("100") and str(run.judge("100")).startswith("yes ") and run.judge("100", valid=True, due=1)
+    assert not run.judge("1") and str(run.judge("1")).startswith("no deadline 1 ")
+    # (in tick 1 + L - 1 all have decided, and a tick before not all)
+    assert run.judge(f"{last - 1}", start=1) and not run.judge(f"{last - 2}", start=1)
+    # what was decided is told as numbers
+    assert str(run.judge("100", valid=True, value=lambda it: it + 1)).startswith("no validity ")
+    split = sy.Run(run.trace, run.decisions + [sy.Decision(1, last, 7)], run.correct, run.schedule, run.ticks, run.steps)
+    assert str(split.judge("100")).startswith("no agreement ")
+
+
+def test_a_decision_before_the_first_step():
+    def node(me, n, value):
+        yield Decide(4)
+        while True:
+            yield Receive()
+
+    run = simulate(node, [1, 2], ticks=20)
+    assert {it.tick for it in run.decisions} == {0} and run.judge("0", due=1)
+
+
 def test_a_run_that_ends_before_gst():
     run = simulate(ring, [1, 2], Schedule(gst=100), ticks=20)
     assert run.check() and run.check().delta is None and str(run.check()) == "the run ends before tick 100"

@@ -88,6 +88,18 @@ def test_the_rows_are_the_same_whoever_works():
         assert sy.survey(iter(traces), (p for p in (1, 2)), at=5, executor=pool, batch=9).rows == wanted
 
 
+def test_the_tick_of_a_name():
+    names = ["gst=1", "runs/gst=3/a.trace", "b-gst=2.trace", "lowgst=2", "gst=0", "gst=4", "gst=", "none"]
+    table = sy.survey([(it, ONE_MISS) for it in names], at="gst=N", executor=ThreadPoolExecutor(1))
+    assert table.header() == ["name", "group", "steps", "ticks", "delta", "phi", "error"]
+    no = (None, None, (), "no gst=N in its name")
+    assert [it[2:] for it in table.rows] == [(3, 3, ((2, 3),), None), (3, 3, ((1, 2),), None), (3, 3, ((1, 3),), None), no, no, (3, 3, (None,), None), no, no]
+    assert table.rows[2].bounds == sy.survey([ONE_MISS], at=2, executor=ThreadPoolExecutor(1)).rows[0].bounds
+    for wrong in ("gst=", "N", ""):
+        with raises(ValueError, "ends in N"):
+            sy.survey([ONE_MISS], at=wrong, executor=ThreadPoolExecutor(1))
+
+
 def test_paths_and_texts_and_names():
     with tempfile.TemporaryDirectory() as folder:
         (Path(folder) / "fast").mkdir()

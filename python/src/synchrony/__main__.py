@@ -25,7 +25,7 @@ def _parser() -> argparse.ArgumentParser:
     )
     it.add_argument("traces", nargs="+", metavar="TRACE", help="the file of a trace; - reads names of files from standard input, one a line")
     it.add_argument("--correct", default="all", metavar="LIST", help="the correct processors, as 1,2,5, or all (usual)")
-    it.add_argument("--at", default="1", metavar="TICKS", help="the ticks from which the bounds are to hold, as 500 or 1,500 (usual: 1)")
+    it.add_argument("--at", default="1", metavar="TICKS", help="the ticks from which the bounds are to hold, as 500 or 1,500, or the one that each name has, as gst=N (usual: 1)")
     it.add_argument("--group-by", choices=["parent"], help="the group of a trace is the folder that it is in")
     it.add_argument("--groups", action="store_true", help="prints how the bounds are spread in each group, in place of the traces")
     it.add_argument("--workers", type=_whole, metavar="W", help="how many processes work on it (usual: one for each processor)")
@@ -62,7 +62,7 @@ def _paths(words: List[str]) -> Iterator[Path]:
 
 def _surveyed(words: argparse.Namespace, parser: argparse.ArgumentParser) -> Table:
     correct: Any = "all" if words.correct == "all" else _numbers(words.correct, "--correct", parser)
-    given = {"at": _numbers(words.at, "--at", parser), "group": words.group_by, "workers": words.workers, "batch": words.batch, "progress": words.progress}
+    given = {"at": words.at if words.at.endswith("N") else _numbers(words.at, "--at", parser), "group": words.group_by, "workers": words.workers, "batch": words.batch, "progress": words.progress}
     if words.dask is None:
         return survey(_paths(words.traces), correct, **given)
     try:
@@ -84,7 +84,7 @@ def main(words: Optional[List[str]] = None) -> int:
             from synchrony.plots import plot_survey
 
             plot_survey(table).savefig(read.plot)
-    except (ImportError, SynchronyError, OSError) as why:
+    except (ImportError, ValueError, OSError) as why:
         print(f"synchrony: {why}", file=sys.stderr)
         return 2
     sys.stdout.write(table.groups_csv() if read.groups else table.csv())

@@ -146,6 +146,23 @@ class Run:
         row = [it for it in self.report() if it.gst <= asked[0]][-1]
         return Kept(asked[0], row.delta, row.phi, *asked[1:])
 
+    def judge(
+        self,
+        within: str,
+        start: Optional[int] = None,
+        valid: bool = False,
+        whole: bool = False,
+        due: Optional[int] = None,
+        value: Callable[[Any], int] = int,
+    ) -> library.Judgement:
+        """Whether the correct processors decided within a formula of the bounds, and agreed.
+
+        `within` and the options are those of `library.judge`. What was decided is told to it as numbers: `value` makes one
+        of each decision. One that was made before a step counts as made in tick 1.
+        """
+        rows = "".join(f"{it.proc},{max(1, it.tick)},{value(it.value)}\n" for it in self.decisions)
+        return library.judge(self.trace, f"proc,tick,value\n{rows}", self.correct, within, start=start, valid=valid, whole=whole, due=due)
+
     def decided(self) -> Dict[int, Any]:
         """The first decision of each processor that has one."""
         first: Dict[int, Any] = {}

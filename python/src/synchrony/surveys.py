@@ -16,6 +16,7 @@ import io
 import math
 import multiprocessing
 import os
+import re
 import statistics
 import sys
 from collections import deque
@@ -36,6 +37,8 @@ BATCH_BYTES = 4 << 20
 # A trace to survey: a path, or its text, which may have a name before it.
 Source = Union[library.Text, Tuple[str, library.Text]]
 Group = Union[None, str, Callable[[str], str]]
+# From which ticks on bounds are asked for: one, several, tick 1, or the number that a trace's name has at the N.
+At = Union[int, Iterable[int], str, None]
 # A trace before it is sent: its place in the input, its name, and its text or a path.
 Piece = Tuple[int, str, Union[bytes, str]]
 
@@ -77,7 +80,7 @@ class Spread(NamedTuple):
 class Table:
     """A row for each trace, in the order in which the traces were given."""
 
-    ticks: Tuple[int, ...]
+    ticks: Tuple[Union[int, str], ...]
     rows: List[Surveyed] = field(default_factory=list)
 
     def columns(self) -> List[str]:
@@ -128,7 +131,7 @@ class Table:
 def survey(
     traces: Iterable[Source],
     correct: library.Correct = "all",
-    at: Union[int, Iterable[int], None] = None,
+    at: At = None,
     group: Group = None,
     executor: Optional[Executor] = None,
     send_paths: Optional[bool] = None,
@@ -137,7 +140,8 @@ def survey(
     progress: bool = False,
 ) -> Table:
     """One row for each trace, in their order: its bounds from each tick of `at` on, which is one tick, several, or left out
-    for tick 1.
+    for tick 1. With "gst=N", or any other text that ends in N, it is the number that a trace's name has there: 500 of
+    "runs/gst=500/7.trace".
 
     `traces` are paths, texts, or pairs of a name and a text; a str is a text. They are read lazily: no more of them are
     held than the workers have before them. `group` names the group of a trace: None for one group, "parent" for the folder
@@ -148,15 +152,13 @@ def survey(
     script needs its `if __name__ == "__main__":`.) To them paths are sent, and to any other executor bytes; `send_paths` says otherwise,
     for workers that share a file system.
 
-    A trace that is refused or can't be read has a row with its error. Where a worker dies, each trace of its batch is tried
+    A trace that is refused or can't be read, or whose name has no such number, has a row with its error. Where a worker dies, each trace of its batch is tried
     once more, alone; a trace whose worker dies again has an error. If a given executor doesn't work any more, all that it
     hasn't answered has an error.
     """
-    ticks = (1,) if at is None else (at,) if isinstance(at, int) else tuple(at)
-    if not all(it >= 1 for it in ticks):
-        raise ValueError("a tick is at least 1")
+    ticks = _ticks_of(at)
     _, listed = library._set_of(correct)
-    job = _Job("all" if listed == "all" else [int(it) for it in listed.split(",") if it != "none"], ticks)
+    job = _Job("all" if listed == "all" else [int(it) for it in listed.split(",") if it != "none"], ticks, at if isinstance(at, str) else None)
     work = _Work(job, executor, _processors() if workers is None else workers)
     with_paths = executor is None if send_paths is None else send_paths
     rows: List[Optional[Surveyed]] = []
@@ -175,7 +177,19 @@ def survey(
     found_rows = [it for it in rows if it is not None]
     if len(found_rows) != len(rows):
         raise AssertionError("a trace has no answer")
-    return Table(ticks, found_rows)
+    return Table((at,) if isinstance(at, str) else ticks, found_rows)
+
+
+def _ticks_of(at: At) -> Tuple[int, ...]:
+    """The ticks that are the same for all traces."""
+    if isinstance(at, str):
+        if not at.endswith("N") or at == "N":
+            raise ValueError(f'a tick of a name is asked for by a text that ends in N, as "gst=N", not {at!r}')
+        return ()
+    ticks = (1,) if at is None else (at,) if isinstance(at, int) else tuple(at)
+    if not all(it >= 1 for it in ticks):
+        raise ValueError("a tick is at least 1")
+    return ticks
 
 
 # What a worker answers of a trace: the last four fields of a row.
@@ -187,15 +201,25 @@ class _Job(NamedTuple):
 
     correct: Union[str, List[int]]
     ticks: Tuple[int, ...]
+    named: Optional[str]
+
+    def ticks_in(self, name: str) -> Tuple[int, ...]:
+        """The ticks for a trace of this name; none where it should have one and has not."""
+        if self.named is None:
+            return self.ticks
+        found = re.search(rf"(?<![0-9A-Za-z]){re.escape(self.named[:-1])}([0-9]+)", name)
+        return (int(found[1]),) if found and int(found[1]) >= 1 else ()
 
 
-def _answers(job: _Job, texts: Sequence[Union[bytes, str]]) -> List[Answer]:
+def _answers(job: _Job, texts: Sequence[Tuple[Union[bytes, str], Tuple[int, ...]]]) -> List[Answer]:
     """What a worker does with a batch."""
-    return [_answer(job, it) for it in texts]
+    return [_answer(job, *it) for it in texts]
 
 
-def _answer(job: _Job, text: Union[bytes, str]) -> Answer:
-    """The answer for a text, or for the file of a path."""
+def _answer(job: _Job, text: Union[bytes, str], ticks: Tuple[int, ...]) -> Answer:
+    """The answer for a text, or for the file of a path, from these ticks on."""
+    if job.named is not None and not ticks:
+        return _refused(f"no {job.named} in its name")
     try:
         if isinstance(text, str):
             with open(text, "rb", buffering=0) as file:
@@ -208,7 +232,7 @@ def _answer(job: _Job, text: Union[bytes, str]) -> Answer:
     except OSError as why:
         return None, None, (), f"cannot read: {why.strerror or why}"
     steps, last = _length(text)
-    return steps, last, tuple(_bounds_at(report, it) if it <= last else None for it in job.ticks), None
+    return steps, last, tuple(_bounds_at(report, it) if it <= last else None for it in ticks), None
 
 
 def _length(trace: bytes) -> Tuple[int, int]:
@@ -336,7 +360,7 @@ class _Work:
     def submit(self, pieces: List[Piece]) -> Optional[Future[List[Answer]]]:
         """The batch before the executor, or None where that takes nothing any more."""
         try:
-            return self.executor().submit(_answers, self.job, [text for _, _, text in pieces])
+            return self.executor().submit(_answers, self.job, [(text, self.job.ticks_in(name)) for _, name, text in pieces])
         except (BrokenExecutor, RuntimeError):
             return None
 
