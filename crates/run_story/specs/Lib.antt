@@ -1,0 +1,9 @@
+pub mod CalmRows
+pub mod Stretches
+pub mod Stalls
+pub mod Messages
+pub mod Delays
+pub mod Evidence
+pub mod Named
+pub mod Headlines
+pub mod MessageCounts
