@@ -71,7 +71,7 @@ causes. This prints the header and those rows alone that name other evidence
 than the row before: another message or another Receive that missed it, or the
 silence of another processor or up to another tick. The first row is among them.
 
-What is printed is no certificate: `check` refuses it where rows are left out.
+What is printed is no certificate: `check` refuses it if rows are left out.
 `report` prints all rows, and its --help explains them.
 
 Example, at the top of the repository:
@@ -91,5 +91,5 @@ Exit status:
   3  the trace is refused
   5  out of memory
   6  FILE can't be opened or read, or the output can't be written
-A fault is told on standard error. Nothing is printed before it stands whole."
+Faults go to standard error. Output begins once all of it is known."
 }

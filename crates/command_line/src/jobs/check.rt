@@ -123,5 +123,5 @@ Exit status:
   4  CERT is refused, which is no text of rows
   5  out of memory
   6  a file can't be opened or read, or the output can't be written
-A fault is told on standard error. Nothing is printed before the verdict stands."
+Faults go to standard error. Output begins once the verdict is known."
 }

@@ -18,13 +18,13 @@ use std::alloc::{AllocError, Global};
 const ABOUT: &str =
     "Draws a trace and the bounds of its report as SVG, for a set of correct processors";
 
-const FROM_HELP: &str = "The first tick to draw; 1 where it is left out";
+const FROM_HELP: &str = "The first tick to draw; 1 if it is left out";
 
 const TO_HELP: &str =
-    "The last tick to draw, at most 999 after the first; 99 after it where it is left out";
+    "The last tick to draw, at most 999 after the first; 99 after it if it is left out";
 
 const NAMES_HELP: &str =
-    "The names of all processors, in their order; their numbers where it is left out";
+    "The names of all processors, in their order; their numbers if it is left out";
 
 /// The picture of the trace in a file, as SVG.
 #[derive(Debug, Drop)]
@@ -101,12 +101,12 @@ the ticks:
   an empty square  a Receive of nothing
   a bar beside it  the Receive ends a round
   a line           a message, from its Send to the Receive that takes it; a short
-                   dashed end where nobody takes it
+                   dashed end if nobody takes it
   marked           the misses and the silences that the report names as evidence,
-                   where they touch these ticks
+                   if they touch these ticks
 
 The lanes of the processors in LIST are in ink, the others pale. Each step and
-each witness tells what it is where the pointer rests on it.
+each witness shows what it is when the pointer is on it.
 
 Example, at the top of the repository:
   ./synchrony draw examples/decides-seven.trace --correct 1,2,3 >run.svg
@@ -121,5 +121,5 @@ Exit status:
   3  the trace is refused
   5  out of memory
   6  FILE can't be opened or read, or the output can't be written
-A fault is told on standard error. Nothing is printed before it stands whole."
+Faults go to standard error. Output begins once all of it is known."
 }

@@ -18,7 +18,7 @@ const ABOUT: &str = "Prints the bounds of each processor and of each link: who i
 
 const UNTIL_HELP: &str = "Takes the trace as if it had ended at this tick";
 
-const AT_HELP: &str = "Prints what holds from this tick on; from tick 1 where it is left out";
+const AT_HELP: &str = "Prints what holds from this tick on; from tick 1 if it is left out";
 
 /// The bounds of each processor and of each link of the trace in a file.
 #[derive(Debug, Drop)]
@@ -117,5 +117,5 @@ Exit status:
   3  the trace is refused
   5  out of memory
   6  FILE can't be opened or read, or the output can't be written
-A fault is told on standard error. Nothing is printed before it stands whole."
+Faults go to standard error. Output begins once all of it is known."
 }

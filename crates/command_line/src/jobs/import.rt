@@ -18,11 +18,11 @@ const ABOUT: &str = "Makes a trace of a log with time stamps";
 
 const LOG_HELP: &str = "The log; - is standard input";
 
-const NODES_HELP: &str = "The nodes in their order; LOG's where it is left out";
+const NODES_HELP: &str = "The nodes in their order; LOG's if it is left out";
 
-const TICK_HELP: &str = "The length of a tick; 1 where it is left out";
+const TICK_HELP: &str = "The length of a tick; 1 if it is left out";
 
-const UNTIL_HELP: &str = "When LOG ends; at its last event where it is left out";
+const UNTIL_HELP: &str = "When LOG ends; at its last event if it is left out";
 
 /// The trace that a log stands for, as a text of version 2.
 #[derive(Debug, Drop)]
@@ -137,7 +137,7 @@ trace in version 2, whose tick 1 begins at the least time.
   --align        the clocks of nodes are moved forward, each by the least that
                  lets every message be received later than it was sent, by one
                  unit of the times at least; standard error tells by how much.
-                 X is then by the moved clocks. It is refused where clocks drift
+                 X is then by the moved clocks. It is refused if clocks drift
                  or step
 
 --align puts the fastest message of a way at one unit, so delays that way look
@@ -166,11 +166,11 @@ tells on standard error
 Exit status:
   0  the trace is printed, or this text
   2  the command line is refused; --nodes isn't 2 to 64 different names; --tick
-     is neither a number nor a duration above 0, or is a duration where the
+     is neither a number nor a duration above 0, or is a duration if the
      times are numbers; --until is neither a number nor a time stamp, isn't of
      the kind of the times, or is before an event
   3  the log is refused; the fault names the record, and the header is record 1
   5  out of memory
   6  LOG can't be opened or read, or the output can't be written
-A fault is told on standard error. Nothing is printed before it stands whole."
+Faults go to standard error. Output begins once all of it is known."
 }

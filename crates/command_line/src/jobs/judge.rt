@@ -24,13 +24,13 @@ const DECISIONS_HELP: &str = "Who decided what, and when; - is standard input";
 
 const WITHIN_HELP: &str = "How many ticks they have, such as 3*phi*n + delta";
 
-const START_HELP: &str = "The tick in which the instance started; 1 where it is left out";
+const START_HELP: &str = "The tick in which the instance started; 1 if it is left out";
 
 const VALID_HELP: &str = "Asks that each decision is an initial value, too";
 
 const WHOLE_HELP: &str = "Judges by the bounds of the whole run alone, not in time";
 
-const DUE_HELP: &str = "Asks that so many rows are due; 0 where it is left out";
+const DUE_HELP: &str = "Asks that so many rows are due; 0 if it is left out";
 
 /// The judgement of decisions by a trace. One of the two files at most is standard input.
 #[derive(Debug, Drop)]
@@ -131,12 +131,12 @@ decision in any order: which processor decided, in which tick of the trace, and
 what. The processors of LIST have to agree, and each of them has to decide
 within FORMULA ticks from a stabilization time on, by the bounds delta and phi
 that hold from there. So each row of the report sets a deadline, gst + FORMULA;
-with --start TICK it counts from TICK on where that is later than gst.
+with --start TICK it counts from TICK on if that is later than gst.
 
 FORMULA is a sum of products of numbers and the words delta, phi, n (how many
 processors there are) and t (how many may be faulty), such as 3*phi*n + delta.
 
-What comes after a deadline doesn't count: where bounds hold up to the deadline
+What comes after a deadline doesn't count: if bounds hold up to the deadline
 that they set, all have to decide by then, though the bounds may break down
 later. --whole judges by the bounds of the whole run alone, which can hide a
 processor that was late.
@@ -175,5 +175,5 @@ Exit status:
      of the trace, or more than 1,000,000 of them
   5  out of memory
   6  a file can't be opened or read, or the output can't be written
-A fault is told on standard error. Nothing is printed before the verdict stands."
+Faults go to standard error. Output begins once the verdict is known."
 }

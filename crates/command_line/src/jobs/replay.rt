@@ -55,7 +55,7 @@ processor, for the end of the trace.
 
   proc      the processor
   round     its round: one more than the number of rounds that it has ended
-  decision  the value that it decided; empty where it has decided none
+  decision  the value that it decided; empty if it has decided none
 
 Example, at the top of the repository:
   ./synchrony replay examples/decides-seven.trace
@@ -73,5 +73,5 @@ Exit status:
   5  out of memory
   6  FILE can't be opened or read, or the output can't be written
   7  the trace is no run; the fault names the first step that can't be one's
-A fault is told on standard error. Nothing is printed before it stands whole."
+Faults go to standard error. Output begins once all of it is known."
 }

@@ -23,7 +23,7 @@ const WORKERS_HELP: &str = "How many workers read and analyse it, from 1 to 64";
 
 const UNTIL_HELP: &str = "Reports the trace as if it had ended at this tick";
 
-const AT_HELP: &str = "Prints only the row that serves this tick";
+const AT_HELP: &str = "Prints only the row that applies to this tick";
 
 /// The report of the trace in a file, or a part of it.
 #[derive(Debug, Drop)]
@@ -103,9 +103,9 @@ fn help() -> &'static str {
     "\
 The report has a header and a row for each triple (gst, delta, phi) of the
 front: no other triple that holds is as small in all three. gst rises from row
-to row, and a row serves up to the tick before the next row's gst, the last one
-to the end of the trace. Ticks are real-time steps; where each holds one step,
-as in version 1 of the trace text, they are the numbers of the steps.
+to row. A row applies up to the tick before the next row's gst, the last one to
+the end of the trace. Ticks are real-time steps; if each holds one step, as in
+version 1 of the trace text, they are the numbers of the steps.
 
   gst           the stabilization time: what the row says holds from tick gst
                 to the end of the trace
@@ -116,9 +116,9 @@ as in version 1 of the trace text, they are the numbers of the steps.
                 correct processor takes a step
   sent,missed   why no smaller delta holds: the numbers of a Send, and of a
                 Receive of its receiver by which it was not yet delivered;
-                empty where delta is 1
+                empty if delta is 1
   proc,from,to  why no smaller phi holds: processor proc takes no step from
-                tick from to tick to; empty where phi is 1
+                tick from to tick to; empty if phi is 1
 
 Example, at the top of the repository:
   ./synchrony report examples/one-miss.trace --correct 1,2
@@ -138,9 +138,9 @@ and the summaries are joined. The report is the same for each W, byte for byte.
 --until TICK reports the trace as if it had ended at that tick, without the steps
 after it. A run that stops is silent from then on, so the last ticks of a trace
 show a phi that nobody should rely on. --at TICK prints the header and the one
-row that serves that tick, which begins at it or before. With both, it is a row
-of the report up to the first tick. Then one thread reads the trace and analyses
-it, whatever W is.
+row that applies to that tick, which begins at it or before. With both, it is a
+row of the report up to the first tick. Then one thread reads the trace and
+analyses it, whatever W is.
   ./synchrony report examples/one-miss.trace --correct 1,2 --at 2
 prints the header and the row 2,1,3,,,1,2,3.
 
@@ -153,5 +153,5 @@ Exit status:
   5  out of memory
   6  FILE can't be opened or read, or the output can't be written
   8  a thread wasn't started or was held back
-A fault is told on standard error. No report is begun before it stands whole."
+Faults go to standard error. Output begins once all of it is known."
 }

@@ -318,12 +318,12 @@ values are numbers of 64 bits. Then standard error has a line that says who
 decided, as
   synchrony: 2 of 3 processors decided; 3 decided 7 in tick 31; 1 decided 7 in tick 36
 
-With --follow LIST, standard error tells meanwhile how synchronous the threads
-are so far, where the processors of LIST count as correct: in a line when at
+With --follow LIST, standard error shows meanwhile how synchronous the threads
+are so far, with the processors of LIST as the correct ones: in a line when at
 least a twentieth of all steps are new, and in one at the end. The line
   synchrony: tick 9000: delta 5, phi 9 from tick 1; delta 2, phi 4 from tick 4000
 has the least bounds that hold from tick 1 to tick 9000, and those that hold
-from 5000 ticks before it, or from tick 1 where there are no more. What is
+from 5000 ticks before it, or from tick 1 if there are no more. What is
 printed, and the exit status, are as without it.
 
 Examples, at the top of the repository:
@@ -345,5 +345,5 @@ Exit status:
   6  the output can't be written
   7  the threads' steps make no run, which is a fault of this program
   8  a thread wasn't started or was held
-A fault is told on standard error. Nothing is printed before it stands whole."
+Faults go to standard error. Output begins once all of it is known."
 }

@@ -307,5 +307,5 @@ Exit status:
   5  out of memory
   6  the output can't be written
   7  a step was refused, which is a fault of this program
-A fault is told on standard error. Nothing is printed before the run is whole."
+Faults go to standard error. Output begins once the run is whole."
 }

@@ -23,7 +23,7 @@ const ABOUT: &str = "Prints how long the followers of a leader have to wait for 
 
 const FROM_HELP: &str = "The leader, a processor of the trace";
 
-const TO_HELP: &str = "The followers: 2,3,5, or all; those to which P sends where it is left out";
+const TO_HELP: &str = "The followers: 2,3,5, or all; those to which P sends if it is left out";
 
 const EVERY_HELP: &str = "Of each K steps of P one is a Send to the follower, from 1 to 1000000";
 
@@ -179,5 +179,5 @@ Exit status:
   3  the trace is refused
   5  out of memory
   6  FILE can't be opened or read, or the output can't be written
-A fault is told on standard error. Nothing is printed before it stands whole."
+Faults go to standard error. Output begins once all of it is known."
 }

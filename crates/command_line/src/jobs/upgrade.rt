@@ -71,5 +71,5 @@ Exit status:
   3  the trace is refused
   5  out of memory
   6  FILE can't be opened or read, or the output can't be written
-A fault is told on standard error. Nothing is printed before it stands whole."
+Faults go to standard error. Output begins once all of it is known."
 }
