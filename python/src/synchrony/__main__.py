@@ -9,7 +9,6 @@ from pathlib import Path
 from typing import Any, Iterator, List, Optional
 
 import synchrony
-from synchrony.library import SynchronyError
 from synchrony.surveys import BATCH_TRACES, Table, survey
 
 
