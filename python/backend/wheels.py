@@ -33,7 +33,7 @@ def project():
 def metadata():
     told, extras = project()
     lines = ["Metadata-Version: 2.1", f"Name: {told['name']}", f"Version: {told['version']}", f"Summary: {told['description']}"]
-    lines += [f"Requires-Python: {told['requires-python']}", "Description-Content-Type: text/markdown"]
+    lines += [f"License: {told['license']}", f"Requires-Python: {told['requires-python']}", "Description-Content-Type: text/markdown"]
     for name, needed in extras.items():
         lines += [f"Provides-Extra: {name}", f'Requires-Dist: {needed}; extra == "{name}"']
     return "\n".join([*lines, "", (HERE / told["readme"]).read_text()])
