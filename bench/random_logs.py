@@ -425,8 +425,8 @@ def words_of(chance, log):
     """The options as words of a command line, in any order."""
     words = []
     for name, value in chance.sample([*log.options.items()], len(log.options)):
-        if name == "spread":
-            words += ["--spread"]
+        if name in ("spread", "align"):
+            words += [f"--{name}"]
         elif value.startswith("-"):
             words += [f"--{name}={value}"]
         else:
