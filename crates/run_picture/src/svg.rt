@@ -5,7 +5,7 @@ ghost use Rattle.std.specs.Prelude.{◌≡◌, ◌-◌, ◌≤◌, length, take,
 use crate::frames::Frame;
 use crate::labels::overhang;
 use crate::lanes::put_lanes;
-use crate::legend::{LEGEND, STYLE};
+use crate::legend::{LABEL, LEGEND, STYLE};
 use crate::message_lines::put_message;
 use crate::pictures::Picture;
 use crate::staircase::put_staircase;
@@ -72,7 +72,7 @@ fn put_head(alloc: Global, out: &mut Vec<u8>, frame: Frame, overhang: u64) -> Re
         alloc,
         out,
         format_args!(
-            "<svg xmlns=\"http://www.w3.org/2000/svg\" viewBox=\"{minus}{overhang} 0 {width} {height}\" font-family=\"system-ui, sans-serif\" font-size=\"120\" fill=\"#1a1a1a\">\n{STYLE}<rect"
+            "<svg xmlns=\"http://www.w3.org/2000/svg\" viewBox=\"{minus}{overhang} 0 {width} {height}\" font-family=\"system-ui, sans-serif\" font-size=\"120\" fill=\"#1a1a1a\" {LABEL}>\n{STYLE}<rect"
         ),
     )?;
     if overhang > 0 {
