@@ -1,0 +1,3 @@
+module synchrony/recorder
+
+go 1.19
