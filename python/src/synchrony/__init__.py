@@ -6,10 +6,12 @@
     sy.check(trace, certificate, "all")    whether a certificate is the report of a trace
     sy.simulate(node, values, schedule)    a run of a protocol under bounds that are chosen
     sy.survey(paths, at=500)               the bounds of many traces, as one table
+    sy.judge_runs(runs, "n*phi + delta")   whether each of many runs decided in time
 
 What is said of a trace's bounds comes from the proved library, libsynchrony.so; the package itself is tested, not proved.
 """
 
+from .claims import Case, Judged, Verdicts, judge_runs, runs_in
 from .library import (
     Bound,
     CertificateRefused,
@@ -43,9 +45,11 @@ __all__ = [
     "AfterSends",
     "Bound",
     "Bounds",
+    "Case",
     "CertificateRefused",
     "Decide",
     "Decision",
+    "Judged",
     "Judgement",
     "Kept",
     "Receive",
@@ -61,6 +65,7 @@ __all__ = [
     "Timeout",
     "TraceRefused",
     "Verdict",
+    "Verdicts",
     "brief",
     "broadcast",
     "check",
@@ -69,12 +74,14 @@ __all__ = [
     "frame",
     "import_log",
     "judge",
+    "judge_runs",
     "plot_report",
     "plot_survey",
     "replay",
     "report",
     "report_part",
     "report_text",
+    "runs_in",
     "simulate",
     "smallest",
     "survey",

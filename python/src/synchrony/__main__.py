@@ -1,4 +1,4 @@
-"""python -m synchrony: surveys of many traces."""
+"""python -m synchrony: surveys of many traces, and claims judged by many runs."""
 
 from __future__ import annotations
 
@@ -9,6 +9,7 @@ from pathlib import Path
 from typing import Any, Iterator, List, Optional
 
 import synchrony
+from synchrony.claims import Verdicts, judge_runs, runs_in
 from synchrony.surveys import BATCH_TRACES, Table, survey
 
 
@@ -33,6 +34,18 @@ def _parser() -> argparse.ArgumentParser:
     it.add_argument("--paths", action="store_true", help="with --dask: sends paths, since the workers read the same files")
     it.add_argument("--plot", metavar="FILE", help="draws how the bounds are distributed into this file, as .svg or .png (needs matplotlib)")
     it.add_argument("--progress", action="store_true", help="says on standard error how many traces are done")
+    it = commands.add_parser(
+        "judge",
+        help="whether many runs decided in time, a line each",
+        description="Prints the verdict on each run of a list, and last how many runs keep the claim, with the least margin.",
+        epilog="The status is 0 if each run keeps the claim, 1 if some run doesn't, 2 if the command line or the list is refused, and 3 if some run can't be judged.",
+    )
+    it.add_argument("list", metavar="LIST", help="a CSV with the columns trace and decisions, which have paths, and perhaps correct and start")
+    it.add_argument("--within", required=True, metavar="FORMULA", help="how many ticks the processors have, as 3*phi*n + delta")
+    it.add_argument("--valid", action="store_true", help="asks that each decision is an initial value, too")
+    it.add_argument("--whole", action="store_true", help="judges by the bounds of the whole run alone, not in time")
+    it.add_argument("--due", type=_whole, metavar="K", help="asks that so many rows are due in each run")
+    it.add_argument("--workers", type=_whole, metavar="W", help="how many processes work on it (usual: one for each processor)")
     return top
 
 
@@ -74,10 +87,18 @@ def _surveyed(words: argparse.Namespace, parser: argparse.ArgumentParser) -> Tab
         return survey(_paths(words.traces), correct, executor=executor, send_paths=words.paths, **given)
 
 
+def _judged(words: argparse.Namespace) -> Verdicts:
+    return judge_runs(runs_in(words.list), words.within, words.valid, words.whole, words.due, workers=words.workers)
+
+
 def main(words: Optional[List[str]] = None) -> int:
     parser = _parser()
     read = parser.parse_args(words)
     try:
+        if read.command == "judge":
+            verdicts = _judged(read)
+            sys.stdout.write(verdicts.text())
+            return 0 if verdicts else 3 if any(it.error for it in verdicts.rows) else 1
         table = _surveyed(read, parser)
         if read.plot:
             from synchrony.plots import plot_survey

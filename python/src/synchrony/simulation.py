@@ -160,8 +160,12 @@ class Run:
         `within` and the options are those of `library.judge`. What was decided is told to it as numbers: `value` makes one
         of each decision. One that was made before a step counts as made in tick 1.
         """
+        return library.judge(self.trace, self.decisions_text(value), self.correct, within, start=start, valid=valid, whole=whole, due=due)
+
+    def decisions_text(self, value: Callable[[Any], int] = int) -> bytes:
+        """The decisions as a CSV for `library.judge`; `value` makes a number of each."""
         rows = "".join(f"{it.proc},{max(1, it.tick)},{value(it.value)}\n" for it in self.decisions)
-        return library.judge(self.trace, f"proc,tick,value\n{rows}", self.correct, within, start=start, valid=valid, whole=whole, due=due)
+        return f"proc,tick,value\n{rows}".encode()
 
     def decided(self) -> Dict[int, Any]:
         """The first decision of each processor that has one."""

@@ -177,7 +177,7 @@ def survey(
     found_rows = [it for it in rows if it is not None]
     if len(found_rows) != len(rows):
         raise AssertionError("a trace has no answer")
-    return Table((at,) if isinstance(at, str) else ticks, found_rows)
+    return Table((at,), found_rows) if isinstance(at, str) else Table(ticks, found_rows)
 
 
 def _ticks_of(at: At) -> Tuple[int, ...]:

@@ -1,0 +1,198 @@
+"""One claim, many runs: which of them keep it, and how nearly.
+
+    verdicts = judge_runs(runs_in("runs.csv"), "3*phi*n + delta")
+    print(verdicts.text(), end="")
+
+Each verdict is that of `library.judge`, so of the proved program. The work is given to an Executor of concurrent.futures, as
+that of a survey is.
+"""
+
+from __future__ import annotations
+
+import csv
+import multiprocessing
+import os
+from concurrent.futures import BrokenExecutor, Executor, Future, ProcessPoolExecutor
+from contextlib import ExitStack
+from dataclasses import dataclass
+from pathlib import Path
+from typing import TYPE_CHECKING, Iterable, Iterator, List, NamedTuple, Optional, Tuple, Union
+
+from . import library
+from .surveys import _processors, _start_method
+
+if TYPE_CHECKING:
+    # A text, or the path of its file.
+    Input = Union[bytes, os.PathLike[str]]
+
+# So many runs are given to a worker at a time.
+BATCH_RUNS = 50
+# A trace and decisions of which only the formula can be refused.
+NO_TRACE, NO_DECISIONS = b"dls-trace,1,2,0\ninit,0,0\nend,0\n", b"proc,tick,value\n"
+
+
+class Case(NamedTuple):
+    """A run to judge: its name, its trace and its decisions, the correct processors, and the tick in which it started."""
+
+    name: str
+    trace: Input
+    decisions: Input
+    correct: library.Correct = "all"
+    start: Optional[int] = None
+
+
+class Judged(NamedTuple):
+    """The verdict on a run, or the words that say why there is none."""
+
+    name: str
+    verdict: Optional[library.Judgement]
+    error: Optional[str]
+
+
+@dataclass(frozen=True)
+class Verdicts:
+    """The verdicts on runs, in the order of the runs."""
+
+    rows: List[Judged]
+
+    def __bool__(self) -> bool:
+        """Whether all runs were judged, and keep the claim."""
+        return all(it.verdict for it in self.rows)
+
+    def text(self) -> str:
+        """A line for each run, and then the summary."""
+        return "".join(f"{it.name}: {it.error if it.verdict is None else it.verdict}\n" for it in self.rows) + f"{self.summary()}\n"
+
+    def summary(self) -> str:
+        """How many runs keep the claim and how many don't, in how many no deadline was due, and the least margin with its run."""
+        kept: List[Tuple[int, str]] = []
+        no = untested = 0
+        for it in self.rows:
+            words = [] if it.verdict is None else it.verdict.line.split()
+            if words[:1] == ["no"]:
+                no += 1
+            elif words[1:2] == ["0"]:
+                untested += 1
+            elif words:
+                kept.append((int(words[-1]), it.name))
+        unknown = len(self.rows) - len(kept) - no - untested
+        runs = "1 run" if len(self.rows) == 1 else f"{len(self.rows)} runs"
+        least = "; least margin {} ({})".format(*min(kept, key=lambda it: it[0])) if kept else ""
+        return f"{runs}: {len(kept)} yes, {no} no, {untested} untested, {unknown} not judged{least}"
+
+
+class _Claim(NamedTuple):
+    """What is asked of each run."""
+
+    within: str
+    valid: bool
+    whole: bool
+    due: Optional[int]
+
+    def of(self, trace: bytes, decisions: bytes, correct: library.Correct, start: Optional[int]) -> library.Judgement:
+        return library.judge(trace, decisions, correct, self.within, start, self.valid, self.whole, self.due)
+
+
+def judge_runs(
+    runs: Iterable[Case],
+    within: str,
+    valid: bool = False,
+    whole: bool = False,
+    due: Optional[int] = None,
+    executor: Optional[Executor] = None,
+    workers: Optional[int] = None,
+) -> Verdicts:
+    """The verdicts on runs: whether all correct processors decided within a formula of the bounds, in each of them.
+
+    `within`, `valid`, `whole` and `due` are those of `library.judge`. `executor` stays open; else so many processes as
+    `workers` says, or as there are processors, work on it. A run that is refused or can't be read has its words in place of
+    a verdict. Where a worker dies, each run of its batch is tried once more, alone.
+
+    SynchronyError is raised where the formula is none; nothing is judged then.
+    """
+    claim = _Claim(within, valid, whole, due)
+    claim.of(NO_TRACE, NO_DECISIONS, "all", None)
+    cases = list(runs)
+    rows: List[Judged] = []
+    with ExitStack() as stack:
+        pool = executor or stack.enter_context(_processes(_processors() if workers is None else max(1, workers)))
+        batches = [cases[at : at + BATCH_RUNS] for at in range(0, len(cases), BATCH_RUNS)]
+        for batch, future in [(it, _submitted(pool, claim, it)) for it in batches]:
+            rows += _answer(future) or [_again(executor, claim, it) for it in batch]
+    return Verdicts(rows)
+
+
+def runs_in(path: Union[str, os.PathLike[str]]) -> Iterator[Case]:
+    """The runs that a CSV lists: the columns are `trace` and `decisions`, with paths, and perhaps `correct` and `start`.
+
+    ValueError is raised for a column that lacks, or for a field that is none, with its line.
+    """
+    with open(path, newline="") as file:
+        rows = csv.DictReader(file)
+        for name in ("trace", "decisions"):
+            if name not in (rows.fieldnames or []):
+                raise ValueError(f"{path}: no column {name}")
+        for row in rows:
+            try:
+                yield Case(row["trace"], Path(row["trace"]), Path(row["decisions"]), _correct(row.get("correct")), _start(row.get("start")))
+            except (TypeError, ValueError):
+                raise ValueError(f"{path}: line {rows.line_num} isn't a trace, decisions, a list of processors and a tick") from None
+
+
+def _correct(word: Optional[str]) -> library.Correct:
+    if not word or word == "all":
+        return "all"
+    return [] if word == "none" else [int(it) for it in word.split(",")]
+
+
+def _start(word: Optional[str]) -> Optional[int]:
+    return int(word) if word else None
+
+
+def _processes(count: int) -> ProcessPoolExecutor:
+    return ProcessPoolExecutor(count, mp_context=multiprocessing.get_context(_start_method()))
+
+
+def _submitted(pool: Executor, claim: _Claim, cases: List[Case]) -> Optional[Future[List[Judged]]]:
+    """The runs before the executor, or None where that takes nothing any more."""
+    try:
+        return pool.submit(_judged, claim, cases)
+    except (BrokenExecutor, RuntimeError):
+        return None
+
+
+def _answer(future: Optional[Future[List[Judged]]]) -> Optional[List[Judged]]:
+    """The verdicts, or None where the worker died or the executor doesn't work any more."""
+    try:
+        return None if future is None else future.result()
+    except BrokenExecutor:
+        return None
+
+
+def _again(executor: Optional[Executor], claim: _Claim, case: Case) -> Judged:
+    """The verdict on a run that is tried once more, alone."""
+    with ExitStack() as stack:
+        pool = executor or stack.enter_context(_processes(1))
+        found = _answer(_submitted(pool, claim, [case]))
+    return found[0] if found else Judged(case.name, None, "no answer: its worker died")
+
+
+def _judged(claim: _Claim, cases: List[Case]) -> List[Judged]:
+    """What a worker does with a batch."""
+    return [_verdict(claim, it) for it in cases]
+
+
+def _verdict(claim: _Claim, case: Case) -> Judged:
+    try:
+        verdict = claim.of(_bytes(case.trace), _bytes(case.decisions), case.correct, case.start)
+    except library.SynchronyError as why:
+        return Judged(case.name, None, str(why).partition("\n")[0])
+    except MemoryError:
+        return Judged(case.name, None, "out of memory")
+    except OSError as why:
+        return Judged(case.name, None, f"cannot read: {why.filename}: {why.strerror or why}")
+    return Judged(case.name, verdict, None)
+
+
+def _bytes(given: Input) -> bytes:
+    return Path(given).read_bytes() if isinstance(given, os.PathLike) else given
