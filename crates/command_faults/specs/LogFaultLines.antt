@@ -15,7 +15,7 @@ log_lead why = codes "log: "
 -- a line of what helps, with the line feed before it
 abbrev pub hint_line : Option Hint → List ℕ
 hint_line None = []
-hint_line (Some ShorterTick) = 10 ∷ codes "synchrony: a shorter --tick sets them apart"
+hint_line (Some ShorterTick) = 10 ∷ codes "synchrony: a shorter --tick sets them apart, and --spread moves one of them"
 hint_line (Some Spread) = 10 ∷ codes "synchrony: --spread sets them apart"
 
 -- the same for a refused log; nothing where nothing helps

@@ -65,7 +65,7 @@ fn hint_line(hint: Option<Hint>) -> &'static str
 {
     match hint {
         None => "",
-        Some(Hint::ShorterTick) => "\nsynchrony: a shorter --tick sets them apart",
+        Some(Hint::ShorterTick) => "\nsynchrony: a shorter --tick sets them apart, and --spread moves one of them",
         Some(Hint::Spread) => "\nsynchrony: --spread sets them apart",
     }
 }

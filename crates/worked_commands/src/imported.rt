@@ -154,7 +154,7 @@ const REFUSED: &[(Given, u8, &str)] = &[
         },
         3,
         "synchrony: log: record 4: message m2 is received no later than it was sent\n\
-        synchrony: a shorter --tick sets them apart",
+        synchrony: a shorter --tick sets them apart, and --spread moves one of them",
     ),
     (
         Given {

@@ -147,7 +147,7 @@ const REFUSED: &[(Reason, u8, &str)] = &[
         Reason::NotLater(Some(Hint::ShorterTick)),
         3,
         "synchrony: log: record 4: message m2 is received no later than it was sent\n\
-        synchrony: a shorter --tick sets them apart",
+        synchrony: a shorter --tick sets them apart, and --spread moves one of them",
     ),
     (
         Reason::NotLater(Some(Hint::Spread)),
@@ -164,7 +164,7 @@ const REFUSED: &[(Reason, u8, &str)] = &[
         Reason::SecondEvent(Some(Hint::ShorterTick)),
         3,
         "synchrony: log: record 4: a second event of a in tick 1\n\
-        synchrony: a shorter --tick sets them apart",
+        synchrony: a shorter --tick sets them apart, and --spread moves one of them",
     ),
     (
         Reason::SecondEvent(Some(Hint::Spread)),
