@@ -1,6 +1,6 @@
 //! Reading of decisions' text, record by record. The first record that is refused decides.
 
-ghost use Rattle.std.specs.Prelude.{◌≡◌, ◌+◌, false, MatchResult, Some, Ok, Err, length, is_ok};
+ghost use Rattle.std.specs.Prelude.{◌≡◌, ◌≤◌, ◌+◌, false, MatchResult, Some, Ok, Err, length, is_ok};
 ghost use Rattle.csv.specs.Records.{fields_of};
 ghost use Rattle.trace_text.specs.Records.{ReachesUnless, WantsOnlyWhere, records_of_text};
 ghost use Rattle.judged_runs.specs.DecisionTexts.{Gives, decision_of, decisions_at_end, decisions_of_records, decisions_of_text, is_header, is_memory, next_decisions, of_numbers, record_keeps, refuses_long, with_decision};
@@ -36,14 +36,16 @@ impl Model for Reading {
 
 /// The decisions that a text has, in its order, of a run with so many processors and with this last tick.
 ///
-/// Refuses in the order of `DecisionsError`; the first record that is refused decides. Memory may come instead.
+/// Refuses in the order of `DecisionsError`; the first record that is refused decides. Memory may come instead of any refusal
+/// but TooLarge.
 pub fn decisions_of_text(
     alloc: Global,
     text: &[u8],
     n: u64,
     last: u64,
 ) -> Result<Vec<Decision>, DecisionsError>
-    ensures { Gives (λ v. v.items) result (decisions_of_text n last text.now) }
+    ensures decisions { Gives (λ v. v.items) result (decisions_of_text n last text.now) }
+    ensures within { result ≡ Err DecisionsError.Memory → length text.now ≤ MAX_TEXT_BYTES }
 {
     if text.len() > MAX_TEXT_BYTES {
         return Err(DecisionsError::TooLarge);

@@ -1,6 +1,6 @@
 //! The verdict on the decisions of a run.
 
-ghost use Rattle.std.specs.Prelude.{◌≡◌, IfOk, IfSome, IsNone};
+ghost use Rattle.std.specs.Prelude.{◌≡◌, IfOk, IfSome, IsNone, OnErr};
 ghost use Rattle.step_trace.specs.Fronts.{IsReport};
 ghost use Rattle.step_trace.specs.Processors.{IsWithin};
 ghost use Rattle.decision_claims.specs.Formulas.{deadline};
@@ -46,6 +46,7 @@ pub enum Verdict {
 
 /// Judges the decisions of a run: agreement of the members of a set, validity where it is asked, and the claim that each of
 /// them decides by the deadline of a formula. In time, the bounds of each prefix count; else those of the whole run alone.
+/// Memory may come only if nothing is wrong with agreement and validity, so that bounds have to be found.
 pub fn judge(
     alloc: Global,
     trace: &Trace,
@@ -55,7 +56,8 @@ pub fn judge(
     demands: Demands,
 ) -> Result<Verdict, AllocError>
     requires { IsWithin set trace.now.config.n }
-    ensures { IfOk result (IsVerdict set trace.now decisions.now formula.now demands) }
+    ensures verdict { IfOk result (IsVerdict set trace.now decisions.now formula.now demands) }
+    ensures more { OnErr result (AreSound set trace.now.config.init decisions.now demands.valid) }
 {
     if let Some((one, other)) = first_difference(set, decisions) {
         return Ok(Verdict::Differ(one, other));

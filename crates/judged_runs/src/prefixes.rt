@@ -1,6 +1,6 @@
 //! The search for a deadline that wasn't kept in time, by the prefixes of a run.
 
-ghost use Rattle.std.specs.Prelude.{ℕ, ◌≡◌, ◌≤◌, ◌<◌, ◌+◌, ◌↔◌, IfOk, IfSome, IsNone, MatchOption, min};
+ghost use Rattle.std.specs.Prelude.{ℕ, ◌≡◌, ◌≤◌, ◌<◌, ◌+◌, ◌↔◌, IfOk, IfSome, IsNone, MatchOption, OnErr, min};
 ghost use Rattle.step_trace.specs.Processors.{IsWithin};
 ghost use Rattle.step_trace.specs.Fronts.{triple_of};
 ghost use Rattle.step_trace.specs.declared.traces.TheConstants.{MAX_TICKS};
@@ -31,7 +31,7 @@ enum Looked {
 ///
 /// Finds the bounds of some of the prefixes that end before all members have decided: after one that ends in tick x, it goes
 /// on at the least deadline of its rows, or of bounds of 1 from the next tick on if that is less. No prefix between has a
-/// deadline that is due.
+/// deadline that is due. Memory may come only if there is such a prefix.
 pub fn first_late_in_time(
     alloc: Global,
     trace: &Trace,
@@ -44,6 +44,7 @@ pub fn first_late_in_time(
     ensures late { IfOk result (λ found. IfSome found (IsLateInTime set trace.now decisions.now (deadline trace.now.config start formula.now))) }
     ensures kept { IfOk result (λ found. IsNone found ↔ KeepsClaimInTime set trace.now decisions.now (deadline trace.now.config start formula.now)) }
     ensures whole { IfOk result (λ found. IsNone found → KeepsClaim set trace.now decisions.now (deadline trace.now.config start formula.now)) }
+    ensures more { OnErr result (¬ HaveDecidedBy set decisions.now 0) }
 {
     let end = undecided_until(set, decisions, trace.last_tick());
     let mut x = 0u64;
@@ -63,6 +64,7 @@ fn undecided_until(set: ProcSet, decisions: &[Decision], last: u64) -> u64
     requires { last ≤ MAX_TICKS }
     ensures inside { result ≤ last + 1 }
     ensures decided { (y : ℕ) → result ≤ y → y ≤ last → HaveDecidedBy set decisions.now y }
+    ensures undecided { (y : ℕ) → y < result → ¬ HaveDecidedBy set decisions.now y }
 {
     up_to_end(latest_decision(set, decisions), last)
 }

@@ -14,7 +14,7 @@ returns-in_err-formula-clause-refused c =
 pub returns-clause-verdict : goal.returns-clause-verdict
 returns-clause-verdict c =
     let trace = c.args.trace.now in
-    let read : decisions_of_text trace.config.n trace.last c.args.decisions.now ≡ Ok c.in_ok-decisions.decisions.items = rw (c.n.ensures.value, c.config-config.ensures, c.last_tick.ensures.value) at c.in_ok-decisions.ensures in
+    let read : decisions_of_text trace.config.n trace.last c.args.decisions.now ≡ Ok c.in_ok-decisions.decisions.items = rw (c.n.ensures.value, c.config-config.ensures, c.last_tick.ensures.value) at c.in_ok-decisions.ensures.decisions in
     record {
       asked = record {
         within = c.in_ok-set.ensures.within;
@@ -24,5 +24,5 @@ returns-clause-verdict c =
       started = c.in_ok-test_start.ensures.started;
       decisions = c.in_ok-decisions.decisions.items;
       read = read;
-      exact = rw (c.in_ok-set.ensures.set, c.deref.ensures.value, c.unwrap_or.ensures, c.unwrap_or-2.ensures) at c.in_ok-judge.ensures;
+      exact = rw (c.in_ok-set.ensures.set, c.deref.ensures.value, c.unwrap_or.ensures, c.unwrap_or-2.ensures) at c.in_ok-judge.ensures.verdict;
     }
