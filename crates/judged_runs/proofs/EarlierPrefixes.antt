@@ -20,7 +20,7 @@ use Rattle.decision_claims.proofs.PrefixClaims.{has_cut, IsCutAt-twice, IsFeasib
 use Rattle.judged_runs.specs.LateInTime.{IsLateInTime, IsNextLook, KeepsBefore, begun_after}
 
 -- what is kept before a tick is kept before each earlier one
-before_less : (set : ℕ) (trace : Recorded) (decisions : List Decision) (due : Triple → ℕ) (x y : ℕ) → y ≤ x → KeepsBefore set trace decisions due x → KeepsBefore set trace decisions due y
+pub before_less : (set : ℕ) (trace : Recorded) (decisions : List Decision) (due : Triple → ℕ) (x y : ℕ) → y ≤ x → KeepsBefore set trace decisions due x → KeepsBefore set trace decisions due y
 before_less set trace decisions due x y l before = record { each = λ t cut m. before.each t cut (omega (arith, l, m)) }
 
 -- deadlines in x are kept where the prefix that ends there keeps the claim

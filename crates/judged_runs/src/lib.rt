@@ -3,6 +3,8 @@
 #![tactic(auto)]
 
 mod decision_texts;
+mod details;
+mod factors;
 mod judgements;
 mod prefixes;
 mod refusal_texts;
@@ -10,6 +12,8 @@ mod refusals;
 mod verdict_lines;
 
 pub use decision_texts::decisions_of_text;
+pub use details::{Details, Judgement, judgement_of};
+pub use factors::{factor_for, least_factor_in_time};
 pub use judgements::{Demands, Verdict, judge};
 pub use prefixes::first_late_in_time;
 pub use refusals::DecisionsError;

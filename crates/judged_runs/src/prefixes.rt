@@ -60,7 +60,7 @@ pub fn first_late_in_time(
 }
 
 /// The tick up to which prefixes are looked at: the one in which all members have decided, or the one after the last.
-fn undecided_until(set: ProcSet, decisions: &[Decision], last: u64) -> u64
+pub(crate) fn undecided_until(set: ProcSet, decisions: &[Decision], last: u64) -> u64
     requires { last ≤ MAX_TICKS }
     ensures inside { result ≤ last + 1 }
     ensures decided { (y : ℕ) → result ≤ y → y ≤ last → HaveDecidedBy set decisions.now y }
@@ -106,7 +106,7 @@ fn look_at(
 }
 
 /// The tick at which the search goes on after the prefix that ends in tick x, whose rows these are.
-fn next_look(trace: &Trace, start: u64, formula: &Formula, rows: &[Row], x: u64) -> u64
+pub(crate) fn next_look(trace: &Trace, start: u64, formula: &Formula, rows: &[Row], x: u64) -> u64
     requires { x ≤ trace.now.last }
     ensures { IsNextLook rows.now (deadline trace.now.config start formula.now) x result }
 {

@@ -1,0 +1,11 @@
+use Rattle.std.proofs.Common.{arith}
+use Rattle.decision_claims.specs.Claims.{deadline_times}
+use Rattle.judged_runs.proofs.MeasuredFactors.{factor_in_time}
+use Rattle.judged_runs.proofs.factors.least_factor_in_time.Goals as goal
+
+pub returns-clause-factor : goal.returns-clause-factor
+returns-clause-factor c =
+    let past = c.loop-x-test.false in
+    let last = c.last_tick.ensures.value in
+    factor_in_time c.args.set c.args.trace.now c.args.decisions.now (deadline_times c.args.trace.now.config c.args.start c.args.formula.now) c.loop-x.x c.loop-x.factor
+    (λ y l m. c.undecided_until-end.ensures.decided y (omega (arith, past, l)) (omega (arith, m, last))) c.loop-x.invariant.least
