@@ -1,6 +1,5 @@
 -- Factors with which the deadlines of prefixes are kept.
-use Rattle.std.proofs.Common.{ℕ, ◌≡◌, ◌+◌, ◌*◌, ◌<◌, ◌≤◌, ◌↔◌, List, Option, Some, None, max, sym, ap, subst, ◌∙◌, arith}
-use Rattle.std.specs.Prelude.{slice_get}
+use Rattle.std.proofs.Common.{ℕ, ◌≡◌, ◌+◌, ◌<◌, ◌≤◌, List, Option, Some, None, max, ap, subst, arith}
 use Rattle.std.proofs.Math.Nat.{mul-le-mul_right}
 use Rattle.step_trace.specs.declared.rows.Row.{Row}
 use Rattle.step_trace.specs.Configurations.{Setup}
@@ -9,13 +8,11 @@ use Rattle.step_trace.specs.Ticks.{IsTrace}
 use Rattle.step_trace.specs.Cuts.{IsCutAt}
 use Rattle.step_trace.specs.Fronts.{Triple, IsReport, triple_of}
 use Rattle.decision_claims.specs.declared.decisions.Decision.{Decision}
-use Rattle.decision_claims.specs.Claims.{IsLater, IsMonotone, KeepsClaim, KeepsClaimInTime, IsLeastFactor, deadline_times}
+use Rattle.decision_claims.specs.Claims.{IsLater, KeepsClaim, KeepsClaimInTime, IsLeastFactor, deadline_times}
 use Rattle.decision_claims.specs.Decisions.{HaveDecidedBy, IsFrom}
 use Rattle.decision_claims.specs.Formulas.{IsTimes, Terms, deadline, value_of, words_of}
 use Rattle.decision_claims.proofs.FrontClaims.{HasDecidedBy-later, deadline_times-monotone}
 use Rattle.decision_claims.proofs.PrefixClaims.{has_cut, IsCutAt-twice, IsFeasible-cut, KeepsClaimInTime-prefixes}
-use Rattle.judged_runs.specs.Factors.{IsMeasured}
-use Rattle.judged_runs.specs.declared.factors.Measured.{Measured}
 use Rattle.judged_runs.specs.LateInTime.{IsNextLook, KeepsBefore, begun_after}
 use Rattle.judged_runs.proofs.EarlierPrefixes.{before_all, before_jump, before_less}
 
@@ -47,7 +44,7 @@ before_rises set trace decisions due more x later rises before = record {
       let up = rises t in
       let d = has_cut cut (due t) sound (let last = at.last in omega (arith, last, up)) in
       let decided = before.each t d.cut (omega (arith, up, l)) d.sound (IsCutAt-twice trace cut (more t) sound.time at (due t) d.cut d.sound.time up d.at)
-          (IsFeasible-cut cut d.cut (due t) d.sound.time d.at set t (later.each t) feasible) in
+      (IsFeasible-cut cut d.cut (due t) d.sound.time d.at set t (later.each t) feasible) in
       record { each = λ p member. HasDecidedBy-later decisions p (due t) (more t) up (decided.each p member) };
 }
 
@@ -76,7 +73,7 @@ measured set trace cut rows decisions start terms product before own both x next
       omega (arith, greater, l, m),
   λ l.
       let jump = before_jump set trace cut rows decisions (due both) x next (deadline_times-monotone trace.config start terms both) sound at report
-          ((here both).1 (omega (arith, greater))) (next_look_times trace.config start terms product both x next rows times look) ((earlier both).1 (omega (arith, greater))) in
+      ((here both).1 (omega (arith, greater))) (next_look_times trace.config start terms product both x next rows times look) ((earlier both).1 (omega (arith, greater))) in
       before_rises set trace decisions (due both) (due c) next (later both) (λ t. deadline_times-rises trace.config start terms both c t l) jump,
 ) where
   due : ℕ → Triple → ℕ
@@ -98,10 +95,6 @@ factor_in_time set trace decisions due x factor decided least = λ c. (
   λ kept. (least c).0 (record { each = λ t cut l. kept.each t cut }),
   λ l. before_all set trace decisions (due c) x decided ((least c).1 l),
 )
-
--- nothing is due before tick 0
-pub nothing_before : (set : ℕ) (trace : Recorded) (decisions : List Decision) (due : ℕ → Triple → ℕ) → IsFrom (λ c. KeepsBefore set trace decisions (due c) 0) (Some 0)
-nothing_before set trace decisions due = λ c. (λ h. omega arith, λ l. record { each = λ t cut m. absurd (omega (arith, m)) })
 
 -- a least factor is the one from which on the claim is kept
 pub factor_from : (set : ℕ) (trace : Recorded) (decisions : List Decision) (start : ℕ) (terms : Terms) (r : Option ℕ) → IsLeastFactor set trace decisions start terms r

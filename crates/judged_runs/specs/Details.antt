@@ -4,10 +4,11 @@ use Rattle.step_trace.specs.Traces.{Recorded}
 use Rattle.decision_claims.specs.declared.decisions.Decision.{Decision}
 use Rattle.decision_claims.specs.Claims.{deadline_times}
 use Rattle.decision_claims.specs.Decisions.{IsFrom}
-use Rattle.decision_claims.specs.Formulas.{Terms}
+use Rattle.decision_claims.specs.Formulas.{Terms, deadline}
 use Rattle.judged_runs.specs.declared.details.Details.{Details}
 use Rattle.judged_runs.specs.declared.judgements.Demands.{Demands}
 use Rattle.judged_runs.specs.declared.judgements.Verdict.{Verdict}
+use Rattle.judged_runs.specs.DeadlineRows.{IsRowsText}
 use Rattle.judged_runs.specs.Judgements.{IsVerdict, Keeps}
 use Rattle.judged_runs.specs.VerdictLines.{more, told_verdict}
 
@@ -27,9 +28,13 @@ abbrev pub IsAsked : Bool → (List ℕ → Type 0) → List ℕ → Type 0
 IsAsked true Right text = Right text
 IsAsked false Right text = text ≡ []
 
--- the details that are asked for
-abbrev pub AreDetails : ℕ → Recorded → List Decision → Terms → Demands → Details → List ℕ → Type 0
-AreDetails set trace decisions terms d details text = IsAsked details.factor (IsFactorLine set trace decisions terms d) text
+-- The text has the details that are asked for: the factor, and then the rows.
+pub record AreDetails (set : ℕ) (trace : Recorded) (decisions : List Decision) (terms : Terms) (d : Demands) (details : Details) (text : List ℕ) : Type 0 where
+  pub factor : List ℕ
+  pub rows : List ℕ
+  pub of_factor : IsAsked details.factor (IsFactorLine set trace decisions terms d) factor
+  pub of_rows : IsAsked details.rows (IsRowsText set trace decisions (deadline trace.config d.start terms)) rows
+  pub told : text ≡ factor ++ rows
 
 -- This is the verdict, and the text has its line and the details.
 pub record IsJudgement (set : ℕ) (trace : Recorded) (decisions : List Decision) (terms : Terms) (d : Demands) (details : Details) (v : Verdict) (text : List ℕ) : Type 0 where

@@ -58,14 +58,7 @@ fn least_factor_in_whole(
 {
     let stairs = Stairs::of_trace(alloc, trace, set)?;
     let report = front(alloc, &stairs)?;
-    Ok(least_factor(
-        trace,
-        set,
-        report.rows(),
-        decisions,
-        start,
-        formula,
-    ))
+    Ok(least_factor(trace, set, report.rows(), decisions, start, formula))
 }
 
 /// The least factor c such that each member decides in time within c times a formula, in an instance of agreement that started
@@ -90,10 +83,12 @@ pub fn least_factor_in_time(
     let mut x = 0u64;
     while x < end {
         match measure_at(alloc, trace, set, decisions, start, formula, factor, x)? {
-            Some(Measured {
-                factor: needed,
-                next,
-            }) => {
+            Some(
+                Measured {
+                    factor: needed,
+                    next,
+                },
+            ) => {
                 factor = needed;
                 x = next;
             }

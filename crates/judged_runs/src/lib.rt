@@ -2,6 +2,7 @@
 //! search by prefixes of the run, the reader of decisions' texts, and the line of a verdict; `specs/` has the definitions.
 #![tactic(auto)]
 
+mod deadline_rows;
 mod decision_texts;
 mod details;
 mod factors;
