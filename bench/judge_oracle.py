@@ -102,9 +102,9 @@ class Judge:
     whole: bool = False
     due: int = 0
 
-    def deadline(self, triple):
+    def deadline(self, triple, factor=1):
         g, d, f = triple
-        return max(g, self.start) + value(self.terms, {"delta": d, "phi": f, "n": self.run.n, "t": self.run.t})
+        return max(g, self.start) + factor * value(self.terms, {"delta": d, "phi": f, "n": self.run.n, "t": self.run.t})
 
     def undecided(self, y):
         """The least member that hadn't decided by a tick, if there is one."""
@@ -134,6 +134,30 @@ class Judge:
             cut = self.run.until(y)
             if any(is_feasible(cut, self.members, it) for it in missed[y]):
                 return next(it for it in front(cut, self.members) if self.deadline(it) <= y), y
+
+    def keeps(self, factor):
+        """Whether all members decide within so many times the formula, wherever its bounds hold."""
+        for triple in triples(self.run):
+            y = self.deadline(triple, factor)
+            if y <= self.run.last and self.undecided(y) is not None:
+                if is_feasible(self.run if self.whole else self.run.until(y), self.members, triple):
+                    return False
+        return True
+
+    def factor(self):
+        """The least factor that is enough. One of more than the last tick moves each deadline past the end, or none."""
+        return next((it for it in range(self.run.last + 2) if self.keeps(it)), "none")
+
+    def rows(self):
+        """The triples of the front of the whole run with their deadlines."""
+        lines = ["gst,delta,phi,deadline,decided,margin"]
+        decided = next((y for y in range(self.run.last + 1) if self.undecided(y) is None), "")
+        for triple in front(self.run, self.members):
+            y = self.deadline(triple)
+            due = y <= self.run.last
+            fields = [*triple, y if due else "", decided, y - decided if due and decided != "" else ""]
+            lines.append(",".join(map(str, fields)))
+        return "\n".join(lines)
 
     def verdict(self):
         own = [it for it in self.decisions if it[0] in self.members]
@@ -168,7 +192,7 @@ def refusal_of_decisions(records, run):
             return f"record {number}: no such tick"
 
 
-def answer(run, members, text, records, start=None, valid=False, whole=False, due=None):
+def answer(run, members, text, records, start=None, valid=False, whole=False, due=None, factor=False, rows=False):
     """The status, and what is printed or told. The members are numbers, of which some may be above n."""
     above = sorted(it for it in members if it > run.n)
     if above:
@@ -184,5 +208,7 @@ def answer(run, members, text, records, start=None, valid=False, whole=False, du
     if why:
         return 4, f"decisions: {why}"
     decisions = [tuple(map(int, it)) for it in records]
-    line = Judge(run, frozenset(members), decisions, terms, 1 if start is None else start, valid, whole, due or 0).verdict()
-    return (0 if line.startswith("yes") else 1), line
+    judge = Judge(run, frozenset(members), decisions, terms, 1 if start is None else start, valid, whole, due or 0)
+    line = judge.verdict()
+    more = (f"\nfactor {judge.factor()}" if factor else "") + (f"\n{judge.rows()}" if rows else "")
+    return (0 if line.startswith("yes") else 1), line + more

@@ -8,7 +8,7 @@ use Rattle.event_log.specs.declared.options.Options.{Options}
 use Rattle.event_log.specs.Imports.{IsImportOf}
 use Rattle.event_log.specs.Options.{AreOptions}
 use Rattle.judged_runs.specs.declared.judgements.Verdict.{Verdict as Judgement}
-use Rattle.judged_runs.specs.VerdictLines.{status_of_verdict as status_of_judgement, told_verdict as told_judgement}
+use Rattle.judged_runs.specs.VerdictLines.{status_of_verdict as status_of_judgement}
 use Rattle.text_verdicts.specs.Checks.{IsVerdictOn}
 use Rattle.text_verdicts.specs.Texts.{OfTrace}
 use Rattle.text_verdicts.specs.VerdictLines.{status_of_verdict, told_verdict}
@@ -89,13 +89,14 @@ pub record IsLineOf (file : List ℕ) (Judges : Verdict → Type 0) (status : �
   pub status_is : status ≡ status_of_verdict verdict
   pub written : out ≡ told_verdict verdict
 
--- The same of the line of a verdict on decisions.
-pub record IsJudgementLineOf (file : List ℕ) (Judges : Judgement → Type 0) (status : ℕ) (out : List ℕ) : Type 0 where
+-- The command reads the file that is lent; a judgement of decisions is printed, and the status is that of its verdict.
+pub record IsJudgementPrinted (file : List ℕ) (Judges : Judgement → List ℕ → Type 0) (status : ℕ) (out : List ℕ) : Type 0 where
   pub reads : file ≡ lent
   pub verdict : Judgement
-  pub exact : Judges verdict
+  pub text : List ℕ
+  pub exact : Judges verdict text
   pub status_is : status ≡ status_of_judgement verdict
-  pub written : out ≡ told_judgement verdict
+  pub written : out ≡ text
 
 -- the texts tell these options of a log
 abbrev pub AreImportOptions : ImportOptions → Options → Type 0
@@ -127,7 +128,7 @@ IsPrintedFor (job.Upgrade j) text second = IsPrintedOf (string_bytes j.file) (Is
 IsPrintedFor (job.Draw j) text second = IsPrintedOf (string_bytes j.file) (IsAnswerTo (IsDrawingOf j.drawing) text)
 IsPrintedFor (job.Import j) text second = IsPrintedOf (string_bytes j.file) (IsImportFor j.options text)
 IsPrintedFor (job.Check j) text second = IsLineOf (string_bytes j.file) (λ verdict. OfTrace (IsVerdictOn j.claim.correct j.claim.until second verdict) text)
-IsPrintedFor (job.Judge j) text second = IsJudgementLineOf (string_bytes j.file) (λ verdict. OfTrace (IsJudgementOn j.judging second verdict) text)
+IsPrintedFor (job.Judge j) text second = IsJudgementPrinted (string_bytes j.file) (λ verdict out. OfTrace (IsJudgementOn j.judging second verdict out) text)
 IsPrintedFor (job.Help help) text second = λ status out. (status ≡ 0) × (out ≡ string_bytes help)
 IsPrintedFor (job.Run j) text second = λ status out. ⊥
 IsPrintedFor (job.Simulate j) text second = λ status out. ⊥

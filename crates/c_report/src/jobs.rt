@@ -1,7 +1,7 @@
 //! What is printed for the job of a command line, of the texts that a caller lends.
 
 ghost use Rattle.std.specs.Prelude.{◌≡◌, ◌≢◌, ◌<◌, IfOk, IfErr, OnOk, option_map, codes, string_bytes};
-ghost use Rattle.c_report.specs.Commands.{IsImportFor, IsJudgementLineOf, IsLineOf, IsPrintedFor, IsPrintedOf, IsSaid, IsTraceOfLog, IsUnimportedFor, IsUnprintedFor, IsUnprintedOf, lent, other_file_words, run_words, simulation_words};
+ghost use Rattle.c_report.specs.Commands.{IsImportFor, IsJudgementPrinted, IsLineOf, IsPrintedFor, IsPrintedOf, IsSaid, IsTraceOfLog, IsUnimportedFor, IsUnprintedFor, IsUnprintedOf, lent, other_file_words, run_words, simulation_words};
 ghost use Rattle.c_report.specs.declared.answers.TheConstants.{NO_MEMORY, NO_ROOM};
 ghost use Rattle.text_commands.specs.Answers.{IsAnswerTo, IsUnanswered};
 ghost use Rattle.text_commands.specs.Checks.{IsUnchecked};
@@ -15,7 +15,6 @@ use command_line::jobs::{CheckJob, ImportJob, JudgeJob};
 use command_line::{Job, names_standard_input};
 use command_options::ImportOptions;
 use event_log::{Options, read_log};
-use judged_runs::verdict_text as judgement_text;
 use std::alloc::{AllocError, Global};
 use text_commands::{
     Answer, Replay, Upgrade, answer_to, import_options, judgement_on, judgement_status, verdict_on,
@@ -87,16 +86,18 @@ fn check(alloc: Global, job: &CheckJob, text: &[u8], second: &[u8]) -> Result<Pr
     Ok(Printed { status, text })
 }
 
-/// The verdict on the decisions of the second text.
+/// The judgement of the decisions of the second text.
 fn judge(alloc: Global, job: &JudgeJob, text: &[u8], second: &[u8]) -> Result<Printed, Fault>
-    ensures printed { IfOk result (λ p. IsJudgementLineOf (string_bytes job.now.file) (λ verdict. OfTrace (IsJudgementOn job.now.judging second.now verdict) text.now) p.status p.text.items) }
+    ensures printed { IfOk result (λ p. IsJudgementPrinted (string_bytes job.now.file) (λ verdict out. OfTrace (IsJudgementOn job.now.judging second.now verdict out) text.now) p.status p.text.items) }
     ensures refused { IfErr result (IsUnprintedOf (string_bytes job.now.file) (IsUnanswered (IsUnjudged job.now.judging second.now) text.now)) }
 {
     test_file(alloc, job.file.as_str())?;
-    let verdict = judgement_on(alloc, &job.judging, text, second)?;
-    let text = judgement_text(alloc, verdict)?.into_bytes();
-    let status = u32::from(judgement_status(verdict));
-    Ok(Printed { status, text })
+    let told = judgement_on(alloc, &job.judging, text, second)?;
+    let status = u32::from(judgement_status(told.verdict));
+    Ok(Printed {
+        status,
+        text: told.text.into_bytes(),
+    })
 }
 
 /// The trace of the log in a file.

@@ -141,6 +141,10 @@ pub struct Judging {
     pub whole: bool,
     /// How many rows of the report have to be due at least: none where there is none.
     pub due: Option<u64>,
+    /// Whether the least factor with which the claim would be kept is asked for, too.
+    pub factor: bool,
+    /// Whether the rows of the report with their deadlines are asked for, too.
+    pub rows: bool,
 }
 
 /// What a picture is asked for.

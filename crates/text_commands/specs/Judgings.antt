@@ -1,4 +1,4 @@
--- The verdict on the decisions of a run, and why there is none.
+-- The judgement of the decisions of a run, and why there is none.
 use Rattle.std.specs.Prelude.{ℕ, ◌≡◌, ◌≢◌, List, Option, Some, None, Err, Ok, string_bytes, unwrap_or}
 use Rattle.step_trace.specs.CorrectSets.{named}
 use Rattle.step_trace.specs.Traces.{Recorded}
@@ -9,8 +9,8 @@ use Rattle.judged_runs.specs.declared.judgements.Demands.{Demands}
 use Rattle.judged_runs.specs.declared.judgements.Verdict.{Verdict}
 use Rattle.judged_runs.specs.declared.refusals.DecisionsError.TheVariants as undecided
 use Rattle.judged_runs.specs.DecisionTexts.{decisions_of_text}
-use Rattle.judged_runs.specs.Judgements.{IsVerdict}
-use Rattle.judged_runs.specs.VerdictLines.{told_verdict}
+use Rattle.judged_runs.specs.declared.details.Details.{Details}
+use Rattle.judged_runs.specs.Details.{IsJudgement}
 use Rattle.text_verdicts.specs.Cuts.{IsTickOf}
 use Rattle.text_verdicts.specs.Texts.{HasCorrect}
 use Rattle.command_faults.specs.declared.faults.Fault.{Fault}
@@ -35,19 +35,22 @@ pub record HasFormula (j : Judging) (t : Recorded) : Type 0 where
   pub formula : Terms
   pub written : IsFormulaText (string_bytes j.within) formula
 
--- This is the verdict on the decisions of a text, by the trace.
-pub record IsJudgementOn (j : Judging) (text : List ℕ) (v : Verdict) (t : Recorded) : Type 0 where
+-- what is asked for beside the verdict
+abbrev pub details_of : Judging → Details
+details_of j = record { factor = j.factor; rows = j.rows }
+
+-- This is the verdict on the decisions of a text, by the trace, and what is printed of it.
+pub record IsJudgementOn (j : Judging) (text : List ℕ) (v : Verdict) (out : List ℕ) (t : Recorded) : Type 0 where
   pub asked : HasFormula j t
   pub started : HasStart j.start t
   pub decisions : List Decision
   pub read : decisions_of_text t.config.n t.last text ≡ Ok decisions
-  pub exact : IsVerdict (named j.correct t.config.n) t decisions asked.formula (demands_of j) v
+  pub exact : IsJudgement (named j.correct t.config.n) t decisions asked.formula (demands_of j) (details_of j) v out
 
--- the line is that of the verdict
-pub record IsJudgedLine (j : Judging) (text : List ℕ) (t : Recorded) (line : List ℕ) : Type 0 where
+-- the text is what is printed of the verdict
+pub record IsJudgedText (j : Judging) (text : List ℕ) (t : Recorded) (out : List ℕ) : Type 0 where
   pub verdict : Verdict
-  pub exact : IsJudgementOn j text verdict t
-  pub told : line ≡ told_verdict verdict
+  pub exact : IsJudgementOn j text verdict out t
 
 -- the fault of a start that is no tick of the trace
 abbrev pub IsStartFault : Option ℕ → Recorded → Fault → Type 0

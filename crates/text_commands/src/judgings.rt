@@ -1,9 +1,8 @@
-//! The verdict on the decisions of a run: the command `judge`.
+//! The judgement of the decisions of a run: the command `judge`.
 
-ghost use Rattle.std.specs.Prelude.{◌≡◌, ℕ, List, OnOk, IfOk, IfErr, IfSome};
-ghost use Rattle.judged_runs.specs.VerdictLines.{told_verdict};
+ghost use Rattle.std.specs.Prelude.{◌≡◌, ℕ, List, OnOk, IfOk, IfErr, IfSome, string_bytes};
 ghost use Rattle.text_commands.specs.Answers.{IsDeclined, IsUnanswered};
-ghost use Rattle.text_commands.specs.Judgings.{HasStart, IsJudgedLine, IsJudgementOn, IsStartFault, IsUnjudged};
+ghost use Rattle.text_commands.specs.Judgings.{HasStart, IsJudgedText, IsJudgementOn, IsStartFault, IsUnjudged, demands_of, details_of};
 ghost use Rattle.text_commands.specs.Serving.{Appends, IsAtEnd, IsReadFault, ServesTrace, faults_of, inner_of};
 ghost use Rattle.text_commands.specs.Texts.{IsUnreadWhole};
 ghost use Rattle.text_verdicts.specs.Texts.{OfTrace};
@@ -14,7 +13,9 @@ use crate::traces::{read_text, set_of, trace_of};
 use command_faults::{Fault, ReportOption};
 use command_options::Judging;
 use decision_claims::parse_formula;
-use judged_runs::{DecisionsError, Demands, Verdict, decisions_of_text, judge, verdict_text};
+use judged_runs::{
+    DecisionsError, Demands, Details, Judgement, Verdict, decisions_of_text, judgement_of,
+};
 use std::alloc::Global;
 use std::io::{Read, Write};
 use step_trace::Trace;
@@ -33,8 +34,8 @@ pub fn read_decisions<R: Read>(alloc: Global, reader: &mut Counting<R>) -> Resul
     read_whole(alloc, reader, Fault::Decisions(DecisionsError::TooLarge))
 }
 
-/// Reads a trace text to its end, judges the decisions of another text by the trace, and writes the line of the verdict.
-/// Nothing is written before the verdict stands.
+/// Reads a trace text to its end, judges the decisions of another text by the trace, and writes the line of the verdict and the
+/// details that are asked for. Nothing is written before all of it stands.
 ///
 /// Refuses, in this order: Read, or Trace for a trace text that is too large; Trace for any other refusal of it; Set if a
 /// correct processor is above the trace's number of processors; Within for a deadline that is no formula; Report if the trace
@@ -47,42 +48,18 @@ pub fn run_judge<R: Read, W: Write>(
     reader: &mut Counting<R>,
     writer: &mut Counting<W>,
 ) -> Result<Verdict, Fault>
-    ensures served { ServesTrace (IsJudgedLine judging.now decisions.now) (IsUnjudged judging.now decisions.now) R.remaining W.contents reader.old reader.new writer.old writer.new result }
-    ensures verdict { IfOk result (λ verdict. (text : List ℕ) × IfSome (R.remaining (inner_of reader.old)) (λ known. text ≡ known)
-        × OfTrace (IsJudgementOn judging.now decisions.now verdict) text
-        × Appends (W.contents (inner_of writer.old)) (W.contents (inner_of writer.new)) (told_verdict verdict)) }
+    ensures served { ServesTrace (IsJudgedText judging.now decisions.now) (IsUnjudged judging.now decisions.now) R.remaining W.contents reader.old reader.new writer.old writer.new result }
+    ensures verdict { IfOk result (λ verdict. (text out : List ℕ) × IfSome (R.remaining (inner_of reader.old)) (λ known. text ≡ known)
+        × OfTrace (IsJudgementOn judging.now decisions.now verdict out) text
+        × Appends (W.contents (inner_of writer.old)) (W.contents (inner_of writer.new)) out) }
 {
     let trace = read_text(alloc, reader)?;
-    let told = told_for(alloc, judging, decisions, &trace)?;
-    write_text(&told.line, writer)?;
+    let told = judgement_for(alloc, judging, decisions, &trace)?;
+    write_text(told.text.as_bytes(), writer)?;
     Ok(told.verdict)
 }
 
-/// A verdict and its line.
-#[derive(Drop)]
-struct Told {
-    verdict: Verdict,
-    line: Vec<u8>,
-}
-
-/// The verdict on the decisions of a text by a trace, and its line.
-fn told_for(
-    alloc: Global,
-    judging: &Judging,
-    decisions: &[u8],
-    trace: &Trace,
-) -> Result<Told, Fault>
-    ensures line { IfOk result (λ told. IsJudgedLine judging.now decisions.now trace.now told.line.items) }
-    ensures verdict { IfOk result (λ told. IsJudgementOn judging.now decisions.now told.verdict trace.now) }
-    ensures same { IfOk result (λ told. told.line.items ≡ told_verdict told.verdict) }
-    ensures refused { IfErr result (IsDeclined (IsUnjudged judging.now decisions.now trace.now)) }
-{
-    let verdict = verdict_for(alloc, judging, decisions, trace)?;
-    let line = verdict_text(alloc, verdict)?.into_bytes();
-    Ok(Told { verdict, line })
-}
-
-/// The verdict on the decisions of a text by a trace text, both in memory.
+/// The judgement of the decisions of a text by a trace text, both in memory.
 ///
 /// Refuses, in this order: Trace with the first refusal of the trace text; Set, Within, Report and Decisions as `run_judge`
 /// does. Memory may come instead.
@@ -91,22 +68,22 @@ pub fn judgement_on(
     judging: &Judging,
     text: &[u8],
     decisions: &[u8],
-) -> Result<Verdict, Fault>
-    ensures verdict { IfOk result (λ verdict. OfTrace (IsJudgementOn judging.now decisions.now verdict) text.now) }
+) -> Result<Judgement, Fault>
+    ensures verdict { IfOk result (λ told. OfTrace (IsJudgementOn judging.now decisions.now told.verdict (string_bytes told.text)) text.now) }
     ensures refused { IfErr result (IsUnanswered (IsUnjudged judging.now decisions.now) text.now) }
 {
     let trace = trace_of(alloc, text)?;
-    verdict_for(alloc, judging, decisions, &trace)
+    judgement_for(alloc, judging, decisions, &trace)
 }
 
-/// The verdict on the decisions of a text by a trace.
-fn verdict_for(
+/// The judgement of the decisions of a text by a trace.
+fn judgement_for(
     alloc: Global,
     judging: &Judging,
     decisions: &[u8],
     trace: &Trace,
-) -> Result<Verdict, Fault>
-    ensures verdict { IfOk result (λ verdict. IsJudgementOn judging.now decisions.now verdict trace.now) }
+) -> Result<Judgement, Fault>
+    ensures verdict { IfOk result (λ told. IsJudgementOn judging.now decisions.now told.verdict (string_bytes told.text) trace.now) }
     ensures refused { IfErr result (IsDeclined (IsUnjudged judging.now decisions.now trace.now)) }
 {
     let set = set_of(judging.correct, trace)?;
@@ -114,13 +91,30 @@ fn verdict_for(
     test_start(judging.start, trace)?;
     let config = trace.config();
     let decisions = decisions_of_text(alloc, decisions, config.n(), trace.last_tick())?;
-    let demands = Demands {
+    let (demands, details) = (demands_of(judging), details_of(judging));
+    Ok(judgement_of(alloc, trace, set, &decisions, &formula, demands, details)?)
+}
+
+/// What is demanded of the decisions.
+fn demands_of(judging: &Judging) -> Demands
+    ensures { result ≡ demands_of judging.now }
+{
+    Demands {
         start: judging.start.unwrap_or(1),
         valid: judging.valid,
         whole: judging.whole,
         due: judging.due.unwrap_or(0),
-    };
-    Ok(judge(alloc, trace, set, &decisions, &formula, demands)?)
+    }
+}
+
+/// What is asked for beside the verdict.
+fn details_of(judging: &Judging) -> Details
+    ensures { result ≡ details_of judging.now }
+{
+    Details {
+        factor: judging.factor,
+        rows: judging.rows,
+    }
 }
 
 /// Refuses Report for a start that is none of the ticks of the trace.

@@ -32,6 +32,10 @@ const WHOLE_HELP: &str = "Judges by the bounds of the whole run alone, not in ti
 
 const DUE_HELP: &str = "Asks that so many rows are due; 0 if it is left out";
 
+const FACTOR_HELP: &str = "Prints the least factor of FORMULA, too";
+
+const ROWS_HELP: &str = "Prints the rows with their deadlines, too";
+
 /// The judgement of decisions by a trace. One of the two files at most is standard input.
 #[derive(Debug, Drop)]
 pub struct JudgeJob {
@@ -56,6 +60,8 @@ pub fn command<'a>(alloc: Global) -> Result<Command<'a>, AllocError>
         flag_argument(alloc, "valid", VALID_HELP),
         flag_argument(alloc, "whole", WHOLE_HELP),
         due_argument(alloc),
+        flag_argument(alloc, "factor", FACTOR_HELP),
+        flag_argument(alloc, "rows", ROWS_HELP),
     ]?;
     new_command(alloc, "judge", ABOUT, help(), arguments)
 }
@@ -81,8 +87,10 @@ pub fn job(alloc: Global, found: &ArgMatches<'_>) -> Option<Result<Job, LineErro
     let valid = flag(found, "valid")?;
     let whole = flag(found, "whole")?;
     let due = tick(found, "due")?;
+    let factor = flag(found, "factor")?;
+    let rows = flag(found, "rows")?;
     Some(judge(
-        alloc, file, decisions, list, within, start, valid, whole, due,
+        alloc, file, decisions, list, within, start, valid, whole, due, factor, rows,
     ))
 }
 
@@ -97,8 +105,10 @@ fn judge(
     valid: bool,
     whole: bool,
     due: Option<u64>,
+    factor: bool,
+    rows: bool,
 ) -> Result<Job, LineError>
-    ensures job { IfOk result (IsJudge file.now decisions.now list.now within.now start valid whole due) }
+    ensures job { IfOk result (IsJudge file.now decisions.now list.now within.now start valid whole due factor rows) }
     ensures refused { IfErr result (IsFilesFault file.now decisions.now list.now) }
 {
     let correct = correct_in(alloc, "correct", list)?;
@@ -115,6 +125,8 @@ fn judge(
         valid,
         whole,
         due,
+        factor,
+        rows,
     };
     Ok(Job::Judge(JudgeJob {
         file,
@@ -141,7 +153,7 @@ that they set, all have to decide by then, though the bounds may break down
 later. --whole judges by the bounds of the whole run alone, which can hide a
 processor that was late.
 
-What is printed is one line: the first thing that is wrong, or yes.
+What is printed is a line: the first thing that is wrong, or yes.
 
   yes D due L later margin M  D rows of the report of the whole run have a
                               deadline by the last tick, and L a later one; all
@@ -154,6 +166,15 @@ What is printed is one line: the first thing that is wrong, or yes.
   no deadline G D F Y P       from tick G on the bounds delta D and phi F hold;
                               processor P hadn't decided by their deadline Y
   no due D                    with --due K: fewer than K rows are due
+
+With --factor a second line has the least number c such that all decided within
+c times FORMULA, whatever the first line says: factor C, or factor none if no
+number is enough, which is so only if FORMULA is 0 and time was needed.
+
+With --rows the rows of the report of the whole run follow, as CSV with the
+header gst,delta,phi,deadline,decided,margin: the deadline, if it is due; the
+tick by which all had decided, if they had; and how many ticks that was before
+the deadline, negative if it was later.
 
 Example, at the top of the repository:
   printf '%s\\n' proc,tick,value 1,2,5 2,3,5 |

@@ -9,7 +9,7 @@ returns c = c.new_command.ensures _ (rw c.in_ok-arguments.ensures.items (
       c.correct_argument.ensures,
       (
         c.option_argument.ensures,
-        (c.tick_argument.ensures, (c.flag_argument.ensures, (c.flag_argument-2.ensures, (c.due_argument.ensures, tt)))),
+        (c.tick_argument.ensures, (c.flag_argument.ensures, (c.flag_argument-2.ensures, (c.due_argument.ensures, (c.flag_argument-3.ensures, (c.flag_argument-4.ensures, tt)))))),
       ),
     ),
   ),

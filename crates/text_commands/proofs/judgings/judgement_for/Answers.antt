@@ -2,7 +2,7 @@ use Rattle.std.proofs.Common.{◌≡◌, ◌∙◌, Ok, refl}
 use Rattle.std.proofs.lemmas.Result.{err_from_is_err_and}
 use Rattle.judged_runs.specs.DecisionTexts.{decisions_of_text}
 use Rattle.text_commands.proofs.JudgedTraces.{formula-declined}
-use Rattle.text_commands.proofs.judgings.verdict_for.Goals as goal
+use Rattle.text_commands.proofs.judgings.judgement_for.Goals as goal
 
 -- the deadline is no formula
 pub returns-in_err-formula-clause-refused : goal.returns-in_err-formula-clause-refused
@@ -24,5 +24,5 @@ returns-clause-verdict c =
       started = c.in_ok-test_start.ensures.started;
       decisions = c.in_ok-decisions.decisions.items;
       read = read;
-      exact = rw (c.in_ok-set.ensures.set, c.deref.ensures.value, c.unwrap_or.ensures, c.unwrap_or-2.ensures) at c.in_ok-judge.ensures.verdict;
+      exact = rw (c.in_ok-set.ensures.set, c.deref.ensures.value, c.demands_of-demands.ensures, c.details_of-details.ensures) at c.in_ok-judgement_of.ensures;
     }
