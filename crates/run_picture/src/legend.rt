@@ -5,8 +5,7 @@ pub(crate) const LABEL: &str =
     "role=\"img\" aria-label=\"The least bounds from each tick to the end, and steps and messages of some ticks\"";
 
 /// The looks, by classes; on a dark screen the paper is dark.
-pub(crate) const STYLE: &str =
-    "<style>
+pub(crate) const STYLE: &str = "<style>
 path{fill:none}
 .h{font-size:140px;font-weight:600}.n,.k,.o text{fill:#6b6b6b}.e,.i text,.o text{text-anchor:end}.m{text-anchor:middle}
 .a{stroke:#e8e8e8;stroke-width:10}.b{stroke-width:25}.t path{fill:#fff;fill-opacity:0}

@@ -16,7 +16,7 @@ mod round_numbers;
 mod staircase;
 mod step_marks;
 mod svg;
-mod takers;
+pub mod takers;
 mod windows;
 mod witness_marks;
 
@@ -24,5 +24,6 @@ pub use messages::Message;
 pub use names::{MAX_NAME_BYTES, NamesError, names_of};
 pub use pictures::{Picture, picture_of};
 pub use report_rows::COLUMNS;
+pub use round_numbers::round_step;
 pub use svg::{MAX_LINES, MAX_WITNESSES, svg_text};
 pub use windows::{MAX_WINDOW, USUAL_TICKS, Window, WindowError, window_of};
