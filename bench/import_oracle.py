@@ -1,7 +1,7 @@
 #!/usr/bin/env python3
 """What `synchrony import` says of a log, straight from the words of its format: slow, and sharing no line with the program.
 
-    bench/import_oracle.py import LOG [--nodes A,B,..] [--tick W] [--until X] [--spread]
+    bench/import_oracle.py import LOG [--nodes A,B,..] [--unit U] [--tick W] [--until X] [--spread]
     bench/import_oracle.py --self-test
 
 The first answers as the program should: standard output, standard error and status. The second tries the texts of
@@ -19,7 +19,7 @@ from typing import Optional
 
 sys.dont_write_bytecode = True
 import import_times
-from import_times import above_zero, number, stamp
+from import_times import above_zero, decimal, duration, local, number, stamp
 
 HERE = os.path.dirname(os.path.realpath(__file__))
 CASES = sorted(glob.glob(f"{HERE}/../tests/cases/import*.cases"))
@@ -28,11 +28,17 @@ EVENT_LIMIT = 1_000_000
 TICK_LIMIT = 1_000_000
 LAST_NUMBER = 2**64 - 1
 LAST_STAMP = 253_402_207_200_999_999_999
+SECOND = 10**9
+# How many nanoseconds the words of --unit are.
+UNITS = {b"s": SECOND, b"ms": 10**6, b"us": 10**3, b"ns": 1}
 NODE_LIMIT = 64
 COLUMNS = (b"time", b"node", b"event", b"to", b"message")
 FEWER_TICKS = b"a greater --tick makes fewer"
 SHORTER_TICK = b"a shorter --tick sets them apart, and --spread moves one of them"
 SPREAD = b"--spread sets them apart"
+TIMES = (b"a time is a whole number, decimal seconds like 1700000000.123456, or a time stamp like 2026-11-22T10:00:00.250Z; "
+         b"all are of the kind of record 2's, and with --unit whole numbers")
+NO_NAME = b"the name of a node is text with no control character, and not empty"
 DRIFT = b"clocks drift or step, or events are logged late; --spread alone places them by cause"
 NO_OFFSETS = b"no offsets of clocks bring the messages into order"
 NO_CLOCKS = b"no clocks make this right: the records of a node are out of order, or a message is named wrongly"
@@ -60,6 +66,7 @@ class Options:
     """The words of the command line, None for what is left out."""
 
     nodes: Optional[bytes] = None
+    unit: Optional[bytes] = None
     tick: Optional[bytes] = None
     until: Optional[bytes] = None
     spread: bool = False
@@ -142,25 +149,91 @@ def is_message(text):
 
 
 def read_options(options):
-    """The list of the nodes, the tick's length with whether it is a duration, and the end with whether it is a stamp."""
+    """The list of the nodes, the kind of the times as far as it is told, the tick's length with whether it is a duration, and
+    the end with what it is."""
     nodes = None
     if options.nodes is not None:
         nodes = options.nodes.split(b",")
         if not 2 <= len(nodes) <= NODE_LIMIT or len({*nodes}) < len(nodes) or not all(map(is_name, nodes)):
             raise Refused(2, b"bad --nodes")
+    kind = None
+    if options.unit is not None:
+        if options.unit not in UNITS:
+            raise Refused(2, b"bad --unit")
+        kind = Whole(UNITS[options.unit])
     width = (1, False)
     if options.tick is not None:
-        plain, duration = number(options.tick), above_zero(options.tick)
-        width = (plain, False) if plain is not None else (duration, True)
+        plain, length = number(options.tick), above_zero(options.tick)
+        width = (plain, False) if plain is not None else (length, True)
         if not width[0]:
             raise Refused(2, b"bad --tick")
     until = None
     if options.until is not None:
-        plain, instant = number(options.until), stamp(options.until)
-        until = (plain, False) if plain is not None else (instant, True)
-        if until[0] is None:
+        forms = [(number, "number"), (decimal, "nanoseconds"), (stamp, "stamp"), (local, "local"), (duration, "nanoseconds")]
+        until = next(((read(options.until), form) for read, form in forms if read(options.until) is not None), None)
+        if until is None:
             raise Refused(2, b"bad --until")
-    return nodes, width, until
+    return nodes, kind, width, until
+
+
+# The kinds of times: what reads a field, the latest time, whether durations fit, how long a unit of W is, and the ends that
+# fit with what makes times of them
+
+
+class Numbers:
+    """Whole numbers in any unit."""
+
+    latest, has_durations, unit = LAST_NUMBER, False, 1
+    ends = {"number": 1}
+    read = staticmethod(number)
+
+
+class Whole:
+    """Whole numbers of a unit of so many nanoseconds."""
+
+    has_durations = True
+
+    def __init__(self, unit):
+        self.unit, self.latest = unit, LAST_NUMBER * unit
+        self.ends = {"number": unit, "nanoseconds": 1}
+
+    def read(self, text):
+        value = number(text)
+        return None if value is None else value * self.unit
+
+
+class Decimals:
+    """Decimal seconds, and whole ones among them."""
+
+    latest, has_durations, unit = LAST_NUMBER * SECOND + SECOND - 1, True, 1
+    ends = {"number": SECOND, "nanoseconds": 1}
+
+    @staticmethod
+    def read(text):
+        value = number(text)
+        return decimal(text) if value is None else value * SECOND
+
+
+class Stamps:
+    """Time stamps with an offset."""
+
+    latest, has_durations, unit = LAST_STAMP, True, 1
+    ends = {"stamp": 1}
+    read = staticmethod(stamp)
+
+
+class Locals:
+    """Time stamps without an offset."""
+
+    latest, has_durations, unit = LAST_STAMP, True, 1
+    ends = {"local": 1}
+    read = staticmethod(local)
+
+
+def kind_of(time):
+    """The kind of a log whose first event has this time, None if it is none."""
+    kinds = [(number, Numbers), (decimal, Decimals), (stamp, Stamps), (local, Locals)]
+    return next((kind for read, kind in kinds if read(time) is not None), None)
 
 
 # The stages, each over what those before it left
@@ -178,25 +251,25 @@ def places_of(records):
     return [header.index(it) for it in COLUMNS]
 
 
-def events_of(records, places, listed):
-    """The events, and whether their times are stamps."""
-    are_stamps, events = None, []
+def events_of(records, places, listed, kind):
+    """The events, and the kind of their times: the one that is told, or else that of the first event."""
+    events = []
     for no, record in enumerate(records[1:], 2):
         if no == EVENT_LIMIT + 2:
             refuse_log(b"too many events")
         if len(record) != len(records[0]):
             refuse_record(no, b"bad fields")
         time, node, event, to, message = (record[it] for it in places)
-        if are_stamps is None:
-            are_stamps = number(time) is None
-        value = stamp(time) if are_stamps else number(time)
+        kind = kind or kind_of(time)
+        value = kind.read(time) if kind else None
         if value is None:
-            refuse_record(no, b"bad time")
+            refuse_record(no, b"bad time", TIMES)
         if event not in (b"send", b"receive"):
             refuse_record(no, b"bad event")
         named = [node, to] if event == b"send" else [node]
-        if not all(is_name(it) and (listed is None or it in listed) for it in named):
-            refuse_record(no, b"bad node")
+        bad = next((it for it in named if not is_name(it) or (listed is not None and it not in listed)), None)
+        if bad is not None:
+            refuse_record(no, b"bad node", b'"%b" is not among --nodes' % bad if is_name(bad) else NO_NAME)
         if event == b"send":
             messages = [message]
         else:
@@ -206,7 +279,7 @@ def events_of(records, places, listed):
         events.append(Event(no, value, node, to if event == b"send" else None, messages))
     if not events:
         refuse_log(b"no events")
-    return events, are_stamps
+    return events, kind
 
 
 def numbered(events, listed):
@@ -228,24 +301,25 @@ def numbered(events, listed):
     return nodes, sends
 
 
-def check_fit(are_stamps, width, until):
-    """Refuses options that aren't of the kind of the times."""
-    if width[1] and not are_stamps:
+def fitted(kind, width, until):
+    """The tick's length and the end as times of this kind are counted; refuses options that don't fit them."""
+    if width[1] and not kind.has_durations:
         raise Refused(2, b"--tick does not fit the times")
-    if until is not None and until[1] != are_stamps:
+    if until is not None and until[1] not in kind.ends:
         raise Refused(2, b"--until does not fit the times")
+    return width[0] * (1 if width[1] else kind.unit), None if until is None else until[0] * kind.ends[until[1]]
 
 
-def last_tick_of(events, are_stamps, width, until):
+def last_tick_of(events, width, until):
     """Gives each event the tick of its time, and returns the last tick by the times."""
     first, last = min(it.time for it in events), max(it.time for it in events)
     if until is not None:
-        if until[0] < last:
+        if until < last:
             raise Refused(2, b"--until does not fit the times")
-        last = until[0]
+        last = until
     for it in events:
-        it.tick = (it.time - first) // width[0] + 1
-    last_tick = (last - first) // width[0] + 1
+        it.tick = (it.time - first) // width + 1
+    last_tick = (last - first) // width + 1
     if last_tick > TICK_LIMIT:
         refuse_log(b"too many ticks", FEWER_TICKS)
     return last_tick
@@ -289,7 +363,7 @@ def clock_line(receive, send):
         receive.record, send.messages[0], send.node, receive.node, receive.time - send.time, send.record)
 
 
-def align(events, nodes, sends, are_stamps):
+def align(events, nodes, sends, latest):
     """Moves the clocks of nodes forward, each by the least that lets every message be received later than it is sent; returns
     by how much. Goes over the messages until nothing is left to do: where clocks go on and on, they go in a circle."""
     test_messages(events, sends)
@@ -309,7 +383,7 @@ def align(events, nodes, sends, are_stamps):
         refuse_log(NO_OFFSETS, *shown, *more, b"together %d: " % together + DRIFT)
     for it in events:
         it.time += offset[it.node]
-    if max(it.time for it in events) > (LAST_STAMP if are_stamps else LAST_NUMBER):
+    if max(it.time for it in events) > latest:
         refuse_log(b"times are too late to align the clocks")
     return offset
 
@@ -454,18 +528,19 @@ def trace_of(events, nodes, sends, last_tick):
 
 
 def imported(log, options):
-    """The lines of standard output and of standard error for a log that is accepted; None is one that can't be read."""
-    listed, width, until = read_options(options)
-    if log is None:
-        raise Refused(6, b"cannot read")
+    """The lines of standard output and of standard error for a log that is accepted; an error is one that can't be read."""
+    listed, told_kind, width, until = read_options(options)
+    if isinstance(log, OSError):
+        trouble = b"is a directory" if isinstance(log, IsADirectoryError) else b"no such file"
+        raise Refused(6, b"cannot read", b"%b: %b" % (os.fsencode(log.filename), trouble))
     if len(log) > TEXT_LIMIT:
         refuse_log(b"text too large")
     records = records_of(log)
-    events, are_stamps = events_of(records, places_of(records), listed)
+    events, kind = events_of(records, places_of(records), listed, told_kind)
     nodes, sends = numbered(events, listed)
-    check_fit(are_stamps, width, until)
-    offset = align(events, nodes, sends, are_stamps) if options.align else {}
-    last_tick = last_tick_of(events, are_stamps, width, until)
+    width, until = fitted(kind, width, until)
+    offset = align(events, nodes, sends, kind.latest) if options.align else {}
+    last_tick = last_tick_of(events, width, until)
     test_steps(events, sends, options.spread)
     told = [] if listed else [b"processor %d is %b" % (at, name) for at, name in enumerate(nodes, 1)]
     told += [b"the clock of %b moved by %d" % (node, offset[node]) for node in nodes if offset.get(node, 0) > 0]
@@ -493,8 +568,8 @@ def read_log(path):
             return sys.stdin.buffer.read()
         with open(path, "rb") as opened:
             return opened.read()
-    except OSError:
-        return None
+    except OSError as error:
+        return error
 
 
 def self_test():
@@ -515,7 +590,7 @@ def main():
     commands = words.add_subparsers()
     command = commands.add_parser("import")
     command.add_argument("log")
-    for name in ("--nodes", "--tick", "--until"):
+    for name in ("--nodes", "--unit", "--tick", "--until"):
         command.add_argument(name, type=os.fsencode)
     command.add_argument("--spread", action="store_true")
     command.add_argument("--align", action="store_true")
@@ -524,7 +599,7 @@ def main():
         return self_test()
     if not hasattr(words, "log"):
         command.error("no command")
-    status, output, told = answer(read_log(words.log), Options(words.nodes, words.tick, words.until, words.spread, words.align))
+    status, output, told = answer(read_log(words.log), Options(words.nodes, words.unit, words.tick, words.until, words.spread, words.align))
     sys.stderr.buffer.write(told)
     sys.stdout.buffer.write(output)
     return status

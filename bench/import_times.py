@@ -1,4 +1,5 @@
-"""Times for the oracle of `import`: what a text is worth as a number, as a time stamp or as a duration, or None.
+"""Times for the oracle of `import`: what a text is worth as a number, as decimal seconds, as a time stamp with an offset or
+without one, or as a duration, or None.
 
 A time stamp is worth its nanosecond since 1970 began, and a duration its nanoseconds. Beside RFC 3339 a stamp may have a
 lower-case `t` or `z`, a space for the `T`, a comma for the point, no separators in its date or in its time, hours or
@@ -56,6 +57,20 @@ def number(text):
     if not re.fullmatch(rb"0|[1-9]\d{0,19}", text) or int(text) > GREATEST_NUMBER:
         return None
     return int(text)
+
+
+def decimal(text):
+    """The nanosecond of decimal seconds: a number, a point, and one to nine digits."""
+    whole, point, digits = text.partition(b".")
+    seconds = number(whole)
+    if not point or seconds is None or not re.fullmatch(rb"[0-9]{1,9}", digits):
+        return None
+    return seconds * SECOND + nanos(digits)
+
+
+def local(text):
+    """The nanosecond of a time stamp without an offset, in UTC: what is none by itself, and is one with a Z behind it."""
+    return stamp(text + b"Z") if stamp(text) is None and len(text) <= 40 else None
 
 
 def nanos(digits):
@@ -122,6 +137,12 @@ def word_parts(text):
 
 def above_zero(text):
     """The nanoseconds of a duration, which are above 0; None of any other text."""
+    value = duration(text)
+    return value if value and value > 0 else None
+
+
+def duration(text):
+    """The nanoseconds of a duration, with its sign."""
     if found := ISO.fullmatch(text):
         sign = found[1]
         parts = [(amount, fraction, UNITS[unit.decode().lower()]) for amount, fraction, unit in ISO_PART.findall(found[2])]
@@ -133,7 +154,7 @@ def above_zero(text):
         sign = sign or ago and b"-"
         parts = [(clock[1], None, UNITS["h"]), (clock[2], None, UNITS["m"]), (clock[3], clock[4], UNITS["s"])] if clock else word_parts(body)
     value = amount_of(parts) if parts else None
-    return value if value and sign != b"-" else None
+    return value if value is None or sign != b"-" else -value
 
 
 # Chosen texts: the second of a stamp as `date -u -d TEXT +%s` tells it, or worked out by hand, and its fraction.
@@ -196,10 +217,36 @@ DURATIONS_READ = {
 NO_DURATIONS = "|5|ms|0ms|0s|PT0S|-5ms|5ms ago|-PT5S|1d|1w|1mo|P1D|PT|P|0.5ns|0.0000001ms|0.0000000001s|5ms 1s|5ms5ms|5ms,|5ms, |5ms,3us|1.5h 3m|PT1.5H3M|1:02|1:02:03 4ms|+-5ms| 5ms|9223372036854775808s|2562047788015216h"
 
 
+DECIMALS_READ = {
+    "0.0": 0,
+    "0.000000001": 1,
+    "1.5": 1_500_000_000,
+    "1700000000.123456": 1_700_000_000_123_456_000,
+    "1700000000.123456789": 1_700_000_000_123_456_789,
+    "18446744073709551615.999999999": 18_446_744_073_709_551_615_999_999_999,
+}
+NO_DECIMALS = "|.|1|1.|.5|1.1234567890|01.5|+1.5|-1.5|1.5.5|1,5|1. 5|1.5 | 1.5|18446744073709551616.0|1e9.5|1.5e9|2026-11-22T10:00:00.250Z"
+LOCALS_READ = {
+    "2026-11-22 10:00:00.250": (1_795_341_600, 250_000_000),
+    "2026-11-22T10:00:00.250": (1_795_341_600, 250_000_000),
+    "2026-11-22t10:00:00": (1_795_341_600, 0),
+    "20261122T100000": (1_795_341_600, 0),
+    "2026-11-22 10:00": (1_795_341_600, 0),
+    "2026-11-22 10:00:00,123456789": (1_795_341_600, 123_456_789),
+    "1969-12-31T23:59:59.5": (-1, 500_000_000),
+    "2026-11-22T23:59:60": (1_795_391_999, 0),
+}
+NO_LOCALS = "|Z|2026-11-22|2026-11-22T10:00:00Z|2026-11-22T10:00:00+01:30|2026-11-22T10:00:00[UTC]|2026-11-22T24:00:00|2026-11-22  10:00:00|2026-11-22T10:00:00 |10:00:00|1700000000|1700000000.5|9999-12-30T22:00:01"
+
+
 def failures():
     """Tries the chosen texts, and returns how many were tried and what is wrong with which."""
     wanted = [(stamp, text, whole * SECOND + rest) for text, (whole, rest) in STAMPS_READ.items()]
     wanted += [(stamp, text, None) for line in NO_STAMPS.split("\n") for text in line.split("|")]
+    wanted += [(decimal, text, value) for text, value in DECIMALS_READ.items()]
+    wanted += [(decimal, text, None) for text in NO_DECIMALS.split("|")]
+    wanted += [(local, text, whole * SECOND + rest) for text, (whole, rest) in LOCALS_READ.items()]
+    wanted += [(local, text, None) for text in NO_LOCALS.split("|")]
     wanted += [(above_zero, text, value) for text, value in DURATIONS_READ.items()]
     wanted += [(above_zero, text, None) for text in NO_DURATIONS.split("|")]
     tried = [(text, value, read(text.encode())) for read, text, value in wanted]

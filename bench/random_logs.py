@@ -17,13 +17,15 @@ class Log:
 
     rows: list
     nodes: list
-    # The nanosecond at which time 0 is, None where times are numbers, and what is added to these.
+    # The nanosecond at which time 0 is, None where times are whole numbers, and what is added to these.
     epoch: object
     base: int
     # The length of a unit in nanoseconds, or in numbers; and of a tick in units.
     unit: int
     width: int
     spread: bool
+    # How times are written: number, whole (of the unit that --unit tells), decimal, stamp or local.
+    form: str = "number"
     columns: list = field(default_factory=lambda: [*COLUMNS])
     options: dict = field(default_factory=dict)
     # The bytes in place of what the rows give.
@@ -43,10 +45,15 @@ def random_log(chance, scale=1):
     rows = coarse_rows(chance, nodes, scale) if is_coarse else apart_rows(chance, nodes, width, scale)
     if not is_coarse and chance.random() < 0.3:
         chance.shuffle(rows)
-    epoch = chance.choice([None, None, 1_795_341_600 * 10**9, -(10**9), 946_684_799_123_456_789])
+    form = chance.choice(["number", "number", "whole", "decimal", "stamp", "stamp", "local"])
+    epoch = None
+    if form in ("stamp", "local"):
+        epoch = chance.choice([1_795_341_600 * 10**9, -(10**9), 946_684_799_123_456_789])
+    elif form == "decimal":
+        epoch = chance.choice([0, 1_700_000_000 * 10**9, 1_700_000_000_123_456_789])
     base = chance.choice([0, 0, 1, 1000, 2**32]) if epoch is None else 0
     unit = chance.choice([1, 1, 1, 7] if epoch is None else [1, 1_000, 10**6, 10**6, 10**9, 60 * 10**9])
-    log = Log(rows, nodes, epoch, base, unit, width, chance.random() < (0.7 if is_coarse else 0.2))
+    log = Log(rows, nodes, epoch, base, unit, width, chance.random() < (0.7 if is_coarse else 0.2), form)
     log.options = options_of(chance, log)
     return log
 
@@ -101,16 +108,48 @@ def options_of(chance, log):
         listed = [*log.nodes, *(it for it in ["silent", "z"] if len(log.nodes) < 60 and chance.random() < 0.2)]
         chance.shuffle(listed)
         options["nodes"] = ",".join(listed)
+    if log.form == "whole":
+        options["unit"] = chance.choice([*UNITS])
     length = log.width * log.unit
     if length > 1 or chance.random() < 0.2:
-        options["tick"] = duration_text(chance, length) if log.epoch is not None else str(length)
+        options["tick"] = tick_text(chance, log, options, length)
     if chance.random() < 0.3:
-        options["until"] = time_text(chance, log, max(it["at"] for it in log.rows) + chance.choice([0, 0, 1, 20]))
+        options["until"] = end_text(chance, log, options, max(it["at"] for it in log.rows) + chance.choice([0, 0, 1, 20]))
     if log.spread:
         options["spread"] = ""
     if chance.random() < 0.2:
         options["align"] = ""
     return options
+
+
+UNITS = {"s": 10**9, "ms": 10**6, "us": 10**3, "ns": 1}
+
+
+def tick_text(chance, log, options, length):
+    """A length of a tick in units of the times, in a form that fits them."""
+    if log.form == "number" or (log.form == "whole" and chance.random() < 0.4):
+        return str(length)
+    return duration_text(chance, length * UNITS[options.get("unit", "ns")])
+
+
+def end_text(chance, log, options, at):
+    """A time as an end of the log, in a form that fits."""
+    if log.form not in ("whole", "decimal") or chance.random() < 0.4:
+        return time_text(chance, log, at)
+    nanos = (log.base + at * log.unit) * UNITS[options.get("unit", "ns")] + (log.epoch or 0)
+    if chance.random() < 0.5:
+        return decimal_text(chance, nanos)
+    length = duration_text(chance, nanos)
+    return f"{length}ns" if length.isdigit() else length
+
+
+def decimal_text(chance, nanos):
+    """Decimal seconds in one of their forms."""
+    whole, rest = divmod(nanos, 10**9)
+    digits = f"{rest:09}"
+    while digits.endswith("0") and len(digits) > 1 and chance.random() < 0.9:
+        digits = digits[:-1]
+    return f"{whole}" if rest == 0 and chance.random() < 0.2 else f"{whole}.{digits}"
 
 
 def duration_text(chance, nanos):
@@ -123,12 +162,16 @@ def duration_text(chance, nanos):
 
 def time_text(chance, log, at):
     value = log.base + at * log.unit
-    return str(value) if log.epoch is None else stamp_text(chance, log.epoch + value)
+    if log.epoch is None:
+        return str(value)
+    if log.form == "decimal":
+        return decimal_text(chance, log.epoch + value)
+    return stamp_text(chance, log.epoch + value, log.form == "local")
 
 
-def stamp_text(chance, nanos):
-    """A time stamp in one of its forms."""
-    minutes = chance.choice([0, 0, 0, 90, -60, 345, -720])
+def stamp_text(chance, nanos, is_local=False):
+    """A time stamp in one of its forms, without an offset if it is a local one."""
+    minutes = 0 if is_local else chance.choice([0, 0, 0, 90, -60, 345, -720])
     seconds, rest = divmod(nanos + minutes * 60 * 10**9, 10**9)
     days, second = divmod(seconds, 86400)
     year, month, day = civil(days)
@@ -139,6 +182,8 @@ def stamp_text(chance, nanos):
     while fraction.endswith("000") and len(fraction) > 4:
         fraction = fraction[:-3]
     clock = f"{hour:02}{colon}{minute:02}{colon}{second:02}{fraction}"
+    if is_local:
+        return f"{year:04}{dash}{month:02}{dash}{day:02}{chance.choice('TTt  ')}{clock}"
     return f"{year:04}{dash}{month:02}{dash}{day:02}{chance.choice('TTTTt ')}{clock}{zone}{chance.choice(['', '', '', '[Europe/Paris]', '[u-ca=iso8601]'])}"
 
 
@@ -169,12 +214,21 @@ def bad_nodes(chance, log):
     log.options["nodes"] = chance.choice(["a", "a,a", "a,,b", "", ",a", "a,", "a,\x7f", ",".join(f"n{it}" for it in range(65))])
 
 
+def bad_unit(chance, log):
+    log.options["unit"] = chance.choice(["", "m", "S", "MS", "sec", " s", "s ", "1s", "min", "\u00b5s"])
+
+
+def unit_of_another_kind(chance, log):
+    """A unit is told, and the times may be anything."""
+    log.options["unit"] = chance.choice([*UNITS])
+
+
 def bad_tick(chance, log):
     log.options["tick"] = chance.choice(["0", "", "x", "0ms", "1d", "P1D", "007", "1.5", str(GREATEST + 1), "5", "5 parsecs", "5ms ago", "-5ms", "0.0000001ms"])
 
 
 def bad_until(chance, log):
-    log.options["until"] = chance.choice(["", "x", "016", "-5", "5ms", "2026-11-22", str(GREATEST + 1), "2026-11-22T24:00:00Z", "2026-11-22T10:00:00.1234567890Z"])
+    log.options["until"] = chance.choice(["", "x", "016", "-5", "5 parsecs", "5.", ".5", "05.5", "1.1234567890", "2026-11-22", str(GREATEST + 1), "2026-11-22T24:00:00Z", "2026-11-22T10:00:00.1234567890Z"])
 
 
 def no_log(chance, log):
@@ -201,8 +255,9 @@ def bad_fields(chance, log):
 
 def bad_time(chance, log):
     row, kind = chance.choice([log.rows[0], *log.rows]), chance.randrange(3)
-    other = "2026-11-22T10:00:00Z" if log.epoch is None else "5"
-    row["time"] = [other, chance.choice(["", "x", "07", "+7", "-7", "7.5", str(GREATEST + 1), "2026-11-22"]), f" {row['at']}"][kind]
+    others = {"number": "5", "decimal": "5.25", "stamp": "2026-11-22T10:00:00Z", "local": "2026-11-22 10:00:00"}
+    other = chance.choice([text for form, text in others.items() if form != log.form])
+    row["time"] = [other, chance.choice(["", "x", "07", "+7", "-7", "7.", ".5", "7.1234567890", str(GREATEST + 1), "2026-11-22"]), f" {row['at']}"][kind]
 
 
 def bad_event(chance, log):
@@ -253,9 +308,9 @@ def tick_of_another_kind(chance, log):
 
 def until_of_another_kind(chance, log):
     times = [it["at"] for it in log.rows] or [0]
-    early = chance.choice([max(times) - 1, min(times), min(times) - 1])
-    stamps = log.epoch is not None
-    log.options["until"] = chance.choice(["5" if stamps else "2026-11-22T10:00:00Z", time_text(chance, log, early) if stamps else str(max(0, log.base + early * log.unit))])
+    early = max(0, chance.choice([max(times) - 1, min(times), min(times) - 1]))
+    others = ["5", "5.25", "2026-11-22T10:00:00Z", "2026-11-22 10:00:00", "5ms", "0s", "-5ms", "5ms ago", "20000000000.5", "90000000000s"]
+    log.options["until"] = chance.choice([chance.choice(others), end_text(chance, log, log.options if log.options.get("unit") in UNITS else {}, early)])
 
 
 def too_many_ticks(chance, log):
@@ -299,7 +354,7 @@ def no_later(chance, log):
 def longer_ticks(chance, log):
     """Ticks that hold more than the log was made for."""
     length = log.width * log.unit * chance.choice([2, 2, 3, 10])
-    log.options["tick"] = str(length) if log.epoch is None else duration_text(chance, length)
+    log.options["tick"] = tick_text(chance, log, log.options if log.options.get("unit") in UNITS else {}, length)
     if chance.random() < 0.8:
         log.options.pop("spread", None)
 
@@ -357,8 +412,8 @@ def spread_past(chance, log):
 
 
 AIMS = [
-    bad_nodes, bad_tick, bad_until, no_log, no_column, two_columns, bad_fields, bad_time, bad_event, bad_node, bad_message,
-    no_events, too_many_nodes, sent_before, too_few_nodes, tick_of_another_kind, until_of_another_kind, too_many_ticks,
+    bad_nodes, bad_unit, bad_tick, bad_until, no_log, no_column, two_columns, bad_fields, bad_time, bad_event, bad_node, bad_message,
+    no_events, too_many_nodes, sent_before, too_few_nodes, unit_of_another_kind, tick_of_another_kind, until_of_another_kind, too_many_ticks,
     never_sent, for_another, received_before, no_later, longer_ticks, second_event, skewed, aligned, aligned, cycle, spread_past,
 ]
 

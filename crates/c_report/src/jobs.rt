@@ -117,6 +117,7 @@ fn imported(alloc: Global, given: &ImportOptions, text: &[u8]) -> Result<Vec<u8>
     let options = import_options(
         alloc,
         text_in(&given.nodes),
+        text_in(&given.unit),
         text_in(&given.tick),
         text_in(&given.until),
         given.spread,

@@ -25,6 +25,7 @@ option_words (option.To to from) = codes "--to"
 -- an option of a log, likewise
 abbrev pub import_option_words : ImportOption → List ℕ
 import_option_words import_option.Nodes = codes "--nodes"
+import_option_words import_option.Unit = codes "--unit"
 import_option_words import_option.Tick = codes "--tick"
 import_option_words import_option.Until = codes "--until"
 

@@ -88,6 +88,7 @@ fault_of_log e = fault.Log e
 -- the fault that options of a log which aren't told are
 abbrev pub fault_of_options : OptionError → Fault
 fault_of_options no_options.Nodes = fault.Import option.Nodes
+fault_of_options no_options.Unit = fault.Import option.Unit
 fault_of_options no_options.Tick = fault.Import option.Tick
 fault_of_options no_options.Until = fault.Import option.Until
 fault_of_options no_options.Memory = fault.Memory

@@ -107,6 +107,7 @@ impl fmt::Display for ImportOption {
     fn fmt<W: fmt::Write>(&self, f: &mut fmt::Formatter<W>) -> fmt::Result {
         match self {
             ImportOption::Nodes => f.write_str("--nodes"),
+            ImportOption::Unit => f.write_str("--unit"),
             ImportOption::Tick => f.write_str("--tick"),
             ImportOption::Until => f.write_str("--until"),
         }

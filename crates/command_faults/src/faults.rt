@@ -113,6 +113,8 @@ pub enum ReportOption {
 pub enum ImportOption {
     /// The nodes.
     Nodes,
+    /// The unit of the times.
+    Unit,
     /// The length of a tick.
     Tick,
     /// When the log ends.
@@ -217,6 +219,7 @@ impl From<OptionError> for Fault {
     fn from(why: OptionError) -> Fault {
         match why {
             OptionError::Nodes => Fault::Import(ImportOption::Nodes),
+            OptionError::Unit => Fault::Import(ImportOption::Unit),
             OptionError::Tick => Fault::Import(ImportOption::Tick),
             OptionError::Until => Fault::Import(ImportOption::Until),
             OptionError::Memory => Fault::Memory,

@@ -46,7 +46,7 @@ impl fmt::Display for HelpLine<'_> {
             ),
             LogError::NoOffsets(lines) => write!(f, "{lines}"),
             LogError::BadTime(_) => f.write_str(
-                "\nsynchrony: a time is a number, or a time stamp like 2026-11-22T10:00:00.250Z; all times are of the kind of record 2's",
+                "\nsynchrony: a time is a whole number, decimal seconds like 1700000000.123456, or a time stamp like 2026-11-22T10:00:00.250Z; all are of the kind of record 2's, and with --unit whole numbers",
             ),
             LogError::BadNode(_, None) => f.write_str(
                 "\nsynchrony: the name of a node is text with no control character, and not empty",
@@ -65,7 +65,8 @@ fn hint_line(hint: Option<Hint>) -> &'static str
 {
     match hint {
         None => "",
-        Some(Hint::ShorterTick) => "\nsynchrony: a shorter --tick sets them apart, and --spread moves one of them",
+        Some(Hint::ShorterTick) =>
+            "\nsynchrony: a shorter --tick sets them apart, and --spread moves one of them",
         Some(Hint::Spread) => "\nsynchrony: --spread sets them apart",
     }
 }

@@ -165,6 +165,8 @@ pub struct Drawing {
 pub struct ImportOptions {
     /// The names of the nodes, with commas between them: those of the log, in their order, where there are none.
     pub nodes: Option<String>,
+    /// The unit of the log's times, which are then whole numbers of it: as its first event has them where there is none.
+    pub unit: Option<String>,
     /// The length of a tick, a number or a duration: 1 where there is none.
     pub tick: Option<String>,
     /// The time when the log ends: that of its last event where there is none.

@@ -1,6 +1,6 @@
 -- Logs whose clocks are aligned, and why others aren't.
-use Rattle.std.proofs.Common.{ℕ, zero, suc, ◌≡◌, ◌<◌, ◌≤◌, ◌∙◌, ◌⊎◌, inl, inr, Bool, true, false, List, [], ◌∷◌, length, map, Option, Some, None, refl, sym, ap, subst, arith, ℤ}
-use Rattle.std.specs.Prelude.{All, IfSome, MatchBool, ⊤, get_or}
+use Rattle.std.proofs.Common.{ℕ, zero, suc, ◌≡◌, ◌<◌, ◌≤◌, ◌∙◌, ◌⊎◌, inl, inr, List, [], ◌∷◌, length, map, Option, Some, None, refl, sym, ap, subst, arith, ℤ}
+use Rattle.std.specs.Prelude.{All, IfSome, get_or}
 use Rattle.std.proofs.lemmas.List.{length-map}
 use Rattle.std.proofs.lemmas.List.Elements.{All-cons, All-head, All-nil, All-tail}
 use Rattle.timed_events.specs.declared.events.Event.{Event}
@@ -14,12 +14,9 @@ use Rattle.clock_offsets.specs.ClockCycles.{IsClockCycle, LeadFrom}
 use Rattle.clock_offsets.specs.EventNeeds.{clock_at}
 use Rattle.clock_offsets.specs.MovedClocks.{moved_event}
 use Rattle.event_log.specs.declared.reading.TheConstants.{MAX_EVENTS}
-use Rattle.event_log.specs.declared.refusals.LogError.{LogError}
-use Rattle.event_log.specs.declared.refusals.LogError.TheVariants.{Memory}
 use Rattle.event_log.specs.declared.times.TimeKind.{TimeKind}
 use Rattle.event_log.specs.Events.{seen}
-use Rattle.event_log.specs.Imports.{event_place, HaveNoOffsets, IsAlignRefusal, IsBehindCycle, IsErrorOf, IsErrorUnlessMemory, IsUnalignedFor}
-use Rattle.event_log.specs.Naming.{is_memory}
+use Rattle.event_log.specs.Imports.{event_place, IsBehindCycle}
 use Rattle.event_log.specs.SoundLogs.{IsSound, IsWithin}
 use Rattle.event_log.proofs.EventPlaces.{fault-within}
 use Rattle.event_log.proofs.LogCycles.{fault-behind}

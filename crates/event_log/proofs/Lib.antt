@@ -14,3 +14,4 @@ pub mod Texts
 pub mod Views
 pub mod AlignedLogs
 pub mod OneAlignment
+pub mod TimeTexts

@@ -97,6 +97,7 @@ too-few names lt h = let two = h.two in absurd (omega (arith, two, lt))
 -- a fault of one node is one of all
 pub fault-from : {P Q : Type 0} (why : OptionError) → (P → Q) → IsNodeFault P why → IsNodeFault Q why
 fault-from option.Nodes f h = f h
+fault-from option.Unit f h = h
 fault-from option.Tick f h = h
 fault-from option.Until f h = h
 fault-from option.Memory f h = tt

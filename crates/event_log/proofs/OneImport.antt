@@ -20,6 +20,7 @@ use Rattle.event_log.specs.declared.records.Verb.TheVariants as verb
 use Rattle.event_log.specs.declared.refusals.LogError.{LogError}
 use Rattle.event_log.specs.declared.refusals.LogError.TheVariants.{BadFields, BadTime, BadEvent, BadNode, BadMessage, TooLarge, TooManyEvents}
 use Rattle.event_log.specs.declared.times.TimeKind.{TimeKind}
+use Rattle.event_log.specs.declared.times.TimeUnit.{TimeUnit}
 use Rattle.event_log.specs.Alignments.{AreAligned}
 use Rattle.event_log.specs.Columns.{columns_of}
 use Rattle.event_log.specs.Events.{seen}
@@ -28,6 +29,7 @@ use Rattle.event_log.specs.LogRecords.{Said, accepted, are_messages, are_nodes_b
 use Rattle.event_log.specs.Logs.{SeenLog, resolved_log}
 use Rattle.event_log.specs.Names.{has_name}
 use Rattle.event_log.specs.Stages.{header_stage, names_stage, rules, says_of, staged_log, with_said}
+use Rattle.event_log.specs.Times.{settled}
 use Rattle.event_log.proofs.OneAlignment.{aligned-once}
 use Rattle.event_log.proofs.SeenEvents.{lateness-same, timed-as-seen}
 
@@ -46,7 +48,7 @@ node-same None (Some b) name h = absurd (cc)
 node-same (Some a) None name h = absurd (cc)
 node-same (Some a) (Some b) name h = let same : a.now ≡ b.now = cc in ap (λ names. has_name names name) same
 
-module _ (a b : Option (Bor (List (List ℕ)))) (same : option_map (λ nodes. nodes.now) a ≡ option_map (λ nodes. nodes.now) b) where
+module _ (unit : Option TimeUnit) (a b : Option (Bor (List (List ℕ)))) (same : option_map (λ nodes. nodes.now) a ≡ option_map (λ nodes. nodes.now) b) where
   nodes-same : (v : Verb) (s : Said) → are_nodes_by v a s ≡ are_nodes_by v b s
   nodes-same verb.Send s = ap₂ (λ t u. t && u) (node-same a b s.node same) (node-same a b s.to same)
   nodes-same verb.Receive s = node-same a b s.node same
@@ -58,32 +60,32 @@ module _ (a b : Option (Bor (List (List ℕ)))) (same : option_map (λ nodes. no
   accepted-same : (number : ℕ) (s : Said) → accepted a number s ≡ accepted b number s
   accepted-same number s = ap₂ (λ t (bad : Option (List ℕ)). cond t (cond (are_messages s) (Ok s) (Err (BadMessage number))) (Err (BadNode number bad))) (nodes-same s.verb s) (bad-same s.verb s)
 
-  said-same : (columns : Columns) (kind : Option TimeKind) (number : ℕ) (fields : List (List ℕ)) → said_of (rules columns kind a) number fields ≡ said_of (rules columns kind b) number fields
+  said-same : (columns : Columns) (kind : Option TimeKind) (number : ℕ) (fields : List (List ℕ)) → said_of (rules columns unit kind a) number fields ≡ said_of (rules columns unit kind b) number fields
   said-same columns kind number fields =
       ap (λ r. cond (length fields == columns.fields) r (Err (BadFields number)))
-      (then-same (ok_or (moment_as kind (field_of fields columns.time)) (BadTime number)) _ _ (λ moment.
+      (then-same (ok_or (moment_as (settled unit kind) (field_of fields columns.time)) (BadTime number)) _ _ (λ moment.
       then-same (ok_or (verb_of (field_of fields columns.event)) (BadEvent number)) _ _ (λ v.
       accepted-same number (said_by columns moment v fields))))
 
-  says-same : (columns : Columns) (kind : Option TimeKind) (place : ℕ) (records : List (List (List ℕ))) → says_of columns a kind place records ≡ says_of columns b kind place records
+  says-same : (columns : Columns) (kind : Option TimeKind) (place : ℕ) (records : List (List (List ℕ))) → says_of columns unit a kind place records ≡ says_of columns unit b kind place records
   unfolding says_of
   says-same columns kind place [] = refl
   says-same columns kind place (fields ∷ more) =
       unless-same (nat_le MAX_EVENTS place) TooManyEvents _ _
-      (ap (λ r. r >>= λ s. says_of columns a (Some s.moment.kind) (place + 1) more >>= λ r. with_said s r) (said-same columns kind (place + 2) fields)
-      ∙ then-same (said_of (rules columns kind b) (place + 2) fields) _ _ (λ s. ap (λ r. r >>= λ r. with_said s r) (says-same columns (Some s.moment.kind) (place + 1) more)))
+      (ap (λ r. r >>= λ s. says_of columns unit a (Some s.moment.kind) (place + 1) more >>= λ r. with_said s r) (said-same columns kind (place + 2) fields)
+      ∙ then-same (said_of (rules columns unit kind b) (place + 2) fields) _ _ (λ s. ap (λ r. r >>= λ r. with_said s r) (says-same columns (Some s.moment.kind) (place + 1) more)))
 
-  header-same : (nodes : List (List ℕ)) (records : List (List (List ℕ))) → header_stage a nodes records ≡ header_stage b nodes records
+  header-same : (nodes : List (List ℕ)) (records : List (List (List ℕ))) → header_stage unit a nodes records ≡ header_stage unit b nodes records
   header-same nodes [] = refl
   header-same nodes (header ∷ more) = then-same (columns_of header) _ _ (λ columns. ap (λ r. r >>= λ r. names_stage nodes r) (says-same columns None 0 more))
 
-  staged-same : (nodes : List (List ℕ)) (text : List ℕ) → staged_log a nodes text ≡ staged_log b nodes text
+  staged-same : (nodes : List (List ℕ)) (text : List ℕ) → staged_log unit a nodes text ≡ staged_log unit b nodes text
   staged-same nodes text =
       ap (λ r. cond (nat_le (length text) MAX_TEXT_BYTES) (r >>= λ r. Ok (resolved_log r.0 r.1)) (Err TooLarge)) (header-same nodes (records_of_text text))
 
 -- a text tells one list of events, or is refused for one reason
 pub IsRead-unique : (o : Options) (text : List ℕ) (a b : Result SeenLog LogError) → IsRead o text a → IsRead o text b → a ≡ b
-IsRead-unique o text a b s t = sym s.staged ∙ staged-same s.listed t.listed (s.same ∙ sym t.same) (unwrap_or o.nodes []) text ∙ t.staged
+IsRead-unique o text a b s t = sym s.staged ∙ staged-same o.unit s.listed t.listed (s.same ∙ sym t.same) (unwrap_or o.nodes []) text ∙ t.staged
 
 same-Ok : {A : Type 0} {x y : A} → ◌≡◌ {A = Result A LogError} (Ok x) (Ok y) → x ≡ y
 same-Ok e = cc e

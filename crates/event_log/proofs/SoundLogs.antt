@@ -20,6 +20,7 @@ use Rattle.event_log.specs.declared.records.Verb.TheVariants as verb
 use Rattle.event_log.specs.declared.refusals.LogError.{LogError}
 use Rattle.event_log.specs.declared.refusals.LogError.TheVariants.{TooManyNodes, SentBefore, TooManyEvents, TooFewNodes, TooLarge}
 use Rattle.event_log.specs.declared.times.TimeKind.{TimeKind}
+use Rattle.event_log.specs.declared.times.TimeUnit.{TimeUnit}
 use Rattle.event_log.specs.declared.logs.NamedEvents.{NamedEvents}
 use Rattle.event_log.specs.Columns.{columns_of}
 use Rattle.event_log.specs.Events.{resolved, resolved_act}
@@ -175,8 +176,8 @@ reached r q (fields ∷ more) h e =
     let n = bound (next_reading r fields) (λ t. after_records next_reading t more) q e in
     reached n.0 q more (reached-by r.columns r n.0 fields h n.1) n.2
 
-begins : (listed : Option (Bor (List (List ℕ)))) (nodes : List (List ℕ)) → IsReached (nothing_read listed nodes)
-begins listed nodes = record {
+begins : (unit : Option TimeUnit) (listed : Option (Bor (List (List ℕ)))) (nodes : List (List ℕ)) → IsReached (nothing_read unit listed nodes)
+begins unit listed nodes = record {
   few = omega arith;
   kind = tt;
   names = record { events = refl; nodes = λ l. absurd (omega (arith, l)); within = All-nil (EventWithin (length nodes)) };
@@ -218,11 +219,11 @@ either : {A : Type 0} (b : Bool) (r : Result A LogError) (e : LogError) (x : A) 
 either true r e x h = h
 either false r e x h = cc h
 
-whole : (listed : Option (Bor (List (List ℕ)))) (nodes : List (List ℕ)) (text : List ℕ) (x : TimeKind × Named) → named_of listed nodes text ≡ Ok x → IsWhole x.1
-whole listed nodes text x e =
+whole : (unit : Option TimeUnit) (listed : Option (Bor (List (List ℕ)))) (nodes : List (List ℕ)) (text : List ℕ) (x : TimeKind × Named) → named_of unit listed nodes text ≡ Ok x → IsWhole x.1
+whole unit listed nodes text x e =
     let read = either (nat_le (length text) MAX_TEXT_BYTES) _ TooLarge x e in
-    let r = bound (after_records next_reading (nothing_read listed nodes) (records_of_text text)) named_at_end x read in
-    whole-end r.0.columns r.0 x (reached (nothing_read listed nodes) r.0 (records_of_text text) (begins listed nodes) r.1) r.2
+    let r = bound (after_records next_reading (nothing_read unit listed nodes) (records_of_text text)) named_at_end x read in
+    whole-end r.0.columns r.0 x (reached (nothing_read unit listed nodes) r.0 (records_of_text text) (begins unit listed nodes) r.1) r.2
 
 -- the same with the places of sends in place of the names of messages
 act-resolved : (messages : List (List ℕ)) (sends : List ℕ) (act : KeptAct) (count : ℕ) → KeptWithin count act → SendsWithin count (resolved_act messages sends act)
@@ -238,10 +239,10 @@ all-resolved messages sends count (x ∷ xs) h =
     (first.0, act-resolved messages sends x.act count first.1)
     (all-resolved messages sends count xs (All-tail (EventWithin count) x xs h))
 
-sound-log : (listed : Option (Bor (List (List ℕ)))) (nodes : List (List ℕ)) (text : List ℕ) (log : SeenLog) → events_in listed nodes text ≡ Ok log → IsSound log
-sound-log listed nodes text log e =
-    let x = bound (named_of listed nodes text) (λ r. Ok (resolved_log r.0 r.1)) log e in
-    let h = whole listed nodes text x.0 x.1 in
+sound-log : (unit : Option TimeUnit) (listed : Option (Bor (List (List ℕ)))) (nodes : List (List ℕ)) (text : List ℕ) (log : SeenLog) → events_in unit listed nodes text ≡ Ok log → IsSound log
+sound-log unit listed nodes text log e =
+    let x = bound (named_of unit listed nodes text) (λ r. Ok (resolved_log r.0 r.1)) log e in
+    let h = whole unit listed nodes text x.0 x.1 in
     let n = x.0.1 in
     let len = length-map n.events (resolved n.messages n.sends) in
     let some = h.some in
@@ -255,7 +256,7 @@ sound-log listed nodes text log e =
     })
 
 -- so an answer that is no refusal is sound
-pub gives-sound : (listed : Option (Bor (List (List ℕ)))) (nodes : List (List ℕ)) (text : List ℕ) (result : Result NamedEvents LogError)
-    → GivesUnless is_memory seen_log result (events_in listed nodes text) → IfOk result (λ log. IsSound (seen_log log))
-gives-sound listed nodes text (Ok log) e = sound-log listed nodes text (seen_log log) e
-gives-sound listed nodes text (Err why) e = tt
+pub gives-sound : (unit : Option TimeUnit) (listed : Option (Bor (List (List ℕ)))) (nodes : List (List ℕ)) (text : List ℕ) (result : Result NamedEvents LogError)
+    → GivesUnless is_memory seen_log result (events_in unit listed nodes text) → IfOk result (λ log. IsSound (seen_log log))
+gives-sound unit listed nodes text (Ok log) e = sound-log unit listed nodes text (seen_log log) e
+gives-sound unit listed nodes text (Err why) e = tt

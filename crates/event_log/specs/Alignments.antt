@@ -1,16 +1,21 @@
 -- Logs whose clocks are aligned.
-use Rattle.std.specs.Prelude.{ℕ, ◌≡◌, ℤ, pos, Bool, true, false, List, map, Option, Some, None}
+use Rattle.std.specs.Prelude.{ℕ, ◌*◌, ◌≡◌, ℤ, pos, Bool, true, false, List, map, Option, Some, None}
 use Rattle.timed_events.specs.declared.events.Event.{Event}
 use Rattle.timed_events.specs.Checks.{first_fault}
 use Rattle.clock_offsets.specs.EventNeeds.{AreClockOffsets}
 use Rattle.clock_offsets.specs.MovedClocks.{moved_event}
 use Rattle.event_log.specs.declared.times.TimeKind.{TimeKind}
 use Rattle.event_log.specs.declared.times.TimeKind.TheVariants as kind
+use Rattle.event_log.specs.Times.{nanoseconds_in}
 
--- the latest time of a kind: the greatest number of 64 bits, and the last time stamp that is read
+-- the latest time of a kind: the greatest number of 64 bits, in its unit or as seconds with nine digits behind them, and the
+-- last time stamp that is read
 abbrev pub latest_in : TimeKind → ℤ
 latest_in kind.Number = pos 18446744073709551615
+latest_in (kind.Whole unit) = pos (18446744073709551615 * nanoseconds_in unit)
+latest_in kind.Decimal = pos 18446744073709551615999999999
 latest_in kind.Stamp = pos 253402207200999999999
+latest_in kind.Local = pos 253402207200999999999
 
 -- Nothing is against the messages of the events, the offsets are the least that bring them into order, and each event is
 -- moved by that of its node's clock.

@@ -1,5 +1,5 @@
 -- Logs read as traces.
-use Rattle.std.specs.Prelude.{ℕ, ◌≡◌, ◌+◌, ◌⊎◌, List, [], map, length, Option, Some, None, Result, Ok, Err, option_map, nat_lt, if◌then◌else◌, slice_get, slice_index_or, unwrap_or, ℤ, true, IfSome, MatchBool, ⊤}
+use Rattle.std.specs.Prelude.{ℕ, ◌≡◌, ◌+◌, ◌*◌, ◌⊎◌, List, [], map, length, Option, Some, None, Result, Ok, Err, option_map, nat_lt, if◌then◌else◌, slice_get, slice_index_or, unwrap_or, ℤ, pos, true, IfSome, MatchBool, ⊤}
 use Rattle.std.specs.Borrow.{Bor}
 use Rattle.std.specs.Option.{option_map_or}
 use Rattle.timed_events.specs.declared.cause_cycles.Hop.{Hop}
@@ -19,7 +19,8 @@ use Rattle.event_log.specs.declared.imports.Import.{Import}
 use Rattle.event_log.specs.declared.options.Options.{Options}
 use Rattle.event_log.specs.declared.refusals.LogError.{LogError}
 use Rattle.event_log.specs.declared.refusals.LogError.TheVariants.{TickUnfit, UntilUnfit, TooManyTicks, NeverSent, WrongReceiver, ReceivedBefore, NotLater, SecondEvent, Cycle, NoOffsets, TooLate, Memory}
-use Rattle.event_log.specs.declared.times.Moment.{Moment}
+use Rattle.event_log.specs.declared.times.LogEnd.{LogEnd}
+use Rattle.event_log.specs.declared.times.LogEnd.TheVariants as end
 use Rattle.event_log.specs.declared.times.TimeKind.{TimeKind}
 use Rattle.event_log.specs.declared.times.TimeKind.TheVariants as kind
 use Rattle.event_log.specs.declared.times.Width.{Width}
@@ -34,35 +35,44 @@ use Rattle.event_log.specs.HopLines.{hop_lines}
 use Rattle.event_log.specs.Logs.{SeenLog}
 use Rattle.event_log.specs.Naming.{is_memory}
 use Rattle.event_log.specs.Stages.{staged_log}
+use Rattle.event_log.specs.Times.{nanoseconds_in}
 use Rattle.event_log.specs.ToldNames.{message_name, node_name}
 
 -- a length above 0
 abbrev pub above_zero : ℕ → Result ℕ LogError
 above_zero n = if nat_lt 0 n then Ok n else Err TickUnfit
 
--- a duration fits only time stamps
+-- a duration doesn't fit numbers of any unit
 abbrev pub duration_in : TimeKind → ℕ → Result ℕ LogError
 duration_in kind.Number n = Err TickUnfit
-duration_in kind.Stamp n = above_zero n
+duration_in k n = above_zero n
 
--- the length of a tick in the unit of times of this kind; one of 0 fits no times
+-- so many units of times of this kind: of their own unit, if one is told, and else of that in which they are counted
+abbrev pub units_in : TimeKind → ℕ → ℕ
+units_in (kind.Whole unit) n = n * nanoseconds_in unit
+units_in k n = n
+
+-- the length of a tick as times of this kind are counted; one of 0 fits no times
 abbrev pub width_in : TimeKind → Width → Result ℕ LogError
-width_in k (Units n) = above_zero n
+width_in k (Units n) = above_zero (units_in k n)
 width_in k (Nanoseconds n) = duration_in k n
 
-abbrev pub time_by : TimeKind → TimeKind → ℤ → Result ℤ LogError
-time_by kind.Number kind.Number x = Ok x
-time_by kind.Stamp kind.Stamp x = Ok x
-time_by k other x = Err UntilUnfit
-
--- a time, which has to be of this kind
-abbrev pub time_in : TimeKind → Moment → Result ℤ LogError
-time_in k m = time_by k m.kind m.time
+-- The end of a log as times of this kind are counted. A whole number is one among the times, and a duration or decimal
+-- seconds fit whole numbers of a unit and decimal seconds; a time stamp fits those of its own kind.
+abbrev pub end_in : TimeKind → LogEnd → Result ℤ LogError
+end_in kind.Number (end.Number n) = Ok (pos n)
+end_in (kind.Whole unit) (end.Number n) = Ok (pos (n * nanoseconds_in unit))
+end_in (kind.Whole unit) (end.Nanoseconds x) = Ok x
+end_in kind.Decimal (end.Number n) = Ok (pos (n * 1000000000))
+end_in kind.Decimal (end.Nanoseconds x) = Ok x
+end_in kind.Stamp (end.Stamp x) = Ok x
+end_in kind.Local (end.Local x) = Ok x
+end_in k other = Err UntilUnfit
 
 -- when a log with times of this kind ends, where that is told
-abbrev pub until_in : TimeKind → Option Moment → Result (Option ℤ) LogError
+abbrev pub until_in : TimeKind → Option LogEnd → Result (Option ℤ) LogError
 until_in k None = Ok None
-until_in k (Some m) = time_in k m >>= λ x. Ok (Some x)
+until_in k (Some e) = end_in k e >>= λ x. Ok (Some x)
 
 -- the clock of a log with times of this kind
 abbrev pub clock_in : Options → TimeKind → Result Clock LogError
@@ -142,7 +152,7 @@ IsAlignRefusal text nodes events why = MatchBool (is_memory why) ⊤ (IsUnaligne
 pub record IsRead (o : Options) (text : List ℕ) (answer : Result SeenLog LogError) : Type 0 where
   pub listed : Option (Bor (List (List ℕ)))
   pub same : option_map (λ nodes. nodes.now) listed ≡ o.nodes
-  pub staged : staged_log listed (unwrap_or o.nodes []) text ≡ answer
+  pub staged : staged_log o.unit listed (unwrap_or o.nodes []) text ≡ answer
 
 -- the events aren't told for this reason, or for want of memory
 abbrev pub IsReadRefusal : Options → List ℕ → LogError → Type 0

@@ -1,5 +1,5 @@
 -- What a record of a log says of an event, or the first reason for which it is refused.
-use Rattle.std.specs.Prelude.{ℕ, List, Option, Some, None, Result, Ok, Err, Bool, ◌&&◌, ◌==◌, codes, length, option_map, if◌then◌else◌}
+use Rattle.std.specs.Prelude.{ℕ, List, Option, Some, None, Result, Ok, Err, Bool, ◌&&◌, ◌==◌, codes, length, if◌then◌else◌}
 use Rattle.std.specs.Borrow.{Bor}
 use Rattle.std.specs.Option.{ok_or}
 use Rattle.std.specs.Str.{bytes_eq}
@@ -14,7 +14,7 @@ use Rattle.event_log.specs.declared.refusals.LogError.TheVariants.{BadFields, Ba
 use Rattle.event_log.specs.declared.times.Moment.{Moment}
 use Rattle.event_log.specs.declared.times.TimeKind.{TimeKind}
 use Rattle.event_log.specs.Names.{are_message_names, has_name, is_message_name, is_name}
-use Rattle.event_log.specs.Times.{moment_of, time_as}
+use Rattle.event_log.specs.Times.{moment_in, moment_of}
 
 -- what a record says of an event
 pub record Said : Type 0 where
@@ -31,7 +31,7 @@ said told = record { moment = told.moment; verb = told.verb; node = told.node.no
 -- a time of the kind of the times, where it is settled
 abbrev pub moment_as : Option TimeKind → List ℕ → Option Moment
 moment_as None field = moment_of field
-moment_as (Some kind) field = option_map (λ time. record { kind = kind; time = time }) (time_as kind field)
+moment_as (Some kind) field = moment_in kind field
 
 abbrev pub verb_of : List ℕ → Option Verb
 verb_of field =

@@ -5,6 +5,7 @@ use Rattle.trace_text.specs.Records.{◌>>=◌}
 use Rattle.event_log.specs.declared.logs.NamedEvents.{NamedEvents}
 use Rattle.event_log.specs.declared.refusals.LogError.{LogError}
 use Rattle.event_log.specs.declared.times.TimeKind.{TimeKind}
+use Rattle.event_log.specs.declared.times.TimeUnit.{TimeUnit}
 use Rattle.event_log.specs.Events.{Seen, resolved, seen}
 use Rattle.event_log.specs.Naming.{Named}
 use Rattle.event_log.specs.Reading.{named_of}
@@ -24,5 +25,5 @@ abbrev pub resolved_log : TimeKind → Named → SeenLog
 resolved_log kind names = record { kind = kind; nodes = names.nodes; events = map (resolved names.messages names.sends) names.events }
 
 -- the events of a log, or the first refusal
-abbrev pub events_in : Option (Bor (List (List ℕ))) → List (List ℕ) → List ℕ → Result SeenLog LogError
-events_in listed nodes text = named_of listed nodes text >>= λ r. Ok (resolved_log r.0 r.1)
+abbrev pub events_in : Option TimeUnit → Option (Bor (List (List ℕ))) → List (List ℕ) → List ℕ → Result SeenLog LogError
+events_in unit listed nodes text = named_of unit listed nodes text >>= λ r. Ok (resolved_log r.0 r.1)

@@ -5,11 +5,12 @@ use Rattle.std.specs.Str.{bytes_eq}
 use Rattle.event_log.specs.declared.options.Options.{Options}
 use Rattle.event_log.specs.declared.options.OptionError.{OptionError}
 use Rattle.event_log.specs.declared.options.OptionError.TheVariants as option
-use Rattle.event_log.specs.declared.times.Moment.{Moment}
+use Rattle.event_log.specs.declared.times.LogEnd.{LogEnd}
+use Rattle.event_log.specs.declared.times.TimeUnit.{TimeUnit}
 use Rattle.event_log.specs.declared.times.Width.{Width}
 use Rattle.event_log.specs.declared.times.Width.TheVariants.{Units}
 use Rattle.event_log.specs.Names.{has_name, is_name}
-use Rattle.event_log.specs.Times.{IsWidth, moment_of}
+use Rattle.event_log.specs.Times.{IsEnd, IsWidth, unit_of}
 
 -- the parts of a text between its commas
 abbrev pub parts_between_commas : List ℕ → List (List ℕ)
@@ -29,6 +30,7 @@ is_next_node names name = is_name name && nat_lt (length names) 64 && not (has_n
 -- a text lists no nodes for this reason, unless memory was wanting
 abbrev pub IsNodeFault : Type 0 → OptionError → Type 0
 IsNodeFault Why option.Nodes = Why
+IsNodeFault Why option.Unit = ⊥
 IsNodeFault Why option.Tick = ⊥
 IsNodeFault Why option.Until = ⊥
 IsNodeFault Why option.Memory = ⊤
@@ -38,44 +40,55 @@ abbrev pub AreNodesIn : Option (List ℕ) → Option (List (List ℕ)) → Type 
 AreNodesIn None nodes = nodes ≡ None
 AreNodesIn (Some text) nodes = AreNodes (parts_between_commas text) × (nodes ≡ Some (parts_between_commas text))
 
+-- the unit that a text names; nothing where there is no text
+abbrev pub IsUnitIn : Option (List ℕ) → Option TimeUnit → Type 0
+IsUnitIn None unit = unit ≡ None
+IsUnitIn (Some text) unit = (named : TimeUnit) × (unit_of text ≡ Some named) × (unit ≡ Some named)
+
 -- the length of a tick that a text tells; 1 where there is no text
 abbrev pub IsWidthIn : Option (List ℕ) → Width → Type 0
 IsWidthIn None width = width ≡ Units 1
 IsWidthIn (Some text) width = IsWidth text width
 
 -- the end of the log that a text tells; nothing where there is no text
-abbrev pub IsUntilIn : Option (List ℕ) → Option Moment → Type 0
+abbrev pub IsUntilIn : Option (List ℕ) → Option LogEnd → Type 0
 IsUntilIn None until = until ≡ None
-IsUntilIn (Some text) until = (moment : Moment) × (moment_of text ≡ Some moment) × (until ≡ Some moment)
+IsUntilIn (Some text) until = (end : LogEnd) × IsEnd text end × (until ≡ Some end)
 
--- the options that the three texts tell
-pub record AreOptions (nodes tick until : Option (List ℕ)) (spread align : Bool) (o : Options) : Type 0 where
+-- the options that the four texts tell
+pub record AreOptions (nodes unit tick until : Option (List ℕ)) (spread align : Bool) (o : Options) : Type 0 where
   pub nodes_are : AreNodesIn nodes o.nodes
+  pub unit_is : IsUnitIn unit o.unit
   pub width_is : IsWidthIn tick o.width
   pub until_is : IsUntilIn until o.until
   pub spread_is : o.spread ≡ spread
   pub align_is : o.align ≡ align
 
--- a text that lists no nodes, one that tells no length of a tick, and one that tells no end
+-- a text that lists no nodes, one that names no unit, one that tells no length of a tick, and one that tells no end
 abbrev pub HasBadNodes : Option (List ℕ) → Type 0
 HasBadNodes nodes = (text : List ℕ) × (nodes ≡ Some text) × (¬ AreNodes (parts_between_commas text))
+
+abbrev pub HasBadUnit : Option (List ℕ) → Type 0
+HasBadUnit unit = (text : List ℕ) × (unit ≡ Some text) × (unit_of text ≡ None)
 
 abbrev pub HasBadTick : Option (List ℕ) → Type 0
 HasBadTick tick = (text : List ℕ) × (tick ≡ Some text) × ((width : Width) → ¬ IsWidth text width)
 
 abbrev pub HasBadUntil : Option (List ℕ) → Type 0
-HasBadUntil until = (text : List ℕ) × (until ≡ Some text) × (moment_of text ≡ None)
+HasBadUntil until = (text : List ℕ) × (until ≡ Some text) × ((end : LogEnd) → ¬ IsEnd text end)
 
--- why two texts tell no length of a tick and no end: the first that is bad, in this order
-abbrev pub IsTimeFault : Option (List ℕ) → Option (List ℕ) → OptionError → Type 0
-IsTimeFault tick until option.Nodes = ⊥
-IsTimeFault tick until option.Tick = HasBadTick tick
-IsTimeFault tick until option.Until = (¬ HasBadTick tick) × HasBadUntil until
-IsTimeFault tick until option.Memory = ⊥
+-- why three texts tell no unit, no length of a tick and no end: the first that is bad, in this order
+abbrev pub IsTimeFault : Option (List ℕ) → Option (List ℕ) → Option (List ℕ) → OptionError → Type 0
+IsTimeFault unit tick until option.Nodes = ⊥
+IsTimeFault unit tick until option.Unit = HasBadUnit unit
+IsTimeFault unit tick until option.Tick = (¬ HasBadUnit unit) × HasBadTick tick
+IsTimeFault unit tick until option.Until = (¬ HasBadUnit unit) × (¬ HasBadTick tick) × HasBadUntil until
+IsTimeFault unit tick until option.Memory = ⊥
 
 -- why the texts tell no options: the first that is bad, in this order; or want of memory
-abbrev pub IsOptionFault : Option (List ℕ) → Option (List ℕ) → Option (List ℕ) → OptionError → Type 0
-IsOptionFault nodes tick until option.Nodes = HasBadNodes nodes
-IsOptionFault nodes tick until option.Tick = (¬ HasBadNodes nodes) × HasBadTick tick
-IsOptionFault nodes tick until option.Until = (¬ HasBadNodes nodes) × (¬ HasBadTick tick) × HasBadUntil until
-IsOptionFault nodes tick until option.Memory = ⊤
+abbrev pub IsOptionFault : Option (List ℕ) → Option (List ℕ) → Option (List ℕ) → Option (List ℕ) → OptionError → Type 0
+IsOptionFault nodes unit tick until option.Nodes = HasBadNodes nodes
+IsOptionFault nodes unit tick until option.Unit = (¬ HasBadNodes nodes) × HasBadUnit unit
+IsOptionFault nodes unit tick until option.Tick = (¬ HasBadNodes nodes) × (¬ HasBadUnit unit) × HasBadTick tick
+IsOptionFault nodes unit tick until option.Until = (¬ HasBadNodes nodes) × (¬ HasBadUnit unit) × (¬ HasBadTick tick) × HasBadUntil until
+IsOptionFault nodes unit tick until option.Memory = ⊤

@@ -11,9 +11,11 @@ use Rattle.event_log.specs.declared.records.Rules.{Rules}
 use Rattle.event_log.specs.declared.refusals.LogError.{LogError}
 use Rattle.event_log.specs.declared.refusals.LogError.TheVariants.{NoColumn, NoEvents, TooFewNodes, TooLarge, TooManyEvents}
 use Rattle.event_log.specs.declared.times.TimeKind.{TimeKind}
+use Rattle.event_log.specs.declared.times.TimeUnit.{TimeUnit}
 use Rattle.event_log.specs.Columns.{columns_of}
 use Rattle.event_log.specs.LogRecords.{Said, said_of}
 use Rattle.event_log.specs.Naming.{Named, after_said, begun}
+use Rattle.event_log.specs.Times.{settled}
 
 -- the names after the event at a place, unless those of an earlier one were refused
 abbrev pub after_told : ℕ → Result Named LogError → Said → Result Named LogError
@@ -21,7 +23,7 @@ after_told place names s = names >>= λ n. after_said place n s
 
 -- by what the next record is judged
 abbrev pub rules_of : Columns → Reading → Rules
-rules_of columns r = record { columns = columns; kind = r.kind; listed = r.listed }
+rules_of columns r = record { columns = columns; kind = settled r.unit r.kind; listed = r.listed }
 
 -- one event more
 abbrev pub with_event : Reading → Said → Reading
@@ -43,8 +45,8 @@ abbrev pub next_reading : Reading → List (List ℕ) → Result Reading LogErro
 next_reading r fields = next_by r.columns r fields
 
 -- nothing was read yet
-abbrev pub nothing_read : Option (Bor (List (List ℕ))) → List (List ℕ) → Reading
-nothing_read listed nodes = record { columns = None; kind = None; listed = listed; count = 0; names = Ok (begun nodes) }
+abbrev pub nothing_read : Option TimeUnit → Option (Bor (List (List ℕ))) → List (List ℕ) → Reading
+nothing_read unit listed nodes = record { columns = None; unit = unit; kind = None; listed = listed; count = 0; names = Ok (begun nodes) }
 
 -- the kind of the times, and the names and events
 abbrev pub enough_nodes : TimeKind → Named → Result (TimeKind × Named) LogError
@@ -71,5 +73,5 @@ named_from r text =
     else Err TooLarge
 
 -- the events of a log with its nodes and messages, or the first refusal
-abbrev pub named_of : Option (Bor (List (List ℕ))) → List (List ℕ) → List ℕ → Result (TimeKind × Named) LogError
-named_of listed nodes text = named_from (nothing_read listed nodes) text
+abbrev pub named_of : Option TimeUnit → Option (Bor (List (List ℕ))) → List (List ℕ) → List ℕ → Result (TimeKind × Named) LogError
+named_of unit listed nodes text = named_from (nothing_read unit listed nodes) text

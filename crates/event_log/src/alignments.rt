@@ -15,7 +15,7 @@ use crate::clock_lines::clock_lines;
 use crate::event_refusals::error_of;
 use crate::logs::NamedEvents;
 use crate::refusals::LogError;
-use crate::times::TimeKind;
+use crate::times::{TimeKind, nanoseconds_in};
 use clock_offsets::{
     ClockCycle, OffsetError, Offsets, TooLate, clock_cycle, clock_offsets, moved_events,
 };
@@ -143,12 +143,15 @@ fn moved_log(log: NamedEvents, offsets: Offsets) -> Result<AlignedLog, LogError>
     }
 }
 
-/// The latest time of a kind: the greatest number of 64 bits, and the last time stamp that is read.
+/// The latest time of a kind: the greatest number of 64 bits, in its unit or as seconds with nine digits behind them, and
+/// the last time stamp that is read.
 fn latest_in(kind: TimeKind) -> i128
     ensures { result ≡ latest_in kind }
 {
     match kind {
         TimeKind::Number => 18_446_744_073_709_551_615,
-        TimeKind::Stamp => 253_402_207_200_999_999_999,
+        TimeKind::Whole(unit) => { 18_446_744_073_709_551_615 * i128::from(nanoseconds_in(unit)) }
+        TimeKind::Decimal => 18_446_744_073_709_551_615_999_999_999,
+        TimeKind::Stamp | TimeKind::Local => 253_402_207_200_999_999_999,
     }
 }

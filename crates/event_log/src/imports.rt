@@ -1,12 +1,13 @@
 //! Logs read as traces.
 
-ghost use Rattle.std.specs.Prelude.{◌≡◌, ◌<◌, ◌≤◌, ℕ, [], Err, Ok, IfErr, IfOk, length, unwrap_or};
+ghost use Rattle.std.specs.Prelude.{◌≡◌, ◌*◌, ◌^◌, ◌<◌, ◌≤◌, ℕ, [], Err, Ok, IfErr, IfOk, length, unwrap_or};
 ghost use Rattle.timed_events.specs.Checks.{AreOfProcessors};
 ghost use Rattle.timed_events.specs.Lateness.{lateness_of};
 ghost use Rattle.timed_events.specs.Spreads.{IsTimed, IsTimedRefusal};
-ghost use Rattle.event_log.specs.Imports.{IsBehindCycle, IsErrorUnlessMemory, IsImportOf, IsLogRefusal, IsRead, IsReadRefusal, above_zero, clock_in, event_place, until_in, width_in};
+ghost use Rattle.event_log.specs.Imports.{IsBehindCycle, IsErrorUnlessMemory, IsImportOf, IsLogRefusal, IsRead, IsReadRefusal, above_zero, clock_in, end_in, event_place, units_in, until_in, width_in};
 ghost use Rattle.event_log.specs.Logs.{seen_log};
 ghost use Rattle.event_log.specs.SoundLogs.{IsSound};
+ghost use Rattle.event_log.specs.Times.{nanoseconds_in};
 
 use crate::alignments::{AlignedLog, aligned_log};
 use crate::event_refusals::error_of;
@@ -15,7 +16,7 @@ use crate::names::NameSet;
 use crate::options::Options;
 use crate::reading::MAX_EVENTS;
 use crate::refusals::LogError;
-use crate::times::{Moment, TimeKind, Width};
+use crate::times::{LogEnd, TimeKind, TimeUnit, Width, nanoseconds_in};
 use clock_offsets::Offsets;
 use std::alloc::{AllocError, Global};
 use step_trace::Trace;
@@ -98,7 +99,7 @@ fn events_by(alloc: Global, text: &[u8], options: &Options) -> Result<NamedEvent
     let Ok(nodes) = numbered_first(alloc, options) else {
         return Err(LogError::Memory);
     };
-    events_of_log(alloc, text, options.nodes.as_ref(), nodes)
+    events_of_log(alloc, text, options.unit, options.nodes.as_ref(), nodes)
 }
 
 /// The nodes that are numbered before those that the log names.
@@ -129,12 +130,30 @@ fn width_for(kind: TimeKind, width: Width) -> Result<u128, LogError>
     ensures above { IfOk result (λ units. 0 < units) }
 {
     match width {
-        Width::Units(units) => above_zero(u128::from(units)),
+        Width::Units(units) => above_zero(units_in(kind, units)),
         Width::Nanoseconds(nanoseconds) => match kind {
             TimeKind::Number => Err(LogError::TickUnfit),
-            TimeKind::Stamp => above_zero(nanoseconds),
+            _ => above_zero(nanoseconds),
         },
     }
+}
+
+/// So many units of times of this kind, as these are counted.
+fn units_in(kind: TimeKind, units: u64) -> u128
+    ensures { result ≡ units_in kind units }
+{
+    match kind {
+        TimeKind::Whole(unit) => whole_in(unit, units),
+        _ => u128::from(units),
+    }
+}
+
+/// So many of a unit in nanoseconds.
+fn whole_in(unit: TimeUnit, units: u64) -> u128
+    ensures is { result ≡ units * nanoseconds_in unit }
+    ensures small { result < 2 ^ 127 }
+{
+    u128::from(units) * u128::from(nanoseconds_in(unit))
 }
 
 /// A length, which has to be above 0.
@@ -149,15 +168,27 @@ fn above_zero(units: u128) -> Result<u128, LogError>
 }
 
 /// When a log with times of this kind ends, if that is told.
-fn until_for(kind: TimeKind, until: Option<Moment>) -> Result<Option<i128>, LogError>
+fn until_for(kind: TimeKind, until: Option<LogEnd>) -> Result<Option<i128>, LogError>
     ensures { result ≡ until_in kind until }
 {
-    let Some(moment) = until else {
+    let Some(end) = until else {
         return Ok(None);
     };
-    match (kind, moment.kind) {
-        (TimeKind::Number, TimeKind::Number) => Ok(Some(moment.time)),
-        (TimeKind::Stamp, TimeKind::Stamp) => Ok(Some(moment.time)),
+    Ok(Some(end_in(kind, end)?))
+}
+
+/// The end of a log with times of this kind, as these are counted.
+fn end_in(kind: TimeKind, end: LogEnd) -> Result<i128, LogError>
+    ensures { result ≡ end_in kind end }
+{
+    match (kind, end) {
+        (TimeKind::Number, LogEnd::Number(n)) => Ok(i128::from(n)),
+        (TimeKind::Whole(unit), LogEnd::Number(n)) => Ok(whole_in(unit, n) as i128),
+        (TimeKind::Whole(_), LogEnd::Nanoseconds(x)) => Ok(x),
+        (TimeKind::Decimal, LogEnd::Number(n)) => Ok(whole_in(TimeUnit::Second, n) as i128),
+        (TimeKind::Decimal, LogEnd::Nanoseconds(x)) => Ok(x),
+        (TimeKind::Stamp, LogEnd::Stamp(x)) => Ok(x),
+        (TimeKind::Local, LogEnd::Local(x)) => Ok(x),
         _ => Err(LogError::UntilUnfit),
     }
 }

@@ -32,4 +32,6 @@ pub use options::{OptionError, Options, read_options};
 pub use reading::MAX_EVENTS;
 pub use refusal_texts::printed;
 pub use refusals::LogError;
-pub use times::{Moment, TimeKind, Width, read_moment, read_width};
+pub use times::{
+    LogEnd, Moment, TimeKind, TimeUnit, Width, read_end, read_moment, read_unit, read_width,
+};

@@ -10,7 +10,7 @@ ghost use Rattle.event_log.specs.Stages.{staged_log};
 use crate::names::NameSet;
 use crate::reading::read_names;
 use crate::refusals::LogError;
-use crate::times::TimeKind;
+use crate::times::{TimeKind, TimeUnit};
 use std::alloc::Global;
 use timed_events::Event;
 use trace_text::MAX_TEXT_BYTES;
@@ -26,7 +26,7 @@ pub struct NamedEvents {
     pub events: Vec<Event>,
 }
 
-/// The events that a log records. Where nodes are `listed`, no others may be named; `nodes` are numbered before those that
+/// The events that a log records. Where a unit is told, the times are whole numbers of it. Where nodes are `listed`, no others may be named; `nodes` are numbered before those that
 /// the log names: the listed ones, or none.
 ///
 /// There are 2 to 64 nodes, and at least one event, at most `MAX_EVENTS`.
@@ -36,26 +36,28 @@ pub struct NamedEvents {
 pub fn events_of_log(
     alloc: Global,
     text: &[u8],
+    unit: Option<TimeUnit>,
     listed: Option<&NameSet>,
     nodes: NameSet,
 ) -> Result<NamedEvents, LogError>
-    ensures exact { GivesUnless is_memory seen_log result (staged_log listed.entry nodes text.now) }
+    ensures exact { GivesUnless is_memory seen_log result (staged_log unit listed.entry nodes text.now) }
     ensures sound { IfOk result (λ log. IsSound (seen_log log)) }
     ensures more { result ≡ Err LogError.Memory → length text.now ≤ MAX_TEXT_BYTES }
 {
-    read_log(alloc, text, listed, nodes)
+    read_log(alloc, text, unit, listed, nodes)
 }
 
 fn read_log(
     alloc: Global,
     text: &[u8],
+    unit: Option<TimeUnit>,
     listed: Option<&NameSet>,
     nodes: NameSet,
 ) -> Result<NamedEvents, LogError>
-    ensures exact { GivesUnless is_memory seen_log result (events_in listed.entry nodes text.now) }
+    ensures exact { GivesUnless is_memory seen_log result (events_in unit listed.entry nodes text.now) }
     ensures more { result ≡ Err LogError.Memory → length text.now ≤ MAX_TEXT_BYTES }
 {
-    let (kind, names) = read_names(alloc, text, listed, nodes)?;
+    let (kind, names) = read_names(alloc, text, unit, listed, nodes)?;
     match names.into_events(alloc) {
         Ok((nodes, events)) => Ok(NamedEvents {
             kind,

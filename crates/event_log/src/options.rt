@@ -1,11 +1,11 @@
 //! How a log is read.
 
 ghost use Rattle.std.specs.Prelude.{◌≡◌, ◌∷◌, [], ◌++◌, Err, IfErr, IfOk, IfSome, IsSome, OnOk, option_map, true, false, None};
-ghost use Rattle.event_log.specs.Options.{AreNodes, AreNodesIn, AreOptions, HasBadNodes, HasBadTick, HasBadUntil, IsNodeFault, IsOptionFault, IsTimeFault, IsUntilIn, IsWidthIn, is_next_node, parts_between_commas};
+ghost use Rattle.event_log.specs.Options.{AreNodes, AreNodesIn, AreOptions, HasBadNodes, HasBadTick, HasBadUnit, HasBadUntil, IsNodeFault, IsOptionFault, IsTimeFault, IsUnitIn, IsUntilIn, IsWidthIn, is_next_node, parts_between_commas};
 
 use crate::names::{MAX_NODES, NameSet, is_name};
 use crate::results::both;
-use crate::times::{Moment, Width, read_moment, read_width};
+use crate::times::{LogEnd, TimeUnit, Width, read_end, read_unit, read_width};
 use std::alloc::Global;
 
 /// How a log is read.
@@ -13,10 +13,12 @@ use std::alloc::Global;
 pub struct Options {
     /// The nodes, in the order of their numbers; where they aren't listed, they are numbered as the log names them.
     pub nodes: Option<NameSet>,
+    /// The unit of the log's times, which are then whole numbers of it. Else record 2 settles what they are.
+    pub unit: Option<TimeUnit>,
     /// The length of a tick. One of 0 fits no times.
     pub width: Width,
     /// When the log ends, if not with its last event.
-    pub until: Option<Moment>,
+    pub until: Option<LogEnd>,
     /// Whether events may go to later ticks than those of their times.
     pub spread: bool,
     /// Whether the clocks of the nodes are moved, so that each message is received later than it is sent.
@@ -28,34 +30,38 @@ pub struct Options {
 pub enum OptionError {
     /// The nodes aren't 2 to 64 different names with one comma between each two.
     Nodes,
+    /// The unit is none of `s`, `ms`, `us` and `ns`.
+    Unit,
     /// The length of a tick is neither a number nor a duration, or isn't above 0.
     Tick,
-    /// The end is neither a number nor a time stamp.
+    /// The end is neither a time nor a duration.
     Until,
     /// There was no memory.
     Memory,
 }
 
-/// The options that texts tell: the nodes with one comma between each two; the length of a tick, which is 1 where it is left
-/// out; and when the log ends.
+/// The options that texts tell: the nodes with one comma between each two; the unit of the times, if they are whole numbers of
+/// one; the length of a tick, which is 1 where it is left out; and when the log ends.
 ///
 /// Refuses in the order of `OptionError`. Memory comes only where nodes are listed.
 pub fn read_options(
     alloc: Global,
     nodes: Option<&str>,
+    unit: Option<&str>,
     tick: Option<&str>,
     until: Option<&str>,
     spread: bool,
     align: bool,
 ) -> Result<Options, OptionError>
-    ensures options { IfOk result (λ o. AreOptions (option_map (λ t. t.now) nodes.entry) (option_map (λ t. t.now) tick.entry) (option_map (λ t. t.now) until.entry) spread align o) }
-    ensures refused { IfErr result (λ why. IsOptionFault (option_map (λ t. t.now) nodes.entry) (option_map (λ t. t.now) tick.entry) (option_map (λ t. t.now) until.entry) why) }
+    ensures options { IfOk result (λ o. AreOptions (option_map (λ t. t.now) nodes.entry) (option_map (λ t. t.now) unit.entry) (option_map (λ t. t.now) tick.entry) (option_map (λ t. t.now) until.entry) spread align o) }
+    ensures refused { IfErr result (λ why. IsOptionFault (option_map (λ t. t.now) nodes.entry) (option_map (λ t. t.now) unit.entry) (option_map (λ t. t.now) tick.entry) (option_map (λ t. t.now) until.entry) why) }
     ensures more { result ≡ Err OptionError.Memory → IsSome nodes.entry }
 {
     let nodes = listed_nodes(alloc, nodes);
-    let (nodes, (width, until)) = both(nodes, told_times(tick, until))?;
+    let (nodes, (unit, width, until)) = both(nodes, told_times(unit, tick, until))?;
     Ok(Options {
         nodes,
+        unit,
         width,
         until,
         spread,
@@ -76,24 +82,43 @@ fn listed_nodes(alloc: Global, text: Option<&str>) -> Result<Option<NameSet>, Op
     Ok(Some(nodes))
 }
 
-/// The length of a tick and the end of the log that texts tell.
+/// The unit of the times, the length of a tick and the end of the log that texts tell.
 ///
-/// Refuses Tick and Until, in this order.
+/// Refuses Unit, Tick and Until, in this order.
 fn told_times(
+    unit: Option<&str>,
     tick: Option<&str>,
     until: Option<&str>,
-) -> Result<(Width, Option<Moment>), OptionError>
-    ensures width { IfOk result (λ t. IsWidthIn (option_map (λ t. t.now) tick.entry) t.0) }
-    ensures until { IfOk result (λ t. IsUntilIn (option_map (λ t. t.now) until.entry) t.1) }
-    ensures refused { IfErr result (IsTimeFault (option_map (λ t. t.now) tick.entry) (option_map (λ t. t.now) until.entry)) }
+) -> Result<(Option<TimeUnit>, Width, Option<LogEnd>), OptionError>
+    ensures unit { IfOk result (λ t. IsUnitIn (option_map (λ t. t.now) unit.entry) t.0) }
+    ensures width { IfOk result (λ t. IsWidthIn (option_map (λ t. t.now) tick.entry) t.1) }
+    ensures until { IfOk result (λ t. IsUntilIn (option_map (λ t. t.now) until.entry) t.2) }
+    ensures refused { IfErr result (IsTimeFault (option_map (λ t. t.now) unit.entry) (option_map (λ t. t.now) tick.entry) (option_map (λ t. t.now) until.entry)) }
 {
+    let Some(unit) = told_unit(unit) else {
+        return Err(OptionError::Unit);
+    };
     let Some(width) = told_width(tick) else {
         return Err(OptionError::Tick);
     };
     let Some(until) = told_end(until) else {
         return Err(OptionError::Until);
     };
-    Ok((width, until))
+    Ok((unit, width, until))
+}
+
+/// The unit that a text names, if there is one.
+fn told_unit(text: Option<&str>) -> Option<Option<TimeUnit>>
+    ensures unit { IfSome result (IsUnitIn (option_map (λ t. t.now) text.entry)) }
+    ensures refused { result ≡ None → HasBadUnit (option_map (λ t. t.now) text.entry) }
+{
+    let Some(text) = text else {
+        return Some(None);
+    };
+    match read_unit(text.as_bytes()) {
+        Some(unit) => Some(Some(unit)),
+        None => None,
+    }
 }
 
 /// The length of a tick that a text tells; 1 where there is none.
@@ -108,15 +133,15 @@ fn told_width(text: Option<&str>) -> Option<Width>
 }
 
 /// The end of the log that a text tells, if there is one.
-fn told_end(text: Option<&str>) -> Option<Option<Moment>>
+fn told_end(text: Option<&str>) -> Option<Option<LogEnd>>
     ensures end { IfSome result (IsUntilIn (option_map (λ t. t.now) text.entry)) }
     ensures refused { result ≡ None → HasBadUntil (option_map (λ t. t.now) text.entry) }
 {
     let Some(text) = text else {
         return Some(None);
     };
-    match read_moment(text.as_bytes()) {
-        Some(moment) => Some(Some(moment)),
+    match read_end(text) {
+        Some(end) => Some(Some(end)),
         None => None,
     }
 }

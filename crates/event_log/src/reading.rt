@@ -14,7 +14,7 @@ use crate::naming::Naming;
 use crate::records::{Rules, Told, told_of};
 use crate::refusals::LogError;
 use crate::results::{both, put_error};
-use crate::times::TimeKind;
+use crate::times::{TimeKind, TimeUnit, settled};
 use csv::{ByteRecord, ErrorKind, ReaderBuilder};
 use std::alloc::Global;
 use trace_text::MAX_TEXT_BYTES;
@@ -27,6 +27,8 @@ pub const MAX_EVENTS: u32 = 1_000_000;
 pub(crate) struct Reading<'a> {
     /// Where the columns are, once the header was read.
     columns: Option<Columns>,
+    /// The unit of the times, if they are to be whole numbers of one.
+    unit: Option<TimeUnit>,
     /// The kind of the times, once a record has settled it.
     kind: Option<TimeKind>,
     /// The nodes that may be named, where they are listed.
@@ -38,21 +40,23 @@ pub(crate) struct Reading<'a> {
 }
 
 /// The kind of a log's times, and its events with its nodes and messages, where those that `listed` has may be named, and `nodes` are numbered
-/// before all others.
+/// before all others. Where a unit is told, the times are whole numbers of it.
 ///
 /// Refuses in the order of `LogError`. Where a record is refused for itself, the first such record decides; else the first
 /// whose names are refused.
 pub(crate) fn read_names(
     alloc: Global,
     text: &[u8],
+    unit: Option<TimeUnit>,
     listed: Option<&NameSet>,
     nodes: NameSet,
 ) -> Result<(TimeKind, Naming), LogError>
-    ensures names { GivesUnless is_memory (λ x. x) result (named_of listed.entry nodes text.now) }
+    ensures names { GivesUnless is_memory (λ x. x) result (named_of unit listed.entry nodes text.now) }
     ensures more { result ≡ Err LogError.Memory → length text.now ≤ MAX_TEXT_BYTES }
 {
     let mut reading = Reading {
         columns: None,
+        unit,
         kind: None,
         listed,
         count: 0,
@@ -130,7 +134,7 @@ impl<'a> Reading<'a> {
         }
         let rules = Rules {
             columns,
-            kind: self.kind,
+            kind: settled(self.unit, self.kind),
             listed: self.listed,
         };
         let told = told_of(alloc, &rules, u64::from(self.count) + 2, fields)?;

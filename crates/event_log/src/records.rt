@@ -8,7 +8,7 @@ ghost use Rattle.event_log.specs.Naming.{IsUnless, is_memory};
 use crate::columns::Columns;
 use crate::names::{Name, NameSet, are_message_names, is_message_name, is_name};
 use crate::refusals::LogError;
-use crate::times::{Moment, TimeKind, read_moment, time_as};
+use crate::times::{Moment, TimeKind, moment_in, read_moment};
 use csv::ByteRecord;
 use std::alloc::{AllocError, Global};
 use trace_text::records::field;
@@ -88,10 +88,7 @@ fn moment_as(kind: Option<TimeKind>, field: &[u8]) -> Option<Moment>
 {
     match kind {
         None => read_moment(field),
-        Some(kind) => {
-            let time = time_as(kind, field)?;
-            Some(Moment { kind, time })
-        }
+        Some(kind) => moment_in(kind, field),
     }
 }
 

@@ -21,7 +21,7 @@ pub enum LogError {
     TooManyEvents,
     /// The record hasn't as many fields as the header.
     BadFields(u64),
-    /// The time isn't of the kind of the first event's, or that is of neither kind.
+    /// The time isn't of the kind of the first event's, or that is of no kind; or it is no whole number, and a unit is told.
     BadTime(u64),
     /// The event is neither a send nor a receive.
     BadEvent(u64),

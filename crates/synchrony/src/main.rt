@@ -191,6 +191,7 @@ fn import(rt: &HostRuntime, job: ImportJob) -> Result<u8, Fault> {
     let options = import_options(
         rt.alloc(),
         text_in(&job.options.nodes),
+        text_in(&job.options.unit),
         text_in(&job.options.tick),
         text_in(&job.options.until),
         job.options.spread,

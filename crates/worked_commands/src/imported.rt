@@ -14,6 +14,7 @@ use trace_text::failing_devices::{AfterBytes, FailingReader, FailingWriter, Writ
 struct Given {
     log: &'static str,
     nodes: Option<&'static str>,
+    unit: Option<&'static str>,
     tick: Option<&'static str>,
     until: Option<&'static str>,
     spread: bool,
@@ -27,6 +28,7 @@ const TWO_NODES: &str =
 const LISTED: Given = Given {
     log: TWO_NODES,
     nodes: Some("a,b"),
+    unit: None,
     tick: None,
     until: Some("16"),
     spread: false,
@@ -39,6 +41,7 @@ const LISTED_TRACE: &str = "dls-trace,2,2,0\ninit,0,0\n1,1,1,S,2\n2,1,2,S,1\n3,4
 const UNLISTED: Given = Given {
     log: TWO_NODES,
     nodes: None,
+    unit: None,
     tick: None,
     until: Some("16"),
     spread: false,
@@ -54,6 +57,7 @@ const UNLISTED_NOTES: &str = "synchrony: processor 1 is b\nsynchrony: processor 
 const UNMOVED: Given = Given {
     log: TWO_NODES,
     nodes: Some("a,b"),
+    unit: None,
     tick: None,
     until: Some("16"),
     spread: true,
@@ -71,6 +75,7 @@ const EACH_WAITS: &str =
 const SPREAD: Given = Given {
     log: BROADCAST,
     nodes: None,
+    unit: None,
     tick: None,
     until: None,
     spread: true,
@@ -98,6 +103,7 @@ fn options_of(alloc: Global, given: Given) -> Result<Options, Fault> {
     import_options(
         alloc,
         given.nodes,
+        given.unit,
         given.tick,
         given.until,
         given.spread,
@@ -174,6 +180,15 @@ const REFUSED: &[(Given, u8, &str)] = &[
         },
         2,
         "synchrony: --tick does not fit the times",
+    ),
+    (
+        Given {
+            unit: Some("sec"),
+            tick: Some("0"),
+            ..LISTED
+        },
+        2,
+        "synchrony: bad --unit",
     ),
     (
         Given {

@@ -22,6 +22,7 @@ fn refuses(
 ) -> Result<bool, AllocError> {
     let options = Options {
         nodes: None,
+        unit: None,
         width: Width::Units(1),
         until: None,
         spread: true,

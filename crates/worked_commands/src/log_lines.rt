@@ -77,8 +77,8 @@ const REFUSED: &[(Reason, u8, &str)] = &[
     (
         Reason::BadTime,
         3,
-        "synchrony: log: record 4: bad time\nsynchrony: a time is a number, or a time stamp like 2026-11-22T10:00:00.250Z; \
-        all times are of the kind of record 2's",
+        "synchrony: log: record 4: bad time\nsynchrony: a time is a whole number, decimal seconds like 1700000000.123456, or a time stamp like 2026-11-22T10:00:00.250Z; \
+        all are of the kind of record 2's, and with --unit whole numbers",
     ),
     (Reason::BadEvent, 3, "synchrony: log: record 4: bad event"),
     (
@@ -201,6 +201,11 @@ const NO_OPTIONS: &[(OptionError, ImportOption, &str)] = &[
         OptionError::Nodes,
         ImportOption::Nodes,
         "synchrony: bad --nodes",
+    ),
+    (
+        OptionError::Unit,
+        ImportOption::Unit,
+        "synchrony: bad --unit",
     ),
     (
         OptionError::Tick,

@@ -1,10 +1,12 @@
 //! Options as texts tell them.
 
-use event_log::{Moment, OptionError, Options, TimeKind, Width, read_options};
+use event_log::{LogEnd, OptionError, Options, TimeUnit, Width, read_options};
 use std::alloc::{AllocError, Global};
 
 /// Lists that aren't 2 to 64 different names.
 const BAD_NODES: &[&str] = &["", "a", "a,", ",a", "a,,b", "a,b,a", "a,b\t", "a,\u{7F}"];
+
+const BAD_UNITS: &[&str] = &["", "m", "S", "s ", "sec", "1ms", "µs"];
 
 const BAD_TICKS: &[&str] = &[
     "",
@@ -23,20 +25,24 @@ const BAD_ENDS: &[&str] = &[
     "",
     "007",
     "-1",
-    "7.5",
+    "7.",
+    ".5",
+    "07.5",
+    "7.1234567890",
     "18446744073709551616",
     "2026-11-22",
-    "5ms",
+    "5 parsecs",
 ];
 
-/// The refusal of three texts, if they are refused.
+/// The refusal of four texts, if they are refused.
 fn refusal(
     alloc: Global,
     nodes: Option<&str>,
+    unit: Option<&str>,
     tick: Option<&str>,
     until: Option<&str>,
 ) -> Option<OptionError> {
-    match read_options(alloc, nodes, tick, until, false, false) {
+    match read_options(alloc, nodes, unit, tick, until, false, false) {
         Ok(_) => None,
         Err(why) => Some(why),
     }
@@ -46,15 +52,19 @@ fn refusal(
 fn refuses_in_order(rt: HostRuntime) {
     let alloc = rt.alloc();
     for nodes in BAD_NODES {
-        let why = refusal(alloc, Some(nodes), Some("0"), Some("x"));
+        let why = refusal(alloc, Some(nodes), Some("m"), Some("0"), Some("x"));
         assert_eq!(rt; why, Some(OptionError::Nodes), "{nodes}");
     }
+    for unit in BAD_UNITS {
+        let why = refusal(alloc, Some("a,b"), Some(unit), Some("0"), Some("x"));
+        assert_eq!(rt; why, Some(OptionError::Unit), "{unit}");
+    }
     for tick in BAD_TICKS {
-        let why = refusal(alloc, Some("a,b"), Some(tick), Some("x"));
+        let why = refusal(alloc, Some("a,b"), Some("ms"), Some(tick), Some("x"));
         assert_eq!(rt; why, Some(OptionError::Tick), "{tick}");
     }
     for until in BAD_ENDS {
-        let why = refusal(alloc, None, None, Some(until));
+        let why = refusal(alloc, None, None, None, Some(until));
         assert_eq!(rt; why, Some(OptionError::Until), "{until}");
     }
 }
@@ -73,10 +83,10 @@ fn long_list(alloc: Global, count: u64) -> Result<String, AllocError> {
 fn sixty_four_nodes(rt: HostRuntime) -> Result<(), AllocError> {
     let alloc = rt.alloc();
     let most = long_list(alloc, 64)?;
-    assert_eq!(rt; refusal(alloc, Some(most.as_str()), None, None), None);
+    assert_eq!(rt; refusal(alloc, Some(most.as_str()), None, None, None), None);
     let more = long_list(alloc, 65)?;
     assert_eq!(rt;
-        refusal(alloc, Some(more.as_str()), None, None),
+        refusal(alloc, Some(more.as_str()), None, None, None),
         Some(OptionError::Nodes)
     );
     Ok(())
@@ -109,13 +119,10 @@ fn is_in_nanoseconds(width: Width, due: u128) -> bool {
     }
 }
 
-fn is_stamp(until: Option<Moment>, due: i128) -> bool {
+fn is_stamp(until: Option<LogEnd>, due: i128) -> bool {
     match until {
-        Some(moment) => match moment.kind {
-            TimeKind::Stamp => moment.time == due,
-            TimeKind::Number => false,
-        },
-        None => false,
+        Some(LogEnd::Stamp(time)) => time == due,
+        _ => false,
     }
 }
 
@@ -123,9 +130,18 @@ fn is_stamp(until: Option<Moment>, due: i128) -> bool {
 fn reads_all(rt: HostRuntime) {
     let nodes = Some("b a,π");
     let until = Some("1970-01-01T00:00:01.5Z");
-    let is_read = match read_options(rt.alloc(), nodes, Some("1m 30s"), until, true, true) {
+    let is_read = match read_options(
+        rt.alloc(),
+        nodes,
+        Some("us"),
+        Some("1m 30s"),
+        until,
+        true,
+        true,
+    ) {
         Ok(options) => {
             are_listed(&options)
+                && matches!(options.unit, Some(TimeUnit::Microsecond))
                 && is_in_nanoseconds(options.width, 90_000_000_000)
                 && is_stamp(options.until, 1_500_000_000)
                 && options.spread
@@ -138,9 +154,10 @@ fn reads_all(rt: HostRuntime) {
 
 #[test]
 fn leaves_out_all(rt: HostRuntime) {
-    let is_read = match read_options(rt.alloc(), None, None, None, false, false) {
+    let is_read = match read_options(rt.alloc(), None, None, None, None, false, false) {
         Ok(options) => {
             options.nodes.is_none()
+                && options.unit.is_none()
                 && is_in_units(options.width, 1)
                 && options.until.is_none()
                 && !options.spread

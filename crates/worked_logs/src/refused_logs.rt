@@ -91,7 +91,7 @@ const REFUSED: &[(&str, &str)] = &[
 
 /// Whether a log is refused with this line.
 fn is_refused(alloc: Global, text: &str, line: &str) -> Result<bool, AllocError> {
-    match events_of_log(alloc, text.as_bytes(), None, NameSet::new(alloc)) {
+    match events_of_log(alloc, text.as_bytes(), None, None, NameSet::new(alloc)) {
         Ok(_) => Ok(false),
         Err(why) => Ok(why.to_string(alloc)?.as_str() == line),
     }
@@ -147,7 +147,7 @@ fn are_turned(events: &[Event]) -> bool {
 #[test]
 fn numbers_names(rt: HostRuntime) {
     let alloc = rt.alloc();
-    let is_read = match events_of_log(alloc, TURNED.as_bytes(), None, NameSet::new(alloc)) {
+    let is_read = match events_of_log(alloc, TURNED.as_bytes(), None, None, NameSet::new(alloc)) {
         Ok(log) => are_turned(log.events.as_slice()),
         Err(_) => false,
     };

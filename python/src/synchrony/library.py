@@ -221,9 +221,11 @@ def import_log(
     until: Union[int, str, None] = None,
     spread: bool = False,
     align: bool = False,
+    unit: Optional[str] = None,
 ) -> bytes:
-    """The trace of a log, as a text of version 2. Nodes are numbered in the order of `nodes`, or else as the log names them."""
-    return _asked("import", log, nodes=nodes, tick=tick, until=until, spread=spread, align=align)
+    """The trace of a log, as a text of version 2. Nodes are numbered in the order of `nodes`, or else as the log names them. With
+    `unit`, one of s, ms, us and ns, the times are whole numbers of it."""
+    return _asked("import", log, nodes=nodes, unit=unit, tick=tick, until=until, spread=spread, align=align)
 
 
 def frame(trace: Text, correct: Correct) -> pandas.DataFrame:
@@ -273,6 +275,7 @@ OPTIONS: Dict[str, Tuple[str, Optional[Callable[[Any], str]]]] = {
     "to_tick": ("--to", str),
     "names": ("--names", ",".join),
     "nodes": ("--nodes", ",".join),
+    "unit": ("--unit", str),
     "tick": ("--tick", str),
     "spread": ("--spread", None),
     "align": ("--align", None),

@@ -20,6 +20,8 @@ const LOG_HELP: &str = "The log; - is standard input";
 
 const NODES_HELP: &str = "The nodes in their order; LOG's if it is left out";
 
+const UNIT_HELP: &str = "What whole numbers are: s, ms, us or ns";
+
 const TICK_HELP: &str = "The length of a tick; 1 if it is left out";
 
 const UNTIL_HELP: &str = "When LOG ends; at its last event if it is left out";
@@ -40,6 +42,7 @@ pub fn command<'a>(alloc: Global) -> Result<Command<'a>, AllocError>
     let arguments = vec![in alloc;
         positional_argument(alloc, "log", "LOG", LOG_HELP),
         optional_argument(alloc, "nodes", "A,B,C", NODES_HELP),
+        optional_argument(alloc, "unit", "U", UNIT_HELP),
         optional_argument(alloc, "tick", "W", TICK_HELP),
         optional_argument(alloc, "until", "X", UNTIL_HELP),
         spread_argument(alloc),
@@ -77,9 +80,10 @@ pub fn job(alloc: Global, found: &ArgMatches<'_>) -> Option<Result<Job, LineErro
     let spread = flag(found, "spread")?;
     let align = flag(found, "align")?;
     let nodes = text(found, "nodes");
+    let unit = text(found, "unit");
     let tick = text(found, "tick");
     let until = text(found, "until");
-    Some(import(alloc, log, nodes, tick, until, spread, align))
+    Some(import(alloc, log, nodes, unit, tick, until, spread, align))
 }
 
 /// The job of an import with these words.
@@ -87,17 +91,19 @@ fn import(
     alloc: Global,
     log: &str,
     nodes: Option<&str>,
+    unit: Option<&str>,
     tick: Option<&str>,
     until: Option<&str>,
     spread: bool,
     align: bool,
 ) -> Result<Job, LineError>
-    ensures job { IfOk result (IsImport log.now (option_map (λ t. t.now) nodes.entry) (option_map (λ t. t.now) tick.entry) (option_map (λ t. t.now) until.entry) spread align) }
+    ensures job { IfOk result (IsImport log.now (option_map (λ t. t.now) nodes.entry) (option_map (λ t. t.now) unit.entry) (option_map (λ t. t.now) tick.entry) (option_map (λ t. t.now) until.entry) spread align) }
     ensures refused { IfErr result IsMemory }
 {
     let file = String::from_str(alloc, log)?;
     let options = ImportOptions {
         nodes: kept(alloc, nodes)?,
+        unit: kept(alloc, unit)?,
         tick: kept(alloc, tick)?,
         until: kept(alloc, until)?,
         spread,
@@ -119,18 +125,28 @@ each further record is an event. Columns other than these five are passed over.
   message  in a send, the name of the message; in a receive, the names of those
            that it took, with one space between them, possibly none
 
-Times are numbers of 64 bits in any unit, or time stamps such as
-2026-11-22T10:00:00.250Z, which are counted in nanoseconds. What is printed is a
-trace in version 2, whose tick 1 begins at the least time.
+Times are all of the kind of the first event's:
+  whole numbers of 64 bits, in any unit
+  decimal seconds such as 1700000000.123456, with at most nine digits after the
+    point; whole numbers among them are whole seconds
+  time stamps such as 2026-11-22T10:00:00.250Z
+  time stamps without an offset such as 2026-11-22 10:00:00.250, read as UTC
+All but whole numbers are counted in nanoseconds. What is printed is a trace in
+version 2, whose tick 1 begins at the least time.
 
   --nodes A,B,C  2 to 64 different names, which are numbered from 1; some may
                  have no event. Without it nodes are numbered in the order in
                  which the log names them, and standard error tells the numbers
+  --unit U       s, ms, us or ns: the times are whole numbers of this unit, and
+                 are counted in nanoseconds; so are whole numbers in W and X
   --tick W       a number above 0 in the unit of the times, which is the
-                 nanosecond for time stamps; or for these alone a duration above
-                 0, such as 5ms or 1m 30s
+                 nanosecond for decimal seconds and time stamps; or a duration
+                 above 0, such as 5ms or 1m 30s, unless the times are whole
+                 numbers without --unit
   --until X      a time of the same kind, which no event is after: the last tick
-                 is that of X, and without it that of the greatest time
+                 is that of X, and without it that of the greatest time. With
+                 --unit, and for decimal seconds, also decimal seconds or a
+                 duration, which is the time that comes so long after zero
   --spread       an event whose tick has an event of its node, or isn't after
                  the send of a message that it took, goes to a later one, no
                  later than needed; standard error tells how far events went
@@ -165,10 +181,10 @@ tells on standard error
 
 Exit status:
   0  the trace is printed, or this text
-  2  the command line is refused; --nodes isn't 2 to 64 different names; --tick
-     is neither a number nor a duration above 0, or is a duration if the
-     times are numbers; --until is neither a number nor a time stamp, isn't of
-     the kind of the times, or is before an event
+  2  the command line is refused; --nodes isn't 2 to 64 different names; --unit
+     is another word; --tick is neither a number nor a duration above 0, or is a
+     duration if the times are numbers of no unit; --until is neither a time nor
+     a duration, doesn't fit the times, or is before an event
   3  the log is refused; the fault names the record, and the header is record 1
   5  out of memory
   6  LOG can't be opened or read, or the output can't be written
