@@ -42,11 +42,11 @@ uint32_t synchrony_check(uint64_t correct, const uint8_t *text, size_t length, c
 
 /* Does what the words of a command line ask for, with texts in place of its files, and answers the exit status that the
    program has. `words` has the words after the program's name, with a line feed between each two and none at the end, as
-   in "draw\n-\n--correct\nall". `text` is the text of the file `-`. `second`, which only `check` reads, is the certificate,
-   whatever name the words have for it. Written over the first bytes of out, and its length into *size, is what the program
-   prints: with 0 and 1 its standard output (the notes of an `import` are left out), else its standard error. Refused, with
-   status 2, are `run` and each file that has another name than `-`. With SYNCHRONY_NO_ROOM only *size is written, the
-   length that the answer has, and with SYNCHRONY_NO_MEMORY nothing. */
+   in "draw\n-\n--correct\nall". `text` is the text of the file `-`. `second` is the certificate of a `check`, or the decisions
+   of a `judge`, whatever name the words have for it. Written over the first bytes of out, and its length into *size, is what
+   the program prints: with 0 and 1 its standard output (the notes of an `import` are left out), else its standard error.
+   Refused, with status 2, are `run`, `simulate` and each file that has another name than `-`. With SYNCHRONY_NO_ROOM only
+   *size is written, the length that the answer has, and with SYNCHRONY_NO_MEMORY nothing. */
 uint32_t synchrony_answer(const uint8_t *words, size_t words_length, const uint8_t *text, size_t length,
                           const uint8_t *second, size_t second_length, uint8_t *out, size_t room, size_t *size);
 
