@@ -56,9 +56,11 @@ def timed(work):
     return answer, took, after.ru_utime + after.ru_stime - before.ru_utime - before.ru_stime
 
 
-def by_survey(files, tick, workers):
+def by_survey(cache, files, tick, workers):
     words = [sys.executable, "-m", "synchrony", "survey", "-", "--at", str(tick), "--workers", str(workers)]
-    environment = {**os.environ, "PYTHONPATH": str(TOP / "python/src")}
+    environment = {**os.environ, "PYTHONPATH": str(TOP / "python/src"), "PYTHONPYCACHEPREFIX": str(cache)}
+    # (an installed package has its modules compiled, and so they are here from the first round on)
+    environment.pop("PYTHONDONTWRITEBYTECODE", None)
     done = subprocess.run(words, input="".join(f"{it}\n" for it in files), capture_output=True, text=True, env=environment, check=True)
     rows = [it.split(",") for it in done.stdout.splitlines()[1:]]
     return [(it[0], it[4], it[5]) for it in rows]
@@ -91,10 +93,11 @@ def main():
         subprocess.run(["cc", "-O2", "-o", program, TOP / "bench/survey.c", TOP / "out/libsynchrony.a"], check=True)
         files = list(make_traces(folder, words.traces, words.steps))
         print(f"{len(files)} traces, {sum(it.stat().st_size for it in files) / len(files):.0f} bytes each on average")
+        by_survey(folder / "cache", files[:1], 1, 1)
         times = {"survey": [], "c": []}
         for no in range(words.rounds):
             answers = []
-            for name, work in (("survey", by_survey), ("c", lambda *given: by_c(program, *given))):
+            for name, work in (("survey", lambda *given: by_survey(folder / "cache", *given)), ("c", lambda *given: by_c(program, *given))):
                 answer, wall, cpu = timed(lambda: work(files, words.steps // 4, words.workers))
                 answers.append(answer)
                 times[name].append((wall, cpu))

@@ -7,6 +7,7 @@ import random
 import signal
 import statistics
 import tempfile
+import threading
 import time
 from concurrent.futures import Executor, Future, ProcessPoolExecutor, ThreadPoolExecutor
 from pathlib import Path
@@ -227,6 +228,21 @@ def test_the_row_of_a_tick_and_the_length_of_a_trace():
         (b'\xef\xbb\xbfdls-trace,2,2,0\r"init",5,7\r\rend,9\r', (0, 9)),
     ]:
         assert sy.report(text, "all") is not None and surveys._length(text) == length, text
+
+
+def test_a_file_is_read_to_its_end():
+    with tempfile.TemporaryDirectory() as folder:
+        file, pipe = Path(folder) / "file", Path(folder) / "pipe"
+        for length in (0, 1, 4096, 3_000_000):
+            file.write_bytes(bytes(length))
+            assert surveys._file(str(file)) == bytes(length)
+        # (the size of a pipe isn't known before it is read)
+        os.mkfifo(pipe)
+        writer = threading.Thread(target=pipe.write_bytes, args=[ONE_MISS * 50_000])
+        writer.start()
+        assert surveys._file(str(pipe)) == ONE_MISS * 50_000
+        writer.join()
+        assert sy.survey([Path(folder)]).rows[0].error == "cannot read: Is a directory"
 
 
 def test_the_command_line():

@@ -150,15 +150,25 @@ def report(trace: Text, correct: Correct) -> List[Row]:
 
 def report_text(trace: Text, correct: Correct) -> bytes:
     """The same as a CSV with a header, byte for byte what the program prints."""
-    text, (mask, listed) = _bytes_of(trace), _set_of(correct)
+    text = _bytes_of(trace)
+    return _reports(correct)(text)
+
+
+def _reports(correct: Correct) -> Callable[[bytes], bytes]:
+    """What report_text answers for these processors, which are read once for all texts."""
+    mask, listed = _set_of(correct)
     if mask == ALL and listed != "all":
         # (the library takes the mask with all 64 bits for all processors of the trace, however many these are)
-        return _asked("report", text, correct=listed)
+        return lambda text: _asked("report", text, correct=listed)
     call = _library().synchrony_report
-    answer, out = _with_room(_room_for(text), lambda *room: call(mask, text, len(text), *room))
-    if answer:
-        _refuse(answer, out)
-    return out
+
+    def report_of(text: bytes) -> bytes:
+        answer, out = _with_room(_room_for(text), call, mask, text, len(text))
+        if answer:
+            _refuse(answer, out)
+        return out
+
+    return report_of
 
 
 def report_part(trace: Text, correct: Correct, until: Optional[int] = None, at: Optional[int] = None) -> List[Row]:
@@ -240,8 +250,7 @@ def check(trace: Text, certificate: Text, correct: Correct) -> Verdict:
     text, rows, (mask, listed) = _bytes_of(trace), _bytes_of(certificate), _set_of(correct)
     if mask == ALL and listed != "all":
         return _verdict(_asked("check", text, rows, correct=listed))
-    call = _library().synchrony_check
-    answer, out = _with_room(LINE_ROOM, lambda *room: call(mask, text, len(text), rows, len(rows), *room))
+    answer, out = _with_room(LINE_ROOM, _library().synchrony_check, mask, text, len(text), rows, len(rows))
     if answer not in (0, NO):
         _refuse(answer, out)
     return _verdict(out)
@@ -313,9 +322,8 @@ def _answer(words: List[str], text: bytes, second: bytes = b"") -> Tuple[int, by
     standard error."""
     if any("\n" in it for it in words):
         raise ValueError("no word of a command line has a line feed")
-    lines, call = "\n".join(words).encode(), _library().synchrony_answer
-    given = (lines, len(lines), text, len(text), second, len(second))
-    return _with_room(_room_for(text), lambda *room: call(*given, *room))
+    lines = "\n".join(words).encode()
+    return _with_room(_room_for(text), _library().synchrony_answer, lines, len(lines), text, len(text), second, len(second))
 
 
 def _rows(report: bytes) -> List[Row]:
@@ -358,27 +366,35 @@ def _room_for(trace: bytes) -> int:
 
 
 class _Rooms(threading.local):
-    """The last room of each thread, so that a call that needs no more doesn't make a new one."""
+    """The last room of each thread and its length, and what the library writes the length of an answer into. So a call that
+    needs no more makes none of them anew."""
 
-    room: Any = None
+    def __init__(self) -> None:
+        self.size = ctypes.c_size_t(0)
+        self.size_at: Any = ctypes.byref(self.size)
+        self.grow(0)
+
+    def grow(self, least: int) -> None:
+        self.out, self.length = ctypes.create_string_buffer(least), least
 
 
 _rooms = _Rooms()
 
 
-def _with_room(least: int, call: Callable[[Any, int, Any], int]) -> Tuple[int, bytes]:
+def _with_room(least: int, call: Callable[..., int], *given: Any) -> Tuple[int, bytes]:
     """What a call answers and writes, in as much room as it asks for."""
-    size = ctypes.c_size_t(0)
+    size = _rooms.size
     while True:
-        if _rooms.room is None or len(_rooms.room) < least:
-            _rooms.room = ctypes.create_string_buffer(least)
-        out = _rooms.room
+        if _rooms.length < least:
+            _rooms.grow(least)
+        out, length = _rooms.out, _rooms.length
         size.value = 0
-        answer = call(out, len(out), ctypes.byref(size))
+        answer = call(*given, out, length, _rooms.size_at)
+        written = size.value
         # (the words of a refusal may be cut off too)
-        if size.value <= len(out):
-            return answer, ctypes.string_at(out, size.value)
-        least = size.value
+        if written <= length:
+            return answer, ctypes.string_at(out, written)
+        least = written
 
 
 def _bytes_of(text: Text) -> bytes:

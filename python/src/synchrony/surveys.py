@@ -22,6 +22,7 @@ import sys
 from collections import deque
 from concurrent.futures import BrokenExecutor, Executor, Future, ProcessPoolExecutor
 from dataclasses import dataclass, field
+from itertools import chain
 from pathlib import Path, PurePath
 from typing import TYPE_CHECKING, Any, Callable, Deque, Dict, Iterable, Iterator, List, NamedTuple, Optional, Sequence, Tuple, Union
 
@@ -169,7 +170,8 @@ def survey(
             for (place, name, _), answer in zip(pieces, found):
                 if rows[place] is not None:
                     raise AssertionError(f"trace {place + 1} is answered twice")
-                rows[place] = Surveyed(name, _group_of(group, name), *answer)
+                steps, last, bounds, error = answer
+                rows[place] = Surveyed(name, _group_of(group, name), steps, last, tuple(it and Bounds(*it) for it in bounds), error)
             told.tell(len(pieces))
     finally:
         work.close()
@@ -192,8 +194,9 @@ def _ticks_of(at: At) -> Tuple[int, ...]:
     return ticks
 
 
-# What a worker answers of a trace: the last four fields of a row.
-Answer = Tuple[Optional[int], Optional[int], Tuple[Optional[Bounds], ...], Optional[str]]
+# What a worker answers of a trace: the last four fields of a row, with plain pairs for bounds, which are sent faster.
+Pair = Tuple[int, int]
+Answer = Tuple[Optional[int], Optional[int], Tuple[Optional[Pair], ...], Optional[str]]
 
 
 class _Job(NamedTuple):
@@ -213,18 +216,18 @@ class _Job(NamedTuple):
 
 def _answers(job: _Job, texts: Sequence[Tuple[Union[bytes, str], Tuple[int, ...]]]) -> List[Answer]:
     """What a worker does with a batch."""
-    return [_answer(job, *it) for it in texts]
+    reports = library._reports(job.correct)
+    return [_answer(job, reports, *it) for it in texts]
 
 
-def _answer(job: _Job, text: Union[bytes, str], ticks: Tuple[int, ...]) -> Answer:
+def _answer(job: _Job, reports: Callable[[bytes], bytes], text: Union[bytes, str], ticks: Tuple[int, ...]) -> Answer:
     """The answer for a text, or for the file of a path, from these ticks on."""
     if job.named is not None and not ticks:
         return _refused(f"no {job.named} in its name")
     try:
         if isinstance(text, str):
-            with open(text, "rb", buffering=0) as file:
-                text = file.read()
-        report = library.report_text(text, job.correct)
+            text = _file(text)
+        report = reports(text)
     except library.SynchronyError as why:
         return None, None, (), str(why).partition("\n")[0]
     except MemoryError:
@@ -235,8 +238,27 @@ def _answer(job: _Job, text: Union[bytes, str], ticks: Tuple[int, ...]) -> Answe
     return steps, last, tuple(_bounds_at(report, it) if it <= last else None for it in ticks), None
 
 
+def _file(path: str) -> bytes:
+    """The bytes of a file, which is read at once where its size is known. (A file object makes twice as many calls.)"""
+    file = os.open(path, os.O_RDONLY)
+    try:
+        size = os.fstat(file).st_size
+        parts = [os.read(file, size + 1)]
+        while parts[-1] and not len(parts[0]) == size > 0:
+            parts.append(os.read(file, 1 << 20))
+    finally:
+        os.close(file)
+    return parts[0] if len(parts) == 1 else b"".join(parts)
+
+
 def _length(trace: bytes) -> Tuple[int, int]:
     """The numbers of steps and of ticks of a trace text that was accepted: by its last two records."""
+    # (as a trace is usually written: two lines, whose numbers aren't quoted)
+    at = trace.rfind(b"\n", 0, -1)
+    no, comma, rest = trace[trace.rfind(b"\n", 0, at) + 1 : at].partition(b",")
+    last = trace[at + 5 : -1]
+    if no.isdigit() and comma and last.isdigit() and trace[at + 1 : at + 5] == b"end," and trace[-1:] == b"\n" and b"\r" not in rest:
+        return int(no), int(last)
     at, end = _last_record(trace, len(trace))
     _, before = _last_record(trace, at)
     return (0 if before[0] == b"init" else int(before[0])), int(end[1])
@@ -255,23 +277,20 @@ def _last_record(text: bytes, end: int) -> Tuple[int, List[bytes]]:
     return at, [it.strip(b'"') for it in text[at:end].split(b",")]
 
 
-def _bounds_at(report: bytes, tick: int) -> Bounds:
+def _bounds_at(report: bytes, tick: int) -> Pair:
     """The bounds of the row that applies to a tick: the last one that begins no later. Rows begin with rising ticks, so each
     look halves what is left."""
-    low, high = report.index(b"\n") + 1, len(report)
-    # (a row that begins no later begins at low, and all that begin at high or behind it begin later)
-    while True:
-        at = report.rfind(b"\n", low, (low + high) // 2) + 1
-        if at <= low:
-            at = report.find(b"\n", low) + 1
-            if at >= high or at == 0:
-                break
-        if int(report[at : report.index(b",", at)]) <= tick:
-            low = at
+    rows = report.split(b"\n")
+    low, high = 1, len(rows) - 1
+    while high - low > 1:
+        middle = (low + high) // 2
+        row = rows[middle]
+        if int(row[: row.index(b",")]) <= tick:
+            low = middle
         else:
-            high = at
-    _, delta, phi = report[low : report.index(b"\n", low)].split(b",", 3)[:3]
-    return Bounds(int(delta), int(phi))
+            high = middle
+    _, delta, phi, _ = rows[low].split(b",", 3)
+    return int(delta), int(phi)
 
 
 def _pieces(traces: Iterable[Source], with_paths: bool) -> Iterator[Tuple[Piece, Optional[str]]]:
@@ -284,7 +303,7 @@ def _pieces(traces: Iterable[Source], with_paths: bool) -> Iterator[Tuple[Piece,
             path = os.fspath(it)
             name = path if name is None else name
             if with_paths:
-                yield (place, name, os.path.abspath(path)), None
+                yield (place, name, os.path.join(os.getcwd(), path) if path[:1] != os.sep else path), None
                 continue
             try:
                 yield (place, name, Path(path).read_bytes()), None
@@ -440,8 +459,7 @@ def _group_of(group: Group, name: str) -> str:
 
 
 def _flat(bounds: Iterable[Optional[Bounds]]) -> Iterator[Optional[int]]:
-    for it in bounds:
-        yield from (None, None) if it is None else it
+    return chain.from_iterable((None, None) if it is None else it for it in bounds)
 
 
 def _spread(group: str, bound: str, values: List[int]) -> Spread:
