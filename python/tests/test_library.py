@@ -32,7 +32,7 @@ def test_the_correct_processors_may_be_any_iterable_which_is_read_once():
         assert sy.report_text(ONE_MISS, correct) == ONE_MISS_REPORT
     # (a report that needs a second call, in more room)
     idle = b"dls-trace,2,2,0\ninit,0,0\nend,1000\n"
-    library._rooms.grow(0)
+    library._rooms.room = library._Room(0)
     assert [it[:3] for it in sy.report(idle, correct=(p for p in (1, 2)))] == [(tick, 1, 1002 - tick) for tick in range(1, 1001)]
     assert [it[:3] for it in sy.report_part(idle, correct=(p for p in (1, 2)), until=10)] == [(tick, 1, 12 - tick) for tick in range(1, 11)]
     # (without a correct processor there is nothing to keep)

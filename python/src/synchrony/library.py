@@ -365,17 +365,22 @@ def _room_for(trace: bytes) -> int:
     return min(1 << 20, 4096 + 4 * len(trace))
 
 
+class _Room:
+    """Room for what a call writes, and for the length of that."""
+
+    __slots__ = ("at", "length", "seen", "size", "size_at")
+
+    def __init__(self, length: int) -> None:
+        out = ctypes.create_string_buffer(length)
+        self.length, self.seen, self.size = length, memoryview(out), ctypes.c_size_t(0)
+        self.at, self.size_at = ctypes.c_void_p(ctypes.addressof(out)), ctypes.byref(self.size)
+
+
 class _Rooms(threading.local):
-    """The last room of each thread and its length, and what the library writes the length of an answer into. So a call that
-    needs no more makes none of them anew."""
+    """The last room of each thread, so that a call that needs no more doesn't make a new one."""
 
     def __init__(self) -> None:
-        self.size = ctypes.c_size_t(0)
-        self.size_at: Any = ctypes.byref(self.size)
-        self.grow(0)
-
-    def grow(self, least: int) -> None:
-        self.out, self.length = ctypes.create_string_buffer(least), least
+        self.room = _Room(0)
 
 
 _rooms = _Rooms()
@@ -383,17 +388,16 @@ _rooms = _Rooms()
 
 def _with_room(least: int, call: Callable[..., int], *given: Any) -> Tuple[int, bytes]:
     """What a call answers and writes, in as much room as it asks for."""
-    size = _rooms.size
+    room = _rooms.room
     while True:
-        if _rooms.length < least:
-            _rooms.grow(least)
-        out, length = _rooms.out, _rooms.length
-        size.value = 0
-        answer = call(*given, out, length, _rooms.size_at)
-        written = size.value
+        if room.length < least:
+            room = _rooms.room = _Room(least)
+        room.size.value = 0
+        answer = call(*given, room.at, room.length, room.size_at)
+        written = room.size.value
         # (the words of a refusal may be cut off too)
-        if written <= length:
-            return answer, ctypes.string_at(out, written)
+        if written <= room.length:
+            return answer, room.seen[:written].tobytes()
         least = written
 
 

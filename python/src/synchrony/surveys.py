@@ -34,6 +34,8 @@ if TYPE_CHECKING:
 # A batch is full with so many traces, or with so many bytes of them where bytes are sent.
 BATCH_TRACES = 100
 BATCH_BYTES = 4 << 20
+# A worker looks at reports once it has so many bytes of them.
+REPORT_BYTES = 1 << 20
 
 # A trace to survey: a path, or its text, which may have a name before it.
 Source = Union[library.Text, Tuple[str, library.Text]]
@@ -215,28 +217,51 @@ class _Job(NamedTuple):
         return (int(found[1]),) if found and int(found[1]) >= 1 else ()
 
 
+# A report that a worker hasn't looked at yet, the steps and ticks of its trace, and the ticks that are asked for. Without a
+# report: its refusal.
+_Reported = Tuple[bytes, Optional[Tuple[int, int]], Tuple[int, ...], Optional[str]]
+
+
 def _answers(job: _Job, texts: Sequence[Tuple[Union[bytes, str], Tuple[int, ...]]]) -> List[Answer]:
-    """What a worker does with a batch."""
+    """What a worker does with a batch. It calls the library for many traces before it looks at their reports: calls in a row
+    are faster, since each finds its code and memory in the caches of the processor."""
     reports = library._reports(job.correct)
-    return [_answer(job, reports, *it) for it in texts]
+    answers: List[Answer] = []
+    kept: List[_Reported] = []
+    size = 0
+    for text, ticks in texts:
+        it = _reported(job, reports, text, ticks)
+        kept.append(it)
+        size += len(it[0])
+        if size >= REPORT_BYTES:
+            answers += [_answer(*it) for it in kept]
+            kept, size = [], 0
+    return answers + [_answer(*it) for it in kept]
 
 
-def _answer(job: _Job, reports: Callable[[bytes], bytes], text: Union[bytes, str], ticks: Tuple[int, ...]) -> Answer:
-    """The answer for a text, or for the file of a path, from these ticks on."""
+def _reported(job: _Job, reports: Callable[[bytes], bytes], text: Union[bytes, str], ticks: Tuple[int, ...]) -> _Reported:
+    """The report of a text, or of the file of a path."""
     if job.named is not None and not ticks:
-        return _refused(f"no {job.named} in its name")
+        return b"", None, (), f"no {job.named} in its name"
     try:
         if isinstance(text, str):
             text = _file(text)
-        report = reports(text)
+        return reports(text), _length(text), ticks, None
     except library.SynchronyError as why:
-        return None, None, (), str(why).partition("\n")[0]
+        error = str(why).partition("\n")[0]
     except MemoryError:
-        return None, None, (), "out of memory"
+        error = "out of memory"
     except OSError as why:
-        return None, None, (), f"cannot read: {why.strerror or why}"
-    steps, last = _length(text)
-    return steps, last, tuple(_bounds_at(report, it) if it <= last else None for it in ticks), None
+        error = f"cannot read: {why.strerror or why}"
+    return b"", None, (), error
+
+
+def _answer(report: bytes, length: Optional[Tuple[int, int]], ticks: Tuple[int, ...], error: Optional[str]) -> Answer:
+    """The answer for a trace, by its report."""
+    if length is None:
+        return None, None, (), error
+    steps, last = length
+    return steps, last, tuple([_bounds_at(report, it) if it <= last else None for it in ticks]), None
 
 
 def _file(path: str) -> bytes:
