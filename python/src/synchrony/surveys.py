@@ -95,12 +95,13 @@ class Table:
 
     def values(self) -> Iterator[List[Any]]:
         """The values of each row, in the order of the header."""
-        for it in self.rows:
-            yield [it.name, it.group, it.steps, it.ticks, *_flat(it.bounds or (None,) * len(self.ticks)), it.error]
+        nothing = (None,) * len(self.ticks)
+        for name, group, steps, ticks, bounds, error in self.rows:
+            yield [name, group, steps, ticks, *_flat(bounds or nothing), error]
 
     def csv(self) -> str:
         """The table as a CSV with a header."""
-        return _csv([self.header(), *self.values()])
+        return _csv(chain([self.header()], self.values()))
 
     def frame(self) -> pandas.DataFrame:
         """The table as a frame of pandas, which has to be installed."""
@@ -171,7 +172,7 @@ def survey(
                 if rows[place] is not None:
                     raise AssertionError(f"trace {place + 1} is answered twice")
                 steps, last, bounds, error = answer
-                rows[place] = Surveyed(name, _group_of(group, name), steps, last, tuple(it and Bounds(*it) for it in bounds), error)
+                rows[place] = Surveyed(name, _group_of(group, name), steps, last, tuple([it and Bounds._make(it) for it in bounds]), error)
             told.tell(len(pieces))
     finally:
         work.close()
