@@ -77,6 +77,16 @@ def test_factors_and_rows():
     assert unasked.rows[0].verdict.factor is None and unasked.rows[0].verdict.rows is None
 
 
+def test_formulas_with_parentheses():
+    # (both bounds are 1 and there are two processors, so each is 2 ticks, and the deadline of tick 1 is 3)
+    for formula in ["2*phi", "max(delta, 2*phi)", "(delta + phi)", "(n + delta)/2", "n/1"]:
+        verdict = sy.judge(BUSY, IN_TIME, "all", formula)
+        assert str(verdict).endswith("margin 1"), formula
+    for formula, words in [("(delta", "after operand 1"), ("delta/0", "operand 2 of the formula divides"), ("max(delta, psi)", "operand 2 of the formula is no number")]:
+        with raises(sy.SynchronyError, words):
+            sy.judge(BUSY, IN_TIME, "all", formula)
+
+
 def test_no_formula_is_refused_at_once():
     with raises(sy.SynchronyError, "--within"):
         sy.judge_runs(cases(), "delta +", workers=1)
