@@ -15,6 +15,7 @@ from .claims import Case, Judged, Verdicts, judge_runs, runs_in
 from .library import (
     Bound,
     CertificateRefused,
+    DeadlineRow,
     Judgement,
     Row,
     SetRefused,
@@ -50,6 +51,7 @@ __all__ = [
     "Decide",
     "Decision",
     "Judged",
+    "DeadlineRow",
     "Judgement",
     "Kept",
     "Receive",
