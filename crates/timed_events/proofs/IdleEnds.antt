@@ -1,14 +1,14 @@
 -- The short silences that end in the last tick, after those that end before an event.
 use Rattle.std.proofs.Common.{ℕ, ◌≡◌, ◌+◌, ◌-◌, ◌<◌, ◌≤◌, ◌⊎◌, inl, inr, List, length, refl, sym, ap, ap₂, ◌∙◌, subst, arith}
 use Rattle.std.specs.Prelude.{slice_index}
-use Rattle.std.specs.List.{All, Contains}
+use Rattle.std.specs.List.{Contains}
 use Rattle.std.proofs.lemmas.Bool.{cases_lt}
 use Rattle.std.proofs.lemmas.List.Elements.{All-weaker}
 use Rattle.step_trace.specs.declared.configurations.TheConstants.{MAX_PROCESSORS}
 use Rattle.timed_events.specs.declared.events.Event.{Event}
 use Rattle.timed_events.specs.declared.idle_ticks.IdleTick.{IdleTick}
 use Rattle.timed_events.specs.Checks.{processor_at, moment_of, AreMeant}
-use Rattle.timed_events.specs.IdleTicks.{HasEventIn, IsShortSilence, IsIdleEnd, IsIdleTick, AreIdle}
+use Rattle.timed_events.specs.IdleTicks.{HasEventIn, IsShortSilence, IsIdleTick, AreIdle}
 use Rattle.timed_events.specs.IdleWalks.{noted, IsLatestBefore, IsNoted, IsWalkedTo, HaveEnded}
 use Rattle.timed_events.proofs.IdleSilences.{latest-short, short-latest, noted-all, noted-kept, noted-new, noted-rising}
 use Rattle.timed_events.proofs.IdleWalks.{AreInOrder, latest-end}

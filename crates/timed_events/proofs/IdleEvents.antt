@@ -1,7 +1,7 @@
 -- Events with receives of nothing behind them make a trace.
-use Rattle.std.proofs.Common.{ℕ, ◌≡◌, ◌+◌, ◌-◌, ◌<◌, ◌≤◌, ◌⊎◌, inl, inr, Bool, true, false, cond, ◌||◌, List, [], ◌∷◌, ◌++◌, length, map, take, get_or, Option, Some, None, zero, suc, refl, sym, ap, ap₂, ◌∙◌, subst, arith}
+use Rattle.std.proofs.Common.{ℕ, ◌≡◌, ◌+◌, ◌-◌, ◌<◌, ◌≤◌, ◌⊎◌, inl, inr, Bool, true, false, cond, ◌||◌, List, [], ◌∷◌, ◌++◌, length, take, get_or, Some, None, zero, suc, refl, sym, ap, ap₂, ◌∙◌, subst, arith}
 use Rattle.std.specs.Prelude.{Result, Ok, Err, IfOk, slice_get, slice_index, slice_index_or, nat_lt}
-use Rattle.std.specs.List.{All, AllZip, list_any}
+use Rattle.std.specs.List.{All, list_any}
 use Rattle.std.specs.Option.{option_map_or}
 use Rattle.std.proofs.lemmas.Bool.{cases_lt, lt-ltb}
 use Rattle.std.proofs.lemmas.Grind.{common_steps}
@@ -16,17 +16,16 @@ use Rattle.timed_events.specs.declared.events.Event.{Event}
 use Rattle.timed_events.specs.declared.events.EventAct.{EventAct}
 use Rattle.timed_events.specs.declared.events.EventAct.TheVariants.{Send, Receive}
 use Rattle.timed_events.specs.declared.events.EventError.{EventError}
-use Rattle.timed_events.specs.declared.events.EventError.TheVariants.{WrongReceiver, ReceivedBefore, NotLater}
 use Rattle.timed_events.specs.declared.idle_ticks.IdleTick.{IdleTick}
 use Rattle.timed_events.specs.Firsts.{any_below}
-use Rattle.timed_events.specs.Checks.{sends_to, received_in, is_message, processor_at, messages_at, is_for, received_before, was_received, late_hint, message_refusal, messages_refusal, events_refusal, moment_of, moment_at, GoesWithin, AreMeant, IsMeantAt, AreOfProcessors, HaveOwnMoments}
+use Rattle.timed_events.specs.Checks.{sends_to, received_in, is_message, processor_at, messages_at, is_for, received_before, was_received, late_hint, message_refusal, messages_refusal, moment_of, moment_at, GoesWithin, AreMeant, IsMeantAt, HaveOwnMoments}
 use Rattle.timed_events.specs.IdleTicks.{HasEventIn, IsIdleTick, AreIdle, IsFree, IsOfNothing, IsIdleReceive, AreReceives, AreRising, moments_of, ticks_of}
 use Rattle.timed_events.specs.IdleTraces.{IsGrown, IsFilled}
 use Rattle.timed_events.specs.TickedEvents.{AreFit}
 use Rattle.timed_events.specs.TimedTraces.{IsTraceOf}
 use Rattle.timed_events.proofs.FittingEvents.{named-may}
 use Rattle.timed_events.proofs.Messages.{is_for-inside}
-use Rattle.timed_events.proofs.PassedEvents.{passed-event, one-at_moment, own-passed}
+use Rattle.timed_events.proofs.PassedEvents.{one-at_moment, own-passed}
 use Rattle.timed_events.proofs.RankedEvents.{messages-none, moment-parts}
 
 get-left : (xs ys : List Event) (i : ℕ) → i < length xs → slice_get (xs ++ ys) i ≡ slice_get xs i

@@ -1,5 +1,5 @@
 -- The walk that notes the short silences before events.
-use Rattle.std.proofs.Common.{ℕ, ◌≡◌, ◌+◌, ◌-◌, ◌<◌, ◌≤◌, ◌⊎◌, inl, inr, List, [], ◌∷◌, length, set, replicate, refl, sym, ap, ap₂, ◌∙◌, subst, arith}
+use Rattle.std.proofs.Common.{ℕ, ◌≡◌, ◌+◌, ◌-◌, ◌<◌, ◌≤◌, ◌⊎◌, inl, inr, List, [], length, set, replicate, sym, ap, ap₂, ◌∙◌, subst, arith}
 use Rattle.std.specs.Prelude.{slice_index}
 use Rattle.std.specs.List.{All, Contains}
 use Rattle.std.proofs.lemmas.Bool.{cases_lt, cases_eq}
@@ -9,7 +9,7 @@ use Rattle.step_trace.specs.declared.configurations.TheConstants.{MAX_PROCESSORS
 use Rattle.timed_events.specs.declared.events.Event.{Event}
 use Rattle.timed_events.specs.declared.idle_ticks.IdleTick.{IdleTick}
 use Rattle.timed_events.specs.CausalWalks.{index_at}
-use Rattle.timed_events.specs.Checks.{processor_at, moment_at, moment_of, AreOfProcessors}
+use Rattle.timed_events.specs.Checks.{processor_at, moment_of, AreOfProcessors}
 use Rattle.timed_events.specs.IdleTicks.{HasEventIn, IsShortSilence, AreRising}
 use Rattle.timed_events.specs.IdleWalks.{noted, IsLatestBefore, IsLastAmong, IsNoted, IsWalkedTo}
 use Rattle.timed_events.specs.Orders.{IsOrder}

@@ -1,9 +1,8 @@
 -- Events with receives of nothing in short silences have one trace.
-use Rattle.std.proofs.Common.{ℕ, ◌≡◌, ◌+◌, ◌<◌, ◌≤◌, ◌⊎◌, inl, inr, Bool, List, [], ◌∷◌, ◌++◌, length, map, get_or, Option, Some, None, zero, suc, refl, sym, ap, ap₂, ◌∙◌, subst, arith}
+use Rattle.std.proofs.Common.{ℕ, ◌≡◌, ◌<◌, ◌≤◌, Bool, List, [], ◌∷◌, ◌++◌, length, get_or, Some, zero, suc, refl, sym, ap, ap₂, ◌∙◌, subst, arith}
 use Rattle.std.specs.Prelude.{slice_get, slice_index}
-use Rattle.std.specs.List.{All, AllZip, Contains, range_with_len}
+use Rattle.std.specs.List.{All, AllZip, range_with_len}
 use Rattle.std.specs.List.Sorted.{IsPermutation}
-use Rattle.std.proofs.lemmas.Bool.{cases_lt}
 use Rattle.std.proofs.lemmas.List.{get_or-map, length-map}
 use Rattle.std.proofs.lemmas.Option.{same_Some}
 use Rattle.std.proofs.lemmas.Slice.Zip.{AllZip-long}
@@ -19,12 +18,11 @@ use Rattle.timed_events.specs.declared.idle_ticks.IdleTick.{IdleTick}
 use Rattle.timed_events.specs.declared.idle_traces.IdleTrace.{IdleTrace}
 use Rattle.timed_events.specs.declared.spread_traces.Moved.{Moved}
 use Rattle.timed_events.specs.Checks.{processor_at, moment_of, moment_at}
-use Rattle.timed_events.specs.IdleTicks.{IsIdleTick, AreIdle, IsOfNothing, IsIdleReceive, AreReceives, moments_of, ticks_of, AreRising}
+use Rattle.timed_events.specs.IdleTicks.{AreIdle, IsOfNothing, AreReceives, moments_of, ticks_of, AreRising}
 use Rattle.timed_events.specs.IdleTraces.{IsFilled, IsIdleTimed}
-use Rattle.timed_events.specs.Orders.{IsOrder}
-use Rattle.timed_events.specs.Spreads.{AreTicks, last_of, moved_of}
+use Rattle.timed_events.specs.Spreads.{last_of, moved_of}
 use Rattle.timed_events.specs.Times.{time_ticks}
-use Rattle.timed_events.specs.TimedTraces.{AreIdsOf, IsActOf, IsStepAt, HasSteps, IsTraceOf}
+use Rattle.timed_events.specs.TimedTraces.{AreIdsOf, IsActOf, IsStepAt, IsTraceOf}
 use Rattle.timed_events.proofs.OneSpread.{AreTicks-unique}
 use Rattle.timed_events.proofs.OneTrace.{IsTraceOf-unique}
 use Rattle.timed_events.proofs.RankedEvents.{moment-parts}

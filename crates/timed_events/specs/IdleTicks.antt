@@ -1,5 +1,5 @@
 -- The ticks in which short silences of processors end, and events with a receive of nothing in each (own).
-use Rattle.std.specs.Prelude.{ℕ, ◌≡◌, ◌+◌, ◌<◌, ◌≤◌, ◌⊎◌, ◌++◌, List, [], length, map, slice_index}
+use Rattle.std.specs.Prelude.{ℕ, ◌≡◌, ◌+◌, ◌<◌, ◌≤◌, ◌⊎◌, List, [], length, map, slice_index}
 use Rattle.std.specs.List.{All, AllZip, Contains}
 use Rattle.timed_events.specs.declared.events.Event.{Event}
 use Rattle.timed_events.specs.declared.events.EventAct.{EventAct}
