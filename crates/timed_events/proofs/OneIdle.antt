@@ -1,12 +1,11 @@
 -- Events with receives of nothing in short silences have one trace.
 use Rattle.std.proofs.Common.{ℕ, ◌≡◌, ◌<◌, ◌≤◌, Bool, List, [], ◌∷◌, ◌++◌, length, get_or, Some, zero, suc, refl, sym, ap, ap₂, ◌∙◌, subst, arith}
 use Rattle.std.specs.Prelude.{slice_get, slice_index}
-use Rattle.std.specs.List.{All, AllZip, range_with_len}
+use Rattle.std.specs.List.{AllZip, range_with_len}
 use Rattle.std.specs.List.Sorted.{IsPermutation}
-use Rattle.std.proofs.lemmas.List.{get_or-map, length-map}
+use Rattle.std.proofs.lemmas.List.{get_or-map, get_or_default}
 use Rattle.std.proofs.lemmas.Option.{same_Some}
 use Rattle.std.proofs.lemmas.Slice.Zip.{AllZip-long}
-use Rattle.step_trace.specs.declared.configurations.TheConstants.{MAX_PROCESSORS}
 use Rattle.step_trace.specs.declared.steps.Act.{Act}
 use Rattle.step_trace.specs.declared.steps.Step.{Step}
 use Rattle.step_trace.specs.Traces.{Recorded}
@@ -25,77 +24,71 @@ use Rattle.timed_events.specs.Times.{time_ticks}
 use Rattle.timed_events.specs.TimedTraces.{AreIdsOf, IsActOf, IsStepAt, IsTraceOf}
 use Rattle.timed_events.proofs.OneSpread.{AreTicks-unique}
 use Rattle.timed_events.proofs.OneTrace.{IsTraceOf-unique}
-use Rattle.timed_events.proofs.RankedEvents.{moment-parts}
 
--- two rising lists of numbers with the same members are one
-pub record AreAscending (xs : List ℕ) : Type 0 where
-  pub up : (j k : ℕ) → j < k → k < length xs → slice_index xs j < slice_index xs k
+abbrev moment : IdleTick → ℕ
+moment x = moment_of x.tick x.processor
 
-ascending-tail : (x : ℕ) (xs : List ℕ) → AreAscending (x ∷ xs) → AreAscending xs
-ascending-tail x xs h = record { up = λ j k l m. h.up (suc j) (suc k) (omega arith) (omega arith) }
+-- two lists in rising order of moments with the same members are one
+record AreAscending (xs : List IdleTick) : Type 0 where
+  up : (d : IdleTick) (j k : ℕ) → j < k → k < length xs → moment (get_or xs j d) < moment (get_or xs k d)
 
-abbrev Within : List ℕ → List ℕ → Type 0
-Within xs ys = (j : ℕ) → j < length xs → (k : ℕ) × (k < length ys) × (slice_index ys k ≡ slice_index xs j)
+ascending-tail : (x : IdleTick) (xs : List IdleTick) → AreAscending (x ∷ xs) → AreAscending xs
+ascending-tail x xs h = record { up = λ d j k l m. h.up d (suc j) (suc k) (omega arith) (omega arith) }
 
--- the least of each is no less than that of the other
-least-first : (x y : ℕ) (xs ys : List ℕ) → AreAscending (y ∷ ys) → Within (x ∷ xs) (y ∷ ys) → y ≤ x
-least-first x y xs ys h w = go (w zero (omega arith)) where
-  go : (k : ℕ) × (k < length (y ∷ ys)) × (slice_index (y ∷ ys) k ≡ slice_index (x ∷ xs) zero) → y ≤ x
-  go (zero, l, e) = omega arith
-  go (suc k, l, e) = let u = h.up zero (suc k) (omega arith) l in omega arith
+record AreAmong (xs ys : List IdleTick) : Type 0 where
+  each : (d : IdleTick) (j : ℕ) → j < length xs → (k : ℕ) × (k < length ys) × (get_or ys k d ≡ get_or xs j d)
 
-within-tail : (x y : ℕ) (xs ys : List ℕ) → AreAscending (x ∷ xs) → x ≡ y → Within (x ∷ xs) (y ∷ ys) → Within xs ys
-within-tail x y xs ys h e w j l = go (w (suc j) (omega arith)) where
-  go : (k : ℕ) × (k < length (y ∷ ys)) × (slice_index (y ∷ ys) k ≡ slice_index (x ∷ xs) (suc j)) → (k : ℕ) × (k < length ys) × (slice_index ys k ≡ slice_index xs j)
-  go (zero, m, f) = let u = h.up zero (suc j) (omega arith) (omega arith) in absurd (omega arith)
-  go (suc k, m, f) = (k, omega arith, f)
+-- the first of each has no greater moment than that of the other
+least-first : (x y : IdleTick) (xs ys : List IdleTick) → AreAscending (y ∷ ys) → AreAmong (x ∷ xs) (y ∷ ys) → moment y ≤ moment x
+least-first x y xs ys h w = go (w.each x zero (omega arith)) where
+  go : (k : ℕ) × (k < length (y ∷ ys)) × (get_or (y ∷ ys) k x ≡ x) → moment y ≤ moment x
+  go (zero, l, e) = let f = ap moment e in omega arith
+  go (suc k, l, e) = let u = h.up x zero (suc k) (omega arith) l in let f = ap moment e in omega arith
 
-none-within : (x : ℕ) (xs : List ℕ) → Within (x ∷ xs) [] → ⊥
-none-within x xs w = let l = (w zero (omega arith)).1 in absurd (omega arith)
+same-first : (x y : IdleTick) (xs ys : List IdleTick) → AreAscending (x ∷ xs) → AreAscending (y ∷ ys) → AreAmong (x ∷ xs) (y ∷ ys) → AreAmong (y ∷ ys) (x ∷ xs) → x ≡ y
+same-first x y xs ys g h u v = go (u.each x zero (omega arith)) where
+  go : (k : ℕ) × (k < length (y ∷ ys)) × (get_or (y ∷ ys) k x ≡ x) → x ≡ y
+  go (zero, l, e) = sym e
+  go (suc k, l, e) = let m = least-first y x ys xs g v in let r = h.up x zero (suc k) (omega arith) l in let f = ap moment e in absurd (omega arith)
 
-one-list : (xs ys : List ℕ) → AreAscending xs → AreAscending ys → Within xs ys → Within ys xs → xs ≡ ys
+tail-found : (x y d : IdleTick) (xs ys : List IdleTick) (j : ℕ) → AreAscending (x ∷ xs) → x ≡ y → j < length xs → (k : ℕ) × (k < length (y ∷ ys)) × (get_or (y ∷ ys) k d ≡ get_or xs j d) → (k : ℕ) × (k < length ys) × (get_or ys k d ≡ get_or xs j d)
+tail-found x y d xs ys j h e l (zero, m, f) = let u = h.up d zero (suc j) (omega arith) (omega arith) in let g = ap moment f in let i = ap moment e in absurd (omega arith)
+tail-found x y d xs ys j h e l (suc k, m, f) = (k, omega arith, f)
+
+among-tail : (x y : IdleTick) (xs ys : List IdleTick) → AreAscending (x ∷ xs) → x ≡ y → AreAmong (x ∷ xs) (y ∷ ys) → AreAmong xs ys
+among-tail x y xs ys h e w = record { each = λ d j l. tail-found x y d xs ys j h e l (w.each d (suc j) (omega arith)) }
+
+none-among : (x : IdleTick) (xs : List IdleTick) → AreAmong (x ∷ xs) [] → ⊥
+none-among x xs w = let l = (w.each x zero (omega arith)).1 in absurd (omega arith)
+
+one-list : (xs ys : List IdleTick) → AreAscending xs → AreAscending ys → AreAmong xs ys → AreAmong ys xs → xs ≡ ys
 one-list [] [] g h u v = refl
-one-list [] (y ∷ ys) g h u v = absurd (none-within y ys v)
-one-list (x ∷ xs) [] g h u v = absurd (none-within x xs u)
+one-list [] (y ∷ ys) g h u v = absurd (none-among y ys v)
+one-list (x ∷ xs) [] g h u v = absurd (none-among x xs u)
 one-list (x ∷ xs) (y ∷ ys) g h u v =
-    let a = least-first x y xs ys h u in
-    let b = least-first y x ys xs g v in
-    let e : x ≡ y = omega arith in
-    ap₂ (λ z zs. z ∷ zs) e (one-list xs ys (ascending-tail x xs g) (ascending-tail y ys h) (within-tail x y xs ys g e u) (within-tail y x ys xs h (sym e) v))
+    let e = same-first x y xs ys g h u v in
+    ap₂ (λ z zs. z ∷ zs) e (one-list xs ys (ascending-tail x xs g) (ascending-tail y ys h) (among-tail x y xs ys g e u) (among-tail y x ys xs h (sym e) v))
 
-same-idles : (a b : List IdleTick) → All (λ x. (1 ≤ x.processor) × (x.processor ≤ MAX_PROCESSORS)) a → All (λ x. (1 ≤ x.processor) × (x.processor ≤ MAX_PROCESSORS)) b → moments_of a ≡ moments_of b → a ≡ b
-same-idles [] [] p q e = refl
-same-idles [] (y ∷ b) p q e = absurd (let l = ap length e in omega arith)
-same-idles (x ∷ a) [] p q e = absurd (let l = ap length e in omega arith)
-same-idles (x ∷ a) (y ∷ b) p q e =
-    let h = moment-parts x.tick y.tick x.processor y.processor (p zero x (omega arith)) (q zero y (omega arith)) (ap (λ xs. slice_index xs 0) e) in
-    ap₂ (λ z zs. z ∷ zs) (ap₂ (λ (v w : ℕ). let z : IdleTick = record { processor = v; tick = w } in z) h.1 h.0) (same-idles a b (λ k d l. p (suc k) d (omega arith)) (λ k d l. q (suc k) d (omega arith)) (ap tail e)) where
-      tail : List ℕ → List ℕ
-      tail [] = []
-      tail (z ∷ zs) = zs
+module _ (n : ℕ) (events : List Event) (ticks : List ℕ) (last limit : ℕ) where
+  among : (a b : List IdleTick) → AreIdle n events ticks last limit a → AreIdle n events ticks last limit b → AreAmong a b
+  among a b g h = record { each = λ d j l. found d j l } where
+    found : (d : IdleTick) (j : ℕ) → j < length a → (k : ℕ) × (k < length b) × (get_or b k d ≡ get_or a j d)
+    found d j l =
+        let i = g.each j d l in
+        let c = h.all (get_or a j d).processor (get_or a j d).tick i.least i.most i.end in
+        (c.0, c.1, get_or_default b c.0 d (get_or a j d) c.1 ∙ c.2)
 
-module _ (n : ℕ) (events : List Event) (ticks : List ℕ) (last limit : ℕ) (most : n ≤ MAX_PROCESSORS) where
-  bounded : (a : List IdleTick) → AreIdle n events ticks last limit a → All (λ x. (1 ≤ x.processor) × (x.processor ≤ MAX_PROCESSORS)) a
-  bounded a h k d l = let x = (h.each k d l).least in let y = (h.each k d l).most in (omega arith, omega arith)
+  ascending : (a : List IdleTick) → AreRising a → AreAscending a
+  ascending a h = record { up = λ d j k l m. rises d j k l m } where
+    at : (d : IdleTick) (j : ℕ) → j < length a → slice_index (moments_of a) j ≡ moment (get_or a j d)
+    at d j l = get_or-map (λ (x : IdleTick). moment_of x.tick x.processor) a j d 0 l
 
-  among : (a b : List IdleTick) → AreIdle n events ticks last limit a → AreIdle n events ticks last limit b → Within (moments_of a) (moments_of b)
-  among a b g h j l =
-      let inside : j < length a = (let e = length-map a (λ (x : IdleTick). moment_of x.tick x.processor) in omega arith) in
-      let d : IdleTick = record { processor = 0; tick = 0 } in
-      let x = get_or a j d in
-      let i = g.each j d inside in
-      let c = h.all x.processor x.tick i.least i.most i.end in (
-        c.0,
-        (let e = length-map b (λ (x : IdleTick). moment_of x.tick x.processor) in let m = c.1 in omega arith),
-        get_or-map (λ (x : IdleTick). moment_of x.tick x.processor) b c.0 x 0 c.1 ∙ ap (λ (x : IdleTick). moment_of x.tick x.processor) c.2 ∙ sym (get_or-map (λ (x : IdleTick). moment_of x.tick x.processor) a j d 0 inside),
-      )
-
-  ascending : (a : List IdleTick) → AreRising a → AreAscending (moments_of a)
-  ascending a h = record { up = λ j k l m. h j k l (let e = length-map a (λ (x : IdleTick). moment_of x.tick x.processor) in omega arith) }
+    rises : (d : IdleTick) (j k : ℕ) → j < k → k < length a → moment (get_or a j d) < moment (get_or a k d)
+    rises d j k l m = let r = h j k l m in let x = at d j (omega arith) in let y = at d k m in omega arith
 
   -- there is one list of the ticks in which short silences end
   pub AreIdle-unique : (a b : List IdleTick) → AreIdle n events ticks last limit a → AreIdle n events ticks last limit b → a ≡ b
-  AreIdle-unique a b g h = same-idles a b (bounded a g) (bounded b h) (one-list (moments_of a) (moments_of b) (ascending a g.rising) (ascending b h.rising) (among a b g h) (among b a h g))
+  AreIdle-unique a b g h = one-list a b (ascending a g.rising) (ascending b h.rising) (among a b g h) (among b a h g)
 
 -- events that make the same step
 abbrev IsSameAct : EventAct → EventAct → Type 0
@@ -179,11 +172,11 @@ filled-once : (n : ℕ) (events new more : List Event) (ticks : List ℕ) (last 
 filled-once n events new more ticks last idles a b s t = IsTraceOf-unique n (events ++ t.added) (ticks ++ ticks_of idles) last a b (same-trace n (events ++ s.added) (events ++ t.added) (ticks ++ ticks_of idles) last a (same-all events s.added t.added (same-added idles s.added t.added s.receives t.receives)) s.trace) t.trace
 
 -- events with times have one trace with receives of nothing in short silences
-pub IsIdleTimed-unique : (spread : Bool) (n : ℕ) (events : List Event) (clock : Clock) (limit : ℕ) (a b : IdleTrace) (new more : List Event) → n ≤ MAX_PROCESSORS → IsIdleTimed spread n events clock limit a new → IsIdleTimed spread n events clock limit b more → a ≡ b
-IsIdleTimed-unique spread n events clock limit a b new more most s t =
+pub IsIdleTimed-unique : (spread : Bool) (n : ℕ) (events : List Event) (clock : Clock) (limit : ℕ) (a b : IdleTrace) (new more : List Event) → IsIdleTimed spread n events clock limit a new → IsIdleTimed spread n events clock limit b more → a ≡ b
+IsIdleTimed-unique spread n events clock limit a b new more s t =
     let ticks = AreTicks-unique spread events clock t.ticks s.ticks s.passed t.are s.are in
     let idle = subst (λ xs. AreIdle n events xs (last_of events clock xs) limit t.idles) ticks t.idle in
-    let idles = AreIdle-unique n events s.ticks (last_of events clock s.ticks) limit most t.idles s.idles idle s.idle in
+    let idles = AreIdle-unique n events s.ticks (last_of events clock s.ticks) limit t.idles s.idles idle s.idle in
     let filled = subst (λ is. IsFilled n events more s.ticks (last_of events clock s.ticks) is b.trace) idles (subst (λ xs. IsFilled n events more xs (last_of events clock xs) t.idles b.trace) ticks t.filled) in
     let trace = filled-once n events new more s.ticks (last_of events clock s.ticks) s.idles a.trace b.trace s.filled filled in
     let moved = s.moved ∙ sym (ap (moved_of (time_ticks events clock)) ticks) ∙ sym t.moved in

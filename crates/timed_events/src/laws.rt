@@ -1,6 +1,6 @@
 //! Events make one trace.
 
-ghost use Rattle.std.specs.Prelude.{ℕ, ◌≡◌, ◌↔◌, ◌≤◌, Bool, true, List};
+ghost use Rattle.std.specs.Prelude.{ℕ, ◌≡◌, ◌↔◌, Bool, true, List};
 ghost use Rattle.step_trace.specs.Traces.{Recorded};
 ghost use Rattle.timed_events.specs.declared.events.Event.{Event};
 ghost use Rattle.timed_events.specs.declared.events.Clock.{Clock};
@@ -12,8 +12,6 @@ ghost use Rattle.timed_events.specs.Causes.{AreSentBefore, IsCausalOrder, IsFirs
 ghost use Rattle.timed_events.specs.IdleTraces.{IsIdleTimed};
 ghost use Rattle.timed_events.specs.Spreads.{AreLeast, AreSpread, HavePassed, IsTimed};
 ghost use Rattle.timed_events.specs.TimedTraces.{IsTraceOf};
-
-use step_trace::MAX_PROCESSORS;
 
 /// The laws of traces of events. Events in their ticks, up to a last tick, have one trace. Events that may be spread,
 /// and of which none is refused, have one list of ticks. So events with times have one trace, and moved in one way.
@@ -42,5 +40,5 @@ pub fn cause_laws()
 ///
 /// A theorem over the definitions, as those of `trace_laws`.
 pub fn idle_laws()
-    ensures idle_once { (spread : Bool) (n : ℕ) (events : List Event) (clock : Clock) (limit : ℕ) (a b : IdleTrace) (new more : List Event) → n ≤ MAX_PROCESSORS → IsIdleTimed spread n events clock limit a new → IsIdleTimed spread n events clock limit b more → a ≡ b }
+    ensures idle_once { (spread : Bool) (n : ℕ) (events : List Event) (clock : Clock) (limit : ℕ) (a b : IdleTrace) (new more : List Event) → IsIdleTimed spread n events clock limit a new → IsIdleTimed spread n events clock limit b more → a ≡ b }
 {}
