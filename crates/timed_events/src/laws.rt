@@ -4,10 +4,12 @@ ghost use Rattle.std.specs.Prelude.{ℕ, ◌≡◌, ◌↔◌, Bool, true, List}
 ghost use Rattle.step_trace.specs.Traces.{Recorded};
 ghost use Rattle.timed_events.specs.declared.events.Event.{Event};
 ghost use Rattle.timed_events.specs.declared.events.Clock.{Clock};
+ghost use Rattle.timed_events.specs.declared.idle_traces.IdleTrace.{IdleTrace};
 ghost use Rattle.timed_events.specs.declared.spread_traces.TimedTrace.{TimedTrace};
 ghost use Rattle.timed_events.specs.declared.cause_cycles.Hop.{Hop};
 ghost use Rattle.timed_events.specs.CauseCycles.{IsCauseCycle};
 ghost use Rattle.timed_events.specs.Causes.{AreSentBefore, IsCausalOrder, IsFirstUnplaceable, IsTimeOrder};
+ghost use Rattle.timed_events.specs.IdleTraces.{IsIdleTimed};
 ghost use Rattle.timed_events.specs.Spreads.{AreLeast, AreSpread, HavePassed, IsTimed};
 ghost use Rattle.timed_events.specs.TimedTraces.{IsTraceOf};
 
@@ -32,4 +34,11 @@ pub fn cause_laws()
     ensures cycle { (events : List Event) (hops : List Hop) → IsCauseCycle events hops → (order : List ℕ) → ¬ IsCausalOrder events order }
     ensures least_once { (events : List Event) (own order a b : List ℕ) → IsCausalOrder events order → AreLeast events own a → AreLeast events own b → a ≡ b }
     ensures by_time { (events : List Event) (order : List ℕ) → IsTimeOrder events order → (IsCausalOrder events order ↔ AreSentBefore events) }
+{}
+
+/// The law of traces with receives of nothing in short silences: events, clock and limit have one.
+///
+/// A theorem over the definitions, as those of `trace_laws`.
+pub fn idle_laws()
+    ensures idle_once { (spread : Bool) (n : ℕ) (events : List Event) (clock : Clock) (limit : ℕ) (a b : IdleTrace) (new more : List Event) → IsIdleTimed spread n events clock limit a new → IsIdleTimed spread n events clock limit b more → a ≡ b }
 {}

@@ -5,15 +5,11 @@ ghost use Rattle.timed_events.specs.Checks.{AreMeant};
 ghost use Rattle.timed_events.specs.Spreads.{moved_of, IsTimed, IsTimedRefusal};
 ghost use Rattle.timed_events.specs.Times.{times_refusal};
 
-use crate::causal_orders::causal_order;
 use crate::events::{Clock, Event, EventError};
-use crate::message_checks::check_messages;
-use crate::spread_ticks::spread_ticks;
-use crate::time_orders::time_order_of;
+use crate::ticked_events::spread_events;
 use crate::timed_traces::{trace_in_time, trace_of_ticks};
-use crate::times::{span_of, ticks_of};
 use std::alloc::Global;
-use step_trace::{MAX_PROCESSORS, MAX_STEPS, MAX_TICKS, MIN_PROCESSORS, Trace};
+use step_trace::{MAX_PROCESSORS, MAX_STEPS, MIN_PROCESSORS, Trace};
 
 /// How far events went from the ticks of their times.
 #[derive(Clone, Copy, Debug, PartialEq, Eq)]
@@ -87,26 +83,16 @@ fn spread_trace(
     ensures refused { IfErr result (λ why. IsTimedRefusal true events.now clock.now why) }
     ensures more { result ≡ Err EventError.Memory → times_refusal events.now clock.now ≡ None }
 {
-    let span = span_of(events, clock)?;
-    check_messages(alloc, events)?;
-    let times = time_order_of(alloc, events)?;
-    let order = causal_order(alloc, events, &times)?;
-    drop(times);
-    let own = ticks_of(alloc, events, clock, span.least)?;
-    let ticks = spread_ticks(alloc, events, &own, &order)?;
-    drop(order);
-    let last = last_of(span.last, &ticks);
-    if last > MAX_TICKS {
-        return Err(EventError::TooManyTicks);
-    }
-    let moved = moved_of(&own, &ticks);
-    drop(own);
-    let trace = trace_of_ticks(alloc, n, events, &ticks, last)?;
-    Ok(TimedTrace { trace, moved })
+    let ticked = spread_events(alloc, n, events, clock)?;
+    let trace = trace_of_ticks(alloc, n, events, &ticked.ticks, ticked.last)?;
+    Ok(TimedTrace {
+        trace,
+        moved: ticked.moved,
+    })
 }
 
 /// The greatest of the ticks, at least `last`.
-fn last_of(last: u64, ticks: &[u32]) -> u64
+pub(crate) fn last_of(last: u64, ticks: &[u32]) -> u64
     ensures { result ≡ fold max last ticks.now }
 {
     let mut greatest = last;
@@ -117,7 +103,7 @@ fn last_of(last: u64, ticks: &[u32]) -> u64
 }
 
 /// How far events went from their own ticks, those of their times.
-fn moved_of(own: &[u32], ticks: &[u32]) -> Moved
+pub(crate) fn moved_of(own: &[u32], ticks: &[u32]) -> Moved
     requires long { length ticks.now ≡ length own.now }
     requires few { length own.now ≤ MAX_STEPS }
     ensures { result ≡ moved_of own.now ticks.now }
