@@ -281,7 +281,7 @@ fn put_key(pen: &mut Pen<'_>, run: &Run<'_>) {
         return;
     }
     pen.text(
-        "<p class=\"key\"><svg width=\"12\" height=\"12\" aria-hidden=\"true\"><path class=\"se\" d=\"M6 6h.1\"/></svg> send <svg width=\"12\" height=\"12\" aria-hidden=\"true\"><path class=\"rf\" d=\"M6 6h.1\"/></svg> receive <svg width=\"12\" height=\"12\" aria-hidden=\"true\"><path class=\"rq\" d=\"M6 6h.1\"/><path class=\"re\" d=\"M6 6h.1\"/></svg> receive of nothing <svg width=\"26\" height=\"12\" aria-hidden=\"true\"><path class=\"m\" d=\"M0 6H26\"/></svg> message <svg width=\"26\" height=\"12\" aria-hidden=\"true\"><path class=\"miss\" d=\"M0 6H26\"/></svg> sent, and not there yet <svg width=\"22\" height=\"12\" aria-hidden=\"true\"><rect class=\"gap\" width=\"22\" height=\"12\"/></svg> no step</p>",
+        "<p class=\"key\"><svg width=\"12\" height=\"12\" aria-hidden=\"true\"><path class=\"se\" d=\"M6 6h.1\"/></svg>&nbsp;send <svg width=\"12\" height=\"12\" aria-hidden=\"true\"><path class=\"rf\" d=\"M6 6h.1\"/></svg>&nbsp;receive <svg width=\"12\" height=\"12\" aria-hidden=\"true\"><path class=\"rq\" d=\"M6 6h.1\"/><path class=\"re\" d=\"M6 6h.1\"/></svg>&nbsp;receive of nothing <svg width=\"26\" height=\"12\" aria-hidden=\"true\"><path class=\"m\" d=\"M0 6H26\"/></svg>&nbsp;message <svg width=\"26\" height=\"12\" aria-hidden=\"true\"><path class=\"miss\" d=\"M0 6H26\"/></svg>&nbsp;sent, and not there yet <svg width=\"22\" height=\"12\" aria-hidden=\"true\"><rect class=\"gap\" width=\"22\" height=\"12\"/></svg>&nbsp;no step</p>",
     );
 }
 
