@@ -240,6 +240,11 @@ def draw(
     return _asked("draw", trace, correct=_set_of(correct)[1], from_tick=from_tick, to_tick=to_tick, names=names)
 
 
+def page(trace: Text, correct: Correct, at: Optional[int] = None, names: Optional[Iterable[str]] = None) -> bytes:
+    """A page about the run, as HTML. The run counts as calm from the tick `at` on; `names` are names for the processors."""
+    return _asked("page", trace, correct=_set_of(correct)[1], at=at, names=names)
+
+
 def import_log(
     log: Text,
     nodes: Optional[Iterable[str]] = None,
