@@ -61,34 +61,100 @@ def front(run, members):
     return [it for it in feasible if not any(o != it and all(a <= b for a, b in zip(o, it)) for o in feasible)]
 
 
-class BadOperand(Exception):
-    pass
+class BadFormula(Exception):
+    """Why a text is no formula, in the words of the second line."""
+
+
+def words_and_signs(text):
+    """The words between signs, without the white space around them, and the signs."""
+    pieces = re.split(r"([+*/(),])", text)
+    return [it for it in (piece.strip(" \t\n\f\r") for piece in pieces) if it]
+
+
+class Reader:
+    """Reads a formula by its grammar, from the left: the first thing that no formula has there is refused.
+
+    sum = product {+ product}, product = operand {* operand | / number}, operand = word | [max] ( .. ), and in a max several
+    sums with commas between them.
+    """
+
+    def __init__(self, text):
+        self.rest, self.operands, self.divisors, self.depth = words_and_signs(text), 0, 1, 0
+
+    def formula(self):
+        found = self.sum()
+        if self.rest:
+            self.refuse_sign()
+        return found
+
+    def takes(self, sign):
+        if self.rest[:1] == [sign]:
+            return self.rest.pop(0)
+
+    def sum(self):
+        found = [self.product()]
+        while self.takes("+"):
+            found.append(self.product())
+        return lambda words: sum(it(words) for it in found)
+
+    def product(self):
+        found = self.operand()
+        while self.rest[:1] in (["*"], ["/"]):
+            found = self.times(found, self.operand()) if self.takes("*") else self.over(found, self.divisor())
+        return found
+
+    @staticmethod
+    def times(a, b):
+        return lambda words: a(words) * b(words)
+
+    @staticmethod
+    def over(a, k):
+        return lambda words: -(-a(words) // k)
+
+    def divisor(self):
+        self.takes("/")
+        word = self.rest[0] if self.rest else ""
+        if not is_number(word) or not 0 < self.divisors * int(word) < 2**32:
+            raise BadFormula(f"operand {self.operands + 1} of the formula divides: it has to be a number from 1 on, and all divisors together, multiplied, at most 4294967295")
+        self.rest.pop(0)
+        self.operands += 1
+        self.divisors *= int(word)
+        return int(word)
+
+    def operand(self):
+        word = self.rest[0] if self.rest else ""
+        if word == "(" or self.rest[:2] == ["max", "("]:
+            return self.group(word == "max")
+        if word not in ("delta", "phi", "n", "t") and not is_number(word):
+            raise BadFormula(f"operand {self.operands + 1} of the formula is no number and none of delta, phi, n, t")
+        self.rest.pop(0)
+        self.operands += 1
+        return lambda words: words[word] if word in words else int(word)
+
+    def group(self, is_max):
+        del self.rest[: 2 if is_max else 1]
+        self.depth += 1
+        if self.depth > 32:
+            raise BadFormula(f"before operand {self.operands + 1} of the formula more than 32 parentheses are open")
+        found = [self.sum()]
+        while is_max and self.takes(","):
+            found.append(self.sum())
+        if not self.takes(")"):
+            self.refuse_sign()
+        self.depth -= 1
+        return lambda words: max(it(words) for it in found)
+
+    def refuse_sign(self):
+        raise BadFormula(f"after operand {self.operands} of the formula a sign is missing, or a parenthesis or comma doesn't fit")
+
+
+def is_number(word):
+    return re.fullmatch(r"0|[1-9][0-9]*", word) is not None and int(word) <= GREATEST
 
 
 def formula(text):
-    """The sums of products that a text writes, as lists of operands."""
-    pieces = re.split(r"([+*])", text)
-    operands = [it.strip(" \t\n\f\r") for it in pieces[::2]]
-    for place, word in enumerate(operands, 1):
-        if word not in ("delta", "phi", "n", "t") and not (re.fullmatch(r"0|[1-9][0-9]*", word) and int(word) <= GREATEST):
-            raise BadOperand(place)
-    terms = [[operands[0]]]
-    for sign, word in zip(pieces[1::2], operands[1:]):
-        if sign == "+":
-            terms.append([word])
-        else:
-            terms[-1].append(word)
-    return terms
-
-
-def value(terms, words):
-    total = 0
-    for term in terms:
-        product = 1
-        for word in term:
-            product *= words[word] if word in words else int(word)
-        total += product
-    return total
+    """The value of the formula that a text writes, as a function of what its words stand for."""
+    return Reader(text).formula()
 
 
 @dataclass
@@ -96,7 +162,7 @@ class Judge:
     run: Run
     members: frozenset
     decisions: list
-    terms: list
+    formula: object
     start: int = 1
     valid: bool = False
     whole: bool = False
@@ -104,7 +170,7 @@ class Judge:
 
     def deadline(self, triple, factor=1):
         g, d, f = triple
-        return max(g, self.start) + factor * value(self.terms, {"delta": d, "phi": f, "n": self.run.n, "t": self.run.t})
+        return max(g, self.start) + factor * self.formula({"delta": d, "phi": f, "n": self.run.n, "t": self.run.t})
 
     def undecided(self, y):
         """The least member that hadn't decided by a tick, if there is one."""
@@ -198,9 +264,9 @@ def answer(run, members, text, records, start=None, valid=False, whole=False, du
     if above:
         return 2, f"no such processor in --correct\nsynchrony: --correct names processor {above[0]}, and the trace has processors 1 to {run.n}"
     try:
-        terms = formula(text)
-    except BadOperand as place:
-        return 2, f"bad --within\nsynchrony: operand {place} of the formula is no number and none of delta, phi, n, t"
+        value = formula(text)
+    except BadFormula as why:
+        return 2, f"bad --within\nsynchrony: {why}"
     if start is not None and not 1 <= start <= run.last:
         ticks = f"ticks 1 to {run.last}" if run.last else "no ticks"
         return 3, f"bad --start\nsynchrony: --start is {start}, and the trace has {ticks}"
@@ -208,7 +274,7 @@ def answer(run, members, text, records, start=None, valid=False, whole=False, du
     if why:
         return 4, f"decisions: {why}"
     decisions = [tuple(map(int, it)) for it in records]
-    judge = Judge(run, frozenset(members), decisions, terms, 1 if start is None else start, valid, whole, due or 0)
+    judge = Judge(run, frozenset(members), decisions, value, 1 if start is None else start, valid, whole, due or 0)
     line = judge.verdict()
     more = (f"\nfactor {judge.factor()}" if factor else "") + (f"\n{judge.rows()}" if rows else "")
     return (0 if line.startswith("yes") else 1), line + more

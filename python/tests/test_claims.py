@@ -1,5 +1,6 @@
 """Claims judged by many runs: each run has its line, whatever happens to it, and the last line adds them up."""
 
+import math
 import os
 import tempfile
 from concurrent.futures import Executor, Future, ThreadPoolExecutor
@@ -60,6 +61,30 @@ def test_the_least_margin_is_the_first_of_several():
     found = sy.judge_runs([sy.Case(it, BUSY, IN_TIME, start=2 if it == "b" else 1) for it in names], "2*phi", workers=1)
     # (an instance that starts in tick 2 has deadlines of 4 and above)
     assert found.summary().endswith("3 yes, 0 no, 0 untested, 0 not judged; least margin 1 (a)")
+
+
+def test_factors_and_rows():
+    found = sy.judge_runs(cases(), "2*phi", workers=1, factor=True, rows=True)
+    # (all decide in tick 2, which is 1 after tick 1; or the deadline of tick 1 has to come after the last tick, which is 4)
+    assert [it.verdict.factor for it in found.rows[:3]] == [1, 2, 1] and found.rows[3].verdict is None
+    assert found.summary() == "4 runs: 1 yes, 2 no, 0 untested, 1 not judged; least margin 1 (kept); greatest factor 2 (late)"
+    assert found.text().splitlines()[1] == "late: no deadline 1 1 1 3 2 factor 2"
+    assert found.rows[0].verdict.rows == [sy.DeadlineRow(1, 1, 1, 3, 2, 1)]
+    assert found.rows[1].verdict.rows == [sy.DeadlineRow(1, 1, 1, 3, None, None)]
+    never = sy.judge_runs(cases()[:1], "0", workers=1, factor=True)
+    assert never.rows[0].verdict.factor == math.inf and never.summary().endswith("greatest factor none (kept)")
+    unasked = sy.judge_runs(cases()[:1], "2*phi", workers=1)
+    assert unasked.rows[0].verdict.factor is None and unasked.rows[0].verdict.rows is None
+
+
+def test_formulas_with_parentheses():
+    # (both bounds are 1 and there are two processors, so each is 2 ticks, and the deadline of tick 1 is 3)
+    for formula in ["2*phi", "max(delta, 2*phi)", "(delta + phi)", "(n + delta)/2", "n/1"]:
+        verdict = sy.judge(BUSY, IN_TIME, "all", formula)
+        assert str(verdict).endswith("margin 1"), formula
+    for formula, words in [("(delta", "after operand 1"), ("delta/0", "operand 2 of the formula divides"), ("max(delta, psi)", "operand 2 of the formula is no number")]:
+        with raises(sy.SynchronyError, words):
+            sy.judge(BUSY, IN_TIME, "all", formula)
 
 
 def test_no_formula_is_refused_at_once():

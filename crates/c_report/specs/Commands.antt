@@ -23,6 +23,7 @@ use Rattle.text_commands.specs.Drawings.{IsDrawingOf, IsUndrawnTrace}
 use Rattle.text_commands.specs.EachBounds.{IsEachOf, IsNoEach}
 use Rattle.text_commands.specs.Imports.{IsImportOptionFault, IsUnimported}
 use Rattle.text_commands.specs.Judgings.{IsJudgementOn, IsUnjudged}
+use Rattle.text_commands.specs.Pages.{IsNoPage, IsPageOf}
 use Rattle.text_commands.specs.Replays.{IsOffRun, IsReplayOf}
 use Rattle.text_commands.specs.ReportParts.{IsPartOfReport, IsUntoldPart}
 use Rattle.text_commands.specs.TimeoutTables.{AreTimeoutsOf, IsNoTable}
@@ -126,6 +127,7 @@ IsPrintedFor (job.Timeouts j) text second = IsPrintedOf (string_bytes j.file) (I
 IsPrintedFor (job.Replay j) text second = IsPrintedOf (string_bytes j.file) (IsAnswerTo IsReplayOf text)
 IsPrintedFor (job.Upgrade j) text second = IsPrintedOf (string_bytes j.file) (IsAnswerTo IsUpgradeOf text)
 IsPrintedFor (job.Draw j) text second = IsPrintedOf (string_bytes j.file) (IsAnswerTo (IsDrawingOf j.drawing) text)
+IsPrintedFor (job.Page j) text second = IsPrintedOf (string_bytes j.file) (IsAnswerTo (IsPageOf j.page) text)
 IsPrintedFor (job.Import j) text second = IsPrintedOf (string_bytes j.file) (IsImportFor j.options text)
 IsPrintedFor (job.Check j) text second = IsLineOf (string_bytes j.file) (λ verdict. OfTrace (IsVerdictOn j.claim.correct j.claim.until second verdict) text)
 IsPrintedFor (job.Judge j) text second = IsJudgementPrinted (string_bytes j.file) (λ verdict out. OfTrace (IsJudgementOn j.judging second verdict out) text)
@@ -142,6 +144,7 @@ IsUnprintedFor (job.Timeouts j) text second = IsUnprintedOf (string_bytes j.file
 IsUnprintedFor (job.Replay j) text second = IsUnprintedOf (string_bytes j.file) (IsUnanswered IsOffRun text)
 IsUnprintedFor (job.Upgrade j) text second = IsUnprintedOf (string_bytes j.file) (IsUnanswered IsNothingElse text)
 IsUnprintedFor (job.Draw j) text second = IsUnprintedOf (string_bytes j.file) (IsUnanswered (IsUndrawnTrace j.drawing) text)
+IsUnprintedFor (job.Page j) text second = IsUnprintedOf (string_bytes j.file) (IsUnanswered (IsNoPage j.page) text)
 IsUnprintedFor (job.Import j) text second = IsUnprintedOf (string_bytes j.file) (IsUnimportedFor j.options text)
 IsUnprintedFor (job.Check j) text second = IsUnprintedOf (string_bytes j.file) (IsUnanswered (IsUnchecked j.claim second) text)
 IsUnprintedFor (job.Judge j) text second = IsUnprintedOf (string_bytes j.file) (IsUnanswered (IsUnjudged j.judging second) text)

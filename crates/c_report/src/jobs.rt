@@ -48,6 +48,7 @@ pub(crate) fn printed_for(
         Job::Replay(job) => answer(alloc, job.file.as_str(), &Replay, text),
         Job::Upgrade(job) => answer(alloc, job.file.as_str(), &Upgrade, text),
         Job::Draw(job) => answer(alloc, job.file.as_str(), &job.drawing, text),
+        Job::Page(job) => answer(alloc, job.file.as_str(), &job.page, text),
         Job::Import(job) => import(alloc, &job, text),
         Job::Check(job) => check(alloc, &job, text, second),
         Job::Judge(job) => judge(alloc, &job, text, second),

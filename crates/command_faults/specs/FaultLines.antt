@@ -10,7 +10,7 @@ use Rattle.command_faults.specs.declared.faults.PictureOption.{PictureOption}
 use Rattle.command_faults.specs.declared.faults.PictureOption.TheVariants as option
 use Rattle.command_faults.specs.declared.faults.ImportOption.{ImportOption}
 use Rattle.command_faults.specs.declared.faults.ImportOption.TheVariants as import_option
-use Rattle.command_faults.specs.Hints.{certificate_hint, decisions_hint, due_hint, file_hint, operand_hint, picture_hint, trace_hint}
+use Rattle.command_faults.specs.Hints.{certificate_hint, decisions_hint, due_hint, file_hint, formula_hint, picture_hint, trace_hint}
 use Rattle.command_faults.specs.LogFaultLines.{help_line, log_lead}
 use Rattle.command_faults.specs.OutsideLines.{member_line, report_option_words, set_option_words, tick_line}
 
@@ -36,7 +36,7 @@ fault_line (fault.Set option o) = codes "synchrony: no such processor in " ++ (s
 fault_line (fault.Trace reason) = codes "synchrony: trace: " ++ (text_error_text reason ++ trace_hint reason)
 fault_line (fault.Certificate reason) = codes "synchrony: certificate: " ++ (report_error_text reason ++ certificate_hint reason)
 fault_line (fault.Decisions reason) = codes "synchrony: decisions: " ++ (decisions_error_text reason ++ decisions_hint reason)
-fault_line (fault.Within operand) = codes "synchrony: bad --within" ++ operand_hint operand
+fault_line (fault.Within why) = codes "synchrony: bad --within" ++ formula_hint why
 fault_line fault.Memory = codes "synchrony: out of memory"
 fault_line fault.Read = codes "synchrony: cannot read"
 fault_line (fault.Unread file trouble) = codes "synchrony: cannot read" ++ file_hint (string_bytes file) trouble

@@ -41,7 +41,7 @@ status_of (fault.Set option o) = 2
 status_of (fault.Trace e) = 3
 status_of (fault.Certificate e) = 4
 status_of (fault.Decisions e) = 4
-status_of (fault.Within operand) = 2
+status_of (fault.Within why) = 2
 status_of fault.Memory = 5
 status_of fault.Read = 6
 status_of (fault.Unread file trouble) = 6
@@ -72,7 +72,7 @@ fault_of_decisions e = fault.Decisions e
 
 -- the fault that a text which is no formula is
 abbrev pub fault_of_formula : FormulaError → Fault
-fault_of_formula (no_formula.BadOperand operand) = fault.Within operand
+fault_of_formula (no_formula.Refused why) = fault.Within why
 fault_of_formula no_formula.Memory = fault.Memory
 
 -- the fault that a trace which wasn't replayed is

@@ -9,6 +9,8 @@ use Rattle.judged_runs.specs.declared.refusals.DecisionsError.TheVariants as und
 use Rattle.step_buffers.specs.declared.dues.Due.{Due}
 use Rattle.step_buffers.specs.declared.dues.DueStep.{DueStep}
 use Rattle.step_buffers.specs.declared.dues.DueStep.TheVariants.{SendTo, SendFirst, Receive}
+use Rattle.decision_claims.specs.declared.readings.BadFormula.{BadFormula}
+use Rattle.decision_claims.specs.declared.readings.BadFormula.TheVariants as unread
 use Rattle.command_faults.specs.declared.files.FileTrouble.{FileTrouble}
 use Rattle.command_faults.specs.declared.files.FileTrouble.TheVariants as trouble
 use Rattle.command_faults.specs.declared.faults.PictureOption.{PictureOption}
@@ -45,9 +47,12 @@ abbrev pub decisions_hint : DecisionsError → List ℕ
 decisions_hint undecided.BadHeader = hint (codes "decisions begin with proc,tick,value; the trace comes before them")
 decisions_hint e = []
 
--- which operand of a formula is none, by its number from 1, and which there are
-abbrev pub operand_hint : ℕ → List ℕ
-operand_hint operand = hint (codes "operand " ++ (decimal operand ++ codes " of the formula is no number and none of delta, phi, n, t"))
+-- why a text is no formula: what stands at which operand, counted from 1
+abbrev pub formula_hint : BadFormula → List ℕ
+formula_hint (unread.Operand operand) = hint (codes "operand " ++ (decimal operand ++ codes " of the formula is no number and none of delta, phi, n, t"))
+formula_hint (unread.Divisor operand) = hint (codes "operand " ++ (decimal operand ++ codes " of the formula divides: it has to be a number from 1 on, and all divisors together, multiplied, at most 4294967295"))
+formula_hint (unread.Sign operand) = hint (codes "after operand " ++ (decimal operand ++ codes " of the formula a sign is missing, or a parenthesis or comma doesn't fit"))
+formula_hint (unread.Depth operand) = hint (codes "before operand " ++ (decimal operand ++ codes " of the formula more than 32 parentheses are open"))
 
 -- what a processor had to do in place of a step that is none of a run
 abbrev pub due_words : DueStep → List ℕ

@@ -5,7 +5,7 @@ ghost use Rattle.command_faults.specs.FaultLines.{fault_line, ended_line};
 
 use crate::faults::{Fault, ImportOption, PictureOption};
 use crate::hints::{
-    CertificateHint, DecisionsHint, DueHint, FileHint, OperandHint, PictureHint, TraceHint,
+    CertificateHint, DecisionsHint, DueHint, FileHint, FormulaHint, PictureHint, TraceHint,
 };
 use crate::log_fault_lines::{HelpLine, LogLead};
 use crate::outside_lines::{MemberLine, TickLine};
@@ -51,9 +51,7 @@ impl fmt::Display for Fault {
             Fault::Decisions(why) => {
                 write!(f, "synchrony: decisions: {why}{}", DecisionsHint(why))
             }
-            Fault::Within(operand) => {
-                write!(f, "synchrony: bad --within{}", OperandHint(*operand))
-            }
+            Fault::Within(why) => { write!(f, "synchrony: bad --within{}", FormulaHint(*why)) }
             Fault::Memory => f.write_str("synchrony: out of memory"),
             Fault::Read => f.write_str("synchrony: cannot read"),
             Fault::Unread(file, trouble) => {

@@ -4,7 +4,7 @@ ghost use Rattle.std.specs.Prelude.{◌≡◌};
 ghost use Rattle.command_faults.specs.Faults.{status_of};
 
 use crate::files::FileTrouble;
-use decision_claims::FormulaError;
+use decision_claims::{BadFormula, FormulaError};
 use event_log::{LogError, OptionError};
 use front::ReportError;
 use judged_runs::DecisionsError;
@@ -26,8 +26,8 @@ pub enum Fault {
     Certificate(ReportError),
     /// The text of decisions is refused. `Memory` is a fault of its own.
     Decisions(DecisionsError),
-    /// The text of a deadline is no formula: this operand, counted from 1, is none.
-    Within(u64),
+    /// The text of a deadline is no formula, for this reason.
+    Within(BadFormula),
     /// There was no memory.
     Memory,
     /// The input can't be read.
@@ -179,7 +179,7 @@ impl From<FormulaError> for Fault {
 
     fn from(why: FormulaError) -> Fault {
         match why {
-            FormulaError::BadOperand(operand) => Fault::Within(operand),
+            FormulaError::Refused(why) => Fault::Within(why),
             FormulaError::Memory => Fault::Memory,
         }
     }

@@ -5,6 +5,7 @@ ghost use Rattle.std.specs.Prelude.{◌≡◌, ◌+◌, ◌-◌, ◌^◌, min};
 
 use crate::faults::PictureOption;
 use crate::files::FileTrouble;
+use decision_claims::BadFormula;
 use front::ReportError;
 use judged_runs::DecisionsError;
 use std::fmt;
@@ -103,22 +104,35 @@ impl fmt::Display for DecisionsHint<'_> {
     }
 }
 
-/// Which operand of a formula is none, by its number from 1, and which there are.
+/// Why a text is no formula: what stands at which operand, counted from 1.
 #[derive(Clone, Copy)]
-pub(crate) struct OperandHint(pub(crate) u64);
+pub(crate) struct FormulaHint(pub(crate) BadFormula);
 
-impl fmt::Display for OperandHint {
+impl fmt::Display for FormulaHint {
     ghost use Rattle.std.specs.Prelude.{Some};
-    ghost use Rattle.command_faults.specs.Hints.{operand_hint};
+    ghost use Rattle.command_faults.specs.Hints.{formula_hint};
 
-    ghost output = { λ hint. Some (operand_hint hint.0) };
+    ghost output = { λ hint. Some (formula_hint hint.0) };
 
     fn fmt<W: fmt::Write>(&self, f: &mut fmt::Formatter<W>) -> fmt::Result {
-        write!(
-            f,
-            "\nsynchrony: operand {} of the formula is no number and none of delta, phi, n, t",
-            self.0
-        )
+        match self.0 {
+            BadFormula::Operand(operand) => write!(
+                f,
+                "\nsynchrony: operand {operand} of the formula is no number and none of delta, phi, n, t"
+            ),
+            BadFormula::Divisor(operand) => write!(
+                f,
+                "\nsynchrony: operand {operand} of the formula divides: it has to be a number from 1 on, and all divisors together, multiplied, at most 4294967295"
+            ),
+            BadFormula::Sign(operand) => write!(
+                f,
+                "\nsynchrony: after operand {operand} of the formula a sign is missing, or a parenthesis or comma doesn't fit"
+            ),
+            BadFormula::Depth(operand) => write!(
+                f,
+                "\nsynchrony: before operand {operand} of the formula more than 32 parentheses are open"
+            ),
+        }
     }
 }
 

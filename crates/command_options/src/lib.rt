@@ -160,6 +160,17 @@ pub struct Drawing {
     pub names: Option<String>,
 }
 
+/// What a page is asked for.
+#[derive(Debug, Drop)]
+pub struct Page {
+    /// The processors that count as correct.
+    pub correct: Correct,
+    /// The tick whose row counts as the calm one: the row with the most room for its bounds where there is none.
+    pub at: Option<u64>,
+    /// The names of the processors, with commas between them: their numbers where there are none.
+    pub names: Option<String>,
+}
+
 /// How a log is to be read, as texts that are still to be read themselves.
 #[derive(Debug, Drop)]
 pub struct ImportOptions {

@@ -1,19 +1,23 @@
 -- So many times a formula.
-use Rattle.std.proofs.Common.{ℕ, ◌≡◌, ◌+◌, ◌*◌, List, [], ◌∷◌, sym, ap, ◌∙◌}
-use Rattle.std.proofs.Math.Nat.{mul_comm, mul-add}
+use Rattle.std.proofs.Common.{ℕ, ◌≡◌, ◌*◌, ◌≤◌, List, [], ◌∷◌, ◌++◌, min, arith}
+use Rattle.std.proofs.Math.Nat.{mul_comm}
 use Rattle.decision_claims.specs.declared.formulas.Part.{Part}
-use Rattle.decision_claims.specs.declared.formulas.Part.TheVariants.{Plus, Times}
-use Rattle.decision_claims.specs.declared.formulas.Words.{Words}
-use Rattle.decision_claims.specs.Formulas.{IsTimes, Terms, operand_value, parts_times, value_from}
+use Rattle.decision_claims.specs.Formulas.{IsTimes, Terms, nothing, times_all, value_from}
+use Rattle.decision_claims.proofs.AlikeValues.{min_times}
 
--- the factor at the end of each product is one before the sum
-value_from-times : (words : Words) (c product : ℕ) (rest : List Part) → value_from words product (parts_times c rest) ≡ c * value_from words product rest
-value_from-times words c product [] = mul_comm product c
-value_from-times words c product (Plus o ∷ rest) =
-    ap (λ v. product * c + v) (value_from-times words c (operand_value words o) rest)
-    ∙ ap (λ v. v + c * value_from words (operand_value words o) rest) (mul_comm product c)
-    ∙ sym (mul-add c product (value_from words (operand_value words o) rest))
-value_from-times words c product (Times o ∷ rest) = value_from-times words c (product * operand_value words o) rest
+-- a further factor is one of the product of all of them
+times_all-push : (factors : List ℕ) (c v : ℕ) → times_all (factors ++ c ∷ []) v ≡ c * times_all factors v
+times_all-push [] c v = mul_comm v c
+times_all-push (d ∷ factors) c v = times_all-push factors c (v * d)
 
-pub is_times : (c : ℕ) (terms : Terms) → IsTimes c terms (record { first = terms.first; rest = parts_times c terms.rest })
-is_times c terms = record { each = λ words. value_from-times words c (operand_value words terms.first) terms.rest }
+-- what is the same up to a cap stays so in a product
+pub min_times_all : (factors : List ℕ) (v w cap : ℕ) → min v cap ≡ min w cap → min (times_all factors v) cap ≡ min (times_all factors w) cap
+min_times_all [] v w cap e = e
+min_times_all (c ∷ factors) v w cap e = min_times_all factors (v * c) (w * c) cap (min_times v w c cap e)
+
+-- one factor more
+pub product_next : (factors : List ℕ) (v c most cap : ℕ) → cap ≤ most → min (times_all factors (min (min (v * c) most) cap)) cap ≡ min (times_all (c ∷ factors) v) cap
+product_next factors v c most cap l = min_times_all factors (min (min (v * c) most) cap) (v * c) cap (omega (arith, l))
+
+pub is_times : (c : ℕ) (factors : List ℕ) (parts : List Part) → IsTimes c (record { factors = factors; parts = parts }) (record { factors = factors ++ c ∷ []; parts = parts })
+is_times c factors parts = record { each = λ words. times_all-push factors c (value_from words (record { here = nothing; around = [] }) parts) }

@@ -5,3 +5,5 @@ pub mod CalmTicks
 pub mod LateRows
 pub mod Margins
 pub mod FormulaTexts
+pub mod FormulaTrees
+pub mod NearValues

@@ -1,7 +1,7 @@
 //! The program: reads a trace of Send and Receive steps, and prints the report of its bounds, for the
 //! processors that are named as correct, replays it as a run of the agreement algorithm, upgrades its text, draws
-//! it, checks a report by it, or judges by it when its processors decided; reads a log as such a trace; or makes such a
-//! run in threads, or simulates one, and prints its trace.
+//! it, makes a page about it, checks a report by it, or judges by it when its processors decided; reads a log as
+//! such a trace; or makes such a run in threads, or simulates one, and prints its trace.
 #![tactic(auto)]
 
 mod inputs;
@@ -56,6 +56,7 @@ fn run<R: Threads + Wait + Clock + Sync>(rt: &HostRuntime, threads: &R) -> Resul
         Job::Check(job) => check(rt, job),
         Job::Judge(job) => judge(rt, job),
         Job::Draw(job) => answer(rt, job.file, &job.drawing),
+        Job::Page(job) => answer(rt, job.file, &job.page),
         Job::Import(job) => import(rt, job),
         Job::Help(text) => help(rt, text),
     }

@@ -90,18 +90,18 @@ are_refused_in None count why = ⊥
 are_refused_in (Some list) count why = IsNamesRefusal count (parts_of (string_bytes list)) why
 
 -- a fault of the names: how many there are of how many processors, or the first that doesn't do
-abbrev pub IsNamesFault : Drawing → ℕ → Fault → Type 0
-IsNamesFault d count (fault.Picture (option.NameCount given processors)) = (processors ≡ count) × are_refused_in d.names count (no_names.WrongCount given)
-IsNamesFault d count (fault.Picture (option.BadName place)) = are_refused_in d.names count (no_names.BadName place)
-IsNamesFault d count (fault.Picture (option.SameName place)) = are_refused_in d.names count (no_names.SameName place)
-IsNamesFault d count fault.Memory = ⊤
-IsNamesFault d count _ = ⊥
+abbrev pub IsNamesFault : {B : Type 0} → Option (String B) → ℕ → Fault → Type 0
+IsNamesFault names count (fault.Picture (option.NameCount given processors)) = (processors ≡ count) × are_refused_in names count (no_names.WrongCount given)
+IsNamesFault names count (fault.Picture (option.BadName place)) = are_refused_in names count (no_names.BadName place)
+IsNamesFault names count (fault.Picture (option.SameName place)) = are_refused_in names count (no_names.SameName place)
+IsNamesFault names count fault.Memory = ⊤
+IsNamesFault names count _ = ⊥
 
 -- why there is no picture of the trace: its names, or else its first tick, or its last one
 abbrev pub IsUndrawnFor : Drawing → Recorded → PictureOption → Type 0
 IsUndrawnFor d t (option.From from last) = AreNamesFor d t.config.n × (window_for d t.last ≡ Err (no_window.BadFrom from last))
 IsUndrawnFor d t (option.To to from) = AreNamesFor d t.config.n × (window_for d t.last ≡ Err (no_window.BadTo to from))
-IsUndrawnFor d t o = IsNamesFault d t.config.n (fault.Picture o)
+IsUndrawnFor d t o = IsNamesFault d.names t.config.n (fault.Picture o)
 
 abbrev pub IsUndrawn : Drawing → Recorded → Fault → Type 0
 IsUndrawn d t (fault.Picture o) = IsUndrawnFor d t o

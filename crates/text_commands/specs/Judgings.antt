@@ -4,7 +4,7 @@ use Rattle.step_trace.specs.CorrectSets.{named}
 use Rattle.step_trace.specs.Traces.{Recorded}
 use Rattle.decision_claims.specs.declared.decisions.Decision.{Decision}
 use Rattle.decision_claims.specs.Formulas.{Terms}
-use Rattle.decision_claims.specs.FormulaTexts.{IsBadOperand, IsFormulaText}
+use Rattle.decision_claims.specs.FormulaTexts.{read_formula}
 use Rattle.judged_runs.specs.declared.judgements.Demands.{Demands}
 use Rattle.judged_runs.specs.declared.judgements.Verdict.{Verdict}
 use Rattle.judged_runs.specs.declared.refusals.DecisionsError.TheVariants as undecided
@@ -33,7 +33,7 @@ HasStart (Some tick) t = IsTickOf t tick
 pub record HasFormula (j : Judging) (t : Recorded) : Type 0 where
   pub within : HasCorrect j.correct t
   pub formula : Terms
-  pub written : IsFormulaText (string_bytes j.within) formula
+  pub written : read_formula (string_bytes j.within) ≡ Ok formula
 
 -- what is asked for beside the verdict
 abbrev pub details_of : Judging → Details
@@ -57,10 +57,10 @@ abbrev pub IsStartFault : Option ℕ → Recorded → Fault → Type 0
 IsStartFault start t (fault.Report option.Start o) = IsNoTickOf start t o
 IsStartFault start t _ = ⊥
 
--- For what the decisions of a text aren't judged by the trace: a correct processor that it hasn't; or else an operand of the
--- formula; or else the tick of the start, which the trace hasn't; or else the first refusal of the text.
+-- For what the decisions of a text aren't judged by the trace: a correct processor that it hasn't; or else the first reason
+-- why the text is no formula; or else the tick of the start, which the trace hasn't; or else the first refusal of the text.
 abbrev pub IsUnjudged : Judging → List ℕ → Recorded → Fault → Type 0
-IsUnjudged j text t (fault.Within operand) = HasCorrect j.correct t × IsBadOperand (string_bytes j.within) operand × ((terms : Terms) → ¬ IsFormulaText (string_bytes j.within) terms)
+IsUnjudged j text t (fault.Within why) = HasCorrect j.correct t × (read_formula (string_bytes j.within) ≡ Err why)
 IsUnjudged j text t (fault.Report option.Start o) = HasFormula j t × IsNoTickOf j.start t o
 IsUnjudged j text t (fault.Decisions reason) = HasFormula j t × HasStart j.start t × (decisions_of_text t.config.n t.last text ≡ Err reason) × (reason ≢ undecided.Memory)
 IsUnjudged j text t w = IsOutside j.correct t w

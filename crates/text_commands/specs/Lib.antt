@@ -14,3 +14,4 @@ pub mod EachBounds
 pub mod TimeoutTables
 pub mod Imports
 pub mod Judgings
+pub mod Pages

@@ -1,17 +1,16 @@
 //! The picture of a trace as SVG: the command `draw`.
 
-ghost use Rattle.std.specs.Prelude.{◌≡◌, IfErr, IfOk, MatchResult, OnOk, map};
+ghost use Rattle.std.specs.Prelude.{◌≡◌, IfErr, IfOk, MatchResult, OnOk};
 ghost use Rattle.step_trace.specs.Processors.{IsWithin};
-ghost use Rattle.text_commands.specs.Drawings.{AreNamesFor, IsDrawable, IsMarksFault, IsNamesFault, IsPictureFor, IsUndrawn, IsWindowFault, names_fault, names_of_list, option_of, window_for};
+ghost use Rattle.text_commands.specs.Drawings.{IsDrawable, IsMarksFault, IsPictureFor, IsUndrawn, IsWindowFault, option_of, window_for};
 
 use crate::answers::Answer;
+use crate::names::names_for;
 use crate::report_parts::report_of;
 use crate::traces::set_of;
 use command_faults::{Fault, PictureOption};
 use command_options::Drawing;
-use run_picture::{
-    NamesError, Picture, Window, WindowError, names_of, picture_of, svg_text, window_of,
-};
+use run_picture::{Picture, Window, WindowError, picture_of, svg_text, window_of};
 use std::alloc::Global;
 use step_trace::{ProcSet, Trace};
 
@@ -38,7 +37,7 @@ fn drawn(alloc: Global, trace: &Trace, set: ProcSet, drawing: &Drawing) -> Resul
     ensures drawable { OnOk result (IsDrawable drawing.now trace.now) }
     ensures refused { IfErr result (IsUndrawn drawing.now trace.now) }
 {
-    let names = names_for(alloc, drawing, trace.config().n())?;
+    let names = names_for(alloc, &drawing.names, trace.config().n())?;
     let picture = marks_for(alloc, trace, set, drawing)?;
     Ok(svg_text(alloc, trace, &picture, set, &names)?)
 }
@@ -57,33 +56,6 @@ fn marks_for(
     let window = window_for(drawing, trace.last_tick())?;
     let report = report_of(alloc, trace, set)?;
     Ok(picture_of(alloc, trace, report.rows(), window)?)
-}
-
-/// The names of so many processors; none where none are listed.
-fn names_for(alloc: Global, drawing: &Drawing, count: u64) -> Result<Vec<&str>, Fault>
-    ensures fit { OnOk result (AreNamesFor drawing.now count) }
-    ensures names { IfOk result (λ names. map (λ name. name.now) names.items ≡ names_of_list drawing.now.names) }
-    ensures refused { IfErr result (λ why. IsNamesFault drawing.now count why) }
-{
-    let Some(list) = &drawing.names else {
-        return Ok(Vec::new(alloc));
-    };
-    match names_of(alloc, list.as_str(), count) {
-        Ok(names) => Ok(names),
-        Err(why) => Err(names_fault(why, count)),
-    }
-}
-
-/// The fault of names that aren't so many processors'.
-fn names_fault(why: NamesError, count: u64) -> Fault
-    ensures { result ≡ names_fault count why }
-{
-    match why {
-        NamesError::WrongCount(given) => Fault::Picture(PictureOption::NameCount(given, count)),
-        NamesError::BadName(place) => Fault::Picture(PictureOption::BadName(place)),
-        NamesError::SameName(place) => Fault::Picture(PictureOption::SameName(place)),
-        NamesError::Memory => Fault::Memory,
-    }
 }
 
 /// The option that a window is refused for.

@@ -30,3 +30,9 @@ pub mod MessageFaults
 pub mod SpreadRefusals
 pub mod CauseCycles
 pub mod TurnedCycles
+pub mod IdleSilences
+pub mod IdleWalks
+pub mod IdleEnds
+pub mod TickedEvents
+pub mod IdleEvents
+pub mod OneIdle

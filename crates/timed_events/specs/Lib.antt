@@ -10,3 +10,7 @@ pub mod CausalWalks
 pub mod CauseCycles
 pub mod Received
 pub mod Lateness
+pub mod IdleTicks
+pub mod IdleWalks
+pub mod TickedEvents
+pub mod IdleTraces

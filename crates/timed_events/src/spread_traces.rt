@@ -2,18 +2,14 @@
 
 ghost use Rattle.std.specs.Prelude.{◌≡◌, ◌<◌, ◌≤◌, ◌+◌, fold, if◌then◌else◌, length, max, nat_lt, true, Err, IfErr, IfOk, None, Some};
 ghost use Rattle.timed_events.specs.Checks.{AreMeant};
-ghost use Rattle.timed_events.specs.Spreads.{moved_of, IsTimed, IsTimedRefusal};
+ghost use Rattle.timed_events.specs.Spreads.{moved_of, AreStepPlaces, IsTimed, IsTimedRefusal};
 ghost use Rattle.timed_events.specs.Times.{times_refusal};
 
-use crate::causal_orders::causal_order;
 use crate::events::{Clock, Event, EventError};
-use crate::message_checks::check_messages;
-use crate::spread_ticks::spread_ticks;
-use crate::time_orders::time_order_of;
-use crate::timed_traces::{trace_in_time, trace_of_ticks};
-use crate::times::{span_of, ticks_of};
+use crate::ticked_events::spread_events;
+use crate::timed_traces::{OrderedTrace, ordered_by_ticks, ordered_in_time};
 use std::alloc::Global;
-use step_trace::{MAX_PROCESSORS, MAX_STEPS, MAX_TICKS, MIN_PROCESSORS, Trace};
+use step_trace::{MAX_PROCESSORS, MAX_STEPS, MIN_PROCESSORS, Trace};
 
 /// How far events went from the ticks of their times.
 #[derive(Clone, Copy, Debug, PartialEq, Eq)]
@@ -31,6 +27,13 @@ pub struct Moved {
 pub struct TimedTrace {
     pub trace: Trace,
     pub moved: Moved,
+}
+
+/// A trace of events and how far they went, with the places of the events in the order of its steps.
+#[derive(Drop)]
+pub struct PlacedTrace {
+    pub timed: TimedTrace,
+    pub places: Vec<u32>,
 }
 
 /// The trace of the events: of `n` processors of which none may be faulty, all with initial value 0. Each event is in the
@@ -58,16 +61,52 @@ pub fn trace_of_events(
     ensures refused { IfErr result (λ why. IsTimedRefusal spread events.now clock.now why) }
     ensures more { result ≡ Err EventError.Memory → times_refusal events.now clock.now ≡ None }
 {
+    Ok(placed_trace(alloc, n, events, clock, spread)?.timed)
+}
+
+/// The same trace as `trace_of_events`, with the places of the events in the order of its steps.
+///
+/// Asks for and refuses the same.
+pub fn placed_trace(
+    alloc: Global,
+    n: u64,
+    events: &[Event],
+    clock: &Clock,
+    spread: bool,
+) -> Result<PlacedTrace, EventError>
+    requires least { MIN_PROCESSORS ≤ n }
+    requires most { n ≤ MAX_PROCESSORS }
+    requires some { 0 < length events.now }
+    requires few { length events.now ≤ MAX_STEPS }
+    requires meant { AreMeant events.now n }
+    requires width { 0 < clock.now.width }
+    ensures trace { IfOk result (λ placed. IsTimed spread n events.now clock.now placed.timed) }
+    ensures places { IfOk result (λ placed. AreStepPlaces spread events.now clock.now placed.places.items) }
+    ensures refused { IfErr result (λ why. IsTimedRefusal spread events.now clock.now why) }
+    ensures more { result ≡ Err EventError.Memory → times_refusal events.now clock.now ≡ None }
+{
     if spread {
         return spread_trace(alloc, n, events, clock);
     }
-    let trace = trace_in_time(alloc, n, events, clock)?;
+    let ordered = ordered_in_time(alloc, n, events, clock)?;
+    Ok(unmoved(ordered))
+}
+
+/// A trace of events of which none moved.
+fn unmoved(ordered: OrderedTrace) -> PlacedTrace
+    ensures trace { result.timed ≡ record { trace = ordered.trace; moved = record { events = 0; ticks = 0; farthest = None } } }
+    ensures places { result.places.items ≡ ordered.order.items }
+{
+    let OrderedTrace { trace, order } = ordered;
     let moved = Moved {
         events: 0,
         ticks: 0,
         farthest: None,
     };
-    Ok(TimedTrace { trace, moved })
+    PlacedTrace {
+        timed: TimedTrace { trace, moved },
+        places: order,
+    }
 }
 
 /// The trace of the events where they may be spread.
@@ -76,37 +115,32 @@ fn spread_trace(
     n: u64,
     events: &[Event],
     clock: &Clock,
-) -> Result<TimedTrace, EventError>
+) -> Result<PlacedTrace, EventError>
     requires least { MIN_PROCESSORS ≤ n }
     requires most { n ≤ MAX_PROCESSORS }
     requires some { 0 < length events.now }
     requires few { length events.now ≤ MAX_STEPS }
     requires meant { AreMeant events.now n }
     requires width { 0 < clock.now.width }
-    ensures trace { IfOk result (λ timed. IsTimed true n events.now clock.now timed) }
+    ensures trace { IfOk result (λ placed. IsTimed true n events.now clock.now placed.timed) }
+    ensures places { IfOk result (λ placed. AreStepPlaces true events.now clock.now placed.places.items) }
     ensures refused { IfErr result (λ why. IsTimedRefusal true events.now clock.now why) }
     ensures more { result ≡ Err EventError.Memory → times_refusal events.now clock.now ≡ None }
 {
-    let span = span_of(events, clock)?;
-    check_messages(alloc, events)?;
-    let times = time_order_of(alloc, events)?;
-    let order = causal_order(alloc, events, &times)?;
-    drop(times);
-    let own = ticks_of(alloc, events, clock, span.least)?;
-    let ticks = spread_ticks(alloc, events, &own, &order)?;
-    drop(order);
-    let last = last_of(span.last, &ticks);
-    if last > MAX_TICKS {
-        return Err(EventError::TooManyTicks);
-    }
-    let moved = moved_of(&own, &ticks);
-    drop(own);
-    let trace = trace_of_ticks(alloc, n, events, &ticks, last)?;
-    Ok(TimedTrace { trace, moved })
+    let ticked = spread_events(alloc, n, events, clock)?;
+    let ordered = ordered_by_ticks(alloc, n, events, &ticked.ticks, ticked.last)?;
+    let timed = TimedTrace {
+        trace: ordered.trace,
+        moved: ticked.moved,
+    };
+    Ok(PlacedTrace {
+        timed,
+        places: ordered.order,
+    })
 }
 
 /// The greatest of the ticks, at least `last`.
-fn last_of(last: u64, ticks: &[u32]) -> u64
+pub(crate) fn last_of(last: u64, ticks: &[u32]) -> u64
     ensures { result ≡ fold max last ticks.now }
 {
     let mut greatest = last;
@@ -117,7 +151,7 @@ fn last_of(last: u64, ticks: &[u32]) -> u64
 }
 
 /// How far events went from their own ticks, those of their times.
-fn moved_of(own: &[u32], ticks: &[u32]) -> Moved
+pub(crate) fn moved_of(own: &[u32], ticks: &[u32]) -> Moved
     requires long { length ticks.now ≡ length own.now }
     requires few { length own.now ≤ MAX_STEPS }
     ensures { result ≡ moved_of own.now ticks.now }

@@ -79,7 +79,7 @@ const VERDICTS: &[(Asked, &str, &str, &str)] = &[
 fn formula_of(alloc: Global, text: &str) -> Formula {
     match parse_formula(alloc, text.as_bytes()) {
         Ok(formula) => formula,
-        Err(_) => Formula::of(Operand::Number(0), Vec::new(alloc)),
+        Err(_) => Formula::of_operand(alloc, Operand::Number(0)),
     }
 }
 

@@ -2,7 +2,7 @@
 
 use chunk_join::MAX_WORKERS;
 use command_faults::Fault;
-use command_options::{Claim, Drawing, Each, ReportPart};
+use command_options::{Claim, Drawing, Each, Page, ReportPart};
 use refused_growths::{Outcome, Refusal, judged};
 use std::alloc::{AllocError, Global};
 use std::sync::Wait;
@@ -30,7 +30,7 @@ const TWO_NODES_IMPORT: &str =
 const NEVER_SENT: &str = "time,node,event,to,message\n10,a,send,b,m1\n13,b,receive,,m9\n";
 
 /// Room for more than any command writes here, so that an output never grows.
-const ROOM: usize = 20_000;
+const ROOM: usize = 40_000;
 
 /// More growths than any command makes here.
 const MOST_GROWTHS: usize = 1_000;
@@ -48,11 +48,12 @@ enum Command {
     /// Of this certificate.
     Check(&'static str),
     Draw,
+    Page,
     /// Of a log, whose nodes are listed so, or which tells its nodes; with events that may be spread, or without.
     Import(Option<&'static str>, bool),
 }
 
-/// A command with its text, and what it writes where memory is ample: of a picture the end, of a refused log nothing.
+/// A command with its text, and what it writes where memory is ample: of a picture or a page the end, of a refused log nothing.
 #[derive(Clone, Copy)]
 struct Served {
     command: Command,
@@ -119,6 +120,14 @@ fn ended<T: Threads + Wait + Sync>(
             };
             serve(alloc, &drawing, &mut trace, &mut output)
         }
+        Command::Page => {
+            let page = Page {
+                correct: Correct::All,
+                at: None,
+                names: None,
+            };
+            serve(alloc, &page, &mut trace, &mut output)
+        }
         Command::Import(nodes, spread) => {
             let options = import_options(alloc, nodes, None, Some("1"), Some("15"), spread, false)?;
             let mut notes = Vec::with_capacity(alloc, ROOM)?;
@@ -137,7 +146,9 @@ fn writes<T: Threads + Wait + Sync>(
     output: &mut Vec<u8>,
 ) -> Result<bool, AllocError> {
     match (ended(rt, alloc, served, output), served.command) {
-        (Ok(()), Command::Draw) => Ok(output.as_slice().ends_with(served.wanted.as_bytes())),
+        (Ok(()), Command::Draw | Command::Page) => Ok(
+            output.as_slice().ends_with(served.wanted.as_bytes()),
+        ),
         (Ok(()), _) => Ok(output.as_slice() == served.wanted.as_bytes()),
         (Err(Fault::Memory), _) | (Err(Fault::Threads), Command::Report(_)) => Err(AllocError),
         (Err(Fault::Log(_)), Command::Import(..)) => Ok(served.wanted.is_empty()),
@@ -184,6 +195,7 @@ const SERVED: &[(Command, &str, &str)] = &[
     (Command::Replay, DECIDES_SEVEN, DECIDES_SEVEN_REPLAY),
     (Command::Upgrade, ONE_MISS, ONE_MISS_UPGRADE),
     (Command::Draw, ONE_MISS, "</svg>\n"),
+    (Command::Page, ONE_MISS, "</html>\n"),
     (Command::Import(None, false), TWO_NODES, TWO_NODES_IMPORT),
     (Command::Import(None, true), TWO_NODES, TWO_NODES_IMPORT),
     (Command::Import(None, false), NEVER_SENT, ""),

@@ -2,6 +2,8 @@
 #![tactic(auto)]
 
 #[cfg(test)]
+mod idle_traces;
+#[cfg(test)]
 mod lines;
 #[cfg(test)]
 mod spread_traces;

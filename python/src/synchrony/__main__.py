@@ -45,6 +45,7 @@ def _parser() -> argparse.ArgumentParser:
     it.add_argument("--valid", action="store_true", help="asks that each decision is an initial value, too")
     it.add_argument("--whole", action="store_true", help="judges by the bounds of the whole run alone, not in time")
     it.add_argument("--due", type=_whole, metavar="K", help="asks that so many rows are due in each run")
+    it.add_argument("--factor", action="store_true", help="prints the least factor of FORMULA for each run, and last the greatest of them")
     it.add_argument("--workers", type=_whole, metavar="W", help="how many processes work on it (usual: one for each processor)")
     return top
 
@@ -98,7 +99,7 @@ def _surveyed(words: argparse.Namespace, parser: argparse.ArgumentParser) -> Tab
 
 
 def _judged(words: argparse.Namespace) -> Verdicts:
-    return judge_runs(runs_in(words.list), words.within, words.valid, words.whole, words.due, workers=words.workers)
+    return judge_runs(runs_in(words.list), words.within, words.valid, words.whole, words.due, workers=words.workers, factor=words.factor)
 
 
 def main(words: Optional[List[str]] = None) -> int:

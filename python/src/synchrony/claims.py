@@ -10,6 +10,7 @@ that of a survey is.
 from __future__ import annotations
 
 import csv
+import math
 import multiprocessing
 import os
 from concurrent.futures import BrokenExecutor, Executor, Future, ProcessPoolExecutor
@@ -60,11 +61,12 @@ class Verdicts:
         return all(it.verdict for it in self.rows)
 
     def text(self) -> str:
-        """A line for each run, and then the summary."""
-        return "".join(f"{it.name}: {it.error if it.verdict is None else it.verdict}\n" for it in self.rows) + f"{self.summary()}\n"
+        """A line for each run, with the factor if it was asked for, and then the summary."""
+        return "".join(f"{it.name}: {it.error if it.verdict is None else _told(it.verdict)}\n" for it in self.rows) + f"{self.summary()}\n"
 
     def summary(self) -> str:
-        """How many runs keep the claim and how many don't, in how many no deadline was due, and the least margin with its run."""
+        """How many runs keep the claim and how many don't, in how many no deadline was due, the least margin with its run, and the
+        greatest factor with its run, if factors were asked for."""
         kept: List[Tuple[int, str]] = []
         no = untested = 0
         for it in self.rows:
@@ -78,7 +80,24 @@ class Verdicts:
         unknown = len(self.rows) - len(kept) - no - untested
         runs = "1 run" if len(self.rows) == 1 else f"{len(self.rows)} runs"
         least = "; least margin {} ({})".format(*min(kept, key=lambda it: it[0])) if kept else ""
-        return f"{runs}: {len(kept)} yes, {no} no, {untested} untested, {unknown} not judged{least}"
+        factors = [(it.verdict.factor, it.name) for it in self.rows if it.verdict is not None and it.verdict.factor is not None]
+        most = "; greatest factor {} ({})".format(*_greatest(factors)) if factors else ""
+        return f"{runs}: {len(kept)} yes, {no} no, {untested} untested, {unknown} not judged{least}{most}"
+
+
+def _told(verdict: library.Judgement) -> str:
+    """The verdict line, and the factor if it was asked for."""
+    return verdict.line if verdict.factor is None else f"{verdict.line} factor {_factor_word(verdict.factor)}"
+
+
+def _factor_word(factor: float) -> str:
+    return "none" if factor == math.inf else str(factor)
+
+
+def _greatest(factors: List[Tuple[float, str]]) -> Tuple[str, str]:
+    """The greatest of the factors, and the first run that has it."""
+    factor, name = max(factors, key=lambda it: it[0])
+    return _factor_word(factor), name
 
 
 class _Claim(NamedTuple):
@@ -88,9 +107,11 @@ class _Claim(NamedTuple):
     valid: bool
     whole: bool
     due: Optional[int]
+    factor: bool
+    rows: bool
 
     def of(self, trace: bytes, decisions: bytes, correct: library.Correct, start: Optional[int]) -> library.Judgement:
-        return library.judge(trace, decisions, correct, self.within, start, self.valid, self.whole, self.due)
+        return library.judge(trace, decisions, correct, self.within, start, self.valid, self.whole, self.due, self.factor, self.rows)
 
 
 def judge_runs(
@@ -101,25 +122,27 @@ def judge_runs(
     due: Optional[int] = None,
     executor: Optional[Executor] = None,
     workers: Optional[int] = None,
+    factor: bool = False,
+    rows: bool = False,
 ) -> Verdicts:
     """The verdicts on runs: whether all correct processors decided within a formula of the bounds, in each of them.
 
-    `within`, `valid`, `whole` and `due` are those of `library.judge`. `executor` stays open; else so many processes as
+    `within`, `valid`, `whole`, `due`, `factor` and `rows` are those of `library.judge`. `executor` stays open; else so many processes as
     `workers` says, or as there are processors, work on it. A run that is refused or can't be read has its words in place of
     a verdict. Where a worker dies, each run of its batch is tried once more, alone.
 
     SynchronyError is raised where the formula is none; nothing is judged then.
     """
-    claim = _Claim(within, valid, whole, due)
+    claim = _Claim(within, valid, whole, due, factor, rows)
     claim.of(NO_TRACE, NO_DECISIONS, "all", None)
     cases = list(runs)
-    rows: List[Judged] = []
+    found: List[Judged] = []
     with ExitStack() as stack:
         pool = executor or stack.enter_context(_processes(_processors() if workers is None else max(1, workers)))
         batches = [cases[at : at + BATCH_RUNS] for at in range(0, len(cases), BATCH_RUNS)]
         for batch, future in [(it, _submitted(pool, claim, it)) for it in batches]:
-            rows += _answer(future) or [_again(executor, claim, it) for it in batch]
-    return Verdicts(rows)
+            found += _answer(future) or [_again(executor, claim, it) for it in batch]
+    return Verdicts(found)
 
 
 def runs_in(path: Union[str, os.PathLike[str]]) -> Iterator[Case]:

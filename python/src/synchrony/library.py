@@ -16,10 +16,11 @@ Nothing here is proved but what is called. Calls of several threads run side by 
 from __future__ import annotations
 
 import ctypes
+import math
 import operator
 import os
 import threading
-from dataclasses import dataclass
+from dataclasses import dataclass, field
 from pathlib import Path
 from typing import TYPE_CHECKING, Any, Callable, Dict, Iterable, List, NamedTuple, NoReturn, Optional, Tuple, Union
 
@@ -129,12 +130,27 @@ class Verdict:
         return "yes" if self.reason is None else " ".join(["no", self.reason, *map(str, self.numbers)])
 
 
+class DeadlineRow(NamedTuple):
+    """A row of the report with its deadline, if that is no later than the last tick; the tick by which all had decided, if they
+    had; and how many ticks that was before the deadline."""
+
+    gst: int
+    delta: int
+    phi: int
+    deadline: Optional[int]
+    decided: Optional[int]
+    margin: Optional[int]
+
+
 @dataclass(frozen=True)
 class Judgement:
     """What `judge` says of the decisions of a run: it is true if they keep the claim. `str()` of it is the program's verdict
-    line."""
+    line. `factor` is the least factor of the formula with which they would, `math.inf` if none is enough, and `rows` has the
+    rows with their deadlines; both are None unless they were asked for."""
 
     line: str
+    factor: Optional[float] = field(default=None, repr=False)
+    rows: Optional[List[DeadlineRow]] = field(default=None, repr=False)
 
     def __bool__(self) -> bool:
         return self.line.split()[0] == "yes"
@@ -224,6 +240,11 @@ def draw(
     return _asked("draw", trace, correct=_set_of(correct)[1], from_tick=from_tick, to_tick=to_tick, names=names)
 
 
+def page(trace: Text, correct: Correct, at: Optional[int] = None, names: Optional[Iterable[str]] = None) -> bytes:
+    """A page about the run, as HTML. The run counts as calm from the tick `at` on; `names` are names for the processors."""
+    return _asked("page", trace, correct=_set_of(correct)[1], at=at, names=names)
+
+
 def import_log(
     log: Text,
     nodes: Optional[Iterable[str]] = None,
@@ -265,10 +286,15 @@ def judge(
     valid: bool = False,
     whole: bool = False,
     due: Optional[int] = None,
+    factor: bool = False,
+    rows: bool = False,
 ) -> Judgement:
-    """Whether all correct processors decided within a formula of the bounds, by a CSV of their decisions."""
+    """Whether all correct processors decided within a formula of the bounds, by a CSV of their decisions. `factor` and `rows` ask
+    for these of the judgement, too."""
     given = {"correct": _set_of(correct)[1], "within": within, "start": start, "valid": valid, "whole": whole, "due": due}
-    return Judgement(_asked("judge", trace, _bytes_of(decisions), **given).decode().rstrip("\n"))
+    line, *more = _asked("judge", trace, _bytes_of(decisions), **given, factor=factor, rows=rows).decode().splitlines()
+    least = _least_factor(more.pop(0)) if factor else None
+    return Judgement(line, least, [_deadline_row(it) for it in more[1:]] if rows else None)
 
 
 # The options of the program by the names of arguments, each with what makes a word of it.
@@ -293,6 +319,8 @@ OPTIONS: Dict[str, Tuple[str, Optional[Callable[[Any], str]]]] = {
     "valid": ("--valid", None),
     "whole": ("--whole", None),
     "due": ("--due", str),
+    "factor": ("--factor", None),
+    "rows": ("--rows", None),
 }
 # The error of each status; of any other one it is SynchronyError itself.
 ERRORS = {BAD_TRACE: TraceRefused, BAD_CERTIFICATE: CertificateRefused}
@@ -339,6 +367,17 @@ def _row(line: bytes) -> Row:
 def _bound(bound: str, *numbers: str) -> Bound:
     """The bound of the fields of a line."""
     return Bound(bound, *[int(it) if it else None for it in numbers])  # type: ignore[arg-type]
+
+
+def _deadline_row(line: str) -> DeadlineRow:
+    """The row of a line."""
+    return DeadlineRow(*[int(it) if it else None for it in line.split(",")])  # type: ignore[arg-type]
+
+
+def _least_factor(line: str) -> float:
+    """The factor of its line, or infinity."""
+    word = line.split()[1]
+    return math.inf if word == "none" else int(word)
 
 
 def _verdict(line: bytes) -> Verdict:

@@ -154,13 +154,16 @@ class Run:
         whole: bool = False,
         due: Optional[int] = None,
         value: Callable[[Any], int] = int,
+        factor: bool = False,
+        rows: bool = False,
     ) -> library.Judgement:
         """Whether the correct processors decided within a formula of the bounds, and agreed.
 
         `within` and the options are those of `library.judge`. What was decided is told to it as numbers: `value` makes one
         of each decision. One that was made before a step counts as made in tick 1.
         """
-        return library.judge(self.trace, self.decisions_text(value), self.correct, within, start=start, valid=valid, whole=whole, due=due)
+        decisions = self.decisions_text(value)
+        return library.judge(self.trace, decisions, self.correct, within, start=start, valid=valid, whole=whole, due=due, factor=factor, rows=rows)
 
     def decisions_text(self, value: Callable[[Any], int] = int) -> bytes:
         """The decisions as a CSV for `library.judge`; `value` makes a number of each."""

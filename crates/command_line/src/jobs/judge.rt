@@ -145,8 +145,10 @@ within FORMULA ticks from a stabilization time on, by the bounds delta and phi
 that hold from there. So each row of the report sets a deadline, gst + FORMULA;
 with --start TICK it counts from TICK on if that is later than gst.
 
-FORMULA is a sum of products of numbers and the words delta, phi, n (how many
-processors there are) and t (how many may be faulty), such as 3*phi*n + delta.
+FORMULA has numbers and the words delta, phi, n (how many processors there are)
+and t (how many may be faulty), with + and *, parentheses, max(A, B, ..), and /
+by a number, which rounds up: 3*phi*n + max(delta, phi)/2. Signs are read from
+the left, * and / before +.
 
 What comes after a deadline doesn't count: if bounds hold up to the deadline
 that they set, all have to decide by then, though the bounds may break down

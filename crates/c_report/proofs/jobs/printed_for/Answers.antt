@@ -29,6 +29,10 @@ pub returns-in-Draw-clause-printed : goal.returns-in-Draw-clause-printed
 returns-in-Draw-clause-printed c = rw c.in-Draw.is (rw (sym c.as_str-in-Draw.ensures.value) c.answer-in-Draw.ensures.printed)
 
 -- src/jobs.rt:39:1
+pub returns-in-Page-clause-printed : goal.returns-in-Page-clause-printed
+returns-in-Page-clause-printed c = rw c.in-Page.is (rw (sym c.as_str-in-Page.ensures.value) c.answer-in-Page.ensures.printed)
+
+-- src/jobs.rt:39:1
 pub returns-in-Import-clause-printed : goal.returns-in-Import-clause-printed
 returns-in-Import-clause-printed c = rw c.in-Import.is c.import.ensures.printed
 

@@ -9,7 +9,7 @@ pub returns-in_err-formula-clause-refused : goal.returns-in_err-formula-clause-r
 returns-in_err-formula-clause-refused c =
     let p = err_from_is_err_and c.from_residual-in_err-formula.result c.from_residual-in_err-formula.ensures.1 in
     rw (p.1, p.2) (formula-declined c.args.judging.now c.args.decisions.now c.args.trace.now c.as_bytes.result.now _ _ refl (c.as_bytes.ensures.value ∙ c.as_str.ensures.value) c.in_ok-set.ensures.within
-    c.in_err-formula.ensures.bad c.in_err-formula.ensures.refused)
+    c.in_err-formula.ensures.refused)
 
 pub returns-clause-verdict : goal.returns-clause-verdict
 returns-clause-verdict c =

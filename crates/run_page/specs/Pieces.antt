@@ -1,0 +1,69 @@
+-- What the pieces of a phrase are as HTML (own).
+use Rattle.std.specs.Prelude.{ℕ, ◌==◌, ◌-◌, ◌/◌, ◌%◌, ◌++◌, ◌&&◌, Bool, List, [], codes, decimal, if◌then◌else◌, nat_le, nat_lt, length}
+use Rattle.std.specs.List.{flat_map}
+use Rattle.run_picture.specs.Escapes.{escaped}
+use Rattle.run_picture.specs.Names.{name_at}
+use Rattle.run_page.specs.ShortNames.{short_text}
+use Rattle.run_page.specs.declared.pieces.Piece.{Piece}
+use Rattle.run_page.specs.declared.pieces.Piece.TheVariants as piece
+use Rattle.run_page.specs.declared.scales.Place.{Place}
+
+-- a number below 100 in two digits
+abbrev pub digits_text : ℕ → List ℕ
+digits_text n = decimal (n / 10) ++ decimal (n % 10)
+
+-- a comma, and a number below 1,000 in three digits
+abbrev pub grouped_text : ℕ → List ℕ
+grouped_text n = codes "," ++ (decimal (n / 100) ++ digits_text (n % 100))
+
+-- a number with a comma before each three digits, up to those of the thousands
+abbrev pub count_text : ℕ → List ℕ
+count_text n =
+    if nat_lt n 1000 then decimal n
+    else if nat_lt n 1000000 then decimal (n / 1000) ++ grouped_text (n % 1000)
+    else decimal (n / 1000000) ++ (grouped_text (n / 1000 % 1000) ++ grouped_text (n % 1000))
+
+-- so many of something
+abbrev pub many_text : ℕ → List ℕ → List ℕ
+many_text n what = count_text n ++ (codes " " ++ (what ++ (if n == 1 then [] else codes "s")))
+
+-- so many ticks in bold, with the mark of a bound
+abbrev pub bound_text : List ℕ → ℕ → List ℕ
+bound_text mark n = mark ++ (many_text n (codes "tick") ++ codes "</b>")
+
+-- whether processor p has a name among so many
+abbrev pub has_name : ℕ → ℕ → Bool
+has_name count p = nat_le 1 p && nat_le p count
+
+-- what processor p is called: its name, which HTML can't mistake for its own, or its number
+abbrev pub node_text : List (List ℕ) → ℕ → List ℕ
+node_text names p = if has_name (length names) p then escaped (name_at names (p - 1)) else codes "processor " ++ decimal p
+
+-- what processor p is called where there is little room
+abbrev pub label_text : List (List ℕ) → ℕ → List ℕ
+label_text names p = if has_name (length names) p then short_text (name_at names (p - 1)) else decimal p
+
+-- a part of a width, in hundredths of a per cent
+abbrev pub percent_text : ℕ → List ℕ
+percent_text n = decimal (n / 100) ++ (codes "." ++ (digits_text (n % 100) ++ codes "%"))
+
+-- a place in a picture: how far from its left edge
+abbrev pub place_text : Place → List ℕ
+place_text place = (if place.is_before then codes "-" else []) ++ decimal place.far
+
+abbrev pub piece_text : List (List ℕ) → Piece → List ℕ
+piece_text names (piece.Text text) = text.now
+piece_text names (piece.Number n) = decimal n
+piece_text names (piece.Count n) = count_text n
+piece_text names (piece.Many n what) = many_text n what.now
+piece_text names (piece.Ticks n) = many_text n (codes "tick")
+piece_text names (piece.Late n) = bound_text (codes "<b class=\"dl\">") n
+piece_text names (piece.Silent n) = bound_text (codes "<b class=\"phi\">") n
+piece_text names (piece.Node p) = node_text names p
+piece_text names (piece.Label p) = label_text names p
+piece_text names (piece.Percent n) = percent_text n
+piece_text names (piece.At place) = place_text place
+
+-- one after the other
+abbrev pub pieces_text : List (List ℕ) → List Piece → List ℕ
+pieces_text names pieces = flat_map (piece_text names) pieces

@@ -1,0 +1,130 @@
+//! Cards: each has one piece of evidence in words, with its picture.
+
+use crate::delay_words::put_delay_words;
+use crate::panes::put_picture;
+use crate::pens::Pen;
+use crate::pieces::Piece::{Count, Number, Text};
+use crate::runs::Run;
+use crate::scenes::{LARGE, Scene};
+use crate::stall_words::put_stall_words;
+use crate::titles::put_title;
+use run_story::Evidence;
+use std::alloc::Global;
+
+/// How many cards a page has.
+pub(crate) const CARDS: usize = 40;
+
+/// A page that would grow beyond so many bytes gets no further picture.
+const ROOM_FOR_PICTURES: usize = 700_000;
+
+/// Writes the cards of the first evidence. Those that count only after the calm row come into one part, which is closed.
+pub(crate) fn put_cards(alloc: Global, pen: &mut Pen<'_>, run: &Run<'_>) {
+    let group = first_late(run);
+    for place in 0..run.evidence.len().min(CARDS) {
+        if Some(place) == group {
+            put_group_head(pen, run, place);
+        }
+        if let Some(evidence) = run.evidence.get(place) {
+            put_card(alloc, pen, run, evidence, place);
+        }
+    }
+    if group != None {
+        pen.text("</details>");
+    }
+    put_further(pen, run);
+}
+
+/// The place of the first of the cards that come late, if there are several.
+fn first_late(run: &Run) -> Option<usize> {
+    let shown = run.evidence.len().min(CARDS);
+    for place in 0..shown {
+        if run.is_late_at(place) {
+            return if place.saturating_add(1) < shown {
+                Some(place)
+            } else {
+                None
+            };
+        }
+    }
+    None
+}
+
+/// Writes the beginning of the part with the late cards.
+fn put_group_head(pen: &mut Pen<'_>, run: &Run<'_>, place: usize) {
+    let late = run.evidence.len().saturating_sub(place);
+    pen.put(&[
+        Text("<details class=\"later\"><summary>After tick "),
+        Number(run.found.calm.gst),
+        Text(": "),
+        Count(late as u64),
+        Text(
+            " more, each smaller than the one before, as less and less is left of the run</summary>",
+        ),
+    ]);
+}
+
+fn put_card(alloc: Global, pen: &mut Pen<'_>, run: &Run<'_>, evidence: &Evidence, place: usize) {
+    put_card_head(pen, run, evidence, place);
+    put_card_words(pen, run, evidence);
+    pen.text("</div><div class=\"px\">");
+    let scene = Scene::of(run, evidence, place.saturating_add(1));
+    let mut picture = Pen::new(alloc, run.names);
+    put_picture(&mut picture, &scene);
+    if pen.len().saturating_add(picture.len()) > ROOM_FOR_PICTURES {
+        pen.text("<p class=\"cap\">Not drawn, for the page would grow too large.</p>");
+    } else {
+        pen.append(&picture);
+    }
+    pen.text("</div></div></details>");
+}
+
+/// Writes a card up to its words.
+fn put_card_head(pen: &mut Pen<'_>, run: &Run<'_>, evidence: &Evidence, place: usize) {
+    let no = place.saturating_add(1) as u64;
+    pen.put(&[
+        Text("<details class=\"card\" id=\"e"),
+        Number(no),
+        Text(if is_open(run, place) {
+            "\" open><summary><span class=\"no\">"
+        } else {
+            "\"><summary><span class=\"no\">"
+        }),
+        Number(no),
+        Text("</span> <span class=\"ti\">"),
+    ]);
+    put_title(pen, run, evidence);
+    pen.put(&[
+        Text("</span><span class=\"when\">counts from tick "),
+        Number(run.row(evidence.first).gst),
+        Text(" to "),
+        Number(run.until(evidence.last)),
+        Text("</span></summary><div class=\"body\"><div class=\"tx\">"),
+    ]);
+}
+
+/// Whether the card of this place is open at first: the first one is, and the next ones if they aren't late.
+fn is_open(run: &Run, place: usize) -> bool {
+    place == 0 || place < LARGE && !run.is_late_at(place)
+}
+
+/// Writes the paragraphs of a card.
+pub(crate) fn put_card_words(pen: &mut Pen<'_>, run: &Run<'_>, evidence: &Evidence) {
+    if let Some(stall) = evidence.stall {
+        put_stall_words(pen, run, stall);
+    }
+    if let Some(delay) = evidence.delay {
+        put_delay_words(pen, run, delay, evidence.stall);
+    }
+}
+
+/// Writes how much evidence has no card.
+fn put_further(pen: &mut Pen<'_>, run: &Run<'_>) {
+    let further = run.evidence.len().saturating_sub(CARDS);
+    if further > 0 {
+        pen.put(&[
+            Text("<p class=\"cap\">"),
+            Count(further as u64),
+            Text(" further, smaller pieces of evidence have no card.</p>"),
+        ]);
+    }
+}

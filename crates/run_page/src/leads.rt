@@ -1,0 +1,288 @@
+//! What a page says after its first sentence: what came before the calm, who is to blame, and what is lost.
+
+use crate::headlines::was;
+use crate::pens::Pen;
+use crate::pieces::Piece::{Count, Late, Many, Node, Number, Silent, Text, Ticks};
+use crate::runs::Run;
+use crate::stall_words::put_stretch;
+use crate::titles::gap_ticks;
+use run_story::{Delay, Headline, Stall};
+
+/// Writes the sentences after the first, each with a space at its end.
+pub(crate) fn put_lead(pen: &mut Pen<'_>, run: &Run<'_>) {
+    if !run.is_shown() {
+        return;
+    }
+    put_before(pen, run, first_stall(run), first_delay(run));
+    put_blame(pen, run);
+    put_room(pen, run);
+    put_lost(pen, run);
+    put_under_way(pen, run);
+    put_silent_to_end(pen, run);
+}
+
+/// The first silence whose bound is above the calm one.
+fn first_stall(run: &Run) -> Option<Stall> {
+    for evidence in run.evidence {
+        let phi = run.row(evidence.first).phi;
+        if evidence.stall.is_some() && is_worse(run, evidence.first, phi, run.found.calm.phi) {
+            return evidence.stall;
+        }
+    }
+    None
+}
+
+/// The first late message whose bound is above the calm one.
+fn first_delay(run: &Run) -> Option<Delay> {
+    for evidence in run.evidence {
+        let delta = run.row(evidence.first).delta;
+        if evidence.delay.is_some() && is_worse(run, evidence.first, delta, run.found.calm.delta) {
+            return evidence.delay;
+        }
+    }
+    None
+}
+
+/// Whether the row at this place, with this bound, is before the calm one, whose bound is smaller.
+fn is_worse(run: &Run, place: usize, bound: u64, calm: u64) -> bool {
+    place < run.found.calm_place && bound > calm
+}
+
+/// Writes who was silent before the calm, and which message was late.
+fn put_before(pen: &mut Pen<'_>, run: &Run<'_>, stall: Option<Stall>, delay: Option<Delay>) {
+    if stall.is_none() && delay.is_none() {
+        return;
+    }
+    put_when(pen, run);
+    if let Some(stall) = stall {
+        put_silent(pen, stall);
+    }
+    if stall.is_some() && delay.is_some() {
+        pen.text(", and ");
+    }
+    if let Some(delay) = delay {
+        put_late(pen, run, delay);
+    }
+    pen.text(". ");
+}
+
+/// Writes before which moment.
+fn put_when(pen: &mut Pen<'_>, run: &Run<'_>) {
+    if run.is_calm() {
+        pen.text("Before that, ");
+    } else {
+        pen.put(&[
+            Text("Before its last "),
+            Ticks(run.rest_ticks()),
+            Text(", "),
+        ]);
+    }
+}
+
+/// Writes who was silent, for how long, and when.
+fn put_silent(pen: &mut Pen<'_>, stall: Stall) {
+    let gap = stall.gap;
+    pen.put(&[
+        Text("<b>"),
+        Node(gap.proc),
+        Text("</b> was silent for "),
+        Silent(gap_ticks(gap.from, gap.to)),
+        Text(" "),
+    ]);
+    put_stretch(pen, gap.from, gap.to);
+}
+
+/// Writes which message was late, and by how much.
+fn put_late(pen: &mut Pen<'_>, run: &Run<'_>, delay: Delay) {
+    let sent = delay.miss.sent;
+    pen.put(&[
+        Text("message "),
+        Number(sent),
+        Text(" from <b>"),
+        Node(run.proc(sent)),
+        Text("</b> to <b>"),
+        Node(delay.to),
+        Text("</b> "),
+    ]);
+    match run.taker(sent) {
+        Some(_) => pen.put(&[
+            Text("was not there "),
+            Late(delay.ticks),
+            Text(" after it was sent"),
+        ]),
+        None => pen.text("was never received"),
+    }
+}
+
+/// A node, and the bounds of the whole run without it.
+#[derive(Clone, Copy)]
+struct Blame {
+    proc: u64,
+    delta: u64,
+    phi: u64,
+}
+
+impl Blame {
+    /// The node without which the greater bound of the whole run is least.
+    fn of(run: &Run) -> Self {
+        let first = run.row(0);
+        let mut best = Blame {
+            proc: 0,
+            delta: first.delta,
+            phi: first.phi,
+        };
+        for p in 1..65 {
+            if run.set.contains(p) {
+                best = best.or(Blame::without(run, p));
+            }
+        }
+        best
+    }
+
+    fn without(run: &Run, proc: u64) -> Self {
+        Blame {
+            proc,
+            delta: run.whole.delta_without(proc),
+            phi: run.whole.phi_without(proc),
+        }
+    }
+
+    /// Whichever has the smaller bounds: by the greater one, then by the other.
+    fn or(self, other: Blame) -> Self {
+        let (most, least) = (self.delta.max(self.phi), self.delta.min(self.phi));
+        let (other_most, other_least) = (other.delta.max(other.phi), other.delta.min(other.phi));
+        if other_most < most || other_most == most && other_least < least {
+            other
+        } else {
+            self
+        }
+    }
+
+    /// Whether the greater bound falls to a quarter.
+    fn tells(self, run: &Run) -> bool {
+        let first = run.row(0);
+        let most = self.delta.max(self.phi);
+        self.proc != 0 && run.members() > 2 && first.delta.max(first.phi) / 4 >= most
+    }
+}
+
+fn put_blame(pen: &mut Pen<'_>, run: &Run<'_>) {
+    let blame = Blame::of(run);
+    if !blame.tells(run) {
+        return;
+    }
+    let first = run.row(0);
+    pen.put(&[
+        Text("Without <b>"),
+        Node(blame.proc),
+        Text("</b> the whole run would keep "),
+    ]);
+    put_fall(pen, "Δ = ", blame.delta, first.delta);
+    if blame.delta < first.delta && blame.phi < first.phi {
+        pen.text(" and ");
+    }
+    put_fall(pen, "Φ = ", blame.phi, first.phi);
+    pen.text(". ");
+}
+
+/// Writes a bound in place of a greater one; nothing if it is the same.
+fn put_fall(pen: &mut Pen<'_>, name: &'static str, bound: u64, before: u64) {
+    if bound < before {
+        pen.put(&[
+            Text(name),
+            Ticks(bound),
+            Text(" in place of "),
+            Count(before),
+        ]);
+    }
+}
+
+/// Writes for how often the rest of a calm run has room for its bounds.
+fn put_room(pen: &mut Pen<'_>, run: &Run<'_>) {
+    if !run.is_calm() {
+        return;
+    }
+    let (found, rest) = (run.found, run.rest_ticks());
+    pen.put(&[
+        Text(if found.calm_place == 0 {
+            "The run"
+        } else {
+            "What follows"
+        }),
+        Text(" lasts "),
+        Ticks(rest),
+        Text(", which has room for Δ "),
+        Many(rest / found.calm.delta.max(1), "time"),
+        Text(" and for Φ "),
+        Many(rest / found.calm.phi.max(1), "time"),
+        Text(". "),
+    ]);
+}
+
+/// Writes how many messages are lost, if the headline doesn't say it.
+fn put_lost(pen: &mut Pen<'_>, run: &Run<'_>) {
+    let counts = run.counts;
+    if counts.lost == 0 || run.found.headline == Some(Headline::NeverReceived) {
+        return;
+    }
+    pen.put(&[
+        Count(counts.lost),
+        Text(" of "),
+        Many(counts.all, "message"),
+        Text(" between the nodes "),
+        Text(was(counts.lost)),
+        Text(" never received. "),
+    ]);
+}
+
+/// Writes how many messages were sent so late that nobody could miss them.
+fn put_under_way(pen: &mut Pen<'_>, run: &Run<'_>) {
+    let count = run.counts.under_way;
+    if count == 0 {
+        return;
+    }
+    pen.put(&[
+        Many(count, "message"),
+        Text(" "),
+        Text(was(count)),
+        Text(" sent after "),
+        Text(if count == 1 { "its" } else { "their" }),
+        Text(" receiver’s last receive. "),
+    ]);
+}
+
+/// Writes who takes no step in a last part of the run that is longer than the calm bound and a twentieth of the run.
+fn put_silent_to_end(pen: &mut Pen<'_>, run: &Run<'_>) {
+    let mut count = 0_u64;
+    for p in 1..65 {
+        if is_silent_to_end(run, p) {
+            let comma = if count == 0 { "" } else { ", " };
+            pen.put(&[Text(comma), Text("<b>"), Node(p), Text("</b>")]);
+            count = count.saturating_add(1);
+        }
+    }
+    if count > 0 {
+        pen.put(&[
+            Text(if count == 1 { " is" } else { " are" }),
+            Text(
+                " silent to the end: there Φ tells how long was watched, not how long the silence lasts. ",
+            ),
+        ]);
+    }
+}
+
+fn is_silent_to_end(run: &Run, proc: u64) -> bool {
+    if !run.set.contains(proc) || is_in_headline(run, proc) {
+        return false;
+    }
+    let silent = run.last().saturating_sub(run.scan.last_tick_of(proc));
+    silent >= run.found.calm.phi.max(2) && silent > run.last() / 20
+}
+
+/// Whether the headline says that this processor is silent to the end.
+fn is_in_headline(run: &Run, proc: u64) -> bool {
+    match run.found.headline {
+        Some(Headline::SilentToEnd { proc: silent, .. }) => silent == proc,
+        _ => false,
+    }
+}

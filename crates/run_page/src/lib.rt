@@ -1,0 +1,31 @@
+//! The page about a run, as HTML: its headline, what is to be seen at a glance, who is late, and the evidence for each bound.
+#![tactic(auto)]
+
+mod axes;
+mod cards;
+mod delay_words;
+mod escapes;
+mod glances;
+mod headlines;
+mod leads;
+mod message_marks;
+mod node_bounds;
+mod pages;
+mod panes;
+mod pens;
+mod pieces;
+mod row_table;
+mod run_lanes;
+mod runs;
+mod scales;
+mod scans;
+mod scenes;
+mod short_names;
+mod stairs;
+mod stall_words;
+mod step_marks;
+mod styles;
+mod titles;
+mod who;
+
+pub use pages::page_text;

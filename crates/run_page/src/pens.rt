@@ -1,0 +1,74 @@
+//! The pen that writes a page.
+
+ghost use Rattle.std.specs.Prelude.{◌≡◌, true, map};
+ghost use Rattle.run_page.specs.Pieces.{pieces_text};
+ghost use Rattle.run_page.specs.Pens.{HasWritten};
+
+use crate::pieces::{Piece, push_pieces};
+use std::alloc::{AllocError, Global};
+
+/// A page while it is written. Once memory is refused, it writes nothing more, and has no text in the end: so a phrase is a
+/// list of calls, and only the whole page may fail.
+#[derive(Drop)]
+pub(crate) struct Pen<'a> {
+    text: Vec<u8>,
+    // What processors are called, in their order.
+    names: &'a [&'a str],
+    is_refused: bool,
+}
+
+impl<'a> Pen<'a> {
+    /// A pen that has written nothing.
+    pub(crate) fn new(alloc: Global, names: &'a [&'a str]) -> Self {
+        Pen {
+            text: Vec::new(alloc),
+            names,
+            is_refused: false,
+        }
+    }
+
+    /// What was written, in UTF-8. Refuses only for want of memory.
+    pub(crate) fn written(self) -> Result<Vec<u8>, AllocError> {
+        if self.is_refused {
+            Err(AllocError)
+        } else {
+            Ok(self.text)
+        }
+    }
+
+    /// How many bytes were written.
+    pub(crate) fn len(&self) -> usize {
+        self.text.len()
+    }
+
+    /// Writes these pieces, one after the other.
+    pub(crate) fn put(&mut self, pieces: &[Piece])
+        ensures { HasWritten (pieces_text (map (λ x. x.now) self.old.names.now) pieces.now) self.old self.new }
+    {
+        if !self.is_refused && push_pieces(&mut self.text, self.names, pieces).is_err() {
+            self.is_refused = true;
+        }
+    }
+
+    /// Writes HTML, as it is.
+    pub(crate) fn text(&mut self, text: &'static str)
+        ensures { HasWritten text.now self.old self.new }
+    {
+        if !self.is_refused && self.text.extend_from_slice(text.as_bytes()).is_err() {
+            self.is_refused = true;
+        }
+    }
+
+    /// Writes what another pen wrote.
+    pub(crate) fn append(&mut self, other: &Pen<'_>)
+        ensures written { HasWritten other.now.text.items self.old self.new }
+        ensures refused { other.now.is_refused ≡ true → self.new.is_refused ≡ true }
+    {
+        if !self.is_refused && self.text.extend_from_slice(&other.text).is_err() {
+            self.is_refused = true;
+        }
+        if other.is_refused {
+            self.is_refused = true;
+        }
+    }
+}

@@ -1,0 +1,172 @@
+//! What a page is made of: a trace, its report, and what is found from both before a word is written.
+
+ghost use Rattle.std.specs.Prelude.{◌≤◌};
+
+use crate::node_bounds::NodeBounds;
+use crate::scans::{Scan, tick_at};
+use run_story::{Evidence, Headline, MessageCounts, Named};
+use step_trace::{Act, ProcSet, Row, Trace};
+
+/// A run, and what is found in it. All is lent, so that a phrase takes it whole.
+#[derive(Drop)]
+pub(crate) struct Run<'a> {
+    pub trace: &'a Trace,
+    pub set: ProcSet,
+    pub rows: &'a [Row],
+    pub names: &'a [&'a str],
+    /// Evidence in the order of the page, and for each row which it names.
+    pub evidence: &'a [Evidence],
+    pub named: &'a [Named],
+    /// The places of the rows that name other evidence than the one before.
+    pub brief: &'a [usize],
+    /// For each message the Receive that takes it.
+    pub takers: &'a [Option<u64>],
+    pub scan: &'a Scan,
+    /// The bounds of nodes and pairs in the whole run, and from the calm row on.
+    pub whole: &'a NodeBounds,
+    pub rest: &'a NodeBounds,
+    pub counts: MessageCounts,
+    pub found: Found,
+}
+
+/// Where a run is calm, and what there is to say of it first.
+#[derive(Clone, Copy)]
+pub(crate) struct Found {
+    /// The place of the calm row, and the row.
+    pub calm_place: usize,
+    pub calm: Row,
+    /// None if the trace has no tick.
+    pub headline: Option<Headline>,
+}
+
+impl Run<'_> {
+    pub(crate) fn last(&self) -> u64 {
+        self.trace.last_tick()
+    }
+
+    /// How many processors there are.
+    pub(crate) fn count(&self) -> u64
+        ensures { result ≤ 64 }
+    {
+        self.trace.config().n().min(64)
+    }
+
+    pub(crate) fn members(&self) -> u64 {
+        let mut count = 0_u64;
+        for p in 1..65 {
+            if self.set.contains(p) {
+                count = count.saturating_add(1);
+            }
+        }
+        count
+    }
+
+    /// Whether there is something to show: a tick, a step and a member.
+    pub(crate) fn is_shown(&self) -> bool {
+        self.last() > 0 && self.trace.len() > 0 && self.members() > 0
+    }
+
+    /// The tick of the step of this number; 0 if there is no such step.
+    pub(crate) fn tick(&self, no: u64) -> u64 {
+        tick_at(self.trace, no)
+    }
+
+    /// The processor of the step of this number; 0 if there is no such step.
+    pub(crate) fn proc(&self, no: u64) -> u64 {
+        match self.trace.step(no) {
+            Some(step) => step.proc,
+            None => 0,
+        }
+    }
+
+    /// The receiver of the message of this number; 0 if there is no such message.
+    pub(crate) fn receiver(&self, no: u64) -> u64 {
+        match self.trace.step(no) {
+            Some(step) => match &step.act {
+                Act::Send { to } => *to,
+                Act::Receive { .. } => 0,
+            },
+            None => 0,
+        }
+    }
+
+    /// The Receive that takes the message of this number.
+    pub(crate) fn taker(&self, no: u64) -> Option<u64> {
+        match self.takers.get(no as usize) {
+            Some(taker) => *taker,
+            None => None,
+        }
+    }
+
+    /// The least number of a step in this tick or later; one after the last if there is none.
+    pub(crate) fn first_from(&self, tick: u64) -> u64 {
+        let mut low = 1;
+        let mut high = self.trace.len() as u64 + 1;
+        for _halving in 0..64 {
+            if low >= high {
+                return low;
+            }
+            let middle = low + (high - low) / 2;
+            if self.tick(middle) < tick {
+                low = middle + 1;
+            } else {
+                high = middle;
+            }
+        }
+        low
+    }
+
+    /// The row at this place; bounds of 1 from tick 1 on if there is none.
+    pub(crate) fn row(&self, place: usize) -> Row {
+        row_at(self.rows, place)
+    }
+
+    /// The tick of the first row after this place; the last tick if there is none.
+    pub(crate) fn until(&self, place: usize) -> u64 {
+        match self.rows.get(place.saturating_add(1)) {
+            Some(row) => row.gst,
+            None => self.last(),
+        }
+    }
+
+    /// Whether evidence counts only after the calm row.
+    pub(crate) fn is_late(&self, evidence: &Evidence) -> bool {
+        self.row(evidence.first).gst > self.found.calm.gst
+    }
+
+    /// Whether the evidence at this place counts only after the calm row.
+    pub(crate) fn is_late_at(&self, place: usize) -> bool {
+        match self.evidence.get(place) {
+            Some(evidence) => self.is_late(evidence),
+            None => false,
+        }
+    }
+
+    /// How many ticks there are from the calm row's to the last.
+    pub(crate) fn rest_ticks(&self) -> u64 {
+        self.last()
+            .saturating_sub(self.found.calm.gst.saturating_sub(1))
+    }
+
+    /// Whether the headline is that of a run that is calm.
+    pub(crate) fn is_calm(&self) -> bool {
+        match self.found.headline {
+            Some(Headline::Calm { .. }) => true,
+            _ => false,
+        }
+    }
+}
+
+/// The row at this place; bounds of 1 from tick 1 on if there is none.
+pub(crate) fn row_at(rows: &[Row], place: usize) -> Row {
+    match rows.get(place) {
+        Some(row) => *row,
+        None => Row {
+            gst: 1,
+            delta: 1,
+            phi: 1,
+            miss: None,
+            gap: None,
+        },
+    }
+}

@@ -1,0 +1,249 @@
+//! Which ticks and which lanes the picture of evidence shows.
+
+use crate::run_lanes::lanes_in;
+use crate::runs::Run;
+use crate::scales::Span;
+use run_story::{Delay, Evidence, Stall};
+use step_trace::{Act, ProcSet};
+
+/// With more nodes than this a picture has only some lanes, so many.
+const FEW_NODES: u64 = 6;
+
+const SOME_LANES: u64 = 5;
+
+/// A picture with more steps than this is cut in two; later evidence has smaller pictures.
+const MOST_STEPS: u64 = 1_200;
+
+const MOST_LATER_STEPS: u64 = 500;
+
+/// How many steps each part of a picture in two parts has, about.
+const PART_STEPS: u64 = 160;
+
+/// The evidence with these numbers has the larger pictures, and these tell each of their marks.
+pub(crate) const LARGE: usize = 3;
+
+pub(crate) const TOLD: usize = 5;
+
+/// What a picture of evidence shows.
+#[derive(Drop)]
+pub(crate) struct Scene<'a> {
+    pub run: &'a Run<'a>,
+    pub evidence: &'a Evidence,
+    /// The number of the evidence, from 1.
+    pub no: usize,
+    pub lanes: ProcSet,
+    /// One part, or the two ends.
+    pub left: Span,
+    pub right: Option<Span>,
+}
+
+impl<'a> Scene<'a> {
+    pub(crate) fn of(run: &'a Run<'a>, evidence: &'a Evidence, no: usize) -> Self {
+        let core = core_of(run, evidence);
+        let window = padded(run, core);
+        let lanes = lanes_of(run, evidence, window);
+        let whole = Scene {
+            run,
+            evidence,
+            no,
+            lanes,
+            left: window,
+            right: None,
+        };
+        if whole.steps_in_lanes() <= whole.most_steps() {
+            return whole;
+        }
+        whole.in_two(core)
+    }
+
+    /// About how many steps its lanes have.
+    fn steps_in_lanes(&self) -> u64 {
+        let from = self.run.first_from(self.left.first);
+        let next = self.run.first_from(self.left.to.saturating_add(1));
+        let steps = next.saturating_sub(from).min(1 << 30);
+        steps * lanes_in(self.lanes) / self.run.count().max(1)
+    }
+
+    fn most_steps(&self) -> u64 {
+        if self.no <= LARGE {
+            MOST_STEPS
+        } else {
+            MOST_LATER_STEPS
+        }
+    }
+
+    /// The two ends of these ticks, or all if they meet.
+    fn in_two(&self, core: Span) -> Self {
+        let steps = PART_STEPS * self.run.count().max(1) / lanes_in(self.lanes).max(1);
+        let left = part(self.run, core.first, steps / 4, steps / 4 * 3);
+        let right = part(self.run, core.to, steps / 4 * 3, steps / 4);
+        if right.first <= left.to {
+            let both = Span {
+                first: left.first,
+                to: right.to,
+            };
+            return self.with_parts(both, None);
+        }
+        self.with_parts(left, Some(right))
+    }
+
+    /// The same lanes in other ticks.
+    fn with_parts(&self, left: Span, right: Option<Span>) -> Self {
+        Scene {
+            run: self.run,
+            evidence: self.evidence,
+            no: self.no,
+            lanes: self.lanes,
+            left,
+            right,
+        }
+    }
+}
+
+/// The ticks around this one with so many steps before it, and after it.
+fn part(run: &Run, tick: u64, before: u64, after: u64) -> Span {
+    let no = run.first_from(tick);
+    let last = no.saturating_add(after).min(run.trace.len() as u64);
+    let first = no.saturating_sub(before).max(1);
+    Span {
+        first: run.tick(first).min(tick).max(1),
+        to: run.tick(last).max(tick).min(run.last()),
+    }
+}
+
+/// The ticks of evidence: of its gap, with the steps at both ends, and of its miss, with the Receive that takes the message,
+/// if that is near.
+fn core_of(run: &Run, evidence: &Evidence) -> Span {
+    match (evidence.stall, evidence.delay) {
+        (Some(stall), Some(delay)) => {
+            let (gap, miss) = (gap_span(stall), miss_span(run, delay));
+            Span {
+                first: gap.first.min(miss.first),
+                to: gap.to.max(miss.to),
+            }
+        }
+        (Some(stall), None) => gap_span(stall),
+        (None, Some(delay)) => miss_span(run, delay),
+        (None, None) => Span { first: 1, to: 1 },
+    }
+}
+
+fn gap_span(stall: Stall) -> Span {
+    Span {
+        first: stall.gap.from.saturating_sub(1),
+        to: stall.gap.to.saturating_add(1),
+    }
+}
+
+fn miss_span(run: &Run, delay: Delay) -> Span {
+    let (first, missed) = (run.tick(delay.miss.sent), run.tick(delay.miss.missed));
+    let taken = match run.taker(delay.miss.sent) {
+        Some(no) => run.tick(no),
+        None => missed,
+    };
+    let is_near = taken.saturating_sub(missed) < delay.ticks.max(20);
+    Span {
+        first,
+        to: if is_near { taken.max(missed) } else { missed },
+    }
+}
+
+/// These ticks with a seventh more at both ends, at least four, as far as the run goes.
+fn padded(run: &Run, core: Span) -> Span {
+    let pad = (core.to.saturating_sub(core.first) / 7).max(4);
+    Span {
+        first: core.first.saturating_sub(pad).max(1),
+        to: core.to.saturating_add(pad).min(run.last()),
+    }
+}
+
+/// All nodes if they are few; else those of the evidence, and those that exchange most messages with them.
+fn lanes_of(run: &Run, evidence: &Evidence, window: Span) -> ProcSet {
+    if run.count() <= FEW_NODES {
+        return ProcSet::all_to(run.count());
+    }
+    let hot = nodes_of(run, evidence);
+    let counts = exchanged(run, hot, window);
+    let mut lanes = hot;
+    for _more in 0..SOME_LANES {
+        if lanes_in(lanes) < SOME_LANES {
+            lanes = with_node(lanes, busiest(counts, lanes));
+        }
+    }
+    lanes
+}
+
+/// The nodes of evidence: who is silent, who sends and who receives.
+pub(crate) fn nodes_of(run: &Run, evidence: &Evidence) -> ProcSet {
+    let mut nodes = ProcSet::empty();
+    if let Some(stall) = evidence.stall {
+        nodes = with_node(nodes, stall.gap.proc);
+    }
+    if let Some(delay) = evidence.delay {
+        nodes = with_node(nodes, run.proc(delay.miss.sent));
+        nodes = with_node(nodes, delay.to);
+    }
+    nodes
+}
+
+fn with_node(nodes: ProcSet, proc: u64) -> ProcSet {
+    if 1 <= proc && proc <= 64 {
+        nodes.with(proc)
+    } else {
+        nodes
+    }
+}
+
+/// How many messages each node exchanges with these nodes in these ticks.
+fn exchanged(run: &Run, hot: ProcSet, window: Span) -> [u64; 65] {
+    let mut counts = [0; 65];
+    let next = run.first_from(window.to.saturating_add(1));
+    for no in run.first_from(window.first)..next {
+        note_exchange(run, hot, no, &mut counts);
+    }
+    counts
+}
+
+/// Counts the messages that this step sends or takes.
+fn note_exchange(run: &Run, hot: ProcSet, no: u64, counts: &mut [u64; 65]) {
+    let Some(step) = run.trace.step(no) else {
+        return;
+    };
+    match &step.act {
+        Act::Send { to } => note_pair(hot, step.proc, *to, counts),
+        Act::Receive { ids, .. } => {
+            for id in ids.as_slice() {
+                note_pair(hot, run.proc(*id), step.proc, counts);
+            }
+        }
+    }
+}
+
+fn note_pair(hot: ProcSet, from: u64, to: u64, counts: &mut [u64; 65]) {
+    if hot.contains(from) {
+        note_node(to, counts);
+    }
+    if hot.contains(to) {
+        note_node(from, counts);
+    }
+}
+
+fn note_node(node: u64, counts: &mut [u64; 65]) {
+    if node < 65 {
+        counts[node as usize] = counts[node as usize].saturating_add(1);
+    }
+}
+
+/// The node with the most messages that isn't among these; 0 if there is none.
+fn busiest(counts: [u64; 65], but: ProcSet) -> u64 {
+    let mut best = 0;
+    let mut most = 0;
+    for p in 1..65 {
+        let count = counts[p as usize];
+        if count > most && !but.contains(p) {
+            best = p;
+            most = count;
+        }
+    }
+    best
+}

@@ -1,0 +1,319 @@
+//! Both bounds over the whole run, as falling lines.
+
+ghost use Rattle.std.specs.Prelude.{◌≤◌};
+
+use crate::pens::Pen;
+use crate::pieces::Piece::{Count, Number, Percent, Text, Ticks};
+use crate::runs::Run;
+use crate::scales::{Span, WIDE, log_of};
+use run_picture::round_step;
+use step_trace::{MAX_TICKS, Row};
+
+/// The height of the picture, in pixels.
+pub(crate) const HEIGHT: u64 = 190;
+
+/// Where the bound 1 or 0 is, and how far above it the greatest one.
+const BOTTOM: u64 = 182;
+
+const FALL: u64 = 160;
+
+/// A greatest bound above this one makes the scale logarithmic.
+const MOST_LINEAR: u64 = 20;
+
+/// Which of the two bounds.
+#[derive(Clone, Copy)]
+pub(crate) enum Bound {
+    Delta,
+    Phi,
+}
+
+impl Bound {
+    fn of(self, row: Row) -> u64 {
+        match self {
+            Bound::Delta => row.delta,
+            Bound::Phi => row.phi,
+        }
+    }
+
+    fn class(self) -> &'static str {
+        match self {
+            Bound::Delta => "dl",
+            Bound::Phi => "phi",
+        }
+    }
+
+    fn letter(self) -> &'static str {
+        match self {
+            Bound::Delta => "Δ ",
+            Bound::Phi => "Φ ",
+        }
+    }
+}
+
+/// The greatest bound of a run, and how high others are.
+#[derive(Clone, Copy)]
+pub(crate) struct Heights {
+    most: u64,
+}
+
+impl Heights {
+    pub(crate) fn of(run: &Run) -> Self {
+        let first = run.row(0);
+        Heights {
+            most: first.delta.max(first.phi).clamp(1, MAX_TICKS + 1),
+        }
+    }
+
+    pub(crate) fn is_log(self) -> bool {
+        self.most > MOST_LINEAR
+    }
+
+    /// The height of a bound, from the top.
+    fn y(self, bound: u64) -> u64
+        ensures { result ≤ BOTTOM }
+    {
+        let bound = bound.min(self.most);
+        let up = if self.is_log() {
+            log_of(bound) * FALL / log_of(self.most).max(1)
+        } else {
+            bound.min(MAX_TICKS + 1) * FALL / self.most.max(1)
+        };
+        BOTTOM.saturating_sub(up)
+    }
+}
+
+/// Writes the picture of both lines, with the calm part shaded.
+pub(crate) fn put_stairs(pen: &mut Pen<'_>, run: &Run<'_>, heights: Heights) {
+    put_stairs_head(pen, run);
+    put_grid(pen, heights);
+    put_shade(pen, run);
+    put_line(pen, run, heights, Bound::Phi);
+    put_line(pen, run, heights, Bound::Delta);
+    put_hints(pen, run);
+    pen.text("</svg>");
+}
+
+fn put_stairs_head(pen: &mut Pen<'_>, run: &Run<'_>) {
+    let (first, calm) = (run.row(0), run.found.calm);
+    pen.put(&[
+        Text("<svg viewBox=\"0 0 "),
+        Number(WIDE),
+        Text(" "),
+        Number(HEIGHT),
+        Text("\" height=\""),
+        Number(HEIGHT),
+        Text(
+            "\" preserveAspectRatio=\"none\" role=\"img\" aria-label=\"The least bounds from each tick to the end. At the start Δ is ",
+        ),
+        Ticks(first.delta),
+        Text(" and Φ is "),
+        Ticks(first.phi),
+    ]);
+    pen.put(&[
+        Text("; from tick "),
+        Number(calm.gst),
+        Text(" on Δ is "),
+        Ticks(calm.delta),
+        Text(" and Φ is "),
+        Ticks(calm.phi),
+        Text(".\">"),
+    ]);
+}
+
+/// Writes lines at round bounds.
+fn put_grid(pen: &mut Pen<'_>, heights: Heights) {
+    for k in 0..8 {
+        if let Some(bound) = round_bound(heights, k) {
+            pen.put(&[
+                Text("<path class=\"gr\" d=\"M0 "),
+                Number(heights.y(bound)),
+                Text("H"),
+                Number(WIDE),
+                Text("\"/>"),
+            ]);
+        }
+    }
+}
+
+const TENS: [u64; 7] = [1, 10, 100, 1_000, 10_000, 100_000, 1_000_000];
+
+/// The round bound of this number, if there is one that is no greater than the greatest.
+fn round_bound(heights: Heights, k: u64) -> Option<u64> {
+    let bound = if heights.is_log() {
+        *TENS.get(k as usize)?
+    } else {
+        round_step(heights.most, 4).saturating_mul(k)
+    };
+    if bound <= heights.most {
+        Some(bound)
+    } else {
+        None
+    }
+}
+
+/// Writes the numbers at the lines of round bounds.
+pub(crate) fn put_numbers(pen: &mut Pen<'_>, heights: Heights) {
+    for k in 0..8 {
+        if let Some(bound) = round_bound(heights, k) {
+            pen.put(&[
+                Text("<span style=\"top:"),
+                Number(heights.y(bound)),
+                Text("px\">"),
+                Count(bound),
+                Text("</span>"),
+            ]);
+        }
+    }
+}
+
+/// Writes a shade over the part of the run from the calm row on, unless it is all.
+fn put_shade(pen: &mut Pen<'_>, run: &Run<'_>) {
+    if run.found.calm_place == 0 {
+        return;
+    }
+    let x = whole(run).edge(run.found.calm.gst);
+    pen.put(&[
+        Text("<rect class=\"calm\" x=\""),
+        Number(x),
+        Text("\" y=\"0\" width=\""),
+        Number(WIDE - x),
+        Text("\" height=\""),
+        Number(HEIGHT),
+        Text("\"/><path class=\"cm\" d=\"M"),
+        Number(x),
+        Text(" 0V"),
+        Number(HEIGHT),
+        Text("\"/>"),
+    ]);
+}
+
+/// All ticks of a run.
+pub(crate) fn whole(run: &Run) -> Span {
+    Span {
+        first: 1,
+        to: run.last(),
+    }
+}
+
+/// Writes the line of one bound: at most two corners in each column of 10 units.
+fn put_line(pen: &mut Pen<'_>, run: &Run<'_>, heights: Heights, bound: Bound) {
+    let mut y = heights.y(bound.of(run.row(0)));
+    pen.put(&[
+        Text("<path class=\"st "),
+        Text(bound.class()),
+        Text("-l\" d=\"M0 "),
+        Number(y),
+    ]);
+    let mut column = 0;
+    for row in run.rows {
+        let x = whole(run).edge(row.gst);
+        let next = heights.y(bound.of(*row));
+        if x / 10 != column {
+            put_corner(pen, y, x, next);
+            column = x / 10;
+        }
+        y = next;
+    }
+    pen.put(&[Text("V"), Number(y), Text("H"), Number(WIDE), Text("\"/>")]);
+}
+
+/// Writes a corner: down to one height, along to a place, and down to another height.
+fn put_corner(pen: &mut Pen<'_>, before: u64, x: u64, y: u64) {
+    pen.put(&[
+        Text("V"),
+        Number(before),
+        Text("H"),
+        Number(x),
+        Text("V"),
+        Number(y),
+    ]);
+}
+
+/// Writes what the bounds are from a row on, for whoever points there: one in each column of 40 units.
+fn put_hints(pen: &mut Pen<'_>, run: &Run<'_>) {
+    let mut column = None;
+    for row in run.rows {
+        let x = whole(run).edge(row.gst);
+        if column != Some(x / 40) {
+            put_hint(pen, *row, x);
+            column = Some(x / 40);
+        }
+    }
+}
+
+fn put_hint(pen: &mut Pen<'_>, row: Row, x: u64) {
+    pen.put(&[
+        Text("<path class=\"hit\" d=\"M"),
+        Number(x),
+        Text(" 0H"),
+        Number(WIDE),
+        Text("V"),
+        Number(HEIGHT),
+        Text("H"),
+        Number(x),
+        Text("z\"><title>from tick "),
+        Number(row.gst),
+    ]);
+    pen.put(&[
+        Text(" on: Δ = "),
+        Ticks(row.delta),
+        Text(", Φ = "),
+        Ticks(row.phi),
+        Text("</title></path>"),
+    ]);
+}
+
+/// Writes the names of both lines, where they begin: the upper one above its line, and the other below if they are near.
+pub(crate) fn put_tops(pen: &mut Pen<'_>, run: &Run<'_>, heights: Heights) {
+    let first = run.row(0);
+    let (upper, lower) = if first.delta > first.phi {
+        (Bound::Delta, Bound::Phi)
+    } else {
+        (Bound::Phi, Bound::Delta)
+    };
+    let (y, y_lower) = (heights.y(upper.of(first)), heights.y(lower.of(first)));
+    let below = if y_lower < y.saturating_add(36) {
+        y_lower.saturating_add(11)
+    } else {
+        y_lower.saturating_sub(9)
+    };
+    pen.text("<div class=\"tops\" aria-hidden=\"true\">");
+    put_top(pen, upper, first, y.saturating_sub(9));
+    put_top(pen, lower, first, below);
+    pen.text("</div>");
+}
+
+fn put_top(pen: &mut Pen<'_>, bound: Bound, first: Row, y: u64) {
+    pen.put(&[
+        Text("<span class=\""),
+        Text(bound.class()),
+        Text("\" style=\"top:"),
+        Number(y),
+        Text("px\">"),
+        Text(bound.letter()),
+        Ticks(bound.of(first)),
+        Text("</span>"),
+    ]);
+}
+
+/// Writes the bounds of the calm row, beside its line.
+pub(crate) fn put_calm_label(pen: &mut Pen<'_>, run: &Run<'_>) {
+    if run.found.calm_place == 0 {
+        return;
+    }
+    let calm = run.found.calm;
+    let x = whole(run).edge(calm.gst);
+    pen.put(&[
+        Text("<span class=\"calmlab"),
+        Text(if x > WIDE * 7 / 10 { " flip" } else { "" }),
+        Text("\" style=\"left:"),
+        Percent(x),
+        Text("\">from tick "),
+        Number(calm.gst),
+        Text(": <b class=\"dl\">Δ "),
+        Ticks(calm.delta),
+        Text("</b>, <b class=\"phi\">Φ "),
+        Ticks(calm.phi),
+        Text("</b></span>"),
+    ]);
+}

@@ -1,0 +1,194 @@
+//! The trace of events with receives of nothing in short silences of processors.
+
+ghost use Rattle.std.specs.Prelude.{◌≡◌, ◌<◌, ◌≤◌, ◌+◌, ◌++◌, Err, IfErr, IfOk, None, OnErr, OnOk, length};
+ghost use Rattle.std.specs.List.{All};
+ghost use Rattle.timed_events.specs.declared.events.EventError.TheVariants as refused;
+ghost use Rattle.timed_events.specs.declared.idle_traces.IdleError.TheVariants as idle;
+ghost use Rattle.timed_events.specs.Checks.{AreMeant};
+ghost use Rattle.timed_events.specs.IdleTicks.{AreIdle, AreRising, IsFree, IsIdleReceive, ticks_of};
+ghost use Rattle.timed_events.specs.IdleTraces.{IsFilled, IsGrown, IsIdleRefusal, IsIdleTimed};
+ghost use Rattle.timed_events.specs.TickedEvents.{AreFit};
+ghost use Rattle.timed_events.specs.Times.{times_refusal};
+
+use crate::events::{Clock, Event, EventAct, EventError};
+use crate::idle_ticks::{IdleTick, idle_ticks};
+use crate::orders::order_of;
+use crate::spread_traces::Moved;
+use crate::ticked_events::{TickedEvents, ticked_events};
+use crate::timed_traces::ordered_by_ticks;
+use std::alloc::{AllocError, Global};
+use step_trace::{MAX_PROCESSORS, MAX_STEPS, MIN_PROCESSORS, Trace};
+
+/// A trace of events with receives of nothing in short silences.
+#[derive(Drop)]
+pub struct IdleTrace {
+    pub trace: Trace,
+    pub moved: Moved,
+    /// How many receives of nothing were added.
+    pub added: u64,
+}
+
+/// Why events make no trace with receives of nothing.
+#[derive(Clone, Copy, Debug, PartialEq, Eq)]
+pub enum IdleError {
+    /// They make no trace.
+    Events(EventError),
+    /// The events and the receives of nothing are more than a trace may have steps.
+    TooManySteps,
+}
+
+impl From<EventError> for IdleError {
+    ghost use Rattle.std.specs.Prelude.{◌≡◌};
+    ghost use Rattle.timed_events.specs.declared.idle_traces.IdleError.TheVariants as idle;
+
+    ghost from_gives = { λ why made. made ≡ idle.Events why };
+
+    fn from(why: EventError) -> Self {
+        IdleError::Events(why)
+    }
+}
+
+impl From<AllocError> for IdleError {
+    ghost use Rattle.std.specs.Prelude.{◌≡◌};
+    ghost use Rattle.timed_events.specs.declared.events.EventError.TheVariants as refused;
+    ghost use Rattle.timed_events.specs.declared.idle_traces.IdleError.TheVariants as idle;
+
+    ghost from_gives = { λ _ made. made ≡ idle.Events refused.Memory };
+
+    fn from(_: AllocError) -> Self {
+        IdleError::Events(EventError::Memory)
+    }
+}
+
+/// The trace of the events as `trace_of_events` makes it, and of a receive of nothing in the last tick of each short silence:
+/// ticks without an event of a processor, at most `limit` of them, from tick 1 or its event before to its next event or
+/// the last tick. The receives stand behind the events in the list.
+///
+/// Asks for the same as `trace_of_events`, and refuses in the same order, by `Events`; TooManySteps comes last but for Memory.
+/// After a refusal the list of events is as it was.
+pub fn idle_trace(
+    alloc: Global,
+    n: u64,
+    events: &mut Vec<Event>,
+    clock: &Clock,
+    spread: bool,
+    limit: u128,
+) -> Result<IdleTrace, IdleError>
+    requires least { MIN_PROCESSORS ≤ n }
+    requires most { n ≤ MAX_PROCESSORS }
+    requires some { 0 < length events.old.items }
+    requires few { length events.old.items ≤ MAX_STEPS }
+    requires meant { AreMeant events.old.items n }
+    requires width { 0 < clock.now.width }
+    ensures trace { IfOk result (λ timed. IsIdleTimed spread n events.old.items clock.now limit timed events.new.items) }
+    ensures unchanged { OnErr result (events.new.items ≡ events.old.items) }
+    ensures refused { IfErr result (λ why. IsIdleRefusal spread n events.old.items clock.now limit why) }
+    ensures more { result ≡ Err (idle.Events refused.Memory) → times_refusal events.old.items clock.now ≡ None }
+{
+    let ticked = ticked_events(alloc, n, events.as_slice(), clock, spread)?;
+    let TickedEvents { ticks, last, moved } = ticked;
+    let idles = idles_of(alloc, n, events.as_slice(), &ticks, last, limit)?;
+    if MAX_STEPS - events.len() < idles.len() {
+        return Err(IdleError::TooManySteps);
+    }
+    let added = idles.len() as u64;
+    let trace = filled_trace(alloc, n, events, ticks, last, &idles)?;
+    Ok(IdleTrace {
+        trace,
+        moved,
+        added,
+    })
+}
+
+/// The last ticks of the short silences.
+fn idles_of(
+    alloc: Global,
+    n: u64,
+    events: &[Event],
+    ticks: &[u32],
+    last: u64,
+    limit: u128,
+) -> Result<Vec<IdleTick>, AllocError>
+    requires most { n ≤ MAX_PROCESSORS }
+    requires few { length events.now ≤ MAX_STEPS }
+    requires meant { AreMeant events.now n }
+    requires fit { AreFit events.now ticks.now last }
+    ensures idle { IfOk result (λ v. AreIdle n events.now ticks.now last limit v.items) }
+    ensures free { IfOk result (λ v. All (IsFree n events.now ticks.now last) v.items) }
+{
+    let order = order_of(alloc, events, ticks)?;
+    idle_ticks(alloc, n, events, ticks, &order, last, limit)
+}
+
+/// The trace of the events in their ticks, and of a receive of nothing in each of the idle ticks, which stand behind the
+/// events then.
+///
+/// After a refusal the events are as they were.
+fn filled_trace(
+    alloc: Global,
+    n: u64,
+    events: &mut Vec<Event>,
+    ticks: Vec<u32>,
+    last: u64,
+    idles: &[IdleTick],
+) -> Result<Trace, AllocError>
+    requires least { MIN_PROCESSORS ≤ n }
+    requires most { n ≤ MAX_PROCESSORS }
+    requires some { 0 < length events.old.items }
+    requires few { length events.old.items + length idles.now ≤ MAX_STEPS }
+    requires meant { AreMeant events.old.items n }
+    requires fit { AreFit events.old.items ticks.items last }
+    requires free { All (IsFree n events.old.items ticks.items last) idles.now }
+    requires rising { AreRising idles.now }
+    ensures trace { IfOk result (λ t. IsFilled n events.old.items events.new.items ticks.items last idles.now t) }
+    ensures unchanged { OnErr result (events.new.items ≡ events.old.items) }
+{
+    let ticks = with_idle_ticks(ticks, idles)?;
+    let count = events.len();
+    add_receives(alloc, idles, events)?;
+    if let Ok(timed) = ordered_by_ticks(alloc, n, events.as_slice(), &ticks, last) {
+        return Ok(timed.trace);
+    }
+    events.truncate(count);
+    Err(AllocError)
+}
+
+/// The ticks, and behind them the idle ones.
+fn with_idle_ticks(ticks: Vec<u32>, idles: &[IdleTick]) -> Result<Vec<u32>, AllocError>
+    ensures { IfOk result (λ v. v.items ≡ ticks.items ++ ticks_of idles.now) }
+{
+    let mut all = ticks;
+    all.reserve(idles.len())?;
+    for idle in idles {
+        all.push_reserved(idle.tick);
+    }
+    Ok(all)
+}
+
+/// Adds a receive of nothing for each of the idle ticks to the events.
+fn add_receives(
+    alloc: Global,
+    idles: &[IdleTick],
+    events: &mut Vec<Event>,
+) -> Result<(), AllocError>
+    ensures grown { OnOk result (IsGrown events.old.items idles.now events.new.items) }
+    ensures unchanged { OnErr result (events.new.items ≡ events.old.items) }
+{
+    events.reserve(idles.len())?;
+    for idle in idles {
+        events.push_reserved(receive_of_nothing(alloc, *idle));
+    }
+    Ok(())
+}
+
+/// A receive of nothing by the processor of an idle tick.
+fn receive_of_nothing(alloc: Global, idle: IdleTick) -> Event
+    ensures { IsIdleReceive idle result }
+{
+    let messages = Vec::new(alloc);
+    Event {
+        time: 0,
+        processor: idle.processor,
+        act: EventAct::Receive { messages },
+    }
+}
