@@ -4,7 +4,6 @@ use Rattle.std.specs.Prelude.{Result, Ok, Err, Option, Some, None, is_ok, nat_lt
 use Rattle.std.proofs.lemmas.Bool.Decides.{nat_tests}
 use Rattle.std.proofs.lemmas.List.{append-nil}
 use Rattle.std.proofs.lemmas.Nat.{div-add-mod', mod_below}
-use Rattle.decision_claims.specs.declared.formulas.Operand.{Operand}
 use Rattle.decision_claims.specs.declared.formulas.Operand.TheVariants.{Number, Delta, Phi, Processors, Faults}
 use Rattle.decision_claims.specs.declared.formulas.Part.{Part}
 use Rattle.decision_claims.specs.declared.formulas.Part.TheVariants.{Value, Plus, Times, Over, Open, Greatest, Comma, Close}
