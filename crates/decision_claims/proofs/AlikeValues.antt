@@ -1,13 +1,11 @@
 -- Values of formulas over numbers that are alike: the same up to a cap, or at most one another.
-use Rattle.std.proofs.Common.{ℕ, ◌≡◌, ◌+◌, ◌*◌, ◌-◌, ◌^◌, ◌<◌, ◌≤◌, ◌↔◌, inl, inr, List, [], ◌∷◌, length, get_or, ◌++◌, reverse, drop, drop-cons, max, min, refl, sym, ap, subst, ◌∙◌, suc, zero, arith}
-use Rattle.std.specs.Int.{div_ceil}
+use Rattle.std.proofs.Common.{ℕ, ◌≡◌, ◌+◌, ◌*◌, ◌-◌, ◌^◌, ◌<◌, ◌≤◌, inl, inr, List, [], ◌∷◌, length, get_or, ◌++◌, reverse, drop, drop-cons, max, min, refl, sym, ap, subst, ◌∙◌, suc, zero, arith}
 use Rattle.std.proofs.lemmas.Bool.{cases_lt}
 use Rattle.std.proofs.lemmas.Grind.{div_ceil_times}
 use Rattle.std.proofs.lemmas.List.{reverse-append}
 use Rattle.std.proofs.lemmas.Nat.{mul-le}
 use Rattle.std.proofs.Math.Nat.{le-mul_of_pos_right, mul_comm, mul_assoc, mul-zero, mul-one, mul-le-mul_right, mul-le-mul_left, add-mul, one-mul}
 use Rattle.decision_claims.specs.declared.formulas.Operand.{Operand}
-use Rattle.decision_claims.specs.declared.formulas.Operand.TheVariants.{Number, Delta, Phi, Processors, Faults}
 use Rattle.decision_claims.specs.declared.formulas.Part.{Part}
 use Rattle.decision_claims.specs.declared.formulas.Part.TheVariants.{Value, Plus, Times, Over, Open, Greatest, Comma, Close}
 use Rattle.decision_claims.specs.declared.formulas.Words.{Words}

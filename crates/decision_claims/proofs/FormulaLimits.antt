@@ -1,5 +1,5 @@
 -- What is read of a text stays within the limits.
-use Rattle.std.proofs.Common.{ℕ, ◌≡◌, ◌≢◌, ◌+◌, ◌-◌, ◌*◌, ◌/◌, ◌%◌, ◌^◌, ◌<◌, ◌≤◌, inl, inr, List, [], ◌∷◌, ◌++◌, length, max, Bool, true, false, ◌&&◌, ◌==◌, refl, sym, ap, subst, ◌∙◌, true≢false, suc, zero, arith}
+use Rattle.std.proofs.Common.{ℕ, ◌≡◌, ◌≢◌, ◌+◌, ◌-◌, ◌*◌, ◌/◌, ◌%◌, ◌^◌, ◌<◌, ◌≤◌, inl, inr, List, [], ◌∷◌, ◌++◌, max, Bool, true, false, ◌&&◌, ◌==◌, refl, sym, ap, subst, ◌∙◌, true≢false, suc, zero, arith}
 use Rattle.std.specs.Prelude.{Result, Ok, Err, Option, Some, None, is_ok, nat_lt, option_to_list, if◌then◌else◌}
 use Rattle.std.proofs.Math.Nat.{mul-one, one-mul, mul_assoc}
 use Rattle.std.proofs.Math.Pow.{pow_mono}
@@ -8,7 +8,6 @@ use Rattle.std.proofs.lemmas.Bool.Decides.{nat_tests}
 use Rattle.std.proofs.lemmas.Grind.{pow_more}
 use Rattle.std.proofs.lemmas.List.{append-nil}
 use Rattle.std.proofs.lemmas.Nat.{div-add-mod', mod_below}
-use Rattle.decision_claims.specs.declared.formulas.Operand.{Operand}
 use Rattle.decision_claims.specs.declared.formulas.Operand.TheVariants.{Number, Delta, Phi, Processors, Faults}
 use Rattle.decision_claims.specs.declared.formulas.Part.{Part}
 use Rattle.decision_claims.specs.declared.formulas.Part.TheVariants.{Value, Plus, Times, Over, Open, Greatest, Comma, Close}

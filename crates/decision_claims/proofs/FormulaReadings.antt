@@ -1,5 +1,5 @@
 -- Texts of formulas, read lexeme by lexeme.
-use Rattle.std.proofs.Common.{ℕ, ◌≡◌, ◌≢◌, ◌+◌, ◌<◌, ◌≤◌, List, [], ◌∷◌, ◌++◌, length, length-append, append_assoc, get_or, drop, take, true, Some, None, Option, refl, sym, ap, ◌∙◌, suc, zero, arith}
+use Rattle.std.proofs.Common.{ℕ, ◌≡◌, ◌≢◌, ◌+◌, ◌<◌, ◌≤◌, List, [], ◌∷◌, ◌++◌, length, length-append, append_assoc, get_or, drop, take, true, Some, refl, sym, ap, ◌∙◌, arith}
 use Rattle.std.specs.Prelude.{Result, Ok, Err, Bool, false, ◌==◌, if◌then◌else◌, option_to_list, slice_index}
 use Rattle.std.specs.List.{slice_range}
 use Rattle.std.proofs.lemmas.List.{append-nil}
@@ -8,7 +8,6 @@ use Rattle.decision_claims.specs.declared.lexemes.Lexeme.{Lexeme}
 use Rattle.decision_claims.specs.declared.lexemes.Lexeme.TheVariants.{Plus, Times, Slash, Open, Comma, Close}
 use Rattle.decision_claims.specs.declared.readings.BadFormula.{BadFormula}
 use Rattle.decision_claims.specs.declared.readings.Move.{Move}
-use Rattle.decision_claims.specs.declared.readings.State.{State}
 use Rattle.decision_claims.specs.declared.formula_texts.Reading.{Reading}
 use Rattle.decision_claims.specs.FormulaTexts.{IsPieceEnd, IsSecond, NeedsMemory, begun, counted, end_by, ended, finished, is_sign, lexemes, lexemes_of, moved, next_by, pieces, read_formula, read_on, sign_lexeme, taken, word_between}
 use Rattle.decision_claims.proofs.FormulaPieces.{end_here, first_here, piece_here, sign_here}

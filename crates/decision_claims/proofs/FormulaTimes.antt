@@ -2,7 +2,7 @@
 use Rattle.std.proofs.Common.{ℕ, ◌≡◌, ◌*◌, ◌≤◌, List, [], ◌∷◌, ◌++◌, min, arith}
 use Rattle.std.proofs.Math.Nat.{mul_comm}
 use Rattle.decision_claims.specs.declared.formulas.Part.{Part}
-use Rattle.decision_claims.specs.Formulas.{IsTimes, Terms, nothing, times_all, value_from}
+use Rattle.decision_claims.specs.Formulas.{IsTimes, nothing, times_all, value_from}
 use Rattle.decision_claims.proofs.AlikeValues.{min_times}
 
 -- a further factor is one of the product of all of them

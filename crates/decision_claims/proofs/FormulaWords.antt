@@ -1,14 +1,13 @@
 -- Words of formulas: which number they write, and where white space stands around them.
-use Rattle.std.proofs.Common.{ℕ, ◌≡◌, ◌≢◌, ◌^◌, ◌<◌, List, [], ◌∷◌, length, Bool, true, false, ◌&&◌, refl, sym, ap, subst, ◌∙◌, true≢false, arith}
-use Rattle.std.specs.Prelude.{Option, Some, None, decimal, nat_lt, bytes_eq, if◌then◌else◌}
+use Rattle.std.proofs.Common.{ℕ, ◌≡◌, ◌≢◌, ◌^◌, ◌<◌, List, [], ◌∷◌, length, Bool, true, false, ◌&&◌, refl, sym, ap, ◌∙◌, arith}
+use Rattle.std.specs.Prelude.{Some, None, decimal, nat_lt, bytes_eq, if◌then◌else◌}
 use Rattle.std.specs.Str.{IsTrimAscii}
 use Rattle.std.specs.Str.Parse.{digits_value}
 use Rattle.std.proofs.lemmas.Bool.Decides.{nat_tests}
 use Rattle.std.proofs.lemmas.Fmt.{decimal_is_IsNumeral}
 use Rattle.std.proofs.lemmas.Slice.Eq.{bytes_eq-Decides}
 use Rattle.std.proofs.lemmas.Str.Ascii.{trim_ascii_is}
-use Rattle.decision_claims.specs.declared.lexemes.Lexeme.{Lexeme}
-use Rattle.decision_claims.specs.FormulaTexts.{number_of, trimmed, word_between, word_lexeme, worded}
+use Rattle.decision_claims.specs.FormulaTexts.{number_of, word_between, word_lexeme, worded}
 
 -- the number whose decimal a word is
 pub number_written : (word : List ℕ) (k : ℕ) → k < 2 ^ 64 → word ≡ decimal k → number_of word ≡ Some k

@@ -1,27 +1,22 @@
 -- Formulas as trees: how their words and signs are read.
-use Rattle.std.proofs.Common.{ℕ, ◌≡◌, ◌+◌, ◌-◌, ◌*◌, ◌/◌, ◌%◌, ◌^◌, ◌<◌, ◌≤◌, ◌⊎◌, inl, inr, List, [], ◌∷◌, ◌++◌, max, Bool, true, false, ◌&&◌, ◌==◌, append_assoc, refl, sym, ap, subst, ◌∙◌, suc, zero, arith}
-use Rattle.std.specs.Prelude.{Result, Ok, Err, Some, None, nat_lt, if◌then◌else◌}
-use Rattle.std.proofs.Math.Nat.{mul_assoc, mul-one, mul-le-mul_left, mul-le-mul_right}
+use Rattle.std.proofs.Common.{ℕ, ◌≡◌, ◌+◌, ◌-◌, ◌*◌, ◌/◌, ◌%◌, ◌^◌, ◌<◌, ◌≤◌, ◌⊎◌, inl, inr, List, [], ◌∷◌, ◌++◌, max, true, ◌==◌, append_assoc, refl, sym, ap, subst, ◌∙◌, suc, zero, arith}
+use Rattle.std.specs.Prelude.{Ok, nat_lt}
+use Rattle.std.proofs.Math.Nat.{mul_assoc, mul-one, mul-le-mul_left}
 use Rattle.std.proofs.Math.Pow.{pow_mono}
 use Rattle.std.proofs.lemmas.Bool.Decides.{nat_tests}
 use Rattle.std.proofs.lemmas.Grind.{pow_more}
 use Rattle.std.proofs.lemmas.List.{append-nil}
 use Rattle.std.proofs.lemmas.Nat.{div-add-mod', mod_below, mul-le}
-use Rattle.decision_claims.specs.declared.formulas.Operand.{Operand}
-use Rattle.decision_claims.specs.declared.formulas.Operand.TheVariants.{Number}
 use Rattle.decision_claims.specs.declared.formulas.Part.{Part}
 use Rattle.decision_claims.specs.declared.formulas.Part.TheVariants.{Value, Plus, Times, Over, Open, Greatest, Comma, Close}
-use Rattle.decision_claims.specs.declared.lexemes.Lexeme.{Lexeme}
 use Rattle.decision_claims.specs.declared.lexemes.Lexeme.TheVariants as lexeme
-use Rattle.decision_claims.specs.declared.readings.BadFormula.{BadFormula}
 use Rattle.decision_claims.specs.declared.readings.BadFormula.TheVariants as bad
-use Rattle.decision_claims.specs.declared.readings.Move.{Move}
 use Rattle.decision_claims.specs.declared.readings.Need.{Need}
 use Rattle.decision_claims.specs.declared.readings.Need.TheVariants as need
 use Rattle.decision_claims.specs.declared.readings.State.{State}
 use Rattle.decision_claims.specs.declared.formula_texts.Reading.{Reading}
-use Rattle.decision_claims.specs.Formulas.{Fits, IsWithinLimits, Terms, divisors}
-use Rattle.decision_claims.specs.FormulaTexts.{after_group, divided, ended, end_by, finished, lexemes, moved, next_of_max, opened, read_formula, read_on, taken}
+use Rattle.decision_claims.specs.Formulas.{Fits, Terms, divisors}
+use Rattle.decision_claims.specs.FormulaTexts.{after_group, divided, finished, moved, next_of_max, opened, read_formula, read_on}
 use Rattle.decision_claims.specs.FormulaTrees.{ArePositive, IsBound, IsFormulaText, Tree, Leaf, Group, Most, Product, Quotient, Sum, Row, binding, marks, parts_of}
 
 abbrev state : Need → ℕ → ℕ → ℕ → State
@@ -120,10 +115,6 @@ comma-here g d k acc l o =
 -- a row stands in a max alone
 abbrev MayStand : Tree → ℕ → Type 0
 MayStand f g = (1 ≤ binding f) ⊎ ((1 < g) × (g % 2 ≡ 1))
-
--- the same with the lists put together otherwise
-same-ends : (g d k : ℕ) (acc ps qs rest : List Part) (p : Part) → (acc ++ ps) ++ p ∷ qs ≡ acc ++ (ps ++ p ∷ qs)
-same-ends g d k acc ps qs rest p = append_assoc acc ps (p ∷ qs)
 
 -- two formulas with a sign between them
 two-read : (g d k : ℕ) (acc ps qs rest : List Part) (p : Part) → (a : IsRead g d k acc ps (p ∷ (qs ++ rest)))

@@ -1,12 +1,11 @@
 -- The values of formulas as trees are those of their parts.
 use Rattle.std.proofs.Common.{ℕ, ◌≡◌, ◌+◌, ◌*◌, ◌≤◌, List, [], ◌∷◌, ◌++◌, max, refl, ap, ◌∙◌, arith}
 use Rattle.std.proofs.Math.Nat.{one-mul}
-use Rattle.decision_claims.specs.declared.formulas.Operand.{Operand}
 use Rattle.decision_claims.specs.declared.formulas.Part.{Part}
-use Rattle.decision_claims.specs.declared.formulas.Part.TheVariants.{Value, Plus, Times, Over, Open, Greatest, Comma, Close}
+use Rattle.decision_claims.specs.declared.formulas.Part.TheVariants.{Plus, Times, Over, Comma, Close}
 use Rattle.decision_claims.specs.declared.formulas.Words.{Words}
 use Rattle.decision_claims.specs.declared.values.Frame.{Frame}
-use Rattle.decision_claims.specs.Formulas.{Tally, nothing, quotient, value_from, value_of, whole, with_part}
+use Rattle.decision_claims.specs.Formulas.{Tally, quotient, value_from, value_of, whole, with_part}
 use Rattle.decision_claims.specs.FormulaTrees.{IsBound, Tree, Leaf, Group, Most, Product, Quotient, Sum, Row, binding, parts_of, tree_value}
 
 -- what was read after these parts
