@@ -15,7 +15,7 @@ use crate::idle_ticks::{IdleTick, idle_ticks};
 use crate::orders::order_of;
 use crate::spread_traces::Moved;
 use crate::ticked_events::{TickedEvents, ticked_events};
-use crate::timed_traces::trace_of_ticks;
+use crate::timed_traces::ordered_by_ticks;
 use std::alloc::{AllocError, Global};
 use step_trace::{MAX_PROCESSORS, MAX_STEPS, MIN_PROCESSORS, Trace};
 
@@ -146,8 +146,8 @@ fn filled_trace(
     let ticks = with_idle_ticks(ticks, idles)?;
     let count = events.len();
     add_receives(alloc, idles, events)?;
-    if let Ok(trace) = trace_of_ticks(alloc, n, events.as_slice(), &ticks, last) {
-        return Ok(trace);
+    if let Ok(ordered) = ordered_by_ticks(alloc, n, events.as_slice(), &ticks, last) {
+        return Ok(ordered.trace);
     }
     events.truncate(count);
     Err(AllocError)

@@ -78,7 +78,7 @@ fn late_message(events: &[Event], hop: Hop) -> LateMessage
 }
 
 /// The time of the event at a place; 0 where there is none.
-fn time_at(events: &[Event], place: usize) -> i128
+pub fn time_at(events: &[Event], place: usize) -> i128
     ensures { result ≡ time_at events.now place }
 {
     match events.get(place) {

@@ -10,17 +10,19 @@ ghost use Rattle.timed_events.specs.declared.cause_cycles.Hop.{Hop};
 ghost use Rattle.timed_events.specs.CauseCycles.{IsCauseCycle};
 ghost use Rattle.timed_events.specs.Causes.{AreSentBefore, IsCausalOrder, IsFirstUnplaceable, IsTimeOrder};
 ghost use Rattle.timed_events.specs.IdleTraces.{IsIdleTimed};
-ghost use Rattle.timed_events.specs.Spreads.{AreLeast, AreSpread, HavePassed, IsTimed};
+ghost use Rattle.timed_events.specs.Spreads.{AreLeast, AreSpread, AreStepPlaces, HavePassed, HasStepsAt, IsTimed};
 ghost use Rattle.timed_events.specs.TimedTraces.{IsTraceOf};
 
 /// The laws of traces of events. Events in their ticks, up to a last tick, have one trace. Events that may be spread,
 /// and of which none is refused, have one list of ticks. So events with times have one trace, and moved in one way.
+/// The places of the events in the order of its steps are those at which its steps are (`placed`).
 ///
 /// Theorems over the definitions: they stand in the contract and quantify over all events, ticks and clocks. Calling
 /// it does nothing.
 pub fn trace_laws()
     ensures one { (n : ℕ) (events : List Event) (ticks : List ℕ) (last : ℕ) (a b : Recorded) → IsTraceOf n events ticks last a → IsTraceOf n events ticks last b → a ≡ b }
     ensures spread_once { (events : List Event) (clock : Clock) (a b : List ℕ) → HavePassed true events clock → AreSpread events clock a → AreSpread events clock b → a ≡ b }
+    ensures placed { (spread : Bool) (n : ℕ) (events : List Event) (clock : Clock) (timed : TimedTrace) (places : List ℕ) → IsTimed spread n events clock timed → AreStepPlaces spread events clock places → HasStepsAt n events places timed.trace }
     ensures timed_once { (spread : Bool) (n : ℕ) (events : List Event) (clock : Clock) (a b : TimedTrace) → IsTimed spread n events clock a → IsTimed spread n events clock b → a ≡ b }
 {}
 

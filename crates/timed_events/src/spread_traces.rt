@@ -2,12 +2,12 @@
 
 ghost use Rattle.std.specs.Prelude.{◌≡◌, ◌<◌, ◌≤◌, ◌+◌, fold, if◌then◌else◌, length, max, nat_lt, true, Err, IfErr, IfOk, None, Some};
 ghost use Rattle.timed_events.specs.Checks.{AreMeant};
-ghost use Rattle.timed_events.specs.Spreads.{moved_of, IsTimed, IsTimedRefusal};
+ghost use Rattle.timed_events.specs.Spreads.{moved_of, AreStepPlaces, IsTimed, IsTimedRefusal};
 ghost use Rattle.timed_events.specs.Times.{times_refusal};
 
 use crate::events::{Clock, Event, EventError};
 use crate::ticked_events::spread_events;
-use crate::timed_traces::{trace_in_time, trace_of_ticks};
+use crate::timed_traces::{OrderedTrace, ordered_by_ticks, ordered_in_time};
 use std::alloc::Global;
 use step_trace::{MAX_PROCESSORS, MAX_STEPS, MIN_PROCESSORS, Trace};
 
@@ -27,6 +27,13 @@ pub struct Moved {
 pub struct TimedTrace {
     pub trace: Trace,
     pub moved: Moved,
+}
+
+/// A trace of events and how far they went, with the places of the events in the order of its steps.
+#[derive(Drop)]
+pub struct PlacedTrace {
+    pub timed: TimedTrace,
+    pub places: Vec<u32>,
 }
 
 /// The trace of the events: of `n` processors of which none may be faulty, all with initial value 0. Each event is in the
@@ -54,16 +61,52 @@ pub fn trace_of_events(
     ensures refused { IfErr result (λ why. IsTimedRefusal spread events.now clock.now why) }
     ensures more { result ≡ Err EventError.Memory → times_refusal events.now clock.now ≡ None }
 {
+    Ok(placed_trace(alloc, n, events, clock, spread)?.timed)
+}
+
+/// The same trace as `trace_of_events`, with the places of the events in the order of its steps.
+///
+/// Asks for and refuses the same.
+pub fn placed_trace(
+    alloc: Global,
+    n: u64,
+    events: &[Event],
+    clock: &Clock,
+    spread: bool,
+) -> Result<PlacedTrace, EventError>
+    requires least { MIN_PROCESSORS ≤ n }
+    requires most { n ≤ MAX_PROCESSORS }
+    requires some { 0 < length events.now }
+    requires few { length events.now ≤ MAX_STEPS }
+    requires meant { AreMeant events.now n }
+    requires width { 0 < clock.now.width }
+    ensures trace { IfOk result (λ placed. IsTimed spread n events.now clock.now placed.timed) }
+    ensures places { IfOk result (λ placed. AreStepPlaces spread events.now clock.now placed.places.items) }
+    ensures refused { IfErr result (λ why. IsTimedRefusal spread events.now clock.now why) }
+    ensures more { result ≡ Err EventError.Memory → times_refusal events.now clock.now ≡ None }
+{
     if spread {
         return spread_trace(alloc, n, events, clock);
     }
-    let trace = trace_in_time(alloc, n, events, clock)?;
+    let ordered = ordered_in_time(alloc, n, events, clock)?;
+    Ok(unmoved(ordered))
+}
+
+/// A trace of events of which none moved.
+fn unmoved(ordered: OrderedTrace) -> PlacedTrace
+    ensures trace { result.timed ≡ record { trace = ordered.trace; moved = record { events = 0; ticks = 0; farthest = None } } }
+    ensures places { result.places.items ≡ ordered.order.items }
+{
+    let OrderedTrace { trace, order } = ordered;
     let moved = Moved {
         events: 0,
         ticks: 0,
         farthest: None,
     };
-    Ok(TimedTrace { trace, moved })
+    PlacedTrace {
+        timed: TimedTrace { trace, moved },
+        places: order,
+    }
 }
 
 /// The trace of the events where they may be spread.
@@ -72,22 +115,27 @@ fn spread_trace(
     n: u64,
     events: &[Event],
     clock: &Clock,
-) -> Result<TimedTrace, EventError>
+) -> Result<PlacedTrace, EventError>
     requires least { MIN_PROCESSORS ≤ n }
     requires most { n ≤ MAX_PROCESSORS }
     requires some { 0 < length events.now }
     requires few { length events.now ≤ MAX_STEPS }
     requires meant { AreMeant events.now n }
     requires width { 0 < clock.now.width }
-    ensures trace { IfOk result (λ timed. IsTimed true n events.now clock.now timed) }
+    ensures trace { IfOk result (λ placed. IsTimed true n events.now clock.now placed.timed) }
+    ensures places { IfOk result (λ placed. AreStepPlaces true events.now clock.now placed.places.items) }
     ensures refused { IfErr result (λ why. IsTimedRefusal true events.now clock.now why) }
     ensures more { result ≡ Err EventError.Memory → times_refusal events.now clock.now ≡ None }
 {
     let ticked = spread_events(alloc, n, events, clock)?;
-    let trace = trace_of_ticks(alloc, n, events, &ticked.ticks, ticked.last)?;
-    Ok(TimedTrace {
-        trace,
+    let ordered = ordered_by_ticks(alloc, n, events, &ticked.ticks, ticked.last)?;
+    let timed = TimedTrace {
+        trace: ordered.trace,
         moved: ticked.moved,
+    };
+    Ok(PlacedTrace {
+        timed,
+        places: ordered.order,
     })
 }
 
