@@ -1,7 +1,7 @@
 #!/usr/bin/env python3
 """What `synchrony import` says of a log, straight from the words of its format: slow, and sharing no line with the program.
 
-    bench/import_oracle.py import LOG [--nodes A,B,..] [--unit U] [--tick W] [--until X] [--spread]
+    bench/import_oracle.py import LOG [--nodes A,B,..] [--unit U] [--tick W] [--until X] [--idle Y] [--spread]
     bench/import_oracle.py --self-test
 
 The first answers as the program should: standard output, standard error and status. The second tries the texts of
@@ -26,6 +26,7 @@ CASES = sorted(glob.glob(f"{HERE}/../tests/cases/import*.cases"))
 TEXT_LIMIT = 67_108_864
 EVENT_LIMIT = 1_000_000
 TICK_LIMIT = 1_000_000
+STEP_LIMIT = 1_000_000
 LAST_NUMBER = 2**64 - 1
 LAST_STAMP = 253_402_207_200_999_999_999
 SECOND = 10**9
@@ -34,6 +35,7 @@ UNITS = {b"s": SECOND, b"ms": 10**6, b"us": 10**3, b"ns": 1}
 NODE_LIMIT = 64
 COLUMNS = (b"time", b"node", b"event", b"to", b"message")
 FEWER_TICKS = b"a greater --tick makes fewer"
+FEWER_STEPS = b"a greater --tick or a shorter --idle makes fewer"
 SHORTER_TICK = b"a shorter --tick sets them apart, and --spread moves one of them"
 SPREAD = b"--spread sets them apart"
 TIMES = (b"a time is a whole number, decimal seconds like 1700000000.123456, or a time stamp like 2026-11-22T10:00:00.250Z; "
@@ -69,6 +71,7 @@ class Options:
     unit: Optional[bytes] = None
     tick: Optional[bytes] = None
     until: Optional[bytes] = None
+    idle: Optional[bytes] = None
     spread: bool = False
     align: bool = False
 
@@ -149,8 +152,8 @@ def is_message(text):
 
 
 def read_options(options):
-    """The list of the nodes, the kind of the times as far as it is told, the tick's length with whether it is a duration, and
-    the end with what it is."""
+    """The list of the nodes, the kind of the times as far as it is told, the tick's length with whether it is a duration,
+    the end with what it is, and the longest silence that is filled, as the tick's length."""
     nodes = None
     if options.nodes is not None:
         nodes = options.nodes.split(b",")
@@ -161,19 +164,24 @@ def read_options(options):
         if options.unit not in UNITS:
             raise Refused(2, b"bad --unit")
         kind = Whole(UNITS[options.unit])
-    width = (1, False)
-    if options.tick is not None:
-        plain, length = number(options.tick), above_zero(options.tick)
-        width = (plain, False) if plain is not None else (length, True)
-        if not width[0]:
-            raise Refused(2, b"bad --tick")
+    width = (1, False) if options.tick is None else length_of(options.tick, b"bad --tick")
     until = None
     if options.until is not None:
         forms = [(number, "number"), (decimal, "nanoseconds"), (stamp, "stamp"), (local, "local"), (duration, "nanoseconds")]
         until = next(((read(options.until), form) for read, form in forms if read(options.until) is not None), None)
         if until is None:
             raise Refused(2, b"bad --until")
-    return nodes, kind, width, until
+    idle = None if options.idle is None else length_of(options.idle, b"bad --idle")
+    return nodes, kind, width, until, idle
+
+
+def length_of(text, why):
+    """A length above 0, with whether it is a duration."""
+    plain, length = number(text), above_zero(text)
+    told = (plain, False) if plain is not None else (length, True)
+    if not told[0]:
+        raise Refused(2, why)
+    return told
 
 
 # The kinds of times: what reads a field, the latest time, whether durations fit, how long a unit of W is, and the ends that
@@ -301,13 +309,17 @@ def numbered(events, listed):
     return nodes, sends
 
 
-def fitted(kind, width, until):
-    """The tick's length and the end as times of this kind are counted; refuses options that don't fit them."""
+def fitted(kind, width, until, idle):
+    """The tick's length, the end and the longest silence as times of this kind are counted; refuses options that don't fit
+    them."""
     if width[1] and not kind.has_durations:
         raise Refused(2, b"--tick does not fit the times")
     if until is not None and until[1] not in kind.ends:
         raise Refused(2, b"--until does not fit the times")
-    return width[0] * (1 if width[1] else kind.unit), None if until is None else until[0] * kind.ends[until[1]]
+    if idle is not None and idle[1] and not kind.has_durations:
+        raise Refused(2, b"--idle does not fit the times")
+    width, idle = (None if it is None else it[0] * (1 if it[1] else kind.unit) for it in (width, idle))
+    return width, None if until is None else until[0] * kind.ends[until[1]], idle
 
 
 def last_tick_of(events, width, until):
@@ -513,6 +525,24 @@ def spread_out(order, sends):
     return sum(by > 0 for by, _ in far), most, min(record for by, record in far if by == most)
 
 
+def idle_receives(events, nodes, last_tick, limit):
+    """A receive of nothing in the last tick of each silence of a node: of each run of ticks without an event of it, as long as
+    can be, if it is no longer than the limit."""
+    filled = []
+    for node in nodes:
+        busy = sorted(it.tick for it in events if it.node == node)
+        for before, after in zip([0, *busy], [*busy, last_tick + 1]):
+            if 1 <= after - before - 1 <= limit:
+                filled.append(Event(-1 - len(filled), 0, node, None, [], after - 1))
+    if len(events) + len(filled) > STEP_LIMIT:
+        refuse_log(b"too many steps", FEWER_STEPS)
+    return filled
+
+
+def counted(count, one, more):
+    return b"%d %b" % (count, one if count == 1 else more)
+
+
 def trace_of(events, nodes, sends, last_tick):
     """The lines of the trace."""
     place = {name: at for at, name in enumerate(nodes, 1)}
@@ -529,7 +559,7 @@ def trace_of(events, nodes, sends, last_tick):
 
 def imported(log, options):
     """The lines of standard output and of standard error for a log that is accepted; an error is one that can't be read."""
-    listed, told_kind, width, until = read_options(options)
+    listed, told_kind, width, until, idle = read_options(options)
     if isinstance(log, OSError):
         trouble = b"is a directory" if isinstance(log, IsADirectoryError) else b"no such file"
         raise Refused(6, b"cannot read", b"%b: %b" % (os.fsencode(log.filename), trouble))
@@ -538,7 +568,7 @@ def imported(log, options):
     records = records_of(log)
     events, kind = events_of(records, places_of(records), listed, told_kind)
     nodes, sends = numbered(events, listed)
-    width, until = fitted(kind, width, until)
+    width, until, idle = fitted(kind, width, until, idle)
     offset = align(events, nodes, sends, kind.latest) if options.align else {}
     last_tick = last_tick_of(events, width, until)
     test_steps(events, sends, options.spread)
@@ -550,6 +580,10 @@ def imported(log, options):
         told.append(b"%d of %d events moved" % (count, len(events)) + far)
         told += late_lines(events, sends)
         last_tick = max(last_tick, max(it.tick for it in events))
+    if idle is not None:
+        filled = idle_receives(events, nodes, last_tick, idle // width)
+        events = [*events, *filled]
+        told.append(counted(len(filled), b"receive", b"receives") + b" of nothing added, in silences of at most " + counted(idle // width, b"tick", b"ticks"))
     return trace_of(events, nodes, sends, last_tick), told
 
 
@@ -590,7 +624,7 @@ def main():
     commands = words.add_subparsers()
     command = commands.add_parser("import")
     command.add_argument("log")
-    for name in ("--nodes", "--unit", "--tick", "--until"):
+    for name in ("--nodes", "--unit", "--tick", "--until", "--idle"):
         command.add_argument(name, type=os.fsencode)
     command.add_argument("--spread", action="store_true")
     command.add_argument("--align", action="store_true")
@@ -599,7 +633,7 @@ def main():
         return self_test()
     if not hasattr(words, "log"):
         command.error("no command")
-    status, output, told = answer(read_log(words.log), Options(words.nodes, words.unit, words.tick, words.until, words.spread, words.align))
+    status, output, told = answer(read_log(words.log), Options(words.nodes, words.unit, words.tick, words.until, words.idle, words.spread, words.align))
     sys.stderr.buffer.write(told)
     sys.stdout.buffer.write(output)
     return status

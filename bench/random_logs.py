@@ -115,6 +115,8 @@ def options_of(chance, log):
         options["tick"] = tick_text(chance, log, options, length)
     if chance.random() < 0.3:
         options["until"] = end_text(chance, log, options, max(it["at"] for it in log.rows) + chance.choice([0, 0, 1, 20]))
+    if chance.random() < 0.3:
+        options["idle"] = tick_text(chance, log, options, length * chance.choice([1, 1, 2, 3, 5, 20]) + chance.randrange(2))
     if log.spread:
         options["spread"] = ""
     if chance.random() < 0.2:
@@ -227,6 +229,10 @@ def bad_tick(chance, log):
     log.options["tick"] = chance.choice(["0", "", "x", "0ms", "1d", "P1D", "007", "1.5", str(GREATEST + 1), "5", "5 parsecs", "5ms ago", "-5ms", "0.0000001ms"])
 
 
+def bad_idle(chance, log):
+    log.options["idle"] = chance.choice(["0", "", "x", "0s", "1d", "007", "2.5", str(GREATEST + 1), "-5ms", "5ms ago"])
+
+
 def bad_until(chance, log):
     log.options["until"] = chance.choice(["", "x", "016", "-5", "5 parsecs", "5.", ".5", "05.5", "1.1234567890", "2026-11-22", str(GREATEST + 1), "2026-11-22T24:00:00Z", "2026-11-22T10:00:00.1234567890Z"])
 
@@ -304,6 +310,10 @@ def too_few_nodes(chance, log):
 
 def tick_of_another_kind(chance, log):
     log.options["tick"] = "5ms"
+
+
+def idle_of_another_kind(chance, log):
+    log.options["idle"] = "5ms"
 
 
 def until_of_another_kind(chance, log):
@@ -412,8 +422,9 @@ def spread_past(chance, log):
 
 
 AIMS = [
-    bad_nodes, bad_unit, bad_tick, bad_until, no_log, no_column, two_columns, bad_fields, bad_time, bad_event, bad_node, bad_message,
-    no_events, too_many_nodes, sent_before, too_few_nodes, unit_of_another_kind, tick_of_another_kind, until_of_another_kind, too_many_ticks,
+    bad_nodes, bad_unit, bad_tick, bad_until, bad_idle, no_log, no_column, two_columns, bad_fields, bad_time, bad_event, bad_node, bad_message,
+    no_events, too_many_nodes, sent_before, too_few_nodes, unit_of_another_kind, tick_of_another_kind, until_of_another_kind,
+    idle_of_another_kind, too_many_ticks,
     never_sent, for_another, received_before, no_later, longer_ticks, second_event, skewed, aligned, aligned, cycle, spread_past,
 ]
 

@@ -101,7 +101,7 @@ pub record IsJudgementPrinted (file : List ℕ) (Judges : Judgement → List ℕ
 
 -- the texts tell these options of a log
 abbrev pub AreImportOptions : ImportOptions → Options → Type 0
-AreImportOptions given o = AreOptions (option_map string_bytes given.nodes) (option_map string_bytes given.unit) (option_map string_bytes given.tick) (option_map string_bytes given.until) given.spread given.align o
+AreImportOptions given o = AreOptions (option_map string_bytes given.nodes) (option_map string_bytes given.unit) (option_map string_bytes given.tick) (option_map string_bytes given.until) (option_map string_bytes given.idle) given.spread given.align o
 
 -- The log is read by these options, and the text is that of its trace in version 2, which is read back as that trace.
 pub record IsTraceOfLog (o : Options) (log out : List ℕ) : Type 0 where
@@ -115,7 +115,7 @@ IsImportFor given log out = (o : Options) × AreImportOptions given o × IsTrace
 
 -- why there is none: the options; or else the log
 abbrev pub IsUnimportedFor : ImportOptions → List ℕ → Fault → Type 0
-IsUnimportedFor given log w = IsImportOptionFault (option_map string_bytes given.nodes) (option_map string_bytes given.unit) (option_map string_bytes given.tick) (option_map string_bytes given.until) w
+IsUnimportedFor given log w = IsImportOptionFault (option_map string_bytes given.nodes) (option_map string_bytes given.unit) (option_map string_bytes given.tick) (option_map string_bytes given.until) (option_map string_bytes given.idle) w
     ⊎ ((o : Options) × AreImportOptions given o × IsUnimported o log w)
 
 -- what is printed for a job, of the text that is lent and, in a check, of the second one, and with which status

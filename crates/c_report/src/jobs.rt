@@ -121,6 +121,7 @@ fn imported(alloc: Global, given: &ImportOptions, text: &[u8]) -> Result<Vec<u8>
         text_in(&given.unit),
         text_in(&given.tick),
         text_in(&given.until),
+        text_in(&given.idle),
         given.spread,
         given.align,
     )?;

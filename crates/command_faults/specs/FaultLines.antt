@@ -28,6 +28,7 @@ import_option_words import_option.Nodes = codes "--nodes"
 import_option_words import_option.Unit = codes "--unit"
 import_option_words import_option.Tick = codes "--tick"
 import_option_words import_option.Until = codes "--until"
+import_option_words import_option.Idle = codes "--idle"
 
 -- the line of a fault, with one more where something is known; that of a refused command line is in its reader's words
 abbrev pub fault_line : Fault → List ℕ

@@ -26,6 +26,7 @@ use Rattle.command_faults.specs.declared.faults.ReportOption.TheVariants as repo
 abbrev pub status_of_log : LogError → ℕ
 status_of_log no_log.TickUnfit = 2
 status_of_log no_log.UntilUnfit = 2
+status_of_log no_log.IdleUnfit = 2
 status_of_log e = 3
 
 -- the exit status of a tick that the trace hasn't: where nothing else can be asked of it, it is that of a refused trace
@@ -91,6 +92,7 @@ fault_of_options no_options.Nodes = fault.Import option.Nodes
 fault_of_options no_options.Unit = fault.Import option.Unit
 fault_of_options no_options.Tick = fault.Import option.Tick
 fault_of_options no_options.Until = fault.Import option.Until
+fault_of_options no_options.Idle = fault.Import option.Idle
 fault_of_options no_options.Memory = fault.Memory
 
 -- the fault that a text which wasn't written whole is

@@ -4,12 +4,13 @@ use Rattle.timed_events.specs.declared.events.Hint.{Hint}
 use Rattle.timed_events.specs.declared.events.Hint.TheVariants.{ShorterTick, Spread}
 use Rattle.event_log.specs.RefusalTexts.{printed}
 use Rattle.event_log.specs.declared.refusals.LogError.{LogError}
-use Rattle.event_log.specs.declared.refusals.LogError.TheVariants.{BadNode, BadTime, TickUnfit, UntilUnfit, TooManyTicks, NotLater, SecondEvent, Cycle, NoOffsets}
+use Rattle.event_log.specs.declared.refusals.LogError.TheVariants.{BadNode, BadTime, TickUnfit, UntilUnfit, IdleUnfit, TooManyTicks, TooManySteps, NotLater, SecondEvent, Cycle, NoOffsets}
 
 -- what stands before the reason of a refused log: nothing where it begins with an option that doesn't fit
 abbrev pub log_lead : LogError → List ℕ
 log_lead TickUnfit = []
 log_lead UntilUnfit = []
+log_lead IdleUnfit = []
 log_lead why = codes "log: "
 
 -- a line of what helps, with the line feed before it
@@ -21,6 +22,7 @@ hint_line (Some Spread) = 10 ∷ codes "synchrony: --spread sets them apart"
 -- the same for a refused log; nothing where nothing helps
 abbrev pub help_line : LogError → List ℕ
 help_line TooManyTicks = 10 ∷ codes "synchrony: a greater --tick makes fewer"
+help_line TooManySteps = 10 ∷ codes "synchrony: a greater --tick or a shorter --idle makes fewer"
 help_line (NotLater number message hint) = hint_line hint
 help_line (SecondEvent number node tick hint) = hint_line hint
 help_line (Cycle number hops) = hops ++ 10 ∷ codes "synchrony: no clocks make this right: the records of a node are out of order, or a message is named wrongly"

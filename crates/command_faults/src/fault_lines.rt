@@ -108,6 +108,7 @@ impl fmt::Display for ImportOption {
             ImportOption::Unit => f.write_str("--unit"),
             ImportOption::Tick => f.write_str("--tick"),
             ImportOption::Until => f.write_str("--until"),
+            ImportOption::Idle => f.write_str("--idle"),
         }
     }
 }

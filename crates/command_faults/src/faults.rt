@@ -119,6 +119,8 @@ pub enum ImportOption {
     Tick,
     /// When the log ends.
     Until,
+    /// The longest time without an event that gets a receive of nothing.
+    Idle,
 }
 
 impl From<AllocError> for Fault {
@@ -222,6 +224,7 @@ impl From<OptionError> for Fault {
             OptionError::Unit => Fault::Import(ImportOption::Unit),
             OptionError::Tick => Fault::Import(ImportOption::Tick),
             OptionError::Until => Fault::Import(ImportOption::Until),
+            OptionError::Idle => Fault::Import(ImportOption::Idle),
             OptionError::Memory => Fault::Memory,
         }
     }
@@ -248,7 +251,7 @@ pub fn status(fault: &Fault) -> u8
         Fault::Command(_) | Fault::Set(_, _) | Fault::Within(_) => 2,
         Fault::Report(ReportOption::Start, _) => 3,
         Fault::Picture(_) | Fault::Report(_, _) | Fault::Import(_) => 2,
-        Fault::Log(LogError::TickUnfit | LogError::UntilUnfit) => 2,
+        Fault::Log(LogError::TickUnfit | LogError::UntilUnfit | LogError::IdleUnfit) => 2,
         Fault::Trace(_) | Fault::Log(_) => 3,
         Fault::Certificate(_) | Fault::Decisions(_) => 4,
         Fault::Memory => 5,

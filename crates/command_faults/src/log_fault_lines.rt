@@ -19,7 +19,7 @@ impl fmt::Display for LogLead<'_> {
 
     fn fmt<W: fmt::Write>(&self, f: &mut fmt::Formatter<W>) -> fmt::Result {
         match self.0 {
-            LogError::TickUnfit | LogError::UntilUnfit => f.write_str(""),
+            LogError::TickUnfit | LogError::UntilUnfit | LogError::IdleUnfit => f.write_str(""),
             _ => f.write_str("log: "),
         }
     }
@@ -38,6 +38,9 @@ impl fmt::Display for HelpLine<'_> {
     fn fmt<W: fmt::Write>(&self, f: &mut fmt::Formatter<W>) -> fmt::Result {
         match self.0 {
             LogError::TooManyTicks => f.write_str("\nsynchrony: a greater --tick makes fewer"),
+            LogError::TooManySteps => f.write_str(
+                "\nsynchrony: a greater --tick or a shorter --idle makes fewer",
+            ),
             LogError::NotLater(_, _, hint) => f.write_str(hint_line(*hint)),
             LogError::SecondEvent(_, _, _, hint) => f.write_str(hint_line(*hint)),
             LogError::Cycle(_, hops) => write!(

@@ -182,6 +182,9 @@ pub struct ImportOptions {
     pub tick: Option<String>,
     /// The time when the log ends: that of its last event where there is none.
     pub until: Option<String>,
+    /// The longest time without an event of a node that gets a receive of nothing, a number or a duration: none does where
+    /// there is none.
+    pub idle: Option<String>,
     /// Whether events may go to later ticks than those of their times.
     pub spread: bool,
     /// Whether the clocks of the nodes are moved, so that each message is received later than it is sent.

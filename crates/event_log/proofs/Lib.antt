@@ -15,3 +15,6 @@ pub mod Views
 pub mod AlignedLogs
 pub mod OneAlignment
 pub mod TimeTexts
+pub mod SeenSilences
+pub mod UnmadeLogs
+pub mod ToldTimes

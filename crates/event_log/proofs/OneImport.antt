@@ -4,14 +4,13 @@ use Rattle.std.specs.Prelude.{◌&&◌, ◌==◌, nat_le, option_map, unwrap_or}
 use Rattle.std.specs.Option.{ok_or}
 use Rattle.std.specs.Borrow.{Bor}
 use Rattle.step_trace.specs.Traces.{Recorded}
+use Rattle.timed_events.specs.declared.events.Clock.{Clock}
 use Rattle.timed_events.specs.declared.lateness.Lateness.{Lateness}
 use Rattle.timed_events.specs.declared.spread_traces.Moved.{Moved}
-use Rattle.timed_events.specs.declared.spread_traces.TimedTrace.{TimedTrace}
-use Rattle.timed_events.specs.Spreads.{IsTimed}
-use Rattle.timed_events.proofs.OneSpread.{IsTimed-unique}
 use Rattle.trace_text.specs.Records.{◌>>=◌, field_of, records_of_text}
 use Rattle.trace_text.specs.declared.byte_loops.TheConstants.{MAX_TEXT_BYTES}
 use Rattle.event_log.specs.declared.columns.Columns.{Columns}
+use Rattle.event_log.specs.declared.imports.IdleReceives.{IdleReceives}
 use Rattle.event_log.specs.declared.imports.Import.{Import}
 use Rattle.event_log.specs.declared.options.Options.{Options}
 use Rattle.event_log.specs.declared.reading.TheConstants.{MAX_EVENTS}
@@ -24,14 +23,15 @@ use Rattle.event_log.specs.declared.times.TimeUnit.{TimeUnit}
 use Rattle.event_log.specs.Alignments.{AreAligned}
 use Rattle.event_log.specs.Columns.{columns_of}
 use Rattle.event_log.specs.Events.{seen}
-use Rattle.event_log.specs.Imports.{IsImportOf, IsRead, clock_in}
+use Rattle.event_log.specs.Imports.{IsImportOf, IsMadeBy, IsRead, clock_in, limit_in}
 use Rattle.event_log.specs.LogRecords.{Said, accepted, are_messages, are_nodes_by, bad_node_by, is_node, moment_as, name_in, said_by, said_of, verb_of}
 use Rattle.event_log.specs.Logs.{SeenLog, resolved_log}
 use Rattle.event_log.specs.Names.{has_name}
 use Rattle.event_log.specs.Stages.{header_stage, names_stage, rules, says_of, staged_log, with_said}
 use Rattle.event_log.specs.Times.{settled}
 use Rattle.event_log.proofs.OneAlignment.{aligned-once}
-use Rattle.event_log.proofs.SeenEvents.{lateness-same, timed-as-seen}
+use Rattle.event_log.proofs.SeenEvents.{lateness-same}
+use Rattle.event_log.proofs.SeenSilences.{made-as-seen, made-once}
 
 -- steps that go on in the same way
 then-same : {A B : Type 0} (r : Result A LogError) (f g : A → Result B LogError) → ((x : A) → f x ≡ g x) → r >>= f ≡ r >>= g
@@ -90,14 +90,14 @@ IsRead-unique o text a b s t = sym s.staged ∙ staged-same o.unit s.listed t.li
 same-Ok : {A : Type 0} {x y : A} → ◌≡◌ {A = Result A LogError} (Ok x) (Ok y) → x ≡ y
 same-Ok e = cc e
 
-same-import : (a b : Import) → a.trace ≡ b.trace → a.nodes ≡ b.nodes → a.moved ≡ b.moved → a.lateness ≡ b.lateness → a.offsets ≡ b.offsets → a ≡ b
-same-import a b t n m l o =
-    ap₂ (λ (trace : Recorded) (nodes : List (List ℕ)). let z : Import = record { trace = trace; nodes = nodes; moved = a.moved; lateness = a.lateness; offsets = a.offsets } in z) t n
-    ∙ ap₂ (λ (moved : Moved) (lateness : Lateness). let z : Import = record { trace = b.trace; nodes = b.nodes; moved = moved; lateness = lateness; offsets = a.offsets } in z) m l
-    ∙ ap (λ (offsets : Option (List ℤ)). let z : Import = record { trace = b.trace; nodes = b.nodes; moved = b.moved; lateness = b.lateness; offsets = offsets } in z) o
+same-import : (a b : Import) → a.trace ≡ b.trace → a.nodes ≡ b.nodes → a.moved ≡ b.moved → a.lateness ≡ b.lateness → a.offsets ≡ b.offsets → a.idle ≡ b.idle → a ≡ b
+same-import a b t n m l o i =
+    ap₂ (λ (trace : Recorded) (nodes : List (List ℕ)). let z : Import = record { trace = trace; nodes = nodes; moved = a.moved; lateness = a.lateness; offsets = a.offsets; idle = a.idle } in z) t n
+    ∙ ap₂ (λ (moved : Moved) (lateness : Lateness). let z : Import = record { trace = b.trace; nodes = b.nodes; moved = moved; lateness = lateness; offsets = a.offsets; idle = a.idle } in z) m l
+    ∙ ap₂ (λ (offsets : Option (List ℤ)) (idle : Option IdleReceives). let z : Import = record { trace = b.trace; nodes = b.nodes; moved = b.moved; lateness = b.lateness; offsets = offsets; idle = idle } in z) o i
 
 pub IsImportOf-unique : (o : Options) (text : List ℕ) (a b : Import) → IsImportOf o text a → IsImportOf o text b → a ≡ b
-IsImportOf-unique o text a b s t = same-import a b (ap (λ x. x.trace) timed) (s.nodes ∙ ap (λ l. l.nodes) log ∙ sym t.nodes) (ap (λ x. x.moved) timed) late one.0 where
+IsImportOf-unique o text a b s t = same-import a b made.0 (s.nodes ∙ ap (λ l. l.nodes) log ∙ sym t.nodes) made.1 late one.0 made.2 where
   log : s.log ≡ t.log
   log = same-Ok (IsRead-unique o text (Ok s.log) (Ok t.log) s.told.read t.told.read)
 
@@ -114,17 +114,15 @@ IsImportOf-unique o text a b s t = same-import a b (ap (λ x. x.trace) timed) (s
   late : a.lateness ≡ b.lateness
   late = s.lateness ∙ sym (lateness-same t.aligned s.aligned one.1) ∙ sym t.lateness
 
-  A : TimedTrace
-  A = record { trace = a.trace; moved = a.moved }
+  limit : s.limit ≡ t.limit
+  limit = same-Ok (sym s.fits_idle ∙ ap₂ (λ (l : SeenLog) (c : Clock). limit_in o l.kind c) log clock ∙ t.fits_idle)
 
-  B : TimedTrace
-  B = record { trace = b.trace; moved = b.moved }
-
-  other : IsTimed o.spread (length s.log.nodes) s.aligned s.clock B
+  other : IsMadeBy s.limit o.spread (length s.log.nodes) s.aligned s.clock b.trace b.moved b.idle
   other =
-      subst (λ l. IsTimed o.spread (length l.nodes) s.aligned s.clock B) (sym log)
-      (subst (λ c. IsTimed o.spread (length t.log.nodes) s.aligned c B) (sym clock)
-      (timed-as-seen t.aligned s.aligned one.1 o.spread (length t.log.nodes) t.clock B t.timed))
+      subst (λ (l : SeenLog). IsMadeBy s.limit o.spread (length l.nodes) s.aligned s.clock b.trace b.moved b.idle) (sym log)
+      (subst (λ (c : Clock). IsMadeBy s.limit o.spread (length t.log.nodes) s.aligned c b.trace b.moved b.idle) (sym clock)
+      (subst (λ (m : Option ℕ). IsMadeBy m o.spread (length t.log.nodes) s.aligned t.clock b.trace b.moved b.idle) (sym limit)
+      (made-as-seen t.aligned s.aligned one.1 t.limit o.spread (length t.log.nodes) t.clock b.trace b.moved b.idle t.made)))
 
-  timed : A ≡ B
-  timed = IsTimed-unique o.spread (length s.log.nodes) s.aligned s.clock A B s.timed other
+  made : (a.trace ≡ b.trace) × (a.moved ≡ b.moved) × (a.idle ≡ b.idle)
+  made = made-once s.limit o.spread (length s.log.nodes) s.aligned s.clock a.trace b.trace a.moved b.moved a.idle b.idle s.made other

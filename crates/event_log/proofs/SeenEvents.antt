@@ -105,10 +105,10 @@ module _ (xs ys : List Event) (same : map seen xs ≡ map seen ys) where
   looks-same : {X : Type 0} (f : Event → X) (g : Seen → X) → ((e : Event) → f e ≡ g (seen e)) → (i : ℕ) (d : X) → option_map_or f (slice_get xs i) d ≡ option_map_or f (slice_get ys i) d
   looks-same f g h i d = look-seen f g h xs i d ∙ ap (λ ss. option_map_or g (slice_get ss i) d) same ∙ sym (look-seen f g h ys i d)
 
-  lengths : length xs ≡ length ys
+  pub lengths : length xs ≡ length ys
   lengths = sym (length-map xs seen) ∙ ap (λ ss. length ss) same ∙ length-map ys seen
 
-  processors : (i : ℕ) → processor_at xs i ≡ processor_at ys i
+  pub processors : (i : ℕ) → processor_at xs i ≡ processor_at ys i
   processors i = looks-same (λ e. e.processor) (λ s. s.processor) (λ e. refl) i 0
 
   times : (i : ℕ) → time_at xs i ≡ time_at ys i
@@ -132,7 +132,7 @@ module _ (xs ys : List Event) (same : map seen xs ≡ map seen ys) where
     firsts : first_time xs ≡ first_time ys
     firsts = first-seen xs ∙ ap first_seen same ∙ sym (first-seen ys)
 
-  own-ticks : (clock : Clock) → time_ticks xs clock ≡ time_ticks ys clock
+  pub own-ticks : (clock : Clock) → time_ticks xs clock ≡ time_ticks ys clock
   own-ticks clock =
       map-seen (time_tick xs clock) xs
       ∙ ap₂ (λ (l : ℤ) (ss : List Seen). map (λ s. unsigned_abs (s.time -ℤ l) / clock.width + 1) ss) least same
@@ -146,7 +146,7 @@ module _ (xs ys : List Event) (same : map seen xs ≡ map seen ys) where
       ap₂ (λ (g : ℤ) (last : ℕ). if int_lt (unwrap_or clock.until g) g then Some UntilTooEarly else if nat_lt MAX_TICKS last then Some TooManyTicks else None)
       greatest (last-ticks clock)
 
-  lasts : (clock : Clock) (ticks : List ℕ) → last_of xs clock ticks ≡ last_of ys clock ticks
+  pub lasts : (clock : Clock) (ticks : List ℕ) → last_of xs clock ticks ≡ last_of ys clock ticks
   lasts clock ticks = ap (λ last. fold max last ticks) (last-ticks clock)
 
   -- the tests
@@ -279,7 +279,7 @@ module _ (xs ys : List Event) (same : map seen xs ≡ map seen ys) where
   steps-same numbers (p ∷ ps) [] h = absurd h
   steps-same numbers (p ∷ ps) (z ∷ zs) h = (step-same numbers p z h.0, steps-same numbers ps zs h.1)
 
-  traces : (n : ℕ) (ticks : List ℕ) (last : ℕ) (trace : Recorded) → IsTraceOf n xs ticks last trace → IsTraceOf n ys ticks last trace
+  pub traces : (n : ℕ) (ticks : List ℕ) (last : ℕ) (trace : Recorded) → IsTraceOf n xs ticks last trace → IsTraceOf n ys ticks last trace
   traces n ticks last trace t = record {
     order = t.order;
     numbers = t.numbers;
@@ -338,7 +338,7 @@ module _ (xs ys : List Event) (same : map seen xs ≡ map seen ys) where
   after-times (Some reason) h = h
   after-times None h = (sym (first-faults xs ys same) ∙ h.0, (h.1.0, causal-order xs ys same h.1.0 h.1.1))
 
-  passed : (spread : Bool) (clock : Clock) → HavePassed spread xs clock → HavePassed spread ys clock
+  pub passed : (spread : Bool) (clock : Clock) → HavePassed spread xs clock → HavePassed spread ys clock
   passed false clock h =
       sym (ap₂ (λ a b. option_or a b) (times-refused xs ys same clock) (refused xs ys same (time_ticks xs clock) ∙ ap (events_refusal ys) (own-ticks xs ys same clock))) ∙ h
   passed true clock h = subst (λ t. IsAfterTimes t ys None) (times-refused xs ys same clock) (after-times (times_refusal xs clock) h)
@@ -349,7 +349,7 @@ module _ (xs ys : List Event) (same : map seen xs ≡ map seen ys) where
     each = λ i l. spread-at xs ys same own ticks i (h.each i (subst (λ n. i < n) (sym (lengths xs ys same)) l));
   }
 
-  ticks-same : (spread : Bool) (clock : Clock) (ticks : List ℕ) → AreTicks spread xs clock ticks → AreTicks spread ys clock ticks
+  pub ticks-same : (spread : Bool) (clock : Clock) (ticks : List ℕ) → AreTicks spread xs clock ticks → AreTicks spread ys clock ticks
   ticks-same false clock ticks h = h ∙ own-ticks xs ys same clock
   ticks-same true clock ticks h = subst (λ own. AreLeast ys own ticks) (own-ticks xs ys same clock) (least-ticks (time_ticks xs clock) ticks h)
 

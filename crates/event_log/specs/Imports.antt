@@ -1,5 +1,5 @@
 -- Logs read as traces.
-use Rattle.std.specs.Prelude.{ℕ, ◌≡◌, ◌+◌, ◌*◌, ◌⊎◌, List, [], map, length, Option, Some, None, Result, Ok, Err, option_map, nat_lt, if◌then◌else◌, slice_get, slice_index_or, unwrap_or, ℤ, pos, true, IfSome, MatchBool, ⊤}
+use Rattle.std.specs.Prelude.{ℕ, ◌≡◌, ◌+◌, ◌*◌, ◌/◌, ◌⊎◌, Bool, List, [], map, length, Option, Some, None, Result, Ok, Err, option_map, nat_lt, if◌then◌else◌, slice_get, slice_index_or, unwrap_or, ℤ, pos, true, IfSome, MatchBool, ⊤}
 use Rattle.std.specs.Borrow.{Bor}
 use Rattle.std.specs.Option.{option_map_or}
 use Rattle.timed_events.specs.declared.cause_cycles.Hop.{Hop}
@@ -13,12 +13,18 @@ use Rattle.timed_events.specs.Causes.{IsFirstUnplaceable}
 use Rattle.timed_events.specs.Checks.{first_fault, processor_at, messages_at}
 use Rattle.timed_events.specs.CauseCycles.{BeginsAtLeast, IsCauseCycle}
 use Rattle.timed_events.specs.Lateness.{lateness_of}
+use Rattle.timed_events.specs.declared.idle_traces.IdleError.{IdleError}
+use Rattle.timed_events.specs.declared.idle_traces.IdleError.TheVariants as filled
+use Rattle.timed_events.specs.declared.spread_traces.Moved.{Moved}
+use Rattle.timed_events.specs.IdleTraces.{IsIdleRefusal, IsIdleTimed}
 use Rattle.timed_events.specs.Spreads.{IsTimed, IsTimedRefusal}
+use Rattle.step_trace.specs.Traces.{Recorded}
 use Rattle.trace_text.specs.Records.{◌>>=◌}
+use Rattle.event_log.specs.declared.imports.IdleReceives.{IdleReceives}
 use Rattle.event_log.specs.declared.imports.Import.{Import}
 use Rattle.event_log.specs.declared.options.Options.{Options}
 use Rattle.event_log.specs.declared.refusals.LogError.{LogError}
-use Rattle.event_log.specs.declared.refusals.LogError.TheVariants.{TickUnfit, UntilUnfit, TooManyTicks, NeverSent, WrongReceiver, ReceivedBefore, NotLater, SecondEvent, Cycle, NoOffsets, TooLate, Memory}
+use Rattle.event_log.specs.declared.refusals.LogError.TheVariants.{TickUnfit, UntilUnfit, IdleUnfit, TooManyTicks, NeverSent, WrongReceiver, ReceivedBefore, NotLater, SecondEvent, Cycle, NoOffsets, TooLate, TooManySteps, Memory}
 use Rattle.event_log.specs.declared.times.LogEnd.{LogEnd}
 use Rattle.event_log.specs.declared.times.LogEnd.TheVariants as end
 use Rattle.event_log.specs.declared.times.TimeKind.{TimeKind}
@@ -78,6 +84,20 @@ until_in k (Some e) = end_in k e >>= λ x. Ok (Some x)
 abbrev pub clock_in : Options → TimeKind → Result Clock LogError
 clock_in o k = width_in k o.width >>= λ w. until_in k o.until >>= λ u. Ok (record { width = w; until = u })
 
+-- a silence as times of this kind are counted: a duration doesn't fit numbers of no unit
+abbrev pub idle_in : TimeKind → Width → Result ℕ LogError
+idle_in k (Units n) = Ok (units_in k n)
+idle_in kind.Number (Nanoseconds n) = Err IdleUnfit
+idle_in k (Nanoseconds n) = Ok n
+
+-- how many ticks of a clock a silence has at most that gets a receive of nothing, where it is told how long it lasts
+abbrev pub limit_of : TimeKind → Option Width → Clock → Result (Option ℕ) LogError
+limit_of k None clock = Ok None
+limit_of k (Some idle) clock = idle_in k idle >>= λ x. Ok (Some (x / clock.width))
+
+abbrev pub limit_in : Options → TimeKind → Clock → Result (Option ℕ) LogError
+limit_in o k clock = limit_of k o.idle clock
+
 -- the processor to which an event sends; 0 in a receive
 abbrev pub sent_to : EventAct → ℕ
 sent_to (act.Send to) = to
@@ -102,6 +122,11 @@ event_place (refused.NotLater i k hint) = i
 event_place (refused.SecondEvent i tick hint) = i
 event_place (refused.Cycle i) = i
 event_place refused.Memory = 0
+
+-- the same, where it may also be that there are too many steps
+abbrev pub idle_place : IdleError → ℕ
+idle_place (filled.Events why) = event_place why
+idle_place filled.TooManySteps = 0
 
 -- nothing is against the messages of the events, and event i is the first in a cycle of causes or behind one
 abbrev pub IsBehindCycle : List Event → ℕ → Type 0
@@ -131,6 +156,15 @@ IsErrorOf text nodes events refused.Memory error = error ≡ Memory
 abbrev pub IsErrorUnlessMemory : List ℕ → List (List ℕ) → List Event → EventError → LogError → Type 0
 IsErrorUnlessMemory text nodes events why error = MatchBool (is_memory error) ⊤ (IsErrorOf text nodes events why error)
 
+-- the refusal of a log for a reason against its events and the receives of nothing
+abbrev pub IsIdleErrorOf : List ℕ → List (List ℕ) → List Event → IdleError → LogError → Type 0
+IsIdleErrorOf text nodes events (filled.Events why) error = IsErrorOf text nodes events why error
+IsIdleErrorOf text nodes events filled.TooManySteps error = error ≡ TooManySteps
+
+-- the same, or want of memory
+abbrev pub IsIdleErrorUnlessMemory : List ℕ → List (List ℕ) → List Event → IdleError → LogError → Type 0
+IsIdleErrorUnlessMemory text nodes events why error = MatchBool (is_memory error) ⊤ (IsIdleErrorOf text nodes events why error)
+
 -- no offsets bring the messages into order, which a cycle of clocks tells, if one is told
 pub record HaveNoOffsets (text : List ℕ) (nodes : List (List ℕ)) (events : List Event) (why : LogError) : Type 0 where
   pub none : (y : ℕ → ℤ) → ¬ AreInOrder events y
@@ -158,6 +192,24 @@ pub record IsRead (o : Options) (text : List ℕ) (answer : Result SeenLog LogEr
 abbrev pub IsReadRefusal : Options → List ℕ → LogError → Type 0
 IsReadRefusal o text why = MatchBool (is_memory why) ⊤ (IsRead o text (Err why))
 
+-- the trace is that of the events, with receives of nothing in silences of at most so many ticks, and this is how many
+pub record IsFilledWith (limit : ℕ) (spread : Bool) (n : ℕ) (events : List Event) (clock : Clock) (trace : Recorded) (moved : Moved) (idle : Option IdleReceives) : Type 0 where
+  pub new : List Event
+  pub added : ℕ
+  pub timed : IsIdleTimed spread n events clock limit (record { trace = trace; moved = moved; added = added }) new
+  pub told : idle ≡ Some (record { count = added; limit = limit })
+
+-- the trace of the events, by how many ticks a silence has at most that gets a receive of nothing, if any does
+abbrev pub IsMadeBy : Option ℕ → Bool → ℕ → List Event → Clock → Recorded → Moved → Option IdleReceives → Type 0
+IsMadeBy None spread n events clock trace moved idle = IsTimed spread n events clock (record { trace = trace; moved = moved }) × (idle ≡ None)
+IsMadeBy (Some limit) spread n events clock trace moved idle = IsFilledWith limit spread n events clock trace moved idle
+
+-- why there is none
+abbrev pub IsUnmadeFor : Option ℕ → Bool → ℕ → List Event → Clock → IdleError → Type 0
+IsUnmadeFor None spread n events clock (filled.Events why) = IsTimedRefusal spread events clock why
+IsUnmadeFor None spread n events clock filled.TooManySteps = ⊥
+IsUnmadeFor (Some limit) spread n events clock why = IsIdleRefusal spread n events clock limit why
+
 -- events and a clock, which a text and options tell
 pub record AreEventsOf (o : Options) (text : List ℕ) (log : SeenLog) (events : List Event) (clock : Clock) : Type 0 where
   pub read : IsRead o text (Ok log)
@@ -173,7 +225,9 @@ pub record IsImportOf (o : Options) (text : List ℕ) (import : Import) : Type 0
   pub told : AreEventsOf o text log events clock
   pub aligned : List Event
   pub clocks : AreAligned o.align (length log.nodes) events import.offsets aligned
-  pub timed : IsTimed o.spread (length log.nodes) aligned clock (record { trace = import.trace; moved = import.moved })
+  pub limit : Option ℕ
+  pub fits_idle : limit_in o log.kind clock ≡ Ok limit
+  pub made : IsMadeBy limit o.spread (length log.nodes) aligned clock import.trace import.moved import.idle
   pub nodes : import.nodes ≡ log.nodes
   pub lateness : import.lateness ≡ lateness_of aligned
 
@@ -181,7 +235,7 @@ pub record IsImportOf (o : Options) (text : List ℕ) (import : Import) : Type 0
 pub record IsUnfit (o : Options) (text : List ℕ) (why : LogError) : Type 0 where
   pub log : SeenLog
   pub read : IsRead o text (Ok log)
-  pub unfit : clock_in o log.kind ≡ Err why
+  pub unfit : (clock_in o log.kind ≡ Err why) ⊎ ((clock : Clock) × (clock_in o log.kind ≡ Ok clock) × (limit_in o log.kind clock ≡ Err why))
 
 -- the events are told, and they make no trace
 pub record IsUntimed (o : Options) (text : List ℕ) (why : LogError) : Type 0 where
@@ -192,9 +246,11 @@ pub record IsUntimed (o : Options) (text : List ℕ) (why : LogError) : Type 0 w
   pub offsets : Option (List ℤ)
   pub aligned : List Event
   pub clocks : AreAligned o.align (length log.nodes) events offsets aligned
-  pub reason : EventError
-  pub untimed : IsTimedRefusal o.spread aligned clock reason
-  pub is : IsErrorOf text log.nodes aligned reason why
+  pub limit : Option ℕ
+  pub fits_idle : limit_in o log.kind clock ≡ Ok limit
+  pub reason : IdleError
+  pub untimed : IsUnmadeFor limit o.spread (length log.nodes) aligned clock reason
+  pub is : IsIdleErrorOf text log.nodes aligned reason why
 
 -- the events are told, and their clocks aren't aligned, though that is asked for
 pub record IsUnaligned (o : Options) (text : List ℕ) (why : LogError) : Type 0 where

@@ -33,6 +33,7 @@ IsNodeFault Why option.Nodes = Why
 IsNodeFault Why option.Unit = ⊥
 IsNodeFault Why option.Tick = ⊥
 IsNodeFault Why option.Until = ⊥
+IsNodeFault Why option.Idle = ⊥
 IsNodeFault Why option.Memory = ⊤
 
 -- the nodes that a text lists; nothing where there is no text
@@ -55,16 +56,23 @@ abbrev pub IsUntilIn : Option (List ℕ) → Option LogEnd → Type 0
 IsUntilIn None until = until ≡ None
 IsUntilIn (Some text) until = (end : LogEnd) × IsEnd text end × (until ≡ Some end)
 
--- the options that the four texts tell
-pub record AreOptions (nodes unit tick until : Option (List ℕ)) (spread align : Bool) (o : Options) : Type 0 where
+-- the longest time without an event that a text tells; nothing where there is no text
+abbrev pub IsIdleIn : Option (List ℕ) → Option Width → Type 0
+IsIdleIn None idle = idle ≡ None
+IsIdleIn (Some text) idle = (width : Width) × IsWidth text width × (idle ≡ Some width)
+
+-- the options that the five texts tell
+pub record AreOptions (nodes unit tick until idle : Option (List ℕ)) (spread align : Bool) (o : Options) : Type 0 where
   pub nodes_are : AreNodesIn nodes o.nodes
   pub unit_is : IsUnitIn unit o.unit
   pub width_is : IsWidthIn tick o.width
   pub until_is : IsUntilIn until o.until
+  pub idle_is : IsIdleIn idle o.idle
   pub spread_is : o.spread ≡ spread
   pub align_is : o.align ≡ align
 
--- a text that lists no nodes, one that names no unit, one that tells no length of a tick, and one that tells no end
+-- a text that lists no nodes, one that names no unit, one that tells no length of a tick or of a silence, and one that tells
+-- no end
 abbrev pub HasBadNodes : Option (List ℕ) → Type 0
 HasBadNodes nodes = (text : List ℕ) × (nodes ≡ Some text) × (¬ AreNodes (parts_between_commas text))
 
@@ -77,18 +85,20 @@ HasBadTick tick = (text : List ℕ) × (tick ≡ Some text) × ((width : Width) 
 abbrev pub HasBadUntil : Option (List ℕ) → Type 0
 HasBadUntil until = (text : List ℕ) × (until ≡ Some text) × ((end : LogEnd) → ¬ IsEnd text end)
 
--- why three texts tell no unit, no length of a tick and no end: the first that is bad, in this order
-abbrev pub IsTimeFault : Option (List ℕ) → Option (List ℕ) → Option (List ℕ) → OptionError → Type 0
-IsTimeFault unit tick until option.Nodes = ⊥
-IsTimeFault unit tick until option.Unit = HasBadUnit unit
-IsTimeFault unit tick until option.Tick = (¬ HasBadUnit unit) × HasBadTick tick
-IsTimeFault unit tick until option.Until = (¬ HasBadUnit unit) × (¬ HasBadTick tick) × HasBadUntil until
-IsTimeFault unit tick until option.Memory = ⊥
+-- why four texts tell no unit, no length of a tick, no end and no length of a silence: the first that is bad, in this order
+abbrev pub IsTimeFault : Option (List ℕ) → Option (List ℕ) → Option (List ℕ) → Option (List ℕ) → OptionError → Type 0
+IsTimeFault unit tick until idle option.Nodes = ⊥
+IsTimeFault unit tick until idle option.Unit = HasBadUnit unit
+IsTimeFault unit tick until idle option.Tick = (¬ HasBadUnit unit) × HasBadTick tick
+IsTimeFault unit tick until idle option.Until = (¬ HasBadUnit unit) × (¬ HasBadTick tick) × HasBadUntil until
+IsTimeFault unit tick until idle option.Idle = (¬ HasBadUnit unit) × (¬ HasBadTick tick) × (¬ HasBadUntil until) × HasBadTick idle
+IsTimeFault unit tick until idle option.Memory = ⊥
 
 -- why the texts tell no options: the first that is bad, in this order; or want of memory
-abbrev pub IsOptionFault : Option (List ℕ) → Option (List ℕ) → Option (List ℕ) → Option (List ℕ) → OptionError → Type 0
-IsOptionFault nodes unit tick until option.Nodes = HasBadNodes nodes
-IsOptionFault nodes unit tick until option.Unit = (¬ HasBadNodes nodes) × HasBadUnit unit
-IsOptionFault nodes unit tick until option.Tick = (¬ HasBadNodes nodes) × (¬ HasBadUnit unit) × HasBadTick tick
-IsOptionFault nodes unit tick until option.Until = (¬ HasBadNodes nodes) × (¬ HasBadUnit unit) × (¬ HasBadTick tick) × HasBadUntil until
-IsOptionFault nodes unit tick until option.Memory = ⊤
+abbrev pub IsOptionFault : Option (List ℕ) → Option (List ℕ) → Option (List ℕ) → Option (List ℕ) → Option (List ℕ) → OptionError → Type 0
+IsOptionFault nodes unit tick until idle option.Nodes = HasBadNodes nodes
+IsOptionFault nodes unit tick until idle option.Unit = (¬ HasBadNodes nodes) × HasBadUnit unit
+IsOptionFault nodes unit tick until idle option.Tick = (¬ HasBadNodes nodes) × (¬ HasBadUnit unit) × HasBadTick tick
+IsOptionFault nodes unit tick until idle option.Until = (¬ HasBadNodes nodes) × (¬ HasBadUnit unit) × (¬ HasBadTick tick) × HasBadUntil until
+IsOptionFault nodes unit tick until idle option.Idle = (¬ HasBadNodes nodes) × (¬ HasBadUnit unit) × (¬ HasBadTick tick) × (¬ HasBadUntil until) × HasBadTick idle
+IsOptionFault nodes unit tick until idle option.Memory = ⊤

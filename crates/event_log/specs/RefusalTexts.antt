@@ -1,7 +1,7 @@
 -- What is told of a refused log.
 use Rattle.std.specs.Prelude.{ℕ, List, ◌++◌, codes, decimal, unwrap_or}
 use Rattle.event_log.specs.declared.refusals.LogError.{LogError}
-use Rattle.event_log.specs.declared.refusals.LogError.TheVariants.{TooLarge, NoColumn, TwoColumns, TooManyEvents, BadFields, BadTime, BadEvent, BadNode, BadMessage, NoEvents, TooManyNodes, SentBefore, TooFewNodes, TickUnfit, UntilUnfit, TooManyTicks, NeverSent, WrongReceiver, ReceivedBefore, NotLater, SecondEvent, Cycle, NoOffsets, TooLate, Memory}
+use Rattle.event_log.specs.declared.refusals.LogError.TheVariants.{TooLarge, NoColumn, TwoColumns, TooManyEvents, BadFields, BadTime, BadEvent, BadNode, BadMessage, NoEvents, TooManyNodes, SentBefore, TooFewNodes, TickUnfit, UntilUnfit, IdleUnfit, TooManyTicks, NeverSent, WrongReceiver, ReceivedBefore, NotLater, SecondEvent, Cycle, NoOffsets, TooLate, TooManySteps, Memory}
 use Rattle.event_log.specs.declared.refusal_texts.Words.{Words}
 use Rattle.event_log.specs.declared.refusal_texts.Words.TheVariants as words
 use Rattle.event_log.specs.Columns.{name_of}
@@ -49,6 +49,7 @@ log_error_text (SentBefore number message) = of_message number message (codes " 
 log_error_text TooFewNodes = codes "too few nodes"
 log_error_text TickUnfit = codes "--tick does not fit the times"
 log_error_text UntilUnfit = codes "--until does not fit the times"
+log_error_text IdleUnfit = codes "--idle does not fit the times"
 log_error_text TooManyTicks = codes "too many ticks"
 log_error_text (NeverSent number message) = of_message number message (codes " was never sent")
 log_error_text (WrongReceiver number message node) = of_message number message (codes " is for " ++ printed node)
@@ -58,4 +59,5 @@ log_error_text (SecondEvent number node tick hint) = in_second number node tick
 log_error_text (Cycle number hops) = in_record number (codes "behind a cycle of messages")
 log_error_text (NoOffsets lines) = codes "no offsets of clocks bring the messages into order"
 log_error_text TooLate = codes "times are too late to align the clocks"
+log_error_text TooManySteps = codes "too many steps"
 log_error_text Memory = codes "out of memory"

@@ -1,16 +1,16 @@
 //! Logs read as traces.
 
-ghost use Rattle.std.specs.Prelude.{◌≡◌, ◌*◌, ◌^◌, ◌<◌, ◌≤◌, ℕ, [], Err, Ok, IfErr, IfOk, length, unwrap_or};
-ghost use Rattle.timed_events.specs.Checks.{AreOfProcessors};
+ghost use Rattle.std.specs.Prelude.{◌≡◌, ◌*◌, ◌^◌, ◌<◌, ◌≤◌, ℕ, [], Err, Ok, IfErr, IfOk, None, OnErr, Some, length, unwrap_or};
+ghost use Rattle.timed_events.specs.Checks.{AreMeant, AreOfProcessors};
 ghost use Rattle.timed_events.specs.Lateness.{lateness_of};
-ghost use Rattle.timed_events.specs.Spreads.{IsTimed, IsTimedRefusal};
-ghost use Rattle.event_log.specs.Imports.{IsBehindCycle, IsErrorUnlessMemory, IsImportOf, IsLogRefusal, IsRead, IsReadRefusal, above_zero, clock_in, end_in, event_place, units_in, until_in, width_in};
+ghost use Rattle.event_log.specs.Imports.{IsBehindCycle, IsIdleErrorUnlessMemory, IsImportOf, IsLogRefusal, IsMadeBy, IsRead, IsReadRefusal, IsUnmadeFor, above_zero, clock_in, end_in, idle_place, units_in, until_in, width_in};
 ghost use Rattle.event_log.specs.Logs.{seen_log};
 ghost use Rattle.event_log.specs.SoundLogs.{IsSound};
 ghost use Rattle.event_log.specs.Times.{nanoseconds_in};
 
 use crate::alignments::{AlignedLog, aligned_log};
 use crate::event_refusals::error_of;
+use crate::idle_limits::limit_for;
 use crate::logs::{NamedEvents, events_of_log};
 use crate::names::NameSet;
 use crate::options::Options;
@@ -19,8 +19,11 @@ use crate::refusals::LogError;
 use crate::times::{LogEnd, TimeKind, TimeUnit, Width, nanoseconds_in};
 use clock_offsets::Offsets;
 use std::alloc::{AllocError, Global};
-use step_trace::Trace;
-use timed_events::{Clock, EventError, Lateness, Moved, TimedTrace, lateness_of, trace_of_events};
+use step_trace::{MAX_PROCESSORS, MAX_STEPS, MIN_PROCESSORS, Trace};
+use timed_events::{
+    Clock, Event, EventError, IdleError, IdleTrace, Lateness, Moved, TimedTrace, idle_trace,
+    lateness_of, trace_of_events,
+};
 use trace_text::MAX_TEXT_BYTES;
 
 /// A log read as a trace.
@@ -36,6 +39,25 @@ pub struct Import {
     pub lateness: Lateness,
     /// By how much the clocks of the nodes were moved, where they were to be aligned.
     pub offsets: Option<Offsets>,
+    /// The receives of nothing that were added, where they were asked for.
+    pub idle: Option<IdleReceives>,
+}
+
+/// Receives of nothing that were added to a trace.
+#[derive(Clone, Copy, Debug, PartialEq, Eq)]
+pub struct IdleReceives {
+    /// How many.
+    pub count: u64,
+    /// How many ticks a silence has at most that got one.
+    pub limit: u128,
+}
+
+/// The trace of a log, how far its events went, and the receives of nothing that were added.
+#[derive(Drop)]
+struct LogTrace {
+    trace: Trace,
+    moved: Moved,
+    idle: Option<IdleReceives>,
 }
 
 /// Reads a log as a trace: each event is one step, in the tick of its time or, where events may be spread, as little later
@@ -55,39 +77,52 @@ pub fn read_log(alloc: Global, text: &[u8], options: &Options) -> Result<Import,
     }
     let log = events_by(alloc, text, options)?;
     let clock = clock_for(options, log.kind)?;
-    let aligned = aligned_log(alloc, text, log, options.align)?;
+    let limit = limit_for(options, log.kind, &clock)?;
+    let mut aligned = aligned_log(alloc, text, log, options.align)?;
     let lateness = lateness_in(alloc, &aligned.log)?;
-    match trace_of_log(alloc, &aligned.log, &clock, options.spread) {
-        Ok(timed) => Ok(import_of(aligned, timed, lateness)),
+    let n = aligned.log.nodes.len() as u64;
+    match trace_of_log(
+        alloc,
+        n,
+        &mut aligned.log.events,
+        &clock,
+        options.spread,
+        limit,
+    ) {
+        Ok(made) => Ok(import_of(aligned, made, lateness)),
         Err(why) => Err(log_error(alloc, text, &aligned.log, why)),
     }
 }
 
 /// The import of an aligned log, of its trace and its late messages.
-fn import_of(aligned: AlignedLog, timed: TimedTrace, lateness: Lateness) -> Import
-    ensures { result ≡ record { trace = timed.trace; nodes = aligned.log.nodes; moved = timed.moved; lateness = lateness; offsets = aligned.offsets } }
+fn import_of(aligned: AlignedLog, made: LogTrace, lateness: Lateness) -> Import
+    ensures { result ≡ record { trace = made.trace; nodes = aligned.log.nodes; moved = made.moved; lateness = lateness; offsets = aligned.offsets; idle = made.idle } }
 {
     let AlignedLog { log, offsets } = aligned;
     Import {
-        trace: timed.trace,
+        trace: made.trace,
         nodes: log.nodes,
-        moved: timed.moved,
+        moved: made.moved,
         lateness,
         offsets,
+        idle: made.idle,
     }
 }
 
 /// The refusal of a log for a reason against its events, or Memory.
 ///
 /// Asks for the same as `error_of`.
-fn log_error(alloc: Global, text: &[u8], log: &NamedEvents, why: EventError) -> LogError
-    requires place { event_place why < MAX_EVENTS }
+fn log_error(alloc: Global, text: &[u8], log: &NamedEvents, why: IdleError) -> LogError
+    requires place { idle_place why < MAX_EVENTS }
     requires few { length log.now.events.items ≤ MAX_EVENTS }
     requires processors { AreOfProcessors log.now.events.items }
-    requires behind { (i : ℕ) → why ≡ EventError.Cycle i → IsBehindCycle log.now.events.items i }
-    ensures { IsErrorUnlessMemory text.now log.now.nodes log.now.events.items why result }
+    requires behind { (i : ℕ) → why ≡ IdleError.Events (EventError.Cycle i) → IsBehindCycle log.now.events.items i }
+    ensures { IsIdleErrorUnlessMemory text.now log.now.nodes log.now.events.items why result }
 {
-    error_of(alloc, text, &log.nodes, log.events.as_slice(), why)
+    match why {
+        IdleError::Events(why) => error_of(alloc, text, &log.nodes, log.events.as_slice(), why),
+        IdleError::TooManySteps => LogError::TooManySteps,
+    }
 }
 
 /// The events that a log records, whose nodes are the listed ones where nodes are listed.
@@ -139,7 +174,7 @@ fn width_for(kind: TimeKind, width: Width) -> Result<u128, LogError>
 }
 
 /// So many units of times of this kind, as these are counted.
-fn units_in(kind: TimeKind, units: u64) -> u128
+pub(crate) fn units_in(kind: TimeKind, units: u64) -> u128
     ensures { result ≡ units_in kind units }
 {
     match kind {
@@ -205,27 +240,55 @@ fn lateness_in(alloc: Global, log: &NamedEvents) -> Result<Lateness, LogError>
     }
 }
 
-/// The trace of the events of a log.
+/// The trace of the events of a log, with receives of nothing in silences of at most so many ticks, if there is a limit. These
+/// stand behind the events then; after a refusal the events are as they were.
 fn trace_of_log(
     alloc: Global,
-    log: &NamedEvents,
+    n: u64,
+    events: &mut Vec<Event>,
     clock: &Clock,
     spread: bool,
-) -> Result<TimedTrace, EventError>
-    requires sound { IsSound (seen_log log.now) }
+    limit: Option<u128>,
+) -> Result<LogTrace, IdleError>
+    requires least { MIN_PROCESSORS ≤ n }
+    requires most { n ≤ MAX_PROCESSORS }
+    requires some { 0 < length events.old.items }
+    requires few { length events.old.items ≤ MAX_STEPS }
+    requires meant { AreMeant events.old.items n }
     requires width { 0 < clock.now.width }
-    ensures trace { IfOk result (λ timed. IsTimed spread (length log.now.nodes) log.now.events.items clock.now timed) }
-    ensures refused { IfErr result (λ why. IsTimedRefusal spread log.now.events.items clock.now why) }
-    ensures place { IfErr result (λ why. event_place why < MAX_EVENTS) }
-    ensures behind { IfErr result (λ why. (i : ℕ) → why ≡ EventError.Cycle i → IsBehindCycle log.now.events.items i) }
-    ensures few { length log.now.events.items ≤ MAX_EVENTS }
-    ensures processors { AreOfProcessors log.now.events.items }
+    ensures trace { IfOk result (λ made. IsMadeBy limit spread n events.old.items clock.now made.trace made.moved made.idle) }
+    ensures unchanged { OnErr result (events.new.items ≡ events.old.items) }
+    ensures refused { IfErr result (λ why. IsUnmadeFor limit spread n events.old.items clock.now why) }
 {
-    trace_of_events(
-        alloc,
-        log.nodes.len() as u64,
-        log.events.as_slice(),
-        clock,
-        spread,
-    )
+    let Some(limit) = limit else {
+        let timed = trace_of_events(alloc, n, events.as_slice(), clock, spread)?;
+        return Ok(plain_trace(timed));
+    };
+    let timed = idle_trace(alloc, n, events, clock, spread, limit)?;
+    Ok(filled_trace(timed, limit))
+}
+
+/// A trace to which nothing was added.
+fn plain_trace(timed: TimedTrace) -> LogTrace
+    ensures { result ≡ record { trace = timed.trace; moved = timed.moved; idle = None } }
+{
+    LogTrace {
+        trace: timed.trace,
+        moved: timed.moved,
+        idle: None,
+    }
+}
+
+/// A trace with receives of nothing in silences of at most so many ticks.
+fn filled_trace(timed: IdleTrace, limit: u128) -> LogTrace
+    ensures { result ≡ record { trace = timed.trace; moved = timed.moved; idle = Some (record { count = timed.added; limit = limit }) } }
+{
+    LogTrace {
+        trace: timed.trace,
+        moved: timed.moved,
+        idle: Some(IdleReceives {
+            count: timed.added,
+            limit,
+        }),
+    }
 }

@@ -8,6 +8,7 @@ mod columns;
 mod event_refusals;
 mod events;
 mod hop_lines;
+mod idle_limits;
 mod imports;
 mod laws;
 mod logs;
@@ -24,7 +25,7 @@ mod times;
 
 pub use columns::Column;
 pub use hop_lines::HopLines;
-pub use imports::{Import, read_log};
+pub use imports::{IdleReceives, Import, read_log};
 pub use laws::log_laws;
 pub use logs::{NamedEvents, events_of_log};
 pub use names::{Name, NameSet};

@@ -1,7 +1,7 @@
 //! How a log is read.
 
 ghost use Rattle.std.specs.Prelude.{◌≡◌, ◌∷◌, [], ◌++◌, Err, IfErr, IfOk, IfSome, IsSome, OnOk, option_map, true, false, None};
-ghost use Rattle.event_log.specs.Options.{AreNodes, AreNodesIn, AreOptions, HasBadNodes, HasBadTick, HasBadUnit, HasBadUntil, IsNodeFault, IsOptionFault, IsTimeFault, IsUnitIn, IsUntilIn, IsWidthIn, is_next_node, parts_between_commas};
+ghost use Rattle.event_log.specs.Options.{AreNodes, AreNodesIn, AreOptions, HasBadNodes, HasBadTick, HasBadUnit, HasBadUntil, IsIdleIn, IsNodeFault, IsOptionFault, IsTimeFault, IsUnitIn, IsUntilIn, IsWidthIn, is_next_node, parts_between_commas};
 
 use crate::names::{MAX_NODES, NameSet, is_name};
 use crate::results::both;
@@ -19,6 +19,8 @@ pub struct Options {
     pub width: Width,
     /// When the log ends, if not with its last event.
     pub until: Option<LogEnd>,
+    /// The longest time without an event of a node that gets a receive of nothing, if any does.
+    pub idle: Option<Width>,
     /// Whether events may go to later ticks than those of their times.
     pub spread: bool,
     /// Whether the clocks of the nodes are moved, so that each message is received later than it is sent.
@@ -36,12 +38,15 @@ pub enum OptionError {
     Tick,
     /// The end is neither a time nor a duration.
     Until,
+    /// The longest time without an event is neither a number nor a duration, or isn't above 0.
+    Idle,
     /// There was no memory.
     Memory,
 }
 
 /// The options that texts tell: the nodes with one comma between each two; the unit of the times, if they are whole numbers of
-/// one; the length of a tick, which is 1 where it is left out; and when the log ends.
+/// one; the length of a tick, which is 1 where it is left out; when the log ends; and the longest time without an event that is
+/// filled.
 ///
 /// Refuses in the order of `OptionError`. Memory comes only where nodes are listed.
 pub fn read_options(
@@ -50,20 +55,23 @@ pub fn read_options(
     unit: Option<&str>,
     tick: Option<&str>,
     until: Option<&str>,
+    idle: Option<&str>,
     spread: bool,
     align: bool,
 ) -> Result<Options, OptionError>
-    ensures options { IfOk result (λ o. AreOptions (option_map (λ t. t.now) nodes.entry) (option_map (λ t. t.now) unit.entry) (option_map (λ t. t.now) tick.entry) (option_map (λ t. t.now) until.entry) spread align o) }
-    ensures refused { IfErr result (λ why. IsOptionFault (option_map (λ t. t.now) nodes.entry) (option_map (λ t. t.now) unit.entry) (option_map (λ t. t.now) tick.entry) (option_map (λ t. t.now) until.entry) why) }
+    ensures options { IfOk result (λ o. AreOptions (option_map (λ t. t.now) nodes.entry) (option_map (λ t. t.now) unit.entry) (option_map (λ t. t.now) tick.entry) (option_map (λ t. t.now) until.entry) (option_map (λ t. t.now) idle.entry) spread align o) }
+    ensures refused { IfErr result (λ why. IsOptionFault (option_map (λ t. t.now) nodes.entry) (option_map (λ t. t.now) unit.entry) (option_map (λ t. t.now) tick.entry) (option_map (λ t. t.now) until.entry) (option_map (λ t. t.now) idle.entry) why) }
     ensures more { result ≡ Err OptionError.Memory → IsSome nodes.entry }
 {
     let nodes = listed_nodes(alloc, nodes);
-    let (nodes, (unit, width, until)) = both(nodes, told_times(unit, tick, until))?;
+    let times = told_times(unit, tick, until, idle);
+    let (nodes, (unit, width, until, idle)) = both(nodes, times)?;
     Ok(Options {
         nodes,
         unit,
         width,
         until,
+        idle,
         spread,
         align,
     })
@@ -82,18 +90,20 @@ fn listed_nodes(alloc: Global, text: Option<&str>) -> Result<Option<NameSet>, Op
     Ok(Some(nodes))
 }
 
-/// The unit of the times, the length of a tick and the end of the log that texts tell.
+/// The unit of the times, the length of a tick, the end of the log and the longest time without an event that texts tell.
 ///
-/// Refuses Unit, Tick and Until, in this order.
+/// Refuses Unit, Tick, Until and Idle, in this order.
 fn told_times(
     unit: Option<&str>,
     tick: Option<&str>,
     until: Option<&str>,
-) -> Result<(Option<TimeUnit>, Width, Option<LogEnd>), OptionError>
+    idle: Option<&str>,
+) -> Result<(Option<TimeUnit>, Width, Option<LogEnd>, Option<Width>), OptionError>
     ensures unit { IfOk result (λ t. IsUnitIn (option_map (λ t. t.now) unit.entry) t.0) }
     ensures width { IfOk result (λ t. IsWidthIn (option_map (λ t. t.now) tick.entry) t.1) }
     ensures until { IfOk result (λ t. IsUntilIn (option_map (λ t. t.now) until.entry) t.2) }
-    ensures refused { IfErr result (IsTimeFault (option_map (λ t. t.now) unit.entry) (option_map (λ t. t.now) tick.entry) (option_map (λ t. t.now) until.entry)) }
+    ensures idle { IfOk result (λ t. IsIdleIn (option_map (λ t. t.now) idle.entry) t.3) }
+    ensures refused { IfErr result (IsTimeFault (option_map (λ t. t.now) unit.entry) (option_map (λ t. t.now) tick.entry) (option_map (λ t. t.now) until.entry) (option_map (λ t. t.now) idle.entry)) }
 {
     let Some(unit) = told_unit(unit) else {
         return Err(OptionError::Unit);
@@ -104,7 +114,10 @@ fn told_times(
     let Some(until) = told_end(until) else {
         return Err(OptionError::Until);
     };
-    Ok((unit, width, until))
+    let Some(idle) = told_idle(idle) else {
+        return Err(OptionError::Idle);
+    };
+    Ok((unit, width, until, idle))
 }
 
 /// The unit that a text names, if there is one.
@@ -142,6 +155,20 @@ fn told_end(text: Option<&str>) -> Option<Option<LogEnd>>
     };
     match read_end(text) {
         Some(end) => Some(Some(end)),
+        None => None,
+    }
+}
+
+/// The longest time without an event that a text tells, if there is one.
+fn told_idle(text: Option<&str>) -> Option<Option<Width>>
+    ensures idle { IfSome result (IsIdleIn (option_map (λ t. t.now) text.entry)) }
+    ensures refused { result ≡ None → HasBadTick (option_map (λ t. t.now) text.entry) }
+{
+    let Some(text) = text else {
+        return Some(None);
+    };
+    match read_width(text) {
+        Some(width) => Some(Some(width)),
         None => None,
     }
 }

@@ -96,6 +96,7 @@ fn words_of(why: &LogError) -> Words<'_>
         LogError::TooFewNodes => Words::Log("too few nodes"),
         LogError::TickUnfit => Words::Log("--tick does not fit the times"),
         LogError::UntilUnfit => Words::Log("--until does not fit the times"),
+        LogError::IdleUnfit => Words::Log("--idle does not fit the times"),
         LogError::TooManyTicks => Words::Log("too many ticks"),
         LogError::NeverSent(no, message) => Words::Message(*no, message, " was never sent"),
         LogError::WrongReceiver(no, message, node) => Words::Receiver(*no, message, node),
@@ -111,6 +112,7 @@ fn words_of(why: &LogError) -> Words<'_>
             Words::Log("no offsets of clocks bring the messages into order")
         }
         LogError::TooLate => Words::Log("times are too late to align the clocks"),
+        LogError::TooManySteps => Words::Log("too many steps"),
         LogError::Memory => Words::Log("out of memory"),
     }
 }

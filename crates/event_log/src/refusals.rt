@@ -41,6 +41,8 @@ pub enum LogError {
     TickUnfit,
     /// The end of the log isn't of the kind of the times, or is before some event.
     UntilUnfit,
+    /// The longest time without an event that is filled is a duration, and the times are numbers.
+    IdleUnfit,
     /// The last tick would be above the greatest that a trace may have.
     TooManyTicks,
     /// No record sent the message.
@@ -59,6 +61,8 @@ pub enum LogError {
     NoOffsets(HopLines),
     /// Where clocks are to be aligned: a time would be later than any of its kind, or a sum of times is too great.
     TooLate,
+    /// The events and the receives of nothing are more than 1,000,000.
+    TooManySteps,
     /// There was no memory.
     Memory,
 }

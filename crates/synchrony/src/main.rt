@@ -195,6 +195,7 @@ fn import(rt: &HostRuntime, job: ImportJob) -> Result<u8, Fault> {
         text_in(&job.options.unit),
         text_in(&job.options.tick),
         text_in(&job.options.until),
+        text_in(&job.options.idle),
         job.options.spread,
         job.options.align,
     )?;

@@ -1,10 +1,11 @@
 -- What is told of a log beside its trace: the notes on it.
-use Rattle.std.specs.Prelude.{ℕ, ◌+◌, List, [], ◌∷◌, ◌++◌, ◌==◌, if◌then◌else◌, length, codes, decimal, Bool, true, false, Option, Some, None, ℤ, pos, int_lt, slice_index_or}
+use Rattle.std.specs.Prelude.{ℕ, ◌+◌, ◌-◌, List, [], ◌∷◌, ◌++◌, ◌==◌, if◌then◌else◌, length, codes, decimal, Bool, true, false, Option, Some, None, ℤ, pos, int_lt, slice_index_or}
 use Rattle.std.specs.Fmt.{signed_decimal}
 use Rattle.std.specs.List.{flat_map, range_with_len}
 use Rattle.timed_events.specs.declared.lateness.LateMessage.{LateMessage}
 use Rattle.timed_events.specs.declared.lateness.Lateness.{Lateness}
 use Rattle.timed_events.specs.declared.spread_traces.Moved.{Moved}
+use Rattle.event_log.specs.declared.imports.IdleReceives.{IdleReceives}
 use Rattle.event_log.specs.declared.imports.Import.{Import}
 use Rattle.event_log.specs.declared.options.Options.{Options}
 use Rattle.event_log.specs.ToldNames.{node_name}
@@ -78,6 +79,25 @@ abbrev pub clock_notes : List (List ℕ) → Option (List ℤ) → List ℕ
 clock_notes nodes None = []
 clock_notes nodes (Some offsets) = clock_lines nodes offsets (length nodes)
 
+-- so many receives of nothing
+abbrev pub receives_words : ℕ → List ℕ
+receives_words count = if count == 1 then codes "1 receive of nothing" else decimal count ++ codes " receives of nothing"
+
+-- the line that tells how many receives of nothing were added, and in which silences
+abbrev pub idle_line : ℕ → ℕ → List ℕ
+idle_line count limit =
+    codes "synchrony: " ++ (receives_words count ++ (codes " added, in silences of at most " ++ (tick_words limit ++ 10 ∷ [])))
+
+-- it is told where silences get such receives
+abbrev pub idle_notes : Option IdleReceives → List ℕ
+idle_notes None = []
+idle_notes (Some idle) = idle_line idle.count idle.limit
+
+-- how many of so many steps are events of a log
+abbrev pub event_count : ℕ → Option IdleReceives → ℕ
+event_count steps None = steps
+event_count steps (Some idle) = steps - idle.count
+
 -- what is told of a log that was read as a trace
 abbrev pub notes_of : Options → Import → List ℕ
-notes_of o import = node_notes o.nodes import.nodes ++ (clock_notes import.nodes import.offsets ++ moved_notes o.spread (length import.trace.steps) import.moved import.lateness)
+notes_of o import = node_notes o.nodes import.nodes ++ (clock_notes import.nodes import.offsets ++ (moved_notes o.spread (event_count (length import.trace.steps) import.idle) import.moved import.lateness ++ idle_notes import.idle))

@@ -17,14 +17,15 @@ use Rattle.command_faults.specs.declared.faults.ImportOption.TheVariants as opti
 use Rattle.text_commands.specs.ImportLines.{notes_of}
 use Rattle.text_commands.specs.Upgrades.{IsUpgradeOf}
 
--- why four texts tell no options: the first of them that is bad; or want of memory
-abbrev pub IsImportOptionFault : Option (List ℕ) → Option (List ℕ) → Option (List ℕ) → Option (List ℕ) → Fault → Type 0
-IsImportOptionFault nodes unit tick until (fault.Import option.Nodes) = IsOptionFault nodes unit tick until no_options.Nodes
-IsImportOptionFault nodes unit tick until (fault.Import option.Unit) = IsOptionFault nodes unit tick until no_options.Unit
-IsImportOptionFault nodes unit tick until (fault.Import option.Tick) = IsOptionFault nodes unit tick until no_options.Tick
-IsImportOptionFault nodes unit tick until (fault.Import option.Until) = IsOptionFault nodes unit tick until no_options.Until
-IsImportOptionFault nodes unit tick until fault.Memory = ⊤
-IsImportOptionFault nodes unit tick until _ = ⊥
+-- why five texts tell no options: the first of them that is bad; or want of memory
+abbrev pub IsImportOptionFault : Option (List ℕ) → Option (List ℕ) → Option (List ℕ) → Option (List ℕ) → Option (List ℕ) → Fault → Type 0
+IsImportOptionFault nodes unit tick until idle (fault.Import option.Nodes) = IsOptionFault nodes unit tick until idle no_options.Nodes
+IsImportOptionFault nodes unit tick until idle (fault.Import option.Unit) = IsOptionFault nodes unit tick until idle no_options.Unit
+IsImportOptionFault nodes unit tick until idle (fault.Import option.Tick) = IsOptionFault nodes unit tick until idle no_options.Tick
+IsImportOptionFault nodes unit tick until idle (fault.Import option.Until) = IsOptionFault nodes unit tick until idle no_options.Until
+IsImportOptionFault nodes unit tick until idle (fault.Import option.Idle) = IsOptionFault nodes unit tick until idle no_options.Idle
+IsImportOptionFault nodes unit tick until idle fault.Memory = ⊤
+IsImportOptionFault nodes unit tick until idle _ = ⊥
 
 -- The first text is a log that is read as a trace, by these options, and the second is the text of that trace in version
 -- 2, which is read back as that trace; and `Told` holds of the notes on it.

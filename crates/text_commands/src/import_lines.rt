@@ -1,16 +1,18 @@
 //! The lines in which it is told how a log was read.
 
 ghost use Rattle.std.specs.Prelude.{◌≡◌, [], IfOk, Some, length, slice_index_or, string_bytes};
-ghost use Rattle.text_commands.specs.ImportLines.{clock_line_at, clock_lines, clock_notes, late_lines, moved_notes, node_lines, notes_of};
+ghost use Rattle.text_commands.specs.ImportLines.{clock_line_at, clock_lines, clock_notes, event_count, late_lines, moved_notes, node_lines, notes_of};
 
+use crate::idle_lines::{event_count, idle_notes};
+use crate::tick_words::Ticks;
 use clock_offsets::Offsets;
 use event_log::{Import, NameSet, Options, printed};
 use std::alloc::{AllocError, Global};
 use std::fmt;
 use timed_events::{LateMessage, Lateness, Moved};
 
-/// What is told of a log that was read as a trace: which processor each node is, where the nodes weren't listed; and how far
-/// events went, where they might.
+/// What is told of a log that was read as a trace: which processor each node is, where the nodes weren't listed; how far
+/// events went, where they might; and how many receives of nothing were added, where they might be.
 pub(crate) fn notes_text(
     alloc: Global,
     options: &Options,
@@ -26,18 +28,20 @@ pub(crate) fn notes_text(
     notes.push_str(clocks.as_str())?;
     let moved = moved_notes(alloc, options.spread, import)?;
     notes.push_str(moved.as_str())?;
+    let idle = idle_notes(alloc, import.idle)?;
+    notes.push_str(idle.as_str())?;
     Ok(notes)
 }
 
 /// How far events went, where they might, and then which messages are late.
 fn moved_notes(alloc: Global, spread: bool, import: &Import) -> Result<String, AllocError>
-    ensures { IfOk result (λ text. string_bytes text ≡ moved_notes spread (length import.now.trace.steps) import.now.moved import.now.lateness) }
+    ensures { IfOk result (λ text. string_bytes text ≡ moved_notes spread (event_count (length import.now.trace.steps) import.now.idle) import.now.moved import.now.lateness) }
 {
     let mut notes = String::new(alloc);
     if spread {
         let line = MovedLine {
             moved: import.moved,
-            count: import.trace.len(),
+            count: event_count(import.trace.len(), import.idle),
         }
         .to_string(alloc)?;
         notes.push_str(line.as_str())?;
@@ -230,27 +234,9 @@ impl fmt::Display for Distance {
             Some(place) => write!(
                 f,
                 ", by at most {} (record {})",
-                Ticks(self.0.ticks),
+                Ticks(u128::from(self.0.ticks)),
                 place as u128 + 2
             ),
-        }
-    }
-}
-
-/// So many ticks.
-#[derive(Clone, Copy)]
-struct Ticks(u64);
-
-impl fmt::Display for Ticks {
-    ghost use Rattle.std.specs.Prelude.{Some};
-    ghost use Rattle.text_commands.specs.ImportLines.{tick_words};
-
-    ghost output = { λ ticks. Some (tick_words ticks.0) };
-
-    fn fmt<W: fmt::Write>(&self, f: &mut fmt::Formatter<W>) -> fmt::Result {
-        match self.0 {
-            1 => f.write_str("1 tick"),
-            ticks => write!(f, "{ticks} ticks"),
         }
     }
 }

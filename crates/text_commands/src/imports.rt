@@ -17,22 +17,24 @@ use std::io::{Read, Write};
 use trace_text::{Counting, write_text};
 
 /// How a log is read, as texts tell it: the nodes, with one comma between each two; the unit of the times, if they are whole
-/// numbers of one; the length of a tick, which is 1 where it is left out; and when the log ends.
+/// numbers of one; the length of a tick, which is 1 where it is left out; when the log ends; and the longest time without an event
+/// that gets a receive of nothing.
 ///
-/// Refuses Import for the first of the four that tells nothing, in this order, and Memory.
+/// Refuses Import for the first of the five that tells nothing, in this order, and Memory.
 pub fn import_options(
     alloc: Global,
     nodes: Option<&str>,
     unit: Option<&str>,
     tick: Option<&str>,
     until: Option<&str>,
+    idle: Option<&str>,
     spread: bool,
     align: bool,
 ) -> Result<Options, Fault>
-    ensures options { IfOk result (λ o. AreOptions (option_map (λ t. t.now) nodes.entry) (option_map (λ t. t.now) unit.entry) (option_map (λ t. t.now) tick.entry) (option_map (λ t. t.now) until.entry) spread align o) }
-    ensures refused { IfErr result (IsImportOptionFault (option_map (λ t. t.now) nodes.entry) (option_map (λ t. t.now) unit.entry) (option_map (λ t. t.now) tick.entry) (option_map (λ t. t.now) until.entry)) }
+    ensures options { IfOk result (λ o. AreOptions (option_map (λ t. t.now) nodes.entry) (option_map (λ t. t.now) unit.entry) (option_map (λ t. t.now) tick.entry) (option_map (λ t. t.now) until.entry) (option_map (λ t. t.now) idle.entry) spread align o) }
+    ensures refused { IfErr result (IsImportOptionFault (option_map (λ t. t.now) nodes.entry) (option_map (λ t. t.now) unit.entry) (option_map (λ t. t.now) tick.entry) (option_map (λ t. t.now) until.entry) (option_map (λ t. t.now) idle.entry)) }
 {
-    Ok(read_options(alloc, nodes, unit, tick, until, spread, align)?)
+    Ok(read_options(alloc, nodes, unit, tick, until, idle, spread, align)?)
 }
 
 /// Reads a log to its end, tells the notes on it, and writes the text of its trace in version 2. The notes are which

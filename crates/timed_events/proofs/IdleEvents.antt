@@ -5,13 +5,12 @@ use Rattle.std.specs.List.{All, list_any}
 use Rattle.std.specs.Option.{option_map_or}
 use Rattle.std.proofs.lemmas.Bool.{cases_lt, lt-ltb}
 use Rattle.std.proofs.lemmas.Grind.{common_steps}
-use Rattle.std.proofs.lemmas.List.{get_or-map, length-map, get_or_append_left, get_or-append_right, append-nil, append_assoc, take_all, take_more, take-append-le}
+use Rattle.std.proofs.lemmas.List.{get_or-map, length-map, get_or_append_left, get_or-append_right, append_assoc, take_more}
 use Rattle.std.proofs.lemmas.List.Elements.{All-weaker}
 use Rattle.std.proofs.lemmas.Option.{same_Some}
 use Rattle.std.proofs.lemmas.Slice.Zip.{AllZip-long}
 use Rattle.step_trace.specs.declared.configurations.TheConstants.{MAX_PROCESSORS}
 use Rattle.step_trace.specs.declared.traces.TheConstants.{MAX_STEPS}
-use Rattle.step_trace.specs.declared.traces.Trace.{Trace}
 use Rattle.timed_events.specs.declared.events.Event.{Event}
 use Rattle.timed_events.specs.declared.events.EventAct.{EventAct}
 use Rattle.timed_events.specs.declared.events.EventAct.TheVariants.{Send, Receive}
@@ -20,9 +19,8 @@ use Rattle.timed_events.specs.declared.idle_ticks.IdleTick.{IdleTick}
 use Rattle.timed_events.specs.Firsts.{any_below}
 use Rattle.timed_events.specs.Checks.{sends_to, received_in, is_message, processor_at, messages_at, is_for, received_before, was_received, late_hint, message_refusal, messages_refusal, moment_of, moment_at, GoesWithin, AreMeant, IsMeantAt, HaveOwnMoments}
 use Rattle.timed_events.specs.IdleTicks.{HasEventIn, IsIdleTick, AreIdle, IsFree, IsOfNothing, IsIdleReceive, AreReceives, AreRising, moments_of, ticks_of}
-use Rattle.timed_events.specs.IdleTraces.{IsGrown, IsFilled}
+use Rattle.timed_events.specs.IdleTraces.{IsGrown}
 use Rattle.timed_events.specs.TickedEvents.{AreFit}
-use Rattle.timed_events.specs.TimedTraces.{IsTraceOf}
 use Rattle.timed_events.proofs.FittingEvents.{named-may}
 use Rattle.timed_events.proofs.Messages.{is_for-inside}
 use Rattle.timed_events.proofs.PassedEvents.{one-at_moment, own-passed}
@@ -232,10 +230,6 @@ zip-push [] (b ∷ added) x e h r = absurd h
 zip-push (a ∷ idles) [] x e h r = absurd h
 zip-push (a ∷ idles) (b ∷ added) x e h r = (h.0, zip-push idles added x e h.1 r)
 
--- no receive so far
-pub grown-start : (events : List Event) (idles : List IdleTick) → IsGrown events (take 0 idles) events
-grown-start events idles = record { added = []; receives = tt; grown = sym (append-nil events) }
-
 -- one receive more
 pub grown-next : (events new : List Event) (idles : List IdleTick) (k : ℕ) (d : IdleTick) (e : Event) → k < length idles → IsGrown events (take k idles) new → IsIdleReceive (get_or idles k d) e → IsGrown events (take (k + 1) idles) (new ++ e ∷ [])
 grown-next events new idles k d e l g r = record {
@@ -245,18 +239,6 @@ grown-next events new idles k d e l g r = record {
 } where
   more : take (k + 1) idles ≡ take k idles ++ get_or idles k d ∷ []
   more = take_more idles k d l
-
-pub grown-all : (events new : List Event) (idles : List IdleTick) (k : ℕ) → length idles ≤ k → IsGrown events (take k idles) new → IsGrown events idles new
-grown-all events new idles k l g = subst (λ xs. IsGrown events xs new) (take_all k idles l) g
-
--- the trace of all
-pub filled : (n : ℕ) (events new : List Event) (ticks all : List ℕ) (last : ℕ) (idles : List IdleTick) (trace : Trace) (g : IsGrown events idles new) → all ≡ ticks ++ ticks_of idles → IsTraceOf n new all last trace → IsFilled n events new ticks last idles trace
-filled n events new ticks all last idles trace g e t = record {
-  added = g.added;
-  receives = g.receives;
-  grown = g.grown;
-  trace = subst (λ xs. IsTraceOf n (events ++ g.added) xs last trace) e (subst (λ xs. IsTraceOf n xs all last trace) g.grown t);
-}
 
 module _ (n : ℕ) (events new : List Event) (ticks all : List ℕ) (last : ℕ) (idles : List IdleTick) (most : n ≤ MAX_PROCESSORS) (meant : AreMeant events n) (fit : AreFit events ticks last) (free : All (IsFree n events ticks last) idles) (rising : AreRising idles) (g : IsGrown events idles new) where
   pub meant-grown : AreMeant new n
@@ -277,10 +259,6 @@ module _ (n : ℕ) (events new : List Event) (ticks all : List ℕ) (last : ℕ)
 
   pub few-slice : (xs : List Event) → xs ≡ new → length events + length idles ≤ MAX_STEPS → length xs ≤ MAX_STEPS
   few-slice xs f few = let a = ap length f in let b = long-grown in omega arith
-
--- the events that were there are the front of the new list
-pub front-grown : (events new : List Event) (idles : List IdleTick) → IsGrown events idles new → take (length events) new ≡ events
-front-grown events new idles g = ap (take (length events)) g.grown ∙ take-append-le (length events) events g.added (omega arith) ∙ take_all (length events) events (omega arith)
 
 pub all-free-if : {X Y : Type 0} (n : ℕ) (events : List Event) (ticks : List ℕ) (last limit : ℕ) (result : Result X Y) (items : X → List IdleTick) → AreFit events ticks last → IfOk result (λ v. AreIdle n events ticks last limit (items v)) → IfOk result (λ v. All (IsFree n events ticks last) (items v))
 all-free-if n events ticks last limit (Ok v) items f h = all-free n events ticks last limit (items v) f h

@@ -146,8 +146,8 @@ fn filled_trace(
     let ticks = with_idle_ticks(ticks, idles)?;
     let count = events.len();
     add_receives(alloc, idles, events)?;
-    if let Ok(timed) = ordered_by_ticks(alloc, n, events.as_slice(), &ticks, last) {
-        return Ok(timed.trace);
+    if let Ok(ordered) = ordered_by_ticks(alloc, n, events.as_slice(), &ticks, last) {
+        return Ok(ordered.trace);
     }
     events.truncate(count);
     Err(AllocError)

@@ -17,6 +17,7 @@ struct Given {
     unit: Option<&'static str>,
     tick: Option<&'static str>,
     until: Option<&'static str>,
+    idle: Option<&'static str>,
     spread: bool,
     align: bool,
 }
@@ -31,6 +32,7 @@ const LISTED: Given = Given {
     unit: None,
     tick: None,
     until: Some("16"),
+    idle: None,
     spread: false,
     align: false,
 };
@@ -44,6 +46,7 @@ const UNLISTED: Given = Given {
     unit: None,
     tick: None,
     until: Some("16"),
+    idle: None,
     spread: false,
     align: false,
 };
@@ -60,6 +63,7 @@ const UNMOVED: Given = Given {
     unit: None,
     tick: None,
     until: Some("16"),
+    idle: None,
     spread: true,
     align: false,
 };
@@ -78,6 +82,7 @@ const SPREAD: Given = Given {
     unit: None,
     tick: None,
     until: None,
+    idle: None,
     spread: true,
     align: false,
 };
@@ -106,6 +111,7 @@ fn options_of(alloc: Global, given: Given) -> Result<Options, Fault> {
         given.unit,
         given.tick,
         given.until,
+        given.idle,
         given.spread,
         given.align,
     )
@@ -226,10 +232,27 @@ const REFUSED: &[(Given, u8, &str)] = &[
     (
         Given {
             until: Some("x"),
+            idle: Some("0"),
             ..LISTED
         },
         2,
         "synchrony: bad --until",
+    ),
+    (
+        Given {
+            idle: Some("0"),
+            ..LISTED
+        },
+        2,
+        "synchrony: bad --idle",
+    ),
+    (
+        Given {
+            idle: Some("5ms"),
+            ..LISTED
+        },
+        2,
+        "synchrony: --idle does not fit the times",
     ),
 ];
 

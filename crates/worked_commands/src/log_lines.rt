@@ -25,7 +25,9 @@ enum Reason {
     TooFewNodes,
     TickUnfit,
     UntilUnfit,
+    IdleUnfit,
     TooManyTicks,
+    TooManySteps,
     NeverSent,
     WrongReceiver,
     ReceivedBefore,
@@ -56,7 +58,9 @@ fn refusal_of(alloc: Global, reason: Reason) -> Result<LogError, AllocError> {
         Reason::TooFewNodes => LogError::TooFewNodes,
         Reason::TickUnfit => LogError::TickUnfit,
         Reason::UntilUnfit => LogError::UntilUnfit,
+        Reason::IdleUnfit => LogError::IdleUnfit,
         Reason::TooManyTicks => LogError::TooManyTicks,
+        Reason::TooManySteps => LogError::TooManySteps,
         Reason::NeverSent => LogError::NeverSent(4, message(alloc)?),
         Reason::WrongReceiver => {
             LogError::WrongReceiver(4, message(alloc)?, Name::new(alloc, b"b")?)
@@ -119,9 +123,19 @@ const REFUSED: &[(Reason, u8, &str)] = &[
         "synchrony: --until does not fit the times",
     ),
     (
+        Reason::IdleUnfit,
+        2,
+        "synchrony: --idle does not fit the times",
+    ),
+    (
         Reason::TooManyTicks,
         3,
         "synchrony: log: too many ticks\nsynchrony: a greater --tick makes fewer",
+    ),
+    (
+        Reason::TooManySteps,
+        3,
+        "synchrony: log: too many steps\nsynchrony: a greater --tick or a shorter --idle makes fewer",
     ),
     (
         Reason::NeverSent,
@@ -216,6 +230,11 @@ const NO_OPTIONS: &[(OptionError, ImportOption, &str)] = &[
         OptionError::Until,
         ImportOption::Until,
         "synchrony: bad --until",
+    ),
+    (
+        OptionError::Idle,
+        ImportOption::Idle,
+        "synchrony: bad --idle",
     ),
 ];
 

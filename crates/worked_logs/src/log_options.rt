@@ -34,6 +34,14 @@ const BAD_ENDS: &[&str] = &[
     "5 parsecs",
 ];
 
+/// The refusal of texts with this longest wait, if they are refused.
+fn refusal_for(alloc: Global, until: Option<&str>, idle: &str) -> Option<OptionError> {
+    match read_options(alloc, None, None, None, until, Some(idle), false, false) {
+        Ok(_) => None,
+        Err(why) => Some(why),
+    }
+}
+
 /// The refusal of four texts, if they are refused.
 fn refusal(
     alloc: Global,
@@ -42,7 +50,7 @@ fn refusal(
     tick: Option<&str>,
     until: Option<&str>,
 ) -> Option<OptionError> {
-    match read_options(alloc, nodes, unit, tick, until, false, false) {
+    match read_options(alloc, nodes, unit, tick, until, None, false, false) {
         Ok(_) => None,
         Err(why) => Some(why),
     }
@@ -66,6 +74,14 @@ fn refuses_in_order(rt: HostRuntime) {
     for until in BAD_ENDS {
         let why = refusal(alloc, None, None, None, Some(until));
         assert_eq!(rt; why, Some(OptionError::Until), "{until}");
+        assert_eq!(rt;
+            refusal_for(alloc, Some(until), "0"),
+            Some(OptionError::Until)
+        );
+    }
+    for idle in BAD_TICKS {
+        let why = refusal_for(alloc, Some("5"), idle);
+        assert_eq!(rt; why, Some(OptionError::Idle), "{idle}");
     }
 }
 
@@ -136,6 +152,7 @@ fn reads_all(rt: HostRuntime) {
         Some("us"),
         Some("1m 30s"),
         until,
+        Some("20ms"),
         true,
         true,
     ) {
@@ -144,6 +161,9 @@ fn reads_all(rt: HostRuntime) {
                 && matches!(options.unit, Some(TimeUnit::Microsecond))
                 && is_in_nanoseconds(options.width, 90_000_000_000)
                 && is_stamp(options.until, 1_500_000_000)
+                && options
+                    .idle
+                    .is_some_and(|idle| is_in_nanoseconds(idle, 20_000_000))
                 && options.spread
                 && options.align
         }
@@ -154,12 +174,13 @@ fn reads_all(rt: HostRuntime) {
 
 #[test]
 fn leaves_out_all(rt: HostRuntime) {
-    let is_read = match read_options(rt.alloc(), None, None, None, None, false, false) {
+    let is_read = match read_options(rt.alloc(), None, None, None, None, None, false, false) {
         Ok(options) => {
             options.nodes.is_none()
                 && options.unit.is_none()
                 && is_in_units(options.width, 1)
                 && options.until.is_none()
+                && options.idle.is_none()
                 && !options.spread
                 && !options.align
         }

@@ -129,7 +129,16 @@ fn ended<T: Threads + Wait + Sync>(
             serve(alloc, &page, &mut trace, &mut output)
         }
         Command::Import(nodes, spread) => {
-            let options = import_options(alloc, nodes, None, Some("1"), Some("15"), spread, false)?;
+            let options = import_options(
+                alloc,
+                nodes,
+                None,
+                Some("1"),
+                Some("15"),
+                Some("2"),
+                spread,
+                false,
+            )?;
             let mut notes = Vec::with_capacity(alloc, ROOM)?;
             let mut notes = Counting::new(&mut notes);
             run_import(alloc, &options, &mut trace, &mut output, &mut notes)

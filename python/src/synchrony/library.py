@@ -253,10 +253,12 @@ def import_log(
     spread: bool = False,
     align: bool = False,
     unit: Optional[str] = None,
+    idle: Union[int, str, None] = None,
 ) -> bytes:
     """The trace of a log, as a text of version 2. Nodes are numbered in the order of `nodes`, or else as the log names them. With
-    `unit`, one of s, ms, us and ns, the times are whole numbers of it."""
-    return _asked("import", log, nodes=nodes, unit=unit, tick=tick, until=until, spread=spread, align=align)
+    `unit`, one of s, ms, us and ns, the times are whole numbers of it. With `idle`, a node without an event for at most so
+    long gets a receive of nothing."""
+    return _asked("import", log, nodes=nodes, unit=unit, tick=tick, until=until, spread=spread, align=align, idle=idle)
 
 
 def frame(trace: Text, correct: Correct) -> pandas.DataFrame:
@@ -312,6 +314,7 @@ OPTIONS: Dict[str, Tuple[str, Optional[Callable[[Any], str]]]] = {
     "nodes": ("--nodes", ",".join),
     "unit": ("--unit", str),
     "tick": ("--tick", str),
+    "idle": ("--idle", str),
     "spread": ("--spread", None),
     "align": ("--align", None),
     "within": ("--within", str),

@@ -26,6 +26,8 @@ const TICK_HELP: &str = "The length of a tick; 1 if it is left out";
 
 const UNTIL_HELP: &str = "When LOG ends; at its last event if it is left out";
 
+const IDLE_HELP: &str = "The longest wait that gets a receive of nothing";
+
 /// The trace that a log stands for, as a text of version 2.
 #[derive(Debug, Drop)]
 pub struct ImportJob {
@@ -45,6 +47,7 @@ pub fn command<'a>(alloc: Global) -> Result<Command<'a>, AllocError>
         optional_argument(alloc, "unit", "U", UNIT_HELP),
         optional_argument(alloc, "tick", "W", TICK_HELP),
         optional_argument(alloc, "until", "X", UNTIL_HELP),
+        optional_argument(alloc, "idle", "Y", IDLE_HELP),
         spread_argument(alloc),
         align_argument(alloc),
     ]?;
@@ -83,7 +86,8 @@ pub fn job(alloc: Global, found: &ArgMatches<'_>) -> Option<Result<Job, LineErro
     let unit = text(found, "unit");
     let tick = text(found, "tick");
     let until = text(found, "until");
-    Some(import(alloc, log, nodes, unit, tick, until, spread, align))
+    let idle = text(found, "idle");
+    Some(import(alloc, log, nodes, unit, tick, until, idle, spread, align))
 }
 
 /// The job of an import with these words.
@@ -94,10 +98,11 @@ fn import(
     unit: Option<&str>,
     tick: Option<&str>,
     until: Option<&str>,
+    idle: Option<&str>,
     spread: bool,
     align: bool,
 ) -> Result<Job, LineError>
-    ensures job { IfOk result (IsImport log.now (option_map (λ t. t.now) nodes.entry) (option_map (λ t. t.now) unit.entry) (option_map (λ t. t.now) tick.entry) (option_map (λ t. t.now) until.entry) spread align) }
+    ensures job { IfOk result (IsImport log.now (option_map (λ t. t.now) nodes.entry) (option_map (λ t. t.now) unit.entry) (option_map (λ t. t.now) tick.entry) (option_map (λ t. t.now) until.entry) (option_map (λ t. t.now) idle.entry) spread align) }
     ensures refused { IfErr result IsMemory }
 {
     let file = String::from_str(alloc, log)?;
@@ -106,6 +111,7 @@ fn import(
         unit: kept(alloc, unit)?,
         tick: kept(alloc, tick)?,
         until: kept(alloc, until)?,
+        idle: kept(alloc, idle)?,
         spread,
         align,
     };
@@ -138,7 +144,7 @@ version 2, whose tick 1 begins at the least time.
                  have no event. Without it nodes are numbered in the order in
                  which the log names them, and standard error tells the numbers
   --unit U       s, ms, us or ns: the times are whole numbers of this unit, and
-                 are counted in nanoseconds; so are whole numbers in W and X
+                 are counted in nanoseconds; so are whole numbers in W, X and Y
   --tick W       a number above 0 in the unit of the times, which is the
                  nanosecond for decimal seconds and time stamps; or a duration
                  above 0, such as 5ms or 1m 30s, unless the times are whole
@@ -147,6 +153,9 @@ version 2, whose tick 1 begins at the least time.
                  is that of X, and without it that of the greatest time. With
                  --unit, and for decimal seconds, also decimal seconds or a
                  duration, which is the time that comes so long after zero
+  --idle Y       Y is written as W is. A node without an event for at most Y gets
+                 a receive of nothing in the last tick of that time, counted in
+                 ticks after --spread; standard error tells how many
   --spread       an event whose tick has an event of its node, or isn't after
                  the send of a message that it took, goes to a later one, no
                  later than needed; standard error tells how far events went
@@ -169,7 +178,11 @@ the farthest event went.
 
 Receives of nothing matter. The communication bound is measured at the Receives
 of the receiver: a log that has only those that took something knows of none
-that came too early, and shows lower bounds than one that has every poll.
+that came too early, and shows lower bounds than one that has every poll. If a
+node waits for events and logs no polls, --idle stands in for them: choose Y
+above the longest wait that is normal, and below the pauses that you look for.
+The communication bound is then that of polls in each tick of these waits. The
+processor bound is still the longest time without a step.
 
 Example, at the top of the repository:
   ./synchrony import examples/heartbeats.log --tick 5 >heartbeats.trace
@@ -184,7 +197,8 @@ Exit status:
   2  the command line is refused; --nodes isn't 2 to 64 different names; --unit
      is another word; --tick is neither a number nor a duration above 0, or is a
      duration if the times are numbers of no unit; --until is neither a time nor
-     a duration, doesn't fit the times, or is before an event
+     a duration, doesn't fit the times, or is before an event; --idle is refused
+     as --tick is
   3  the log is refused; the fault names the record, and the header is record 1
   5  out of memory
   6  LOG can't be opened or read, or the output can't be written

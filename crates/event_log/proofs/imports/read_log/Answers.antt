@@ -1,9 +1,11 @@
-use Rattle.std.proofs.Common.{inl, refl, sym, subst, length}
+use Rattle.std.proofs.Common.{ℕ, ◌<◌, ◌≤◌, List, inl, inr, refl, sym, ap, ◌∙◌, subst, length, arith}
 use Rattle.std.proofs.lemmas.Result.{err_from_is_err_and}
-use Rattle.timed_events.specs.Spreads.{IsTimed}
-use Rattle.event_log.specs.Imports.{IsErrorOf}
+use Rattle.timed_events.specs.Checks.{AreMeant, AreOfProcessors}
+use Rattle.event_log.specs.declared.reading.TheConstants.{MAX_EVENTS}
+use Rattle.event_log.specs.Imports.{IsBehindCycle, IsIdleErrorOf, IsMadeBy, IsUnmadeFor}
 use Rattle.event_log.specs.Logs.{seen_log}
 use Rattle.event_log.proofs.LogRefusals.{large-text, unaligned-refusal, unfit-refusal, untimed-refusal}
+use Rattle.event_log.proofs.UnmadeLogs.{few-events, meant-events, processors-events, some-events, unmade-behind, unmade-place}
 use Rattle.event_log.proofs.imports.read_log.Goals as goal
 
 pub returns-then-text-gt-MAX_TEXT_BYTES-clause-refused : goal.returns-then-text-gt-MAX_TEXT_BYTES-clause-refused
@@ -15,7 +17,16 @@ returns-in_err-clock-clause-refused c =
     rw (p.1, p.2) (unfit-refusal c.args.options.now c.args.text.now c.in_err-clock.field-0.0 (record {
       log = seen_log c.in_ok-log.log;
       read = c.in_ok-log.ensures.read;
-      unfit = sym c.in_err-clock.ensures.clock;
+      unfit = inl (sym c.in_err-clock.ensures.clock);
+    }))
+
+pub returns-in_err-limit-clause-refused : goal.returns-in_err-limit-clause-refused
+returns-in_err-limit-clause-refused c =
+    let p = err_from_is_err_and c.from_residual-in_err-limit.result c.from_residual-in_err-limit.ensures.1 in
+    rw (p.1, p.2) (unfit-refusal c.args.options.now c.args.text.now c.in_err-limit.field-0.0 (record {
+      log = seen_log c.in_ok-log.log;
+      read = c.in_ok-log.ensures.read;
+      unfit = inr (c.in_ok-clock.clock, sym c.in_ok-clock.ensures.clock, sym c.in_err-limit.ensures);
     }))
 
 pub returns-in_err-aligned-clause-refused : goal.returns-in_err-aligned-clause-refused
@@ -37,7 +48,7 @@ returns-in-Err-clause-refused c =
     let log = c.in_ok-log.log in
     let aligned = c.in_ok-aligned.aligned in
     let why = c.in-Err.why in
-    untimed-refusal c.args.options.now c.args.text.now aligned.log.nodes aligned.log.events.items why c.log_error.result c.log_error.ensures
+    untimed-refusal c.args.options.now c.args.text.now aligned.log.nodes c.trace_of_log.new.events.items why c.log_error.result c.log_error.ensures
     (λ same. record {
       log = seen_log log;
       events = log.events.items;
@@ -46,9 +57,12 @@ returns-in-Err-clause-refused c =
       offsets = aligned.offsets;
       aligned = aligned.log.events.items;
       clocks = c.in_ok-aligned.ensures.aligned;
+      limit = c.in_ok-limit.limit;
+      fits_idle = sym c.in_ok-limit.ensures;
       reason = why;
-      untimed = c.in-Err.ensures.refused;
-      is = subst (λ nodes. IsErrorOf c.args.text.now nodes aligned.log.events.items why c.log_error.result) c.in_ok-aligned.ensures.nodes same;
+      untimed = subst (λ n. IsUnmadeFor c.in_ok-limit.limit c.args.options.now.spread n aligned.log.events.items c.in_ok-clock.clock why) (c.len-n.ensures ∙ ap (λ (nodes : List (List ℕ)). length nodes) c.in_ok-aligned.ensures.nodes) c.in-Err.ensures.refused;
+      is = subst (λ nodes. IsIdleErrorOf c.args.text.now nodes aligned.log.events.items why c.log_error.result) c.in_ok-aligned.ensures.nodes
+          (subst (λ events. IsIdleErrorOf c.args.text.now aligned.log.nodes events why c.log_error.result) c.in-Err.ensures.unchanged same);
     })
 
 pub returns-in-Ok-clause-import : goal.returns-in-Ok-clause-import
@@ -62,7 +76,36 @@ returns-in-Ok-clause-import c =
       told = record { read = c.in_ok-log.ensures.read; same = refl; fits = sym c.in_ok-clock.ensures.clock };
       aligned = aligned.log.events.items;
       clocks = c.in_ok-aligned.ensures.aligned;
-      timed = subst (λ nodes. IsTimed c.args.options.now.spread (length nodes) aligned.log.events.items c.in_ok-clock.clock (record { trace = c.in-Ok.timed.trace; moved = c.in-Ok.timed.moved })) c.in_ok-aligned.ensures.nodes c.in-Ok.ensures.trace;
+      limit = c.in_ok-limit.limit;
+      fits_idle = sym c.in_ok-limit.ensures;
+      made = subst (λ n. IsMadeBy c.in_ok-limit.limit c.args.options.now.spread n aligned.log.events.items c.in_ok-clock.clock c.in-Ok.made.trace c.in-Ok.made.moved c.in-Ok.made.idle) (c.len-n.ensures ∙ ap (λ (nodes : List (List ℕ)). length nodes) c.in_ok-aligned.ensures.nodes) c.in-Ok.ensures.trace;
       nodes = c.in_ok-aligned.ensures.nodes;
       lateness = c.in_ok-lateness.ensures.lateness;
     })
+
+pub trace_of_log-requires-clause-least : goal.trace_of_log-requires-clause-least
+trace_of_log-requires-clause-least c = let two = c.in_ok-aligned.ensures.sound.two in let n = c.len-n.ensures in omega arith
+
+pub trace_of_log-requires-clause-most : goal.trace_of_log-requires-clause-most
+trace_of_log-requires-clause-most c = let few = c.in_ok-aligned.ensures.sound.few_nodes in let n = c.len-n.ensures in omega arith
+
+pub trace_of_log-requires-clause-some : goal.trace_of_log-requires-clause-some
+trace_of_log-requires-clause-some c = some-events c.in_ok-aligned.aligned.log c.in_ok-aligned.ensures.sound
+
+pub trace_of_log-requires-clause-few : goal.trace_of_log-requires-clause-few
+trace_of_log-requires-clause-few c = few-events c.in_ok-aligned.aligned.log c.in_ok-aligned.ensures.sound
+
+pub trace_of_log-requires-clause-meant : goal.trace_of_log-requires-clause-meant
+trace_of_log-requires-clause-meant c = subst (λ n. AreMeant c.in_ok-aligned.aligned.log.events.items n) (sym c.len-n.ensures) (meant-events c.in_ok-aligned.aligned.log c.in_ok-aligned.ensures.sound)
+
+pub log_error-requires-clause-place : goal.log_error-requires-clause-place
+log_error-requires-clause-place c = unmade-place c.in_ok-limit.limit c.args.options.now.spread c.len-n.result c.in_ok-aligned.aligned.log.events.items c.in_ok-clock.clock c.in-Err.why (some-events c.in_ok-aligned.aligned.log c.in_ok-aligned.ensures.sound) (few-events c.in_ok-aligned.aligned.log c.in_ok-aligned.ensures.sound) c.in-Err.ensures.refused
+
+pub log_error-requires-clause-few : goal.log_error-requires-clause-few
+log_error-requires-clause-few c = subst (λ events. length events ≤ MAX_EVENTS) (sym c.in-Err.ensures.unchanged) (few-events c.in_ok-aligned.aligned.log c.in_ok-aligned.ensures.sound)
+
+pub log_error-requires-clause-processors : goal.log_error-requires-clause-processors
+log_error-requires-clause-processors c = subst AreOfProcessors (sym c.in-Err.ensures.unchanged) (processors-events c.in_ok-aligned.aligned.log c.in_ok-aligned.ensures.sound)
+
+pub log_error-requires-clause-behind : goal.log_error-requires-clause-behind
+log_error-requires-clause-behind c = λ i e. subst (λ events. IsBehindCycle events i) (sym c.in-Err.ensures.unchanged) (unmade-behind c.in_ok-limit.limit c.args.options.now.spread c.len-n.result c.in_ok-aligned.aligned.log.events.items c.in_ok-clock.clock c.in-Err.why c.in-Err.ensures.refused i e)
