@@ -13,6 +13,7 @@ mod import_lines;
 mod imports;
 mod judgings;
 mod replay_texts;
+mod replayed_decisions;
 mod replays;
 mod report_parts;
 mod reports;
