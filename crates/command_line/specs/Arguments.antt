@@ -38,6 +38,10 @@ command_app name rules = record { top = record (new_app name).top { rules = rule
 abbrev pub positional_rule : Text → Rule
 positional_rule name = record (new_rule name) { action = Some Set; value_names = 1; required = true }
 
+-- the same, which may be left out
+abbrev pub optional_positional_rule : Text → Rule
+optional_positional_rule name = record (new_rule name) { action = Some Set; value_names = 1 }
+
 -- --NAME VALUE, which may be left out
 abbrev pub optional_rule : Text → Rule
 optional_rule name = record (new_rule name) { long = Some name; action = Some Set; value_names = 1 }

@@ -145,6 +145,8 @@ pub struct Judging {
     pub factor: bool,
     /// Whether the rows of the report with their deadlines are asked for, too.
     pub rows: bool,
+    /// Whether the decisions are those of the replay, and not those of a text.
+    pub replay: bool,
 }
 
 /// What a picture is asked for.

@@ -232,13 +232,11 @@ fn check(rt: &HostRuntime, job: CheckJob) -> Result<u8, Fault> {
     }
 }
 
-/// Prints the verdict on the decisions in a file, for the trace in another, and gives its exit status. Both files are opened
-/// before one is read; the decisions are read first.
+/// Prints the verdict on the decisions in a file, or on those of the replay, for the trace in another, and gives its exit
+/// status. Both files are opened before one is read; the decisions are read first.
 fn judge(rt: &HostRuntime, job: JudgeJob) -> Result<u8, Fault> {
     let mut trace = Input::open(rt, job.file)?;
-    let mut decided = Input::open(rt, job.decisions)?;
-    let read = read_decisions(rt.alloc(), &mut Counting::new(&mut decided));
-    let decisions = read.map_err(|fault| decided.named(fault))?;
+    let decisions = decided(rt, job.decisions)?;
     let mut output = Output::new(rt.stdout());
     let judged = run_judge(
         rt.alloc(),
@@ -250,5 +248,17 @@ fn judge(rt: &HostRuntime, job: JudgeJob) -> Result<u8, Fault> {
     match judged {
         Ok(verdict) => Ok(judgement_status(verdict)),
         Err(fault) => stopped(output.is_closed(), trace.named(fault)),
+    }
+}
+
+/// The text of the decisions in a file; an empty one where there is no file.
+fn decided(rt: &HostRuntime, file: Option<String>) -> Result<Vec<u8>, Fault> {
+    match file {
+        None => Ok(Vec::new(rt.alloc())),
+        Some(file) => {
+            let mut decided = Input::open(rt, file)?;
+            let read = read_decisions(rt.alloc(), &mut Counting::new(&mut decided));
+            read.map_err(|fault| decided.named(fault))
+        }
     }
 }

@@ -1,5 +1,5 @@
 -- The judgement of the decisions of a run, and why there is none.
-use Rattle.std.specs.Prelude.{ℕ, ◌≡◌, ◌≢◌, List, Option, Some, None, Err, Ok, string_bytes, unwrap_or}
+use Rattle.std.specs.Prelude.{ℕ, ◌≡◌, ◌≢◌, List, Bool, true, false, Option, Some, None, Err, Ok, string_bytes, unwrap_or}
 use Rattle.step_trace.specs.CorrectSets.{named}
 use Rattle.step_trace.specs.Traces.{Recorded}
 use Rattle.decision_claims.specs.declared.decisions.Decision.{Decision}
@@ -18,6 +18,8 @@ use Rattle.command_faults.specs.declared.faults.Fault.TheVariants as fault
 use Rattle.command_faults.specs.declared.faults.ReportOption.TheVariants as option
 use Rattle.command_options.specs.declared.Judging.{Judging}
 use Rattle.text_commands.specs.Answers.{IsOutside}
+use Rattle.text_commands.specs.ReplayedDecisions.{AreReplayed}
+use Rattle.text_commands.specs.Replays.{IsOffRun}
 use Rattle.text_commands.specs.ReportParts.{IsNoTickOf}
 
 -- what is demanded of the decisions: the instance starts in tick 1, and no row has to be due, where nothing else is said
@@ -28,6 +30,17 @@ demands_of j = record { start = unwrap_or j.start 1; valid = j.valid; whole = j.
 abbrev pub HasStart : Option ℕ → Recorded → Type 0
 HasStart None t = Unit {0}
 HasStart (Some tick) t = IsTickOf t tick
+
+-- the decisions that are judged: those of the replay, or those of the text
+abbrev pub AreDecisions : Bool → List ℕ → Recorded → List Decision → Type 0
+AreDecisions true text t found = AreReplayed t found
+AreDecisions false text t found = decisions_of_text t.config.n t.last text ≡ Ok found
+
+-- why there are none: the trace is no run, or the first refusal of the text
+abbrev pub IsUndecided : Bool → List ℕ → Recorded → Fault → Type 0
+IsUndecided true text t (fault.NotARun number due) = IsOffRun t (fault.NotARun number due)
+IsUndecided false text t (fault.Decisions reason) = (decisions_of_text t.config.n t.last text ≡ Err reason) × (reason ≢ undecided.Memory)
+IsUndecided replay text t _ = ⊥
 
 -- The trace has all correct processors, and the deadline's text is a formula.
 pub record HasFormula (j : Judging) (t : Recorded) : Type 0 where
@@ -44,7 +57,7 @@ pub record IsJudgementOn (j : Judging) (text : List ℕ) (v : Verdict) (out : Li
   pub asked : HasFormula j t
   pub started : HasStart j.start t
   pub decisions : List Decision
-  pub read : decisions_of_text t.config.n t.last text ≡ Ok decisions
+  pub read : AreDecisions j.replay text t decisions
   pub exact : IsJudgement (named j.correct t.config.n) t decisions asked.formula (demands_of j) (details_of j) v out
 
 -- the text is what is printed of the verdict
@@ -57,10 +70,11 @@ abbrev pub IsStartFault : Option ℕ → Recorded → Fault → Type 0
 IsStartFault start t (fault.Report option.Start o) = IsNoTickOf start t o
 IsStartFault start t _ = ⊥
 
--- For what the decisions of a text aren't judged by the trace: a correct processor that it hasn't; or else the first reason
--- why the text is no formula; or else the tick of the start, which the trace hasn't; or else the first refusal of the text.
+-- For what the decisions aren't judged by the trace: a correct processor that it hasn't; or else the first reason why the text
+-- is no formula; or else the tick of the start, which the trace hasn't; or else why there are no decisions.
 abbrev pub IsUnjudged : Judging → List ℕ → Recorded → Fault → Type 0
 IsUnjudged j text t (fault.Within why) = HasCorrect j.correct t × (read_formula (string_bytes j.within) ≡ Err why)
 IsUnjudged j text t (fault.Report option.Start o) = HasFormula j t × IsNoTickOf j.start t o
-IsUnjudged j text t (fault.Decisions reason) = HasFormula j t × HasStart j.start t × (decisions_of_text t.config.n t.last text ≡ Err reason) × (reason ≢ undecided.Memory)
+IsUnjudged j text t (fault.Decisions reason) = HasFormula j t × HasStart j.start t × IsUndecided j.replay text t (fault.Decisions reason)
+IsUnjudged j text t (fault.NotARun number due) = HasFormula j t × HasStart j.start t × IsUndecided j.replay text t (fault.NotARun number due)
 IsUnjudged j text t w = IsOutside j.correct t w

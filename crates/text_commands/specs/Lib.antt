@@ -7,6 +7,7 @@ pub mod ReportParts
 pub mod Drawings
 pub mod ReplayTexts
 pub mod Replays
+pub mod ReplayedDecisions
 pub mod Upgrades
 pub mod Checks
 pub mod Briefs

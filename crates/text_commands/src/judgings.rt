@@ -2,17 +2,18 @@
 
 ghost use Rattle.std.specs.Prelude.{◌≡◌, ℕ, List, OnOk, IfOk, IfErr, IfSome, string_bytes};
 ghost use Rattle.text_commands.specs.Answers.{IsDeclined, IsUnanswered};
-ghost use Rattle.text_commands.specs.Judgings.{HasStart, IsJudgedText, IsJudgementOn, IsStartFault, IsUnjudged, demands_of, details_of};
+ghost use Rattle.text_commands.specs.Judgings.{AreDecisions, HasStart, IsJudgedText, IsJudgementOn, IsStartFault, IsUndecided, IsUnjudged, demands_of, details_of};
 ghost use Rattle.text_commands.specs.Serving.{Appends, IsAtEnd, IsReadFault, ServesTrace, faults_of, inner_of};
 ghost use Rattle.text_commands.specs.Texts.{IsUnreadWhole};
 ghost use Rattle.text_verdicts.specs.Texts.{OfTrace};
 
+use crate::replayed_decisions::replayed_decisions;
 use crate::report_parts::{has_tick, outside};
 use crate::texts::read_whole;
 use crate::traces::{read_text, set_of, trace_of};
 use command_faults::{Fault, ReportOption};
 use command_options::Judging;
-use decision_claims::parse_formula;
+use decision_claims::{Decision, parse_formula};
 use judged_runs::{
     DecisionsError, Demands, Details, Judgement, Verdict, decisions_of_text, judgement_of,
 };
@@ -34,12 +35,12 @@ pub fn read_decisions<R: Read>(alloc: Global, reader: &mut Counting<R>) -> Resul
     read_whole(alloc, reader, Fault::Decisions(DecisionsError::TooLarge))
 }
 
-/// Reads a trace text to its end, judges the decisions of another text by the trace, and writes the line of the verdict and the
-/// details that are asked for. Nothing is written before all of it stands.
+/// Reads a trace text to its end, judges the decisions of another text by the trace, or those that its replay finds, and writes
+/// the line of the verdict and the details that are asked for. Nothing is written before all of it stands.
 ///
 /// Refuses, in this order: Read, or Trace for a trace text that is too large; Trace for any other refusal of it; Set if a
 /// correct processor is above the trace's number of processors; Within for a deadline that is no formula; Report if the trace
-/// hasn't the tick of the start; Decisions with the first refusal of the decisions; Write with the number of bytes that went
+/// hasn't the tick of the start; NotARun as `replay` does, or Decisions with the first refusal of the decisions; Write with the number of bytes that went
 /// out before. Memory may come at any step before the first write.
 pub fn run_judge<R: Read, W: Write>(
     alloc: Global,
@@ -59,10 +60,10 @@ pub fn run_judge<R: Read, W: Write>(
     Ok(told.verdict)
 }
 
-/// The judgement of the decisions of a text by a trace text, both in memory.
+/// The judgement of the decisions of a text by a trace text, both in memory, or of those that the trace's replay finds.
 ///
-/// Refuses, in this order: Trace with the first refusal of the trace text; Set, Within, Report and Decisions as `run_judge`
-/// does. Memory may come instead.
+/// Refuses, in this order: Trace with the first refusal of the trace text; Set, Within, Report, NotARun and Decisions as
+/// `run_judge` does. Memory may come instead.
 pub fn judgement_on(
     alloc: Global,
     judging: &Judging,
@@ -89,10 +90,26 @@ fn judgement_for(
     let set = set_of(judging.correct, trace)?;
     let formula = parse_formula(alloc, judging.within.as_str().as_bytes())?;
     test_start(judging.start, trace)?;
-    let config = trace.config();
-    let decisions = decisions_of_text(alloc, decisions, config.n(), trace.last_tick())?;
+    let decisions = decisions_for(alloc, judging, decisions, trace)?;
     let (demands, details) = (demands_of(judging), details_of(judging));
     Ok(judgement_of(alloc, trace, set, &decisions, &formula, demands, details)?)
+}
+
+/// The decisions that are judged: those of the replay, or those of the text.
+fn decisions_for(
+    alloc: Global,
+    judging: &Judging,
+    text: &[u8],
+    trace: &Trace,
+) -> Result<Vec<Decision>, Fault>
+    ensures decisions { IfOk result (λ found. AreDecisions judging.now.replay text.now trace.now found.items) }
+    ensures refused { IfErr result (IsDeclined (IsUndecided judging.now.replay text.now trace.now)) }
+{
+    if judging.replay {
+        return replayed_decisions(alloc, trace);
+    }
+    let config = trace.config();
+    Ok(decisions_of_text(alloc, text, config.n(), trace.last_tick())?)
 }
 
 /// What is demanded of the decisions.

@@ -16,6 +16,7 @@ mod judgings;
 mod names;
 mod pages;
 mod replay_texts;
+mod replayed_decisions;
 mod replays;
 mod report_parts;
 mod reports;

@@ -1,32 +1,63 @@
 -- The command `judge`: what it takes, and the job that its words give.
-use Rattle.std.specs.Prelude.{ℕ, ◌≡◌, Bool, List, [], ◌∷◌, Option, codes, string_bytes}
+use Rattle.std.specs.Prelude.{ℕ, ◌≡◌, ◌⊎◌, Bool, true, false, List, [], ◌∷◌, Option, Some, None, codes, option_map, string_bytes}
 use Rattle.clap.specs.Words.{App, Row, first_of}
+use Rattle.step_trace.specs.declared.correct_sets.Correct.{Correct}
 use Rattle.step_trace.specs.CorrectSets.{IsCorrectIn}
 use Rattle.command_line.specs.declared.jobs.Job.{Job}
 use Rattle.command_line.specs.declared.jobs.Job.TheVariants as job
+use Rattle.command_line.specs.declared.line_errors.LineError.{LineError}
+use Rattle.command_line.specs.declared.line_errors.LineError.TheVariants as unread
 use Rattle.command_line.specs.Answers.{Given, ◌>>=◌, answers}
-use Rattle.command_line.specs.Arguments.{command_app, correct_rule, file_rule, flag_in, flag_rule, option_rule, positional_rule, tick_in, tick_rule}
-use Rattle.command_line.specs.Commands.Check.{AreBothStandardInput, IsFilesFault}
+use Rattle.command_line.specs.Arguments.{IsListFault, command_app, correct_rule, file_rule, flag_in, flag_rule, option_rule, optional_positional_rule, tick_in, tick_rule}
+use Rattle.command_line.specs.Commands.Check.{AreBothStandardInput}
 
--- judge FILE DECISIONS --correct LIST --within FORMULA --start TICK --valid --whole --due K --factor --rows
+-- judge FILE DECISIONS --correct LIST --within FORMULA --start TICK --valid --whole --due K --factor --rows, or --replay in the
+-- place of DECISIONS
 abbrev pub judge_app : App
-judge_app = command_app (codes "judge") (file_rule ∷ positional_rule (codes "decisions") ∷ correct_rule ∷ option_rule (codes "within")
-    ∷ tick_rule (codes "start") ∷ flag_rule (codes "valid") ∷ flag_rule (codes "whole") ∷ tick_rule (codes "due") ∷ flag_rule (codes "factor") ∷ flag_rule (codes "rows") ∷ [])
+judge_app = command_app (codes "judge") (file_rule ∷ optional_positional_rule (codes "decisions") ∷ correct_rule ∷ option_rule (codes "within")
+    ∷ tick_rule (codes "start") ∷ flag_rule (codes "valid") ∷ flag_rule (codes "whole") ∷ tick_rule (codes "due") ∷ flag_rule (codes "factor") ∷ flag_rule (codes "rows") ∷ flag_rule (codes "replay") ∷ [])
 
--- the judgement of the decisions in the second file of these names, which aren't both standard input, for the processors that
--- this list names, within a formula, with these options
-abbrev pub IsJudge : List ℕ → List ℕ → List ℕ → List ℕ → Option ℕ → Bool → Bool → Option ℕ → Bool → Bool → Job → Type 0
-IsJudge name decided list within start valid whole due factor table (job.Judge j) =
-    (string_bytes j.file ≡ name) × (string_bytes j.decisions ≡ decided) × IsCorrectIn list j.judging.correct × (string_bytes j.judging.within ≡ within)
+-- the decisions are in the file of this name, and not both files are standard input; or there is none, with --replay
+abbrev pub AreDecisionsIn : List ℕ → Option (List ℕ) → Bool → Option (List ℕ) → Type 0
+AreDecisionsIn name None true given = given ≡ None
+AreDecisionsIn name (Some decided) false given = (given ≡ Some decided) × (¬ AreBothStandardInput name decided)
+AreDecisionsIn name decided replay given = ⊥
+
+-- decisions both of a file and of the replay, or of neither, are refused in these words
+abbrev pub IsEitherRefusal : LineError → Type 0
+IsEitherRefusal (unread.Refused text) = string_bytes text ≡ codes "synchrony: judge takes either DECISIONS or --replay"
+IsEitherRefusal _ = ⊥
+
+-- both files are standard input, which is refused in these words
+abbrev pub IsOneInputRefusal : List ℕ → List ℕ → LineError → Type 0
+IsOneInputRefusal name decided (unread.Refused text) = AreBothStandardInput name decided × (string_bytes text ≡ codes "synchrony: only one file can be -")
+IsOneInputRefusal name decided _ = ⊥
+
+-- why there are no decisions; or want of memory
+abbrev pub IsDecisionsFault : List ℕ → Option (List ℕ) → Bool → LineError → Type 0
+IsDecisionsFault name decided replay unread.Memory = Unit {0}
+IsDecisionsFault name None false e = IsEitherRefusal e
+IsDecisionsFault name (Some decided) true e = IsEitherRefusal e
+IsDecisionsFault name (Some decided) false e = IsOneInputRefusal name decided e
+IsDecisionsFault name None true e = ⊥
+
+-- the refusal of a text that is no list, or else of the decisions; or want of memory
+abbrev pub IsJudgeFault : List ℕ → Option (List ℕ) → List ℕ → Bool → LineError → Type 0
+IsJudgeFault name decided list replay e = IsListFault list e ⊎ (((correct : Correct) × IsCorrectIn list correct) × IsDecisionsFault name decided replay e)
+
+-- the judgement of the decisions in the second file of these names, or of those of the replay, for the processors that this
+-- list names, within a formula, with these options
+abbrev pub IsJudge : List ℕ → Option (List ℕ) → List ℕ → List ℕ → Option ℕ → Bool → Bool → Option ℕ → Bool → Bool → Bool → Job → Type 0
+IsJudge name decided list within start valid whole due factor table replay (job.Judge j) =
+    (string_bytes j.file ≡ name) × AreDecisionsIn name decided replay (option_map string_bytes j.decisions) × IsCorrectIn list j.judging.correct × (string_bytes j.judging.within ≡ within)
     × (j.judging.start ≡ start) × (j.judging.valid ≡ valid) × (j.judging.whole ≡ whole) × (j.judging.due ≡ due) × (j.judging.factor ≡ factor) × (j.judging.rows ≡ table)
-    × (¬ AreBothStandardInput name decided)
-IsJudge name decided list within start valid whole due factor table _ = ⊥
+    × (j.judging.replay ≡ replay)
+IsJudge name decided list within start valid whole due factor table replay _ = ⊥
 
 -- what the rows below `judge` give
 abbrev pub judge_given : List Row → Given → Type 0
 judge_given rows = do
   file ← first_of (codes "file") rows
-  decided ← first_of (codes "decisions") rows
   list ← first_of (codes "correct") rows
   within ← first_of (codes "within") rows
   start ← tick_in rows (codes "start")
@@ -35,4 +66,5 @@ judge_given rows = do
   due ← tick_in rows (codes "due")
   factor ← flag_in rows (codes "factor")
   table ← flag_in rows (codes "rows")
-  answers (IsJudge file decided list within start valid whole due factor table) (IsFilesFault file decided list)
+  replay ← flag_in rows (codes "replay")
+  answers (IsJudge file (first_of (codes "decisions") rows) list within start valid whole due factor table replay) (IsJudgeFault file (first_of (codes "decisions") rows) list replay)

@@ -3,7 +3,7 @@
 ghost use Rattle.std.specs.Prelude.{◌≡◌, ◌↔◌, ◌≤◌, List, IfOk, IfErr, IfSome, IsTrue, codes, option_map, string_bytes};
 ghost use Rattle.clap.specs.Words.{Rule, first_of, found_of, rows_of};
 ghost use Rattle.step_trace.specs.CorrectSets.{IsCorrectIn};
-ghost use Rattle.command_line.specs.Arguments.{AreArguments, IsArgument, IsCommand, IsListFaultOf, IsUnknown, TellsList, command_app, correct_rule, file_rule, flag_in, flag_rule, number_in, optional_number_in, option_rule, optional_rule, positional_rule, tick_in, tick_rule};
+ghost use Rattle.command_line.specs.Arguments.{AreArguments, IsArgument, IsCommand, IsListFaultOf, IsUnknown, TellsList, command_app, correct_rule, file_rule, flag_in, flag_rule, number_in, optional_number_in, option_rule, optional_positional_rule, optional_rule, positional_rule, tick_in, tick_rule};
 
 use crate::line_errors::LineError;
 use clap::builder::ValueParser;
@@ -58,6 +58,21 @@ pub fn positional_argument<'a>(
         .value_name(value_name)
         .help(help)
         .required(true)
+        .action(ArgAction::Set)
+}
+
+/// An argument that is known by its place, and may be left out.
+pub fn optional_positional_argument<'a>(
+    alloc: Global,
+    name: &'a str,
+    value_name: &'a str,
+    help: &'a str,
+) -> Arg<'a>
+    ensures { IsArgument (optional_positional_rule name.entry.now) result }
+{
+    Arg::new(alloc, name)
+        .value_name(value_name)
+        .help(help)
         .action(ArgAction::Set)
 }
 

@@ -1,15 +1,14 @@
 //! The command `judge`: its words and its help text, and the job that they give.
 
-ghost use Rattle.std.specs.Prelude.{◌≡◌, IfOk, IfErr, codes};
+ghost use Rattle.std.specs.Prelude.{◌≡◌, IfOk, IfErr, codes, option_map, string_bytes};
 ghost use Rattle.clap.specs.Words.{found_of, rows_of};
 ghost use Rattle.command_line.specs.Arguments.{IsArgument, IsCommand, tick_rule};
-ghost use Rattle.command_line.specs.Commands.Check.{IsFilesFault};
-ghost use Rattle.command_line.specs.Commands.Judge.{IsJudge, judge_app, judge_given};
+ghost use Rattle.command_line.specs.Commands.Judge.{AreDecisionsIn, IsDecisionsFault, IsEitherRefusal, IsJudge, IsJudgeFault, judge_app, judge_given};
 
 use crate::jobs::Job;
 use crate::jobs::arguments::{
     correct_argument, correct_in, file_argument, flag, flag_argument, names_standard_input,
-    new_command, option_argument, optional_argument, positional_argument, text, tick,
+    new_command, option_argument, optional_argument, optional_positional_argument, text, tick,
     tick_argument,
 };
 use crate::line_errors::LineError;
@@ -21,6 +20,8 @@ use std::alloc::{AllocError, Global};
 const ABOUT: &str = "Says whether all correct processors of a run decided in time";
 
 const DECISIONS_HELP: &str = "Who decided what, and when; - is standard input";
+
+const REPLAY_HELP: &str = "Judges the decisions that replay finds in the trace";
 
 const WITHIN_HELP: &str = "How many ticks they have, such as 3*phi*n + delta";
 
@@ -41,8 +42,8 @@ const ROWS_HELP: &str = "Prints the rows with their deadlines, too";
 pub struct JudgeJob {
     /// The path of the trace's file; `-` is standard input.
     pub file: String,
-    /// The path of the decisions' file; `-` is standard input.
-    pub decisions: String,
+    /// The path of the decisions' file; `-` is standard input. None where the decisions are those of the replay.
+    pub decisions: Option<String>,
     /// What the decisions are judged for.
     pub judging: Judging,
 }
@@ -53,7 +54,7 @@ pub fn command<'a>(alloc: Global) -> Result<Command<'a>, AllocError>
 {
     let arguments = vec![in alloc;
         file_argument(alloc),
-        positional_argument(alloc, "decisions", "DECISIONS", DECISIONS_HELP),
+        optional_positional_argument(alloc, "decisions", "DECISIONS", DECISIONS_HELP),
         correct_argument(alloc),
         option_argument(alloc, "within", "FORMULA", WITHIN_HELP),
         tick_argument(alloc, "start", START_HELP),
@@ -62,6 +63,7 @@ pub fn command<'a>(alloc: Global) -> Result<Command<'a>, AllocError>
         due_argument(alloc),
         flag_argument(alloc, "factor", FACTOR_HELP),
         flag_argument(alloc, "rows", ROWS_HELP),
+        flag_argument(alloc, "replay", REPLAY_HELP),
     ]?;
     new_command(alloc, "judge", ABOUT, help(), arguments)
 }
@@ -75,12 +77,12 @@ fn due_argument<'a>(alloc: Global) -> Arg<'a>
 
 /// The job that the words after `judge` ask for; none where one of them lacks. What the formula says is looked at elsewhere.
 ///
-/// Refuses a list that isn't one, and then two files that are both standard input. Memory may come instead.
+/// Refuses a list that isn't one; then decisions both of a file and of the replay, or of neither; and then two files that are
+/// both standard input. Memory may come instead.
 pub fn job(alloc: Global, found: &ArgMatches<'_>) -> Option<Result<Job, LineError>>
     ensures { judge_given (rows_of (found_of found.now)) result }
 {
     let file = text(found, "file")?;
-    let decisions = text(found, "decisions")?;
     let list = text(found, "correct")?;
     let within = text(found, "within")?;
     let start = tick(found, "start")?;
@@ -89,8 +91,10 @@ pub fn job(alloc: Global, found: &ArgMatches<'_>) -> Option<Result<Job, LineErro
     let due = tick(found, "due")?;
     let factor = flag(found, "factor")?;
     let rows = flag(found, "rows")?;
+    let replay = flag(found, "replay")?;
+    let decisions = text(found, "decisions");
     Some(judge(
-        alloc, file, decisions, list, within, start, valid, whole, due, factor, rows,
+        alloc, file, decisions, list, within, start, valid, whole, due, factor, rows, replay,
     ))
 }
 
@@ -98,7 +102,7 @@ pub fn job(alloc: Global, found: &ArgMatches<'_>) -> Option<Result<Job, LineErro
 fn judge(
     alloc: Global,
     file: &str,
-    decisions: &str,
+    decisions: Option<&str>,
     list: &str,
     within: &str,
     start: Option<u64>,
@@ -107,17 +111,14 @@ fn judge(
     due: Option<u64>,
     factor: bool,
     rows: bool,
+    replay: bool,
 ) -> Result<Job, LineError>
-    ensures job { IfOk result (IsJudge file.now decisions.now list.now within.now start valid whole due factor rows) }
-    ensures refused { IfErr result (IsFilesFault file.now decisions.now list.now) }
+    ensures job { IfOk result (IsJudge file.now (option_map (λ d. d.now) decisions.entry) list.now within.now start valid whole due factor rows replay) }
+    ensures refused { IfErr result (IsJudgeFault file.now (option_map (λ d. d.now) decisions.entry) list.now replay) }
 {
     let correct = correct_in(alloc, "correct", list)?;
-    if names_standard_input(file) && names_standard_input(decisions) {
-        let text = String::from_str(alloc, "synchrony: only one file can be -")?;
-        return Err(LineError::Refused(text));
-    }
+    let decisions = decisions_in(alloc, file, decisions, replay)?;
     let file = String::from_str(alloc, file)?;
-    let decisions = String::from_str(alloc, decisions)?;
     let judging = Judging {
         correct,
         within: String::from_str(alloc, within)?,
@@ -127,6 +128,7 @@ fn judge(
         due,
         factor,
         rows,
+        replay,
     };
     Ok(Job::Judge(JudgeJob {
         file,
@@ -135,12 +137,53 @@ fn judge(
     }))
 }
 
+/// The path of the decisions' file, or none with --replay.
+fn decisions_in(
+    alloc: Global,
+    file: &str,
+    decisions: Option<&str>,
+    replay: bool,
+) -> Result<Option<String>, LineError>
+    ensures given { IfOk result (λ given. AreDecisionsIn file.now (option_map (λ d. d.now) decisions.entry) replay (option_map string_bytes given)) }
+    ensures refused { IfErr result (IsDecisionsFault file.now (option_map (λ d. d.now) decisions.entry) replay) }
+{
+    match decisions {
+        None => {
+            if replay {
+                Ok(None)
+            } else {
+                Err(either(alloc)?)
+            }
+        }
+        Some(decisions) => {
+            if replay {
+                return Err(either(alloc)?);
+            }
+            if names_standard_input(file) && names_standard_input(decisions) {
+                let text = String::from_str(alloc, "synchrony: only one file can be -")?;
+                return Err(LineError::Refused(text));
+            }
+            Ok(Some(String::from_str(alloc, decisions)?))
+        }
+    }
+}
+
+/// The refusal of decisions both of a file and of the replay, or of neither.
+fn either(alloc: Global) -> Result<LineError, AllocError>
+    ensures { IfOk result IsEitherRefusal }
+{
+    let text = String::from_str(alloc, "synchrony: judge takes either DECISIONS or --replay")?;
+    Ok(LineError::Refused(text))
+}
+
 /// What is judged of a run, and by what.
 fn help() -> &'static str {
     "\
 DECISIONS is CSV with the header proc,tick,value, and then a record for each
 decision in any order: which processor decided, in which tick of the trace, and
-what. The processors of LIST have to agree, and each of them has to decide
+what. With --replay there is no such file: the trace has to be a run, as
+`replay` demands it, and its decisions are judged, each in the tick of the step
+that ended its round. The processors of LIST have to agree, and each of them has to decide
 within FORMULA ticks from a stabilization time on, by the bounds delta and phi
 that hold from there. So each row of the report sets a deadline, gst + FORMULA;
 with --start TICK it counts from TICK on if that is later than gst.
@@ -198,5 +241,6 @@ Exit status:
      of the trace, or more than 1,000,000 of them
   5  out of memory
   6  a file can't be opened or read, or the output can't be written
+  7  with --replay: the trace is no run
 Faults go to standard error. Output begins once the verdict is known."
 }

@@ -1,6 +1,5 @@
-use Rattle.std.proofs.Common.{◌≡◌, ◌∙◌, Ok, refl}
+use Rattle.std.proofs.Common.{◌∙◌, refl}
 use Rattle.std.proofs.lemmas.Result.{err_from_is_err_and}
-use Rattle.judged_runs.specs.DecisionTexts.{decisions_of_text}
 use Rattle.text_commands.proofs.JudgedTraces.{formula-declined}
 use Rattle.text_commands.proofs.judgings.judgement_for.Goals as goal
 
@@ -13,8 +12,6 @@ returns-in_err-formula-clause-refused c =
 
 pub returns-clause-verdict : goal.returns-clause-verdict
 returns-clause-verdict c =
-    let trace = c.args.trace.now in
-    let read : decisions_of_text trace.config.n trace.last c.args.decisions.now ≡ Ok c.in_ok-decisions.decisions.items = rw (c.n.ensures.value, c.config-config.ensures, c.last_tick.ensures.value) at c.in_ok-decisions.ensures.decisions in
     record {
       asked = record {
         within = c.in_ok-set.ensures.within;
@@ -23,6 +20,6 @@ returns-clause-verdict c =
       };
       started = c.in_ok-test_start.ensures.started;
       decisions = c.in_ok-decisions.decisions.items;
-      read = read;
+      read = c.in_ok-decisions.ensures.decisions;
       exact = rw (c.in_ok-set.ensures.set, c.deref.ensures.value, c.demands_of-demands.ensures, c.details_of-details.ensures) at c.in_ok-judgement_of.ensures;
     }
