@@ -70,7 +70,8 @@ fn put_card(alloc: Global, pen: &mut Pen<'_>, run: &Run<'_>, evidence: &Evidence
     let scene = Scene::of(run, evidence, place.saturating_add(1));
     let mut picture = Pen::new(alloc, run.names);
     put_picture(&mut picture, &scene);
-    if pen.len().saturating_add(picture.len()) > ROOM_FOR_PICTURES {
+    let is_large = pen.len().saturating_add(picture.len()) > ROOM_FOR_PICTURES;
+    if is_large && !picture.is_refused() {
         pen.text("<p class=\"cap\">Not drawn, for the page would grow too large.</p>");
     } else {
         pen.append(&picture);

@@ -36,6 +36,13 @@ impl<'a> Pen<'a> {
         }
     }
 
+    /// Whether memory is refused, so that nothing more is written.
+    pub(crate) fn is_refused(&self) -> bool
+        ensures { result ≡ self.now.is_refused }
+    {
+        self.is_refused
+    }
+
     /// How many bytes were written.
     pub(crate) fn len(&self) -> usize {
         self.text.len()
