@@ -132,9 +132,3 @@ place-within spread events clock refused.TooManyTicks some h = some
 place-within spread events clock refused.Memory some h = some
 place-within false events clock why some h = all-within events clock (time_ticks events clock) why some (sym h)
 place-within true events clock why some h = spread-within events clock why some h
-
--- the same of an answer, where events aren't too many
-pub places-within : (spread : Bool) (events : List Event) (clock : Clock) (result : Result TimedTrace EventError) → 0 < length events → length events ≤ MAX_EVENTS
-    → IfErr result (λ why. IsTimedRefusal spread events clock why) → IfErr result (λ why. event_place why < MAX_EVENTS)
-places-within spread events clock (Ok timed) some few h = tt
-places-within spread events clock (Err why) some few h = let lt = place-within spread events clock why some h in omega (arith, lt, few)

@@ -100,4 +100,5 @@ fault-from option.Nodes f h = f h
 fault-from option.Unit f h = h
 fault-from option.Tick f h = h
 fault-from option.Until f h = h
+fault-from option.Idle f h = h
 fault-from option.Memory f h = tt

@@ -81,13 +81,3 @@ behind-times events i None n h = h
 pub behind-cycle : (spread : Bool) (events : List Event) (clock : Clock) (i : ℕ) → IsTimedRefusal spread events clock (refused.Cycle i) → IsBehindCycle events i
 behind-cycle false events clock i h = absurd (subst NoCycle h (no-or (times_refusal events clock) (events_refusal events (time_ticks events clock)) (times-no events clock) (events-no events (time_ticks events clock))))
 behind-cycle true events clock i h = behind-times events i (times_refusal events clock) (times-no events clock) h
-
--- the same of whatever reason is a cycle
-pub behind-reason : (spread : Bool) (events : List Event) (clock : Clock) (why : EventError) → IsTimedRefusal spread events clock why → (i : ℕ) → why ≡ refused.Cycle i → IsBehindCycle events i
-behind-reason spread events clock why h i e = behind-cycle spread events clock i (subst (λ x. IsTimedRefusal spread events clock x) e h)
-
--- the same of an answer
-pub behind-each : (spread : Bool) (events : List Event) (clock : Clock) (result : Result TimedTrace EventError)
-    → IfErr result (λ why. IsTimedRefusal spread events clock why) → IfErr result (λ why. (i : ℕ) → why ≡ refused.Cycle i → IsBehindCycle events i)
-behind-each spread events clock (Ok timed) h = tt
-behind-each spread events clock (Err why) h = behind-reason spread events clock why h
