@@ -22,9 +22,10 @@ const TWO_NODES: &str =
     "time,node,event,to,message\n10,b,send,a,m2\n10,a,send,b,m1\n13,a,receive,,m2\n\
     13,b,receive,,\n15,b,receive,,m1\n";
 
+/// With a receive of nothing in the last tick of each silence of at most two ticks.
 const TWO_NODES_IMPORT: &str =
-    "dls-trace,2,2,0\ninit,0,0\n1,1,1,S,2\n2,1,2,S,1\n3,4,1,R,\n4,4,2,R,1\n\
-    5,6,1,R,2\nend,6\n";
+    "dls-trace,2,2,0\ninit,0,0\n1,1,1,S,2\n2,1,2,S,1\n3,3,1,R,\n4,3,2,R,\n5,4,1,R,\n\
+    6,4,2,R,1\n7,5,1,R,\n8,6,1,R,2\n9,6,2,R,\nend,6\n";
 
 /// A log whose record 3 receives a message that no record sent.
 const NEVER_SENT: &str = "time,node,event,to,message\n10,a,send,b,m1\n13,b,receive,,m9\n";
