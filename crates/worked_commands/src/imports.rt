@@ -25,6 +25,7 @@ fn refuses(
         unit: None,
         width: Width::Units(1),
         until: None,
+        idle: None,
         spread: true,
         align: false,
     };
