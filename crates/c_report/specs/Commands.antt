@@ -72,6 +72,10 @@ run_words = codes "synchrony: run starts threads, which the library does not"
 abbrev pub simulation_words : List ℕ
 simulation_words = codes "synchrony: the library simulates no runs"
 
+-- and of a command line that judges the runs of a list
+abbrev pub runs_words : List ℕ
+runs_words = codes "synchrony: the library judges one run at a time"
+
 -- The command reads the file that is lent; what is printed is right.
 pub record IsPrintedOf (file : List ℕ) (Gives : List ℕ → Type 0) (status : ℕ) (out : List ℕ) : Type 0 where
   pub reads : file ≡ lent
@@ -134,6 +138,7 @@ IsPrintedFor (job.Judge j) text second = IsJudgementPrinted (string_bytes j.file
 IsPrintedFor (job.Help help) text second = λ status out. (status ≡ 0) × (out ≡ string_bytes help)
 IsPrintedFor (job.Run j) text second = λ status out. ⊥
 IsPrintedFor (job.Simulate j) text second = λ status out. ⊥
+IsPrintedFor (job.JudgeRuns j) text second = λ status out. ⊥
 
 -- why nothing is printed for a job
 abbrev pub IsUnprintedFor : Job → List ℕ → List ℕ → Fault → Type 0
@@ -151,6 +156,7 @@ IsUnprintedFor (job.Judge j) text second = IsUnprintedOf (string_bytes j.file) (
 IsUnprintedFor (job.Help help) text second = λ w. ⊥
 IsUnprintedFor (job.Run j) text second = IsSaid run_words
 IsUnprintedFor (job.Simulate j) text second = IsSaid simulation_words
+IsUnprintedFor (job.JudgeRuns j) text second = IsSaid runs_words
 
 -- The lines ask for a job, for which this is printed.
 pub record HasPrinted (lines text second : List ℕ) (status : ℕ) (out : List ℕ) : Type 0 where

@@ -1,7 +1,7 @@
 //! What is printed for the job of a command line, of the texts that a caller lends.
 
 ghost use Rattle.std.specs.Prelude.{◌≡◌, ◌≢◌, ◌<◌, IfOk, IfErr, OnOk, option_map, codes, string_bytes};
-ghost use Rattle.c_report.specs.Commands.{IsImportFor, IsJudgementPrinted, IsLineOf, IsPrintedFor, IsPrintedOf, IsSaid, IsTraceOfLog, IsUnimportedFor, IsUnprintedFor, IsUnprintedOf, lent, other_file_words, run_words, simulation_words};
+ghost use Rattle.c_report.specs.Commands.{IsImportFor, IsJudgementPrinted, IsLineOf, IsPrintedFor, IsPrintedOf, IsSaid, IsTraceOfLog, IsUnimportedFor, IsUnprintedFor, IsUnprintedOf, lent, other_file_words, run_words, runs_words, simulation_words};
 ghost use Rattle.c_report.specs.declared.answers.TheConstants.{NO_MEMORY, NO_ROOM};
 ghost use Rattle.text_commands.specs.Answers.{IsAnswerTo, IsUnanswered};
 ghost use Rattle.text_commands.specs.Checks.{IsUnchecked};
@@ -55,6 +55,7 @@ pub(crate) fn printed_for(
         Job::Help(help) => Ok(well(help.into_bytes())),
         Job::Run(_) => Err(refused_run(alloc)),
         Job::Simulate(_) => Err(refused_simulation(alloc)),
+        Job::JudgeRuns(_) => Err(refused_runs(alloc)),
     }
 }
 
@@ -173,6 +174,13 @@ fn refused_simulation(alloc: Global) -> Fault
     ensures { IsSaid simulation_words result }
 {
     refused(alloc, "synchrony: the library simulates no runs")
+}
+
+/// The refusal of a list of runs, whose files the library doesn't read.
+fn refused_runs(alloc: Global) -> Fault
+    ensures { IsSaid runs_words result }
+{
+    refused(alloc, "synchrony: the library judges one run at a time")
 }
 
 /// A refusal in these words.

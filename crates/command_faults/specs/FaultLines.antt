@@ -3,14 +3,16 @@ use Rattle.std.specs.Prelude.{ℕ, ◌-◌, List, [], ◌∷◌, ◌++◌, lengt
 use Rattle.trace_text.specs.RefusalTexts.{text_error_text}
 use Rattle.front.specs.RefusalTexts.{report_error_text}
 use Rattle.event_log.specs.RefusalTexts.{log_error_text}
-use Rattle.judged_runs.specs.RefusalTexts.{decisions_error_text}
+use Rattle.judged_runs.specs.RefusalTexts.{decisions_error_text, run_list_error_text}
 use Rattle.command_faults.specs.declared.faults.Fault.{Fault}
 use Rattle.command_faults.specs.declared.faults.Fault.TheVariants as fault
 use Rattle.command_faults.specs.declared.faults.PictureOption.{PictureOption}
 use Rattle.command_faults.specs.declared.faults.PictureOption.TheVariants as option
 use Rattle.command_faults.specs.declared.faults.ImportOption.{ImportOption}
 use Rattle.command_faults.specs.declared.faults.ImportOption.TheVariants as import_option
-use Rattle.command_faults.specs.Hints.{certificate_hint, decisions_hint, due_hint, file_hint, formula_hint, picture_hint, trace_hint}
+use Rattle.command_faults.specs.declared.faults.ListedField.{ListedField}
+use Rattle.command_faults.specs.declared.faults.ListedField.TheVariants as field
+use Rattle.command_faults.specs.Hints.{certificate_hint, decisions_hint, due_hint, file_hint, formula_hint, listed_hint, picture_hint, run_list_hint, trace_hint}
 use Rattle.command_faults.specs.LogFaultLines.{help_line, log_lead}
 use Rattle.command_faults.specs.OutsideLines.{member_line, report_option_words, set_option_words, tick_line}
 
@@ -30,6 +32,13 @@ import_option_words import_option.Tick = codes "--tick"
 import_option_words import_option.Until = codes "--until"
 import_option_words import_option.Idle = codes "--idle"
 
+-- a field of a run in a list, as the list's header has it
+abbrev pub listed_field_words : ListedField → List ℕ
+listed_field_words field.Trace = codes "trace"
+listed_field_words field.Decisions = codes "decisions"
+listed_field_words field.Correct = codes "correct"
+listed_field_words field.Start = codes "start"
+
 -- the line of a fault, with one more where something is known; that of a refused command line is in its reader's words
 abbrev pub fault_line : Fault → List ℕ
 fault_line (fault.Command words) = string_bytes words
@@ -37,6 +46,8 @@ fault_line (fault.Set option o) = codes "synchrony: no such processor in " ++ (s
 fault_line (fault.Trace reason) = codes "synchrony: trace: " ++ (text_error_text reason ++ trace_hint reason)
 fault_line (fault.Certificate reason) = codes "synchrony: certificate: " ++ (report_error_text reason ++ certificate_hint reason)
 fault_line (fault.Decisions reason) = codes "synchrony: decisions: " ++ (decisions_error_text reason ++ decisions_hint reason)
+fault_line (fault.Runs reason) = codes "synchrony: runs: " ++ (run_list_error_text reason ++ run_list_hint reason)
+fault_line (fault.Listed field) = codes "synchrony: bad " ++ (listed_field_words field ++ listed_hint field)
 fault_line (fault.Within why) = codes "synchrony: bad --within" ++ formula_hint why
 fault_line fault.Memory = codes "synchrony: out of memory"
 fault_line fault.Read = codes "synchrony: cannot read"

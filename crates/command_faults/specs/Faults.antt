@@ -12,6 +12,8 @@ use Rattle.decision_claims.specs.declared.formula_texts.FormulaError.{FormulaErr
 use Rattle.decision_claims.specs.declared.formula_texts.FormulaError.TheVariants as no_formula
 use Rattle.judged_runs.specs.declared.refusals.DecisionsError.{DecisionsError}
 use Rattle.judged_runs.specs.declared.refusals.DecisionsError.TheVariants as undecided
+use Rattle.judged_runs.specs.declared.refusals.RunListError.{RunListError}
+use Rattle.judged_runs.specs.declared.refusals.RunListError.TheVariants as unlisted
 use Rattle.event_log.specs.declared.options.OptionError.{OptionError}
 use Rattle.event_log.specs.declared.options.OptionError.TheVariants as no_options
 use Rattle.event_log.specs.declared.refusals.LogError.{LogError}
@@ -42,6 +44,8 @@ status_of (fault.Set option o) = 2
 status_of (fault.Trace e) = 3
 status_of (fault.Certificate e) = 4
 status_of (fault.Decisions e) = 4
+status_of (fault.Runs e) = 4
+status_of (fault.Listed field) = 4
 status_of (fault.Within why) = 2
 status_of fault.Memory = 5
 status_of fault.Read = 6
@@ -70,6 +74,11 @@ fault_of_certificate e = fault.Certificate e
 abbrev pub fault_of_decisions : DecisionsError → Fault
 fault_of_decisions undecided.Memory = fault.Memory
 fault_of_decisions e = fault.Decisions e
+
+-- the fault that a refusal of a list of runs is, likewise
+abbrev pub fault_of_run_list : RunListError → Fault
+fault_of_run_list unlisted.Memory = fault.Memory
+fault_of_run_list e = fault.Runs e
 
 -- the fault that a text which is no formula is
 abbrev pub fault_of_formula : FormulaError → Fault

@@ -6,6 +6,8 @@ use Rattle.front.specs.declared.refusals.ReportError.{ReportError}
 use Rattle.front.specs.declared.refusals.ReportError.TheVariants as uncertified
 use Rattle.judged_runs.specs.declared.refusals.DecisionsError.{DecisionsError}
 use Rattle.judged_runs.specs.declared.refusals.DecisionsError.TheVariants as undecided
+use Rattle.judged_runs.specs.declared.refusals.RunListError.{RunListError}
+use Rattle.judged_runs.specs.declared.refusals.RunListError.TheVariants as unlisted
 use Rattle.step_buffers.specs.declared.dues.Due.{Due}
 use Rattle.step_buffers.specs.declared.dues.DueStep.{DueStep}
 use Rattle.step_buffers.specs.declared.dues.DueStep.TheVariants.{SendTo, SendFirst, Receive}
@@ -15,6 +17,8 @@ use Rattle.command_faults.specs.declared.files.FileTrouble.{FileTrouble}
 use Rattle.command_faults.specs.declared.files.FileTrouble.TheVariants as trouble
 use Rattle.command_faults.specs.declared.faults.PictureOption.{PictureOption}
 use Rattle.command_faults.specs.declared.faults.PictureOption.TheVariants as option
+use Rattle.command_faults.specs.declared.faults.ListedField.{ListedField}
+use Rattle.command_faults.specs.declared.faults.ListedField.TheVariants as field
 
 -- one more line
 abbrev pub hint : List ℕ → List ℕ
@@ -46,6 +50,18 @@ certificate_hint e = []
 abbrev pub decisions_hint : DecisionsError → List ℕ
 decisions_hint undecided.BadHeader = hint (codes "decisions begin with proc,tick,value; the trace comes before them")
 decisions_hint e = []
+
+-- likewise of a list of runs
+abbrev pub run_list_hint : RunListError → List ℕ
+run_list_hint unlisted.BadHeader = hint (codes "a list of runs begins with trace,decisions,correct,start")
+run_list_hint e = []
+
+-- what a field of a run in a list takes
+abbrev pub listed_hint : ListedField → List ℕ
+listed_hint field.Trace = hint (codes "trace takes the path of a file, in UTF-8")
+listed_hint field.Decisions = hint (codes "decisions takes the path of a file, in UTF-8, or nothing for those of the replay")
+listed_hint field.Correct = hint (codes "correct takes all, none, or numbers from 1 to 64 with one comma between them")
+listed_hint field.Start = hint (codes "start takes a tick, or nothing")
 
 -- why a text is no formula: what stands at which operand, counted from 1
 abbrev pub formula_hint : BadFormula → List ℕ

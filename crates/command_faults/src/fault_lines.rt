@@ -3,9 +3,10 @@
 ghost use Rattle.std.specs.Prelude.{◌≡◌, IfOk, string_bytes};
 ghost use Rattle.command_faults.specs.FaultLines.{fault_line, ended_line};
 
-use crate::faults::{Fault, ImportOption, PictureOption};
+use crate::faults::{Fault, ImportOption, ListedField, PictureOption};
 use crate::hints::{
-    CertificateHint, DecisionsHint, DueHint, FileHint, FormulaHint, PictureHint, TraceHint,
+    CertificateHint, DecisionsHint, DueHint, FileHint, FormulaHint, ListedHint, PictureHint,
+    RunListHint, TraceHint,
 };
 use crate::log_fault_lines::{HelpLine, LogLead};
 use crate::outside_lines::{MemberLine, TickLine};
@@ -51,6 +52,8 @@ impl fmt::Display for Fault {
             Fault::Decisions(why) => {
                 write!(f, "synchrony: decisions: {why}{}", DecisionsHint(why))
             }
+            Fault::Runs(why) => { write!(f, "synchrony: runs: {why}{}", RunListHint(why)) }
+            Fault::Listed(field) => { write!(f, "synchrony: bad {field}{}", ListedHint(*field)) }
             Fault::Within(why) => { write!(f, "synchrony: bad --within{}", FormulaHint(*why)) }
             Fault::Memory => f.write_str("synchrony: out of memory"),
             Fault::Read => f.write_str("synchrony: cannot read"),
@@ -109,6 +112,23 @@ impl fmt::Display for ImportOption {
             ImportOption::Tick => f.write_str("--tick"),
             ImportOption::Until => f.write_str("--until"),
             ImportOption::Idle => f.write_str("--idle"),
+        }
+    }
+}
+
+/// The field, as the list's header has it.
+impl fmt::Display for ListedField {
+    ghost use Rattle.std.specs.Prelude.{Some};
+    ghost use Rattle.command_faults.specs.FaultLines.{listed_field_words};
+
+    ghost output = { λ field. Some (listed_field_words field) };
+
+    fn fmt<W: fmt::Write>(&self, f: &mut fmt::Formatter<W>) -> fmt::Result {
+        match self {
+            ListedField::Trace => f.write_str("trace"),
+            ListedField::Decisions => f.write_str("decisions"),
+            ListedField::Correct => f.write_str("correct"),
+            ListedField::Start => f.write_str("start"),
         }
     }
 }

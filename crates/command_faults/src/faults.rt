@@ -7,7 +7,7 @@ use crate::files::FileTrouble;
 use decision_claims::{BadFormula, FormulaError};
 use event_log::{LogError, OptionError};
 use front::ReportError;
-use judged_runs::DecisionsError;
+use judged_runs::{DecisionsError, RunListError};
 use std::alloc::AllocError;
 use step_buffers::{Due, ReplayError};
 use thiserror::Error;
@@ -26,6 +26,10 @@ pub enum Fault {
     Certificate(ReportError),
     /// The text of decisions is refused. `Memory` is a fault of its own.
     Decisions(DecisionsError),
+    /// The list of runs is refused. `Memory` is a fault of its own.
+    Runs(RunListError),
+    /// This field of a run in a list says nothing that the run can be judged by.
+    Listed(ListedField),
     /// The text of a deadline is no formula, for this reason.
     Within(BadFormula),
     /// There was no memory.
@@ -123,6 +127,19 @@ pub enum ImportOption {
     Idle,
 }
 
+/// A field of a run in a list.
+#[derive(Clone, Copy, Debug, PartialEq, Eq)]
+pub enum ListedField {
+    /// The path of the trace's file.
+    Trace,
+    /// The path of the decisions' file.
+    Decisions,
+    /// The correct processors.
+    Correct,
+    /// The tick in which an instance of agreement started.
+    Start,
+}
+
 impl From<AllocError> for Fault {
     ghost use Rattle.command_faults.specs.declared.faults.Fault.TheVariants as fault;
 
@@ -170,6 +187,19 @@ impl From<DecisionsError> for Fault {
         match why {
             DecisionsError::Memory => Fault::Memory,
             why => Fault::Decisions(why),
+        }
+    }
+}
+
+impl From<RunListError> for Fault {
+    ghost use Rattle.command_faults.specs.Faults.{fault_of_run_list};
+
+    ghost from_gives = { λ why made. made ≡ fault_of_run_list why };
+
+    fn from(why: RunListError) -> Fault {
+        match why {
+            RunListError::Memory => Fault::Memory,
+            why => Fault::Runs(why),
         }
     }
 }
@@ -254,6 +284,7 @@ pub fn status(fault: &Fault) -> u8
         Fault::Log(LogError::TickUnfit | LogError::UntilUnfit | LogError::IdleUnfit) => 2,
         Fault::Trace(_) | Fault::Log(_) => 3,
         Fault::Certificate(_) | Fault::Decisions(_) => 4,
+        Fault::Runs(_) | Fault::Listed(_) => 4,
         Fault::Memory => 5,
         Fault::Read | Fault::Unread(..) | Fault::Write(_) => 6,
         Fault::NotARun(..) => 7,

@@ -3,11 +3,11 @@
 
 ghost use Rattle.std.specs.Prelude.{◌≡◌, ◌+◌, ◌-◌, ◌^◌, min};
 
-use crate::faults::PictureOption;
+use crate::faults::{ListedField, PictureOption};
 use crate::files::FileTrouble;
 use decision_claims::BadFormula;
 use front::ReportError;
-use judged_runs::DecisionsError;
+use judged_runs::{DecisionsError, RunListError};
 use std::fmt;
 use step_buffers::{Due, DueStep};
 use trace_text::TextError;
@@ -101,6 +101,50 @@ impl fmt::Display for DecisionsHint<'_> {
             ),
             _ => f.write_str(""),
         }
+    }
+}
+
+/// What a list of runs begins with, where a text doesn't begin as one.
+#[derive(Clone, Copy)]
+pub(crate) struct RunListHint<'a>(pub(crate) &'a RunListError);
+
+impl fmt::Display for RunListHint<'_> {
+    ghost use Rattle.std.specs.Prelude.{Some};
+    ghost use Rattle.command_faults.specs.Hints.{run_list_hint};
+
+    ghost output = { λ hint. Some (run_list_hint hint.0.now) };
+
+    fn fmt<W: fmt::Write>(&self, f: &mut fmt::Formatter<W>) -> fmt::Result {
+        match self.0 {
+            RunListError::BadHeader => f.write_str(
+                "\nsynchrony: a list of runs begins with trace,decisions,correct,start",
+            ),
+            _ => f.write_str(""),
+        }
+    }
+}
+
+/// What a field of a run in a list takes.
+#[derive(Clone, Copy)]
+pub(crate) struct ListedHint(pub(crate) ListedField);
+
+impl fmt::Display for ListedHint {
+    ghost use Rattle.std.specs.Prelude.{Some};
+    ghost use Rattle.command_faults.specs.Hints.{listed_hint};
+
+    ghost output = { λ hint. Some (listed_hint hint.0) };
+
+    fn fmt<W: fmt::Write>(&self, f: &mut fmt::Formatter<W>) -> fmt::Result {
+        f.write_str(match self.0 {
+            ListedField::Trace => "\nsynchrony: trace takes the path of a file, in UTF-8",
+            ListedField::Decisions => {
+                "\nsynchrony: decisions takes the path of a file, in UTF-8, or nothing for those of the replay"
+            }
+            ListedField::Correct => {
+                "\nsynchrony: correct takes all, none, or numbers from 1 to 64 with one comma between them"
+            }
+            ListedField::Start => "\nsynchrony: start takes a tick, or nothing",
+        })
     }
 }
 

@@ -13,7 +13,8 @@ mod sets;
 
 pub use fault_lines::{fault_text, told_line};
 pub use faults::{
-    Fault, ImportOption, MemberOutside, PictureOption, ReportOption, SetOption, TickOutside, status,
+    Fault, ImportOption, ListedField, MemberOutside, PictureOption, ReportOption, SetOption,
+    TickOutside, status,
 };
 pub use files::{FileTrouble, unopened, unread};
 pub use printing::{print, print_notes, tell};

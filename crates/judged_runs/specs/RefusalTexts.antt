@@ -1,7 +1,9 @@
--- The refusals of a text of decisions in words (docs/FORMATS.md): without the program's name, and without a line feed.
+-- The refusals of a text of decisions and of a list of runs in words (docs/FORMATS.md): without the program's name, and without a line feed.
 use Rattle.std.specs.Prelude.{ℕ, List, ◌++◌, codes, decimal}
 use Rattle.judged_runs.specs.declared.refusals.DecisionsError.{DecisionsError}
 use Rattle.judged_runs.specs.declared.refusals.DecisionsError.TheVariants as why
+use Rattle.judged_runs.specs.declared.refusals.RunListError.{RunListError}
+use Rattle.judged_runs.specs.declared.refusals.RunListError.TheVariants as unlisted
 
 -- a refusal of the record of this number
 abbrev pub in_record : ℕ → List ℕ → List ℕ
@@ -17,3 +19,10 @@ decisions_error_text (why.BadNumber number) = in_record number (codes "bad numbe
 decisions_error_text (why.BadProcessor number) = in_record number (codes "no such processor")
 decisions_error_text (why.BadTick number) = in_record number (codes "no such tick")
 decisions_error_text why.Memory = codes "out of memory"
+
+abbrev pub run_list_error_text : RunListError → List ℕ
+run_list_error_text unlisted.TooLarge = codes "text too large"
+run_list_error_text unlisted.BadHeader = codes "bad header"
+run_list_error_text unlisted.TooMany = codes "too many records"
+run_list_error_text (unlisted.BadFields number) = in_record number (codes "bad fields")
+run_list_error_text unlisted.Memory = codes "out of memory"

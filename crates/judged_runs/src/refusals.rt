@@ -1,4 +1,4 @@
-//! Why a text of decisions is refused.
+//! Why a text of decisions is refused, and a list of runs.
 
 use thiserror::Error;
 
@@ -20,6 +20,22 @@ pub enum DecisionsError {
     BadProcessor(u64),
     /// The tick is 0, or above the last tick.
     BadTick(u64),
+    /// There was no memory.
+    Memory,
+}
+
+/// Why a list of runs is refused, in the order in which the reasons are tested. A number is that of the record after the
+/// header, from 1. The first record that is refused decides.
+#[derive(Debug, Drop, Error)]
+pub enum RunListError {
+    /// The text has more than 67,108,864 bytes.
+    TooLarge,
+    /// The first record isn't `trace,decisions,correct,start`.
+    BadHeader,
+    /// There are more than 1,000,000 records after the header.
+    TooMany,
+    /// The record hasn't four fields.
+    BadFields(u64),
     /// There was no memory.
     Memory,
 }

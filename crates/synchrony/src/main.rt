@@ -7,10 +7,12 @@
 mod inputs;
 mod line_faults;
 mod outputs;
+mod run_lists;
 
 use crate::inputs::Input;
 use crate::line_faults::refused_line;
 use crate::outputs::{Output, stopped};
+use crate::run_lists::judge_runs;
 use command_faults::{Fault, print, status, tell};
 use command_line::jobs::{CheckJob, DrawJob, ImportJob, JudgeJob, ReportJob};
 use command_line::{Job, read_command, refuse_words};
@@ -55,6 +57,7 @@ fn run<R: Threads + Wait + Clock + Sync>(rt: &HostRuntime, threads: &R) -> Resul
         Job::Upgrade(job) => answer(rt, job.file, &Upgrade),
         Job::Check(job) => check(rt, job),
         Job::Judge(job) => judge(rt, job),
+        Job::JudgeRuns(job) => judge_runs(rt, job),
         Job::Draw(job) => answer(rt, job.file, &job.drawing),
         Job::Page(job) => answer(rt, job.file, &job.page),
         Job::Import(job) => import(rt, job),

@@ -42,6 +42,16 @@ IsUndecided true text t (fault.NotARun number due) = IsOffRun t (fault.NotARun n
 IsUndecided false text t (fault.Decisions reason) = (decisions_of_text t.config.n t.last text ≡ Err reason) × (reason ≢ undecided.Memory)
 IsUndecided replay text t _ = ⊥
 
+-- the text is a formula
+abbrev pub IsFormulaText : List ℕ → Type 0
+IsFormulaText text = (formula : Terms) × (read_formula text ≡ Ok formula)
+
+-- why it is none; or want of memory
+abbrev pub IsFormulaFault : List ℕ → Fault → Type 0
+IsFormulaFault text fault.Memory = Unit {0}
+IsFormulaFault text (fault.Within why) = read_formula text ≡ Err why
+IsFormulaFault text _ = ⊥
+
 -- The trace has all correct processors, and the deadline's text is a formula.
 pub record HasFormula (j : Judging) (t : Recorded) : Type 0 where
   pub within : HasCorrect j.correct t

@@ -16,3 +16,4 @@ pub mod TimeoutTables
 pub mod Imports
 pub mod Judgings
 pub mod Pages
+pub mod ListedRuns

@@ -2,7 +2,7 @@
 
 ghost use Rattle.std.specs.Prelude.{◌≡◌, ℕ, List, OnOk, IfOk, IfErr, IfSome, string_bytes};
 ghost use Rattle.text_commands.specs.Answers.{IsDeclined, IsUnanswered};
-ghost use Rattle.text_commands.specs.Judgings.{AreDecisions, HasStart, IsJudgedText, IsJudgementOn, IsStartFault, IsUndecided, IsUnjudged, demands_of, details_of};
+ghost use Rattle.text_commands.specs.Judgings.{AreDecisions, HasStart, IsFormulaFault, IsFormulaText, IsJudgedText, IsJudgementOn, IsStartFault, IsUndecided, IsUnjudged, demands_of, details_of};
 ghost use Rattle.text_commands.specs.Serving.{Appends, IsAtEnd, IsReadFault, ServesTrace, faults_of, inner_of};
 ghost use Rattle.text_commands.specs.Texts.{IsUnreadWhole};
 ghost use Rattle.text_verdicts.specs.Texts.{OfTrace};
@@ -21,6 +21,15 @@ use std::alloc::Global;
 use std::io::{Read, Write};
 use step_trace::Trace;
 use trace_text::{Counting, write_text};
+
+/// Refuses Within for a deadline that is no formula. Memory may come instead.
+pub fn test_formula(alloc: Global, within: &str) -> Result<(), Fault>
+    ensures formula { OnOk result (IsFormulaText within.now) }
+    ensures refused { IfErr result (IsFormulaFault within.now) }
+{
+    parse_formula(alloc, within.as_bytes())?;
+    Ok(())
+}
 
 /// Reads a text of decisions to its end. What it says is looked at by `run_judge`.
 ///

@@ -4,4 +4,6 @@
 #[cfg(test)]
 mod command_line_tests;
 #[cfg(test)]
+mod judgement_tests;
+#[cfg(test)]
 mod pace_tests;

@@ -1,21 +1,22 @@
 -- The command `judge`: what it takes, and the job that its words give.
-use Rattle.std.specs.Prelude.{ℕ, ◌≡◌, ◌⊎◌, Bool, true, false, List, [], ◌∷◌, Option, Some, None, codes, option_map, string_bytes}
+use Rattle.std.specs.Prelude.{ℕ, ◌≡◌, ◌⊎◌, Bool, true, false, ◌||◌, is_some, List, [], ◌∷◌, Option, Some, None, codes, option_map, string_bytes}
 use Rattle.clap.specs.Words.{App, Row, first_of}
 use Rattle.step_trace.specs.declared.correct_sets.Correct.{Correct}
+use Rattle.step_trace.specs.declared.correct_sets.Correct.TheVariants as correct
 use Rattle.step_trace.specs.CorrectSets.{IsCorrectIn}
 use Rattle.command_line.specs.declared.jobs.Job.{Job}
 use Rattle.command_line.specs.declared.jobs.Job.TheVariants as job
 use Rattle.command_line.specs.declared.line_errors.LineError.{LineError}
 use Rattle.command_line.specs.declared.line_errors.LineError.TheVariants as unread
 use Rattle.command_line.specs.Answers.{Given, ◌>>=◌, answers}
-use Rattle.command_line.specs.Arguments.{IsListFault, command_app, correct_rule, file_rule, flag_in, flag_rule, option_rule, optional_positional_rule, tick_in, tick_rule}
+use Rattle.command_line.specs.Arguments.{IsListFault, IsMemory, command_app, file_rule, flag_in, flag_rule, option_rule, optional_positional_rule, optional_rule, tick_in, tick_rule}
 use Rattle.command_line.specs.Commands.Check.{AreBothStandardInput}
 
 -- judge FILE DECISIONS --correct LIST --within FORMULA --start TICK --valid --whole --due K --factor --rows, or --replay in the
--- place of DECISIONS
+-- place of DECISIONS; or judge FILE --runs, without DECISIONS, --factor and --rows
 abbrev pub judge_app : App
-judge_app = command_app (codes "judge") (file_rule ∷ optional_positional_rule (codes "decisions") ∷ correct_rule ∷ option_rule (codes "within")
-    ∷ tick_rule (codes "start") ∷ flag_rule (codes "valid") ∷ flag_rule (codes "whole") ∷ tick_rule (codes "due") ∷ flag_rule (codes "factor") ∷ flag_rule (codes "rows") ∷ flag_rule (codes "replay") ∷ [])
+judge_app = command_app (codes "judge") (file_rule ∷ optional_positional_rule (codes "decisions") ∷ optional_rule (codes "correct") ∷ option_rule (codes "within")
+    ∷ tick_rule (codes "start") ∷ flag_rule (codes "valid") ∷ flag_rule (codes "whole") ∷ tick_rule (codes "due") ∷ flag_rule (codes "factor") ∷ flag_rule (codes "rows") ∷ flag_rule (codes "replay") ∷ flag_rule (codes "runs") ∷ [])
 
 -- the decisions are in the file of this name, and not both files are standard input; or there is none, with --replay
 abbrev pub AreDecisionsIn : List ℕ → Option (List ℕ) → Bool → Option (List ℕ) → Type 0
@@ -54,11 +55,68 @@ IsJudge name decided list within start valid whole due factor table replay (job.
     × (j.judging.replay ≡ replay)
 IsJudge name decided list within start valid whole due factor table replay _ = ⊥
 
+-- the correct processors of the runs of a list, unless it says them of a run: all, where no list of them is given
+abbrev pub IsSetOfRuns : Option (List ℕ) → Correct → Type 0
+IsSetOfRuns None found = found ≡ correct.All
+IsSetOfRuns (Some list) found = IsCorrectIn list found
+
+-- the judgement of the runs that the file of this name lists, within a formula, with these options
+abbrev pub IsRuns : List ℕ → Option (List ℕ) → List ℕ → Option ℕ → Bool → Bool → Option ℕ → Job → Type 0
+IsRuns name list within start valid whole due (job.JudgeRuns j) =
+    (string_bytes j.list ≡ name) × IsSetOfRuns list j.judging.correct × (string_bytes j.judging.within ≡ within)
+    × (j.judging.start ≡ start) × (j.judging.valid ≡ valid) × (j.judging.whole ≡ whole) × (j.judging.due ≡ due) × (j.judging.factor ≡ false) × (j.judging.rows ≡ false)
+    × (j.judging.replay ≡ false)
+IsRuns name list within start valid whole due _ = ⊥
+
+-- the refusal of a text that is no list of processors; or want of memory
+abbrev pub IsRunsFault : Option (List ℕ) → LineError → Type 0
+IsRunsFault None e = IsMemory e
+IsRunsFault (Some list) e = IsListFault list e
+
+-- whether something is asked for that goes with one run alone
+abbrev pub is_for_one : Option (List ℕ) → Bool → Bool → Bool → Bool
+is_for_one decided factor table replay = is_some decided || (factor || (table || replay))
+
+-- which is refused in these words
+abbrev pub IsForOneRefusal : LineError → Type 0
+IsForOneRefusal (unread.Refused text) = string_bytes text ≡ codes "synchrony: judge --runs takes no DECISIONS, --factor, --rows or --replay"
+IsForOneRefusal _ = ⊥
+
+-- a run with no list of its correct processors is refused in these words
+abbrev pub IsNoListRefusal : LineError → Type 0
+IsNoListRefusal (unread.Refused text) = string_bytes text ≡ codes "synchrony: judge takes either --correct LIST or --runs"
+IsNoListRefusal _ = ⊥
+
+-- the judgement of one run, or of those of a list
+abbrev pub IsJudgeOf : Bool → List ℕ → Option (List ℕ) → Option (List ℕ) → List ℕ → Option ℕ → Bool → Bool → Option ℕ → Bool → Bool → Bool → Job → Type 0
+IsJudgeOf true name decided list within start valid whole due factor table replay j = (is_for_one decided factor table replay ≡ false) × IsRuns name list within start valid whole due j
+IsJudgeOf false name decided (Some list) within start valid whole due factor table replay j = IsJudge name decided list within start valid whole due factor table replay j
+IsJudgeOf false name decided None within start valid whole due factor table replay j = ⊥
+
+-- why the runs of a list aren't judged: something goes with one run alone, or else their set is none; or want of memory
+abbrev pub IsForOneFault : LineError → Type 0
+IsForOneFault unread.Memory = Unit {0}
+IsForOneFault e = IsForOneRefusal e
+
+abbrev pub IsRunsFaultOf : Bool → Option (List ℕ) → LineError → Type 0
+IsRunsFaultOf true list e = IsForOneFault e
+IsRunsFaultOf false list e = IsRunsFault list e
+
+-- why one run isn't judged that has no list of processors; or want of memory
+abbrev pub IsNoListFault : LineError → Type 0
+IsNoListFault unread.Memory = Unit {0}
+IsNoListFault e = IsNoListRefusal e
+
+-- why there is no judgement of the runs of a list, or of one run
+abbrev pub IsJudgeFaultOf : Bool → List ℕ → Option (List ℕ) → Option (List ℕ) → Bool → Bool → Bool → LineError → Type 0
+IsJudgeFaultOf true name decided list factor table replay e = IsRunsFaultOf (is_for_one decided factor table replay) list e
+IsJudgeFaultOf false name decided None factor table replay e = IsNoListFault e
+IsJudgeFaultOf false name decided (Some list) factor table replay e = IsJudgeFault name decided list replay e
+
 -- what the rows below `judge` give
 abbrev pub judge_given : List Row → Given → Type 0
 judge_given rows = do
   file ← first_of (codes "file") rows
-  list ← first_of (codes "correct") rows
   within ← first_of (codes "within") rows
   start ← tick_in rows (codes "start")
   valid ← flag_in rows (codes "valid")
@@ -67,4 +125,6 @@ judge_given rows = do
   factor ← flag_in rows (codes "factor")
   table ← flag_in rows (codes "rows")
   replay ← flag_in rows (codes "replay")
-  answers (IsJudge file (first_of (codes "decisions") rows) list within start valid whole due factor table replay) (IsJudgeFault file (first_of (codes "decisions") rows) list replay)
+  runs ← flag_in rows (codes "runs")
+  answers (IsJudgeOf runs file (first_of (codes "decisions") rows) (first_of (codes "correct") rows) within start valid whole due factor table replay)
+      (IsJudgeFaultOf runs file (first_of (codes "decisions") rows) (first_of (codes "correct") rows) factor table replay)

@@ -13,7 +13,7 @@ use step_trace::Correct;
 
 const FILE_HELP: &str = "The trace text; - is standard input";
 
-const CORRECT_HELP: &str = "The correct processors, from 1 to 64: 1,2,5, or all, or none";
+pub const CORRECT_HELP: &str = "The correct processors, from 1 to 64: 1,2,5, or all, or none";
 
 /// The command of this name, with these texts for its help, that takes these arguments.
 pub fn new_command<'a>(

@@ -3,25 +3,30 @@
 ghost use Rattle.std.specs.Prelude.{◌≡◌, IfOk, IfErr, codes, option_map, string_bytes};
 ghost use Rattle.clap.specs.Words.{found_of, rows_of};
 ghost use Rattle.command_line.specs.Arguments.{IsArgument, IsCommand, tick_rule};
-ghost use Rattle.command_line.specs.Commands.Judge.{AreDecisionsIn, IsDecisionsFault, IsEitherRefusal, IsJudge, IsJudgeFault, judge_app, judge_given};
+ghost use Rattle.command_line.specs.Commands.Judge.{AreDecisionsIn, IsDecisionsFault, IsEitherRefusal, IsForOneRefusal, IsJudge, IsJudgeFault, IsJudgeOf, IsJudgeFaultOf, IsNoListRefusal, IsRuns, IsRunsFault, is_for_one, judge_app, judge_given};
 
 use crate::jobs::Job;
 use crate::jobs::arguments::{
-    correct_argument, correct_in, file_argument, flag, flag_argument, names_standard_input,
-    new_command, option_argument, optional_argument, optional_positional_argument, text, tick,
-    tick_argument,
+    CORRECT_HELP, correct_in, flag, flag_argument, names_standard_input, new_command,
+    option_argument, optional_argument, optional_positional_argument, positional_argument, text,
+    tick, tick_argument,
 };
 use crate::line_errors::LineError;
 use clap::builder::ValueParser;
 use clap::{Arg, ArgMatches, Command};
 use command_options::Judging;
 use std::alloc::{AllocError, Global};
+use step_trace::Correct;
 
 const ABOUT: &str = "Says whether all correct processors of a run decided in time";
+
+const FILE_HELP: &str = "The trace text, or with --runs the list of runs; - is standard input";
 
 const DECISIONS_HELP: &str = "Who decided what, and when; - is standard input";
 
 const REPLAY_HELP: &str = "Judges the decisions that replay finds in the trace";
+
+const RUNS_HELP: &str = "Judges each run of a list, and counts them";
 
 const WITHIN_HELP: &str = "How many ticks they have, such as 3*phi*n + delta";
 
@@ -48,14 +53,24 @@ pub struct JudgeJob {
     pub judging: Judging,
 }
 
+/// The judgement of the runs of a list.
+#[derive(Debug, Drop)]
+pub struct RunsJob {
+    /// The path of the list's file; `-` is standard input.
+    pub list: String,
+    /// What the decisions of each run are judged for, unless the list says it of a run. The decisions are never those of the
+    /// replay here, and neither the factor nor the rows are asked for.
+    pub judging: Judging,
+}
+
 /// The command `judge`, as the command line's reader takes it.
 pub fn command<'a>(alloc: Global) -> Result<Command<'a>, AllocError>
     ensures { IfOk result (IsCommand judge_app) }
 {
     let arguments = vec![in alloc;
-        file_argument(alloc),
+        positional_argument(alloc, "file", "FILE", FILE_HELP),
         optional_positional_argument(alloc, "decisions", "DECISIONS", DECISIONS_HELP),
-        correct_argument(alloc),
+        optional_argument(alloc, "correct", "LIST", CORRECT_HELP),
         option_argument(alloc, "within", "FORMULA", WITHIN_HELP),
         tick_argument(alloc, "start", START_HELP),
         flag_argument(alloc, "valid", VALID_HELP),
@@ -64,6 +79,7 @@ pub fn command<'a>(alloc: Global) -> Result<Command<'a>, AllocError>
         flag_argument(alloc, "factor", FACTOR_HELP),
         flag_argument(alloc, "rows", ROWS_HELP),
         flag_argument(alloc, "replay", REPLAY_HELP),
+        flag_argument(alloc, "runs", RUNS_HELP),
     ]?;
     new_command(alloc, "judge", ABOUT, help(), arguments)
 }
@@ -77,13 +93,13 @@ fn due_argument<'a>(alloc: Global) -> Arg<'a>
 
 /// The job that the words after `judge` ask for; none where one of them lacks. What the formula says is looked at elsewhere.
 ///
-/// Refuses a list that isn't one; then decisions both of a file and of the replay, or of neither; and then two files that are
-/// both standard input. Memory may come instead.
+/// Without --runs it refuses that no list of processors is given, or one that isn't one; then decisions both of a file and of
+/// the replay, or of neither; and then two files that are both standard input. With --runs it refuses what goes with one run
+/// alone, and then such a list. Memory may come instead.
 pub fn job(alloc: Global, found: &ArgMatches<'_>) -> Option<Result<Job, LineError>>
     ensures { judge_given (rows_of (found_of found.now)) result }
 {
     let file = text(found, "file")?;
-    let list = text(found, "correct")?;
     let within = text(found, "within")?;
     let start = tick(found, "start")?;
     let valid = flag(found, "valid")?;
@@ -92,10 +108,107 @@ pub fn job(alloc: Global, found: &ArgMatches<'_>) -> Option<Result<Job, LineErro
     let factor = flag(found, "factor")?;
     let rows = flag(found, "rows")?;
     let replay = flag(found, "replay")?;
+    let runs = flag(found, "runs")?;
     let decisions = text(found, "decisions");
-    Some(judge(
-        alloc, file, decisions, list, within, start, valid, whole, due, factor, rows, replay,
+    let list = text(found, "correct");
+    Some(judge_of(
+        alloc, runs, file, decisions, list, within, start, valid, whole, due, factor, rows, replay,
     ))
+}
+
+/// The job of a judgement of one run, or of those of a list.
+fn judge_of(
+    alloc: Global,
+    runs: bool,
+    file: &str,
+    decisions: Option<&str>,
+    list: Option<&str>,
+    within: &str,
+    start: Option<u64>,
+    valid: bool,
+    whole: bool,
+    due: Option<u64>,
+    factor: bool,
+    rows: bool,
+    replay: bool,
+) -> Result<Job, LineError>
+    ensures job { IfOk result (IsJudgeOf runs file.now (option_map (λ d. d.now) decisions.entry) (option_map (λ l. l.now) list.entry) within.now start valid whole due factor rows replay) }
+    ensures refused { IfErr result (IsJudgeFaultOf runs file.now (option_map (λ d. d.now) decisions.entry) (option_map (λ l. l.now) list.entry) factor rows replay) }
+{
+    if runs {
+        if is_for_one(decisions, factor, rows, replay) {
+            return Err(for_one(alloc)?);
+        }
+        return judge_runs(alloc, file, list, within, start, valid, whole, due);
+    }
+    match list {
+        Some(list) => judge(
+            alloc, file, decisions, list, within, start, valid, whole, due, factor, rows, replay,
+        ),
+        None => Err(no_list(alloc)?),
+    }
+}
+
+/// Whether something is asked for that goes with one run alone.
+fn is_for_one(decisions: Option<&str>, factor: bool, rows: bool, replay: bool) -> bool
+    ensures { result ≡ is_for_one (option_map (λ d. d.now) decisions.entry) factor rows replay }
+{
+    decisions.is_some() || factor || rows || replay
+}
+
+/// The refusal of what goes with one run alone.
+fn for_one(alloc: Global) -> Result<LineError, AllocError>
+    ensures { IfOk result IsForOneRefusal }
+{
+    let text = String::from_str(
+        alloc,
+        "synchrony: judge --runs takes no DECISIONS, --factor, --rows or --replay",
+    )?;
+    Ok(LineError::Refused(text))
+}
+
+/// The refusal of a run with no list of its correct processors.
+fn no_list(alloc: Global) -> Result<LineError, AllocError>
+    ensures { IfOk result IsNoListRefusal }
+{
+    let text = String::from_str(
+        alloc,
+        "synchrony: judge takes either --correct LIST or --runs",
+    )?;
+    Ok(LineError::Refused(text))
+}
+
+/// The job of a list of runs with these words.
+fn judge_runs(
+    alloc: Global,
+    file: &str,
+    list: Option<&str>,
+    within: &str,
+    start: Option<u64>,
+    valid: bool,
+    whole: bool,
+    due: Option<u64>,
+) -> Result<Job, LineError>
+    ensures job { IfOk result (IsRuns file.now (option_map (λ l. l.now) list.entry) within.now start valid whole due) }
+    ensures refused { IfErr result (IsRunsFault (option_map (λ l. l.now) list.entry)) }
+{
+    let correct = match list {
+        Some(list) => correct_in(alloc, "correct", list)?,
+        None => Correct::All,
+    };
+    let list = String::from_str(alloc, file)?;
+    let judging = Judging {
+        correct,
+        within: String::from_str(alloc, within)?,
+        start,
+        valid,
+        whole,
+        due,
+        factor: false,
+        rows: false,
+        replay: false,
+    };
+    Ok(Job::JudgeRuns(RunsJob { list, judging }))
 }
 
 /// The job of a judgement with these words.
@@ -221,6 +334,20 @@ header gst,delta,phi,deadline,decided,margin: the deadline, if it is due; the
 tick by which all had decided, if they had; and how many ticks that was before
 the deadline, negative if it was later.
 
+With --runs FILE is a list of runs: CSV with the header
+trace,decisions,correct,start, and then a record for each run with the paths of
+its trace and of its decisions, its correct processors and its start. With no
+decisions they are those of the replay. With no correct processors or no start
+those of --correct (all, if it is left out) and --start count. A line is printed
+for each run, and then how many there are of each kind:
+
+  run 1: yes 3 due 9 later margin 31
+  run 2: no deadline 40 2 5 212 3
+  run 3: not judged: synchrony: cannot read; synchrony: r3.trace: no such file
+  3 runs: 1 yes, 1 no, 0 untested, 1 not judged; least margin 31 (run 1)
+
+A run is untested if the verdict is yes and no row was due.
+
 Example, at the top of the repository:
   printf '%s\\n' proc,tick,value 1,2,5 2,3,5 |
     ./synchrony judge examples/one-miss.trace - --correct all --within delta
@@ -238,9 +365,11 @@ Exit status:
      the trace's number of processors; FORMULA is no formula
   3  the trace is refused, or hasn't the tick of --start
   4  DECISIONS is refused: a record that isn't as said, of no processor or tick
-     of the trace, or more than 1,000,000 of them
+     of the trace, or more than 1,000,000 of them; or the list of --runs is
   5  out of memory
   6  a file can't be opened or read, or the output can't be written
   7  with --replay: the trace is no run
-Faults go to standard error. Output begins once the verdict is known."
+  9  with --runs: some run is not judged
+Faults go to standard error. Output begins once the verdict is known, or with
+--runs that of the first run."
 }
