@@ -1,5 +1,5 @@
 -- What came of the runs of a list, and the summary of it (docs/FORMATS.md).
-use Rattle.std.specs.Prelude.{ℕ, ◌+◌, List, [], ◌∷◌, ◌++◌, length, Option, Some, None, Bool, true, false, is_some, is_none, if◌then◌else◌, nat_lt, count_by, drop, codes, decimal}
+use Rattle.std.specs.Prelude.{ℕ, ◌+◌, List, [], ◌∷◌, ◌++◌, length, Option, Some, None, Bool, true, false, is_some, is_none, if◌then◌else◌, ◌==◌, nat_lt, count_by, drop, codes, decimal}
 use Rattle.decision_claims.specs.declared.margins.Tested.{Tested}
 use Rattle.judged_runs.specs.declared.judgements.Verdict.{Verdict}
 use Rattle.judged_runs.specs.declared.judgements.Verdict.TheVariants as verdict
@@ -53,10 +53,14 @@ abbrev pub least_words : Option LeastMargin → List ℕ
 least_words None = []
 least_words (Some least) = codes "; least margin " ++ (decimal least.margin ++ (codes " (run " ++ (decimal least.run ++ codes ")")))
 
+-- how many runs there are
+abbrev pub count_words : ℕ → List ℕ
+count_words runs = if runs == 1 then codes "1 run" else decimal runs ++ codes " runs"
+
 -- how many runs there are, and how many of each kind
 abbrev pub summary_words : ℕ → ℕ → ℕ → ℕ → ℕ → Option LeastMargin → List ℕ
 summary_words runs kept refuted untested unjudged least =
-    decimal runs ++ (codes " runs: " ++ (decimal kept ++ (codes " yes, " ++ (decimal refuted ++ (codes " no, " ++ (decimal untested ++ (codes " untested, "
+    count_words runs ++ (codes ": " ++ (decimal kept ++ (codes " yes, " ++ (decimal refuted ++ (codes " no, " ++ (decimal untested ++ (codes " untested, "
     ++ (decimal unjudged ++ (codes " not judged" ++ least_words least)))))))))
 
 -- the summary of what came of runs, with its line feed

@@ -180,14 +180,32 @@ impl fmt::Display for Summary {
     fn fmt<W: fmt::Write>(&self, f: &mut fmt::Formatter<W>) -> fmt::Result {
         write!(
             f,
-            "{} runs: {} yes, {} no, {} untested, {} not judged{}",
-            self.runs,
+            "{}: {} yes, {} no, {} untested, {} not judged{}",
+            RunCount(self.runs),
             self.kept,
             self.no,
             self.untested,
             self.unjudged,
             LeastWords(self.least)
         )
+    }
+}
+
+/// How many runs there are.
+#[derive(Clone, Copy)]
+struct RunCount(u64);
+
+impl fmt::Display for RunCount {
+    ghost use Rattle.std.specs.Prelude.{Some};
+    ghost use Rattle.judged_runs.specs.Outcomes.{count_words};
+
+    ghost output = { λ count. Some (count_words count.0) };
+
+    fn fmt<W: fmt::Write>(&self, f: &mut fmt::Formatter<W>) -> fmt::Result {
+        match self.0 {
+            1 => f.write_str("1 run"),
+            runs => write!(f, "{runs} runs"),
+        }
     }
 }
 

@@ -41,7 +41,9 @@ fn tell_runs<W: Write>(
     let mut outcomes = Vec::with_capacity(rt.alloc(), runs.len())?;
     for k in 0..runs.len() {
         let outcome = tell_run(rt, judging, k as u64 + 1, &runs[k], writer)?;
-        outcomes.push(outcome)?;
+        if outcomes.push(outcome).is_err() {
+            return Err(Fault::Memory);
+        }
     }
     let summary = summary_text(rt.alloc(), &outcomes)?;
     print(summary.as_str(), writer)?;
