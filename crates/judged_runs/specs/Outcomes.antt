@@ -70,4 +70,4 @@ told_summary outcomes = summary_words (length outcomes) (count_by is_kept outcom
 
 -- the exit status for what came of runs
 abbrev pub status_of_outcomes : List Outcome → ℕ
-status_of_outcomes outcomes = if nat_lt 0 (count_by is_unjudged outcomes) then 9 else (if nat_lt 0 (count_by is_no outcomes) then 1 else 0)
+status_of_outcomes outcomes = if nat_lt 0 (count_by is_unjudged outcomes) then 10 else (if nat_lt 0 (count_by is_no outcomes) then 1 else 0)

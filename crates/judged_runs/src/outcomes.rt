@@ -23,12 +23,12 @@ pub struct LeastMargin {
     pub run: u64,
 }
 
-/// The exit status for the runs of a list: 9 if some run wasn't judged, or else 1 if the verdict on some run is no.
+/// The exit status for the runs of a list: 10 if some run wasn't judged, or else 1 if the verdict on some run is no.
 pub fn outcomes_status(outcomes: &[Outcome]) -> u8
     ensures { result ≡ status_of_outcomes outcomes.now }
 {
     if count_unjudged(outcomes) > 0 {
-        return 9;
+        return 10;
     }
     if count_no(outcomes) > 0 {
         return 1;

@@ -296,10 +296,10 @@ DECISIONS is CSV with the header proc,tick,value, and then a record for each
 decision in any order: which processor decided, in which tick of the trace, and
 what. With --replay there is no such file: the trace has to be a run, as
 `replay` demands it, and its decisions are judged, each in the tick of the step
-that ended its round. The processors of LIST have to agree, and each of them has to decide
-within FORMULA ticks from a stabilization time on, by the bounds delta and phi
-that hold from there. So each row of the report sets a deadline, gst + FORMULA;
-with --start TICK it counts from TICK on if that is later than gst.
+that ended its round. The processors of LIST have to agree, and each of them
+has to decide within FORMULA ticks from a stabilization time on, by the bounds
+delta and phi that hold from there. So each row of the report sets a deadline,
+gst + FORMULA; with --start TICK it counts from TICK on if that is later.
 
 FORMULA has numbers and the words delta, phi, n (how many processors there are)
 and t (how many may be faulty), with + and *, parentheses, max(A, B, ..), and /
@@ -335,11 +335,11 @@ tick by which all had decided, if they had; and how many ticks that was before
 the deadline, negative if it was later.
 
 With --runs FILE is a list of runs: CSV with the header
-trace,decisions,correct,start, and then a record for each run with the paths of
-its trace and of its decisions, its correct processors and its start. With no
-decisions they are those of the replay. With no correct processors or no start
-those of --correct (all, if it is left out) and --start count. A line is printed
-for each run, and then how many there are of each kind:
+trace,decisions,correct,start, and then a record for each run with the paths
+of its trace and of its decisions, its correct processors and its start. An
+empty field is allowed: the decisions are then those of the replay, the
+processors and the start those of --correct (all, if it is left out) and
+--start. A line is printed for each run, and then how many are of each kind:
 
   run 1: yes 3 due 9 later margin 31
   run 2: no deadline 40 2 5 212 3
@@ -369,7 +369,7 @@ Exit status:
   5  out of memory
   6  a file can't be opened or read, or the output can't be written
   7  with --replay: the trace is no run
-  9  with --runs: some run is not judged
+  10 with --runs: some run is not judged
 Faults go to standard error. Output begins once the verdict is known, or with
 --runs that of the first run."
 }
