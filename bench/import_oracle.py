@@ -43,6 +43,10 @@ TIMES = (b"a time is a whole number, decimal seconds like 1700000000.123456, or 
 NO_NAME = b"the name of a node is text with no control character, and not empty"
 DRIFT = b"clocks drift or step, or events are logged late; --spread alone places them by cause"
 NO_OFFSETS = b"no offsets of clocks bring the messages into order"
+LENGTHS = (
+    b"a number above 0 in the unit of the times (ns for decimal seconds and time stamps), or a duration above 0 such as 250us, 5ms, "
+    b"1m 30s or 2h, unless the times are whole numbers without --unit"
+)
 NO_CLOCKS = b"no clocks make this right: the records of a node are out of order, or a message is named wrongly"
 
 
@@ -164,23 +168,23 @@ def read_options(options):
         if options.unit not in UNITS:
             raise Refused(2, b"bad --unit")
         kind = Whole(UNITS[options.unit])
-    width = (1, False) if options.tick is None else length_of(options.tick, b"bad --tick")
+    width = (1, False) if options.tick is None else length_of(options.tick, b"--tick")
     until = None
     if options.until is not None:
         forms = [(number, "number"), (decimal, "nanoseconds"), (stamp, "stamp"), (local, "local"), (duration, "nanoseconds")]
         until = next(((read(options.until), form) for read, form in forms if read(options.until) is not None), None)
         if until is None:
             raise Refused(2, b"bad --until")
-    idle = None if options.idle is None else length_of(options.idle, b"bad --idle")
+    idle = None if options.idle is None else length_of(options.idle, b"--idle")
     return nodes, kind, width, until, idle
 
 
-def length_of(text, why):
-    """A length above 0, with whether it is a duration."""
+def length_of(text, option):
+    """The length above 0 of this option, with whether it is a duration."""
     plain, length = number(text), above_zero(text)
     told = (plain, False) if plain is not None else (length, True)
     if not told[0]:
-        raise Refused(2, why)
+        raise Refused(2, b"bad " + option, b'%s is "%s", and takes ' % (option, text) + LENGTHS)
     return told
 
 

@@ -93,6 +93,36 @@ def test_a_verdict_is_true_if_it_is_a_yes():
     assert (bool(no), no.reason, no.numbers, str(no)) == (False, "FirstNotOne", (), "no FirstNotOne")
 
 
+def test_the_decisions_of_the_replay_are_judged():
+    # (processor 1 decides 7 in tick 16; the rows apply from tick 1 with phi 3 and from tick 18 with phi 2)
+    seven, decided = EXAMPLES / "decides-seven.trace", b"proc,tick,value\n1,16,7\n"
+    for within, line in (("15", "yes 1 due 1 later margin 0"), ("14", "no deadline 1 1 3 15 1")):
+        found = sy.judge(seven, correct=iter([1]), within=within, valid=True, factor=True, rows=True, replay=True)
+        assert str(found) == line and [it.decided for it in found.rows] == [16, 16]
+        assert found == sy.judge(seven, decided, [1], within, valid=True, factor=True, rows=True)
+    # (an answer that needs a second call, in more room: from each tick on nobody makes a step)
+    idle = b"dls-trace,2,2,0\ninit,0,0\nend,1000\n"
+    library._rooms.room = library._Room(0)
+    found = sy.judge(idle, correct=(p for p in (1, 2)), within="phi", rows=True, replay=True)
+    assert found and str(found) == "yes 0 due 1000 later"
+    assert found.rows == [(tick, 1, 1002 - tick, None, None, None) for tick in range(1, 1001)]
+
+
+def test_decisions_of_both_or_of_neither_are_refused():
+    both = "judge takes either DECISIONS or --replay"
+    for call, words, status in [
+        (lambda: sy.judge(ONE_MISS, correct="all", within="1", replay=True), "not a run: step 1\nprocessor 1 had to send to processor 1", 7),
+        (lambda: sy.judge(ONE_MISS, b"proc,tick,value\n", "all", "1", replay=True), both, 2),
+        (lambda: sy.judge(ONE_MISS, correct="all", within="1"), both, 2),
+    ]:
+        with raises(sy.SynchronyError) as caught:
+            call()
+        assert (type(caught[0]), str(caught[0]), caught[0].status) == (sy.SynchronyError, words, status)
+    for given in ({"within": "1"}, {"correct": "all"}):
+        with raises(TypeError, "correct and within"):
+            sy.judge(ONE_MISS, replay=True, **given)
+
+
 def test_threads_have_rooms_of_their_own():
     traces = [ONE_MISS, b"dls-trace,2,2,0\ninit,0,0\nend,1000\n"]
     due, seen = [sy.report_text(it, "all") for it in traces], []

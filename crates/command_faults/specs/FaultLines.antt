@@ -8,12 +8,10 @@ use Rattle.command_faults.specs.declared.faults.Fault.{Fault}
 use Rattle.command_faults.specs.declared.faults.Fault.TheVariants as fault
 use Rattle.command_faults.specs.declared.faults.PictureOption.{PictureOption}
 use Rattle.command_faults.specs.declared.faults.PictureOption.TheVariants as option
-use Rattle.command_faults.specs.declared.faults.ImportOption.{ImportOption}
-use Rattle.command_faults.specs.declared.faults.ImportOption.TheVariants as import_option
 use Rattle.command_faults.specs.declared.faults.ListedField.{ListedField}
 use Rattle.command_faults.specs.declared.faults.ListedField.TheVariants as field
 use Rattle.command_faults.specs.Hints.{certificate_hint, decisions_hint, due_hint, file_hint, formula_hint, listed_hint, picture_hint, run_list_hint, trace_hint}
-use Rattle.command_faults.specs.LogFaultLines.{help_line, log_lead}
+use Rattle.command_faults.specs.LogFaultLines.{help_line, import_option_words, length_hint, log_lead}
 use Rattle.command_faults.specs.OutsideLines.{member_line, report_option_words, set_option_words, tick_line}
 
 -- an option of a picture, as the command line has it
@@ -23,14 +21,6 @@ option_words (option.BadName place) = codes "--names"
 option_words (option.SameName place) = codes "--names"
 option_words (option.From from last) = codes "--from"
 option_words (option.To to from) = codes "--to"
-
--- an option of a log, likewise
-abbrev pub import_option_words : ImportOption → List ℕ
-import_option_words import_option.Nodes = codes "--nodes"
-import_option_words import_option.Unit = codes "--unit"
-import_option_words import_option.Tick = codes "--tick"
-import_option_words import_option.Until = codes "--until"
-import_option_words import_option.Idle = codes "--idle"
 
 -- a field of a run in a list, as the list's header has it
 abbrev pub listed_field_words : ListedField → List ℕ
@@ -59,6 +49,7 @@ fault_line (fault.Picture option) = codes "synchrony: bad " ++ (option_words opt
 fault_line (fault.Report option o) = codes "synchrony: bad " ++ (report_option_words option ++ tick_line option o)
 fault_line (fault.Log reason) = codes "synchrony: " ++ (log_lead reason ++ (log_error_text reason ++ help_line reason))
 fault_line (fault.Import option) = codes "synchrony: bad " ++ import_option_words option
+fault_line (fault.Length option given) = codes "synchrony: bad " ++ (import_option_words option ++ length_hint option (string_bytes given))
 
 -- the text with a line feed at its end, where it has none there
 abbrev pub ended_line : List ℕ → List ℕ

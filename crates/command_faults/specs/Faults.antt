@@ -57,6 +57,7 @@ status_of (fault.Picture option) = 2
 status_of (fault.Report option o) = status_of_tick option
 status_of (fault.Log e) = status_of_log e
 status_of (fault.Import option) = 2
+status_of (fault.Length option given) = 2
 
 -- the fault that a refusal of a text is: want of memory and a failed read are faults of their own
 abbrev pub fault_of_text : TextError → Fault

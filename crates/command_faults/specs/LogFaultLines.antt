@@ -1,8 +1,11 @@
--- What the line of a refused log has beside the words of the refusal.
+-- What the line of a refused log has beside the words of the refusal, and that of an option by which no log is read.
 use Rattle.std.specs.Prelude.{ℕ, List, [], ◌∷◌, ◌++◌, codes, Option, Some, None}
 use Rattle.timed_events.specs.declared.events.Hint.{Hint}
 use Rattle.timed_events.specs.declared.events.Hint.TheVariants.{ShorterTick, Spread}
 use Rattle.event_log.specs.RefusalTexts.{printed}
+use Rattle.command_faults.specs.declared.faults.ImportOption.{ImportOption}
+use Rattle.command_faults.specs.declared.faults.ImportOption.TheVariants as import_option
+use Rattle.command_faults.specs.Hints.{hint}
 use Rattle.event_log.specs.declared.refusals.LogError.{LogError}
 use Rattle.event_log.specs.declared.refusals.LogError.TheVariants.{BadNode, BadTime, TickUnfit, UntilUnfit, IdleUnfit, TooManyTicks, TooManySteps, NotLater, SecondEvent, Cycle, NoOffsets}
 
@@ -31,3 +34,15 @@ help_line (BadTime number) = 10 ∷ codes "synchrony: a time is a whole number, 
 help_line (BadNode number None) = 10 ∷ codes "synchrony: the name of a node is text with no control character, and not empty"
 help_line (BadNode number (Some name)) = 10 ∷ (codes "synchrony: \"" ++ (printed name ++ codes "\" is not among --nodes"))
 help_line why = []
+
+-- an option of a log, as the command line has it
+abbrev pub import_option_words : ImportOption → List ℕ
+import_option_words import_option.Nodes = codes "--nodes"
+import_option_words import_option.Unit = codes "--unit"
+import_option_words import_option.Tick = codes "--tick"
+import_option_words import_option.Until = codes "--until"
+import_option_words import_option.Idle = codes "--idle"
+
+-- what an option says that tells no length of time, and what it takes
+abbrev pub length_hint : ImportOption → List ℕ → List ℕ
+length_hint option given = hint (import_option_words option ++ (codes " is \"" ++ (given ++ codes "\", and takes a number above 0 in the unit of the times (ns for decimal seconds and time stamps), or a duration above 0 such as 250us, 5ms, 1m 30s or 2h, unless the times are whole numbers without --unit")))

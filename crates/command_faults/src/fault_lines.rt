@@ -3,12 +3,12 @@
 ghost use Rattle.std.specs.Prelude.{◌≡◌, IfOk, string_bytes};
 ghost use Rattle.command_faults.specs.FaultLines.{fault_line, ended_line};
 
-use crate::faults::{Fault, ImportOption, ListedField, PictureOption};
+use crate::faults::{Fault, ListedField, PictureOption};
 use crate::hints::{
     CertificateHint, DecisionsHint, DueHint, FileHint, FormulaHint, ListedHint, PictureHint,
     RunListHint, TraceHint,
 };
-use crate::log_fault_lines::{HelpLine, LogLead};
+use crate::log_fault_lines::{HelpLine, LengthHint, LogLead};
 use crate::outside_lines::{MemberLine, TickLine};
 use std::alloc::{AllocError, Global};
 use std::fmt;
@@ -77,6 +77,10 @@ impl fmt::Display for Fault {
             }
             Fault::Log(why) => write!(f, "synchrony: {}{why}{}", LogLead(why), HelpLine(why)),
             Fault::Import(option) => write!(f, "synchrony: bad {option}"),
+            Fault::Length(option, given) => {
+                let hint = LengthHint(*option, given.as_str());
+                write!(f, "synchrony: bad {option}{hint}")
+            }
         }
     }
 }
@@ -94,24 +98,6 @@ impl fmt::Display for PictureOption {
             PictureOption::BadName(_) | PictureOption::SameName(_) => f.write_str("--names"),
             PictureOption::From(..) => f.write_str("--from"),
             PictureOption::To(..) => f.write_str("--to"),
-        }
-    }
-}
-
-/// The option, as the command line has it.
-impl fmt::Display for ImportOption {
-    ghost use Rattle.std.specs.Prelude.{Some};
-    ghost use Rattle.command_faults.specs.FaultLines.{import_option_words};
-
-    ghost output = { λ option. Some (import_option_words option) };
-
-    fn fmt<W: fmt::Write>(&self, f: &mut fmt::Formatter<W>) -> fmt::Result {
-        match self {
-            ImportOption::Nodes => f.write_str("--nodes"),
-            ImportOption::Unit => f.write_str("--unit"),
-            ImportOption::Tick => f.write_str("--tick"),
-            ImportOption::Until => f.write_str("--until"),
-            ImportOption::Idle => f.write_str("--idle"),
         }
     }
 }

@@ -53,6 +53,9 @@ pub enum Fault {
     Log(LogError),
     /// What this option says tells no way to read a log.
     Import(ImportOption),
+    /// What this option says, which is this, is no length of time by which a log is read: neither a number nor a duration, or
+    /// not above 0.
+    Length(ImportOption, String),
 }
 
 /// An option that names correct processors.
@@ -281,6 +284,7 @@ pub fn status(fault: &Fault) -> u8
         Fault::Command(_) | Fault::Set(_, _) | Fault::Within(_) => 2,
         Fault::Report(ReportOption::Start, _) => 3,
         Fault::Picture(_) | Fault::Report(_, _) | Fault::Import(_) => 2,
+        Fault::Length(_, _) => 2,
         Fault::Log(LogError::TickUnfit | LogError::UntilUnfit | LogError::IdleUnfit) => 2,
         Fault::Trace(_) | Fault::Log(_) => 3,
         Fault::Certificate(_) | Fault::Decisions(_) => 4,

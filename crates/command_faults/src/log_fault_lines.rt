@@ -1,8 +1,10 @@
-//! What the line of a refused log has beside the words of the refusal: what stands before them, and what helps.
+//! What the line of a refused log has beside the words of the refusal: what stands before them, and what helps; and what the
+//! line of an option has by which no log is read.
 
 ghost use Rattle.std.specs.Prelude.{◌≡◌};
 ghost use Rattle.command_faults.specs.LogFaultLines.{hint_line};
 
+use crate::faults::ImportOption;
 use event_log::LogError;
 use std::fmt;
 use timed_events::Hint;
@@ -71,5 +73,42 @@ fn hint_line(hint: Option<Hint>) -> &'static str
         Some(Hint::ShorterTick) =>
             "\nsynchrony: a shorter --tick sets them apart, and --spread moves one of them",
         Some(Hint::Spread) => "\nsynchrony: --spread sets them apart",
+    }
+}
+
+/// The option, as the command line has it.
+impl fmt::Display for ImportOption {
+    ghost use Rattle.std.specs.Prelude.{Some};
+    ghost use Rattle.command_faults.specs.LogFaultLines.{import_option_words};
+
+    ghost output = { λ option. Some (import_option_words option) };
+
+    fn fmt<W: fmt::Write>(&self, f: &mut fmt::Formatter<W>) -> fmt::Result {
+        match self {
+            ImportOption::Nodes => f.write_str("--nodes"),
+            ImportOption::Unit => f.write_str("--unit"),
+            ImportOption::Tick => f.write_str("--tick"),
+            ImportOption::Until => f.write_str("--until"),
+            ImportOption::Idle => f.write_str("--idle"),
+        }
+    }
+}
+
+/// What an option says that tells no length of time, and what it takes, after a line feed.
+#[derive(Clone, Copy)]
+pub(crate) struct LengthHint<'a>(pub(crate) ImportOption, pub(crate) &'a str);
+
+impl fmt::Display for LengthHint<'_> {
+    ghost use Rattle.std.specs.Prelude.{Some};
+    ghost use Rattle.command_faults.specs.LogFaultLines.{length_hint};
+
+    ghost output = { λ hint. Some (length_hint hint.0 hint.1.now) };
+
+    fn fmt<W: fmt::Write>(&self, f: &mut fmt::Formatter<W>) -> fmt::Result {
+        write!(
+            f,
+            "\nsynchrony: {} is \"{}\", and takes a number above 0 in the unit of the times (ns for decimal seconds and time stamps), or a duration above 0 such as 250us, 5ms, 1m 30s or 2h, unless the times are whole numbers without --unit",
+            self.0, self.1
+        )
     }
 }

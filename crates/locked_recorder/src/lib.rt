@@ -5,6 +5,7 @@
 mod audits;
 mod company;
 mod comparisons;
+mod decided_prefixes;
 mod drives;
 mod errors;
 mod missing_steps;
@@ -20,6 +21,7 @@ mod undecided;
 mod views;
 
 pub use company::Company;
+pub use decided_prefixes::DecidedPrefix;
 pub use errors::{AuditError, DriveError, DriveStop, MineError, PrefixError, RecordError};
 pub use recorders::Recorder;
 pub use seats::Seat;

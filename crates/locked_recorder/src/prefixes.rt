@@ -35,13 +35,7 @@ impl Recorder {
             Ok(None) => return Err(PrefixError::NotAnExtension { at: 0, found: None }),
             Err(_) => return Err(PrefixError::Memory),
         };
-        if let Some(seen) = view.seen() {
-            compare(&trace, seen)?;
-        }
-        let Ok(copy) = trace.copy(alloc) else {
-            return Err(PrefixError::Memory);
-        };
-        view.see(copy);
+        show(alloc, &trace, view)?;
         Ok(trace)
     }
 
@@ -83,6 +77,24 @@ impl Recorder {
         }
         Ok(Some(world.trace().copy(alloc)?))
     }
+}
+
+/// Shows a trace to a view, if it extends what that had seen. A refusal leaves the view as it was. Takes memory for a copy.
+pub(crate) fn show(alloc: Global, trace: &Trace, view: &mut View) -> Result<(), PrefixError>
+    requires { IsRunOf trace.now.config trace.now }
+    ensures extends { OnOk result (IfSome view.old (λ seen. Extends trace.now seen)) }
+    ensures seen { OnOk result (view.new ≡ Some trace.now) }
+    ensures refused { IfErr result (λ e. IsPrefixRefusal trace.now.config view.old e) }
+    ensures err { OnErr result (view.new ≡ view.old) }
+{
+    if let Some(seen) = view.seen() {
+        compare(trace, seen)?;
+    }
+    let Ok(copy) = trace.copy(alloc) else {
+        return Err(PrefixError::Memory);
+    };
+    view.see(copy);
+    Ok(())
 }
 
 /// Whether a trace extends what was seen; else the first difference, with a copy of what the trace has there.

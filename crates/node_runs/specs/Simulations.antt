@@ -1,5 +1,5 @@
 -- Simulated runs: what is printed of one.
-use Rattle.std.specs.Prelude.{ℕ, ◌≡◌, ◌+◌, List, Option, IfSome, length}
+use Rattle.std.specs.Prelude.{ℕ, ◌≡◌, ◌+◌, List, IfSome, length}
 use Rattle.step_trace.specs.Bounds.{DeltaHolds, PhiHolds}
 use Rattle.step_trace.specs.Traces.{Recorded}
 use Rattle.trace_text.specs.TraceTexts.{trace_text}

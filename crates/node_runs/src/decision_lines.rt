@@ -1,7 +1,7 @@
-//! The line that tells who decided in a run.
+//! The lines that tell who decided in a run: all of them at its end, and meanwhile those that aren't told yet.
 
-ghost use Rattle.std.specs.Prelude.{◌≡◌, IfOk, length, string_bytes};
-ghost use Rattle.node_runs.specs.DecisionLines.{count_words, decided_line, decision_words, told_decisions};
+ghost use Rattle.std.specs.Prelude.{◌≡◌, IfOk, filter, length, string_bytes};
+ghost use Rattle.node_runs.specs.DecisionLines.{all_decided, count_words, decided_line, decision_words, is_later, line_of_any, told_decisions, told_later};
 
 use deciding_runs::{Decision, decisions_of};
 use std::alloc::{AllocError, Global};
@@ -14,18 +14,63 @@ pub fn decisions_text(alloc: Global, world: &World) -> Result<String, AllocError
         ≡ told_decisions world.now.trace.config world.now.trace.steps) }
 {
     let decisions = decisions_of(alloc, world)?;
-    decided_line(alloc, world.trace().config().n(), &decisions)
+    all_decided(alloc, world.trace().config().n(), &decisions)
 }
 
-/// The line of these decisions, of so many processors.
-fn decided_line(alloc: Global, all: u64, decisions: &[Decision]) -> Result<String, AllocError>
-    ensures { IfOk result (λ text. string_bytes text ≡ decided_line all decisions.now) }
+/// The line of all decisions, of so many processors.
+fn all_decided(alloc: Global, all: u64, decisions: &[Decision]) -> Result<String, AllocError>
+    ensures { IfOk result (λ text. string_bytes text ≡ all_decided all decisions.now) }
 {
-    let mut line = CountWords {
-        some: decisions.len() as u64,
-        all,
+    decided_line(alloc, decisions.len() as u64, all, decisions)
+}
+
+/// The line, with its line feed, of those among the decisions of so many processors that were made after `since` steps, if
+/// there are any. It tells how many decided until now, too.
+pub(crate) fn later_text(
+    alloc: Global,
+    all: u64,
+    since: u64,
+    decisions: &[Decision],
+) -> Result<String, AllocError>
+    ensures { IfOk result (λ text. string_bytes text ≡ told_later all since decisions.now) }
+{
+    let mut later = Vec::from_slice(alloc, decisions)?;
+    keep_later(&mut later, since);
+    line_of_any(alloc, decisions.len() as u64, all, &later)
+}
+
+/// Of these the decisions that were made after so many steps.
+fn keep_later(decisions: &mut Vec<Decision>, since: u64)
+    ensures { decisions.new.items ≡ filter (is_later since) decisions.old.items }
+{
+    decisions.retain(|decision| since < decision.step);
+}
+
+/// The line of these decisions, if there are any, where so many of all processors decided.
+fn line_of_any(
+    alloc: Global,
+    some: u64,
+    all: u64,
+    decisions: &[Decision],
+) -> Result<String, AllocError>
+    ensures { IfOk result (λ text. string_bytes text ≡ line_of_any some all decisions.now) }
+{
+    if decisions.is_empty() {
+        return Ok(String::new(alloc));
     }
-    .to_string(alloc)?;
+    decided_line(alloc, some, all, decisions)
+}
+
+/// The line of these decisions, where so many of all processors decided.
+fn decided_line(
+    alloc: Global,
+    some: u64,
+    all: u64,
+    decisions: &[Decision],
+) -> Result<String, AllocError>
+    ensures { IfOk result (λ text. string_bytes text ≡ decided_line some all decisions.now) }
+{
+    let mut line = CountWords { some, all }.to_string(alloc)?;
     for decision in decisions {
         let words = DecisionWords(*decision).to_string(alloc)?;
         line.push_str(words.as_str())?;

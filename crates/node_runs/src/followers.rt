@@ -1,4 +1,4 @@
-//! Who follows a run while its threads step, and tells how synchronous they are so far.
+//! Who follows a run while its threads step, and tells how synchronous they are so far, and who decided.
 
 ghost use Rattle.std.specs.Prelude.{◌≡◌, ◌⊎◌, ◌↔◌, ◌-◌, ◌*◌, ◌<◌, length, IfOk, IfErr, IfSome, OnOk, IsTrue, Some, None, true, false, option_map};
 ghost use Rattle.std.specs.Io.KnownBytes.{Appends};
@@ -7,15 +7,17 @@ ghost use Rattle.suffix_staircase.specs.Analysis.{AreLevels};
 ghost use Rattle.trace_text.specs.ByteLoops.{WasFaultless};
 ghost use Rattle.trace_text.specs.Faults.{inner_of};
 ghost use Rattle.command_faults.specs.Printing.{IsWriteFault};
+ghost use Rattle.node_runs.specs.DecisionLines.{told_later};
 ghost use Rattle.node_runs.specs.Standings.{IsStanding};
 ghost use Rattle.node_runs.specs.StandingLines.{told_stop};
-ghost use Rattle.node_runs.specs.Followers.{AreAmong, GoesOnAlike, HasBegun, HasTold, HasToldOne, IsDue, IsLine, IsLineOf, IsSetRefusal, TellsOf};
+ghost use Rattle.node_runs.specs.Followers.{AreAmong, GoesOnAlike, HasBegun, HasTold, HasToldOne, IsDue, IsLine, IsLineOf, IsNextLineOf, IsSetRefusal, TellsOf};
 
+use crate::decision_lines::later_text;
 use crate::standing_lines::{tell_standing, tell_stop};
 use crate::standings::standing_of;
 use chunk_join::{Analyst, FeedError};
 use command_faults::{Fault, SetOption, correct_set};
-use locked_recorder::{PrefixError, Recorder, View};
+use locked_recorder::{DecidedPrefix, PrefixError, Recorder, View};
 use std::alloc::{AllocError, Global};
 use std::io::Write;
 use std::sync::Wait;
@@ -97,7 +99,8 @@ fn started<W: Write + Drop>(
 }
 
 impl<W: Write> Follower<W> {
-    /// Follows a recorder to which threads make steps, until `ended` says that all have ended, or no more is told.
+    /// Follows a recorder to which threads make steps, until `ended` says that all have ended, or no more is told. Each
+    /// decision is told once, with the first standing that is told after it.
     pub(crate) fn follow<R: Wait + Clock>(
         &mut self,
         rt: &R,
@@ -106,7 +109,7 @@ impl<W: Write> Follower<W> {
         ended: &AtomicBool,
     )
         ensures set { self.new.analyst.set ≡ self.old.analyst.set }
-        ensures told { HasTold (IsLine recorder.now.config self.old.analyst.set) (W.contents (inner_of self.old.writer)) (W.contents (inner_of self.new.writer)) }
+        ensures told { HasTold (IsLine recorder.now.config self.old.analyst.set) self.old.told self.new.told (W.contents (inner_of self.old.writer)) (W.contents (inner_of self.new.writer)) }
     {
         let mut view = recorder.view();
         for _ in rt.forever() {
@@ -122,7 +125,7 @@ impl<W: Write> Follower<W> {
     /// run has ended.
     fn look<R: Wait>(&mut self, rt: &R, alloc: Global, recorder: &Recorder, view: &mut View)
         ensures set { self.new.analyst.set ≡ self.old.analyst.set }
-        ensures told { HasTold (IsLine recorder.now.config self.old.analyst.set) (W.contents (inner_of self.old.writer)) (W.contents (inner_of self.new.writer)) }
+        ensures told { HasTold (IsLine recorder.now.config self.old.analyst.set) self.old.told self.new.told (W.contents (inner_of self.old.writer)) (W.contents (inner_of self.new.writer)) }
     {
         let Some(count) = recorder.step_count(rt) else {
             return;
@@ -130,8 +133,8 @@ impl<W: Write> Follower<W> {
         if !self.is_due(count) {
             return;
         }
-        match recorder.prefix(rt, alloc, view) {
-            Ok(trace) => self.tell_due(alloc, &trace),
+        match recorder.decided_prefix(rt, alloc, view) {
+            Ok(prefix) => self.tell_due(alloc, &prefix),
             Err(PrefixError::Memory) => self.stop(),
             // What no prefix extends is no run, which the run's own end tells.
             Err(PrefixError::NotAnExtension { .. }) => self.is_over = true,
@@ -145,52 +148,60 @@ impl<W: Write> Follower<W> {
         count < self.all && count.saturating_sub(self.told).saturating_mul(PORTIONS) >= self.all
     }
 
-    /// Tells how a trace stands, as `tell` does, if a line is due of it: it may have got its last steps since they were counted.
-    fn tell_due(&mut self, alloc: Global, trace: &Trace)
+    /// Tells how a trace stands, as `tell` does, and who decided since it was told of last, if a line is due of it: it may
+    /// have got its last steps since they were counted.
+    fn tell_due(&mut self, alloc: Global, prefix: &DecidedPrefix)
         ensures set { self.new.analyst.set ≡ self.old.analyst.set }
-        ensures told { HasBegun (IsLineOf self.old.analyst.set trace.now) (W.contents (inner_of self.old.writer)) (W.contents (inner_of self.new.writer)) }
-        ensures due { (IsDue self.old.all self.old.told (length trace.now.steps) → ⊥) → self.new ≡ self.old }
+        ensures told { HasBegun (IsNextLineOf self.old.analyst.set prefix.now.trace prefix.now.decisions.items self.old.told self.new.told) (W.contents (inner_of self.old.writer)) (W.contents (inner_of self.new.writer)) }
+        ensures due { (IsDue self.old.all self.old.told (length prefix.now.trace.steps) → ⊥) → self.new ≡ self.old }
+        ensures whole { IsDue self.old.all self.old.told (length prefix.now.trace.steps) → self.new.is_over ≡ false
+            → HasToldOne (TellsOf self.old.analyst.set prefix.now.trace (told_later prefix.now.trace.config.n self.old.told prefix.now.decisions.items)) (W.contents (inner_of self.old.writer)) (W.contents (inner_of self.new.writer)) }
     {
-        if self.is_due(trace.len() as u64) {
-            self.tell(alloc, trace);
+        if !self.is_due(prefix.trace.len() as u64) {
+            return;
+        }
+        let all = prefix.trace.config().n();
+        match later_text(alloc, all, self.told, &prefix.decisions) {
+            Ok(news) => self.tell(alloc, &prefix.trace, news.as_str()),
+            Err(AllocError) => self.stop(),
         }
     }
 
-    /// Tells how a trace stands that extends those that were told of, unless no more is told. Want of memory is told on
-    /// a line of its own, and then no more; nor is there more where the writer fails.
-    pub(crate) fn tell(&mut self, alloc: Global, trace: &Trace)
+    /// Tells how a trace stands that extends those that were told of, and then this news, unless no more is told. Want of
+    /// memory is told on a line of its own, and then no more; nor is there more where the writer fails.
+    pub(crate) fn tell(&mut self, alloc: Global, trace: &Trace, news: &str)
         ensures set { self.new.analyst.set ≡ self.old.analyst.set }
-        ensures told { HasBegun (IsLineOf self.old.analyst.set trace.now) (W.contents (inner_of self.old.writer)) (W.contents (inner_of self.new.writer)) }
+        ensures told { HasBegun (IsLineOf self.old.analyst.set trace.now news.now) (W.contents (inner_of self.old.writer)) (W.contents (inner_of self.new.writer)) }
         ensures over { self.old.is_over ≡ true → self.new ≡ self.old }
         ensures count { self.old.is_over ≡ false → self.new.told ≡ length trace.now.steps }
-        ensures whole { self.new.is_over ≡ false → HasToldOne (TellsOf self.old.analyst.set trace.now) (W.contents (inner_of self.old.writer)) (W.contents (inner_of self.new.writer)) }
+        ensures whole { self.new.is_over ≡ false → HasToldOne (TellsOf self.old.analyst.set trace.now news.now) (W.contents (inner_of self.old.writer)) (W.contents (inner_of self.new.writer)) }
         ensures faultless { self.new.is_over ≡ false → WasFaultless self.old.writer self.new.writer }
     {
         if self.is_over {
             return;
         }
         self.told = trace.len() as u64;
-        match self.tell_next(alloc, trace) {
+        match self.tell_next(alloc, trace, news) {
             Ok(()) => {}
             Err(Fault::Memory) => self.stop(),
             Err(_) => self.is_over = true,
         }
     }
 
-    /// Tells how a trace stands that extends those that were told of.
+    /// Tells how a trace stands that extends those that were told of, and then this news.
     ///
     /// Refuses, in this order: NotARun(0) where it doesn't extend them; Write with the number of bytes that went out
     /// before. Memory may come instead before the first write.
-    fn tell_next(&mut self, alloc: Global, trace: &Trace) -> Result<(), Fault>
+    fn tell_next(&mut self, alloc: Global, trace: &Trace, news: &str) -> Result<(), Fault>
         ensures set { self.new.analyst.set ≡ self.old.analyst.set }
-        ensures told { HasBegun (IsLineOf self.old.analyst.set trace.now) (W.contents (inner_of self.old.writer)) (W.contents (inner_of self.new.writer)) }
+        ensures told { HasBegun (IsLineOf self.old.analyst.set trace.now news.now) (W.contents (inner_of self.old.writer)) (W.contents (inner_of self.new.writer)) }
         ensures cause { IfErr result (IsWriteFault self.old.writer self.new.writer) }
-        ensures whole { OnOk result (HasToldOne (TellsOf self.old.analyst.set trace.now) (W.contents (inner_of self.old.writer)) (W.contents (inner_of self.new.writer))) }
+        ensures whole { OnOk result (HasToldOne (TellsOf self.old.analyst.set trace.now news.now) (W.contents (inner_of self.old.writer)) (W.contents (inner_of self.new.writer))) }
         ensures faultless { OnOk result (WasFaultless self.old.writer self.new.writer) }
         ensures alike { GoesOnAlike self.old self.new }
     {
         let stairs = self.stairs(alloc, trace)?;
-        tell_standing(alloc, standing_of(&stairs), &mut self.writer)
+        tell_standing(alloc, standing_of(&stairs), news, &mut self.writer)
     }
 
     /// The stairs of a trace: where little of it is new, from what the analyst knows, and else from scratch, which is

@@ -9,7 +9,7 @@ ghost use Rattle.locked_recorder.specs.Prefixes.{IsRunOf};
 ghost use Rattle.trace_text.specs.ByteLoops.{WasFaultless};
 ghost use Rattle.trace_text.specs.Faults.{inner_of, is_flushed};
 ghost use Rattle.command_faults.specs.Printing.{IsWriteFault, WentOut};
-ghost use Rattle.node_runs.specs.Followers.{HasFollowed, HasTold, IsLine};
+ghost use Rattle.node_runs.specs.Followers.{HasFollowed, HasTold, HasToldEnd, IsLine};
 ghost use Rattle.node_runs.specs.Runs.{AllDecided, HaveDone, HaveDoneAtMost, HaveEnded, IsEndedRun, IsEndedRunText, IsFaultOfNodes, IsFaultOfThreads, IsUnwrittenRun, ending_of, gravity, fault_of_ending};
 
 use crate::decision_lines::decisions_text;
@@ -45,7 +45,7 @@ enum Ending {
 /// Runs the nodes of a configuration, a thread for each; and writes the trace of all their steps. The pace says when a
 /// Receive ends a round, and `end` when the run ends: each thread makes so many steps at most. Each thread enters the
 /// gate before its first step. Nothing is written before all threads have ended. A follower, if there is one, tells of the
-/// run meanwhile, and of the whole of it at its end. When the trace is written, the notes get a line that says who decided
+/// run and of each decision meanwhile, and of the whole of the run at its end. When the trace is written, the notes get a line that says who decided
 /// what, and in which tick. Whatever becomes of what is told, the run is the same.
 ///
 /// Asks for a pace of a patience of at least 1, and for at most `MAX_STEPS` steps of all processors together. Waits for
@@ -85,12 +85,12 @@ pub fn run_nodes<R: Threads + Wait + Clock + Sync, W: Write, G: Gate, E: Write +
     Ok(())
 }
 
-/// Tells of the whole of a run, where there is a follower.
+/// Tells of the whole of a run, where there is a follower. What was decided the run's own line says.
 fn tell_whole<E: Write>(alloc: Global, world: &World, follower: &mut Option<Follower<E>>)
-    ensures { (c : Setup) → IsRunOf c world.now.trace → HasFollowed E.contents c follower.old follower.new }
+    ensures { (c : Setup) → IsRunOf c world.now.trace → HasToldEnd E.contents c follower.old follower.new }
 {
     if let Some(follower) = follower {
-        follower.tell(alloc, world.trace());
+        follower.tell(alloc, world.trace(), "");
     }
 }
 
@@ -142,14 +142,14 @@ fn drive_followed<R: Threads + Wait + Clock + Sync, G: Gate, E: Write + Send>(
 ) -> Ending
     requires { 1 ≤ patience_of pace }
     ensures set { follower.new.analyst.set ≡ follower.old.analyst.set }
-    ensures told { HasTold (IsLine recorder.now.config follower.old.analyst.set) (E.contents (inner_of follower.old.writer)) (E.contents (inner_of follower.new.writer)) }
+    ensures told { HasTold (IsLine recorder.now.config follower.old.analyst.set) follower.old.told follower.new.told (E.contents (inner_of follower.old.writer)) (E.contents (inner_of follower.new.writer)) }
 {
     let ended = &AtomicBool::new(false);
     let (_, ending) = join_mut(
         rt,
         &mut ||
             ensures set { follower.exit.now.analyst.set ≡ follower.entry.now.analyst.set }
-            ensures told { HasTold (IsLine recorder.entry.now.config follower.entry.now.analyst.set) (E.contents (inner_of follower.entry.now.writer)) (E.contents (inner_of follower.exit.now.writer)) }
+            ensures told { HasTold (IsLine recorder.entry.now.config follower.entry.now.analyst.set) follower.entry.now.told follower.exit.now.told (E.contents (inner_of follower.entry.now.writer)) (E.contents (inner_of follower.exit.now.writer)) }
         { follower.follow(rt, alloc, recorder, ended) },
         &mut || -> Ending
             requires { 1 ≤ patience_of pace }

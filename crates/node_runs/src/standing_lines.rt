@@ -1,6 +1,6 @@
 //! The lines in which one who follows a run tells how it stands.
 
-ghost use Rattle.std.specs.Prelude.{◌≡◌, IfOk, OnOk, IfErr, IsTrue, string_bytes};
+ghost use Rattle.std.specs.Prelude.{◌≡◌, ◌++◌, IfOk, OnOk, IfErr, IsTrue, string_bytes};
 ghost use Rattle.std.specs.Io.KnownBytes.{Appends};
 ghost use Rattle.trace_text.specs.ByteLoops.{WasFaultless};
 ghost use Rattle.trace_text.specs.Faults.{inner_of, is_flushed};
@@ -14,22 +14,24 @@ use std::fmt;
 use std::io::Write;
 use trace_text::Counting;
 
-/// Tells how a trace stands, on a line of its own.
+/// Tells how a trace stands, on a line of its own, and then this news.
 ///
 /// Refuses Memory, and then nothing is written; and Write with the number of bytes that went out before.
 pub fn tell_standing<W: Write>(
     alloc: Global,
     standing: Option<Standing>,
+    news: &str,
     writer: &mut Counting<W>,
 ) -> Result<(), Fault>
-    ensures told { OnOk result (Appends (W.contents (inner_of writer.old)) (W.contents (inner_of writer.new)) (told_standing standing)) }
+    ensures told { OnOk result (Appends (W.contents (inner_of writer.old)) (W.contents (inner_of writer.new)) (told_standing standing ++ news.now)) }
     ensures flushed { OnOk result (IsTrue (is_flushed writer.new)) }
     ensures faultless { OnOk result (WasFaultless writer.old writer.new) }
-    ensures part { IfErr result (λ why. IsUntold why (told_standing standing) (W.contents (inner_of writer.old)) (W.contents (inner_of writer.new))) }
+    ensures part { IfErr result (λ why. IsUntold why (told_standing standing ++ news.now) (W.contents (inner_of writer.old)) (W.contents (inner_of writer.new))) }
     ensures cause { IfErr result (IsWriteFault writer.old writer.new) }
 {
-    let line = standing_text(alloc, standing)?;
-    print(line.as_str(), writer)
+    let mut text = standing_text(alloc, standing)?;
+    text.push_str(news)?;
+    print(text.as_str(), writer)
 }
 
 /// Tells that no more is told of a run, since there is no memory for it. Takes no memory itself.

@@ -1,5 +1,5 @@
 -- What the program makes of a log in an import.
-use Rattle.std.specs.Prelude.{ℕ, ◌≡◌, ◌≢◌, ◌⊎◌, List, Option, IsTrue, ⊤}
+use Rattle.std.specs.Prelude.{ℕ, ◌≡◌, ◌≢◌, ◌⊎◌, List, Option, Some, IsTrue, ⊤, string_bytes}
 use Rattle.trace_text.specs.declared.counting.Counting.{Counting}
 use Rattle.trace_text.specs.declared.refusals.WriteError.{WriteError}
 use Rattle.trace_text.specs.ByteLoops.{MetOneFault, WroteFront}
@@ -13,17 +13,24 @@ use Rattle.event_log.specs.Imports.{IsImportOf, IsLogRefusal}
 use Rattle.event_log.specs.Options.{IsOptionFault}
 use Rattle.command_faults.specs.declared.faults.Fault.{Fault}
 use Rattle.command_faults.specs.declared.faults.Fault.TheVariants as fault
+use Rattle.command_faults.specs.declared.faults.ImportOption.{ImportOption}
 use Rattle.command_faults.specs.declared.faults.ImportOption.TheVariants as option
 use Rattle.text_commands.specs.ImportLines.{notes_of}
 use Rattle.text_commands.specs.Upgrades.{IsUpgradeOf}
+
+-- the fault that what an option says, which is this text, is no length of time; or want of memory
+abbrev pub IsNoLength : ImportOption → List ℕ → Fault → Type 0
+IsNoLength o text (fault.Length named given) = (named ≡ o) × (string_bytes given ≡ text)
+IsNoLength o text fault.Memory = ⊤
+IsNoLength o text _ = ⊥
 
 -- why five texts tell no options: the first of them that is bad; or want of memory
 abbrev pub IsImportOptionFault : Option (List ℕ) → Option (List ℕ) → Option (List ℕ) → Option (List ℕ) → Option (List ℕ) → Fault → Type 0
 IsImportOptionFault nodes unit tick until idle (fault.Import option.Nodes) = IsOptionFault nodes unit tick until idle no_options.Nodes
 IsImportOptionFault nodes unit tick until idle (fault.Import option.Unit) = IsOptionFault nodes unit tick until idle no_options.Unit
-IsImportOptionFault nodes unit tick until idle (fault.Import option.Tick) = IsOptionFault nodes unit tick until idle no_options.Tick
 IsImportOptionFault nodes unit tick until idle (fault.Import option.Until) = IsOptionFault nodes unit tick until idle no_options.Until
-IsImportOptionFault nodes unit tick until idle (fault.Import option.Idle) = IsOptionFault nodes unit tick until idle no_options.Idle
+IsImportOptionFault nodes unit tick until idle (fault.Length option.Tick given) = IsOptionFault nodes unit tick until idle no_options.Tick × (tick ≡ Some (string_bytes given))
+IsImportOptionFault nodes unit tick until idle (fault.Length option.Idle given) = IsOptionFault nodes unit tick until idle no_options.Idle × (idle ≡ Some (string_bytes given))
 IsImportOptionFault nodes unit tick until idle fault.Memory = ⊤
 IsImportOptionFault nodes unit tick until idle _ = ⊥
 

@@ -4,14 +4,14 @@ ghost use Rattle.std.specs.Prelude.{◌≡◌, IfOk, IfErr, option_map, string_b
 ghost use Rattle.command_faults.specs.Printing.{WentOut};
 ghost use Rattle.event_log.specs.Imports.{IsImportOf};
 ghost use Rattle.event_log.specs.Options.{AreOptions};
-ghost use Rattle.text_commands.specs.Imports.{IsImportOptionFault, IsImportTold, IsQuietFault, IsToldOfLogs, IsUnimported};
+ghost use Rattle.text_commands.specs.Imports.{IsImportOptionFault, IsImportTold, IsNoLength, IsQuietFault, IsToldOfLogs, IsUnimported};
 ghost use Rattle.text_commands.specs.Serving.{Serves};
 
 use crate::import_lines::notes_text;
 use crate::texts::read_whole;
 use crate::upgrades::text_2_of;
-use command_faults::{Fault, print_notes};
-use event_log::{Import, LogError, Options, read_log, read_options};
+use command_faults::{Fault, ImportOption, print_notes};
+use event_log::{Import, LogError, OptionError, Options, read_log, read_options};
 use std::alloc::Global;
 use std::io::{Read, Write};
 use trace_text::{Counting, write_text};
@@ -20,7 +20,8 @@ use trace_text::{Counting, write_text};
 /// numbers of one; the length of a tick, which is 1 where it is left out; when the log ends; and the longest time without an event
 /// that gets a receive of nothing.
 ///
-/// Refuses Import for the first of the five that tells nothing, in this order, and Memory.
+/// Refuses Import for the first of the five that tells nothing, in this order, but Length for a tick or a longest time; and
+/// Memory.
 pub fn import_options(
     alloc: Global,
     nodes: Option<&str>,
@@ -34,7 +35,22 @@ pub fn import_options(
     ensures options { IfOk result (λ o. AreOptions (option_map (λ t. t.now) nodes.entry) (option_map (λ t. t.now) unit.entry) (option_map (λ t. t.now) tick.entry) (option_map (λ t. t.now) until.entry) (option_map (λ t. t.now) idle.entry) spread align o) }
     ensures refused { IfErr result (IsImportOptionFault (option_map (λ t. t.now) nodes.entry) (option_map (λ t. t.now) unit.entry) (option_map (λ t. t.now) tick.entry) (option_map (λ t. t.now) until.entry) (option_map (λ t. t.now) idle.entry)) }
 {
-    Ok(read_options(alloc, nodes, unit, tick, until, idle, spread, align)?)
+    match read_options(alloc, nodes, unit, tick, until, idle, spread, align) {
+        Ok(options) => Ok(options),
+        Err(OptionError::Tick) => Err(no_length(alloc, ImportOption::Tick, tick.unwrap_or(""))),
+        Err(OptionError::Idle) => Err(no_length(alloc, ImportOption::Idle, idle.unwrap_or(""))),
+        Err(why) => Err(Fault::from(why)),
+    }
+}
+
+/// The fault that what an option says is no length of time. Memory may come instead.
+fn no_length(alloc: Global, option: ImportOption, text: &str) -> Fault
+    ensures { IsNoLength option text.now result }
+{
+    match String::from_str(alloc, text) {
+        Ok(given) => Fault::Length(option, given),
+        Err(_) => Fault::Memory,
+    }
 }
 
 /// Reads a log to its end, tells the notes on it, and writes the text of its trace in version 2. The notes are which

@@ -249,6 +249,31 @@ fn bad_options_are_told(rt: HostRuntime) -> Result<(), Fail> {
     Ok(())
 }
 
+/// Which option says what that is no length of time, and the lines.
+const NO_LENGTHS: &[(ImportOption, &str, &str)] = &[
+    (
+        ImportOption::Tick,
+        "5xs",
+        "synchrony: bad --tick\n\
+        synchrony: --tick is \"5xs\", and takes a number above 0 in the unit of the times (ns for decimal seconds and time stamps), or a duration above 0 such as 250us, 5ms, 1m 30s or 2h, unless the times are whole numbers without --unit",
+    ),
+    (
+        ImportOption::Idle,
+        "",
+        "synchrony: bad --idle\n\
+        synchrony: --idle is \"\", and takes a number above 0 in the unit of the times (ns for decimal seconds and time stamps), or a duration above 0 such as 250us, 5ms, 1m 30s or 2h, unless the times are whole numbers without --unit",
+    ),
+];
+
+#[test]
+fn what_is_no_length_is_told(rt: HostRuntime) -> Result<(), Fail> {
+    for &(option, given, line) in NO_LENGTHS {
+        let fault = Fault::Length(option, String::from_str(rt.alloc(), given)?);
+        assert!(rt; is_told(rt.alloc(), &fault, 2, line)?, "{line}");
+    }
+    Ok(())
+}
+
 #[test]
 fn want_of_memory_is_a_fault_of_its_own(rt: HostRuntime) {
     let log = Fault::from(LogError::Memory);

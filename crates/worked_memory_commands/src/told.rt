@@ -1,6 +1,8 @@
 //! The lines in which faults are told, and the texts that they have.
 
-use command_faults::{Fault, FileTrouble, MemberOutside, PictureOption, SetOption, told_line};
+use command_faults::{
+    Fault, FileTrouble, ImportOption, MemberOutside, PictureOption, SetOption, told_line,
+};
 use front::ReportError;
 use refused_growths::{Call, Outcome, Refusal, first_wrong, judged};
 use std::alloc::{AllocError, Global};
@@ -51,6 +53,7 @@ enum Kind {
     From,
     To,
     Names,
+    Length,
 }
 
 fn fault_of(alloc: Global, kind: Kind) -> Result<Fault, AllocError> {
@@ -85,6 +88,7 @@ fn fault_of(alloc: Global, kind: Kind) -> Result<Fault, AllocError> {
         Kind::From => Fault::Picture(PictureOption::From(31, 30)),
         Kind::To => Fault::Picture(PictureOption::To(5, 10)),
         Kind::Names => Fault::Picture(PictureOption::NameCount(3, 4)),
+        Kind::Length => Fault::Length(ImportOption::Tick, String::from_str(alloc, "5xs")?),
     })
 }
 
@@ -124,6 +128,11 @@ synchrony: --correct names processor 7, and the trace has processors 1 to 4",
     (
         Kind::To,
         "synchrony: bad --to\nsynchrony: --to is 5, and has to be from 10 to 1009",
+    ),
+    (
+        Kind::Length,
+        "synchrony: bad --tick\n\
+        synchrony: --tick is \"5xs\", and takes a number above 0 in the unit of the times (ns for decimal seconds and time stamps), or a duration above 0 such as 250us, 5ms, 1m 30s or 2h, unless the times are whole numbers without --unit",
     ),
     (
         Kind::Names,

@@ -27,11 +27,12 @@ const NOW: usize = 4;
 
 const FOREIGN: Step = (1, WAIT);
 
-/// A prefix of a recorder for a view that was shown this.
+/// A prefix of a recorder for a view that was shown this, with its decisions or without.
 #[derive(Drop)]
 struct Prefix<'a, R> {
     rt: &'a R,
     seen: Seen,
+    is_decided: bool,
 }
 
 #[derive(Drop)]
@@ -40,6 +41,7 @@ struct Shows<'a, R> {
     view: View,
     before: Option<Trace>,
     seen: Seen,
+    is_decided: bool,
 }
 
 /// A view of a recorder that was shown nothing, or all that was done.
@@ -77,6 +79,7 @@ impl<'a, R: Wait> Change for Prefix<'a, R> {
             view,
             before,
             seen: self.seen,
+            is_decided: self.is_decided,
         })
     }
 }
@@ -92,10 +95,24 @@ fn is_foreign(why: &PrefixError) -> bool {
     }
 }
 
+impl<R: Wait> Shows<'_, R> {
+    /// The trace that is shown now.
+    fn shown_now(&mut self, alloc: Global) -> Result<Trace, PrefixError> {
+        let rt = self.bench.rt;
+        if !self.is_decided {
+            return self.bench.recorder.prefix(rt, alloc, &mut self.view);
+        }
+        let prefix = self
+            .bench
+            .recorder
+            .decided_prefix(rt, alloc, &mut self.view)?;
+        Ok(prefix.trace)
+    }
+}
+
 impl<R: Wait> Lent for Shows<'_, R> {
     fn make(&mut self, alloc: Global) -> Answer {
-        let rt = self.bench.rt;
-        match self.bench.recorder.prefix(rt, alloc, &mut self.view) {
+        match self.shown_now(alloc) {
             Ok(trace) if self.seen != Seen::Foreign && trace.len() == NOW => Answer::Right,
             Err(PrefixError::Memory) => Answer::Memory,
             Err(why) if self.seen == Seen::Foreign && is_foreign(&why) => Answer::Right,
@@ -125,7 +142,14 @@ impl<R: Wait> Lent for Shows<'_, R> {
 #[test]
 fn prefixes_are_refused(rt: HostRuntime) {
     for &seen in SEEN {
-        let wrong = first_wrong_change(rt.alloc(), &Prefix { rt: &rt, seen });
-        assert_eq!(rt; wrong, None, "{seen:?}");
+        for is_decided in [false, true] {
+            let prefix = Prefix {
+                rt: &rt,
+                seen,
+                is_decided,
+            };
+            let wrong = first_wrong_change(rt.alloc(), &prefix);
+            assert_eq!(rt; wrong, None, "{seen:?} {is_decided}");
+        }
     }
 }

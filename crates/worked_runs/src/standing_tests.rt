@@ -9,6 +9,9 @@ use test_support::traces::ticked;
 use trace_text::Counting;
 use trace_text::failing_devices::{FailingWriter, WriteFailure};
 
+/// What is told behind each of the lines.
+const NEWS: &str = "news\n";
+
 /// The ticks in which processor 2 steps, the last tick, and the line for processor 2.
 const LINES: &[(&[(u64, u64, u64, &[u64])], u64, &str)] = &[
     (
@@ -47,8 +50,10 @@ fn is_told(
     }
     let stairs = Stairs::of_trace(alloc, &trace, set)?;
     let mut writer = FailingWriter::new(alloc, 1000, WriteFailure::Never);
-    let told = tell_standing(alloc, standing_of(&stairs), &mut Counting::new(&mut writer));
-    Ok(told.is_ok() && writer.taken() == line.as_bytes())
+    let standing = standing_of(&stairs);
+    let told = tell_standing(alloc, standing, NEWS, &mut Counting::new(&mut writer));
+    let news = writer.taken().strip_prefix(line.as_bytes());
+    Ok(told.is_ok() && news == Some(NEWS.as_bytes()))
 }
 
 #[test]

@@ -1,7 +1,7 @@
 //! Three threads that decide.
 
 use crate::seats::opened;
-use locked_recorder::{RecordError, Recorder, Seat};
+use locked_recorder::{RecordError, Recorder, Seat, View};
 use std::alloc::Global;
 use std::process::Abort;
 use std::sync::{Barrier, Wait};
@@ -107,11 +107,40 @@ fn has_decided(rt: &impl Abort, world: &World, decision: u64) -> bool {
     world.decision(1) == Some(decision)
 }
 
+/// Whether the prefix that is shown to a view has no decision, or that of 1 alone, with a step of its own.
+fn shows_decision<R: Wait>(
+    rt: &R,
+    alloc: Global,
+    recorder: &Recorder,
+    view: &mut View,
+    decision: Option<u64>,
+) -> bool {
+    let Ok(prefix) = recorder.decided_prefix(rt, alloc, view) else {
+        return false;
+    };
+    match (prefix.decisions.first(), decision) {
+        (None, None) => true,
+        (Some(found), Some(value)) => match prefix.trace.step(found.step) {
+            Some(step) => {
+                step.proc == 1
+                    && found.processor == 1
+                    && found.value == value
+                    && prefix.decisions.len() == 1
+            }
+            None => false,
+        },
+        _ => false,
+    }
+}
+
 #[test]
 fn threads_decide(rt: HostRuntime) -> Result<(), Fail> {
     let alloc = rt.alloc();
     let (recorder, mut seats) = opened(&rt, alloc, 1, 1, &[5, 7, 7], 100)?;
+    let mut view = recorder.view();
+    assert!(rt; shows_decision(&rt, alloc, &recorder, &mut view, None));
     assert!(rt; all_pass(&rt, alloc, &recorder, seats.as_mut_slice()));
+    assert!(rt; shows_decision(&rt, alloc, &recorder, &mut view, Some(7)));
     assert!(rt; decides(&rt, alloc, &recorder, seats.as_slice(), 18, 7));
     Ok(())
 }

@@ -281,20 +281,25 @@ def check(trace: Text, certificate: Text, correct: Correct) -> Verdict:
 
 def judge(
     trace: Text,
-    decisions: Text,
-    correct: Correct,
-    within: str,
+    decisions: Optional[Text] = None,
+    correct: Optional[Correct] = None,
+    within: Optional[str] = None,
     start: Optional[int] = None,
     valid: bool = False,
     whole: bool = False,
     due: Optional[int] = None,
     factor: bool = False,
     rows: bool = False,
+    replay: bool = False,
 ) -> Judgement:
-    """Whether all correct processors decided within a formula of the bounds, by a CSV of their decisions. `factor` and `rows` ask
-    for these of the judgement, too."""
-    given = {"correct": _set_of(correct)[1], "within": within, "start": start, "valid": valid, "whole": whole, "due": due}
-    line, *more = _asked("judge", trace, _bytes_of(decisions), **given, factor=factor, rows=rows).decode().splitlines()
+    """Whether all correct processors decided within a formula of the bounds, by a CSV of their decisions; or with `replay`, in
+    place of that CSV, by the decisions that `replay` finds in the trace. `factor` and `rows` ask for these of the judgement,
+    too."""
+    if correct is None or within is None:
+        raise TypeError("judge() takes correct and within")
+    given = {"correct": _set_of(correct)[1], "within": within, "start": start, "valid": valid, "whole": whole, "due": due, "replay": replay}
+    second = None if decisions is None else _bytes_of(decisions)
+    line, *more = _asked("judge", trace, second, **given, factor=factor, rows=rows).decode().splitlines()
     least = _least_factor(more.pop(0)) if factor else None
     return Judgement(line, least, [_deadline_row(it) for it in more[1:]] if rows else None)
 
@@ -324,6 +329,7 @@ OPTIONS: Dict[str, Tuple[str, Optional[Callable[[Any], str]]]] = {
     "due": ("--due", str),
     "factor": ("--factor", None),
     "rows": ("--rows", None),
+    "replay": ("--replay", None),
 }
 # The error of each status; of any other one it is SynchronyError itself.
 ERRORS = {BAD_TRACE: TraceRefused, BAD_CERTIFICATE: CertificateRefused}

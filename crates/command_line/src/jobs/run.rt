@@ -323,8 +323,10 @@ are so far, with the processors of LIST as the correct ones: in a line when at
 least a twentieth of all steps are new, and in one at the end. The line
   synchrony: tick 9000: delta 5, phi 9 from tick 1; delta 2, phi 4 from tick 4000
 has the least bounds that hold from tick 1 to tick 9000, and those that hold
-from 5000 ticks before it, or from tick 1 if there are no more. What is
-printed, and the exit status, are as without it.
+from 5000 ticks before it, or from tick 1 if there are no more. If processors
+decided after the line before it, one more line says so, as that of the end
+does: it counts all that decided up to tick 9000, and names those that no line
+named before. What is printed, and the exit status, are as without it.
 
 Examples, at the top of the repository:
   ./synchrony run --nodes 3 --faults 1 --values 5,7,7 --patience 1 --steps 0

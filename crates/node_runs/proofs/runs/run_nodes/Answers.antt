@@ -6,7 +6,7 @@ use Rattle.command_faults.specs.Printing.{WentOut}
 use Rattle.node_runs.specs.DecisionLines.{told_decisions}
 use Rattle.std.proofs.lemmas.Result.{err_from_is_err_and}
 use Rattle.node_runs.proofs.EndedRuns.{unwritten_run}
-use Rattle.node_runs.proofs.ToldLines.{followed_more}
+use Rattle.node_runs.proofs.ToldLines.{followed_end}
 use Rattle.node_runs.proofs.runs.run_nodes.Goals as goal
 
 pub returns-in_err-write_trace-clause-part : goal.returns-in_err-write_trace-clause-part
@@ -17,10 +17,10 @@ returns-in_err-write_trace-clause-part g c =
 
 pub returns-in_err-write_trace-clause-followed : goal.returns-in_err-write_trace-clause-followed
 returns-in_err-write_trace-clause-followed g c =
-    followed_more g.E.Write.contents c.args.config.now c.args.follower.now c.world_made.new.follower c.tell_whole.new.follower c.world_made.ensures.followed (c.tell_whole.ensures c.args.config.now c.in_ok-world.ensures.run.run)
+    followed_end g.E.Write.contents c.args.config.now c.args.follower.now c.world_made.new.follower c.tell_whole.new.follower c.world_made.ensures.followed (c.tell_whole.ensures c.args.config.now c.in_ok-world.ensures.run.run)
 
 pub returns-clause-followed : goal.returns-clause-followed
-returns-clause-followed g c = followed_more g.E.Write.contents c.args.config.now c.args.follower.now c.world_made.new.follower c.tell_whole.new.follower c.world_made.ensures.followed (c.tell_whole.ensures c.args.config.now c.in_ok-world.ensures.run.run)
+returns-clause-followed g c = followed_end g.E.Write.contents c.args.config.now c.args.follower.now c.world_made.new.follower c.tell_whole.new.follower c.world_made.ensures.followed (c.tell_whole.ensures c.args.config.now c.in_ok-world.ensures.run.run)
 
 pub returns-clause-run : goal.returns-clause-run
 returns-clause-run g c =
