@@ -22,6 +22,8 @@ mod round_tests;
 #[cfg(test)]
 mod run_tests;
 #[cfg(test)]
+mod run_texts;
+#[cfg(test)]
 mod scripts;
 #[cfg(test)]
 mod step_tests;

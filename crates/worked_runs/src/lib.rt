@@ -5,4 +5,6 @@
 #[cfg(test)]
 mod run_tests;
 #[cfg(test)]
+mod run_texts;
+#[cfg(test)]
 mod standing_tests;
