@@ -4,7 +4,7 @@
 use std::alloc::Global;
 use std::test::Fail;
 use step_trace::{PushError, Trace};
-use test_support::traces::{empty_trace, step_of, trace_of};
+use test_support::traces::{are_equal, empty_trace, silent_alternation, step_of, trace_of};
 
 /// Goes on to so many steps with Receives that take nothing, of 1 and 2 in turns.
 fn go_on(alloc: Global, trace: &mut Trace, count: u64) -> Result<(), Fail> {
@@ -14,16 +14,9 @@ fn go_on(alloc: Global, trace: &mut Trace, count: u64) -> Result<(), Fail> {
     Ok(())
 }
 
-/// The silent alternation of so many steps.
-fn silent(alloc: Global, count: u64) -> Result<Trace, Fail> {
-    let mut trace = empty_trace(alloc, 2)?;
-    go_on(alloc, &mut trace, count)?;
-    Ok(trace)
-}
-
 /// The same, but that the step after so many is a Send.
 fn with_a_send(alloc: Global, before: u64, count: u64) -> Result<Trace, Fail> {
-    let mut trace = silent(alloc, before)?;
+    let mut trace = silent_alternation(alloc, before)?;
     trace.push(step_of(alloc, 1, 2, &[])?)?;
     go_on(alloc, &mut trace, count)?;
     Ok(trace)
@@ -36,13 +29,9 @@ fn delivered(alloc: Global, count: u64) -> Result<Trace, Fail> {
     Ok(trace)
 }
 
-fn are_equal(one: &Trace, other: &Trace) -> bool {
-    one.begins(other) && other.begins(one)
-}
-
 /// Whether it is the silent alternation.
 fn is_silent(alloc: Global, trace: &Trace) -> Result<bool, Fail> {
-    let silent = silent(alloc, trace.len() as u64)?;
+    let silent = silent_alternation(alloc, trace.len() as u64)?;
     Ok(are_equal(trace, &silent))
 }
 
@@ -89,7 +78,7 @@ const DIFFERENCES: &[(u64, u64)] = &[
 
 #[test]
 fn differences_in_pages(rt: HostRuntime) -> Result<(), Fail> {
-    let seen = silent(rt.alloc(), 600)?;
+    let seen = silent_alternation(rt.alloc(), 600)?;
     for &(before, at) in DIFFERENCES {
         assert!(rt; differs_at(rt.alloc(), before, at, &seen)?, "{at}");
     }
@@ -133,7 +122,7 @@ fn copies_stay_as_they_were(rt: HostRuntime) -> Result<(), Fail> {
 
 /// Whether the trace goes on as if nothing were shared where its copy has another step.
 fn goes_on_alone(alloc: Global, count: u64, after: u64) -> Result<bool, Fail> {
-    let mut trace = silent(alloc, count)?;
+    let mut trace = silent_alternation(alloc, count)?;
     let mut copy = trace.copy(alloc)?;
     copy.push(step_of(alloc, 1, 2, &[])?)?;
     go_on(alloc, &mut trace, after)?;
