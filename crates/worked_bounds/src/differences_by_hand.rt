@@ -3,7 +3,7 @@
 use std::alloc::Global;
 use std::test::Fail;
 use step_trace::{Step, Trace};
-use test_support::traces::{step_of, ticked};
+use test_support::traces::{TickedSteps, step_of, ticked};
 
 /// A trace of two processors, one of them that was seen, each with its last tick, the first number at which
 /// the trace differs from what was seen, and what it has there.
@@ -134,14 +134,37 @@ fn has_at(
     }
 }
 
+/// A trace: how many processors it has, its steps, and its last tick.
+type Ran<'a> = (u64, TickedSteps<'a>, u64);
+
+/// The first number at which a trace differs from one that was seen.
+fn first_difference(alloc: Global, ran: Ran, seen: Ran) -> Result<u64, Fail> {
+    let trace = ticked(alloc, ran.0, ran.1, ran.2)?;
+    let seen = ticked(alloc, seen.0, seen.1, seen.2)?;
+    Ok(trace.first_difference(&seen))
+}
+
+/// Whether a trace has what is wanted at this number.
+fn has_there(
+    alloc: Global,
+    ran: Ran,
+    no: u64,
+    wanted: Option<(u64, u64, u64, &[u64])>,
+) -> Result<bool, Fail> {
+    let trace = ticked(alloc, ran.0, ran.1, ran.2)?;
+    has_at(alloc, &trace, no, wanted)
+}
+
 #[test]
 fn first_differences(rt: HostRuntime) -> Result<(), Fail> {
-    let alloc = rt.alloc();
     for it in DIFFERENCES {
-        let trace = ticked(alloc, 2, it.steps, it.last)?;
-        let seen = ticked(alloc, 2, it.seen, it.seen_last)?;
-        assert!(rt; trace.first_difference(&seen) == it.at, "{}", it.name);
-        assert!(rt; has_at(alloc, &trace, it.at, it.found)?, "{}", it.name);
+        let (ran, seen) = ((2, it.steps, it.last), (2, it.seen, it.seen_last));
+        assert!(rt;
+            first_difference(rt.alloc(), ran, seen)? == it.at,
+            "{}",
+            it.name
+        );
+        assert!(rt; has_there(rt.alloc(), ran, it.at, it.found)?, "{}", it.name);
     }
     Ok(())
 }
@@ -149,16 +172,14 @@ fn first_differences(rt: HostRuntime) -> Result<(), Fail> {
 /// There is no step 0, so what is found there is none.
 #[test]
 fn nothing_stands_at_zero(rt: HostRuntime) -> Result<(), Fail> {
-    let trace = ticked(rt.alloc(), 2, ONE_MISS, 3)?;
-    assert!(rt; has_at(rt.alloc(), &trace, 0, None)?);
+    assert!(rt; has_there(rt.alloc(), (2, ONE_MISS, 3), 0, None)?);
     Ok(())
 }
 
 /// The same steps of three processors: only their configuration is another.
 #[test]
 fn configurations_are_not_compared(rt: HostRuntime) -> Result<(), Fail> {
-    let trace = ticked(rt.alloc(), 2, ONE_MISS, 3)?;
-    let seen = ticked(rt.alloc(), 3, ONE_MISS, 3)?;
-    assert!(rt; trace.first_difference(&seen) == 4);
+    let at = first_difference(rt.alloc(), (2, ONE_MISS, 3), (3, ONE_MISS, 3))?;
+    assert!(rt; at == 4);
     Ok(())
 }

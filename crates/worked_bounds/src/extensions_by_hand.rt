@@ -1,12 +1,22 @@
 //! Traces that extend others, and the steps of one processor.
 
-use std::alloc::Global;
+use std::alloc::{AllocError, Global};
 use std::test::Fail;
 use step_trace::{Config, Step, Trace};
 use test_support::traces::{step_of, trace_of};
 
 /// One-miss: message 1 goes from 1 to 2, which receives nothing at first, and then the message.
 const ONE_MISS: &[(u64, u64, &[u64])] = &[(1, 2, &[]), (2, 0, &[]), (2, 0, &[1])];
+
+/// Whether a trace extends the one of two processors with these steps.
+fn extends_that_of(
+    alloc: Global,
+    longer: &Trace,
+    shorter: &[(u64, u64, &[u64])],
+) -> Result<bool, Fail> {
+    let shorter = trace_of(alloc, 2, shorter)?;
+    Ok(longer.begins(&shorter))
+}
 
 /// Whether the trace of two processors with these steps extends the one with those.
 fn extends(
@@ -15,8 +25,7 @@ fn extends(
     shorter: &[(u64, u64, &[u64])],
 ) -> Result<bool, Fail> {
     let longer = trace_of(alloc, 2, longer)?;
-    let shorter = trace_of(alloc, 2, shorter)?;
-    Ok(longer.begins(&shorter))
+    extends_that_of(alloc, &longer, shorter)
 }
 
 /// Traces, others, and whether the first extend those: prefixes of one-miss, and traces that differ in one step.
@@ -62,11 +71,16 @@ fn trace_under(alloc: Global, t: u64, init: &[u64]) -> Result<Trace, Fail> {
     sends_once(alloc, config)
 }
 
+/// Whether a trace extends that of this configuration.
+fn begins_under(alloc: Global, trace: &Trace, t: u64, init: &[u64]) -> Result<bool, Fail> {
+    let other = trace_under(alloc, t, init)?;
+    Ok(trace.begins(&other))
+}
+
 /// Whether that of three processors of which none may be faulty extends that of another configuration.
 fn extends_under(alloc: Global, t: u64, init: &[u64]) -> Result<bool, Fail> {
     let trace = trace_under(alloc, 0, &[5, 7, 7])?;
-    let other = trace_under(alloc, t, init)?;
-    Ok(trace.begins(&other))
+    begins_under(alloc, &trace, t, init)
 }
 
 const CONFIGURATIONS: &[(u64, &[u64], bool)] = &[
@@ -104,11 +118,21 @@ fn is_step(trace: &Trace, numbered: &(u64, Step)) -> bool {
     }
 }
 
-/// Whether processor `p` has the steps of one-miss with these numbers for its own.
+/// Whether processor `p` has the steps of a trace with these numbers for its own.
+fn are_own_steps(
+    alloc: Global,
+    trace: &Trace,
+    p: u64,
+    numbers: &[u64],
+) -> Result<bool, AllocError> {
+    let own = trace.restrict(alloc, p)?;
+    Ok(are_steps(trace, &own, numbers))
+}
+
+/// Whether it has these of one-miss.
 fn has_own_steps(alloc: Global, p: u64, numbers: &[u64]) -> Result<bool, Fail> {
     let trace = trace_of(alloc, 2, ONE_MISS)?;
-    let own = trace.restrict(alloc, p)?;
-    Ok(are_steps(&trace, &own, numbers))
+    Ok(are_own_steps(alloc, &trace, p, numbers)?)
 }
 
 const OWN_STEPS: &[(u64, &[u64])] = &[(2, &[2, 3]), (1, &[1]), (3, &[])];

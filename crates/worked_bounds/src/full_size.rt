@@ -15,21 +15,24 @@ fn processor_of(no: u64) -> u64 {
     }
 }
 
-/// Pushes so many Receives of these processors that take nothing.
-fn push_turns(alloc: Global, trace: &mut Trace, count: u64) -> Result<(), Fail> {
+/// A trace of so many Receives of these processors that take nothing.
+fn turns(alloc: Global, count: u64) -> Result<Trace, Fail> {
+    let mut trace = empty_trace(alloc, 2)?;
     for before in 0..count {
         trace.push(step_of(alloc, processor_of(before + 1), 0, &[])?)?;
     }
-    Ok(())
+    Ok(trace)
+}
+
+fn is_full(alloc: Global, trace: &mut Trace) -> Result<bool, AllocError> {
+    let next = trace.push(step_of(alloc, 1, 0, &[])?);
+    Ok(next == Err(PushError::Full))
 }
 
 #[test]
 fn greatest_trace(rt: HostRuntime) -> Result<(), Fail> {
-    let mut trace = empty_trace(rt.alloc(), 2)?;
-    push_turns(rt.alloc(), &mut trace, MAX_STEPS as u64)?;
-    assert!(rt; trace.len() == MAX_STEPS);
-    let next = trace.push(step_of(rt.alloc(), 1, 0, &[])?);
-    assert!(rt; next == Err(PushError::Full));
+    let mut trace = turns(rt.alloc(), MAX_STEPS as u64)?;
+    assert!(rt; trace.len() == MAX_STEPS && is_full(rt.alloc(), &mut trace)?);
     Ok(())
 }
 
@@ -38,12 +41,15 @@ fn is_copied(alloc: Global, trace: &Trace) -> Result<bool, AllocError> {
     Ok(copy.begins(trace) && trace.begins(&copy))
 }
 
+/// Whether so many of its steps are those of processor 1.
+fn lists_own(alloc: Global, trace: &Trace, own: usize) -> Result<bool, AllocError> {
+    Ok(trace.restrict(alloc, 1)?.len() == own)
+}
+
 /// Whether a trace of so many steps is copied whole, and as many of its steps are those of processor 1.
 fn copies_turns(alloc: Global, count: u64, own: usize) -> Result<bool, Fail> {
-    let mut trace = empty_trace(alloc, 2)?;
-    push_turns(alloc, &mut trace, count)?;
-    let listed = trace.restrict(alloc, 1)?.len();
-    Ok(is_copied(alloc, &trace)? && listed == own)
+    let trace = turns(alloc, count)?;
+    Ok(lists_own(alloc, &trace, own)? && is_copied(alloc, &trace)?)
 }
 
 /// Processor 1 has the odd steps, and the 10,000 even ones in the middle.
@@ -55,8 +61,7 @@ fn copy_of_the_greatest_trace(rt: HostRuntime) -> Result<(), Fail> {
 
 /// The longest gaps of both processors in such a trace; none where it hasn't both.
 fn gaps_of_turns(alloc: Global, count: u64) -> Result<Vec<Gap>, Fail> {
-    let mut trace = empty_trace(alloc, 2)?;
-    push_turns(alloc, &mut trace, count)?;
+    let trace = turns(alloc, count)?;
     let both = both();
     if !both.within(trace.config().n()) {
         return Ok(Vec::new(alloc));

@@ -1,7 +1,9 @@
-//! Worked examples of traces, of gates, of bounds and of stairs, and the backward pass beside the plain
-//! searches: tests of the crates below, by their public items.
+//! Worked examples of traces, of gates, of bounds, of stairs and of checks of reports, and the backward pass beside the
+//! plain searches: tests of the crates below, by their public items.
 #![tactic(auto)]
 
+#[cfg(test)]
+mod checks;
 #[cfg(test)]
 mod differences_by_hand;
 #[cfg(test)]
@@ -12,6 +14,8 @@ mod full_size;
 mod gaps_by_hand;
 #[cfg(test)]
 mod gates_by_hand;
+#[cfg(test)]
+mod hostile_rows;
 #[cfg(test)]
 mod long_stairs;
 #[cfg(test)]
@@ -25,7 +29,11 @@ mod stairs_by_hand;
 #[cfg(test)]
 mod texts_by_hand;
 #[cfg(test)]
+mod tick_checks;
+#[cfg(test)]
 mod tick_stairs_tests;
+#[cfg(test)]
+mod verdicts_by_hand;
 #[cfg(test)]
 mod worked_ticks;
 #[cfg(test)]

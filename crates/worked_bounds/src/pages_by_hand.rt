@@ -1,10 +1,10 @@
 //! Traces whose steps fill pages, or don't quite, or go over: of these copies share what is full, and it mustn't show.
 //! A page has 256 steps.
 
-use std::alloc::Global;
+use std::alloc::{AllocError, Global};
 use std::test::Fail;
 use step_trace::{PushError, Trace};
-use test_support::traces::{empty_trace, step_of, trace_of};
+use test_support::traces::{are_equal, empty_trace, silent_alternation, step_of, trace_of};
 
 /// Goes on to so many steps with Receives that take nothing, of 1 and 2 in turns.
 fn go_on(alloc: Global, trace: &mut Trace, count: u64) -> Result<(), Fail> {
@@ -14,17 +14,16 @@ fn go_on(alloc: Global, trace: &mut Trace, count: u64) -> Result<(), Fail> {
     Ok(())
 }
 
-/// The silent alternation of so many steps.
-fn silent(alloc: Global, count: u64) -> Result<Trace, Fail> {
-    let mut trace = empty_trace(alloc, 2)?;
-    go_on(alloc, &mut trace, count)?;
-    Ok(trace)
+/// Goes on with a message from 1 to 2.
+fn send(alloc: Global, trace: &mut Trace) -> Result<(), Fail> {
+    trace.push(step_of(alloc, 1, 2, &[])?)?;
+    Ok(())
 }
 
-/// The same, but that the step after so many is a Send.
+/// The silent alternation, but that the step after so many is a Send.
 fn with_a_send(alloc: Global, before: u64, count: u64) -> Result<Trace, Fail> {
-    let mut trace = silent(alloc, before)?;
-    trace.push(step_of(alloc, 1, 2, &[])?)?;
+    let mut trace = silent_alternation(alloc, before)?;
+    send(alloc, &mut trace)?;
     go_on(alloc, &mut trace, count)?;
     Ok(trace)
 }
@@ -36,13 +35,9 @@ fn delivered(alloc: Global, count: u64) -> Result<Trace, Fail> {
     Ok(trace)
 }
 
-fn are_equal(one: &Trace, other: &Trace) -> bool {
-    one.begins(other) && other.begins(one)
-}
-
 /// Whether it is the silent alternation.
 fn is_silent(alloc: Global, trace: &Trace) -> Result<bool, Fail> {
-    let silent = silent(alloc, trace.len() as u64)?;
+    let silent = silent_alternation(alloc, trace.len() as u64)?;
     Ok(are_equal(trace, &silent))
 }
 
@@ -58,14 +53,19 @@ fn is_copied(alloc: Global, trace: &Trace) -> Result<bool, Fail> {
     Ok(are_equal(&copy, trace) && is_silent(alloc, &copy)?)
 }
 
+/// The same once it has so many steps.
+fn is_copied_with(alloc: Global, trace: &mut Trace, count: u64) -> Result<bool, Fail> {
+    go_on(alloc, trace, count)?;
+    is_copied(alloc, trace)
+}
+
 const LENGTHS: &[u64] = &[255, 256, 257, 512, 600];
 
 #[test]
 fn copies_of_prefixes(rt: HostRuntime) -> Result<(), Fail> {
     let mut trace = empty_trace(rt.alloc(), 2)?;
     for &count in LENGTHS {
-        go_on(rt.alloc(), &mut trace, count)?;
-        assert!(rt; is_copied(rt.alloc(), &trace)?, "{count}");
+        assert!(rt; is_copied_with(rt.alloc(), &mut trace, count)?, "{count}");
     }
     Ok(())
 }
@@ -89,7 +89,7 @@ const DIFFERENCES: &[(u64, u64)] = &[
 
 #[test]
 fn differences_in_pages(rt: HostRuntime) -> Result<(), Fail> {
-    let seen = silent(rt.alloc(), 600)?;
+    let seen = silent_alternation(rt.alloc(), 600)?;
     for &(before, at) in DIFFERENCES {
         assert!(rt; differs_at(rt.alloc(), before, at, &seen)?, "{at}");
     }
@@ -100,11 +100,21 @@ fn differences_in_pages(rt: HostRuntime) -> Result<(), Fail> {
 /// than two.
 const COPIED: &[(u64, u64)] = &[(255, 257), (256, 258), (511, 513)];
 
+/// Whether message 1 isn't taken again.
+fn refuses_again(alloc: Global, trace: &mut Trace) -> Result<bool, AllocError> {
+    let again = trace.push(step_of(alloc, 2, 0, &[1])?);
+    Ok(again == Err(PushError::Redelivered(1)))
+}
+
+fn copy_of_delivered(alloc: Global, count: u64) -> Result<Trace, Fail> {
+    let trace = delivered(alloc, count)?;
+    Ok(trace.copy(alloc)?)
+}
+
 /// Whether a copy refuses the message that was taken before it was made, and stays as it was.
 fn knows_what_was_taken(alloc: Global, count: u64) -> Result<bool, Fail> {
-    let mut copy = delivered(alloc, count)?.copy(alloc)?;
-    let again = copy.push(step_of(alloc, 2, 0, &[1])?);
-    Ok(again == Err(PushError::Redelivered(1)) && is_delivered(alloc, &copy)?)
+    let mut copy = copy_of_delivered(alloc, count)?;
+    Ok(refuses_again(alloc, &mut copy)? && is_delivered(alloc, &copy)?)
 }
 
 #[test]
@@ -115,12 +125,22 @@ fn copies_know_what_was_taken(rt: HostRuntime) -> Result<(), Fail> {
     Ok(())
 }
 
-/// Whether a copy is as it was where the trace goes on.
+/// Whether a trace goes on to so many steps in which message 1 is delivered at once.
+fn goes_on_delivered(alloc: Global, trace: &mut Trace, after: u64) -> Result<bool, Fail> {
+    go_on(alloc, trace, after)?;
+    is_delivered(alloc, trace)
+}
+
+/// Whether a copy of a trace is as it was, with so many steps, where the trace goes on.
+fn its_copy_stays(alloc: Global, trace: &mut Trace, count: u64, after: u64) -> Result<bool, Fail> {
+    let copy = trace.copy(alloc)?;
+    let goes_on = goes_on_delivered(alloc, trace, after)?;
+    Ok(goes_on && copy.len() as u64 == count && is_delivered(alloc, &copy)?)
+}
+
 fn stays(alloc: Global, count: u64, after: u64) -> Result<bool, Fail> {
     let mut trace = delivered(alloc, count)?;
-    let copy = trace.copy(alloc)?;
-    go_on(alloc, &mut trace, after)?;
-    Ok(copy.len() as u64 == count && is_delivered(alloc, &copy)? && is_delivered(alloc, &trace)?)
+    its_copy_stays(alloc, &mut trace, count, after)
 }
 
 #[test]
@@ -131,13 +151,29 @@ fn copies_stay_as_they_were(rt: HostRuntime) -> Result<(), Fail> {
     Ok(())
 }
 
-/// Whether the trace goes on as if nothing were shared where its copy has another step.
-fn goes_on_alone(alloc: Global, count: u64, after: u64) -> Result<bool, Fail> {
-    let mut trace = silent(alloc, count)?;
+/// A copy that has another step.
+fn other_copy(alloc: Global, trace: &Trace) -> Result<Trace, Fail> {
     let mut copy = trace.copy(alloc)?;
-    copy.push(step_of(alloc, 1, 2, &[])?)?;
-    go_on(alloc, &mut trace, after)?;
-    Ok(is_silent(alloc, &trace)? && trace.first_difference(&copy) == copy.len() as u64)
+    send(alloc, &mut copy)?;
+    Ok(copy)
+}
+
+/// Whether a trace goes on to so many steps of the silent alternation.
+fn goes_on_silent(alloc: Global, trace: &mut Trace, after: u64) -> Result<bool, Fail> {
+    go_on(alloc, trace, after)?;
+    is_silent(alloc, trace)
+}
+
+/// Whether a trace goes on as if nothing were shared where its copy has another step.
+fn is_alone(alloc: Global, trace: &mut Trace, after: u64) -> Result<bool, Fail> {
+    let copy = other_copy(alloc, trace)?;
+    let goes_on = goes_on_silent(alloc, trace, after)?;
+    Ok(goes_on && trace.first_difference(&copy) == copy.len() as u64)
+}
+
+fn goes_on_alone(alloc: Global, count: u64, after: u64) -> Result<bool, Fail> {
+    let mut trace = silent_alternation(alloc, count)?;
+    is_alone(alloc, &mut trace, after)
 }
 
 #[test]

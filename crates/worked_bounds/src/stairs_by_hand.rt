@@ -5,7 +5,7 @@ use std::test::Fail;
 use step_trace::{Gap, Miss, ProcSet, Trace};
 use suffix_staircase::{Level, StairBuilder, Stairs};
 use test_support::stair_levels::{has_levels, has_starts};
-use test_support::traces::{empty_trace, step_of};
+use test_support::traces;
 
 const NEVER_DELIVERED: [[u64; 7]; 5] = [
     [5, 1, 5, 3, 1, 4, 5],
@@ -62,20 +62,11 @@ pub(crate) fn climbs(
     Ok(has_levels(&stairs, levels) && has_starts(&stairs, starts))
 }
 
-/// So many empty Receives, by processor 1 at odd and by 2 at even numbers.
-fn alternation(alloc: Global, count: u64) -> Result<Trace, Fail> {
-    let mut trace = empty_trace(alloc, 2)?;
-    for no in 0..count {
-        trace.push(step_of(alloc, no % 2 + 1, 0, &[])?)?;
-    }
-    Ok(trace)
-}
-
 const ALTERNATION: &[[u64; 7]] = &[[1, 0, 0, 2, 1, 600, 600]; 600];
 
 #[test]
 fn silent_alternation(rt: HostRuntime) -> Result<(), Fail> {
-    let trace = alternation(rt.alloc(), 600)?;
+    let trace = traces::silent_alternation(rt.alloc(), 600)?;
     assert!(rt; climbs(rt.alloc(), &trace, "1,2", ALTERNATION, &[1])?);
     Ok(())
 }
@@ -103,10 +94,13 @@ fn lowered(alloc: Global) -> Result<Stairs, AllocError> {
     Ok(builder.build())
 }
 
+fn are_never_delivered(stairs: Stairs) -> bool {
+    has_levels(&stairs, &NEVER_DELIVERED) && has_starts(&stairs, &[1, 2, 5])
+}
+
 #[test]
 fn built_by_hand(rt: HostRuntime) -> Result<(), Fail> {
-    for stairs in [built(rt.alloc())?, lowered(rt.alloc())?] {
-        assert!(rt; has_levels(&stairs, &NEVER_DELIVERED) && has_starts(&stairs, &[1, 2, 5]));
-    }
+    assert!(rt; are_never_delivered(built(rt.alloc())?));
+    assert!(rt; are_never_delivered(lowered(rt.alloc())?));
     Ok(())
 }

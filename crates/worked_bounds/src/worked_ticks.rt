@@ -4,8 +4,9 @@
 use crate::gaps_by_hand::{lists_gaps, misses_at};
 use crate::plain_comparison::have_levels;
 use crate::stairs_by_hand::climbs;
+use std::alloc::Global;
 use std::test::Fail;
-use test_support::traces::{both, ticked};
+use test_support::traces::{TickedSteps, both, ticked};
 
 /// A trace of `n` processors with these steps up to the tick `last`. Where the processors of the list are correct,
 /// these are the levels of its ticks, written as in `stair_levels`, and the starts of its stairs.
@@ -158,34 +159,28 @@ const WORKED: &[Worked] = &[
     },
 ];
 
+fn has_bounds(alloc: Global, it: &Worked) -> Result<bool, Fail> {
+    let trace = ticked(alloc, it.n, it.steps, it.last)?;
+    Ok(have_levels(&trace, it.correct, it.levels))
+}
+
 #[test]
 fn bounds_of_worked_ticks(rt: HostRuntime) -> Result<(), Fail> {
     for worked in WORKED {
-        let trace = ticked(rt.alloc(), worked.n, worked.steps, worked.last)?;
-        assert!(rt;
-            have_levels(&trace, worked.correct, worked.levels),
-            "{}",
-            worked.name
-        );
+        assert!(rt; has_bounds(rt.alloc(), worked)?, "{}", worked.name);
     }
     Ok(())
+}
+
+fn has_stairs(alloc: Global, it: &Worked) -> Result<bool, Fail> {
+    let trace = ticked(alloc, it.n, it.steps, it.last)?;
+    climbs(alloc, &trace, it.correct, it.levels, it.starts)
 }
 
 #[test]
 fn stairs_of_worked_ticks(rt: HostRuntime) -> Result<(), Fail> {
     for worked in WORKED {
-        let trace = ticked(rt.alloc(), worked.n, worked.steps, worked.last)?;
-        assert!(rt;
-            climbs(
-                rt.alloc(),
-                &trace,
-                worked.correct,
-                worked.levels,
-                worked.starts
-            )?,
-            "{}",
-            worked.name
-        );
+        assert!(rt; has_stairs(rt.alloc(), worked)?, "{}", worked.name);
     }
     Ok(())
 }
@@ -197,20 +192,39 @@ const GAPS: &[(&[(u64, u64, u64, &[u64])], u64, &str, &[(u64, u64, u64)])] = &[
     (SPARSE, 5, "1,2", &[(1, 2, 5), (2, 1, 2), (2, 4, 4)]),
 ];
 
+fn has_gaps(
+    alloc: Global,
+    steps: TickedSteps,
+    last: u64,
+    correct: &str,
+    gaps: &[(u64, u64, u64)],
+) -> Result<bool, Fail> {
+    let trace = ticked(alloc, 2, steps, last)?;
+    Ok(lists_gaps(alloc, &trace, correct, gaps)?)
+}
+
 #[test]
 fn gaps_of_worked_ticks(rt: HostRuntime) -> Result<(), Fail> {
     for &(steps, last, correct, gaps) in GAPS {
-        let trace = ticked(rt.alloc(), 2, steps, last)?;
-        assert!(rt; lists_gaps(rt.alloc(), &trace, correct, gaps)?);
+        assert!(rt; has_gaps(rt.alloc(), steps, last, correct, gaps)?);
     }
     Ok(())
 }
 
+/// Whether message 1 is last missed so.
+fn is_missed(
+    alloc: Global,
+    steps: TickedSteps,
+    last: u64,
+    missed: Option<u64>,
+) -> Result<bool, Fail> {
+    let trace = ticked(alloc, 2, steps, last)?;
+    Ok(misses_at(&trace, both(), 1, missed))
+}
+
 #[test]
 fn misses_of_worked_ticks(rt: HostRuntime) -> Result<(), Fail> {
-    for (steps, last, missed) in [(SPARSE, 5, Some(2)), (RECEIVED_AT_ONCE, 2, None)] {
-        let trace = ticked(rt.alloc(), 2, steps, last)?;
-        assert!(rt; misses_at(&trace, both(), 1, missed));
-    }
+    assert!(rt; is_missed(rt.alloc(), SPARSE, 5, Some(2))?);
+    assert!(rt; is_missed(rt.alloc(), RECEIVED_AT_ONCE, 2, None)?);
     Ok(())
 }

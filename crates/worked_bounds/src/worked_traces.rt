@@ -3,6 +3,7 @@
 
 use crate::plain_comparison::have_levels;
 use crate::stairs_by_hand::climbs;
+use std::alloc::Global;
 use std::test::Fail;
 use test_support::traces::trace_of;
 
@@ -128,34 +129,28 @@ const WORKED: &[Worked] = &[
     },
 ];
 
+fn has_bounds(alloc: Global, it: &Worked) -> Result<bool, Fail> {
+    let trace = trace_of(alloc, it.n, it.steps)?;
+    Ok(have_levels(&trace, it.correct, it.levels))
+}
+
 #[test]
 fn bounds_of_worked_traces(rt: HostRuntime) -> Result<(), Fail> {
     for worked in WORKED {
-        let trace = trace_of(rt.alloc(), worked.n, worked.steps)?;
-        assert!(rt;
-            have_levels(&trace, worked.correct, worked.levels),
-            "{}",
-            worked.name
-        );
+        assert!(rt; has_bounds(rt.alloc(), worked)?, "{}", worked.name);
     }
     Ok(())
+}
+
+fn has_stairs(alloc: Global, it: &Worked) -> Result<bool, Fail> {
+    let trace = trace_of(alloc, it.n, it.steps)?;
+    climbs(alloc, &trace, it.correct, it.levels, it.starts)
 }
 
 #[test]
 fn stairs_of_worked_traces(rt: HostRuntime) -> Result<(), Fail> {
     for worked in WORKED {
-        let trace = trace_of(rt.alloc(), worked.n, worked.steps)?;
-        assert!(rt;
-            climbs(
-                rt.alloc(),
-                &trace,
-                worked.correct,
-                worked.levels,
-                worked.starts
-            )?,
-            "{}",
-            worked.name
-        );
+        assert!(rt; has_stairs(rt.alloc(), worked)?, "{}", worked.name);
     }
     Ok(())
 }

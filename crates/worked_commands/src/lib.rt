@@ -1,5 +1,6 @@
-//! Worked examples of the commands that make text of text, and of the lines of their faults: tests of `text_commands` and
-//! `command_faults`, by their public items.
+//! Worked examples of the commands that make text of text, of the lines of their faults, and of runs on threads: tests of
+//! `text_commands`, `command_faults` and `node_runs`, by their public items, with gates that hold a thread back, outputs
+//! that fail, and followers.
 #![tactic(auto)]
 
 #[cfg(test)]
@@ -12,6 +13,12 @@ mod imported;
 mod imports;
 #[cfg(test)]
 mod log_lines;
+#[cfg(test)]
+mod run_tests;
+#[cfg(test)]
+mod run_texts;
+#[cfg(test)]
+mod standing_tests;
 #[cfg(test)]
 mod told;
 #[cfg(test)]

@@ -1,8 +1,8 @@
 //! The traces of logs.
 
+use crate::lines::{StepLine, TWO_NODES_STEPS, has_step};
 use event_log::{Import, LogError, OptionError, read_log, read_options};
 use std::alloc::Global;
-use step_trace::{Act, Trace};
 use timed_events::Hint;
 
 /// What is asked of a log: the nodes, the length of a tick, the end, and whether events may be spread.
@@ -13,9 +13,6 @@ type Asked = (
     bool,
     bool,
 );
-
-/// A step in one line: its number, tick and processor, whom it sends to (0: it receives), and its ids.
-type StepLine = (u64, u64, u64, u64, &'static [u64]);
 
 /// Two nodes: b sends m2 to a, and a sends m1 to b.
 const TWO_NODES: &str =
@@ -32,15 +29,7 @@ const TWO_NODES_STAMPS: &str =
     2026-11-22T10:00:01.013Z,a,receive,,m2\n2026-11-22T10:00:01.013Z,b,receive,,\n\
     2026-11-22T11:30:01.015+01:30,b,receive,,m1\n";
 
-const TWO_NODES_STEPS: &[StepLine] = &[
-    (1, 1, 1, 2, &[]),
-    (2, 1, 2, 1, &[]),
-    (3, 4, 1, 0, &[2]),
-    (4, 4, 2, 0, &[]),
-    (5, 6, 2, 0, &[1]),
-];
-
-/// The same where b is processor 1.
+/// The steps of two nodes where b is processor 1.
 const TWO_NODES_STEPS_OF_B: &[StepLine] = &[
     (1, 1, 1, 2, &[]),
     (2, 1, 2, 1, &[]),
@@ -189,25 +178,6 @@ const IMPORTED_SPREAD: &[Imported] = &[
         0,
     ),
 ];
-
-fn has_step(trace: &Trace, line: &StepLine) -> bool {
-    let &(no, tick, proc, to, ids) = line;
-    if no < 1 || trace.len() < no as usize || trace.tick(no) != tick {
-        return false;
-    }
-    match trace.step(no) {
-        Some(step) => {
-            step.proc == proc
-                && match &step.act {
-                    Act::Send { to: there } => *there == to,
-                    Act::Receive { ends, ids: taken } => {
-                        to == 0 && !*ends && taken.as_slice() == ids
-                    }
-                }
-        }
-        None => false,
-    }
-}
 
 /// The import of a log, or why it is refused.
 fn import(alloc: Global, text: &str, asked: &Asked) -> Result<Import, LogError> {

@@ -1,11 +1,42 @@
-//! Want of memory in the commands: each is made again and again, with its first growth of memory refused, then its
-//! second, and so on. The refusals come from a library that `tests/memory` loads; without it each call is made once,
-//! with ample memory.
+//! Want of memory in the commands, and in runs of Algorithm 1 (section 3 of Dwork, Lynch and Stockmeyer, "Consensus in the
+//! Presence of Partial Synchrony", 1988): each command, each call of nodes, tables, Worlds and recorders, and each run of
+//! all of them on threads is made again and again, with its first growth of memory refused, then its second, and so on.
+//! The refusals come from a library that `tests/memory` loads; without it each call is made once, with ample memory.
 #![tactic(auto)]
 
+#[cfg(test)]
+mod audit_tests;
+#[cfg(test)]
+mod changes;
 #[cfg(test)]
 mod command_lines;
 #[cfg(test)]
 mod commands;
 #[cfg(test)]
+mod drive_tests;
+#[cfg(test)]
+mod node_tests;
+#[cfg(test)]
+mod prefix_tests;
+#[cfg(test)]
+mod record_tests;
+#[cfg(test)]
+mod recorders;
+#[cfg(test)]
+mod round_tests;
+#[cfg(test)]
+mod run_tests;
+#[cfg(test)]
+mod run_texts;
+#[cfg(test)]
+mod scripts;
+#[cfg(test)]
+mod step_tests;
+#[cfg(test)]
 mod told;
+#[cfg(test)]
+mod value_tests;
+#[cfg(test)]
+mod world_tests;
+#[cfg(test)]
+mod worlds;

@@ -3,6 +3,7 @@
 ghost use Rattle.std.specs.Prelude.{◌≡◌, ◌*◌, ◌≤◌, IfSome, length};
 ghost use Rattle.step_trace.specs.declared.traces.TheConstants.{MAX_STEPS};
 
+use crate::run_texts::{last_line, steps_of};
 use command_faults::{Fault, fault_text, status};
 use node_runs::{Follower, Pace, RunEnd, follower_for, run_nodes};
 use std::alloc::{AllocError, Global};
@@ -13,7 +14,6 @@ use std::thread::Threads;
 use std::time::Clock;
 use step_trace::meeting::MeetingGate;
 use step_trace::{Config, Correct, Gate, OpenGate, ProcSet};
-use test_support::run_texts::{last_line, steps_of};
 use text_commands::run_replay;
 use trace_text::Counting;
 use trace_text::failing_devices::{FailingWriter, WriteFailure};

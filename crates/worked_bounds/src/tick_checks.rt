@@ -122,14 +122,24 @@ const CHECKS: &[(TickedSteps, u64, &str, &[[u64; 8]], Verdict)] = &[
     ),
 ];
 
+/// Whether the check of these rows of a trace gives this verdict.
+fn says_of(
+    alloc: Global,
+    steps: TickedSteps,
+    last: u64,
+    correct: &str,
+    rows: &[[u64; 8]],
+    verdict: Verdict,
+) -> Result<bool, Fail> {
+    let trace = ticked(alloc, 2, steps, last)?;
+    says(alloc, &trace, correct, rows, verdict)
+}
+
 #[test]
 fn verdicts_in_ticks(rt: HostRuntime) -> Result<(), Fail> {
     for &(steps, last, correct, rows, verdict) in CHECKS {
-        let trace = ticked(rt.alloc(), 2, steps, last)?;
-        assert!(rt;
-            says(rt.alloc(), &trace, correct, rows, verdict)?,
-            "{rows:?}"
-        );
+        let is_said = says_of(rt.alloc(), steps, last, correct, rows, verdict)?;
+        assert!(rt; is_said, "{rows:?}");
     }
     Ok(())
 }

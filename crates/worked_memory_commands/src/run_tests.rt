@@ -3,6 +3,7 @@
 
 ghost use Rattle.std.specs.Prelude.{◌≡◌, IfSome};
 
+use crate::run_texts::{last_line, steps_of};
 use command_faults::Fault;
 use node_runs::{Pace, RunEnd, follower_for, run_nodes};
 use refused_growths::{Outcome, Refusal, judged};
@@ -11,7 +12,6 @@ use std::sync::Wait;
 use std::thread::Threads;
 use std::time::Clock;
 use step_trace::{Config, Correct, OpenGate, ProcSet};
-use test_support::run_texts::{last_line, steps_of};
 use trace_text::Counting;
 
 /// Room for more than a run or its follower writes here, so that an output never grows.

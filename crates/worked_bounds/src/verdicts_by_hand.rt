@@ -2,6 +2,7 @@
 
 use crate::checks::says;
 use certificate_checker::{Gap, Miss, Reason, Verdict};
+use std::alloc::Global;
 use std::test::Fail;
 use test_support::traces::{NEVER_DELIVERED, ONE_MISS, Steps, TWO_MISSES, trace_of};
 
@@ -60,11 +61,24 @@ const OF_NEVER_DELIVERED: &[(&[[u64; 8]], Verdict)] = &[
     ),
 ];
 
+/// Whether the check of these rows of a trace gives this verdict.
+fn says_of(
+    alloc: Global,
+    n: u64,
+    steps: Steps,
+    correct: &str,
+    rows: &[[u64; 8]],
+    verdict: Verdict,
+) -> Result<bool, Fail> {
+    let trace = trace_of(alloc, n, steps)?;
+    says(alloc, &trace, correct, rows, verdict)
+}
+
 #[test]
 fn verdicts_on_never_delivered(rt: HostRuntime) -> Result<(), Fail> {
     for &(rows, verdict) in OF_NEVER_DELIVERED {
-        let trace = trace_of(rt.alloc(), 2, NEVER_DELIVERED)?;
-        assert!(rt; says(rt.alloc(), &trace, "1,2", rows, verdict)?, "{rows:?}");
+        let is_said = says_of(rt.alloc(), 2, NEVER_DELIVERED, "1,2", rows, verdict)?;
+        assert!(rt; is_said, "{rows:?}");
     }
     Ok(())
 }
@@ -201,11 +215,8 @@ const OF_OTHERS: &[(u64, Steps<'static>, &str, &[[u64; 8]], Verdict)] = &[
 #[test]
 fn verdicts_on_others(rt: HostRuntime) -> Result<(), Fail> {
     for &(n, steps, correct, rows, verdict) in OF_OTHERS {
-        let trace = trace_of(rt.alloc(), n, steps)?;
-        assert!(rt;
-            says(rt.alloc(), &trace, correct, rows, verdict)?,
-            "{rows:?}"
-        );
+        let is_said = says_of(rt.alloc(), n, steps, correct, rows, verdict)?;
+        assert!(rt; is_said, "{rows:?}");
     }
     Ok(())
 }

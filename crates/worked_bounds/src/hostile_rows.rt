@@ -11,10 +11,10 @@ const TOP: u64 = u64::MAX;
 
 const SELF_SEND: [(u64, u64, &[u64]); 2] = [(1, 1, &[]), (2, 0, &[])];
 
-/// Whether this one row of a trace of two steps is refused for this reason.
-fn refuses(alloc: Global, row: [u64; 8], why: Reason) -> Result<bool, Fail> {
+/// Whether these rows of a trace of two steps are refused for this reason.
+fn refuses(alloc: Global, rows: &[[u64; 8]], why: Reason) -> Result<bool, Fail> {
     let trace = trace_of(alloc, 2, &SELF_SEND)?;
-    says(alloc, &trace, "1,2", &[row], Verdict::No(why))
+    says(alloc, &trace, "1,2", rows, Verdict::No(why))
 }
 
 const REFUSED: &[([u64; 8], Reason)] = &[
@@ -46,7 +46,7 @@ const REFUSED: &[([u64; 8], Reason)] = &[
 #[test]
 fn refused_rows(rt: HostRuntime) -> Result<(), Fail> {
     for &(row, why) in REFUSED {
-        assert!(rt; refuses(rt.alloc(), row, why)?, "{row:?}");
+        assert!(rt; refuses(rt.alloc(), &[row], why)?, "{row:?}");
     }
     Ok(())
 }
@@ -78,12 +78,8 @@ const BEYOND: &[(&[[u64; 8]], Reason)] = &[
 
 #[test]
 fn rows_beyond_the_end(rt: HostRuntime) -> Result<(), Fail> {
-    let trace = trace_of(rt.alloc(), 2, &SELF_SEND)?;
     for &(rows, why) in BEYOND {
-        assert!(rt;
-            says(rt.alloc(), &trace, "1,2", rows, Verdict::No(why))?,
-            "{why:?}"
-        );
+        assert!(rt; refuses(rt.alloc(), rows, why)?, "{why:?}");
     }
     Ok(())
 }
@@ -105,11 +101,15 @@ fn lone_rows(alloc: Global) -> Result<Vec<[u64; 8]>, AllocError> {
     Ok(rows)
 }
 
+fn has_lone_rows(alloc: Global, trace: &Trace) -> Result<bool, Fail> {
+    let rows = lone_rows(alloc)?;
+    says(alloc, trace, "1,2", &rows, Verdict::Yes)
+}
+
 /// Each tick is a row of its own, where one processor alone steps.
 #[test]
 fn as_many_rows_as_ticks(rt: HostRuntime) -> Result<(), Fail> {
     let trace = lone_steps(rt.alloc())?;
-    let rows = lone_rows(rt.alloc())?;
-    assert!(rt; says(rt.alloc(), &trace, "1,2", &rows, Verdict::Yes)?);
+    assert!(rt; has_lone_rows(rt.alloc(), &trace)?);
     Ok(())
 }

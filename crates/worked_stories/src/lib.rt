@@ -1,5 +1,0 @@
-//! Worked examples of the stories of runs: tests of the crates below, by their public items.
-#![tactic(auto)]
-
-#[cfg(test)]
-mod stories_by_hand;
