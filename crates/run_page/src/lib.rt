@@ -5,6 +5,7 @@ mod axes;
 mod cards;
 mod delay_words;
 mod escapes;
+mod evidence_ticks;
 mod glances;
 mod headlines;
 mod leads;
@@ -28,4 +29,5 @@ mod styles;
 mod titles;
 mod who;
 
+pub use evidence_ticks::evidence_window;
 pub use pages::page_text;

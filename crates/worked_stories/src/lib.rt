@@ -2,4 +2,6 @@
 #![tactic(auto)]
 
 #[cfg(test)]
+mod evidence_windows_by_hand;
+#[cfg(test)]
 mod stories_by_hand;
