@@ -20,7 +20,7 @@ TOP, HEIGHT = 500, 1_700
 LANES_TOP = 2_900
 LABEL_ROOM = 800
 IDS_NAMED = 8
-KINDS = ("page", "headings", "shade", "bound_labels", "tick_labels", "bounds", "corners", "lanes", "axis", "gaps", "messages", "misses", "steps", "left_out")
+KINDS = ("words", "page", "headings", "shade", "bound_labels", "tick_labels", "bounds", "corners", "lanes", "axis", "gaps", "messages", "misses", "steps", "left_out")
 
 
 def round_step(limit, most):
@@ -199,7 +199,16 @@ class Places:
         yield f"Δ({row.gst}) = {row.delta} in communication, Φ({row.gst}) = {row.phi} of processors", [(10_900, 300)]
         yield f"Steps of the ticks {self.first} to {self.to}", [(900, LANES_TOP - 160)]
 
-    def page(self):
+    def words(self):
+        """What is told to a reader that doesn't show pictures."""
+        yield "title", f"Least bounds from each tick to the end, and steps of the ticks {self.first} to {self.to}"
+        every = range(1, self.trace.processors + 1)
+        told = f"Taken as correct: {', '.join(self.name(it) for it in every if it in self.members)}."
+        told = told if self.members else "No processor is taken as correct."
+        told = "All processors are taken as correct." if set(self.members) == set(every) else told
+        corners = self.picture.corners
+        bounds = [f"from tick {row.gst} on Δ = {row.delta} and Φ = {row.phi}" for row in corners[:1] + corners[1:][-1:]]
+        yield "desc", f"{told} F{'; '.join(bounds)[1:]}."
         """Two corners of the page, which is wider by what names reach beyond it."""
         beyond = max([0] + [sum(map(wide, it)) - LABEL_ROOM for it in self.names or []])
         yield [(-beyond, 0), (LEFT + WIDTH + 300, self.lanes_end + 1_000)]

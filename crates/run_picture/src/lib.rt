@@ -1,6 +1,7 @@
 //! The picture of a run: which ticks, steps, messages, misses, gaps and corners it shows, and its text, as SVG.
 #![tactic(auto)]
 
+mod descriptions;
 mod escapes;
 mod frames;
 mod gathering;
