@@ -18,7 +18,9 @@ from picture_marks import MOST_MESSAGES, MOST_WITNESSES
 LEFT, WIDTH = 900, 10_000
 TOP, HEIGHT = 500, 1_700
 LANES_TOP = 2_900
-LABEL_ROOM = 800
+LABEL_ROOM = 740
+# Of a name with more than 15 characters the first 7 and the last 7 are shown beside its lane.
+LABEL_CHARS, LABEL_ENDS = 15, 7
 IDS_NAMED = 8
 KINDS = ("words", "page", "headings", "shade", "bound_labels", "tick_labels", "bounds", "corners", "lanes", "axis", "gaps", "messages", "misses", "steps", "left_out")
 
@@ -35,7 +37,11 @@ def round_step(limit, most):
 
 def wide(char):
     """How wide a character of a name is taken to be."""
-    return 120 if "A" <= char <= "Z" or char in "mw" or ord(char) >= 0x800 else 80
+    return 120 if "A" <= char <= "Z" or char in "mw" or ord(char) >= 0x800 else 90
+
+
+def shortened(name):
+    return name if len(name) <= LABEL_CHARS else f"{name[:LABEL_ENDS]}…{name[-LABEL_ENDS:]}"
 
 
 class Places:
@@ -96,10 +102,8 @@ class Places:
 
     def lanes(self):
         for it in range(1, self.trace.processors + 1):
-            label = self.names[it - 1] if self.names else str(it)
-            length = sum(map(wide, label))
-            given = length - 40 if length > LABEL_ROOM else None
-            yield "i" if it in self.members else "o", [(780, self.lane(it))], label, given, self.name(it)
+            label = shortened(self.names[it - 1]) if self.names else str(it)
+            yield "i" if it in self.members else "o", [(780, self.lane(it))], label, self.name(it)
 
     def axis(self):
         step = round_step(self.count, 14)
@@ -210,7 +214,7 @@ class Places:
         bounds = [f"from tick {row.gst} on Δ = {row.delta} and Φ = {row.phi}" for row in corners[:1] + corners[1:][-1:]]
         yield "desc", f"{told} F{'; '.join(bounds)[1:]}."
         """Two corners of the page, which is wider by what names reach beyond it."""
-        beyond = max([0] + [sum(map(wide, it)) - LABEL_ROOM for it in self.names or []])
+        beyond = max([0] + [sum(map(wide, shortened(it))) - LABEL_ROOM for it in self.names or []])
         yield [(-beyond, 0), (LEFT + WIDTH + 300, self.lanes_end + 1_000)]
 
     def all(self):

@@ -4,7 +4,6 @@
 mod axes;
 mod cards;
 mod delay_words;
-mod escapes;
 mod evidence_ticks;
 mod glances;
 mod headlines;
@@ -21,7 +20,6 @@ mod runs;
 mod scales;
 mod scans;
 mod scenes;
-mod short_names;
 mod stairs;
 mod stall_words;
 mod step_marks;

@@ -4,7 +4,7 @@ ghost use Rattle.std.specs.Prelude.{◌≡◌, ◌-◌, ◌≤◌, length, take,
 
 use crate::descriptions::put_description;
 use crate::frames::Frame;
-use crate::labels::overhang;
+use crate::labels::{MOST_OVERHANG, overhang};
 use crate::lanes::put_lanes;
 use crate::legend::{LEGEND, STYLE};
 use crate::message_lines::put_message;
@@ -73,7 +73,7 @@ fn page_height(frame: Frame) -> u64
 
 /// The page is wider by what names reach beyond its left edge.
 fn put_head(alloc: Global, out: &mut Vec<u8>, frame: Frame, overhang: u64) -> Result<(), AllocError>
-    requires { overhang ≤ 6_880 }
+    requires { overhang ≤ MOST_OVERHANG }
 {
     let height = page_height(frame);
     let width = overhang + 11_200;
@@ -94,7 +94,7 @@ fn put_paper(
     frame: Frame,
     overhang: u64,
 ) -> Result<(), AllocError>
-    requires { overhang ≤ 6_880 }
+    requires { overhang ≤ MOST_OVERHANG }
 {
     let height = page_height(frame);
     let width = overhang + 11_200;
