@@ -9,4 +9,5 @@ pub mod Names
 pub mod Places
 pub mod ShortNames
 pub mod Labels
+pub mod BoundScales
 pub mod Axes

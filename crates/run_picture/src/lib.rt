@@ -1,6 +1,7 @@
 //! The picture of a run: which ticks, steps, messages, misses, gaps and corners it shows, and its text, as SVG.
 #![tactic(auto)]
 
+mod bound_scales;
 mod descriptions;
 mod escapes;
 mod frames;
@@ -22,6 +23,7 @@ pub mod takers;
 mod windows;
 mod witness_marks;
 
+pub use bound_scales::{BoundScale, MOST_LINEAR, log_of};
 pub use escapes::push_escaped;
 pub use messages::Message;
 pub use names::{MAX_NAME_BYTES, NamesError, names_of};
