@@ -4,7 +4,7 @@
     bench/picture_marks.py TRACE REPORT [--from TICK] [--to TICK] [--names A,B,..]
     bench/picture_marks.py --self-test
 
-The first prints the window and each list of marks, or the fault line with status 2. The second tries chosen traces whose
+Without --from and --to the window shows the first evidence (`story_oracle.py`), if there is any. The first prints the window and each list of marks, or the fault line with status 2. The second tries chosen traces whose
 marks were worked out by hand, with the reports of `oracle.rs` (of `plain/` where the trace is long), and ends with 'N
 passed, M failed'. It needs `rustc`.
 
@@ -23,6 +23,10 @@ import subprocess
 import sys
 import tempfile
 from dataclasses import dataclass
+from types import SimpleNamespace
+
+sys.dont_write_bytecode = True
+import story_oracle
 
 HERE = os.path.dirname(os.path.realpath(__file__))
 EXAMPLES = os.path.join(os.path.dirname(HERE), "examples")
@@ -110,6 +114,25 @@ def window_of(last, first, to):
     return first, to
 
 
+def evidence_window(trace, rows):
+    """The ticks in which the first evidence is shown, as many as are drawn; None where there is none."""
+    receives = {no: step[2] for no, step in enumerate(trace.steps, 1) if step[2] is not None}
+    run = SimpleNamespace(last=trace.last, steps=[step[:2] for step in trace.steps], sends=trace.sends, receives=receives)
+    listed = [(row.gst, row.delta, row.phi, row.miss and tuple(row.miss), row.gap and tuple(row.gap)) for row in rows]
+    stalls, delays = story_oracle.stall_runs(listed), story_oracle.delay_runs(run, listed)
+    evidence = story_oracle.evidence_of(run, listed, stalls, delays)
+    if not evidence:
+        return None
+    first, to = story_oracle.shown_ticks(run, listed, stalls, delays, evidence[0][:2])
+    return first, min(to, first + MOST_TICKS - 1)
+
+
+def drawn_window(trace, rows, first, to):
+    """The ticks that are drawn: where none are asked for, those of the first evidence."""
+    asked = window_of(trace.last, first, to)
+    return first is None and to is None and evidence_window(trace, rows) or asked
+
+
 def names_of(names, processors):
     """The labels of the lanes."""
     if names is None:
@@ -176,6 +199,9 @@ def ones(first, last):
 EDGES = "dls-trace,2,2,0\ninit,5,7\n1,1,1,S,2\n2,2,1,S,2\n3,3,1,S,2\n4,6,2,R,\n5,9,2,R,1 3\nend,12\n"
 EDGES_CORNERS = "1 3 4 5 6 7 8 9 10 11 12"
 LONELY = "dls-trace,2,2,0\ninit,5,7\n1,1,1,R,\nend,5000\n"
+# Processor 1 steps in these ticks.
+RARE = "dls-trace,2,2,0\ninit,5,7\n" + "".join(f"{no},{tick},1,R,\n" for no, tick in enumerate([1, 20, 40, 61, 80, 100], 1)) + "end,100\n"
+SELDOM = "dls-trace,2,2,0\ninit,5,7\n" + "".join(f"{no},{tick},1,R,\n" for no, tick in enumerate([1, 2000, 4000, 5000], 1)) + "end,5000\n"
 SENDS = "dls-trace,1,2,0\ninit,5,7\n" + "".join(f"{no},1,S,2\n" for no in range(1, 500_001))
 # Traces by their names in examples/, or by their texts; the set, the window, and what the lists are: steps, messages,
 # misses, gaps and corners. A number says only how many there are.
@@ -183,22 +209,27 @@ CHOSEN = [
     ("one-miss", "1,2", (1, 3), "1 2 3", "1-3", "1,2", "1,2,3", "1 2 3"),
     ("one-miss", "none", (1, 3), "1 2 3", "1-3", "", "", "1"),
     ("decides-seven", "1,2,3", (1, 18), ones(1, 18), "1-4 2-4 3-4 7-10 8-11 9-12 13-16 14-16 15-16", "", "3,7,11 1,17,18", "1 8 9 10 18"),
+    ("decides-seven", "1,2,3", (None, None), ones(2, 16), "1-4 2-4 3-4 7-10 8-11 9-12 13-16 14-16 15-16", "", "3,7,11", "1 8 9 10 18"),
     ("lost-lock", "1,2,3", (9, 20), ones(9, 20), "13-22 14-23 15-24 16-22 17-23 18-24 19-22 20-23", "", "1,16,21", "1 17 32 34 38 39 41"),
     ("never-delivered", "1,2", (5, 5), "5", "", "1,5", "1,4,5", "1 2 5"),
     ("heartbeats", "1,2,3,4", (10, 12), ones(22, 27), "14-25 16-25 18-24 19-25 21-25 22-36 23-38 26-38", "22,27", "4,9,11", "1 10 11 27"),
     ("heartbeats", "1,2,3,4", (12, 12), ones(25, 27), "14-25 16-25 19-25 21-25 22-36 23-38 26-38", "22,27", "", "1 10 11 27"),
     (EDGES, "1,2", (1, 12), ones(1, 5), "1-5 2- 3-5", "2,5 3,4", "1,4,12", EDGES_CORNERS),
+    (EDGES, "1,2", (None, None), ones(1, 5), "1-5 2- 3-5", "2,5 3,4", "1,4,12", EDGES_CORNERS),
+    (EDGES, "none", (None, None), ones(1, 5), "1-5 2- 3-5", "", "", "1"),
     (EDGES, "1,2", (4, 5), "", "1-5 3-5", "2,5 3,4", "1,4,12", EDGES_CORNERS),
     (EDGES, "1,2", (10, 12), "", "", "", "1,4,12", EDGES_CORNERS),
     (LONELY, "1", (1, None), "1", "", "", "1,2,5000", 2000),
+    (RARE, "1", (None, None), "3 4", "", "", "1,41,60", f"1 42 {ones(82, 100)}"),
+    (SELDOM, "1", (None, None), "2", "", "", "1,2001,3999", 802),
     (f"{SENDS}500001,2,R,\nend,500001\n", "1,2", (250_000, 250_099), ones(250_000, 250_099), " ".join(f"{no}-" for no in range(250_000, 250_100)), 250_099, "2,1,500000", 2000),
     (f"{SENDS}500001,2,R,{ones(1, 500_000)}\nend,500001\n", "1,2", (250_000, 250_099), ones(250_000, 250_099), 250_099, "", "2,1,500000", 2000),
     ("no-steps", "1,2", (None, None), "", "", "", "", ""),
 ]
 # How many of the two long ones' messages, misses and gaps are written.
-WRITTEN = {11: (100, 1000, 1), 12: (10_000, 0, 1)}
+WRITTEN = {16: (100, 1000, 1), 17: (10_000, 0, 1)}
 # What their pictures say of the others.
-LEFT_OUT = {11: ["249099 later misses are not drawn."], 12: ["240099 earlier messages are not drawn."]}
+LEFT_OUT = {16: ["249099 later misses are not drawn."], 17: ["240099 earlier messages are not drawn."]}
 # L, --from and --to, and the window or the fault.
 WINDOWS = [
     (18, None, None, (1, 18)), (18, 0, None, "bad --from"), (18, 19, None, "bad --from"), (18, 18, None, (18, 18)),
@@ -230,7 +261,8 @@ def differences(case, written_wanted, programs, folder):
     with open(report, "wb") as opened:
         program = programs[trace.last > 400]
         subprocess.run([program, "report", path, "--correct", members], stdout=opened, check=True)
-    picture = picture_of(trace, read_report(report), window_of(trace.last, first, to))
+    rows = read_report(report)
+    picture = picture_of(trace, rows, drawn_window(trace, rows, first, to))
     lines = [line.split(" ", 1)[1] for line in lines_of(picture)][1:]
     for name, line, it in zip(("steps", "messages", "misses", "gaps", "corners"), lines, wanted):
         given = len(line.split()) if isinstance(it, int) else line
@@ -283,7 +315,8 @@ def main():
     trace = read_trace(read.trace)
     try:
         names_of(read.names, trace.processors)
-        picture = picture_of(trace, read_report(read.report), window_of(trace.last, read.first, read.to))
+        rows = read_report(read.report)
+        picture = picture_of(trace, rows, drawn_window(trace, rows, read.first, read.to))
     except Refused as refused:
         print(f"synchrony: {refused}", file=sys.stderr)
         return 2

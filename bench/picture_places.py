@@ -18,9 +18,12 @@ from picture_marks import MOST_MESSAGES, MOST_WITNESSES
 LEFT, WIDTH = 900, 10_000
 TOP, HEIGHT = 500, 1_700
 LANES_TOP = 2_900
-LABEL_ROOM = 800
+LABEL_ROOM = 740
+MOST_LINEAR = 20
+# Of a name with more than 15 characters the first 7 and the last 7 are shown beside its lane.
+LABEL_CHARS, LABEL_ENDS = 15, 7
 IDS_NAMED = 8
-KINDS = ("page", "headings", "shade", "bound_labels", "tick_labels", "bounds", "corners", "lanes", "axis", "gaps", "messages", "misses", "steps", "left_out")
+KINDS = ("words", "page", "headings", "shade", "bound_labels", "tick_labels", "bounds", "corners", "lanes", "axis", "gaps", "messages", "misses", "steps", "left_out")
 
 
 def round_step(limit, most):
@@ -35,7 +38,17 @@ def round_step(limit, most):
 
 def wide(char):
     """How wide a character of a name is taken to be."""
-    return 120 if "A" <= char <= "Z" or char in "mw" or ord(char) >= 0x800 else 80
+    return 120 if "A" <= char <= "Z" or char in "mw" or ord(char) >= 0x800 else 90
+
+
+def log_of(number):
+    """The logarithm to base 2, straight between powers of two, in whole thousandths."""
+    exponent = number.bit_length() - 1
+    return 1000 * exponent + (number - 2**exponent) * 1000 // 2**exponent if number else 0
+
+
+def shortened(name):
+    return name if len(name) <= LABEL_CHARS else f"{name[:LABEL_ENDS]}…{name[-LABEL_ENDS:]}"
 
 
 class Places:
@@ -96,10 +109,8 @@ class Places:
 
     def lanes(self):
         for it in range(1, self.trace.processors + 1):
-            label = self.names[it - 1] if self.names else str(it)
-            length = sum(map(wide, label))
-            given = length - 40 if length > LABEL_ROOM else None
-            yield "i" if it in self.members else "o", [(780, self.lane(it))], label, given, self.name(it)
+            label = shortened(self.names[it - 1]) if self.names else str(it)
+            yield "i" if it in self.members else "o", [(780, self.lane(it))], label, self.name(it)
 
     def axis(self):
         step = round_step(self.count, 14)
@@ -164,7 +175,8 @@ class Places:
         return LEFT + WIDTH * (tick - 1) / self.trace.last
 
     def height(self, bound):
-        return TOP + HEIGHT - HEIGHT * bound / self.high
+        scale = log_of if self.high > MOST_LINEAR else lambda it: it
+        return TOP + HEIGHT - HEIGHT * scale(bound) / scale(self.high)
 
     def bounds(self):
         """The line of each bound: along to where each row begins, and then to its height."""
@@ -182,7 +194,8 @@ class Places:
             yield [(x, TOP), (LEFT + WIDTH, TOP), (LEFT + WIDTH, TOP + HEIGHT), (x, TOP + HEIGHT)], words
 
     def bound_labels(self):
-        for bound in range(0, self.high + 1, round_step(self.high, 6)):
+        tens = [10**it for it in range(7) if 10**it <= self.high]
+        for bound in tens if self.high > MOST_LINEAR else range(0, self.high + 1, round_step(self.high, 6)):
             yield str(bound), [(820, self.height(bound))]
 
     def tick_labels(self):
@@ -194,14 +207,25 @@ class Places:
         yield [(self.column(self.first), TOP), (self.column(self.to + 1), TOP + HEIGHT)]
 
     def headings(self):
-        yield "Least bounds that hold from a tick to the end", [(900, 300)]
+        yield "Least bounds that hold from a tick to the end" + (", on a log scale" if self.high > MOST_LINEAR else ""), [(900, 300)]
         row = self.rows[0]
         yield f"Δ({row.gst}) = {row.delta} in communication, Φ({row.gst}) = {row.phi} of processors", [(10_900, 300)]
         yield f"Steps of the ticks {self.first} to {self.to}", [(900, LANES_TOP - 160)]
 
+    def words(self):
+        """What is told to a reader that doesn't show pictures."""
+        yield "title", f"Least bounds from each tick to the end, and steps of the ticks {self.first} to {self.to}"
+        every = range(1, self.trace.processors + 1)
+        told = f"Taken as correct: {', '.join(self.name(it) for it in every if it in self.members)}."
+        told = told if self.members else "No processor is taken as correct."
+        told = "All processors are taken as correct." if set(self.members) == set(every) else told
+        corners = self.picture.corners
+        bounds = [f"from tick {row.gst} on Δ = {row.delta} and Φ = {row.phi}" for row in corners[:1] + corners[1:][-1:]]
+        yield "desc", f"{told} F{'; '.join(bounds)[1:]}."
+
     def page(self):
         """Two corners of the page, which is wider by what names reach beyond it."""
-        beyond = max([0] + [sum(map(wide, it)) - LABEL_ROOM for it in self.names or []])
+        beyond = max([0] + [sum(map(wide, shortened(it))) - LABEL_ROOM for it in self.names or []])
         yield [(-beyond, 0), (LEFT + WIDTH + 300, self.lanes_end + 1_000)]
 
     def all(self):

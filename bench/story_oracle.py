@@ -11,6 +11,7 @@ It reads a trace text that is right, finds the rows of its report, and prints, w
     stall proc from to FIRST LAST                   a silence, and the rows that name it
     delay sent missed FIRST LAST MESSAGES           alike misses, and the rows that name them
     evidence STALL DELAY FIRST LAST                 the places of its stall and of its delay, in the order of the page
+    shown FIRST TO                                  the ticks in which its picture shows it, before they are cut in two
     brief PLACE MISS GAP                            a row that names other evidence than the row before
 
 What isn't there is "-".
@@ -23,6 +24,10 @@ sys.dont_write_bytecode = True
 from each_oracle import members_of, read_trace
 
 SHORT_RUN = 20
+# A message that is taken fewer ticks after its miss than the miss is long, or than this, is shown to its end.
+NEAR_TICKS = 20
+# What is added at both ends of a picture: a seventh of it, and at least four ticks.
+MARGIN_PART, LEAST_MARGIN = 7, 4
 
 
 def report_rows(trace, members):
@@ -126,6 +131,23 @@ def evidence_of(trace, rows, stalls, delays):
     return sorted(((*pair, *placed(pair)) for pair in found), key=lambda it: (it[2], -it[4]))
 
 
+def shown_ticks(trace, rows, stalls, delays, piece):
+    """The first and the last tick in which a piece of evidence is shown."""
+    tick = lambda no: trace.steps[no - 1][0]
+    ends = []
+    if piece[0] is not None:
+        _, start, end = rows[stalls[piece[0]][0]][4]
+        ends += [start - 1, end + 1]
+    if piece[1] is not None:
+        s, no = rows[delays[piece[1]][0]][3]
+        ends += [tick(s), tick(no)]
+        taken = [tick(other) for other, ids in trace.receives.items() if s in ids]
+        if taken and taken[0] - tick(no) < max(tick(no) - tick(s), NEAR_TICKS):
+            ends += taken
+    margin = max((max(ends) - min(ends)) // MARGIN_PART, LEAST_MARGIN)
+    return max(min(ends) - margin, 1), min(max(ends) + margin, trace.last)
+
+
 def calm_place(rows, last):
     score = lambda row: Fraction((last - row[0] + 1) ** 2, row[1] * row[2])
     return max(range(len(rows)), key=lambda k: (score(rows[k]), -k)) if rows else None
@@ -174,6 +196,7 @@ def story(trace, members):
     evidence = evidence_of(trace, rows, stalls, delays)
     for stall, delay, first, last, _ in evidence:
         yield shown("evidence", stall, delay, first, last)
+        yield shown("shown", *shown_ticks(trace, rows, stalls, delays, (stall, delay)))
     before = None
     for k in range(len(rows)):
         has = lambda run: run is not None and run[0] <= k <= run[1]

@@ -154,9 +154,9 @@ pub struct Judging {
 pub struct Drawing {
     /// The processors that count as correct.
     pub correct: Correct,
-    /// The first tick to draw: 1 where there is none.
+    /// The first tick to draw: 1 where there is none, but a last one.
     pub from: Option<u64>,
-    /// The last tick to draw: 99 ticks later, or the last of the trace, where there is none.
+    /// The last tick to draw: 99 ticks later, or the last of the trace, where there is none, but a first one.
     pub to: Option<u64>,
     /// The names of the processors, with commas between them: their numbers where there are none.
     pub names: Option<String>,

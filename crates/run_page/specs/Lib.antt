@@ -1,3 +1,3 @@
+pub mod EvidenceTicks
 pub mod Pens
 pub mod Pieces
-pub mod ShortNames

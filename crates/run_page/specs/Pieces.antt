@@ -3,7 +3,7 @@ use Rattle.std.specs.Prelude.{ℕ, ◌==◌, ◌-◌, ◌/◌, ◌%◌, ◌++◌
 use Rattle.std.specs.List.{flat_map}
 use Rattle.run_picture.specs.Escapes.{escaped}
 use Rattle.run_picture.specs.Names.{name_at}
-use Rattle.run_page.specs.ShortNames.{short_text}
+use Rattle.run_picture.specs.ShortNames.{short_text}
 use Rattle.run_page.specs.declared.pieces.Piece.{Piece}
 use Rattle.run_page.specs.declared.pieces.Piece.TheVariants as piece
 use Rattle.run_page.specs.declared.scales.Place.{Place}

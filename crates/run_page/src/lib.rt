@@ -4,7 +4,7 @@
 mod axes;
 mod cards;
 mod delay_words;
-mod escapes;
+mod evidence_ticks;
 mod glances;
 mod headlines;
 mod leads;
@@ -20,7 +20,6 @@ mod runs;
 mod scales;
 mod scans;
 mod scenes;
-mod short_names;
 mod stairs;
 mod stall_words;
 mod step_marks;
@@ -28,4 +27,5 @@ mod styles;
 mod titles;
 mod who;
 
+pub use evidence_ticks::evidence_window;
 pub use pages::page_text;

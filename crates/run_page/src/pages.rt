@@ -218,7 +218,7 @@ fn put_header(pen: &mut Pen<'_>, run: &Run<'_>) {
 fn put_note(pen: &mut Pen<'_>, run: &Run<'_>) {
     if run.scan.full > 0 && run.scan.empty == 0 && run.is_shown() {
         pen.text(
-            "<p class=\"note\"><b>No receive of nothing is in this trace.</b> A receive that found nothing is what shows a message to be late; without them Δ is too low.</p>",
+            "<p class=\"note\"><b>No receive of nothing is in this trace.</b> A receive that found nothing is what shows a message to be late; without them Δ is too low. <code>import --idle</code> adds them where a node only waited.</p>",
         );
     }
 }

@@ -3,10 +3,9 @@
 ghost use Rattle.std.specs.Prelude.{◌≡◌, ◌≤◌, ◌<◌, ◌++◌, OnOk, map, length, decimal};
 ghost use Rattle.run_page.specs.Pieces.{bound_text, count_text, digits_text, grouped_text, has_name, label_text, many_text, node_text, percent_text, piece_text, pieces_text, place_text};
 
-use crate::escapes::push_escaped;
 use crate::scales::Place;
-use crate::short_names::push_short;
 use itoa::Buffer;
+use run_picture::{push_escaped, push_short};
 use std::alloc::AllocError;
 
 /// A piece of a phrase.

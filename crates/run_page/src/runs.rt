@@ -4,6 +4,7 @@ ghost use Rattle.std.specs.Prelude.{◌≤◌};
 
 use crate::node_bounds::NodeBounds;
 use crate::scans::{Scan, tick_at};
+use run_picture::takers::taker_in;
 use run_story::{Evidence, Headline, MessageCounts, Named};
 use step_trace::{Act, ProcSet, Row, Trace};
 
@@ -92,10 +93,7 @@ impl Run<'_> {
 
     /// The Receive that takes the message of this number.
     pub(crate) fn taker(&self, no: u64) -> Option<u64> {
-        match self.takers.get(no as usize) {
-            Some(taker) => *taker,
-            None => None,
-        }
+        taker_in(self.takers, no)
     }
 
     /// The least number of a step in this tick or later; one after the last if there is none.

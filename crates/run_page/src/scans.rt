@@ -1,5 +1,8 @@
 //! What one pass over a trace finds: where on the page each processor steps, its last step, and the kinds of Receives.
 
+ghost use Rattle.std.specs.Prelude.{◌≡◌};
+ghost use Rattle.step_trace.specs.Ticks.{tick_of};
+
 use std::alloc::{AllocError, Global};
 use step_trace::{Act, MAX_MEMBER, Step, Trace};
 
@@ -78,7 +81,11 @@ impl Scan {
 }
 
 /// The tick of the step of this number; 0 if there is no such step.
-pub(crate) fn tick_at(trace: &Trace, no: u64) -> u64 {
+pub(crate) fn tick_at(trace: &Trace, no: u64) -> u64
+    ensures { result ≡ tick_of trace.now no }
+{
+    // Its contract says that each step has a tick, and no other number.
+    let _ = trace.last_tick();
     if no == 0 || no > trace.len() as u64 {
         return 0;
     }

@@ -1,9 +1,10 @@
 //! Which ticks and which lanes the picture of evidence shows.
 
+use crate::evidence_ticks::{core_of, padded, taker_of};
 use crate::run_lanes::lanes_in;
 use crate::runs::Run;
 use crate::scales::Span;
-use run_story::{Delay, Evidence, Stall};
+use run_story::Evidence;
 use step_trace::{Act, ProcSet};
 
 /// With more nodes than this a picture has only some lanes, so many.
@@ -39,8 +40,8 @@ pub(crate) struct Scene<'a> {
 
 impl<'a> Scene<'a> {
     pub(crate) fn of(run: &'a Run<'a>, evidence: &'a Evidence, no: usize) -> Self {
-        let core = core_of(run, evidence);
-        let window = padded(run, core);
+        let core = core_of(run.trace, evidence, taker_of(run.takers, evidence));
+        let window = padded(core, run.last());
         let lanes = lanes_of(run, evidence, window);
         let whole = Scene {
             run,
@@ -108,52 +109,6 @@ fn part(run: &Run, tick: u64, before: u64, after: u64) -> Span {
     Span {
         first: run.tick(first).min(tick).max(1),
         to: run.tick(last).max(tick).min(run.last()),
-    }
-}
-
-/// The ticks of evidence: of its gap, with the steps at both ends, and of its miss, with the Receive that takes the message,
-/// if that is near.
-fn core_of(run: &Run, evidence: &Evidence) -> Span {
-    match (evidence.stall, evidence.delay) {
-        (Some(stall), Some(delay)) => {
-            let (gap, miss) = (gap_span(stall), miss_span(run, delay));
-            Span {
-                first: gap.first.min(miss.first),
-                to: gap.to.max(miss.to),
-            }
-        }
-        (Some(stall), None) => gap_span(stall),
-        (None, Some(delay)) => miss_span(run, delay),
-        (None, None) => Span { first: 1, to: 1 },
-    }
-}
-
-fn gap_span(stall: Stall) -> Span {
-    Span {
-        first: stall.gap.from.saturating_sub(1),
-        to: stall.gap.to.saturating_add(1),
-    }
-}
-
-fn miss_span(run: &Run, delay: Delay) -> Span {
-    let (first, missed) = (run.tick(delay.miss.sent), run.tick(delay.miss.missed));
-    let taken = match run.taker(delay.miss.sent) {
-        Some(no) => run.tick(no),
-        None => missed,
-    };
-    let is_near = taken.saturating_sub(missed) < delay.ticks.max(20);
-    Span {
-        first,
-        to: if is_near { taken.max(missed) } else { missed },
-    }
-}
-
-/// These ticks with a seventh more at both ends, at least four, as far as the run goes.
-fn padded(run: &Run, core: Span) -> Span {
-    let pad = (core.to.saturating_sub(core.first) / 7).max(4);
-    Span {
-        first: core.first.saturating_sub(pad).max(1),
-        to: core.to.saturating_add(pad).min(run.last()),
     }
 }
 

@@ -5,9 +5,9 @@ ghost use Rattle.std.specs.Prelude.{◌≤◌};
 use crate::pens::Pen;
 use crate::pieces::Piece::{Count, Number, Percent, Text, Ticks};
 use crate::runs::Run;
-use crate::scales::{Span, WIDE, log_of};
-use run_picture::round_step;
-use step_trace::{MAX_TICKS, Row};
+use crate::scales::{Span, WIDE};
+use run_picture::BoundScale;
+use step_trace::Row;
 
 /// The height of the picture, in pixels.
 pub(crate) const HEIGHT: u64 = 190;
@@ -17,8 +17,8 @@ const BOTTOM: u64 = 182;
 
 const FALL: u64 = 160;
 
-/// A greatest bound above this one makes the scale logarithmic.
-const MOST_LINEAR: u64 = 20;
+/// How many lines there are at round bounds above 0, on a scale that isn't logarithmic.
+const MOST_LINES: u64 = 4;
 
 /// Which of the two bounds.
 #[derive(Clone, Copy)]
@@ -50,35 +50,29 @@ impl Bound {
     }
 }
 
-/// The greatest bound of a run, and how high others are.
+/// How high bounds are.
 #[derive(Clone, Copy)]
 pub(crate) struct Heights {
-    most: u64,
+    scale: BoundScale,
 }
 
 impl Heights {
     pub(crate) fn of(run: &Run) -> Self {
         let first = run.row(0);
         Heights {
-            most: first.delta.max(first.phi).clamp(1, MAX_TICKS + 1),
+            scale: BoundScale::up_to(first.delta.max(first.phi)),
         }
     }
 
     pub(crate) fn is_log(self) -> bool {
-        self.most > MOST_LINEAR
+        self.scale.is_log()
     }
 
     /// The height of a bound, from the top.
     fn y(self, bound: u64) -> u64
         ensures { result ≤ BOTTOM }
     {
-        let bound = bound.min(self.most);
-        let up = if self.is_log() {
-            log_of(bound) * FALL / log_of(self.most).max(1)
-        } else {
-            bound.min(MAX_TICKS + 1) * FALL / self.most.max(1)
-        };
-        BOTTOM.saturating_sub(up)
+        BOTTOM.saturating_sub(self.scale.rise(bound, FALL))
     }
 }
 
@@ -123,7 +117,7 @@ fn put_stairs_head(pen: &mut Pen<'_>, run: &Run<'_>) {
 /// Writes lines at round bounds.
 fn put_grid(pen: &mut Pen<'_>, heights: Heights) {
     for k in 0..8 {
-        if let Some(bound) = round_bound(heights, k) {
+        if let Some(bound) = heights.scale.line(k, MOST_LINES) {
             pen.put(&[
                 Text("<path class=\"gr\" d=\"M0 "),
                 Number(heights.y(bound)),
@@ -135,26 +129,10 @@ fn put_grid(pen: &mut Pen<'_>, heights: Heights) {
     }
 }
 
-const TENS: [u64; 7] = [1, 10, 100, 1_000, 10_000, 100_000, 1_000_000];
-
-/// The round bound of this number, if there is one that is no greater than the greatest.
-fn round_bound(heights: Heights, k: u64) -> Option<u64> {
-    let bound = if heights.is_log() {
-        *TENS.get(k as usize)?
-    } else {
-        round_step(heights.most, 4).saturating_mul(k)
-    };
-    if bound <= heights.most {
-        Some(bound)
-    } else {
-        None
-    }
-}
-
 /// Writes the numbers at the lines of round bounds.
 pub(crate) fn put_numbers(pen: &mut Pen<'_>, heights: Heights) {
     for k in 0..8 {
-        if let Some(bound) = round_bound(heights, k) {
+        if let Some(bound) = heights.scale.line(k, MOST_LINES) {
             pen.put(&[
                 Text("<span style=\"top:"),
                 Number(heights.y(bound)),

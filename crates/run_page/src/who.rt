@@ -4,7 +4,7 @@ use crate::pens::Pen;
 use crate::pieces::Piece::{Count, Label, Node, Number, Text, Ticks};
 use crate::run_lanes::lanes_in;
 use crate::runs::Run;
-use crate::scales::log_of;
+use run_picture::log_of;
 use step_trace::ProcSet;
 
 /// With more members than this the table has only those with the greatest numbers, so many.

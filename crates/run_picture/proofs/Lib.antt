@@ -1,3 +1,4 @@
+pub mod PowersOfTwo
 pub mod MessageTakers
 pub mod GatheredLists
 pub mod TickFacts

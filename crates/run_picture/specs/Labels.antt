@@ -24,7 +24,7 @@ abbrev pub byte_width : ℕ → ℕ
 byte_width b =
     if goes_on b then 0
     else if is_wide b then 120
-    else 80
+    else 90
 
 -- how wide a name is taken to be: no name has more bytes
 abbrev pub name_width : List ℕ → ℕ

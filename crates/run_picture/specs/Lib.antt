@@ -7,5 +7,7 @@ pub mod Marks
 pub mod Escapes
 pub mod Names
 pub mod Places
+pub mod ShortNames
 pub mod Labels
+pub mod BoundScales
 pub mod Axes

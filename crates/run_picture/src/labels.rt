@@ -3,17 +3,22 @@
 ghost use Rattle.std.specs.Prelude.{◌≡◌, ◌≤◌, ◌++◌, IfOk, OnOk, map};
 ghost use Rattle.run_picture.specs.Escapes.{escaped};
 ghost use Rattle.run_picture.specs.Labels.{byte_width, has_name, name_of, name_width};
+ghost use Rattle.run_picture.specs.ShortNames.{short_text, short_width};
 
 use crate::escapes::push_escaped;
 use crate::names::MAX_NAME_BYTES;
+use crate::short_names::{MOST_CHARACTERS, SHOWN_CHARACTERS, characters, push_short, start_of};
 use crate::svg::put;
 use std::alloc::{AllocError, Global};
 
 /// How wide a name is that fits beside the lanes.
-const ROOM: u64 = 800;
+const ROOM: u64 = 740;
 
-/// What stays free at the left edge of the page, beside the widest name.
-const SPACE: u64 = 40;
+/// How wide the ellipsis of a shortened name is taken to be.
+const ELLIPSIS_WIDTH: u64 = 120;
+
+/// How far the widest names reach beyond the usual left edge: those of as many characters as are shown, all of them wide.
+pub(crate) const MOST_OVERHANG: u64 = 1_060;
 
 /// Appends the name of a processor, if it has one, and answers whether it has.
 pub(crate) fn push_name(
@@ -44,26 +49,44 @@ pub(crate) fn put_processor(
     put(alloc, out, format_args!("processor {processor}"))
 }
 
-/// How far the widest name reaches beyond the usual left edge.
+/// Appends the name of a processor where there is little room, shortened if it is long, if it has one, and answers whether it
+/// has.
+pub(crate) fn push_label(
+    out: &mut Vec<u8>,
+    names: &[&str],
+    processor: u64,
+) -> Result<bool, AllocError>
+    ensures pushed { OnOk result (out.new.items ≡ out.old.items ++ short_text (name_of (map (λ x. x.now) names.now) processor)) }
+    ensures named { IfOk result (λ named. named ≡ has_name (map (λ x. x.now) names.now) processor) }
+{
+    let Some(name) = names.get(processor.saturating_sub(1) as usize) else {
+        return Ok(false);
+    };
+    push_short(out, name.as_bytes())?;
+    Ok(true)
+}
+
+/// How far the widest name beside a lane reaches beyond the usual left edge.
 pub(crate) fn overhang(names: &[&str]) -> u64
-    ensures { result ≤ 6_880 }
+    ensures { result ≤ MOST_OVERHANG }
 {
     let mut widest = ROOM;
     for name in names {
-        widest = name_width(name.as_bytes()).max(widest);
+        widest = short_width(name.as_bytes()).max(widest);
     }
-    widest.saturating_sub(ROOM).min(6_880)
+    widest.saturating_sub(ROOM).min(MOST_OVERHANG)
 }
 
-/// The length that the name of a processor is given, so that it fits on the page; none, if it has none or is short.
-pub(crate) fn given_length(names: &[&str], processor: u64) -> Option<u64> {
-    let name = names.get(processor.saturating_sub(1) as usize)?;
-    let width = name_width(name.as_bytes());
-    if width > ROOM {
-        Some(width - SPACE)
-    } else {
-        None
+/// How wide a name is taken to be, shortened if it is long.
+fn short_width(name: &[u8]) -> u64
+    ensures { result ≡ short_width name.now }
+{
+    let count = characters(name);
+    if count <= MOST_CHARACTERS {
+        return name_width(name);
     }
+    let start = name_width(&name[..start_of(name, SHOWN_CHARACTERS)]);
+    start + ELLIPSIS_WIDTH + name_width(&name[start_of(name, count - SHOWN_CHARACTERS)..])
 }
 
 /// How wide a name is taken to be.
@@ -86,6 +109,6 @@ fn byte_width(byte: u8) -> u64
     match byte {
         128..=191 => 0,
         b'A'..=b'Z' | b'm' | b'w' | 224..=255 => 120,
-        _ => 80,
+        _ => 90,
     }
 }

@@ -4,7 +4,7 @@ ghost use Rattle.std.specs.Prelude.{◌≡◌, codes, if◌then◌else◌};
 ghost use Rattle.step_trace.specs.Processors.{has_proc};
 
 use crate::frames::{Frame, LANES_TOP};
-use crate::labels::{given_length, push_name, put_processor};
+use crate::labels::{push_label, put_processor};
 use crate::round_numbers::round_step;
 use crate::svg::put;
 use crate::windows::Window;
@@ -59,22 +59,14 @@ fn put_lane(
     put(
         alloc,
         out,
-        format_args!("</title><path d=\"M900 {y}h10000\"/><text x=\"780\" y=\"{y}\" dy=\"40\""),
+        format_args!("</title><path d=\"M900 {y}h10000\"/><text x=\"780\" y=\"{y}\" dy=\"40\">"),
     )?;
     put_label(alloc, out, p, names)
 }
 
-/// The name of a processor, or its number; a name that is too long for the margin is given its length.
+/// The name of a processor, shortened if it is long, or its number.
 fn put_label(alloc: Global, out: &mut Vec<u8>, p: u64, names: &[&str]) -> Result<(), AllocError> {
-    if let Some(length) = given_length(names, p) {
-        put(
-            alloc,
-            out,
-            format_args!(" textLength=\"{length}\" lengthAdjust=\"spacingAndGlyphs\""),
-        )?;
-    }
-    out.push(b'>')?;
-    if !push_name(out, names, p)? {
+    if !push_label(out, names, p)? {
         put(alloc, out, format_args!("{p}"))?;
     }
     out.extend_from_slice(b"</text></g>\n")

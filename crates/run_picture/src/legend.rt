@@ -1,20 +1,17 @@
 //! The looks of the marks, and what they mean. Lengths are tenths of a pixel.
 
-/// What a reader is told that doesn't show pictures.
-pub(crate) const LABEL: &str =
-    "role=\"img\" aria-label=\"The least bounds from each tick to the end, and steps and messages of some ticks\"";
-
-/// The looks, by classes; on a dark screen the paper is dark.
+/// The looks, by classes; on a dark screen the paper is dark. Words differ from the paper by 4.5 to 1 at least, as the guidelines
+/// for accessible pages (WCAG 2) ask.
 pub(crate) const STYLE: &str = "<style>
 path{fill:none}
 .h{font-size:140px;font-weight:600}.n,.k,.o text{fill:#6b6b6b}.e,.i text,.o text{text-anchor:end}.m{text-anchor:middle}
 .a{stroke:#e8e8e8;stroke-width:10}.b{stroke-width:25}.t path{fill:#fff;fill-opacity:0}
-.delta{fill:#0072B2;font-weight:600}.phi{fill:#D55E00;font-weight:600}
+.delta{fill:#0072B2;font-weight:600}.phi{fill:#B84A00;font-weight:600}
 .i path{stroke:#1a1a1a;stroke-width:12}.i text{font-weight:600}.o path{stroke:#bbb;stroke-width:8;stroke-dasharray:30 30}
 .l{stroke:#9a9a9a;stroke-width:10}.d{stroke-dasharray:20 20}.w{stroke:#0072B2;stroke-width:22;stroke-dasharray:70 40}
 .g{fill:#D55E00;fill-opacity:.22}.z{fill:#fff;stroke:#1a1a1a;stroke-width:13}.r{stroke:#1a1a1a;stroke-width:16}
 @media screen and (prefers-color-scheme:dark){
-svg,[fill=\"#1a1a1a\"]{fill:#e3e3e3}[fill=\"#fff\"]{fill:#17191c}[fill=\"#f3f1e7\"]{fill:#2b2a22}.n,.k,.o text{fill:#a3a3a3}
+svg{background:#17191c}svg,[fill=\"#1a1a1a\"]{fill:#e3e3e3}[fill=\"#fff\"]{fill:#17191c}[fill=\"#f3f1e7\"]{fill:#2b2a22}.n,.k,.o text{fill:#a3a3a3}
 .a{stroke:#34373b}.i path,.r{stroke:#e3e3e3}.o path{stroke:#5a5d61}.l{stroke:#85888c}.z{fill:#17191c;stroke:#e3e3e3}
 .delta{fill:#56b4e9}.w,[stroke=\"#0072B2\"]{stroke:#56b4e9}.phi,.g{fill:#f08a3c}.g{fill-opacity:.4}[stroke=\"#D55E00\"]{stroke:#f08a3c}
 }

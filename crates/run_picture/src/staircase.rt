@@ -3,6 +3,7 @@
 ghost use Rattle.std.specs.Prelude.{◌≡◌};
 ghost use Rattle.run_picture.specs.Axes.{bound_height, column_edge, column_middle};
 
+use crate::bound_scales::BoundScale;
 use crate::frames::{LEFT, WIDTH};
 use crate::pictures::Picture;
 use crate::round_numbers::round_step;
@@ -14,11 +15,14 @@ const TOP: u64 = 500;
 
 const HEIGHT: u64 = 1_700;
 
-/// The scales of both axes: the last tick, and the greatest bound.
+/// How many lines there are at round bounds above 0.
+const MOST_LINES: u64 = 6;
+
+/// The scales of both axes: the last tick, and that of bounds.
 #[derive(Clone, Copy)]
 struct Axes {
     last: u64,
-    high: u64,
+    scale: BoundScale,
 }
 
 impl Axes {
@@ -42,8 +46,7 @@ impl Axes {
     fn y(self, bound: u64) -> u64
         ensures { result ≡ bound_height self bound }
     {
-        let high = self.high.clamp(1, MAX_TICKS);
-        (TOP + HEIGHT).saturating_sub(bound.min(high) * HEIGHT / high)
+        (TOP + HEIGHT).saturating_sub(self.scale.rise(bound, HEIGHT))
     }
 }
 
@@ -87,9 +90,9 @@ pub(crate) fn put_staircase(
 ) -> Result<(), AllocError> {
     let axes = Axes {
         last,
-        high: greatest_bound(&picture.corners),
+        scale: BoundScale::up_to(greatest_bound(&picture.corners)),
     };
-    put_heading(alloc, out, picture)?;
+    put_heading(alloc, out, picture, axes.scale)?;
     put_shade(alloc, out, axes, picture)?;
     put_bounds_axis(alloc, out, axes)?;
     put_ticks_axis(alloc, out, axes)?;
@@ -106,9 +109,23 @@ fn greatest_bound(corners: &[Row]) -> u64 {
     high
 }
 
-fn put_heading(alloc: Global, out: &mut Vec<u8>, picture: &Picture) -> Result<(), AllocError> {
-    out.extend_from_slice(
-        b"<text x=\"900\" y=\"300\" class=\"h\">Least bounds that hold from a tick to the end</text>\n",
+fn put_heading(
+    alloc: Global,
+    out: &mut Vec<u8>,
+    picture: &Picture,
+    scale: BoundScale,
+) -> Result<(), AllocError> {
+    let how = if scale.is_log() {
+        ", on a log scale"
+    } else {
+        ""
+    };
+    put(
+        alloc,
+        out,
+        format_args!(
+            "<text x=\"900\" y=\"300\" class=\"h\">Least bounds that hold from a tick to the end{how}</text>\n"
+        ),
     )?;
     let Some(row) = picture.corners.first() else {
         return Ok(());
@@ -143,12 +160,10 @@ fn put_shade(
 }
 
 fn put_bounds_axis(alloc: Global, out: &mut Vec<u8>, axes: Axes) -> Result<(), AllocError> {
-    let step = round_step(axes.high, 6);
-    for i in 0..7 {
-        let bound = step.saturating_mul(i);
-        if bound > axes.high {
+    for i in 0..MOST_LINES + 1 {
+        let Some(bound) = axes.scale.line(i, MOST_LINES) else {
             return Ok(());
-        }
+        };
         let y = axes.y(bound);
         put(
             alloc,

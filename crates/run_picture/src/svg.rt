@@ -2,10 +2,11 @@
 
 ghost use Rattle.std.specs.Prelude.{◌≡◌, ◌-◌, ◌≤◌, length, take, drop};
 
+use crate::descriptions::put_description;
 use crate::frames::Frame;
-use crate::labels::overhang;
+use crate::labels::{MOST_OVERHANG, overhang};
 use crate::lanes::put_lanes;
-use crate::legend::{LABEL, LEGEND, STYLE};
+use crate::legend::{LEGEND, STYLE};
 use crate::message_lines::put_message;
 use crate::pictures::Picture;
 use crate::staircase::put_staircase;
@@ -37,6 +38,8 @@ pub fn svg_text(
     let count = trace.config().n().min(64);
     let frame = Frame::new(picture.window, count);
     put_head(alloc, &mut out, frame, overhang(names))?;
+    put_description(alloc, &mut out, picture, set, count, names)?;
+    put_paper(alloc, &mut out, frame, overhang(names))?;
     let last = trace.last_tick();
     if last == 0 {
         out.extend_from_slice(
@@ -61,20 +64,41 @@ pub(crate) fn put<D: Display + Drop>(
     out.extend_from_slice(text.as_bytes())
 }
 
+/// The height of the page.
+fn page_height(frame: Frame) -> u64
+    ensures { result ≤ 51_000 }
+{
+    frame.lanes_end() + 1_000
+}
+
 /// The page is wider by what names reach beyond its left edge.
 fn put_head(alloc: Global, out: &mut Vec<u8>, frame: Frame, overhang: u64) -> Result<(), AllocError>
-    requires { overhang ≤ 6_880 }
+    requires { overhang ≤ MOST_OVERHANG }
 {
-    let height = frame.lanes_end() + 1_000;
+    let height = page_height(frame);
     let width = overhang + 11_200;
     let minus = if overhang == 0 { "" } else { "-" };
     put(
         alloc,
         out,
         format_args!(
-            "<svg xmlns=\"http://www.w3.org/2000/svg\" viewBox=\"{minus}{overhang} 0 {width} {height}\" font-family=\"system-ui, sans-serif\" font-size=\"120\" fill=\"#1a1a1a\" {LABEL}>\n{STYLE}<rect"
+            "<svg xmlns=\"http://www.w3.org/2000/svg\" viewBox=\"{minus}{overhang} 0 {width} {height}\" font-family=\"system-ui, sans-serif\" font-size=\"120\" fill=\"#1a1a1a\" role=\"img\">\n"
         ),
-    )?;
+    )
+}
+
+/// The looks of the marks, and the paper.
+fn put_paper(
+    alloc: Global,
+    out: &mut Vec<u8>,
+    frame: Frame,
+    overhang: u64,
+) -> Result<(), AllocError>
+    requires { overhang ≤ MOST_OVERHANG }
+{
+    let height = page_height(frame);
+    let width = overhang + 11_200;
+    put(alloc, out, format_args!("{STYLE}<rect"))?;
     if overhang > 0 {
         put(alloc, out, format_args!(" x=\"-{overhang}\""))?;
     }

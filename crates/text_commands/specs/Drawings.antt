@@ -1,5 +1,6 @@
 -- What the program makes of a trace in a picture.
-use Rattle.std.specs.Prelude.{ℕ, ◌≡◌, List, [], Option, Some, None, Result, Ok, Err, String, string_bytes, ⊤}
+use Rattle.std.specs.Prelude.{ℕ, ◌≡◌, ◌||◌, Bool, true, false, is_some, List, [], Option, Some, None, Result, Ok, Err, String, string_bytes, ⊤}
+use Rattle.std.specs.Option.{unwrap_or}
 use Rattle.step_trace.specs.declared.rows.Row.{Row}
 use Rattle.step_trace.specs.Traces.{Recorded}
 use Rattle.step_trace.specs.Fronts.{IsReport}
@@ -13,6 +14,7 @@ use Rattle.run_picture.specs.declared.names.NamesError.TheVariants as no_names
 use Rattle.run_picture.specs.Names.{AreNames, IsNamesRefusal, parts_of}
 use Rattle.run_picture.specs.Pictures.{Shows}
 use Rattle.run_picture.specs.Windows.{window_of}
+use Rattle.run_page.specs.EvidenceTicks.{IsEvidenceWindow}
 use Rattle.command_options.specs.declared.Drawing.{Drawing}
 use Rattle.command_faults.specs.declared.faults.Fault.{Fault}
 use Rattle.command_faults.specs.declared.faults.Fault.TheVariants as fault
@@ -34,7 +36,7 @@ names_of_list (Some list) = parts_of (string_bytes list)
 abbrev pub AreNamesFor : Drawing → ℕ → Type 0
 AreNamesFor d count = are_names_in d.names count
 
--- the ticks that are asked for, of a trace with this last tick
+-- the ticks that are asked for, of a trace with this last tick; where none are, its first ones
 abbrev pub window_for : Drawing → ℕ → Result Window WindowError
 window_for d last = window_of last d.from d.to
 
@@ -44,12 +46,24 @@ pub record IsDrawable (d : Drawing) (t : Recorded) : Type 0 where
   pub window : Window
   pub asked : window_for d t.last ≡ Ok window
 
--- The picture has the marks of the window that is asked for, with the rows of the trace's report.
+-- whether a first or a last tick is asked for
+abbrev pub asks_for_ticks : Drawing → Bool
+asks_for_ticks d = is_some d.from || is_some d.to
+
+-- The window that is drawn of a trace with these rows: the one that is asked for. Where none is, it shows the first evidence of the rows; and
+-- if there is no evidence, the first ticks.
+pub record IsDrawnWindow (d : Drawing) (t : Recorded) (rows : List Row) (w : Window) : Type 0 where
+  pub asked : Window
+  pub fits : window_for d t.last ≡ Ok asked
+  pub chosen : asks_for_ticks d ≡ true → w ≡ asked
+  pub usual : asks_for_ticks d ≡ false → (e : Option Window) × IsEvidenceWindow t rows e × (w ≡ unwrap_or e asked)
+
+-- The picture has the marks of the window that is drawn, with the rows of the trace's report.
 pub record IsPictureFor (set : ℕ) (d : Drawing) (t : Recorded) (picture : Picture) : Type 0 where
   pub window : Window
-  pub asked : window_for d t.last ≡ Ok window
   pub rows : List Row
   pub exact : IsReport set t rows
+  pub drawn : IsDrawnWindow d t rows window
   pub shows : Shows t rows window picture
   pub marks : ShowsExactly t window picture
   pub misses : ShowsMisses t rows window picture.misses.items

@@ -1,8 +1,8 @@
 //! The picture of a trace as SVG: the command `draw`.
 
-ghost use Rattle.std.specs.Prelude.{◌≡◌, IfErr, IfOk, MatchResult, OnOk};
+ghost use Rattle.std.specs.Prelude.{◌≡◌, IfErr, IfOk, MatchResult, Ok, OnOk};
 ghost use Rattle.step_trace.specs.Processors.{IsWithin};
-ghost use Rattle.text_commands.specs.Drawings.{IsDrawable, IsMarksFault, IsPictureFor, IsUndrawn, IsWindowFault, option_of, window_for};
+ghost use Rattle.text_commands.specs.Drawings.{IsDrawable, IsDrawnWindow, IsMarksFault, IsPictureFor, IsUndrawn, IsWindowFault, asks_for_ticks, option_of, window_for};
 
 use crate::answers::Answer;
 use crate::names::names_for;
@@ -10,9 +10,10 @@ use crate::report_parts::report_of;
 use crate::traces::set_of;
 use command_faults::{Fault, PictureOption};
 use command_options::Drawing;
+use run_page::evidence_window;
 use run_picture::{Picture, Window, WindowError, picture_of, svg_text, window_of};
-use std::alloc::Global;
-use step_trace::{ProcSet, Trace};
+use std::alloc::{AllocError, Global};
+use step_trace::{ProcSet, Row, Trace};
 
 /// A picture: the bounds of every tick, for the correct processors, and the steps, messages and witnesses of some ticks.
 ///
@@ -53,9 +54,38 @@ fn marks_for(
     ensures marks { IfOk result (IsPictureFor set drawing.now trace.now) }
     ensures refused { IfErr result (IsMarksFault drawing.now trace.now.last) }
 {
-    let window = window_for(drawing, trace.last_tick())?;
+    let asked = window_for(drawing, trace.last_tick())?;
     let report = report_of(alloc, trace, set)?;
+    let window = drawn_window(alloc, trace, drawing, asked, report.rows())?;
     Ok(picture_of(alloc, trace, report.rows(), window)?)
+}
+
+/// The ticks to draw: those that are asked for; where none are, those of the first evidence of these rows, and `asked` if
+/// there is no evidence.
+fn drawn_window(
+    alloc: Global,
+    trace: &Trace,
+    drawing: &Drawing,
+    asked: Window,
+    rows: &[Row],
+) -> Result<Window, AllocError>
+    requires { window_for drawing.now trace.now.last ≡ Ok asked }
+    ensures { IfOk result (IsDrawnWindow drawing.now trace.now rows.now) }
+{
+    if asks_for_ticks(drawing) {
+        return Ok(asked);
+    }
+    match evidence_window(alloc, trace, rows)? {
+        Some(window) => Ok(window),
+        None => Ok(asked),
+    }
+}
+
+/// Whether a first or a last tick is asked for.
+fn asks_for_ticks(drawing: &Drawing) -> bool
+    ensures { result ≡ asks_for_ticks drawing.now }
+{
+    drawing.from.is_some() || drawing.to.is_some()
 }
 
 /// The option that a window is refused for.

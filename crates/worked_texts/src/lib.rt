@@ -11,6 +11,8 @@ mod decision_tests;
 #[cfg(test)]
 mod device_texts;
 #[cfg(test)]
+mod evidence_windows_by_hand;
+#[cfg(test)]
 mod formula_tests;
 #[cfg(test)]
 mod marks_by_hand;

@@ -18,6 +18,11 @@ const NO_STEPS: &str = "dls-trace,1,2,0\ninit,5,7\nend,0\n";
 /// A trace, whether a piece has to be in the text of its picture, and that piece.
 const PIECES: &[(&str, bool, &str)] = &[
     (TEXT, true, "<svg xmlns=\"http://www.w3.org/2000/svg\""),
+    (
+        TEXT,
+        true,
+        "<desc>Taken as correct: &lt;a&gt;, b&amp;&quot;c&#39;. From tick 1 on Δ = ",
+    ),
     (TEXT, true, ">&lt;a&gt;</text>"),
     (TEXT, true, ">b&amp;&quot;c&#39;</text>"),
     (TEXT, true, ">é</text>"),
@@ -70,6 +75,7 @@ const PIECES: &[(&str, bool, &str)] = &[
     (TEXT, false, "processor 1"),
     (TEXT, false, "not drawn"),
     (TEXT, false, "<script"),
+    (NO_STEPS, true, "<title>A trace with no tick</title>"),
     (NO_STEPS, true, "The trace has no tick."),
     (NO_STEPS, false, "<path"),
 ];

@@ -236,7 +236,8 @@ def draw(
     to_tick: Optional[int] = None,
     names: Optional[Iterable[str]] = None,
 ) -> bytes:
-    """A picture of the trace and its bounds, as SVG. `names` are names for the processors, in their order."""
+    """A picture of the trace and its bounds, as SVG. If no tick is given, it shows the first evidence. `names` are names for the
+    processors, in their order."""
     return _asked("draw", trace, correct=_set_of(correct)[1], from_tick=from_tick, to_tick=to_tick, names=names)
 
 

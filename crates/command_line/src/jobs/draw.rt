@@ -18,10 +18,10 @@ use std::alloc::{AllocError, Global};
 const ABOUT: &str =
     "Draws a trace and the bounds of its report as SVG, for a set of correct processors";
 
-const FROM_HELP: &str = "The first tick to draw; 1 if it is left out";
+const FROM_HELP: &str = "The first tick to draw; 1 if only --to is given";
 
 const TO_HELP: &str =
-    "The last tick to draw, at most 999 after the first; 99 after it if it is left out";
+    "The last tick to draw, at most 999 after the first; 99 after it if only --from is given";
 
 const NAMES_HELP: &str =
     "The names of all processors, in their order; their numbers if it is left out";
@@ -107,6 +107,11 @@ the ticks:
 
 The lanes of the processors in LIST are in ink, the others pale. Each step and
 each witness shows what it is when the pointer is on it.
+
+Without --from and --to these are the ticks of the first evidence: the silence or
+the late message, or both, that rules out smaller bounds from tick 1 on, with a
+seventh more at both ends. At most the first 1,000 of them are drawn. Without
+evidence they are the ticks 1 to 100.
 
 Example, at the top of the repository:
   ./synchrony draw examples/decides-seven.trace --correct 1,2,3 >run.svg

@@ -1,7 +1,7 @@
 -- Names that are too long for their place (own).
 use Rattle.std.specs.Prelude.{ℕ, ◌+◌, ◌-◌, ◌==◌, ◌++◌, not, List, [], ◌∷◌, if◌then◌else◌, nat_le, take, drop, count_by}
 use Rattle.run_picture.specs.Escapes.{escaped}
-use Rattle.run_picture.specs.Labels.{goes_on}
+use Rattle.run_picture.specs.Labels.{goes_on, name_width}
 
 -- how many characters a text in UTF-8 has: those of its bytes that begin one
 abbrev pub characters : List ℕ → ℕ
@@ -20,3 +20,9 @@ abbrev pub short_text : List ℕ → List ℕ
 short_text name =
     if nat_le (characters name) 15 then escaped name
     else escaped (take (start_of 7 name) name) ++ ((226 ∷ 128 ∷ 166 ∷ []) ++ escaped (drop (start_of (characters name - 7) name) name))
+
+-- how wide it is taken to be then
+abbrev pub short_width : List ℕ → ℕ
+short_width name =
+    if nat_le (characters name) 15 then name_width name
+    else name_width (take (start_of 7 name) name) + (120 + name_width (drop (start_of (characters name - 7) name) name))

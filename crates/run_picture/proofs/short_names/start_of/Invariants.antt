@@ -1,6 +1,6 @@
 use Rattle.std.proofs.Common.{◌≡◌, ◌+◌, drop}
-use Rattle.run_page.specs.ShortNames.{start_of}
-use Rattle.run_page.proofs.short_names.start_of.Given as goal
+use Rattle.run_picture.specs.ShortNames.{start_of}
+use Rattle.run_picture.proofs.short_names.start_of.Given as goal
 
 -- what is left, from here on
 abbrev pub invariant-loop-i : goal.invariant-loop-i

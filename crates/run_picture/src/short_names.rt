@@ -2,19 +2,19 @@
 
 ghost use Rattle.std.specs.Prelude.{◌≡◌, ◌≤◌, ◌++◌, OnOk, length};
 ghost use Rattle.run_picture.specs.Labels.{goes_on};
-ghost use Rattle.run_page.specs.ShortNames.{characters, short_text, start_of};
+ghost use Rattle.run_picture.specs.ShortNames.{characters, short_text, start_of};
 
 use crate::escapes::push_escaped;
 use std::alloc::AllocError;
 
 /// A name with more characters is shown by its ends alone.
-const MOST_CHARACTERS: usize = 15;
+pub(crate) const MOST_CHARACTERS: usize = 15;
 
 /// How many characters are shown then at each of its ends.
-const SHOWN_CHARACTERS: usize = 7;
+pub(crate) const SHOWN_CHARACTERS: usize = 7;
 
-/// Appends a name as HTML has it, and of a long one the first and the last characters alone, with an ellipsis between them.
-pub(crate) fn push_short(out: &mut Vec<u8>, name: &[u8]) -> Result<(), AllocError>
+/// Appends a name as XML and HTML have it, and of a long one the first and the last characters alone, with an ellipsis between them.
+pub fn push_short(out: &mut Vec<u8>, name: &[u8]) -> Result<(), AllocError>
     ensures { OnOk result (out.new.items ≡ out.old.items ++ short_text name.now) }
 {
     let count = characters(name);
@@ -27,7 +27,7 @@ pub(crate) fn push_short(out: &mut Vec<u8>, name: &[u8]) -> Result<(), AllocErro
 }
 
 /// How many characters a text in UTF-8 has: those of its bytes that begin one.
-fn characters(text: &[u8]) -> usize
+pub(crate) fn characters(text: &[u8]) -> usize
     ensures value { result ≡ characters text.now }
     ensures limit { result ≤ length text.now }
 {
@@ -41,7 +41,7 @@ fn characters(text: &[u8]) -> usize
 }
 
 /// Where the character of this number begins, from 0; the length if there is none.
-fn start_of(text: &[u8], number: usize) -> usize
+pub(crate) fn start_of(text: &[u8], number: usize) -> usize
     ensures value { result ≡ start_of number text.now }
     ensures limit { result ≤ length text.now }
 {

@@ -1,6 +1,6 @@
 use Rattle.std.proofs.Common.{◌≡◌, ◌≤◌, take}
-use Rattle.run_page.specs.ShortNames.{characters}
-use Rattle.run_page.proofs.short_names.characters.Given as goal
+use Rattle.run_picture.specs.ShortNames.{characters}
+use Rattle.run_picture.proofs.short_names.characters.Given as goal
 
 -- the characters that begin so far
 abbrev pub invariant-loop-byte : goal.invariant-loop-byte
