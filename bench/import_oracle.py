@@ -1,7 +1,7 @@
 #!/usr/bin/env python3
 """What `synchrony import` says of a log, straight from the words of its format: slow, and sharing no line with the program.
 
-    bench/import_oracle.py import LOG [--nodes A,B,..] [--unit U] [--tick W] [--until X] [--idle Y] [--spread]
+    bench/import_oracle.py import LOG [--nodes A,B,..] [--unit U] [--tick W] [--until X] [--idle Y] [--spread] [--align] [--table]
     bench/import_oracle.py --self-test
 
 The first answers as the program should: standard output, standard error and status. The second tries the texts of
@@ -78,6 +78,7 @@ class Options:
     idle: Optional[bytes] = None
     spread: bool = False
     align: bool = False
+    table: bool = False
 
 
 @dataclass
@@ -547,10 +548,16 @@ def counted(count, one, more):
     return b"%d %b" % (count, one if count == 1 else more)
 
 
+def in_steps(events, nodes):
+    """The events in the order of their steps: of their ticks, and in a tick of their processors."""
+    place = {name: at for at, name in enumerate(nodes, 1)}
+    return sorted(events, key=lambda it: (it.tick, place[it.node]))
+
+
 def trace_of(events, nodes, sends, last_tick):
     """The lines of the trace."""
     place = {name: at for at, name in enumerate(nodes, 1)}
-    in_order = sorted(events, key=lambda it: (it.tick, place[it.node]))
+    in_order = in_steps(events, nodes)
     number_of = {it.record: no for no, it in enumerate(in_order, 1)}
     yield b"dls-trace,2,%d,0" % len(nodes)
     yield b"init" + b",0" * len(nodes)
@@ -559,6 +566,22 @@ def trace_of(events, nodes, sends, last_tick):
         act = b"R," + b" ".join(b"%d" % id for id in ids) if it.to is None else b"S,%d" % place[it.to]
         yield b"%d,%d,%d,%b" % (no, it.tick, place[it.node], act)
     yield b"end,%d" % last_tick
+
+
+def table_of(events, nodes, width):
+    """The lines of the table of the steps. A receive of nothing that was added has no record, no time and no messages."""
+    first = min(it.time for it in events if it.record > 0)
+    yield b"step,tick,begins,record,time,node,event,to,message"
+    for no, it in enumerate(in_steps(events, nodes), 1):
+        told = [b"%d" % number for number in (no, it.tick, first + (it.tick - 1) * width)]
+        told += [b"%d" % it.record, b"%d" % it.time] if it.record > 0 else [b"", b""]
+        told += [it.node, b"receive", b""] if it.to is None else [it.node, b"send", it.to]
+        yield b",".join(map(quoted, [*told, b" ".join(it.messages)]))
+
+
+def quoted(field):
+    """A field as it is written: in quotes if it has a comma or a quote, which is then doubled."""
+    return b'"' + field.replace(b'"', b'""') + b'"' if b"," in field or b'"' in field else field
 
 
 def imported(log, options):
@@ -588,6 +611,8 @@ def imported(log, options):
         filled = idle_receives(events, nodes, last_tick, idle // width)
         events = [*events, *filled]
         told.append(counted(len(filled), b"receive", b"receives") + b" of nothing added, in silences of at most " + counted(idle // width, b"tick", b"ticks"))
+    if options.table:
+        return table_of(events, nodes, width), told
     return trace_of(events, nodes, sends, last_tick), told
 
 
@@ -630,14 +655,14 @@ def main():
     command.add_argument("log")
     for name in ("--nodes", "--unit", "--tick", "--until", "--idle"):
         command.add_argument(name, type=os.fsencode)
-    command.add_argument("--spread", action="store_true")
-    command.add_argument("--align", action="store_true")
+    for name in ("--spread", "--align", "--table"):
+        command.add_argument(name, action="store_true")
     words = words.parse_args()
     if words.self_test:
         return self_test()
     if not hasattr(words, "log"):
         command.error("no command")
-    status, output, told = answer(read_log(words.log), Options(words.nodes, words.unit, words.tick, words.until, words.idle, words.spread, words.align))
+    status, output, told = answer(read_log(words.log), Options(words.nodes, words.unit, words.tick, words.until, words.idle, words.spread, words.align, words.table))
     sys.stderr.buffer.write(told)
     sys.stdout.buffer.write(output)
     return status

@@ -7,6 +7,8 @@ from dataclasses import dataclass, field
 
 COLUMNS = ["time", "node", "event", "to", "message"]
 NAMES = ["a", "b", "c", "node-7", "10.0.0.1:8080", "é", "a b", 'x"y', "p,q", "A", " a", "→", "send", "1"]
+# The options that are words alone.
+FLAGS = ("spread", "align", "table")
 GREATEST = 2**64 - 1
 TEXT_LIMIT = 67_108_864
 
@@ -121,6 +123,8 @@ def options_of(chance, log):
         options["spread"] = ""
     if chance.random() < 0.2:
         options["align"] = ""
+    if chance.random() < 0.4:
+        options["table"] = ""
     return options
 
 
@@ -491,7 +495,7 @@ def words_of(chance, log):
     """The options as words of a command line, in any order."""
     words = []
     for name, value in chance.sample([*log.options.items()], len(log.options)):
-        if name in ("spread", "align"):
+        if name in FLAGS:
             words += [f"--{name}"]
         elif value.startswith("-"):
             words += [f"--{name}={value}"]

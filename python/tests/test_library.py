@@ -79,6 +79,14 @@ def test_errors_have_the_words_of_the_program():
         sy.draw(ONE_MISS, "all", names=["a\n", "b"])
 
 
+def test_a_log_gives_its_trace_or_the_table_of_its_steps():
+    log = b"time,node,event,to,message\n5,a,send,b,m\n7,b,receive,,m\n"
+    assert sy.import_log(log) == b"dls-trace,2,2,0\ninit,0,0\n1,1,1,S,2\n2,3,2,R,1\nend,3\n"
+    assert sy.import_log(log, table=True) == b"step,tick,begins,record,time,node,event,to,message\n1,1,5,2,5,a,send,b,m\n2,3,7,3,7,b,receive,,m\n"
+    filled = b"step,tick,begins,record,time,node,event,to,message\n1,1,5,2,5,a,send,b,m\n2,2,6,,,b,receive,,\n3,3,7,,,a,receive,,\n4,3,7,3,7,b,receive,,m\n"
+    assert sy.import_log(log, idle=2, table=True) == filled
+
+
 def test_errors_survive_a_pickle():
     import pickle
 

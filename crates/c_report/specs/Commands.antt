@@ -2,6 +2,7 @@
 use Rattle.std.specs.Prelude.{ℕ, ◌≡◌, ◌≢◌, ◌<◌, ◌≤◌, ◌⊎◌, ◌==◌, List, ◌∷◌, length, option_map, IsUtf8, codes, string_bytes, ⊤}
 use Rattle.std.specs.List.{slice_split}
 use Rattle.certificate_checker.specs.declared.verdicts.Verdict.{Verdict}
+use Rattle.command_options.specs.declared.ImportForm.{ImportForm}
 use Rattle.command_options.specs.declared.ImportOptions.{ImportOptions}
 use Rattle.event_log.specs.declared.imports.Import.{Import}
 use Rattle.event_log.specs.declared.options.Options.{Options}
@@ -21,7 +22,7 @@ use Rattle.text_commands.specs.Briefs.{IsBriefOf, IsNoBrief}
 use Rattle.text_commands.specs.Checks.{IsUnchecked}
 use Rattle.text_commands.specs.Drawings.{IsDrawingOf, IsUndrawnTrace}
 use Rattle.text_commands.specs.EachBounds.{IsEachOf, IsNoEach}
-use Rattle.text_commands.specs.Imports.{IsImportOptionFault, IsUnimported}
+use Rattle.text_commands.specs.Imports.{IsImportOptionFault, IsImportText, IsUnimported}
 use Rattle.text_commands.specs.Judgings.{IsJudgementOn, IsUnjudged}
 use Rattle.text_commands.specs.Pages.{IsNoPage, IsPageOf}
 use Rattle.text_commands.specs.Replays.{IsOffRun, IsReplayOf}
@@ -107,15 +108,15 @@ pub record IsJudgementPrinted (file : List ℕ) (Judges : Judgement → List ℕ
 abbrev pub AreImportOptions : ImportOptions → Options → Type 0
 AreImportOptions given o = AreOptions (option_map string_bytes given.nodes) (option_map string_bytes given.unit) (option_map string_bytes given.tick) (option_map string_bytes given.until) (option_map string_bytes given.idle) given.spread given.align o
 
--- The log is read by these options, and the text is that of its trace in version 2, which is read back as that trace.
-pub record IsTraceOfLog (o : Options) (log out : List ℕ) : Type 0 where
+-- The log is read by these options, and the text is what is printed of it.
+pub record IsTextOfLog (form : ImportForm) (o : Options) (log out : List ℕ) : Type 0 where
   pub import : Import
   pub exact : IsImportOf o log import
-  pub written : IsUpgradeOf import.trace out
+  pub written : IsImportText form o log import out
 
 -- the same, by the options that are given
 abbrev pub IsImportFor : ImportOptions → List ℕ → List ℕ → Type 0
-IsImportFor given log out = (o : Options) × AreImportOptions given o × IsTraceOfLog o log out
+IsImportFor given log out = (o : Options) × AreImportOptions given o × IsTextOfLog given.form o log out
 
 -- why there is none: the options; or else the log
 abbrev pub IsUnimportedFor : ImportOptions → List ℕ → Fault → Type 0

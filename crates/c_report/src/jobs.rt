@@ -1,7 +1,7 @@
 //! What is printed for the job of a command line, of the texts that a caller lends.
 
 ghost use Rattle.std.specs.Prelude.{◌≡◌, ◌≢◌, ◌<◌, IfOk, IfErr, OnOk, option_map, codes, string_bytes};
-ghost use Rattle.c_report.specs.Commands.{IsImportFor, IsJudgementPrinted, IsLineOf, IsPrintedFor, IsPrintedOf, IsSaid, IsTraceOfLog, IsUnimportedFor, IsUnprintedFor, IsUnprintedOf, lent, other_file_words, run_words, runs_words, simulation_words};
+ghost use Rattle.c_report.specs.Commands.{IsImportFor, IsJudgementPrinted, IsLineOf, IsPrintedFor, IsPrintedOf, IsSaid, IsTextOfLog, IsUnimportedFor, IsUnprintedFor, IsUnprintedOf, lent, other_file_words, run_words, runs_words, simulation_words};
 ghost use Rattle.c_report.specs.declared.answers.TheConstants.{NO_MEMORY, NO_ROOM};
 ghost use Rattle.text_commands.specs.Answers.{IsAnswerTo, IsUnanswered};
 ghost use Rattle.text_commands.specs.Checks.{IsUnchecked};
@@ -13,8 +13,8 @@ ghost use Rattle.text_verdicts.specs.Texts.{OfTrace};
 use command_faults::Fault;
 use command_line::jobs::{CheckJob, ImportJob, JudgeJob};
 use command_line::{Job, names_standard_input};
-use command_options::ImportOptions;
-use event_log::{Options, read_log};
+use command_options::{ImportForm, ImportOptions};
+use event_log::{Options, read_log, read_table};
 use std::alloc::{AllocError, Global};
 use text_commands::{
     Answer, Replay, Upgrade, answer_to, import_options, judgement_on, judgement_status, verdict_on,
@@ -102,7 +102,7 @@ fn judge(alloc: Global, job: &JudgeJob, text: &[u8], second: &[u8]) -> Result<Pr
     })
 }
 
-/// The trace of the log in a file.
+/// What is printed of the log in a file.
 fn import(alloc: Global, job: &ImportJob, text: &[u8]) -> Result<Printed, Fault>
     ensures printed { IfOk result (λ p. IsPrintedOf (string_bytes job.now.file) (IsImportFor job.now.options text.now) p.status p.text.items) }
     ensures refused { IfErr result (IsUnprintedOf (string_bytes job.now.file) (IsUnimportedFor job.now.options text.now)) }
@@ -111,7 +111,7 @@ fn import(alloc: Global, job: &ImportJob, text: &[u8]) -> Result<Printed, Fault>
     Ok(well(imported(alloc, &job.options, text)?))
 }
 
-/// The text of the trace of a log. Nothing is told of how the log was read.
+/// What is printed of a log. Nothing is told of how the log was read.
 fn imported(alloc: Global, given: &ImportOptions, text: &[u8]) -> Result<Vec<u8>, Fault>
     ensures imported { IfOk result (λ out. IsImportFor given.now text.now out.items) }
     ensures refused { IfErr result (IsUnimportedFor given.now text.now) }
@@ -126,16 +126,27 @@ fn imported(alloc: Global, given: &ImportOptions, text: &[u8]) -> Result<Vec<u8>
         given.spread,
         given.align,
     )?;
-    trace_text_of(alloc, text, &options)
+    match given.form {
+        ImportForm::Trace => trace_text_of(alloc, text, &options),
+        ImportForm::Table => table_text_of(alloc, text, &options),
+    }
 }
 
 /// The text of the trace of a log, which is read so.
 fn trace_text_of(alloc: Global, text: &[u8], options: &Options) -> Result<Vec<u8>, Fault>
-    ensures trace { IfOk result (λ out. IsTraceOfLog options.now text.now out.items) }
+    ensures trace { IfOk result (λ out. IsTextOfLog ImportForm.Trace options.now text.now out.items) }
     ensures refused { IfErr result (IsUnimported options.now text.now) }
 {
     let import = read_log(alloc, text, options)?;
     Upgrade.answer(alloc, import.trace)
+}
+
+/// The table of the steps of a log, which is read so.
+fn table_text_of(alloc: Global, text: &[u8], options: &Options) -> Result<Vec<u8>, Fault>
+    ensures table { IfOk result (λ out. IsTextOfLog ImportForm.Table options.now text.now out.items) }
+    ensures refused { IfErr result (IsUnimported options.now text.now) }
+{
+    Ok(read_table(alloc, text, options)?.table)
 }
 
 /// The text, where there is one.

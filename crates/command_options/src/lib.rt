@@ -173,7 +173,16 @@ pub struct Page {
     pub names: Option<String>,
 }
 
-/// How a log is to be read, as texts that are still to be read themselves.
+/// What is printed of a log.
+#[derive(Clone, Copy, Debug)]
+pub enum ImportForm {
+    /// Its trace, as a text of version 2.
+    Trace,
+    /// The table of the steps of its trace.
+    Table,
+}
+
+/// How a log is to be read, as texts that are still to be read themselves, and what is printed of it.
 #[derive(Debug, Drop)]
 pub struct ImportOptions {
     /// The names of the nodes, with commas between them: those of the log, in their order, where there are none.
@@ -191,4 +200,6 @@ pub struct ImportOptions {
     pub spread: bool,
     /// Whether the clocks of the nodes are moved, so that each message is received later than it is sent.
     pub align: bool,
+    /// What is printed.
+    pub form: ImportForm,
 }

@@ -18,3 +18,4 @@ pub mod TimeTexts
 pub mod SeenSilences
 pub mod UnmadeLogs
 pub mod ToldTimes
+pub mod StepPlaces

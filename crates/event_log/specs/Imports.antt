@@ -13,11 +13,12 @@ use Rattle.timed_events.specs.Causes.{IsFirstUnplaceable}
 use Rattle.timed_events.specs.Checks.{first_fault, processor_at, messages_at}
 use Rattle.timed_events.specs.CauseCycles.{BeginsAtLeast, IsCauseCycle}
 use Rattle.timed_events.specs.Lateness.{lateness_of}
+use Rattle.timed_events.specs.Times.{least_time}
 use Rattle.timed_events.specs.declared.idle_traces.IdleError.{IdleError}
 use Rattle.timed_events.specs.declared.idle_traces.IdleError.TheVariants as filled
 use Rattle.timed_events.specs.declared.spread_traces.Moved.{Moved}
-use Rattle.timed_events.specs.IdleTraces.{IsIdleRefusal, IsIdleTimed}
-use Rattle.timed_events.specs.Spreads.{IsTimed, IsTimedRefusal}
+use Rattle.timed_events.specs.IdleTraces.{AreFilledPlaces, IsIdleRefusal, IsIdleTimed}
+use Rattle.timed_events.specs.Spreads.{AreStepPlaces, IsTimed, IsTimedRefusal}
 use Rattle.step_trace.specs.Traces.{Recorded}
 use Rattle.trace_text.specs.Records.{◌>>=◌}
 use Rattle.event_log.specs.declared.imports.IdleReceives.{IdleReceives}
@@ -204,6 +205,12 @@ abbrev pub IsMadeBy : Option ℕ → Bool → ℕ → List Event → Clock → R
 IsMadeBy None spread n events clock trace moved idle = IsTimed spread n events clock (record { trace = trace; moved = moved }) × (idle ≡ None)
 IsMadeBy (Some limit) spread n events clock trace moved idle = IsFilledWith limit spread n events clock trace moved idle
 
+-- `filled` has the events and, behind them, the receives of nothing that are added to them, if any are; these are its places in the
+-- order of the steps of their trace
+abbrev pub ArePlacedBy : Option ℕ → Bool → ℕ → List Event → Clock → List Event → List ℕ → Type 0
+ArePlacedBy None spread n events clock filled places = (filled ≡ events) × AreStepPlaces spread events clock places
+ArePlacedBy (Some limit) spread n events clock filled places = AreFilledPlaces spread n events clock limit filled places
+
 -- why there is none
 abbrev pub IsUnmadeFor : Option ℕ → Bool → ℕ → List Event → Clock → IdleError → Type 0
 IsUnmadeFor None spread n events clock (filled.Events why) = IsTimedRefusal spread events clock why
@@ -230,6 +237,16 @@ pub record IsImportOf (o : Options) (text : List ℕ) (import : Import) : Type 0
   pub made : IsMadeBy limit o.spread (length log.nodes) aligned clock import.trace import.moved import.idle
   pub nodes : import.nodes ≡ log.nodes
   pub lateness : import.lateness ≡ lateness_of aligned
+
+-- The import is that of the text by the options. `filled` has its events, so many, in the order of their records and with their
+-- clocks aligned if that is asked for, and behind them the receives of nothing that were added. Its ticks begin by this clock, tick 1
+-- at the time `first`; and its steps are those of the list at these places.
+pub record IsPlacedImport (o : Options) (text : List ℕ) (import : Import) (filled : List Event) (logged : ℕ) (first : ℤ) (clock : Clock) (places : List ℕ) : Type 0 where
+  pub is : IsImportOf o text import
+  pub clock_is : is.clock ≡ clock
+  pub so_many : logged ≡ length is.aligned
+  pub begins : first ≡ least_time is.aligned
+  pub placed : ArePlacedBy is.limit o.spread (length is.log.nodes) is.aligned clock filled places
 
 -- the events are told, and an option doesn't fit their times
 pub record IsUnfit (o : Options) (text : List ℕ) (why : LogError) : Type 0 where

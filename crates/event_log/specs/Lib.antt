@@ -16,3 +16,4 @@ pub mod HopLines
 pub mod Imports
 pub mod Alignments
 pub mod ClockLines
+pub mod StepTables

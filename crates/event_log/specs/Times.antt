@@ -110,6 +110,11 @@ moment_of field =
 abbrev pub IsDuration : List ℕ → ℤ → Type 0
 IsDuration text x = IsDurationNanos x × (parse_duration text ≡ Ok x)
 
+-- how many nanoseconds a length of a tick has that is a duration; 0 of one in the unit of the times
+abbrev pub nanoseconds_of : Width → ℕ
+nanoseconds_of (width.Units n) = 0
+nanoseconds_of (width.Nanoseconds n) = n
+
 -- a text tells this length of a tick: a number above 0, or else a duration above 0
 abbrev pub IsWidth : List ℕ → Width → Type 0
 IsWidth text (width.Units n) = (0 < n) × (number_of text ≡ Some n)

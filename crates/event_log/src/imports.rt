@@ -3,10 +3,11 @@
 ghost use Rattle.std.specs.Prelude.{◌≡◌, ◌*◌, ◌^◌, ◌<◌, ◌≤◌, ℕ, [], Err, Ok, IfErr, IfOk, None, OnErr, Some, length, unwrap_or};
 ghost use Rattle.timed_events.specs.Checks.{AreMeant, AreOfProcessors};
 ghost use Rattle.timed_events.specs.Lateness.{lateness_of};
-ghost use Rattle.event_log.specs.Imports.{IsBehindCycle, IsIdleErrorUnlessMemory, IsImportOf, IsLogRefusal, IsMadeBy, IsRead, IsReadRefusal, IsUnmadeFor, above_zero, clock_in, end_in, idle_place, units_in, until_in, width_in};
+ghost use Rattle.timed_events.specs.Times.{least_time};
+ghost use Rattle.event_log.specs.Imports.{ArePlacedBy, IsBehindCycle, IsIdleErrorUnlessMemory, IsImportOf, IsLogRefusal, IsMadeBy, IsPlacedImport, IsRead, IsReadRefusal, IsUnmadeFor, above_zero, clock_in, end_in, idle_place, units_in, until_in, width_in};
 ghost use Rattle.event_log.specs.Logs.{seen_log};
 ghost use Rattle.event_log.specs.SoundLogs.{IsSound};
-ghost use Rattle.event_log.specs.Times.{nanoseconds_in};
+ghost use Rattle.event_log.specs.Times.{nanoseconds_in, nanoseconds_of};
 
 use crate::alignments::{AlignedLog, aligned_log};
 use crate::event_refusals::error_of;
@@ -21,8 +22,8 @@ use clock_offsets::Offsets;
 use std::alloc::{AllocError, Global};
 use step_trace::{MAX_PROCESSORS, MAX_STEPS, MIN_PROCESSORS, Trace};
 use timed_events::{
-    Clock, Event, EventError, IdleError, IdleTrace, Lateness, Moved, TimedTrace, idle_trace,
-    lateness_of, trace_of_events,
+    Clock, Event, EventError, IdleError, Lateness, Moved, PlacedIdleTrace, PlacedTrace, idle_trace,
+    lateness_of, least_time, placed_trace,
 };
 use trace_text::MAX_TEXT_BYTES;
 
@@ -52,12 +53,14 @@ pub struct IdleReceives {
     pub limit: u128,
 }
 
-/// The trace of a log, how far its events went, and the receives of nothing that were added.
+/// The trace of a log, how far its events went, the receives of nothing that were added, and the places of the events and of
+/// these receives in the order of its steps.
 #[derive(Drop)]
 struct LogTrace {
     trace: Trace,
     moved: Moved,
     idle: Option<IdleReceives>,
+    places: Vec<u32>,
 }
 
 /// Reads a log as a trace: each event is one step, in the tick of its time or, where events may be spread, as little later
@@ -72,6 +75,40 @@ pub fn read_log(alloc: Global, text: &[u8], options: &Options) -> Result<Import,
     ensures refused { IfErr result (λ why. IsLogRefusal options.now text.now why) }
     ensures more { result ≡ Err LogError.Memory → length text.now ≤ MAX_TEXT_BYTES }
 {
+    Ok(placed_import(alloc, text, options)?.import)
+}
+
+/// A log read as a trace, with what its steps are made of.
+#[derive(Drop)]
+pub(crate) struct PlacedImport {
+    pub(crate) import: Import,
+    /// The events of the log in the order of their records, with their clocks aligned if that was asked for, and behind them the
+    /// receives of nothing that were added.
+    pub(crate) events: Vec<Event>,
+    /// How many of the events are the log's.
+    pub(crate) logged: usize,
+    /// When tick 1 begins.
+    pub(crate) first: i128,
+    /// How long ticks are.
+    pub(crate) clock: Clock,
+    /// The places of the events in the order of the steps.
+    pub(crate) places: Vec<u32>,
+}
+
+/// The same import as that of `read_log`, with what its steps are made of.
+///
+/// Refuses the same.
+pub(crate) fn placed_import(
+    alloc: Global,
+    text: &[u8],
+    options: &Options,
+) -> Result<PlacedImport, LogError>
+    ensures import { IfOk result (λ p. IsPlacedImport options.now text.now p.import p.events.items p.logged p.first p.clock p.places.items) }
+    ensures long { IfOk result (λ p. length p.places.items ≡ length p.import.trace.steps) }
+    ensures short { IfOk result (λ p. p.clock.width < 2 ^ 94) }
+    ensures refused { IfErr result (λ why. IsLogRefusal options.now text.now why) }
+    ensures more { result ≡ Err LogError.Memory → length text.now ≤ MAX_TEXT_BYTES }
+{
     if text.len() > MAX_TEXT_BYTES {
         return Err(LogError::TooLarge);
     }
@@ -81,6 +118,8 @@ pub fn read_log(alloc: Global, text: &[u8], options: &Options) -> Result<Import,
     let mut aligned = aligned_log(alloc, text, log, options.align)?;
     let lateness = lateness_in(alloc, &aligned.log)?;
     let n = aligned.log.nodes.len() as u64;
+    let logged = aligned.log.events.len();
+    let first = least_time(aligned.log.events.as_slice());
     match trace_of_log(
         alloc,
         n,
@@ -89,23 +128,49 @@ pub fn read_log(alloc: Global, text: &[u8], options: &Options) -> Result<Import,
         options.spread,
         limit,
     ) {
-        Ok(made) => Ok(import_of(aligned, made, lateness)),
+        Ok(made) => Ok(import_of(aligned, made, lateness, logged, first, clock)),
         Err(why) => Err(log_error(alloc, text, &aligned.log, why)),
     }
 }
 
-/// The import of an aligned log, of its trace and its late messages.
-fn import_of(aligned: AlignedLog, made: LogTrace, lateness: Lateness) -> Import
-    ensures { result ≡ record { trace = made.trace; nodes = aligned.log.nodes; moved = made.moved; lateness = lateness; offsets = aligned.offsets; idle = made.idle } }
+/// The import of an aligned log, of its trace and its late messages, by a clock. So many events are in the log, the first of
+/// them at a time.
+fn import_of(
+    aligned: AlignedLog,
+    made: LogTrace,
+    lateness: Lateness,
+    logged: usize,
+    first: i128,
+    clock: Clock,
+) -> PlacedImport
+    ensures import { result.import ≡ record { trace = made.trace; nodes = aligned.log.nodes; moved = made.moved; lateness = lateness; offsets = aligned.offsets; idle = made.idle } }
+    ensures events { result.events.items ≡ aligned.log.events.items }
+    ensures logged { result.logged ≡ logged }
+    ensures first { result.first ≡ first }
+    ensures clock { result.clock ≡ clock }
+    ensures places { result.places.items ≡ made.places.items }
 {
     let AlignedLog { log, offsets } = aligned;
-    Import {
-        trace: made.trace,
-        nodes: log.nodes,
-        moved: made.moved,
-        lateness,
-        offsets,
-        idle: made.idle,
+    let LogTrace {
+        trace,
+        moved,
+        idle,
+        places,
+    } = made;
+    PlacedImport {
+        import: Import {
+            trace,
+            nodes: log.nodes,
+            moved,
+            lateness,
+            offsets,
+            idle,
+        },
+        events: log.events,
+        logged,
+        first,
+        clock,
+        places,
     }
 }
 
@@ -153,6 +218,7 @@ fn numbered_first(alloc: Global, options: &Options) -> Result<NameSet, AllocErro
 fn clock_for(options: &Options, kind: TimeKind) -> Result<Clock, LogError>
     ensures clock { result ≡ clock_in options.now kind }
     ensures width { IfOk result (λ clock. 0 < clock.width) }
+    ensures short { IfOk result (λ clock. clock.width < 2 ^ 94) }
 {
     let width = width_for(kind, options.width)?;
     let until = until_for(kind, options.until)?;
@@ -161,8 +227,10 @@ fn clock_for(options: &Options, kind: TimeKind) -> Result<Clock, LogError>
 
 /// The length of a tick in the unit of times of this kind.
 fn width_for(kind: TimeKind, width: Width) -> Result<u128, LogError>
+    requires { nanoseconds_of width < 2 ^ 94 }
     ensures width { result ≡ width_in kind width }
     ensures above { IfOk result (λ units. 0 < units) }
+    ensures short { IfOk result (λ units. units < 2 ^ 94) }
 {
     match width {
         Width::Units(units) => above_zero(units_in(kind, units)),
@@ -175,7 +243,8 @@ fn width_for(kind: TimeKind, width: Width) -> Result<u128, LogError>
 
 /// So many units of times of this kind, as these are counted.
 pub(crate) fn units_in(kind: TimeKind, units: u64) -> u128
-    ensures { result ≡ units_in kind units }
+    ensures is { result ≡ units_in kind units }
+    ensures short { result < 2 ^ 94 }
 {
     match kind {
         TimeKind::Whole(unit) => whole_in(unit, units),
@@ -186,7 +255,7 @@ pub(crate) fn units_in(kind: TimeKind, units: u64) -> u128
 /// So many of a unit in nanoseconds.
 fn whole_in(unit: TimeUnit, units: u64) -> u128
     ensures is { result ≡ units * nanoseconds_in unit }
-    ensures small { result < 2 ^ 127 }
+    ensures small { result < 2 ^ 94 }
 {
     u128::from(units) * u128::from(nanoseconds_in(unit))
 }
@@ -195,6 +264,7 @@ fn whole_in(unit: TimeUnit, units: u64) -> u128
 fn above_zero(units: u128) -> Result<u128, LogError>
     ensures is { result ≡ above_zero units }
     ensures above { IfOk result (λ units. 0 < units) }
+    ensures same { IfOk result (λ length. length ≡ units) }
 {
     if units == 0 {
         return Err(LogError::TickUnfit);
@@ -257,32 +327,43 @@ fn trace_of_log(
     requires meant { AreMeant events.old.items n }
     requires width { 0 < clock.now.width }
     ensures trace { IfOk result (λ made. IsMadeBy limit spread n events.old.items clock.now made.trace made.moved made.idle) }
+    ensures places { IfOk result (λ made. ArePlacedBy limit spread n events.old.items clock.now events.new.items made.places.items) }
+    ensures long { IfOk result (λ made. length made.places.items ≡ length made.trace.steps) }
     ensures unchanged { OnErr result (events.new.items ≡ events.old.items) }
     ensures refused { IfErr result (λ why. IsUnmadeFor limit spread n events.old.items clock.now why) }
 {
     let Some(limit) = limit else {
-        let timed = trace_of_events(alloc, n, events.as_slice(), clock, spread)?;
-        return Ok(plain_trace(timed));
+        let placed = placed_trace(alloc, n, events.as_slice(), clock, spread)?;
+        return Ok(plain_trace(placed));
     };
-    let timed = idle_trace(alloc, n, events, clock, spread, limit)?;
-    Ok(filled_trace(timed, limit))
+    let placed = idle_trace(alloc, n, events, clock, spread, limit)?;
+    Ok(filled_trace(placed, limit))
 }
 
 /// A trace to which nothing was added.
-fn plain_trace(timed: TimedTrace) -> LogTrace
-    ensures { result ≡ record { trace = timed.trace; moved = timed.moved; idle = None } }
+fn plain_trace(placed: PlacedTrace) -> LogTrace
+    ensures trace { result.trace ≡ placed.timed.trace }
+    ensures moved { result.moved ≡ placed.timed.moved }
+    ensures idle { result.idle ≡ None }
+    ensures places { result.places.items ≡ placed.places.items }
 {
+    let PlacedTrace { timed, places } = placed;
     LogTrace {
         trace: timed.trace,
         moved: timed.moved,
         idle: None,
+        places,
     }
 }
 
 /// A trace with receives of nothing in silences of at most so many ticks.
-fn filled_trace(timed: IdleTrace, limit: u128) -> LogTrace
-    ensures { result ≡ record { trace = timed.trace; moved = timed.moved; idle = Some (record { count = timed.added; limit = limit }) } }
+fn filled_trace(placed: PlacedIdleTrace, limit: u128) -> LogTrace
+    ensures trace { result.trace ≡ placed.timed.trace }
+    ensures moved { result.moved ≡ placed.timed.moved }
+    ensures idle { result.idle ≡ Some (record { count = placed.timed.added; limit = limit }) }
+    ensures places { result.places.items ≡ placed.places.items }
 {
+    let PlacedIdleTrace { timed, places } = placed;
     LogTrace {
         trace: timed.trace,
         moved: timed.moved,
@@ -290,5 +371,6 @@ fn filled_trace(timed: IdleTrace, limit: u128) -> LogTrace
             count: timed.added,
             limit,
         }),
+        places,
     }
 }

@@ -12,15 +12,18 @@ mod idle_limits;
 mod imports;
 mod laws;
 mod logs;
+mod message_fields;
 mod message_names;
 mod names;
 mod naming;
+mod option_texts;
 mod options;
 mod reading;
 mod records;
 mod refusal_texts;
 mod refusals;
 mod results;
+mod step_tables;
 mod times;
 
 pub use columns::Column;
@@ -29,10 +32,12 @@ pub use imports::{IdleReceives, Import, read_log};
 pub use laws::log_laws;
 pub use logs::{NamedEvents, events_of_log};
 pub use names::{Name, NameSet};
-pub use options::{OptionError, Options, read_options};
+pub use option_texts::read_options;
+pub use options::{OptionError, Options};
 pub use reading::MAX_EVENTS;
 pub use refusal_texts::printed;
 pub use refusals::LogError;
+pub use step_tables::{LogTable, read_table};
 pub use times::{
     LogEnd, Moment, TimeKind, TimeUnit, Width, read_end, read_moment, read_unit, read_width,
 };

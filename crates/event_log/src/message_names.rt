@@ -30,7 +30,7 @@ pub(crate) fn message_name(
 }
 
 /// The place of the column of messages, or 0 where there is none.
-fn message_place(alloc: Global, text: &[u8]) -> Result<usize, AllocError>
+pub(crate) fn message_place(alloc: Global, text: &[u8]) -> Result<usize, AllocError>
     ensures { IfOk result (λ place. place ≡ message_place text.now) }
 {
     let header = record_at(alloc, text, 0)?;

@@ -3,7 +3,7 @@
 ghost use Rattle.std.specs.Prelude.{◌≡◌, ℤ, ◌*◌, ◌<◌, ◌≤◌, ◌^◌, ◌∷◌, [], ◌++◌, ◌==◌, None, Some, IfSome, length, option_map, position};
 ghost use Rattle.std.specs.Char.{is_ascii_digit};
 ghost use Rattle.std.specs.List.{list_all};
-ghost use Rattle.event_log.specs.Times.{IsDuration, IsEnd, IsWidth, decimal_of, digit_at, fraction_of, local_of, moment_in, moment_of, nanoseconds_in, seconds_by, settled, stamp_of, text_of, three_from, time_as, time_of_end, unit_of, whole_of};
+ghost use Rattle.event_log.specs.Times.{IsDuration, IsEnd, IsWidth, decimal_of, digit_at, fraction_of, local_of, moment_in, moment_of, nanoseconds_in, nanoseconds_of, seconds_by, settled, stamp_of, text_of, three_from, time_as, time_of_end, unit_of, whole_of};
 
 use jiff::{SignedDuration, Timestamp};
 use std::str::{FromStr, from_utf8};
@@ -298,6 +298,7 @@ fn duration_of(text: &str) -> Option<i128>
 pub fn read_width(text: &str) -> Option<Width>
     ensures some { IfSome result (λ width. IsWidth text.now width) }
     ensures none { result ≡ None → (width : Width) → ¬ IsWidth text.now width }
+    ensures short { IfSome result (λ width. nanoseconds_of width < 2 ^ 94) }
 {
     if let Some(units) = number(text.as_bytes()) {
         if units == 0 {

@@ -190,7 +190,8 @@ fn text_in(text: &Option<String>) -> Option<&str> {
     }
 }
 
-/// Prints the trace of the log in a file, and tells on standard error how it was read. The options are looked at first.
+/// Prints the trace of the log in a file, or the table of its steps, and tells on standard error how it was read. The options
+/// are looked at first.
 fn import(rt: &HostRuntime, job: ImportJob) -> Result<u8, Fault> {
     let options = import_options(
         rt.alloc(),
@@ -208,6 +209,7 @@ fn import(rt: &HostRuntime, job: ImportJob) -> Result<u8, Fault> {
     let told = run_import(
         rt.alloc(),
         &options,
+        job.options.form,
         &mut Counting::new(&mut log),
         &mut Counting::new(&mut output),
         &mut notes,

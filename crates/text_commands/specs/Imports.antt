@@ -11,6 +11,9 @@ use Rattle.event_log.specs.declared.options.Options.{Options}
 use Rattle.event_log.specs.declared.refusals.LogError.TheVariants as no_log
 use Rattle.event_log.specs.Imports.{IsImportOf, IsLogRefusal}
 use Rattle.event_log.specs.Options.{IsOptionFault}
+use Rattle.event_log.specs.StepTables.{IsTableOf}
+use Rattle.command_options.specs.declared.ImportForm.{ImportForm}
+use Rattle.command_options.specs.declared.ImportForm.TheVariants as forms
 use Rattle.command_faults.specs.declared.faults.Fault.{Fault}
 use Rattle.command_faults.specs.declared.faults.Fault.TheVariants as fault
 use Rattle.command_faults.specs.declared.faults.ImportOption.{ImportOption}
@@ -34,12 +37,18 @@ IsImportOptionFault nodes unit tick until idle (fault.Length option.Idle given) 
 IsImportOptionFault nodes unit tick until idle fault.Memory = ⊤
 IsImportOptionFault nodes unit tick until idle _ = ⊥
 
--- The first text is a log that is read as a trace, by these options, and the second is the text of that trace in version
--- 2, which is read back as that trace; and `Told` holds of the notes on it.
-pub record IsImportTold (o : Options) (Told : List ℕ → Type 0) (text out : List ℕ) : Type 0 where
+-- The text is what is printed of an import of a log by these options: that of its trace in version 2, which is read back as
+-- that trace; or the table of its steps.
+abbrev pub IsImportText : ImportForm → Options → List ℕ → Import → List ℕ → Type 0
+IsImportText forms.Trace o text import out = IsUpgradeOf import.trace out
+IsImportText forms.Table o text import out = IsTableOf o text import out
+
+-- The first text is a log that is read as a trace, by these options, and the second is what is printed of it; and `Told`
+-- holds of the notes on it.
+pub record IsImportTold (form : ImportForm) (o : Options) (Told : List ℕ → Type 0) (text out : List ℕ) : Type 0 where
   pub import : Import
   pub exact : IsImportOf o text import
-  pub written : IsUpgradeOf import.trace out
+  pub written : IsImportText form o text import out
   pub told : Told (notes_of o import)
 
 -- The fault has its cause in the log: its first refusal; or it is want of memory, which is a fault of its own.

@@ -1,8 +1,9 @@
-//! The trace of a log, from a reader to a writer.
+//! The trace of a log, or the table of its steps, from a reader to a writer.
 
 ghost use Rattle.std.specs.Prelude.{◌≡◌, IfOk, IfErr, option_map, string_bytes};
 ghost use Rattle.command_faults.specs.Printing.{WentOut};
 ghost use Rattle.event_log.specs.Imports.{IsImportOf};
+ghost use Rattle.event_log.specs.StepTables.{IsTableOf};
 ghost use Rattle.event_log.specs.Options.{AreOptions};
 ghost use Rattle.text_commands.specs.Imports.{IsImportOptionFault, IsImportTold, IsNoLength, IsQuietFault, IsToldOfLogs, IsUnimported};
 ghost use Rattle.text_commands.specs.Serving.{Serves};
@@ -11,7 +12,10 @@ use crate::import_lines::notes_text;
 use crate::texts::read_whole;
 use crate::upgrades::text_2_of;
 use command_faults::{Fault, ImportOption, print_notes};
-use event_log::{Import, LogError, OptionError, Options, read_log, read_options};
+use command_options::ImportForm;
+use event_log::{
+    Import, LogError, LogTable, OptionError, Options, read_log, read_options, read_table,
+};
 use std::alloc::Global;
 use std::io::{Read, Write};
 use trace_text::{Counting, write_text};
@@ -53,47 +57,74 @@ fn no_length(alloc: Global, option: ImportOption, text: &str) -> Fault
     }
 }
 
-/// Reads a log to its end, tells the notes on it, and writes the text of its trace in version 2. The notes are which
-/// processor each node is, where the nodes aren't listed, and how far events went, where they may be spread. Nothing is told or
-/// written before both texts stand; that the notes can't be told stops nothing.
+/// Reads a log to its end, tells the notes on it, and writes the text of its trace in version 2, or the table of its steps.
+/// The notes are which processor each node is, where the nodes aren't listed, and how far events went, where they may be
+/// spread. Nothing is told or written before both texts stand; that the notes can't be told stops nothing.
 ///
 /// Refuses, in this order: Read, or Log for a text that is too large; Log for any other refusal of the log; Write with the
-/// number of bytes of the trace's text that went out before. Memory may come at any step before the notes are told.
+/// number of bytes that went out before. Memory may come at any step before the notes are told.
 pub fn run_import<R: Read, W: Write, N: Write>(
     alloc: Global,
     options: &Options,
+    form: ImportForm,
     reader: &mut Counting<R>,
     writer: &mut Counting<W>,
     notes: &mut Counting<N>,
 ) -> Result<(), Fault>
-    ensures served { Serves (IsImportTold options.now (WentOut N.contents notes.old notes.new)) (IsUnimported options.now) IsToldOfLogs
+    ensures served { Serves (IsImportTold form options.now (WentOut N.contents notes.old notes.new)) (IsUnimported options.now) IsToldOfLogs
         R.remaining W.contents reader.old reader.new writer.old writer.new result }
     ensures quiet { IfErr result (IsQuietFault notes.old notes.new) }
 {
     let text = read_whole(alloc, reader, Fault::Log(LogError::TooLarge))?;
-    let texts = texts_of(alloc, text, options)?;
+    let texts = texts_of(alloc, text, options, form)?;
     print_notes(texts.notes.as_str(), notes);
-    Ok(write_text(&texts.trace, writer)?)
+    Ok(write_text(&texts.out, writer)?)
 }
 
 /// What is made of a log.
 #[derive(Drop)]
 struct ImportTexts {
-    /// The text of its trace.
-    trace: Vec<u8>,
+    /// What is written.
+    out: Vec<u8>,
     /// The notes on it.
     notes: String,
 }
 
-/// The texts that are made of a log. It lets go of the log before it makes them.
-fn texts_of(alloc: Global, text: Vec<u8>, options: &Options) -> Result<ImportTexts, Fault>
-    ensures texts { IfOk result (λ texts. IsImportTold options.now (λ notes. string_bytes texts.notes ≡ notes) text.items texts.trace.items) }
+/// The texts that are made of a log.
+fn texts_of(
+    alloc: Global,
+    text: Vec<u8>,
+    options: &Options,
+    form: ImportForm,
+) -> Result<ImportTexts, Fault>
+    ensures texts { IfOk result (λ texts. IsImportTold form options.now (λ notes. string_bytes texts.notes ≡ notes) text.items texts.out.items) }
+    ensures refused { IfErr result (IsUnimported options.now text.items) }
+{
+    match form {
+        ImportForm::Trace => trace_texts(alloc, text, options),
+        ImportForm::Table => table_texts(alloc, text, options),
+    }
+}
+
+/// The text of the trace of a log, and the notes. It lets go of the log before it makes them.
+fn trace_texts(alloc: Global, text: Vec<u8>, options: &Options) -> Result<ImportTexts, Fault>
+    ensures texts { IfOk result (λ texts. IsImportTold ImportForm.Trace options.now (λ notes. string_bytes texts.notes ≡ notes) text.items texts.out.items) }
     ensures refused { IfErr result (IsUnimported options.now text.items) }
 {
     let import = import_of(alloc, text, options)?;
     let notes = notes_text(alloc, options, &import)?;
-    let trace = text_2_of(alloc, &import.trace)?;
-    Ok(ImportTexts { trace, notes })
+    let out = text_2_of(alloc, &import.trace)?;
+    Ok(ImportTexts { out, notes })
+}
+
+/// The table of the steps of a log, and the notes.
+fn table_texts(alloc: Global, text: Vec<u8>, options: &Options) -> Result<ImportTexts, Fault>
+    ensures texts { IfOk result (λ texts. IsImportTold ImportForm.Table options.now (λ notes. string_bytes texts.notes ≡ notes) text.items texts.out.items) }
+    ensures refused { IfErr result (IsUnimported options.now text.items) }
+{
+    let LogTable { import, table } = log_table(alloc, text, options)?;
+    let notes = notes_text(alloc, options, &import)?;
+    Ok(ImportTexts { out: table, notes })
 }
 
 /// A log read as a trace. It lets go of the text, which takes much memory for a long log.
@@ -102,4 +133,12 @@ fn import_of(alloc: Global, text: Vec<u8>, options: &Options) -> Result<Import, 
     ensures refused { IfErr result (IsUnimported options.now text.items) }
 {
     Ok(read_log(alloc, &text, options)?)
+}
+
+/// A log read as a trace, with the table of its steps. It lets go of the text.
+fn log_table(alloc: Global, text: Vec<u8>, options: &Options) -> Result<LogTable, Fault>
+    ensures table { IfOk result (λ t. IsTableOf options.now text.items t.import t.table.items) }
+    ensures refused { IfErr result (IsUnimported options.now text.items) }
+{
+    Ok(read_table(alloc, &text, options)?)
 }

@@ -36,3 +36,4 @@ pub mod IdleEnds
 pub mod TickedEvents
 pub mod IdleEvents
 pub mod OneIdle
+pub mod IdlePlaces

@@ -18,10 +18,12 @@ use Rattle.timed_events.specs.declared.idle_traces.IdleTrace.{IdleTrace}
 use Rattle.timed_events.specs.declared.spread_traces.Moved.{Moved}
 use Rattle.timed_events.specs.Checks.{processor_at, moment_of, moment_at}
 use Rattle.timed_events.specs.IdleTicks.{AreIdle, IsOfNothing, AreReceives, moments_of, ticks_of, AreRising}
-use Rattle.timed_events.specs.IdleTraces.{IsFilled, IsIdleTimed}
-use Rattle.timed_events.specs.Spreads.{last_of, moved_of}
+use Rattle.timed_events.specs.IdleTraces.{AreFilledPlaces, IsFilled, IsIdleTimed}
+use Rattle.timed_events.specs.Orders.{IsOrder}
+use Rattle.timed_events.specs.Spreads.{HasStepsAt, last_of, moved_of}
 use Rattle.timed_events.specs.Times.{time_ticks}
-use Rattle.timed_events.specs.TimedTraces.{AreIdsOf, IsActOf, IsStepAt, IsTraceOf}
+use Rattle.timed_events.specs.TimedTraces.{AreIdsOf, HasSteps, IsActOf, IsStepAt, IsTraceOf}
+use Rattle.timed_events.proofs.OneOrder.{IsOrder-unique}
 use Rattle.timed_events.proofs.OneSpread.{AreTicks-unique}
 use Rattle.timed_events.proofs.OneTrace.{IsTraceOf-unique}
 
@@ -186,3 +188,16 @@ IsIdleTimed-unique spread n events clock limit a b new more s t =
       same-parts a b t m k =
           ap₂ (λ (x : Recorded) (y : Moved). let z : IdleTrace = record { trace = x; moved = y; added = a.added } in z) t m
           ∙ ap (λ (k : ℕ). let z : IdleTrace = record { trace = b.trace; moved = b.moved; added = k } in z) k
+
+-- the places of the events and of the receives behind them in the order of the steps of their trace are those at which its steps are
+pub steps-filled : (spread : Bool) (n : ℕ) (events : List Event) (clock : Clock) (limit : ℕ) (timed : IdleTrace) (new : List Event) (places : List ℕ) → IsIdleTimed spread n events clock limit timed new → AreFilledPlaces spread n events clock limit new places → HasStepsAt n new places timed.trace
+steps-filled spread n events clock limit timed new places t p =
+    let ticks = AreTicks-unique spread events clock p.ticks t.ticks t.passed p.are t.are in
+    let last = last_of events clock t.ticks in
+    let idle = subst (λ xs. AreIdle n events xs (last_of events clock xs) limit p.idles) ticks p.idle in
+    let idles = AreIdle-unique n events t.ticks last limit p.idles t.idles idle t.idle in
+    let all = t.ticks ++ ticks_of t.idles in
+    let made = subst (λ es. IsTraceOf n es all last timed.trace) (sym t.filled.grown) t.filled.trace in
+    let ordered = subst (λ is. IsOrder new (t.ticks ++ ticks_of is) places) idles (subst (λ xs. IsOrder new (xs ++ ticks_of p.idles) places) ticks p.ordered) in
+    let order = IsOrder-unique new all made.order places made.ordered ordered in
+    record { ticks = all; numbers = made.numbers; has = subst (λ xs. HasSteps n new all made.numbers xs timed.trace) order made.has }

@@ -8,6 +8,7 @@ use Rattle.timed_events.specs.declared.idle_ticks.IdleTick.{IdleTick}
 use Rattle.timed_events.specs.declared.idle_traces.IdleTrace.{IdleTrace}
 use Rattle.timed_events.specs.declared.idle_traces.IdleError.{IdleError}
 use Rattle.timed_events.specs.declared.idle_traces.IdleError.TheVariants.{Events, TooManySteps}
+use Rattle.timed_events.specs.Orders.{IsOrder}
 use Rattle.timed_events.specs.Times.{time_ticks}
 use Rattle.timed_events.specs.TimedTraces.{IsTraceOf}
 use Rattle.timed_events.specs.Spreads.{AreTicks, HavePassed, IsTimedRefusal, last_of, moved_of}
@@ -37,6 +38,16 @@ pub record IsIdleTimed (spread : Bool) (n : ℕ) (events : List Event) (clock : 
   pub filled : IsFilled n events new ticks (last_of events clock ticks) idles timed.trace
   pub moved : timed.moved ≡ moved_of (time_ticks events clock) ticks
   pub added : timed.added ≡ length idles
+
+-- `filled` has the events and, behind them, a receive of nothing in the last tick of each silence of at most `limit` ticks;
+-- these are its places in the order of the steps of the trace: that of the ticks, and within a tick of the processors
+pub record AreFilledPlaces (spread : Bool) (n : ℕ) (events : List Event) (clock : Clock) (limit : ℕ) (filled : List Event) (places : List ℕ) : Type 0 where
+  pub ticks : List ℕ
+  pub are : AreTicks spread events clock ticks
+  pub idles : List IdleTick
+  pub idle : AreIdle n events ticks (last_of events clock ticks) limit idles
+  pub grown : IsGrown events idles filled
+  pub ordered : IsOrder filled (ticks ++ ticks_of idles) places
 
 -- no event is refused, and the events and the receives of nothing are more than a trace may have steps
 pub record AreTooMany (spread : Bool) (n : ℕ) (events : List Event) (clock : Clock) (limit : ℕ) : Type 0 where

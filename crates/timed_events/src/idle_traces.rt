@@ -6,7 +6,8 @@ ghost use Rattle.timed_events.specs.declared.events.EventError.TheVariants as re
 ghost use Rattle.timed_events.specs.declared.idle_traces.IdleError.TheVariants as idle;
 ghost use Rattle.timed_events.specs.Checks.{AreMeant};
 ghost use Rattle.timed_events.specs.IdleTicks.{AreIdle, AreRising, IsFree, IsIdleReceive, ticks_of};
-ghost use Rattle.timed_events.specs.IdleTraces.{IsFilled, IsGrown, IsIdleRefusal, IsIdleTimed};
+ghost use Rattle.timed_events.specs.IdleTraces.{AreFilledPlaces, IsFilled, IsGrown, IsIdleRefusal, IsIdleTimed};
+ghost use Rattle.timed_events.specs.Orders.{IsOrder};
 ghost use Rattle.timed_events.specs.TickedEvents.{AreFit};
 ghost use Rattle.timed_events.specs.Times.{times_refusal};
 
@@ -15,7 +16,7 @@ use crate::idle_ticks::{IdleTick, idle_ticks};
 use crate::orders::order_of;
 use crate::spread_traces::Moved;
 use crate::ticked_events::{TickedEvents, ticked_events};
-use crate::timed_traces::ordered_by_ticks;
+use crate::timed_traces::{OrderedTrace, ordered_by_ticks};
 use std::alloc::{AllocError, Global};
 use step_trace::{MAX_PROCESSORS, MAX_STEPS, MIN_PROCESSORS, Trace};
 
@@ -26,6 +27,14 @@ pub struct IdleTrace {
     pub moved: Moved,
     /// How many receives of nothing were added.
     pub added: u64,
+}
+
+/// A trace with receives of nothing, and the places of the events and of these receives, which stand behind the events, in
+/// the order of its steps.
+#[derive(Drop)]
+pub struct PlacedIdleTrace {
+    pub timed: IdleTrace,
+    pub places: Vec<u32>,
 }
 
 /// Why events make no trace with receives of nothing.
@@ -62,7 +71,8 @@ impl From<AllocError> for IdleError {
 
 /// The trace of the events as `trace_of_events` makes it, and of a receive of nothing in the last tick of each short silence:
 /// ticks without an event of a processor, at most `limit` of them, from tick 1 or its event before to its next event or
-/// the last tick. The receives stand behind the events in the list.
+/// the last tick. The receives stand behind the events in the list: a place from the number of events on is that of a receive
+/// that was added.
 ///
 /// Asks for the same as `trace_of_events`, and refuses in the same order, by `Events`; TooManySteps comes last but for Memory.
 /// After a refusal the list of events is as it was.
@@ -73,14 +83,15 @@ pub fn idle_trace(
     clock: &Clock,
     spread: bool,
     limit: u128,
-) -> Result<IdleTrace, IdleError>
+) -> Result<PlacedIdleTrace, IdleError>
     requires least { MIN_PROCESSORS ≤ n }
     requires most { n ≤ MAX_PROCESSORS }
     requires some { 0 < length events.old.items }
     requires few { length events.old.items ≤ MAX_STEPS }
     requires meant { AreMeant events.old.items n }
     requires width { 0 < clock.now.width }
-    ensures trace { IfOk result (λ timed. IsIdleTimed spread n events.old.items clock.now limit timed events.new.items) }
+    ensures trace { IfOk result (λ placed. IsIdleTimed spread n events.old.items clock.now limit placed.timed events.new.items) }
+    ensures places { IfOk result (λ placed. AreFilledPlaces spread n events.old.items clock.now limit events.new.items placed.places.items) }
     ensures unchanged { OnErr result (events.new.items ≡ events.old.items) }
     ensures refused { IfErr result (λ why. IsIdleRefusal spread n events.old.items clock.now limit why) }
     ensures more { result ≡ Err (idle.Events refused.Memory) → times_refusal events.old.items clock.now ≡ None }
@@ -92,11 +103,16 @@ pub fn idle_trace(
         return Err(IdleError::TooManySteps);
     }
     let added = idles.len() as u64;
-    let trace = filled_trace(alloc, n, events, ticks, last, &idles)?;
-    Ok(IdleTrace {
+    let ordered = filled_trace(alloc, n, events, ticks, last, &idles)?;
+    let OrderedTrace { trace, order } = ordered;
+    let timed = IdleTrace {
         trace,
         moved,
         added,
+    };
+    Ok(PlacedIdleTrace {
+        timed,
+        places: order,
     })
 }
 
@@ -121,7 +137,7 @@ fn idles_of(
 }
 
 /// The trace of the events in their ticks, and of a receive of nothing in each of the idle ticks, which stand behind the
-/// events then.
+/// events then; with the places of all of them in the order of its steps.
 ///
 /// After a refusal the events are as they were.
 fn filled_trace(
@@ -131,7 +147,7 @@ fn filled_trace(
     ticks: Vec<u32>,
     last: u64,
     idles: &[IdleTick],
-) -> Result<Trace, AllocError>
+) -> Result<OrderedTrace, AllocError>
     requires least { MIN_PROCESSORS ≤ n }
     requires most { n ≤ MAX_PROCESSORS }
     requires some { 0 < length events.old.items }
@@ -140,14 +156,15 @@ fn filled_trace(
     requires fit { AreFit events.old.items ticks.items last }
     requires free { All (IsFree n events.old.items ticks.items last) idles.now }
     requires rising { AreRising idles.now }
-    ensures trace { IfOk result (λ t. IsFilled n events.old.items events.new.items ticks.items last idles.now t) }
+    ensures trace { IfOk result (λ t. IsFilled n events.old.items events.new.items ticks.items last idles.now t.trace) }
+    ensures order { IfOk result (λ t. IsOrder events.new.items (ticks.items ++ ticks_of idles.now) t.order.items) }
     ensures unchanged { OnErr result (events.new.items ≡ events.old.items) }
 {
     let ticks = with_idle_ticks(ticks, idles)?;
     let count = events.len();
     add_receives(alloc, idles, events)?;
     if let Ok(ordered) = ordered_by_ticks(alloc, n, events.as_slice(), &ticks, last) {
-        return Ok(ordered.trace);
+        return Ok(ordered);
     }
     events.truncate(count);
     Err(AllocError)

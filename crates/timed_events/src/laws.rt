@@ -9,7 +9,7 @@ ghost use Rattle.timed_events.specs.declared.spread_traces.TimedTrace.{TimedTrac
 ghost use Rattle.timed_events.specs.declared.cause_cycles.Hop.{Hop};
 ghost use Rattle.timed_events.specs.CauseCycles.{IsCauseCycle};
 ghost use Rattle.timed_events.specs.Causes.{AreSentBefore, IsCausalOrder, IsFirstUnplaceable, IsTimeOrder};
-ghost use Rattle.timed_events.specs.IdleTraces.{IsIdleTimed};
+ghost use Rattle.timed_events.specs.IdleTraces.{AreFilledPlaces, IsIdleTimed};
 ghost use Rattle.timed_events.specs.Spreads.{AreLeast, AreSpread, AreStepPlaces, HavePassed, HasStepsAt, IsTimed};
 ghost use Rattle.timed_events.specs.TimedTraces.{IsTraceOf};
 
@@ -38,9 +38,11 @@ pub fn cause_laws()
     ensures by_time { (events : List Event) (order : List ℕ) → IsTimeOrder events order → (IsCausalOrder events order ↔ AreSentBefore events) }
 {}
 
-/// The law of traces with receives of nothing in short silences: events, clock and limit have one.
+/// The laws of traces with receives of nothing in short silences. Events, clock and limit have one. The places of the events and
+/// of these receives in the order of its steps are those at which its steps are (`filled`).
 ///
-/// A theorem over the definitions, as those of `trace_laws`.
+/// Theorems over the definitions, as those of `trace_laws`.
 pub fn idle_laws()
     ensures idle_once { (spread : Bool) (n : ℕ) (events : List Event) (clock : Clock) (limit : ℕ) (a b : IdleTrace) (new more : List Event) → IsIdleTimed spread n events clock limit a new → IsIdleTimed spread n events clock limit b more → a ≡ b }
+    ensures filled { (spread : Bool) (n : ℕ) (events : List Event) (clock : Clock) (limit : ℕ) (timed : IdleTrace) (new : List Event) (places : List ℕ) → IsIdleTimed spread n events clock limit timed new → AreFilledPlaces spread n events clock limit new places → HasStepsAt n new places timed.trace }
 {}

@@ -26,7 +26,7 @@ mod times;
 pub use cause_cycles::{Hop, cycle_of_causes};
 pub use checks::{are_meant, check_events};
 pub use events::{Clock, Event, EventAct, EventError, Hint};
-pub use idle_traces::{IdleError, IdleTrace, idle_trace};
+pub use idle_traces::{IdleError, IdleTrace, PlacedIdleTrace, idle_trace};
 pub use lateness::{LateMessage, Lateness, lateness_of, time_at};
 pub use laws::{cause_laws, idle_laws, trace_laws};
 pub use message_checks::check_messages;

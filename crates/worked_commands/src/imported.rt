@@ -1,6 +1,7 @@
 //! What an import of a log writes and tells, on worked logs.
 
 use command_faults::{Fault, fault_text, status};
+use command_options::ImportForm;
 use event_log::Options;
 use std::alloc::{AllocError, Global};
 use std::io::ErrorKind;
@@ -96,12 +97,39 @@ const SPREAD_NOTES: &str =
     synchrony: 2 messages are received no later than they are sent, by the clocks; most by 0 in record 4, which record 2 sends\n\
     synchrony: --align moves the clocks of nodes, and may bring most of them into order\n";
 
-/// Logs, what is written of them, and what is told.
-const IMPORTED: &[(Given, &str, &str)] = &[
-    (LISTED, LISTED_TRACE, ""),
-    (UNLISTED, UNLISTED_TRACE, UNLISTED_NOTES),
-    (UNMOVED, LISTED_TRACE, "synchrony: 0 of 5 events moved\n"),
-    (SPREAD, SPREAD_TRACE, SPREAD_NOTES),
+const SPREAD_TABLE: &str =
+    "step,tick,begins,record,time,node,event,to,message\n1,1,10,2,10,a,send,b,m1\n\
+    2,2,11,3,10,a,send,c,m2\n3,2,11,4,10,b,receive,,m1\n4,3,12,5,10,c,receive,,m2\n";
+
+/// With receives of nothing in silences of at most two ticks.
+const IDLE: Given = Given {
+    idle: Some("2"),
+    ..LISTED
+};
+
+const IDLE_TABLE: &str =
+    "step,tick,begins,record,time,node,event,to,message\n1,1,10,3,10,a,send,b,m1\n\
+    2,1,10,2,10,b,send,a,m2\n3,3,12,,,a,receive,,\n4,3,12,,,b,receive,,\n5,4,13,4,13,a,receive,,m2\n\
+    6,4,13,5,13,b,receive,,\n7,5,14,,,b,receive,,\n8,6,15,6,15,b,receive,,m1\n9,7,16,,,b,receive,,\n";
+
+/// Logs, what is asked for, what is written of them, and what is told.
+const IMPORTED: &[(Given, ImportForm, &str, &str)] = &[
+    (LISTED, ImportForm::Trace, LISTED_TRACE, ""),
+    (UNLISTED, ImportForm::Trace, UNLISTED_TRACE, UNLISTED_NOTES),
+    (
+        UNMOVED,
+        ImportForm::Trace,
+        LISTED_TRACE,
+        "synchrony: 0 of 5 events moved\n",
+    ),
+    (SPREAD, ImportForm::Trace, SPREAD_TRACE, SPREAD_NOTES),
+    (SPREAD, ImportForm::Table, SPREAD_TABLE, SPREAD_NOTES),
+    (
+        IDLE,
+        ImportForm::Table,
+        IDLE_TABLE,
+        "synchrony: 4 receives of nothing added, in silences of at most 2 ticks\n",
+    ),
 ];
 
 fn options_of(alloc: Global, given: Given) -> Result<Options, Fault> {
@@ -121,6 +149,7 @@ fn options_of(alloc: Global, given: Given) -> Result<Options, Fault> {
 fn imported(
     alloc: Global,
     given: Given,
+    form: ImportForm,
     writer: &mut FailingWriter,
     notes: &mut FailingWriter,
 ) -> Result<(), Fault> {
@@ -130,6 +159,7 @@ fn imported(
     run_import(
         alloc,
         &options,
+        form,
         &mut reader,
         &mut Counting::new(writer),
         &mut Counting::new(notes),
@@ -138,12 +168,12 @@ fn imported(
 
 #[test]
 fn logs_are_imported(rt: HostRuntime) -> Result<(), Fail> {
-    for &(given, trace, told) in IMPORTED {
+    for &(given, form, text, told) in IMPORTED {
         let mut writer = FailingWriter::new(rt.alloc(), 10, WriteFailure::Never);
         let mut notes = FailingWriter::new(rt.alloc(), 10, WriteFailure::Never);
-        let ended = imported(rt.alloc(), given, &mut writer, &mut notes);
+        let ended = imported(rt.alloc(), given, form, &mut writer, &mut notes);
         assert!(rt; ended.is_ok(), "{given:?}");
-        assert!(rt; writer.taken() == trace.as_bytes(), "{given:?}");
+        assert!(rt; writer.taken() == text.as_bytes(), "{given:?}");
         assert!(rt; notes.taken() == told.as_bytes(), "{given:?}");
     }
     Ok(())
@@ -275,7 +305,13 @@ fn nothing_is_told_of_a_refused_log(rt: HostRuntime) -> Result<(), Fail> {
     for &(given, code, line) in REFUSED {
         let mut writer = FailingWriter::new(rt.alloc(), 10, WriteFailure::Never);
         let mut notes = FailingWriter::new(rt.alloc(), 10, WriteFailure::Never);
-        let ended = imported(rt.alloc(), given, &mut writer, &mut notes);
+        let ended = imported(
+            rt.alloc(),
+            given,
+            ImportForm::Trace,
+            &mut writer,
+            &mut notes,
+        );
         let refused = is_refused(rt.alloc(), &ended, code, line)?;
         assert!(rt; refused, "{line}");
         assert!(rt; writer.writes() == 0 && notes.writes() == 0, "{line}");
@@ -289,7 +325,13 @@ fn untold_notes_stop_nothing(rt: HostRuntime) -> Result<(), Fail> {
         let failure = WriteFailure::FailAfter(count, ErrorKind::BrokenPipe);
         let mut writer = FailingWriter::new(rt.alloc(), 10, WriteFailure::Never);
         let mut notes = FailingWriter::new(rt.alloc(), 10, failure);
-        let ended = imported(rt.alloc(), SPREAD, &mut writer, &mut notes);
+        let ended = imported(
+            rt.alloc(),
+            SPREAD,
+            ImportForm::Trace,
+            &mut writer,
+            &mut notes,
+        );
         let whole = ended.is_ok() && writer.taken() == SPREAD_TRACE.as_bytes();
         assert!(rt; whole && notes.taken().len() == count, "{count}");
     }
@@ -302,7 +344,13 @@ fn a_failed_write_comes_after_the_notes(rt: HostRuntime) -> Result<(), Fail> {
         let failure = WriteFailure::FailAfter(count, ErrorKind::Other);
         let mut writer = FailingWriter::new(rt.alloc(), 10, failure);
         let mut notes = FailingWriter::new(rt.alloc(), 10, WriteFailure::Never);
-        let ended = imported(rt.alloc(), SPREAD, &mut writer, &mut notes);
+        let ended = imported(
+            rt.alloc(),
+            SPREAD,
+            ImportForm::Trace,
+            &mut writer,
+            &mut notes,
+        );
         let stopped = matches!(ended, Err(Fault::Write(written)) if written == count as u64);
         assert!(rt;
             stopped && notes.taken() == SPREAD_NOTES.as_bytes(),

@@ -2,6 +2,7 @@
 
 use crate::commands::Cut;
 use command_faults::{fault_text, status};
+use command_options::ImportForm;
 use event_log::{Options, Width};
 use std::alloc::{AllocError, Global};
 use std::io::ErrorKind;
@@ -37,6 +38,7 @@ fn refuses(
     let ended = run_import(
         alloc,
         &options,
+        ImportForm::Trace,
         &mut reader,
         &mut Counting::new(&mut writer),
         &mut Counting::new(&mut notes),

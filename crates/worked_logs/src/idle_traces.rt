@@ -4,7 +4,9 @@ use crate::lines::{Line, StepLine, TICKS_OF_ONE, TWO_NODES, TWO_NODES_STEPS, eve
 use std::alloc::Global;
 use std::test::Fail;
 use step_trace::MAX_STEPS;
-use timed_events::{Clock, Event, EventError, IdleError, IdleTrace, Moved, are_meant, idle_trace};
+use timed_events::{
+    Clock, Event, EventError, IdleError, Moved, PlacedIdleTrace, are_meant, idle_trace,
+};
 
 /// Two nodes, of which the second has a clock that is behind.
 const CLOCK_BEHIND: &[Line] = &[
@@ -32,7 +34,7 @@ fn idle(
     clock: &Clock,
     spread: bool,
     limit: u128,
-) -> Result<IdleTrace, IdleError> {
+) -> Result<PlacedIdleTrace, IdleError> {
     if !are_meant(events.as_slice(), 3) || events.len() == 0 || events.len() > MAX_STEPS {
         return Err(IdleError::Events(EventError::Memory));
     }
@@ -43,7 +45,7 @@ fn idle(
 }
 
 /// Events with their clock, whether they may be spread, the limit of silences, the steps of their trace, how many receives of
-/// nothing are among these, and how far events moved.
+/// nothing are among these, how far events moved, and the places of the steps.
 type Row = (
     &'static [Line],
     Clock,
@@ -52,6 +54,7 @@ type Row = (
     &'static [StepLine],
     u64,
     Moved,
+    &'static [u32],
 );
 
 /// Nodes 1, 2 and 3 are silent for 2 and 3, for 2, 1 and 1, and for 7 ticks.
@@ -64,6 +67,7 @@ const TRACES: &[Row] = &[
         TWO_NODES_STEPS,
         0,
         STAYED,
+        &[1, 0, 2, 3, 4],
     ),
     (
         TWO_NODES,
@@ -83,6 +87,7 @@ const TRACES: &[Row] = &[
         ],
         4,
         STAYED,
+        &[1, 0, 5, 6, 2, 3, 7, 4, 8],
     ),
     (
         TWO_NODES,
@@ -104,6 +109,7 @@ const TRACES: &[Row] = &[
         ],
         6,
         STAYED,
+        &[1, 0, 5, 6, 2, 3, 7, 4, 8, 9, 10],
     ),
     // Silences are counted after spreading: node 1 is silent for 3 and 2 ticks, node 2 for 4 and 1.
     (
@@ -126,16 +132,22 @@ const TRACES: &[Row] = &[
             ticks: 4,
             farthest: Some(0),
         },
+        &[4, 1, 0, 5, 2, 3, 6],
     ),
 ];
 
 #[test]
 fn traces(rt: HostRuntime) -> Result<(), Fail> {
-    for (lines, clock, spread, limit, steps, added, moved) in TRACES {
+    for (lines, clock, spread, limit, steps, added, moved, order) in TRACES {
         let mut events = events_of(rt.alloc(), lines)?;
-        let timed = idle(rt.alloc(), &mut events, clock, *spread, *limit).map_err(
-            |_| "a trace is due",
-        )?;
+        let PlacedIdleTrace { timed, places } = idle(
+            rt.alloc(),
+            &mut events,
+            clock,
+            *spread,
+            *limit,
+        ).map_err(|_| "a trace is due")?;
+        assert!(rt; places.as_slice() == *order, "{limit}");
         assert_eq!(rt; timed.trace.len(), steps.len());
         assert_eq!(rt; timed.trace.last_tick(), 7);
         assert_eq!(rt; timed.added, *added);

@@ -2,7 +2,7 @@
 
 use chunk_join::MAX_WORKERS;
 use command_faults::Fault;
-use command_options::{Claim, Drawing, Each, Page, ReportPart};
+use command_options::{Claim, Drawing, Each, ImportForm, Page, ReportPart};
 use refused_growths::{Outcome, Refusal, judged};
 use std::alloc::{AllocError, Global};
 use std::sync::Wait;
@@ -27,6 +27,11 @@ const TWO_NODES_IMPORT: &str =
     "dls-trace,2,2,0\ninit,0,0\n1,1,1,S,2\n2,1,2,S,1\n3,3,1,R,\n4,3,2,R,\n5,4,1,R,\n\
     6,4,2,R,1\n7,5,1,R,\n8,6,1,R,2\n9,6,2,R,\nend,6\n";
 
+const TWO_NODES_TABLE: &str =
+    "step,tick,begins,record,time,node,event,to,message\n1,1,10,2,10,b,send,a,m2\n\
+    2,1,10,3,10,a,send,b,m1\n3,3,12,,,b,receive,,\n4,3,12,,,a,receive,,\n5,4,13,5,13,b,receive,,\n\
+    6,4,13,4,13,a,receive,,m2\n7,5,14,,,b,receive,,\n8,6,15,6,15,b,receive,,m1\n9,6,15,,,a,receive,,\n";
+
 /// A log whose record 3 receives a message that no record sent.
 const NEVER_SENT: &str = "time,node,event,to,message\n10,a,send,b,m1\n13,b,receive,,m9\n";
 
@@ -50,8 +55,9 @@ enum Command {
     Check(&'static str),
     Draw,
     Page,
-    /// Of a log, whose nodes are listed so, or which tells its nodes; with events that may be spread, or without.
-    Import(Option<&'static str>, bool),
+    /// Of a log, whose nodes are listed so, or which tells its nodes; with events that may be spread, or without; and
+    /// what is written of it.
+    Import(Option<&'static str>, bool, ImportForm),
 }
 
 /// A command with its text, and what it writes where memory is ample: of a picture or a page the end, of a refused log nothing.
@@ -129,7 +135,7 @@ fn ended<T: Threads + Wait + Sync>(
             };
             serve(alloc, &page, &mut trace, &mut output)
         }
-        Command::Import(nodes, spread) => {
+        Command::Import(nodes, spread, form) => {
             let options = import_options(
                 alloc,
                 nodes,
@@ -142,7 +148,7 @@ fn ended<T: Threads + Wait + Sync>(
             )?;
             let mut notes = Vec::with_capacity(alloc, ROOM)?;
             let mut notes = Counting::new(&mut notes);
-            run_import(alloc, &options, &mut trace, &mut output, &mut notes)
+            run_import(alloc, &options, form, &mut trace, &mut output, &mut notes)
         }
     }
 }
@@ -206,10 +212,31 @@ const SERVED: &[(Command, &str, &str)] = &[
     (Command::Upgrade, ONE_MISS, ONE_MISS_UPGRADE),
     (Command::Draw, ONE_MISS, "</svg>\n"),
     (Command::Page, ONE_MISS, "</html>\n"),
-    (Command::Import(None, false), TWO_NODES, TWO_NODES_IMPORT),
-    (Command::Import(None, true), TWO_NODES, TWO_NODES_IMPORT),
-    (Command::Import(None, false), NEVER_SENT, ""),
-    (Command::Import(Some("b,c"), false), TWO_NODES, ""),
+    (
+        Command::Import(None, false, ImportForm::Trace),
+        TWO_NODES,
+        TWO_NODES_IMPORT,
+    ),
+    (
+        Command::Import(None, true, ImportForm::Trace),
+        TWO_NODES,
+        TWO_NODES_IMPORT,
+    ),
+    (
+        Command::Import(None, true, ImportForm::Table),
+        TWO_NODES,
+        TWO_NODES_TABLE,
+    ),
+    (
+        Command::Import(None, false, ImportForm::Trace),
+        NEVER_SENT,
+        "",
+    ),
+    (
+        Command::Import(Some("b,c"), false, ImportForm::Trace),
+        TWO_NODES,
+        "",
+    ),
     (
         Command::Check(NEVER_DELIVERED_REPORT),
         NEVER_DELIVERED,

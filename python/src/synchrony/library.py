@@ -255,11 +255,23 @@ def import_log(
     align: bool = False,
     unit: Optional[str] = None,
     idle: Union[int, str, None] = None,
+    table: bool = False,
 ) -> bytes:
-    """The trace of a log, as a text of version 2. Nodes are numbered in the order of `nodes`, or else as the log names them. With
-    `unit`, one of s, ms, us and ns, the times are whole numbers of it. With `idle`, a node without an event for at most so
-    long gets a receive of nothing."""
-    return _asked("import", log, nodes=nodes, unit=unit, tick=tick, until=until, spread=spread, align=align, idle=idle)
+    """The trace of a log, as a text of version 2, or the `table` of its steps. Nodes are numbered in the order of `nodes`, or else
+    as the log names them. With `unit`, one of s, ms, us and ns, the times are whole numbers of it. With `idle`, a node without
+    an event for at most so long gets a receive of nothing."""
+    return _asked(
+        "import",
+        log,
+        nodes=nodes,
+        unit=unit,
+        tick=tick,
+        until=until,
+        spread=spread,
+        align=align,
+        idle=idle,
+        table=table,
+    )
 
 
 def frame(trace: Text, correct: Correct) -> pandas.DataFrame:

@@ -1,9 +1,9 @@
 //! The command `import`: its words and its help text, and the job that they give.
 
-ghost use Rattle.std.specs.Prelude.{IfOk, IfErr, codes, option_map};
+ghost use Rattle.std.specs.Prelude.{◌≡◌, IfOk, IfErr, codes, option_map};
 ghost use Rattle.clap.specs.Words.{found_of, rows_of};
 ghost use Rattle.command_line.specs.Arguments.{IsArgument, IsCommand, IsMemory, flag_rule};
-ghost use Rattle.command_line.specs.Commands.Import.{IsImport, import_app, import_given};
+ghost use Rattle.command_line.specs.Commands.Import.{IsImport, form_of, import_app, import_given};
 
 use crate::jobs::Job;
 use crate::jobs::arguments::{
@@ -11,7 +11,7 @@ use crate::jobs::arguments::{
 };
 use crate::line_errors::LineError;
 use clap::{Arg, ArgAction, ArgMatches, Command};
-use command_options::ImportOptions;
+use command_options::{ImportForm, ImportOptions};
 use std::alloc::{AllocError, Global};
 
 const ABOUT: &str = "Makes a trace of a log with time stamps";
@@ -50,6 +50,7 @@ pub fn command<'a>(alloc: Global) -> Result<Command<'a>, AllocError>
         optional_argument(alloc, "idle", "Y", IDLE_HELP),
         spread_argument(alloc),
         align_argument(alloc),
+        table_argument(alloc),
     ]?;
     new_command(alloc, "import", ABOUT, help(), arguments)
 }
@@ -74,6 +75,16 @@ fn align_argument<'a>(alloc: Global) -> Arg<'a>
         .action(ArgAction::SetTrue)
 }
 
+/// The flag --table.
+fn table_argument<'a>(alloc: Global) -> Arg<'a>
+    ensures { IsArgument (flag_rule (codes "table")) result }
+{
+    Arg::new(alloc, "table")
+        .long("table")
+        .help("Prints a table of the steps in place of the trace")
+        .action(ArgAction::SetTrue)
+}
+
 /// The job that the words after `import` ask for; none where one of them lacks. What the texts say is looked at
 /// elsewhere. Memory is the only refusal.
 pub fn job(alloc: Global, found: &ArgMatches<'_>) -> Option<Result<Job, LineError>>
@@ -82,12 +93,25 @@ pub fn job(alloc: Global, found: &ArgMatches<'_>) -> Option<Result<Job, LineErro
     let log = text(found, "log")?;
     let spread = flag(found, "spread")?;
     let align = flag(found, "align")?;
+    let form = form_of(flag(found, "table")?);
     let nodes = text(found, "nodes");
     let unit = text(found, "unit");
     let tick = text(found, "tick");
     let until = text(found, "until");
     let idle = text(found, "idle");
-    Some(import(alloc, log, nodes, unit, tick, until, idle, spread, align))
+    Some(import(
+        alloc, log, nodes, unit, tick, until, idle, spread, align, form,
+    ))
+}
+
+/// What is printed, by whether the table is asked for.
+fn form_of(table: bool) -> ImportForm
+    ensures { result ≡ form_of table }
+{
+    if table {
+        return ImportForm::Table;
+    }
+    ImportForm::Trace
 }
 
 /// The job of an import with these words.
@@ -101,8 +125,9 @@ fn import(
     idle: Option<&str>,
     spread: bool,
     align: bool,
+    form: ImportForm,
 ) -> Result<Job, LineError>
-    ensures job { IfOk result (IsImport log.now (option_map (λ t. t.now) nodes.entry) (option_map (λ t. t.now) unit.entry) (option_map (λ t. t.now) tick.entry) (option_map (λ t. t.now) until.entry) (option_map (λ t. t.now) idle.entry) spread align) }
+    ensures job { IfOk result (IsImport log.now (option_map (λ t. t.now) nodes.entry) (option_map (λ t. t.now) unit.entry) (option_map (λ t. t.now) tick.entry) (option_map (λ t. t.now) until.entry) (option_map (λ t. t.now) idle.entry) spread align form) }
     ensures refused { IfErr result IsMemory }
 {
     let file = String::from_str(alloc, log)?;
@@ -114,6 +139,7 @@ fn import(
         idle: kept(alloc, idle)?,
         spread,
         align,
+        form,
     };
     Ok(Job::Import(ImportJob { file, options }))
 }
@@ -164,6 +190,8 @@ version 2, whose tick 1 begins at the least time.
                  unit of the times at least; standard error tells by how much.
                  X is then by the moved clocks. It is refused if clocks drift
                  or step
+  --table        in place of the trace, a table of its steps: which record each
+                 is, when its tick begins, and the event, with names
 
 --align puts the fastest message of a way at one unit, so delays that way look
 shorter than they were, and those back longer by as much: the communication
@@ -184,6 +212,17 @@ above the longest wait that is normal, and below the pauses that you look for.
 The communication bound is then that of polls in each tick of these waits. The
 processor bound is still the longest time without a step.
 
+With --table the output is CSV, with a record for each step of the trace:
+  step     the number of the step, as reports have it
+  tick     its tick
+  begins   when that tick begins
+  record   the number of its record in LOG; the header is record 1
+  time     when it happened
+  node, event, to, message  as LOG has them; to is empty in a receive
+Times are whole numbers of what the times are counted in, by the moved clocks
+with --align. An event whose time is before its tick begins was moved. A receive
+of nothing that --idle added has no record, no time and no message.
+
 Example, at the top of the repository:
   ./synchrony import examples/heartbeats.log --tick 5 >heartbeats.trace
 tells on standard error
@@ -193,7 +232,7 @@ tells on standard error
   synchrony: processor 4 is c
 
 Exit status:
-  0  the trace is printed, or this text
+  0  the trace or the table is printed, or this text
   2  the command line is refused; --nodes isn't 2 to 64 different names; --unit
      is another word; --tick is neither a number nor a duration above 0, or is a
      duration if the times are numbers of no unit; --until is neither a time nor

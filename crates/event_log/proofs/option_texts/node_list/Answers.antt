@@ -7,7 +7,7 @@ use Rattle.std.proofs.iter.Serving.{serving}
 use borrow.Author.Tests.{tests}
 use Rattle.event_log.specs.Options.{AreNodes, parts_between_commas}
 use Rattle.event_log.proofs.ListedNodes.{AreListed, fault-from, listed-none, listed-next, nodes-refused, too-few}
-use Rattle.event_log.proofs.options.node_list.Goals as goal
+use Rattle.event_log.proofs.option_texts.node_list.Goals as goal
 
 pub loop-name-init : goal.loop-name-init
 loop-name-init c = (grind serving, grind serving, c.new-nodes.ensures, subst AreListed (sym c.new-nodes.ensures) listed-none)

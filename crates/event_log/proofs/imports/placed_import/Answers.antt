@@ -1,12 +1,16 @@
-use Rattle.std.proofs.Common.{ℕ, ◌<◌, ◌≤◌, List, inl, inr, refl, sym, ap, ◌∙◌, subst, length, arith}
+use Rattle.std.proofs.Common.{ℕ, ◌<◌, ◌≤◌, List, inl, inr, refl, sym, ap, ◌∙◌, subst, length, arith, rules}
+use mir.Val.{SFits}
+use mir.Syntax.{w128}
+use Rattle.std.proofs.lemmas.Int.{to_z-of_z}
 use Rattle.std.proofs.lemmas.Result.{err_from_is_err_and}
 use Rattle.timed_events.specs.Checks.{AreMeant, AreOfProcessors}
 use Rattle.event_log.specs.declared.reading.TheConstants.{MAX_EVENTS}
-use Rattle.event_log.specs.Imports.{IsBehindCycle, IsIdleErrorOf, IsMadeBy, IsUnmadeFor}
+use Rattle.timed_events.specs.Times.{least_time}
+use Rattle.event_log.specs.Imports.{ArePlacedBy, IsBehindCycle, IsIdleErrorOf, IsMadeBy, IsUnmadeFor}
 use Rattle.event_log.specs.Logs.{seen_log}
 use Rattle.event_log.proofs.LogRefusals.{large-text, unaligned-refusal, unfit-refusal, untimed-refusal}
 use Rattle.event_log.proofs.UnmadeLogs.{few-events, meant-events, processors-events, some-events, unmade-behind, unmade-place}
-use Rattle.event_log.proofs.imports.read_log.Goals as goal
+use Rattle.event_log.proofs.imports.placed_import.Goals as goal
 
 pub returns-then-text-gt-MAX_TEXT_BYTES-clause-refused : goal.returns-then-text-gt-MAX_TEXT_BYTES-clause-refused
 returns-then-text-gt-MAX_TEXT_BYTES-clause-refused c = inl (large-text c.args.options.now c.args.text.now c.if-text-gt-MAX_TEXT_BYTES.true)
@@ -69,19 +73,37 @@ pub returns-in-Ok-clause-import : goal.returns-in-Ok-clause-import
 returns-in-Ok-clause-import c =
     let log = c.in_ok-log.log in
     let aligned = c.in_ok-aligned.aligned in
-    rw c.import_of.ensures (record {
-      log = seen_log log;
-      events = log.events.items;
-      clock = c.in_ok-clock.clock;
-      told = record { read = c.in_ok-log.ensures.read; same = refl; fits = sym c.in_ok-clock.ensures.clock };
-      aligned = aligned.log.events.items;
-      clocks = c.in_ok-aligned.ensures.aligned;
-      limit = c.in_ok-limit.limit;
-      fits_idle = sym c.in_ok-limit.ensures;
-      made = subst (λ n. IsMadeBy c.in_ok-limit.limit c.args.options.now.spread n aligned.log.events.items c.in_ok-clock.clock c.in-Ok.made.trace c.in-Ok.made.moved c.in-Ok.made.idle) (c.len-n.ensures ∙ ap (λ (nodes : List (List ℕ)). length nodes) c.in_ok-aligned.ensures.nodes) c.in-Ok.ensures.trace;
-      nodes = c.in_ok-aligned.ensures.nodes;
-      lateness = c.in_ok-lateness.ensures.lateness;
+    let limit = c.in_ok-limit.limit in
+    let spread = c.args.options.now.spread in
+    let clock = c.in_ok-clock.clock in
+    let made = c.in-Ok.made in
+    let fits : SFits w128 c.least_time-first.result = search rules in
+    let n = c.len-n.ensures ∙ ap (λ (nodes : List (List ℕ)). length nodes) c.in_ok-aligned.ensures.nodes in
+    rw (c.import_of.ensures.import, c.import_of.ensures.events, c.import_of.ensures.logged, c.import_of.ensures.first, c.import_of.ensures.clock, c.import_of.ensures.places) (record {
+      is = record {
+        log = seen_log log;
+        events = log.events.items;
+        clock = clock;
+        told = record { read = c.in_ok-log.ensures.read; same = refl; fits = sym c.in_ok-clock.ensures.clock };
+        aligned = aligned.log.events.items;
+        clocks = c.in_ok-aligned.ensures.aligned;
+        limit = limit;
+        fits_idle = sym c.in_ok-limit.ensures;
+        made = subst (λ n. IsMadeBy limit spread n aligned.log.events.items clock made.trace made.moved made.idle) n c.in-Ok.ensures.trace;
+        nodes = c.in_ok-aligned.ensures.nodes;
+        lateness = c.in_ok-lateness.ensures.lateness;
+      };
+      clock_is = refl;
+      so_many = c.len-logged.ensures ∙ sym c.as_slice.ensures.len ∙ ap length c.as_slice.ensures.value;
+      begins = to_z-of_z w128 c.least_time-first.result fits ∙ c.least_time-first.ensures ∙ ap least_time c.as_slice.ensures.value;
+      placed = subst (λ n. ArePlacedBy limit spread n aligned.log.events.items clock c.trace_of_log.new.events.items made.places.items) n c.in-Ok.ensures.places;
     })
+
+pub returns-in-Ok-clause-long : goal.returns-in-Ok-clause-long
+returns-in-Ok-clause-long c = ap (λ xs. length xs) c.import_of.ensures.places ∙ c.in-Ok.ensures.long ∙ sym (ap (λ import. length import.trace.steps) c.import_of.ensures.import)
+
+pub least_time-first-requires : goal.least_time-first-requires
+least_time-first-requires c = subst (λ events. 0 < length events) (sym c.as_slice.ensures.value) (some-events c.in_ok-aligned.aligned.log c.in_ok-aligned.ensures.sound)
 
 pub trace_of_log-requires-clause-least : goal.trace_of_log-requires-clause-least
 trace_of_log-requires-clause-least c = let two = c.in_ok-aligned.ensures.sound.two in let n = c.len-n.ensures in omega arith

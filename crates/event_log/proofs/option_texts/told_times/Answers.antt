@@ -1,6 +1,6 @@
 use Rattle.std.proofs.Common.{rules}
 use Rattle.event_log.proofs.ToldTimes.{told-unit, told-until, told-width}
-use Rattle.event_log.proofs.options.told_times.Goals as goal
+use Rattle.event_log.proofs.option_texts.told_times.Goals as goal
 
 pub returns-in_default-told_idle-clause-refused : goal.returns-in_default-told_idle-clause-refused
 returns-in_default-told_idle-clause-refused c = (

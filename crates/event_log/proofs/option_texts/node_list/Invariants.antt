@@ -1,6 +1,6 @@
 use Rattle.std.proofs.Common.{◌≡◌, map}
 use Rattle.event_log.proofs.ListedNodes.{AreListed}
-use Rattle.event_log.proofs.options.node_list.Given as goal
+use Rattle.event_log.proofs.option_texts.node_list.Given as goal
 
 -- the parts so far are listed
 abbrev pub invariant-loop-name : goal.invariant-loop-name

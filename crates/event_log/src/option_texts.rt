@@ -1,0 +1,178 @@
+//! How a log is read, as texts tell it.
+
+ghost use Rattle.std.specs.Prelude.{◌≡◌, ◌<◌, ◌^◌, ◌∷◌, [], ◌++◌, Err, IfErr, IfOk, IfSome, IsSome, OnOk, option_map, true, false, None};
+ghost use Rattle.event_log.specs.Options.{AreNodes, AreNodesIn, AreOptions, HasBadNodes, HasBadTick, HasBadUnit, HasBadUntil, IsIdleIn, IsNodeFault, IsOptionFault, IsTimeFault, IsUnitIn, IsUntilIn, IsWidthIn, is_next_node, parts_between_commas};
+ghost use Rattle.event_log.specs.Times.{nanoseconds_of};
+
+use crate::names::{MAX_NODES, NameSet, is_name};
+use crate::options::{OptionError, Options};
+use crate::results::both;
+use crate::times::{LogEnd, TimeUnit, Width, read_end, read_unit, read_width};
+use std::alloc::Global;
+
+/// The options that texts tell: the nodes with one comma between each two; the unit of the times, if they are whole numbers of
+/// one; the length of a tick, which is 1 where it is left out; when the log ends; and the longest time without an event that is
+/// filled.
+///
+/// Refuses in the order of `OptionError`. Memory comes only where nodes are listed.
+pub fn read_options(
+    alloc: Global,
+    nodes: Option<&str>,
+    unit: Option<&str>,
+    tick: Option<&str>,
+    until: Option<&str>,
+    idle: Option<&str>,
+    spread: bool,
+    align: bool,
+) -> Result<Options, OptionError>
+    ensures options { IfOk result (λ o. AreOptions (option_map (λ t. t.now) nodes.entry) (option_map (λ t. t.now) unit.entry) (option_map (λ t. t.now) tick.entry) (option_map (λ t. t.now) until.entry) (option_map (λ t. t.now) idle.entry) spread align o) }
+    ensures refused { IfErr result (λ why. IsOptionFault (option_map (λ t. t.now) nodes.entry) (option_map (λ t. t.now) unit.entry) (option_map (λ t. t.now) tick.entry) (option_map (λ t. t.now) until.entry) (option_map (λ t. t.now) idle.entry) why) }
+    ensures more { result ≡ Err OptionError.Memory → IsSome nodes.entry }
+{
+    let nodes = listed_nodes(alloc, nodes);
+    let times = told_times(unit, tick, until, idle);
+    let (nodes, (unit, width, until, idle)) = both(nodes, times)?;
+    Ok(Options {
+        nodes,
+        unit,
+        width,
+        until,
+        idle,
+        spread,
+        align,
+    })
+}
+
+/// The nodes that a text lists, if there is one.
+fn listed_nodes(alloc: Global, text: Option<&str>) -> Result<Option<NameSet>, OptionError>
+    ensures listed { IfOk result (λ nodes. AreNodesIn (option_map (λ t. t.now) text.entry) nodes) }
+    ensures refused { IfErr result (IsNodeFault (HasBadNodes (option_map (λ t. t.now) text.entry))) }
+    ensures more { result ≡ Err OptionError.Memory → IsSome text.entry }
+{
+    let Some(text) = text else {
+        return Ok(None);
+    };
+    let nodes = node_list(alloc, text.as_bytes())?;
+    Ok(Some(nodes))
+}
+
+/// The unit of the times, the length of a tick, the end of the log and the longest time without an event that texts tell.
+///
+/// Refuses Unit, Tick, Until and Idle, in this order.
+fn told_times(
+    unit: Option<&str>,
+    tick: Option<&str>,
+    until: Option<&str>,
+    idle: Option<&str>,
+) -> Result<(Option<TimeUnit>, Width, Option<LogEnd>, Option<Width>), OptionError>
+    ensures unit { IfOk result (λ t. IsUnitIn (option_map (λ t. t.now) unit.entry) t.0) }
+    ensures width { IfOk result (λ t. IsWidthIn (option_map (λ t. t.now) tick.entry) t.1) }
+    ensures short { IfOk result (λ t. nanoseconds_of t.1 < 2 ^ 94) }
+    ensures until { IfOk result (λ t. IsUntilIn (option_map (λ t. t.now) until.entry) t.2) }
+    ensures idle { IfOk result (λ t. IsIdleIn (option_map (λ t. t.now) idle.entry) t.3) }
+    ensures refused { IfErr result (IsTimeFault (option_map (λ t. t.now) unit.entry) (option_map (λ t. t.now) tick.entry) (option_map (λ t. t.now) until.entry) (option_map (λ t. t.now) idle.entry)) }
+{
+    let Some(unit) = told_unit(unit) else {
+        return Err(OptionError::Unit);
+    };
+    let Some(width) = told_width(tick) else {
+        return Err(OptionError::Tick);
+    };
+    let Some(until) = told_end(until) else {
+        return Err(OptionError::Until);
+    };
+    let Some(idle) = told_idle(idle) else {
+        return Err(OptionError::Idle);
+    };
+    Ok((unit, width, until, idle))
+}
+
+/// The unit that a text names, if there is one.
+fn told_unit(text: Option<&str>) -> Option<Option<TimeUnit>>
+    ensures unit { IfSome result (IsUnitIn (option_map (λ t. t.now) text.entry)) }
+    ensures refused { result ≡ None → HasBadUnit (option_map (λ t. t.now) text.entry) }
+{
+    let Some(text) = text else {
+        return Some(None);
+    };
+    match read_unit(text.as_bytes()) {
+        Some(unit) => Some(Some(unit)),
+        None => None,
+    }
+}
+
+/// The length of a tick that a text tells; 1 where there is none.
+fn told_width(text: Option<&str>) -> Option<Width>
+    ensures width { IfSome result (IsWidthIn (option_map (λ t. t.now) text.entry)) }
+    ensures short { IfSome result (λ width. nanoseconds_of width < 2 ^ 94) }
+    ensures refused { result ≡ None → HasBadTick (option_map (λ t. t.now) text.entry) }
+{
+    match text {
+        Some(text) => read_width(text),
+        None => Some(Width::Units(1)),
+    }
+}
+
+/// The end of the log that a text tells, if there is one.
+fn told_end(text: Option<&str>) -> Option<Option<LogEnd>>
+    ensures end { IfSome result (IsUntilIn (option_map (λ t. t.now) text.entry)) }
+    ensures refused { result ≡ None → HasBadUntil (option_map (λ t. t.now) text.entry) }
+{
+    let Some(text) = text else {
+        return Some(None);
+    };
+    match read_end(text) {
+        Some(end) => Some(Some(end)),
+        None => None,
+    }
+}
+
+/// The longest time without an event that a text tells, if there is one.
+fn told_idle(text: Option<&str>) -> Option<Option<Width>>
+    ensures idle { IfSome result (IsIdleIn (option_map (λ t. t.now) text.entry)) }
+    ensures refused { result ≡ None → HasBadTick (option_map (λ t. t.now) text.entry) }
+{
+    let Some(text) = text else {
+        return Some(None);
+    };
+    match read_width(text) {
+        Some(width) => Some(Some(width)),
+        None => None,
+    }
+}
+
+/// The nodes whose names are the parts of a text between its commas.
+fn node_list(alloc: Global, text: &[u8]) -> Result<NameSet, OptionError>
+    ensures listed { IfOk result (λ nodes. AreNodes (parts_between_commas text.now) × (nodes ≡ parts_between_commas text.now)) }
+    ensures refused { IfErr result (IsNodeFault (¬ AreNodes (parts_between_commas text.now))) }
+{
+    let mut nodes = NameSet::new(alloc);
+    for name in text.split(|byte| *byte == b',') {
+        list_node(alloc, &mut nodes, name)?;
+    }
+    if nodes.len() < 2 {
+        return Err(OptionError::Nodes);
+    }
+    Ok(nodes)
+}
+
+/// Puts one more node last.
+fn list_node(alloc: Global, nodes: &mut NameSet, name: &[u8]) -> Result<(), OptionError>
+    ensures nodes { OnOk result (nodes.new ≡ nodes.old ++ name.now ∷ []) }
+    ensures next { OnOk result (is_next_node nodes.old name.now ≡ true) }
+    ensures refused { IfErr result (IsNodeFault (is_next_node nodes.old name.now ≡ false)) }
+{
+    if !is_name(name) {
+        return Err(OptionError::Nodes);
+    }
+    if nodes.len() >= MAX_NODES {
+        return Err(OptionError::Nodes);
+    }
+    let Ok((_, is_new)) = nodes.add(alloc, name) else {
+        return Err(OptionError::Memory);
+    };
+    if !is_new {
+        return Err(OptionError::Nodes);
+    }
+    Ok(())
+}
