@@ -18,8 +18,10 @@ use Rattle.command_options.specs.declared.Judging.{Judging}
 abbrev pub AreListed : List ℕ → List Listed → Type 0
 AreListed text runs = runs_of_text text ≡ Ok runs
 
--- why it lists none
+-- why it lists none; a failed read, or want of memory, may come instead
 abbrev pub IsUnlisted : List ℕ → Fault → Type 0
+IsUnlisted text fault.Read = Unit {0}
+IsUnlisted text fault.Memory = Unit {0}
 IsUnlisted text (fault.Runs why) = (runs_of_text text ≡ Err why) × (why ≢ unlisted.Memory)
 IsUnlisted text _ = ⊥
 
