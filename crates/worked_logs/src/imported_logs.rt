@@ -1,7 +1,7 @@
 //! The traces of logs.
 
-use crate::lines::{StepLine, TWO_NODES_STEPS, has_step};
-use event_log::{Import, LogError, OptionError, read_log, read_options};
+use crate::lines::{StepLine, TWO_NODES_STEPS, has_steps};
+use event_log::{Import, LogError, NameSet, OptionError, read_log, read_options};
 use std::alloc::Global;
 use timed_events::Hint;
 
@@ -195,13 +195,7 @@ fn is_imported(alloc: Global, case: &Imported) -> bool {
     let Ok(import) = import(alloc, text, &asked) else {
         return false;
     };
-    for line in steps {
-        if !has_step(&import.trace, line) {
-            return false;
-        }
-    }
-    import.trace.len() == steps.len()
-        && import.trace.last_tick() == last
+    has_steps(&import.trace, steps, last)
         && import.trace.config().n() == nodes
         && import.nodes.len() as u64 == nodes
         && import.moved.events == events
@@ -222,43 +216,58 @@ fn spreads(rt: HostRuntime) {
     }
 }
 
+fn are_b_and_a(nodes: &NameSet) -> bool {
+    nodes.place_of(b"b") == Some(0) && nodes.place_of(b"a") == Some(1)
+}
+
+/// Whether the nodes of a log, in which they aren't listed, are b and a.
+fn names_b_first(alloc: Global, text: &str) -> bool {
+    match import(alloc, text, &(None, None, None, false, false)) {
+        Ok(import) => are_b_and_a(&import.nodes),
+        Err(_) => false,
+    }
+}
+
 #[test]
 fn numbers_nodes(rt: HostRuntime) {
-    let is_first = match import(rt.alloc(), TWO_NODES, &(None, None, None, false, false)) {
-        Ok(import) => {
-            import.nodes.place_of(b"b") == Some(0) && import.nodes.place_of(b"a") == Some(1)
-        }
-        Err(_) => false,
-    };
-    assert!(rt; is_first);
+    assert!(rt; names_b_first(rt.alloc(), TWO_NODES));
 }
 
 /// What a refusal is about, so far as spreading goes: its record, and what would help.
-fn told(answer: &Result<Import, LogError>) -> Option<(u64, Option<Hint>)> {
-    match answer {
-        Err(LogError::NotLater(record, _, hint)) => Some((*record, *hint)),
-        Err(LogError::SecondEvent(record, _, _, hint)) => Some((*record, *hint)),
-        Err(LogError::Cycle(record, _)) => Some((*record, None)),
-        Err(LogError::TooManyTicks) => Some((0, None)),
+fn told(why: &LogError) -> Option<(u64, Option<Hint>)> {
+    match why {
+        LogError::NotLater(record, _, hint) => Some((*record, *hint)),
+        LogError::SecondEvent(record, _, _, hint) => Some((*record, *hint)),
+        LogError::Cycle(record, _) => Some((*record, None)),
+        LogError::TooManyTicks => Some((0, None)),
         _ => None,
+    }
+}
+
+/// What is told of a log that may be spread or not, if it is refused.
+fn refusal(alloc: Global, text: &str, spread: bool) -> Option<(u64, Option<Hint>)> {
+    match import(alloc, text, &(None, None, None, spread, false)) {
+        Ok(_) => None,
+        Err(why) => told(&why),
     }
 }
 
 #[test]
 fn refuses_what_spreading_mends(rt: HostRuntime) {
-    let still = (None, None, None, false, false);
-    let answer = import(rt.alloc(), SPREAD, &still);
-    assert_eq!(rt; told(&answer), Some((3, Some(Hint::Spread))));
-    let answer = import(rt.alloc(), TURNED_ROUND, &still);
-    assert_eq!(rt; told(&answer), Some((2, Some(Hint::Spread))));
+    for (text, record) in [(SPREAD, 3), (TURNED_ROUND, 2)] {
+        let told = refusal(rt.alloc(), text, false);
+        assert!(rt; told == Some((record, Some(Hint::Spread))), "{told:?}");
+    }
 }
+
+/// Two events of one node in the last tick that a trace may have.
+const TWICE_AT_THE_END: &str =
+    "time,node,event,to,message\n0,a,send,b,m\n999999,a,send,b,n\n999999,a,send,b,o\n";
 
 #[test]
 fn refuses_what_spreading_does_not_mend(rt: HostRuntime) {
-    let spread = (None, None, None, true, false);
-    let answer = import(rt.alloc(), EACH_WAITS, &spread);
-    assert_eq!(rt; told(&answer), Some((3, None)));
-    let late = "time,node,event,to,message\n0,a,send,b,m\n999999,a,send,b,n\n999999,a,send,b,o\n";
-    let answer = import(rt.alloc(), late, &spread);
-    assert_eq!(rt; told(&answer), Some((0, None)));
+    for (text, record) in [(EACH_WAITS, 3), (TWICE_AT_THE_END, 0)] {
+        let told = refusal(rt.alloc(), text, true);
+        assert!(rt; told == Some((record, None)), "{told:?}");
+    }
 }

@@ -56,32 +56,43 @@ fn refusal(
     }
 }
 
+/// The refusal where the text of this option is bad, and, but for the last two, those of all options after it.
+fn refusal_by(alloc: Global, option: OptionError, text: &str) -> Option<OptionError> {
+    match option {
+        OptionError::Nodes => refusal(alloc, Some(text), Some("m"), Some("0"), Some("x")),
+        OptionError::Unit => refusal(alloc, Some("a,b"), Some(text), Some("0"), Some("x")),
+        OptionError::Tick => refusal(alloc, Some("a,b"), Some("ms"), Some(text), Some("x")),
+        OptionError::Until => refusal(alloc, None, None, None, Some(text)),
+        OptionError::Idle => refusal_for(alloc, Some("5"), text),
+        OptionError::Memory => None,
+    }
+}
+
+const BAD: &[(OptionError, &[&str])] = &[
+    (OptionError::Nodes, BAD_NODES),
+    (OptionError::Unit, BAD_UNITS),
+    (OptionError::Tick, BAD_TICKS),
+    (OptionError::Until, BAD_ENDS),
+    (OptionError::Idle, BAD_TICKS),
+];
+
 #[test]
 fn refuses_in_order(rt: HostRuntime) {
-    let alloc = rt.alloc();
-    for nodes in BAD_NODES {
-        let why = refusal(alloc, Some(nodes), Some("m"), Some("0"), Some("x"));
-        assert_eq!(rt; why, Some(OptionError::Nodes), "{nodes}");
+    for &(option, texts) in BAD {
+        for text in texts {
+            assert!(rt;
+                refusal_by(rt.alloc(), option, text) == Some(option),
+                "{text}"
+            );
+        }
     }
-    for unit in BAD_UNITS {
-        let why = refusal(alloc, Some("a,b"), Some(unit), Some("0"), Some("x"));
-        assert_eq!(rt; why, Some(OptionError::Unit), "{unit}");
-    }
-    for tick in BAD_TICKS {
-        let why = refusal(alloc, Some("a,b"), Some("ms"), Some(tick), Some("x"));
-        assert_eq!(rt; why, Some(OptionError::Tick), "{tick}");
-    }
+}
+
+#[test]
+fn refuses_the_end_before_the_wait(rt: HostRuntime) {
     for until in BAD_ENDS {
-        let why = refusal(alloc, None, None, None, Some(until));
-        assert_eq!(rt; why, Some(OptionError::Until), "{until}");
-        assert_eq!(rt;
-            refusal_for(alloc, Some(until), "0"),
-            Some(OptionError::Until)
-        );
-    }
-    for idle in BAD_TICKS {
-        let why = refusal_for(alloc, Some("5"), idle);
-        assert_eq!(rt; why, Some(OptionError::Idle), "{idle}");
+        let why = refusal_for(rt.alloc(), Some(until), "0");
+        assert!(rt; why == Some(OptionError::Until), "{until}");
     }
 }
 
@@ -95,16 +106,17 @@ fn long_list(alloc: Global, count: u64) -> Result<String, AllocError> {
     Ok(list)
 }
 
+/// The refusal of so many names, if they are refused.
+fn refusal_of_names(alloc: Global, count: u64) -> Result<Option<OptionError>, AllocError> {
+    let list = long_list(alloc, count)?;
+    Ok(refusal(alloc, Some(list.as_str()), None, None, None))
+}
+
 #[test]
 fn sixty_four_nodes(rt: HostRuntime) -> Result<(), AllocError> {
-    let alloc = rt.alloc();
-    let most = long_list(alloc, 64)?;
-    assert_eq!(rt; refusal(alloc, Some(most.as_str()), None, None, None), None);
-    let more = long_list(alloc, 65)?;
-    assert_eq!(rt;
-        refusal(alloc, Some(more.as_str()), None, None, None),
-        Some(OptionError::Nodes)
-    );
+    for (count, why) in [(64, None), (65, Some(OptionError::Nodes))] {
+        assert!(rt; refusal_of_names(rt.alloc(), count)? == why, "{count}");
+    }
     Ok(())
 }
 
@@ -142,6 +154,21 @@ fn is_stamp(until: Option<LogEnd>, due: i128) -> bool {
     }
 }
 
+/// Whether all options are as they are given below.
+fn are_all_given(options: &Options) -> bool {
+    let is_wait = match options.idle {
+        Some(idle) => is_in_nanoseconds(idle, 20_000_000),
+        None => false,
+    };
+    is_wait
+        && are_listed(options)
+        && matches!(options.unit, Some(TimeUnit::Microsecond))
+        && is_in_nanoseconds(options.width, 90_000_000_000)
+        && is_stamp(options.until, 1_500_000_000)
+        && options.spread
+        && options.align
+}
+
 #[test]
 fn reads_all(rt: HostRuntime) {
     let nodes = Some("b a,π");
@@ -156,34 +183,26 @@ fn reads_all(rt: HostRuntime) {
         true,
         true,
     ) {
-        Ok(options) => {
-            are_listed(&options)
-                && matches!(options.unit, Some(TimeUnit::Microsecond))
-                && is_in_nanoseconds(options.width, 90_000_000_000)
-                && is_stamp(options.until, 1_500_000_000)
-                && options
-                    .idle
-                    .is_some_and(|idle| is_in_nanoseconds(idle, 20_000_000))
-                && options.spread
-                && options.align
-        }
+        Ok(options) => are_all_given(&options),
         Err(_) => false,
     };
     assert!(rt; is_read);
 }
 
+fn are_left_out(options: &Options) -> bool {
+    options.nodes.is_none()
+        && options.unit.is_none()
+        && is_in_units(options.width, 1)
+        && options.until.is_none()
+        && options.idle.is_none()
+        && !options.spread
+        && !options.align
+}
+
 #[test]
 fn leaves_out_all(rt: HostRuntime) {
     let is_read = match read_options(rt.alloc(), None, None, None, None, None, false, false) {
-        Ok(options) => {
-            options.nodes.is_none()
-                && options.unit.is_none()
-                && is_in_units(options.width, 1)
-                && options.until.is_none()
-                && options.idle.is_none()
-                && !options.spread
-                && !options.align
-        }
+        Ok(options) => are_left_out(&options),
         Err(_) => false,
     };
     assert!(rt; is_read);
