@@ -15,6 +15,3 @@ pub use answers::{ALL, BAD_CERTIFICATE, BAD_SET, BAD_TRACE, DONE, NO, NO_MEMORY,
 pub use checks::synchrony_check;
 pub use commands::synchrony_answer;
 pub use reports::synchrony_report;
-
-#[cfg(test)]
-mod tests;
