@@ -126,9 +126,22 @@ fn imported(alloc: Global, given: &ImportOptions, text: &[u8]) -> Result<Vec<u8>
         given.spread,
         given.align,
     )?;
-    match given.form {
-        ImportForm::Trace => trace_text_of(alloc, text, &options),
-        ImportForm::Table => table_text_of(alloc, text, &options),
+    log_text(alloc, text, &options, given.form)
+}
+
+/// What is printed of a log, which is read so.
+fn log_text(
+    alloc: Global,
+    text: &[u8],
+    options: &Options,
+    form: ImportForm,
+) -> Result<Vec<u8>, Fault>
+    ensures text { IfOk result (λ out. IsTextOfLog form options.now text.now out.items) }
+    ensures refused { IfErr result (IsUnimported options.now text.now) }
+{
+    match form {
+        ImportForm::Trace => trace_text_of(alloc, text, options),
+        ImportForm::Table => table_text_of(alloc, text, options),
     }
 }
 
