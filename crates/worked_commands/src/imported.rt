@@ -257,7 +257,8 @@ const REFUSED: &[(Given, u8, &str)] = &[
             ..LISTED
         },
         2,
-        "synchrony: bad --tick",
+        "synchrony: bad --tick\n\
+        synchrony: --tick is \"0\", and takes a number above 0 in the unit of the times (ns for decimal seconds and time stamps), or a duration above 0 such as 250us, 5ms, 1m 30s or 2h, unless the times are whole numbers without --unit",
     ),
     (
         Given {
@@ -274,7 +275,8 @@ const REFUSED: &[(Given, u8, &str)] = &[
             ..LISTED
         },
         2,
-        "synchrony: bad --idle",
+        "synchrony: bad --idle\n\
+        synchrony: --idle is \"0\", and takes a number above 0 in the unit of the times (ns for decimal seconds and time stamps), or a duration above 0 such as 250us, 5ms, 1m 30s or 2h, unless the times are whole numbers without --unit",
     ),
     (
         Given {
