@@ -335,6 +335,7 @@ OPTIONS: Dict[str, Tuple[str, Optional[Callable[[Any], str]]]] = {
     "idle": ("--idle", str),
     "spread": ("--spread", None),
     "align": ("--align", None),
+    "table": ("--table", None),
     "within": ("--within", str),
     "start": ("--start", str),
     "valid": ("--valid", None),
