@@ -1,4 +1,5 @@
 pub mod PowersOfTwo
+pub mod RoundSteps
 pub mod MessageTakers
 pub mod GatheredLists
 pub mod TickFacts

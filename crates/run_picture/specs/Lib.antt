@@ -9,5 +9,6 @@ pub mod Names
 pub mod Places
 pub mod ShortNames
 pub mod Labels
+pub mod RoundNumbers
 pub mod BoundScales
 pub mod Axes

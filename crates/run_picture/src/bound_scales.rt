@@ -1,17 +1,14 @@
 //! How high bounds are drawn: in proportion, or by their logarithms if the greatest is large.
 
-ghost use Rattle.std.specs.Prelude.{◌≡◌, ◌≤◌, ◌*◌, ◌/◌, ◌+◌, IfSome, min, max};
+ghost use Rattle.std.specs.Prelude.{◌≡◌, ◌≤◌, ◌*◌, ◌/◌, ◌+◌, min, max};
 ghost use Rattle.step_trace.specs.declared.traces.TheConstants.{MAX_TICKS};
-ghost use Rattle.run_picture.specs.BoundScales.{is_log, log_below, log_of, measure, rise};
+ghost use Rattle.run_picture.specs.BoundScales.{is_log, line, log_below, log_of, measure, power_of_ten, rise};
 
 use crate::round_numbers::round_step;
 use step_trace::MAX_TICKS;
 
 /// A greatest bound above this one makes the scale logarithmic.
 pub const MOST_LINEAR: u64 = 20;
-
-/// The bounds at which a logarithmic scale has lines.
-const TENS: [u64; 7] = [1, 10, 100, 1_000, 10_000, 100_000, 1_000_000];
 
 /// The scale of bounds up to the greatest one.
 #[derive(Clone, Copy)]
@@ -56,18 +53,34 @@ impl BoundScale {
     /// The bound of the line of this number from 0 on, if the scale reaches it: a power of ten, or, if the scale isn't
     /// logarithmic, a round number such that there are at most `lines` above 0.
     pub fn line(self, number: u64, lines: u64) -> Option<u64>
-        ensures { IfSome result (λ bound. bound ≤ self.most) }
+        ensures { result ≡ line self number lines }
     {
         let bound = if self.is_log() {
-            *TENS.get(number as usize)?
+            power_of_ten(number)?
         } else {
-            round_step(self.most, lines).saturating_mul(number)
+            round_step(self.most, lines).checked_mul(number)?
         };
         if bound <= self.most {
             Some(bound)
         } else {
             None
         }
+    }
+}
+
+/// The power of ten of this exponent, if it is at most 1,000,000.
+fn power_of_ten(exponent: u64) -> Option<u64>
+    ensures { result ≡ power_of_ten exponent }
+{
+    match exponent {
+        0 => Some(1),
+        1 => Some(10),
+        2 => Some(100),
+        3 => Some(1_000),
+        4 => Some(10_000),
+        5 => Some(100_000),
+        6 => Some(1_000_000),
+        _ => None,
     }
 }
 

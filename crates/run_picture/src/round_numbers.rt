@@ -1,6 +1,7 @@
 //! Round numbers for axes.
 
-ghost use Rattle.std.specs.Prelude.{◌≤◌};
+ghost use Rattle.std.specs.Prelude.{◌≡◌, ◌≤◌};
+ghost use Rattle.run_picture.specs.RoundNumbers.{round_step};
 
 /// The steps between round numbers.
 const STEPS: [u64; 19] = [
@@ -10,7 +11,8 @@ const STEPS: [u64; 19] = [
 
 /// The least round step of which at most `most` fit into `limit`, or 1,000,000.
 pub fn round_step(limit: u64, most: u64) -> u64
-    ensures { 1 ≤ result }
+    ensures value { result ≡ round_step limit most }
+    ensures positive { 1 ≤ result }
 {
     for step in &STEPS {
         if limit / (*step).max(1) <= most {

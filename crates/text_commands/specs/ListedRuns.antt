@@ -18,7 +18,7 @@ use Rattle.command_options.specs.declared.Judging.{Judging}
 abbrev pub AreListed : List ℕ → List Listed → Type 0
 AreListed text runs = runs_of_text text ≡ Ok runs
 
--- why it lists none; a failed read, or want of memory, may come instead
+-- why it lists none; a failed read, or no more memory, may come instead
 abbrev pub IsUnlisted : List ℕ → Fault → Type 0
 IsUnlisted text fault.Read = Unit {0}
 IsUnlisted text fault.Memory = Unit {0}
@@ -30,9 +30,10 @@ abbrev pub IsListedCorrect : Correct → List ℕ → Correct → Type 0
 IsListedCorrect asked [] found = found ≡ asked
 IsListedCorrect asked (b ∷ rest) found = IsCorrectIn (b ∷ rest) found
 
--- the field lists none: it is no text, or names no processors
+-- the field isn't empty, and lists none: it is no text, or names no processors
 abbrev pub IsNoCorrect : List ℕ → Type 0
-IsNoCorrect text = (¬ IsUtf8 text) ⊎ ((correct : Correct) → ¬ IsCorrectIn text correct)
+IsNoCorrect [] = ⊥
+IsNoCorrect (b ∷ rest) = (¬ IsUtf8 (b ∷ rest)) ⊎ ((correct : Correct) → ¬ IsCorrectIn (b ∷ rest) correct)
 
 -- the start of a run: the one that is asked for, if its field is empty, and else its number
 abbrev pub start_of : Option ℕ → List ℕ → Option (Option ℕ)
@@ -56,14 +57,15 @@ pub record IsListedJudging (asked : Judging) (run : Listed) (j : Judging) : Type
   pub rows_of : j.rows ≡ asked.rows
   pub replay : j.replay ≡ is_empty run.decisions
 
--- why a run can't be judged: the first of its fields that says nothing; or want of memory
-abbrev pub IsListedFault : Listed → Fault → Type 0
-IsListedFault run fault.Memory = Unit {0}
-IsListedFault run (fault.Listed field.Correct) = IsNoCorrect run.correct
-IsListedFault run (fault.Listed field.Start) = (asked : Option ℕ) → start_of asked run.start ≡ None
-IsListedFault run _ = ⊥
+-- why a run can't be judged: the first of its fields that says nothing; or out of memory
+abbrev pub IsListedFault : Judging → Listed → Fault → Type 0
+IsListedFault asked run fault.Memory = Unit {0}
+IsListedFault asked run (fault.Listed field.Correct) = IsNoCorrect run.correct
+IsListedFault asked run (fault.Listed field.Start) = ((found : Correct) × IsListedCorrect asked.correct run.correct found)
+    × (start_of asked.start run.start ≡ None)
+IsListedFault asked run _ = ⊥
 
--- the field says no path: it is empty, or no text; or want of memory
+-- the field says no path: it is empty, or no text; or out of memory
 abbrev pub IsNoPath : ListedField → List ℕ → Fault → Type 0
 IsNoPath of bytes fault.Memory = Unit {0}
 IsNoPath of bytes (fault.Listed field) = (field ≡ of) × ((bytes ≡ []) ⊎ (¬ IsUtf8 bytes))

@@ -4,7 +4,7 @@ ghost use Rattle.std.specs.Prelude.{◌≡◌, ◌≢◌, ◌++◌, ◌∷◌, [
 ghost use Rattle.std.specs.Str.{IsUtf8};
 ghost use Rattle.command_faults.specs.FaultLines.{fault_line};
 ghost use Rattle.text_commands.specs.ListedRuns.{AreListed, IsListedCorrect, IsListedFault, IsListedJudging, IsNoCorrect, IsNoPath, IsUnlisted, one_line, start_of, told_run, unjudged_words};
-ghost use Rattle.text_commands.specs.Serving.{IsReadFault, faults_of, inner_of};
+ghost use Rattle.text_commands.specs.Serving.{IsAtEnd, IsReadFault, faults_of, inner_of};
 ghost use Rattle.text_commands.specs.Texts.{IsUnreadWhole};
 
 use crate::texts::read_whole;
@@ -23,6 +23,8 @@ use trace_text::records::number;
 /// Refuses Read at the first fault, and Runs with the first refusal of the text. Memory may come instead.
 pub fn read_runs<R: Read>(alloc: Global, reader: &mut Counting<R>) -> Result<Vec<ListedRun>, Fault>
     ensures runs { IfOk result (λ runs. IfSome (R.remaining (inner_of reader.old)) (λ known. AreListed known runs.items)) }
+    ensures end { OnOk result (IsAtEnd (R.remaining (inner_of reader.new))) }
+    ensures faultless { OnOk result (faults_of reader.new ≡ faults_of reader.old) }
     ensures refused { IfErr result (λ why. IfSome (R.remaining (inner_of reader.old)) (λ known. IsUnlisted known why)) }
     ensures read { IfErr result (IsReadFault (faults_of reader.old) (faults_of reader.new)) }
 {
@@ -36,7 +38,7 @@ pub fn read_runs<R: Read>(alloc: Global, reader: &mut Counting<R>) -> Result<Vec
 /// Refuses Listed for the first of the two that says nothing. Memory may come instead.
 pub fn listed_judging(alloc: Global, asked: &Judging, run: &ListedRun) -> Result<Judging, Fault>
     ensures judging { IfOk result (IsListedJudging asked.now run.now) }
-    ensures refused { IfErr result (IsListedFault run.now) }
+    ensures refused { IfErr result (IsListedFault asked.now run.now) }
 {
     let Some(correct) = correct_of(asked.correct, &run.correct) else {
         return Err(Fault::Listed(ListedField::Correct));
