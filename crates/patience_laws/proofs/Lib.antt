@@ -1,0 +1,5 @@
+mod HeardMessages
+mod PacedSteps
+mod HeardPeers
+mod KnownRounds
+mod SilentPhases

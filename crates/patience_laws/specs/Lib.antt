@@ -1,0 +1,2 @@
+pub mod PacedRuns
+pub mod Silence

@@ -1,0 +1,39 @@
+-- Runs in which a processor steps by the pace "heard out" (own).
+use Rattle.std.specs.Prelude.{ℕ, zero, suc, ◌≡◌, ◌+◌, ◌-◌, List, Option, Some, None, take, slice_get, ◌==◌, if◌then◌else◌, Bool}
+use Rattle.step_trace.specs.declared.steps.Act.{Act}
+use Rattle.step_trace.specs.declared.steps.Act.TheVariants.{Send, Receive}
+use Rattle.step_trace.specs.declared.steps.Step.{Step}
+use Rattle.step_trace.specs.Configurations.{Setup}
+use Rattle.step_trace.specs.Traces.{step_at}
+use Rattle.step_buffers.specs.HeardTables.{passed, before}
+use Rattle.step_buffers.specs.Moves.{next_send}
+use Rattle.deciding_runs.specs.declared.peers.Peer.{Peer}
+use Rattle.deciding_runs.specs.Peers.{peer_of}
+use Rattle.deciding_runs.specs.Paces.{Paced, opening_pace, heard_ids, ends_taking, after_receive}
+
+-- the pace of p after a step of its own that comes after these steps
+abbrev pub pace_acting : List Step → ℕ → Act → Paced → Paced
+pace_acting steps p (Send to) x = x
+pace_acting steps p (Receive ends ids) x = after_receive ends (passed steps p + 1) (heard_ids steps p ids x)
+
+-- the pace of p after the step that comes after these steps, if one does
+abbrev pub pace_stepping : List Step → ℕ → Option Step → Paced → Paced
+pace_stepping steps p None x = x
+pace_stepping steps p (Some step) x = if step.proc == p then pace_acting steps p step.act x else x
+
+-- the pace of p after the first k steps, with a patience: what it has heard, and how many Receives its round may take
+-- still
+unfoldable pub pace_after : Setup → ℕ → List Step → ℕ → ℕ → Paced
+pace_after c patience steps p zero = opening_pace c patience
+pace_after c patience steps p (suc k) = pace_stepping (take k steps) p (slice_get steps k) (pace_after c patience steps p k)
+
+-- what p has heard of q after the first k steps
+abbrev pub peer_after : Setup → ℕ → List Step → ℕ → ℕ → ℕ → Peer
+peer_after c patience steps p q k = peer_of (pace_after c patience steps p k).peers q
+
+-- p steps by the pace: it sends what it has to send, and else it receives; and a Receive ends its round exactly if the
+-- round is over with what it takes.
+pub record StepsByPace (c : Setup) (patience : ℕ) (steps : List Step) (p : ℕ) : Type 0 where
+  pub sends : (k to : ℕ) (act : Act) → step_at steps k ≡ Some (record { proc = p; act = act }) → next_send c (before steps k) p ≡ Some to → act ≡ Send to
+  pub ends : (k : ℕ) (ids : List ℕ) (ends : Bool) → step_at steps k ≡ Some (record { proc = p; act = Receive ends ids })
+      → ends ≡ ends_taking c (before steps k) p ids (pace_after c patience steps p (k - 1))

@@ -1,0 +1,6 @@
+//! How long a processor has to wait by the pace "heard out".
+#![tactic(auto)]
+
+mod laws;
+
+pub use laws::{knowledge_laws, silence_laws};
