@@ -68,6 +68,7 @@ pub record IsReceivedOf (c : Setup) (patience : ℕ) (steps : List Step) (p q k 
   pub step : step_at steps (suc k) ≡ Some (record { proc = p; act = Receive ends ids })
   pub round : rounds_after steps p (suc k) ≡ rounds_after steps p k + cond ends 1 0
   pub mid : Peer
+  pub mid_is : mid ≡ peer_of (heard_ids (take k steps) p ids (pace_after c patience steps p k)).peers q
   pub heard : IsDeaf steps p q k (peer_after c patience steps p q k) mid ⊎ IsListening steps p q k (peer_after c patience steps p q k) mid
   pub new : peer_after c patience steps p q (suc k) ≡ peer_received ends (rounds_after steps p k + 1) mid
 
@@ -203,6 +204,7 @@ module _ (c : Setup) (patience : ℕ) (steps : List Step) (p q : ℕ) (w : IsWel
           step = r.step;
           round = r.round;
           mid = mid-heard;
+          mid_is = refl;
           heard = heard-here;
           new = ap (λ (y : Paced). peer_of y.peers q) r.pace ∙ received-here r.ends (rounds_after steps p k + 1) x (omega arith);
         }
@@ -217,3 +219,16 @@ module _ (c : Setup) (patience : ℕ) (steps : List Step) (p q : ℕ) (w : IsWel
     })
     | inr r ↦ inr (received-of k r)
   ]
+
+-- the quorum of a pace stays
+pub pace-quorum : (c : Setup) (patience : ℕ) (steps : List Step) (p k : ℕ) → (pace_after c patience steps p k).quorum ≡ c.n - c.t
+unfolding pace_after
+pace-quorum c patience steps p zero = refl
+pace-quorum c patience steps p (suc k) = elim (step-cases c patience steps p k) [
+  | inl s ↦ ap (λ (x : Paced). x.quorum) s.pace ∙ pace-quorum c patience steps p k
+  | inr r ↦ ap (λ (x : Paced). x.quorum) r.pace ∙ received-quorum r.ends (rounds_after steps p k + 1) (heard_ids (take k steps) p r.ids (pace_after c patience steps p k)) ∙ pace-quorum c patience steps p k
+]
+  where
+    received-quorum : (ends : Bool) (round : ℕ) (x : Paced) → (after_receive ends round x).quorum ≡ x.quorum
+    received-quorum false round x = refl
+    received-quorum true round x = refl

@@ -3,3 +3,7 @@ mod PacedSteps
 mod HeardPeers
 mod KnownRounds
 mod SilentPhases
+mod RoundSends
+mod EndedReceives
+mod SentInRounds
+mod RoundsHeard

@@ -1,2 +1,3 @@
 pub mod PacedRuns
 pub mod Silence
+pub mod RoundTicks

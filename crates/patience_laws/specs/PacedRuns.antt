@@ -5,11 +5,11 @@ use Rattle.step_trace.specs.declared.steps.Act.TheVariants.{Send, Receive}
 use Rattle.step_trace.specs.declared.steps.Step.{Step}
 use Rattle.step_trace.specs.Configurations.{Setup}
 use Rattle.step_trace.specs.Traces.{step_at}
-use Rattle.step_buffers.specs.HeardTables.{passed, before}
-use Rattle.step_buffers.specs.Moves.{next_send}
+use Rattle.step_buffers.specs.HeardTables.{passed, before, round_at}
+use Rattle.step_buffers.specs.Runs.{next_destination, node_before}
 use Rattle.deciding_runs.specs.declared.peers.Peer.{Peer}
 use Rattle.deciding_runs.specs.Peers.{peer_of}
-use Rattle.deciding_runs.specs.Paces.{Paced, opening_pace, heard_ids, ends_taking, after_receive}
+use Rattle.deciding_runs.specs.Paces.{Paced, opening_pace, heard_ids, is_over, after_receive}
 
 -- the pace of p after a step of its own that comes after these steps
 abbrev pub pace_acting : List Step → ℕ → Act → Paced → Paced
@@ -31,9 +31,13 @@ pace_after c patience steps p (suc k) = pace_stepping (take k steps) p (slice_ge
 abbrev pub peer_after : Setup → ℕ → List Step → ℕ → ℕ → ℕ → Peer
 peer_after c patience steps p q k = peer_of (pace_after c patience steps p k).peers q
 
+-- what p has heard with the messages that it takes with step k, and before
+abbrev pub pace_taking : Setup → ℕ → List Step → ℕ → ℕ → List ℕ → Paced
+pace_taking c patience steps p k ids = heard_ids (before steps k) p ids (pace_after c patience steps p (k - 1))
+
 -- p steps by the pace: it sends what it has to send, and else it receives; and a Receive ends its round exactly if the
 -- round is over with what it takes.
 pub record StepsByPace (c : Setup) (patience : ℕ) (steps : List Step) (p : ℕ) : Type 0 where
-  pub sends : (k to : ℕ) (act : Act) → step_at steps k ≡ Some (record { proc = p; act = act }) → next_send c (before steps k) p ≡ Some to → act ≡ Send to
+  pub sends : (k to : ℕ) (act : Act) → step_at steps k ≡ Some (record { proc = p; act = act }) → next_destination c steps p k ≡ Some to → act ≡ Send to
   pub ends : (k : ℕ) (ids : List ℕ) (ends : Bool) → step_at steps k ≡ Some (record { proc = p; act = Receive ends ids })
-      → ends ≡ ends_taking c (before steps k) p ids (pace_after c patience steps p (k - 1))
+      → ends ≡ is_over c (node_before c steps p k) (round_at steps p k) p (pace_taking c patience steps p k ids)

@@ -1,13 +1,19 @@
 //! What a pace knows of the others, whom it suspects, and how long a round may take by it.
 
-ghost use Rattle.std.specs.Prelude.{ℕ, ◌≡◌, ◌+◌, ◌<◌, ◌≤◌, List, true};
+ghost use Rattle.std.specs.Prelude.{ℕ, ◌≡◌, ◌+◌, ◌-◌, ◌*◌, ◌<◌, ◌≤◌, List, length, true, IsTrue};
 ghost use Rattle.step_trace.specs.declared.steps.Step.{Step as TraceStep};
 ghost use Rattle.step_trace.specs.Configurations.{Setup, IsProc};
-ghost use Rattle.step_trace.specs.Traces.{IsWellFormed};
+ghost use Rattle.step_trace.specs.Processors.{has_proc, IsWithin};
+ghost use Rattle.step_trace.specs.Traces.{Recorded, IsReceiveOf, IsWellFormed};
+ghost use Rattle.step_trace.specs.Ticks.{IsTimed, IsTrace, tick_of};
+ghost use Rattle.step_trace.specs.Bounds.{DeltaHolds, PhiHolds};
+ghost use Rattle.lock_phases.specs.Hearing.{number_of};
 ghost use Rattle.step_buffers.specs.HeardTables.{round_at};
-ghost use Rattle.deciding_runs.specs.HeardOut.{HasHeardOf};
+ghost use Rattle.step_buffers.specs.Runs.{IsRun, IsSend};
+ghost use Rattle.deciding_runs.specs.HeardOut.{HasHeardOf, IsTakenBefore};
 ghost use Rattle.deciding_runs.specs.Peers.{is_heard_of};
-ghost use Rattle.patience_laws.specs.PacedRuns.{peer_after};
+ghost use Rattle.patience_laws.specs.PacedRuns.{StepsByPace, peer_after};
+ghost use Rattle.patience_laws.specs.RoundTicks.{EachEnds, HasHeardFrom, HearsMembers, IsInRoundFrom, sends_to};
 ghost use Rattle.patience_laws.specs.Silence.{Suspects, TakesOf, WasSilent};
 
 /// What a pace knows of a processor is what was taken of it (own).
@@ -37,4 +43,36 @@ pub fn silence_laws()
         → IsProc c q → j ≤ k → Suspects c patience steps p q j
         → ((m : ℕ) → j < m → m ≤ k → ¬ TakesOf steps p q m)
         → Suspects c patience steps p q k }
+{}
+
+/// How soon a round is over, by the processor bound f.
+///
+/// A theorem, as `knowledge_laws` is. A processor with at most `most` messages to send in its round has sent them
+/// `most` times f ticks after it came to the round. From then on each of its Receives may end the round; if each does
+/// from tick z on, the round is over by tick z + f (`ends`). They do if it has heard of a round more than a phase ahead
+/// (`behind`), and if the set has N - t members, it has heard of all of them that it may hear in the round, and suspects
+/// all others (`hears`). By the communication bound d, what one member sends to another from tick g on is taken by each
+/// Receive d ticks later (`taken`).
+pub fn round_laws()
+    ensures ends { (trace : Recorded) (patience set g f p round x most z : ℕ) → IsRun trace.config trace.steps
+        → IsTimed trace → StepsByPace trace.config patience trace.steps p → IsTrue (has_proc set p)
+        → PhiHolds set trace g f → g ≤ x → IsInRoundFrom trace p round x
+        → length (sends_to trace.config trace.steps p round) ≤ most → x + most * f ≤ z → EachEnds trace p round z
+        → IsInRoundFrom trace p (round + 1) (z + f) }
+    ensures taken { (trace : Recorded) (set g d p q s k : ℕ) → IsTrace trace → DeltaHolds set trace g d
+        → IsTrue (has_proc set p) → IsTrue (has_proc set q) → IsSend trace.steps q p s → g ≤ tick_of trace s
+        → IsReceiveOf trace.steps k p → tick_of trace s + d ≤ tick_of trace k
+        → IsTakenBefore trace.steps p k s }
+    ensures behind { (trace : Recorded) (patience set g f p q round x most : ℕ) → IsRun trace.config trace.steps
+        → IsTimed trace → StepsByPace trace.config patience trace.steps p → IsTrue (has_proc set p)
+        → PhiHolds set trace g f → g ≤ x → IsInRoundFrom trace p round x
+        → length (sends_to trace.config trace.steps p round) ≤ most → IsProc trace.config q
+        → HasHeardFrom trace p q (round + 5) (x + most * f) → IsInRoundFrom trace p (round + 1) (x + most * f + f) }
+    ensures hears { (trace : Recorded) (patience set g f p round x most z : ℕ) → IsRun trace.config trace.steps
+        → IsTimed trace → StepsByPace trace.config patience trace.steps p → IsTrue (has_proc set p)
+        → PhiHolds set trace g f → g ≤ x → IsInRoundFrom trace p round x
+        → length (sends_to trace.config trace.steps p round) ≤ most → x + most * f ≤ z → IsWithin set trace.config.n
+        → trace.config.n - trace.config.t ≤ number_of trace.config.n (has_proc set)
+        → HearsMembers patience set trace p round z
+        → IsInRoundFrom trace p (round + 1) (z + f) }
 {}

@@ -1,0 +1,18 @@
+use Rattle.patience_laws.proofs.RoundSends.{round-ends}
+use Rattle.patience_laws.proofs.RoundsHeard.{taken-by, behind-ends, hears-ends}
+use Rattle.patience_laws.proofs.laws.round_laws.Goals as goal
+
+pub returns-clause-ends : goal.returns-clause-ends
+returns-clause-ends c trace patience set g f p round x most z run time paced member phi since there few late each =
+    round-ends trace patience set g f p run time paced member phi round x since there most z few late each
+
+pub returns-clause-taken : goal.returns-clause-taken
+returns-clause-taken c = taken-by
+
+pub returns-clause-behind : goal.returns-clause-behind
+returns-clause-behind c trace patience set g f p q round x most run time paced member phi since there few is heard =
+    behind-ends trace patience set g f p run time paced member phi round x since there most few q is heard
+
+pub returns-clause-hears : goal.returns-clause-hears
+returns-clause-hears c trace patience set g f p round x most z run time paced member phi since there few late within size hears =
+    hears-ends trace patience set g f p run time paced member phi round x since there most z few late within size hears
