@@ -34,7 +34,7 @@ use Rattle.patience_laws.proofs.PacedSteps.{rounds_after, round-here}
 use Rattle.patience_laws.proofs.KnownRounds.{noted, latest-received}
 
 -- none of a list that passes no test is counted
-count_by-none : (test : ℕ → Bool) (xs : List ℕ) → ((x : ℕ) → Contains xs x → test x ≡ false) → count_by test xs ≡ 0
+pub count_by-none : (test : ℕ → Bool) (xs : List ℕ) → ((x : ℕ) → Contains xs x → test x ≡ false) → count_by test xs ≡ 0
 count_by-none test [] none = refl
 count_by-none test (x ∷ xs) none =
     let rest = count_by-none test xs (λ y d. none y (Contains-rest x y xs d)) in

@@ -7,3 +7,5 @@ mod RoundSends
 mod EndedReceives
 mod SentInRounds
 mod RoundsHeard
+mod RoundMessages
+mod LeastRounds

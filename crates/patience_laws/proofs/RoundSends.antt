@@ -113,14 +113,14 @@ module _ (trace : Recorded) (patience set g f p : ℕ) (run : IsRun trace.config
 
   module _ (round x : ℕ) (since : g ≤ x) (there : IsInRoundFrom trace p round x) where
     -- a step between is in the round
-    same-round : (j k : ℕ) (act : Act) → step_at trace.steps j ≡ Some (record { proc = p; act = act }) → x ≤ tick_of trace j → j ≤ k → round_at trace.steps p k ≡ round → round_at trace.steps p j ≡ round
+    pub same-round : (j k : ℕ) (act : Act) → step_at trace.steps j ≡ Some (record { proc = p; act = act }) → x ≤ tick_of trace j → j ≤ k → round_at trace.steps p k ≡ round → round_at trace.steps p j ≡ round
     same-round j k act at from l here =
         let low = there j (act, at) from in
         let up = round_at-up trace.config patience trace.steps p j k l in
         omega arith
 
     -- p sends first, as long as it has something to send
-    sends-first : (j k : ℕ) (act : Act) → step_at trace.steps j ≡ Some (record { proc = p; act = act }) → round_at trace.steps p j ≡ round
+    pub sends-first : (j k : ℕ) (act : Act) → step_at trace.steps j ≡ Some (record { proc = p; act = act }) → round_at trace.steps p j ≡ round
         → j < k → sent_before trace.steps p round j < length (sends_to trace.config trace.steps p round) → sent_before trace.steps p round j < sent_before trace.steps p round k
     sends-first j k act at here l more =
         let to = get_or (sends_to trace.config trace.steps p round) (sent_before trace.steps p round j) 0 in

@@ -1,3 +1,4 @@
 pub mod PacedRuns
 pub mod Silence
 pub mod RoundTicks
+pub mod LeastRounds

@@ -8,11 +8,13 @@ ghost use Rattle.step_trace.specs.Traces.{Recorded, IsReceiveOf, IsWellFormed};
 ghost use Rattle.step_trace.specs.Ticks.{IsTimed, IsTrace, tick_of};
 ghost use Rattle.step_trace.specs.Bounds.{DeltaHolds, PhiHolds};
 ghost use Rattle.lock_phases.specs.Hearing.{number_of};
+ghost use Rattle.lock_phases.specs.Rounds.{part_of};
 ghost use Rattle.step_buffers.specs.HeardTables.{round_at};
 ghost use Rattle.step_buffers.specs.Runs.{IsRun, IsSend};
 ghost use Rattle.deciding_runs.specs.HeardOut.{HasHeardOf, IsTakenBefore};
 ghost use Rattle.deciding_runs.specs.Peers.{is_heard_of};
 ghost use Rattle.patience_laws.specs.PacedRuns.{StepsByPace, peer_after};
+ghost use Rattle.patience_laws.specs.LeastRounds.{AreInRoundFrom, AreInTouch, KeepsBounds, OweAcknowledgements};
 ghost use Rattle.patience_laws.specs.RoundTicks.{EachEnds, HasHeardFrom, HearsMembers, IsInRoundFrom, sends_to};
 ghost use Rattle.patience_laws.specs.Silence.{Suspects, TakesOf, WasSilent};
 
@@ -75,4 +77,32 @@ pub fn round_laws()
         → trace.config.n - trace.config.t ≤ number_of trace.config.n (has_proc set)
         → HearsMembers patience set trace p round z
         → IsInRoundFrom trace p (round + 1) (z + f) }
+{}
+
+/// By which tick the least round of the members is over, by the bounds d and f (own).
+///
+/// A theorem, as `knowledge_laws` is. At least N - t members step by the pace, are in a round or in later ones from tick x
+/// on, and suspect all others; and what they send in these rounds comes under the bounds. Then the round is over for all
+/// of them d + 2 f ticks later if it is a listing round, d + (N + 4) f later if it is a locking round, d + 2 f later
+/// if it is an acknowledging round in which all owe an acknowledgement to an owner with a proposal, and d + (N + 1) f later
+/// if it is a lock-release round. So a phase is over 4 d + (2 N + 9) f ticks later (`phase`). How long a round takes does
+/// not depend on the patience.
+pub fn least_laws()
+    ensures listing { (patience set : ℕ) (trace : Recorded) (g d f round x : ℕ) → KeepsBounds patience set trace g d f
+        → AreInTouch patience set trace g round x → AreInRoundFrom set trace round x → 1 ≤ round → part_of round ≡ 1
+        → AreInRoundFrom set trace (round + 1) (x + f + d + f) }
+    ensures locking { (patience set : ℕ) (trace : Recorded) (g d f round x : ℕ) → KeepsBounds patience set trace g d f
+        → AreInTouch patience set trace g round x → AreInRoundFrom set trace round x → 1 ≤ round → part_of round ≡ 2
+        → AreInRoundFrom set trace (round + 1) (x + 3 * f + trace.config.n * f + d + f) }
+    ensures acknowledging { (patience set : ℕ) (trace : Recorded) (g d f round x : ℕ)
+        → KeepsBounds patience set trace g d f → AreInTouch patience set trace g round x
+        → AreInRoundFrom set trace round x → 1 ≤ round → part_of round ≡ 3 → OweAcknowledgements set trace round
+        → AreInRoundFrom set trace (round + 1) (x + f + d + f) }
+    ensures releasing { (patience set : ℕ) (trace : Recorded) (g d f round x : ℕ) → KeepsBounds patience set trace g d f
+        → AreInTouch patience set trace g round x → AreInRoundFrom set trace round x → 1 ≤ round → part_of round ≡ 4
+        → AreInRoundFrom set trace (round + 1) (x + trace.config.n * f + d + f) }
+    ensures phase { (patience set : ℕ) (trace : Recorded) (g d f round x : ℕ) → KeepsBounds patience set trace g d f
+        → AreInTouch patience set trace g round x → AreInRoundFrom set trace round x → 1 ≤ round → part_of round ≡ 1
+        → OweAcknowledgements set trace (round + 2)
+        → AreInRoundFrom set trace (round + 4) (x + (4 * d + (2 * trace.config.n + 9) * f)) }
 {}
