@@ -18,7 +18,8 @@ use Rattle.lock_phases.proofs.SendingLaws.{list-sent, lock-sent, acknowledgement
 use Rattle.round_model.specs.RoundStates.{state_after, messages_heard}
 use Rattle.round_model.proofs.BoundedDecisions.{member-positive}
 use Rattle.round_model.proofs.RoundEquations.{state_after-next}
-use Rattle.step_buffers.specs.HeardTables.{heard_table}
+use Rattle.step_buffers.specs.HeardTables.{passed, heard_table}
+use Rattle.step_buffers.proofs.StepPrefixes.{passed-before}
 use Rattle.deciding_runs.specs.Audible.{may_hear_in}
 use Rattle.patience_laws.specs.RoundTicks.{IsInRoundFrom, sends_to, may_hear_of}
 use Rattle.patience_laws.specs.LeastRounds.{KeepsBounds, AreInTouch, AreInRoundFrom, node_in, OweAcknowledgements}
@@ -27,12 +28,12 @@ use Rattle.patience_laws.proofs.RoundsHeard.{taken-by, hears-ends}
 use Rattle.patience_laws.proofs.RoundMessages.{few-all, few-one, few-none, IsSentBy, sent-by}
 
 -- whom p may hear, by the part of the phase
-may-in : (part : Part) (c : Setup) (steps : List Step) (p round q : ℕ) → part_at (part_of round) ≡ part
+pub may-in : (part : Part) (c : Setup) (steps : List Step) (p round q : ℕ) → part_at (part_of round) ≡ part
     → may_hear_of c steps p round q ≡ may_hear_in part (node_in c steps p round) (owner c.n (phase_of round)) p q
 may-in part c steps p round q e = ap (λ x. may_hear_in x (node_in c steps p round) (owner c.n (phase_of round)) p q) e
 
 -- the node in the next round
-node-next : (c : Setup) (steps : List Step) (p round : ℕ) → 1 ≤ round
+pub node-next : (c : Setup) (steps : List Step) (p round : ℕ) → 1 ≤ round
     → node_in c steps p (round + 1) ≡ next c (node_in c steps p round) p round (messages_heard c (heard_table steps) (state_after c (heard_table steps) (round - 1)) p round)
 node-next c steps p round low =
     let e : round + 1 - 1 ≡ suc (round - 1) = omega arith in
@@ -127,6 +128,15 @@ module _ (patience set : ℕ) (trace : Recorded) (g d f : ℕ) (keeps : KeepsBou
   pub acknowledging-ends : part_of round ≡ 3 → OweAcknowledgements set trace round → AreInRoundFrom set trace (round + 1) (x + f + d + f)
   acknowledging-ends part owe p m = told-ends p 1 (x + f) m (few-one c trace.steps p round (inr part)) (let e = times-more 0 f in omega arith) told
     where
+      came : (q : ℕ) → has_proc set q ≡ true → x + f ≤ trace.last → round ≤ passed trace.steps q + 1
+      came q mq last =
+          let s = keeps.phi.each x touch.since (omega arith) q mq in
+          let from = s.from in
+          let tick = s.step.tick in
+          let l = there q mq s.step.place s.step.step (omega arith) in
+          let within = passed-before trace.steps q s.step.place in
+          omega arith
+
       proposes : (o : Option ℕ) → (node_in c trace.steps p round).proposal ≡ o → is_some o ≡ true → (v : ℕ) × ((node_in c trace.steps p round).proposal ≡ Some v)
       proposes (Some v) e h = (v, e)
       proposes None e h = absurd (true≢false (sym h))
@@ -136,7 +146,7 @@ module _ (patience set : ℕ) (trace : Recorded) (g d f : ℕ) (keeps : KeepsBou
           let parts = and_parts (p == owner c.n (phase_of round)) (is_some (node_in c trace.steps p round).proposal) (sym (may-in Acknowledging c trace.steps p round q (part_at-acknowledging round part)) ∙ may) in
           let own : p ≡ owner c.n (phase_of round) = eqb-true p (owner c.n (phase_of round)) parts.0 in
           let v = proposes (node_in c trace.steps p round).proposal refl parts.1 in
-          let owes = owe v.0 (subst (λ o. has_proc set o ≡ true) own m) (subst (λ o. (node_in c trace.steps o round).proposal ≡ Some v.0) own v.1) q mq in
+          let owes = owe v.0 (subst (λ o. has_proc set o ≡ true) own m) (subst (λ o. (node_in c trace.steps o round).proposal ≡ Some v.0) own v.1) q mq (came q mq last) in
           let e = times-more 0 f in
           let s = says 0 p q (with_proper (node_in c trace.steps q round) Ack) mq (proc p m) (few-one c trace.steps q round (inr part))
             (subst (λ to. out c (node_in c trace.steps q round) q round to ≡ Some (with_proper (node_in c trace.steps q round) Ack)) (sym own) (acknowledgement-sent c (node_in c trace.steps q round) q round part owes)) (omega arith) in

@@ -9,3 +9,5 @@ mod SentInRounds
 mod RoundsHeard
 mod RoundMessages
 mod LeastRounds
+mod PatienceTicks
+mod OwedAcknowledgements

@@ -122,7 +122,7 @@ pub record IsSentBy (trace : Recorded) (q p round y : ℕ) : Type 0 where
   pub by : tick_of trace message ≤ y
 
 -- who has passed a round has sent all
-all-passed : (c : Setup) (patience : ℕ) (steps : List Step) (q round n : ℕ) → IsRun c steps → 1 ≤ round → round ≤ rounds_after steps q n
+pub all-passed : (c : Setup) (patience : ℕ) (steps : List Step) (q round n : ℕ) → IsRun c steps → 1 ≤ round → round ≤ rounds_after steps q n
     → length (sends_to c steps q round) ≤ sent_before steps q round (suc n)
 all-passed c patience steps q round zero run low passed = absurd (let e : rounds_after steps q zero ≡ 0 = refl in omega arith)
 all-passed c patience steps q round (suc n) run low passed = elim (cases_lt (rounds_after steps q n) round) [

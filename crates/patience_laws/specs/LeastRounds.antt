@@ -1,19 +1,21 @@
 -- Members of a set that are in touch, and by which tick their least round is over.
-use Rattle.std.specs.Prelude.{ℕ, ◌≡◌, ◌-◌, ◌≤◌, List, Some, true, false, IsTrue}
+use Rattle.std.specs.Prelude.{ℕ, ◌≡◌, ◌+◌, ◌-◌, ◌≤◌, List, Some, true, false, IsTrue}
 use Rattle.step_trace.specs.declared.steps.Step.{Step}
 use Rattle.step_trace.specs.Configurations.{Setup, IsProc}
 use Rattle.step_trace.specs.Processors.{has_proc, IsWithin}
-use Rattle.step_trace.specs.Traces.{Recorded}
+use Rattle.step_trace.specs.declared.steps.Act.TheVariants.{Receive}
+use Rattle.step_trace.specs.Traces.{Recorded, step_at}
 use Rattle.step_trace.specs.Ticks.{tick_of, IsTrace}
 use Rattle.step_trace.specs.Bounds.{DeltaHolds, PhiHolds}
 use Rattle.lock_phases.specs.Hearing.{number_of}
 use Rattle.lock_phases.specs.Nodes.{State}
 use Rattle.lock_phases.specs.Rounds.{owner, phase_of}
 use Rattle.round_model.specs.RoundStates.{state_after}
-use Rattle.step_buffers.specs.HeardTables.{round_at, heard_table}
+use Rattle.step_buffers.specs.HeardTables.{passed, round_at, heard_table}
 use Rattle.step_buffers.specs.Runs.{IsRun, IsSend}
 use Rattle.patience_laws.specs.PacedRuns.{StepsByPace}
-use Rattle.patience_laws.specs.RoundTicks.{IsInRoundFrom, SuspectsFrom}
+use Rattle.deciding_runs.specs.HeardOut.{HasHeardOf, TakesInOrder}
+use Rattle.patience_laws.specs.RoundTicks.{IsInRoundFrom, SuspectsFrom, may_hear_of}
 
 -- A run in which at least N - t members step by the pace, and the bounds d and f hold for them from tick g on.
 pub record KeepsBounds (patience set : ℕ) (trace : Recorded) (g d f : ℕ) : Type 0 where
@@ -40,8 +42,20 @@ AreInRoundFrom set trace round x = (p : ℕ) → IsTrue (has_proc set p) → IsI
 abbrev pub node_in : Setup → List Step → ℕ → ℕ → State
 node_in c steps p round = state_after c (heard_table steps) (round - 1) p
 
--- If the owner of this acknowledging round is a member and has a proposal in it, each member owes an acknowledgement.
+-- If the owner of this acknowledging round is a member and has a proposal in it, each member that comes to the round
+-- owes an acknowledgement.
 abbrev pub OweAcknowledgements : ℕ → Recorded → ℕ → Type 0
 OweAcknowledgements set trace round = (v : ℕ) → IsTrue (has_proc set (owner trace.config.n (phase_of round)))
     → (node_in trace.config trace.steps (owner trace.config.n (phase_of round)) round).proposal ≡ Some v
-    → (q : ℕ) → IsTrue (has_proc set q) → (node_in trace.config trace.steps q round).owes_ack ≡ true
+    → (q : ℕ) → IsTrue (has_proc set q) → round ≤ passed trace.steps q + 1 → (node_in trace.config trace.steps q round).owes_ack ≡ true
+
+-- Each member that ends this round has heard, of each member that it may hear in it, something of this round or of a
+-- later one.
+abbrev pub IsHeardOutByAll : ℕ → Recorded → ℕ → Type 0
+IsHeardOutByAll set trace round = (p q k : ℕ) (ids : List ℕ) → IsTrue (has_proc set p) → IsTrue (has_proc set q)
+    → step_at trace.steps k ≡ Some (record { proc = p; act = Receive true ids }) → round_at trace.steps p k ≡ round
+    → may_hear_of trace.config trace.steps p round q ≡ true → HasHeardOf trace.steps p q round k
+
+-- the members take one another's messages in order
+abbrev pub TakeInOrder : ℕ → Recorded → Type 0
+TakeInOrder set trace = (p q : ℕ) → IsTrue (has_proc set p) → IsTrue (has_proc set q) → TakesInOrder trace.steps p q

@@ -1,0 +1,146 @@
+-- Who hears out a locking round owes an acknowledgement to an owner with a proposal.
+use Rattle.std.proofs.Common.{ℕ, zero, suc, ◌≡◌, ◌≢◌, ◌+◌, ◌-◌, ◌<◌, ◌≤◌, ◌⊎◌, inl, inr, List, length, take, Option, Some, None, is_some, Bool, true, false, ◌==◌, ◌&&◌, ◌||◌, not, refl, sym, ap, subst, ◌∙◌, arith, eq-eqb}
+use Rattle.std.specs.Prelude.{Contains}
+use Rattle.std.proofs.lemmas.Bool.{cases_lt, eqb-true}
+use Rattle.std.proofs.Math.Seq.{take-length}
+use Rattle.step_trace.specs.declared.steps.Act.TheVariants.{Send, Receive}
+use Rattle.step_trace.specs.declared.steps.Step.{Step}
+use Rattle.step_trace.specs.Configurations.{Setup, IsProc}
+use Rattle.step_trace.specs.Processors.{has_proc}
+use Rattle.step_trace.specs.Traces.{Recorded, step_at}
+use Rattle.step_trace.proofs.StepPositions.{step_at_within}
+use Rattle.lock_phases.specs.declared.bodies.Body.{Body}
+use Rattle.lock_phases.specs.declared.bodies.Kind.TheVariants.{Lock}
+use Rattle.lock_phases.specs.Hearing.{with_proper, IsToldToLock}
+use Rattle.lock_phases.specs.Nodes.{State}
+use Rattle.lock_phases.specs.Rounds.{part_of, owner, phase_of, Locking}
+use Rattle.lock_phases.proofs.LockingLaws.{locking-told}
+use Rattle.lock_phases.proofs.RoundLaws.{part_at-locking}
+use Rattle.lock_phases.proofs.SendingLaws.{lock-sent}
+use Rattle.round_model.specs.RoundStates.{state_after, messages_heard}
+use Rattle.round_model.proofs.HeardLists.{messages_heard-has}
+use Rattle.round_model.proofs.SendersHeard.{messages_heard-rise}
+use Rattle.step_buffers.specs.HeardTables.{passed, round_at, heard_table}
+use Rattle.lock_phases.specs.NodeFunctions.{out}
+use Rattle.step_buffers.specs.Runs.{IsRun, IsSend, sent_before}
+use Rattle.step_buffers.proofs.HeardSenders.{heard_table-from_heard}
+use Rattle.deciding_runs.specs.HeardOut.{HasHeardOf, IsTakenAt, IsTakenBefore, TakesInOrder}
+use Rattle.patience_laws.specs.RoundTicks.{may_hear_of, sends_to}
+use Rattle.patience_laws.specs.LeastRounds.{node_in, OweAcknowledgements, IsHeardOutByAll, TakeInOrder}
+use Rattle.patience_laws.proofs.PacedSteps.{rounds_after, round-here}
+use Rattle.patience_laws.proofs.RoundSends.{round_at-up}
+use Rattle.patience_laws.proofs.SentInRounds.{sent-to}
+use Rattle.patience_laws.proofs.RoundMessages.{told-place, all-passed}
+use Rattle.patience_laws.proofs.LeastRounds.{may-in, node-next, proposal-kept}
+use Rattle.patience_laws.proofs.PatienceTicks.{end-of}
+
+-- the next round of a locking round is of the same phase
+same-phase : (round : ℕ) → 1 ≤ round → part_of round ≡ 2 → phase_of (round + 1) ≡ phase_of round
+same-phase round low part = omega arith
+
+or-where : (a b : Bool) → (a ≡ true → b ≡ true) → (not a || b) ≡ true
+or-where true b h = h refl
+or-where false b h = refl
+
+module _ (trace : Recorded) (patience set : ℕ) (run : IsRun trace.config trace.steps) (order : TakeInOrder set trace) (round : ℕ) (low : 1 ≤ round) (part : part_of round ≡ 2)
+    (heard : IsHeardOutByAll set trace round) where
+  abbrev c : Setup
+  c = trace.config
+
+  module _ (o q v : ℕ) (own : o ≡ owner c.n (phase_of round)) (mo : has_proc set o ≡ true) (mq : has_proc set q ≡ true) (is : IsProc c q) (from : IsProc c o)
+      (proposes : (node_in c trace.steps o round).proposal ≡ Some v) (over : round ≤ passed trace.steps q) where
+    -- the message that tells q to lock
+    abbrev telling : Body
+    telling = with_proper (node_in c trace.steps o round) (Lock v)
+
+    -- q takes it in time
+    record IsTold : Type 0 where
+      message : ℕ
+      sent : IsSend trace.steps o q message
+      round_is : round_at trace.steps o message ≡ round
+      place : ℕ
+      take : IsTakenAt trace.steps q place message
+      in_time : round_at trace.steps q place ≤ round
+
+    may : may_hear_of c trace.steps q round o ≡ true
+    may =
+        may-in Locking c trace.steps q round o (part_at-locking round part)
+        ∙ ap (λ j. o == j && (not (q == j) || is_some (node_in c trace.steps q round).proposal)) (sym own)
+        ∙ rw (eq-eqb o o refl) (or-where (q == o) (is_some (node_in c trace.steps q round).proposal) (λ e. ap is_some (ap (λ j. (node_in c trace.steps j round).proposal) (eqb-true q o e) ∙ proposes)))
+
+    said : out c (node_in c trace.steps o round) o round q ≡ Some telling
+    said = subst (λ j. out c (node_in c trace.steps o round) j round q ≡ Some telling) (sym own) (lock-sent c (node_in c trace.steps o round) round q v part proposes)
+
+    passed-all : rounds_after trace.steps q (length trace.steps) ≡ passed trace.steps q
+    passed-all = ap (λ xs. passed xs q) (take-length trace.steps)
+
+    is-told : IsTold
+    is-told =
+        let e = end-of c patience trace.steps q round (length trace.steps) low (let f = passed-all in omega arith) in
+        of (suc e.0.place) e.0.ids e.0.step (round-here trace.steps q e.0.place ∙ e.0.round_is)
+      where
+        of : (k : ℕ) (ids : List ℕ) → step_at trace.steps k ≡ Some (record { proc = q; act = Receive true ids }) → round_at trace.steps q k ≡ round → IsTold
+        of k ids at here = go (heard q o k ids mq mo at here may)
+          where
+            go : HasHeardOf trace.steps q o round k → IsTold
+            go h = elim (cases_lt round (round_at trace.steps o h.message)) [
+              | inr same ↦ (
+                let later = h.later in
+                record {
+                  message = h.message;
+                  sent = h.sent;
+                  round_is = omega arith;
+                  place = h.place;
+                  take = h.take;
+                  in_time = let up = round_at-up c patience trace.steps q h.place k h.by in omega arith;
+                })
+              | inl passed_it ↦ (
+                let within = step_at_within trace.steps h.message _ h.sent in
+                let low_message = within.0 in
+                let e : suc (h.message - 1) ≡ h.message = omega arith in
+                let all : length (sends_to c trace.steps o round) ≤ sent_before trace.steps o round (suc (h.message - 1)) =
+                  all-passed c patience trace.steps o round (h.message - 1) run low (omega arith) in
+                let place = told-place c trace.steps o round q telling is said in
+                let index = place.1 in
+                let first = sent-to c trace.steps o q round run place.0 (suc (h.message - 1)) (omega arith) place.2 in
+                let earlier = first.earlier in
+                let taken = order q o mq mo first.message h.message h.place first.sent h.sent (omega arith) h.take in
+                record {
+                  message = first.message;
+                  sent = first.sent;
+                  round_is = first.round_is;
+                  place = taken.place;
+                  take = taken.take;
+                  in_time = let up = round_at-up c patience trace.steps q taken.place k (let a = taken.by in let b = h.by in omega arith) in omega arith;
+                })
+            ]
+
+    hears : heard_table trace.steps q round o ≡ true
+    hears =
+        let t = is-told in
+        heard_table-from_heard trace.steps q round o (record {
+          over = over;
+          message = t.message;
+          take = record { place = t.place; step = record { proc = q; act = Receive t.take.ends t.take.ids }; stands = t.take.step; taker = refl; taken = t.take.taken };
+          in_time = t.in_time;
+          sent = record { round = t.round_is; step = record { proc = o; act = Send q }; stands = t.sent; sender = refl; sends = refl };
+        })
+
+    pub owes : (node_in c trace.steps q (round + 1)).owes_ack ≡ true
+    owes =
+        let nodes = state_after c (heard_table trace.steps) (round - 1) in
+        let all = messages_heard c (heard_table trace.steps) nodes q round in
+        let told : IsToldToLock (owner c.n (phase_of round)) all v = record {
+          message = (o, telling);
+          is_heard = messages_heard-has c (heard_table trace.steps) nodes q round (o, telling) (record { sender = from; heard = hears; body = said });
+          sender = own;
+          kind = refl;
+        } in
+        ap (λ (s : State). s.owes_ack) (node-next c trace.steps q round low)
+        ∙ (locking-told c (node_in c trace.steps q round) q round all v part (messages_heard-rise c (heard_table trace.steps) nodes q round) told).owes_ack
+
+  pub owe-all : ((p : ℕ) → has_proc set p ≡ true → IsProc c p) → OweAcknowledgements set trace (round + 1)
+  owe-all procs v mo proposes q mq came =
+      let own : owner c.n (phase_of (round + 1)) ≡ owner c.n (phase_of round) = ap (owner c.n) (same-phase round low part) in
+      owes (owner c.n (phase_of (round + 1))) q v own mo mq (procs q mq) (procs (owner c.n (phase_of (round + 1))) mo)
+      (sym (proposal-kept c trace.steps (owner c.n (phase_of (round + 1))) round low part) ∙ proposes) (omega arith)
