@@ -1,10 +1,11 @@
 -- Which Receives end a round.
-use Rattle.std.proofs.Common.{ℕ, suc, ◌≡◌, ◌+◌, ◌-◌, ◌<◌, ◌≤◌, inl, inr, List, [], ◌∷◌, length, take, Some, Bool, true, false, ◌||◌, not, cond, get_or, refl, sym, ap, subst, ◌∙◌, arith}
+use Rattle.std.proofs.Common.{ℕ, suc, ◌≡◌, ◌+◌, ◌-◌, ◌<◌, ◌≤◌, inl, inr, List, [], ◌∷◌, length, take, Some, Bool, true, false, ◌||◌, not, cond, get_or, refl, sym, ap, subst, ◌∙◌, arith, ◌⊎◌, ◌==◌}
 use Rattle.std.specs.Prelude.{Contains, count_by, nat_le}
 use Rattle.std.specs.List.{range_with_len}
-use Rattle.std.proofs.lemmas.Bool.{true≢false, and_left, lt-ltb, le-leb}
+use Rattle.std.proofs.lemmas.Bool.{eqb-true, leb-true, ltb-true, and_parts, true≢false, and_left, lt-ltb, le-leb}
 use Rattle.std.proofs.lemmas.Option.{same_Some}
-use Rattle.std.proofs.lemmas.List.Folds.{list_any_at}
+use Rattle.std.proofs.lemmas.List.Folds.{list_any_at, Any-from_list_any}
+use Rattle.std.proofs.lemmas.List.{get_or_default}
 use Rattle.std.proofs.lemmas.List.Sums.{sum_by-cons}
 use Rattle.step_trace.specs.declared.steps.Act.TheVariants.{Receive}
 use Rattle.step_trace.specs.declared.steps.Step.{Step}
@@ -12,7 +13,9 @@ use Rattle.step_trace.specs.Configurations.{Setup, IsProc}
 use Rattle.step_trace.specs.Steps.{act_ids}
 use Rattle.step_trace.specs.Processors.{has_proc, IsWithin}
 use Rattle.step_trace.specs.Traces.{step_at, IsWellFormed}
-use Rattle.step_trace.proofs.ListMembers.{Contains-head, Contains-rest}
+use Rattle.step_trace.proofs.ListMembers.{Contains-head, Contains-rest, Contains-nil}
+use Rattle.lock_phases.proofs.Membership.{Contains-cons_cases}
+use Rattle.round_model.proofs.HeardLists.{Contains-processors}
 use Rattle.lock_phases.specs.Hearing.{number_of}
 use Rattle.lock_phases.specs.Nodes.{State}
 use Rattle.lock_phases.specs.Rounds.{Part, Listing, Locking, Acknowledging, Releasing, part_at, part_of, owner, phase_of}
@@ -31,7 +34,7 @@ use Rattle.patience_laws.specs.Silence.{Suspects}
 use Rattle.patience_laws.proofs.HeardMessages.{heard-long}
 use Rattle.patience_laws.proofs.HeardPeers.{IsReceivedOf, peer-cases, pace-long, pace-quorum}
 use Rattle.patience_laws.proofs.PacedSteps.{rounds_after, round-here}
-use Rattle.patience_laws.proofs.KnownRounds.{noted, latest-received}
+use Rattle.patience_laws.proofs.KnownRounds.{noted, heard, heard-weaker, latest-received}
 
 -- none of a list that passes no test is counted
 pub count_by-none : (test : ℕ → Bool) (xs : List ℕ) → ((x : ℕ) → Contains xs x → test x ≡ false) → count_by test xs ≡ 0
@@ -67,6 +70,26 @@ all-in Releasing node owner p q h = h
 
 pub all-each : (c : Setup) (node : State) (round p q : ℕ) → may_hear_all c node round p ≡ true → may_hear c node round p q ≡ true
 all-each c node round p q h = all-in (part_at (part_of round)) node (owner c.n (phase_of round)) p q h
+
+or-three : (x y z : Bool) → (x || y || z) ≡ true → (x ≡ true) ⊎ ((y ≡ true) ⊎ (z ≡ true))
+or-three true y z h = inl refl
+or-three false true z h = inr (inl refl)
+or-three false false z h = inr (inr h)
+
+-- nobody passes a test that none of a list passes
+none-passes : (test : ℕ → Bool) (xs : List ℕ) (x : ℕ) → count_by test xs ≡ 0 → Contains xs x → test x ≡ false
+none-passes test [] x none is = absurd (Contains-nil x is)
+none-passes test (y ∷ ys) x none is = elim (Contains-cons_cases y x ys is) [
+  | inl e ↦ ap test e ∙ fails (test y) count
+  | inr rest ↦ none-passes test ys x (let e = count in omega arith) rest
+]
+  where
+    count : cond {A = ℕ} (test y) 1 0 + count_by test ys ≡ 0
+    count = sym (sum_by-cons (λ z. cond {A = ℕ} (test z) 1 0) y ys) ∙ none
+
+    fails : (b : Bool) → cond {A = ℕ} b 1 0 + count_by test ys ≡ 0 → b ≡ false
+    fails true e = absurd (omega arith)
+    fails false e = refl
 
 or-last : (a : Bool) → (a || true) ≡ true
 or-last true = refl
@@ -120,6 +143,39 @@ module _ (c : Setup) (patience : ℕ) (steps : List Step) (p : ℕ) (w : IsWellF
         let new : peer_after c patience steps p q (suc k) ≡ received.mid = received.new ∙ rw e refl in
         ap (λ (x : Peer). x.suspected) (sym (new ∙ mid-known)) ∙ s
 
+    -- what is known was taken
+    known-heard : (round : ℕ) → 1 ≤ round → round ≤ (peer_of known.peers q).latest → HasHeardOf steps p q round (suc k)
+    known-heard round low l =
+        let e = known-latest in
+        heard-weaker steps p q (peer_after c patience steps p q (suc k)).latest round (suc k) (suc k) (omega arith) (omega arith) (heard c patience steps p q w is (suc k) (omega arith))
+
+    -- who is suspected with the Receive was so before
+    suspected-before : (peer_of known.peers q).suspected ≡ true → Suspects c patience steps p q k
+    suspected-before s =
+        let e : received.mid.suspected ≡ true = ap (λ (x : Peer). x.suspected) mid-known ∙ s in
+        elim received.heard [
+        | inl deaf ↦ ap (λ (x : Peer). x.suspected) (sym deaf.same) ∙ e
+        | inr listening ↦ absurd (true≢false (sym e ∙ listening.suspected))
+        ]
+
+  -- somebody of whom something of a round more than a phase later was heard
+  pub record IsAhead : Type 0 where
+    pub proc : ℕ
+    pub is : IsProc c proc
+    pub heard_of : HasHeardOf steps p proc (rounds_after steps p k + 1 + 5) (suc k)
+
+  ahead-of : is_left_behind (rounds_after steps p k + 1) known.peers ≡ true → IsAhead
+  ahead-of h =
+      let y = Any-from_list_any (is_far_ahead (rounds_after steps p k + 1)) known.peers h in
+      let long = known-long in
+      let index = y.2 in
+      let is : IsProc c (y.0 + 1) = (omega arith, omega arith) in
+      let e : y.0 + 1 - 1 ≡ y.0 = omega arith in
+      let peer : peer_of known.peers (y.0 + 1) ≡ y.1 = ap (λ n. get_or known.peers n unheard) e ∙ get_or_default known.peers y.0 unheard y.1 y.2 ∙ y.3 in
+      let latest = ap (λ (x : Peer). x.latest) peer in
+      let far = ltb-true 4 (y.1.latest - (rounds_after steps p k + 1)) y.4 in
+      record { proc = y.0 + 1; is = is; heard_of = known-heard (y.0 + 1) is (rounds_after steps p k + 1 + 5) (omega arith) (omega arith) }
+
   module _ (paced : StepsByPace c patience steps p) where
     abbrev here : State
     here = node_before c steps p (suc k)
@@ -142,6 +198,35 @@ module _ (c : Setup) (patience : ℕ) (steps : List Step) (p : ℕ) (w : IsWellF
         let any : is_left_behind (rounds_after steps p k + 1) known.peers ≡ true =
           list_any_at (is_far_ahead (rounds_after steps p k + 1)) known.peers (q - 1) unheard (omega arith) test in
         ends-is ∙ rw any (or-second (is_complete c here (rounds_after steps p k + 1) p known) (nat_le known.left 1))
+
+    -- why a Receive ends the round: it is complete, or p is left behind, or the patience is over
+    pub data Why : Type 0 where
+      Complete : is_complete c here (rounds_after steps p k + 1) p known ≡ true → Why
+      Behind : IsAhead → Why
+      Impatient : (pace_after c patience steps p k).left ≤ 1 → Why
+
+    pub why-ends : ends ≡ true → Why
+    why-ends e =
+        let over = or-three (is_complete c here (rounds_after steps p k + 1) p known) (is_left_behind (rounds_after steps p k + 1) known.peers) (nat_le known.left 1) (sym ends-is ∙ e) in
+        elim over [
+        | inl done ↦ Complete done
+        | inr (inl behind) ↦ Behind (ahead-of behind)
+        | inr (inr out) ↦ Impatient (leb-true known.left 1 out)
+        ]
+
+    -- a complete one has heard of all that it may hear and doesn't suspect
+    pub complete-heard : (q : ℕ) → IsProc c q → is_complete c here (rounds_after steps p k + 1) p known ≡ true → may_hear c here (rounds_after steps p k + 1) p q ≡ true
+        → ¬ Suspects c patience steps p q k → HasHeardOf steps p q (rounds_after steps p k + 1) (suc k)
+    complete-heard q is done may loud =
+        let none = eqb-true (awaited_count c here (rounds_after steps p k + 1) p known.peers) 0 (and_parts (awaited_count c here (rounds_after steps p k + 1) p known.peers == 0) _ done).0 in
+        let found = none-passes (is_awaited c here (rounds_after steps p k + 1) p known.peers) (processors c) q none (Contains-processors c q is) in
+        go (is_heard_of (rounds_after steps p k + 1) (peer_of known.peers q)) (peer_of known.peers q).suspected refl refl found
+      where
+        go : (a b : Bool) → is_heard_of (rounds_after steps p k + 1) (peer_of known.peers q) ≡ a → (peer_of known.peers q).suspected ≡ b
+            → is_awaited c here (rounds_after steps p k + 1) p known.peers q ≡ false → HasHeardOf steps p q (rounds_after steps p k + 1) (suc k)
+        go true b e f h = known-heard q is (rounds_after steps p k + 1) (omega arith) (leb-true (rounds_after steps p k + 1) (peer_of known.peers q).latest e)
+        go false true e f h = absurd (loud (suspected-before q is f))
+        go false false e f h = absurd (true≢false (sym (rw (may, e, f) refl) ∙ h))
 
     -- Who has heard of all members whom it may hear, and suspects the others, ends its round.
     module _ (set : ℕ) (within : IsWithin set c.n) (size : c.n - c.t ≤ number_of c.n (has_proc set)) (none : ends ≡ false)

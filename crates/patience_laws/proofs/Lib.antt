@@ -11,3 +11,4 @@ mod RoundMessages
 mod LeastRounds
 mod PatienceTicks
 mod OwedAcknowledgements
+mod HeardRounds

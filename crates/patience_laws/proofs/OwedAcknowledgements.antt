@@ -1,10 +1,8 @@
 -- Who hears out a locking round owes an acknowledgement to an owner with a proposal.
-use Rattle.std.proofs.Common.{ℕ, zero, suc, ◌≡◌, ◌≢◌, ◌+◌, ◌-◌, ◌<◌, ◌≤◌, ◌⊎◌, inl, inr, List, length, take, Option, Some, None, is_some, Bool, true, false, ◌==◌, ◌&&◌, ◌||◌, not, refl, sym, ap, subst, ◌∙◌, arith, eq-eqb}
-use Rattle.std.specs.Prelude.{Contains}
+use Rattle.std.proofs.Common.{ℕ, suc, ◌≡◌, ◌+◌, ◌-◌, ◌≤◌, inl, inr, List, length, Some, is_some, Bool, true, false, ◌==◌, ◌&&◌, ◌||◌, not, refl, sym, ap, subst, ◌∙◌, arith, eq-eqb}
 use Rattle.std.proofs.lemmas.Bool.{cases_lt, eqb-true}
 use Rattle.std.proofs.Math.Seq.{take-length}
 use Rattle.step_trace.specs.declared.steps.Act.TheVariants.{Send, Receive}
-use Rattle.step_trace.specs.declared.steps.Step.{Step}
 use Rattle.step_trace.specs.Configurations.{Setup, IsProc}
 use Rattle.step_trace.specs.Processors.{has_proc}
 use Rattle.step_trace.specs.Traces.{Recorded, step_at}
@@ -24,7 +22,7 @@ use Rattle.step_buffers.specs.HeardTables.{passed, round_at, heard_table}
 use Rattle.lock_phases.specs.NodeFunctions.{out}
 use Rattle.step_buffers.specs.Runs.{IsRun, IsSend, sent_before}
 use Rattle.step_buffers.proofs.HeardSenders.{heard_table-from_heard}
-use Rattle.deciding_runs.specs.HeardOut.{HasHeardOf, IsTakenAt, IsTakenBefore, TakesInOrder}
+use Rattle.deciding_runs.specs.HeardOut.{HasHeardOf, IsTakenAt}
 use Rattle.patience_laws.specs.RoundTicks.{may_hear_of, sends_to}
 use Rattle.patience_laws.specs.LeastRounds.{node_in, OweAcknowledgements, IsHeardOutByAll, TakeInOrder}
 use Rattle.patience_laws.proofs.PacedSteps.{rounds_after, round-here}

@@ -1,19 +1,19 @@
 -- How long a patience lasts.
-use Rattle.std.proofs.Common.{ℕ, zero, suc, ◌≡◌, ◌+◌, ◌-◌, ◌<◌, ◌≤◌, ◌⊎◌, inl, inr, List, take, Some, Bool, true, false, cond, refl, sym, ap, subst, ◌∙◌, arith}
-use Rattle.std.proofs.lemmas.Bool.{cases_lt, true≢false}
-use Rattle.std.proofs.lemmas.Option.{none-some, same_Some}
+use Rattle.std.proofs.Common.{ℕ, zero, suc, ◌≡◌, ◌+◌, ◌-◌, ◌<◌, ◌≤◌, inl, inr, List, take, Some, Bool, true, false, cond, refl, sym, ap, subst, ◌∙◌, arith}
+use Rattle.std.proofs.lemmas.Bool.{cases_lt}
+use Rattle.std.proofs.lemmas.Option.{same_Some}
 use Rattle.step_trace.specs.declared.steps.Act.{Act}
 use Rattle.step_trace.specs.declared.steps.Act.TheVariants.{Receive}
 use Rattle.step_trace.specs.declared.steps.Step.{Step}
 use Rattle.step_trace.specs.Configurations.{Setup}
-use Rattle.step_trace.specs.Traces.{Recorded, step_at, IsStepOf}
+use Rattle.step_trace.specs.Traces.{Recorded, step_at}
 use Rattle.step_trace.specs.Ticks.{tick_of, IsTimed}
 use Rattle.step_trace.proofs.TickOrder.{own_ticks_rise}
-use Rattle.step_buffers.specs.HeardTables.{round_at, act_ends}
+use Rattle.step_buffers.specs.HeardTables.{act_ends}
 use Rattle.step_buffers.specs.NextSteps.{receiving}
 use Rattle.deciding_runs.specs.Paces.{Paced, heard_ids, after_receive}
 use Rattle.patience_laws.specs.PacedRuns.{pace_after}
-use Rattle.patience_laws.proofs.PacedSteps.{rounds_after, round-here, IsReceived, step-cases}
+use Rattle.patience_laws.proofs.PacedSteps.{rounds_after, IsReceived, step-cases}
 use Rattle.patience_laws.proofs.KnownRounds.{rounds-step, rounds-up}
 
 -- a step of p that ends its round of this number
@@ -25,14 +25,14 @@ pub record IsEndOf (steps : List Step) (p round : ℕ) : Type 0 where
   pub after : rounds_after steps p (suc place) ≡ round
 
 module _ (c : Setup) (patience : ℕ) (steps : List Step) (p : ℕ) where
-  received-end : (n : ℕ) (r : IsReceived c patience steps p n) → r.ends ≡ true → IsEndOf steps p (rounds_after steps p n + 1)
-  received-end n r e = record {
-    place = n;
-    ids = r.ids;
-    step = r.step ∙ ap (λ b. Some (record { proc = p; act = Receive b r.ids })) e;
-    round_is = refl;
-    after = r.round ∙ ap (λ b. rounds_after steps p n + cond b 1 0) e;
-  }
+  -- a step that ends a round begins the next one
+  pub rounds-ended : (n : ℕ) (ids : List ℕ) → step_at steps (suc n) ≡ Some (record { proc = p; act = Receive true ids }) → rounds_after steps p (suc n) ≡ rounds_after steps p n + 1
+  rounds-ended n ids at = elim (step-cases c patience steps p n) [
+    | inl still ↦ absurd (still.none true ids at)
+    | inr r ↦ (
+      let same = same_Some (receiving p r.ends r.ids) (receiving p true ids) (sym r.step ∙ at) in
+      r.round ∙ ap (λ (x : Step). rounds_after steps p n + cond (act_ends x.act) 1 0) same)
+  ]
 
   -- each round that was passed has such a step
   pub end-of : (round n : ℕ) → 1 ≤ round → round ≤ rounds_after steps p n → (e : IsEndOf steps p round) × (e.place < n)

@@ -2,3 +2,4 @@ pub mod PacedRuns
 pub mod Silence
 pub mod RoundTicks
 pub mod LeastRounds
+pub mod Meetings

@@ -2,21 +2,25 @@
 
 ghost use Rattle.std.specs.Prelude.{ℕ, ◌≡◌, ◌+◌, ◌-◌, ◌*◌, ◌<◌, ◌≤◌, List, length, true, IsTrue};
 ghost use Rattle.step_trace.specs.declared.steps.Step.{Step as TraceStep};
-ghost use Rattle.step_trace.specs.Configurations.{Setup, IsProc};
+ghost use Rattle.step_trace.specs.Configurations.{Setup, IsProc, IsSetup};
 ghost use Rattle.step_trace.specs.Processors.{has_proc, IsWithin};
 ghost use Rattle.step_trace.specs.Traces.{Recorded, IsReceiveOf, IsWellFormed};
 ghost use Rattle.step_trace.specs.Ticks.{IsTimed, IsTrace, tick_of};
 ghost use Rattle.step_trace.specs.Bounds.{DeltaHolds, PhiHolds};
 ghost use Rattle.lock_phases.specs.Hearing.{number_of};
 ghost use Rattle.lock_phases.specs.Rounds.{part_of};
-ghost use Rattle.step_buffers.specs.HeardTables.{round_at};
-ghost use Rattle.step_buffers.specs.Runs.{IsRun, IsSend};
+ghost use Rattle.round_model.specs.BoundedDecision.{deciding_round, HaveDecided};
+ghost use Rattle.step_buffers.specs.HeardTables.{passed, round_at};
+ghost use Rattle.step_buffers.specs.Runs.{IsRun, IsSend, node_at};
 ghost use Rattle.deciding_runs.specs.HeardOut.{HasHeardOf, IsTakenBefore};
 ghost use Rattle.deciding_runs.specs.Peers.{is_heard_of};
 ghost use Rattle.patience_laws.specs.PacedRuns.{StepsByPace, peer_after};
-ghost use Rattle.patience_laws.specs.LeastRounds.{AreInRoundFrom, AreInTouch, KeepsBounds, OweAcknowledgements};
+ghost use Rattle.patience_laws.specs.LeastRounds.{AreInRoundFrom, AreInTouch, IsHeardOutByAll, KeepsBounds, OweAcknowledgements};
+ghost use Rattle.patience_laws.specs.Meetings.{ComeTogether, NobodyIsBehind};
 ghost use Rattle.patience_laws.specs.RoundTicks.{EachEnds, HasHeardFrom, HearsMembers, IsInRoundFrom, sends_to};
 ghost use Rattle.patience_laws.specs.Silence.{Suspects, TakesOf, WasSilent};
+
+use deciding_runs::heard_out_laws;
 
 /// What a pace knows of a processor is what was taken of it (own).
 ///
@@ -106,3 +110,28 @@ pub fn least_laws()
         → OweAcknowledgements set trace (round + 2)
         → AreInRoundFrom set trace (round + 4) (x + (4 * d + (2 * trace.config.n + 9) * f)) }
 {}
+
+/// Members that come to a round together, and have the patience for it, decide (own).
+///
+/// A theorem, as `knowledge_laws` is. At least N - t members step by the pace with a patience of at least 5 d + (3 N + 10) f
+/// Receives, come to the first round of a phase within d + (N + 1) f ticks of one another, suspect no member and
+/// suspect all others; what they say from then on comes under the bounds and is taken in order, and none is left
+/// behind. Then no patience ends a round of theirs: each round is ended when all members were heard that may be heard in it
+/// (`heard_out`). A phase takes 4 d + (2 N + 9) f ticks (`phases`). Who has passed the deciding round has decided (`decided`).
+pub fn meeting_laws()
+    ensures heard_out { (patience set : ℕ) (trace : Recorded) (g d f round y r : ℕ) → KeepsBounds patience set trace g d f
+        → ComeTogether patience set trace g d f round y → NobodyIsBehind set trace round
+        → 5 * d + (3 * trace.config.n + 10) * f ≤ patience → round ≤ r
+        → IsHeardOutByAll set trace r }
+    ensures phases { (patience set : ℕ) (trace : Recorded) (g d f round y phases : ℕ) → KeepsBounds patience set trace g d f
+        → ComeTogether patience set trace g d f round y → NobodyIsBehind set trace round
+        → 5 * d + (3 * trace.config.n + 10) * f ≤ patience
+        → AreInRoundFrom set trace (round + 4 * phases) (y + (d + (trace.config.n + 1) * f) + phases * (4 * d + (2 * trace.config.n + 9) * f)) }
+    ensures decided { (patience set : ℕ) (trace : Recorded) (g d f round y : ℕ) → IsSetup trace.config
+        → KeepsBounds patience set trace g d f → ComeTogether patience set trace g d f round y → NobodyIsBehind set trace round
+        → 5 * d + (3 * trace.config.n + 10) * f ≤ patience
+        → ((p : ℕ) → IsTrue (has_proc set p) → deciding_round trace.config round ≤ passed trace.steps p)
+        → HaveDecided set (node_at trace.config trace.steps) }
+{
+    heard_out_laws();
+}

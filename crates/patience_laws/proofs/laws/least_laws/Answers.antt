@@ -1,6 +1,4 @@
 use Rattle.patience_laws.proofs.LeastRounds.{listing-ends, locking-ends, acknowledging-ends, releasing-ends, phase-ends}
-use Rattle.patience_laws.proofs.PatienceTicks.{patience-lasts}
-use Rattle.patience_laws.proofs.OwedAcknowledgements.{owe-all}
 use Rattle.patience_laws.proofs.laws.least_laws.Goals as goal
 
 pub returns-clause-listing : goal.returns-clause-listing
