@@ -1,13 +1,15 @@
 -- Members that come to a round together hear out each round from then on.
-use Rattle.std.proofs.Common.{ℕ, zero, suc, ◌≡◌, ◌≢◌, ◌+◌, ◌-◌, ◌%◌, ◌*◌, ◌<◌, ◌≤◌, ◌⊎◌, inl, inr, List, length, Some, true, refl, sym, ap, subst, ◌∙◌, arith}
+use Rattle.std.proofs.Common.{ℕ, zero, suc, ◌≡◌, ◌≢◌, ◌+◌, ◌-◌, ◌%◌, ◌*◌, ◌<◌, ◌≤◌, ◌⊎◌, inl, inr, List, length, Some, true, refl, sym, ap, subst, ◌∙◌, arith, Bool, false}
 use Rattle.std.proofs.lemmas.Bool.{cases_lt, cases_eq}
 use Rattle.std.proofs.lemmas.Option.{none-some}
+use Rattle.step_trace.specs.declared.steps.Act.{Act}
 use Rattle.step_trace.specs.declared.steps.Act.TheVariants.{Send, Receive}
 use Rattle.step_trace.specs.declared.steps.Step.{Step}
 use Rattle.step_trace.specs.Configurations.{Setup, IsProc}
 use Rattle.step_trace.specs.Processors.{has_proc}
 use Rattle.step_trace.specs.Traces.{Recorded, step_at}
 use Rattle.step_trace.specs.Ticks.{tick_of}
+use Rattle.step_trace.proofs.StepPositions.{step_at_within}
 use Rattle.step_trace.proofs.TickOrder.{number_below, ticks_rise}
 use Rattle.lock_phases.specs.Rounds.{part_of, Releasing}
 use Rattle.lock_phases.proofs.RoundLaws.{part_at-releasing}
@@ -17,11 +19,14 @@ use Rattle.step_buffers.specs.Runs.{node_before}
 use Rattle.deciding_runs.specs.Audible.{may_hear}
 use Rattle.std.proofs.Math.Seq.{take-length}
 use Rattle.deciding_runs.specs.HeardOut.{HasHeardOf, HearOut, IsHeardOut}
+use Rattle.round_model.specs.BoundedDecision.{deciding_round}
+use Rattle.deciding_runs.specs.Together.{HasPassedBy}
+use Rattle.deciding_runs.proofs.CountedRounds.{round_at-passed}
 use Rattle.patience_laws.specs.PacedRuns.{pace_after}
 use Rattle.patience_laws.specs.Silence.{Suspects, WasSilent}
 use Rattle.patience_laws.specs.RoundTicks.{IsInRoundFrom, may_hear_of}
 use Rattle.patience_laws.specs.LeastRounds.{KeepsBounds, AreInRoundFrom, OweAcknowledgements, IsHeardOutByAll}
-use Rattle.patience_laws.specs.Meetings.{ComesTo, ComeTogether, NobodyIsBehind}
+use Rattle.patience_laws.specs.Meetings.{ComesTo, ComeTogether}
 use Rattle.patience_laws.proofs.PacedSteps.{rounds_after, round-here}
 use Rattle.patience_laws.proofs.KnownRounds.{rounds-up}
 use Rattle.patience_laws.proofs.SilentPhases.{suspected-silent, silent-suspected}
@@ -158,17 +163,18 @@ module _ (patience set : ℕ) (trace : Recorded) (g d f : ℕ) (keeps : KeepsBou
       next-phase p m = sooner p (fr + 1 + 1 + 1 + 1) (x4 + trace.config.n * f + d + f) (x + t) (omega arith)
           (releasing-ends patience set trace g d f keeps (fr + 1 + 1 + 1) x4 (touch-later patience set trace g round y (fr + 1 + 1 + 1) x4 (omega arith) (omega arith) come.touch) fourth (omega arith) part4 p m)
 
-  -- a member suspects no member, as long as the rounds that it passed were heard out
-  loud-on : (p q n : ℕ) → has_proc set p ≡ true → has_proc set q ≡ true → round ≤ rounds_after trace.steps p n + 1 → HeardBefore (rounds_after trace.steps p n + 1) → ¬ Suspects c patience trace.steps p q n
+  -- p heard of q in each lock-release round that it ended so far
+  abbrev HeardLast : ℕ → ℕ → ℕ → Type 0
+  HeardLast p q n = (s k : ℕ) (ids : List ℕ) → round ≤ s → part_of s ≡ 4 → k ≤ n → step_at trace.steps k ≡ Some (record { proc = p; act = Receive true ids }) → round_at trace.steps p k ≡ s
+      → HasHeardOf trace.steps p q s k
+
+  -- then it doesn't suspect it
+  loud-on : (p q n : ℕ) → has_proc set p ≡ true → has_proc set q ≡ true → round ≤ rounds_after trace.steps p n + 1 → HeardLast p q n → ¬ Suspects c patience trace.steps p q n
   loud-on p q n mp mq low heard s = go (suspected-silent c patience trace.steps p q keeps.run.well_formed (proc q mq) n s)
     where
       go : WasSilent trace.steps p q n → ⊥
       go was = elim (cases_lt was.round round) [
-        | inr late ↦ (
-          let by = was.by in
-          let is = was.round_is in
-          let before = rounds-up c patience trace.steps p was.place n was.by in
-          was.behind (heard was.round late (passed-by was) p q was.place was.ids mp mq was.step was.round_is (may-all c trace.steps p was.round q was.last)))
+        | inr late ↦ was.behind (heard was.round was.place was.ids late was.last was.by was.step was.round_is)
         | inl early ↦ (
           let low_round = come.later in
           let e = end-of c patience trace.steps p (round - 1) n (omega arith) (omega arith) in
@@ -186,19 +192,7 @@ module _ (patience set : ℕ) (trace : Recorded) (g d f : ℕ) (keeps : KeepsBou
           })))
       ]
         where
-          -- the silent round was passed by then
-          passed-by : (was : WasSilent trace.steps p q n) → was.round < rounds_after trace.steps p n + 1
-          passed-by was = of was.place was.step was.round_is was.by
-            where
-              of : (k : ℕ) → step_at trace.steps k ≡ Some (record { proc = p; act = Receive true was.ids }) → round_at trace.steps p k ≡ was.round → k ≤ n → was.round < rounds_after trace.steps p n + 1
-              of zero at here l = absurd (none-some _ at)
-              of (suc k) at here l =
-                  let after = rounds-ended c patience trace.steps p k was.ids at in
-                  let is = round-here trace.steps p k in
-                  let up = rounds-up c patience trace.steps p (suc k) n l in
-                  omega arith
-
-          -- and before p came to the round
+          -- the silent round was over before p came to the round
           came-before : (was : WasSilent trace.steps p q n) → was.round < round → (e : IsEndOf trace.steps p (round - 1)) → was.place ≤ suc e.place
           came-before was early e = elim (cases_lt (suc e.place) was.place) [
             | inr l ↦ l
@@ -213,12 +207,12 @@ module _ (patience set : ℕ) (trace : Recorded) (g d f : ℕ) (keeps : KeepsBou
               omega arith)
           ]
 
-  -- A round is over for a member so many ticks after it came to the phase, if those before were heard out.
-  over-by : (r : ℕ) → round ≤ r → HeardBefore r → (p n : ℕ) → has_proc set p ≡ true → rounds_after trace.steps p n + 1 ≡ r → (fr : ℕ) → part_of fr ≡ 1 → fr ≤ r → r ≤ fr + 3
-      → (e : IsEndOf trace.steps p (fr - 1)) → IsInRoundFrom trace p (r + 1) (tick_of trace (suc e.place) + t4 + t)
-  over-by r low heard p n m here fr part first last e =
+  -- A round is over so many ticks after one member came to the phase, if those before were heard out.
+  over-by : (r : ℕ) → round ≤ r → HeardBefore r → (fr : ℕ) → part_of fr ≡ 1 → fr ≤ r → r ≤ fr + 3
+      → (one : ℕ) → has_proc set one ≡ true → (e : IsEndOf trace.steps one (fr - 1)) → AreInRoundFrom set trace (r + 1) (tick_of trace (suc e.place) + t4 + t)
+  over-by r low heard fr part first last one mo e p m =
       let begins : round ≤ fr = phase-low in
-      let start = all-there fr begins part (λ s a b. heard s a (omega arith)) p m e in
+      let start = all-there fr begins part (λ s a b. heard s a (omega arith)) one mo e in
       let x = tick_of trace (suc e.place) + t4 in
       let since : y ≤ x = (let a = start.0 in omega arith) in
       of x begins since start.1 (cases_eq r fr) (cases_eq r (fr + 1)) (cases_eq r (fr + 1 + 1))
@@ -235,59 +229,210 @@ module _ (patience set : ℕ) (trace : Recorded) (g d f : ℕ) (keeps : KeepsBou
           let z : r ≡ fr + 1 + 1 + 1 = omega arith in
           subst (λ s. IsInRoundFrom trace p (s + 1) (x + t)) (sym z) (next-phase fr x begins since part there (heard (fr + 1) (omega arith) (omega arith)) p m)
 
-  module _ (enough : 5 * d + (3 * trace.config.n + 10) * f ≤ patience) (near : NobodyIsBehind set trace round) where
+  module _ (enough : 5 * d + (3 * trace.config.n + 10) * f ≤ patience) where
     lasting : t4 + t ≤ patience
     lasting =
         let e : (3 * trace.config.n + 10) * f ≡ 3 * (trace.config.n * f) + 10 * f = grind arith in
         let most = enough in
         omega arith
 
-    -- no patience ends a round
-    impatient : (r : ℕ) → round ≤ r → HeardBefore r → (p n : ℕ) (ids : List ℕ) → has_proc set p ≡ true → step_at trace.steps (suc n) ≡ Some (record { proc = p; act = Receive true ids })
-        → rounds_after trace.steps p n + 1 ≡ r → (pace_after c patience trace.steps p n).left ≤ 1 → (fr : ℕ) → part_of fr ≡ 1 → fr ≤ r → r ≤ fr + 3 → ⊥
-    impatient r low heard p n ids m at is out fr part first last =
+    module _ (r : ℕ) (low : round ≤ r) (heard : HeardBefore r) (fr : ℕ) (part : part_of fr ≡ 1) (first : fr ≤ r) (last : r ≤ fr + 3) where
+      -- No patience ends the round, nor a later one before all members have ended it.
+      impatient : (q n m : ℕ) (ids : List ℕ) → has_proc set q ≡ true → step_at trace.steps (suc n) ≡ Some (record { proc = q; act = Receive true ids })
+          → rounds_after trace.steps q n + 1 ≡ m → r ≤ m → (pace_after c patience trace.steps q n).left ≤ 1
+          → (p k : ℕ) (act : Act) → has_proc set p ≡ true → step_at trace.steps k ≡ Some (record { proc = p; act = act }) → suc n ≤ k → r < round_at trace.steps p k
+      impatient q n m ids mq at is up out p k act mp there l =
+          let low_round = come.later in
+          let begins = phase-low in
+          let begin = end-of c patience trace.steps q (fr - 1) n (omega arith) (omega arith) in
+          let end = end-of c patience trace.steps q (m - 1) n (omega arith) (omega arith) in
+          let rise = end-later q (fr - 1) (m - 1) begin.0 end.0 (omega arith) in
+          let ticks = patience-lasts trace patience q keeps.trace_is.time (m - 1) end.0 n (Receive true ids) end.1 (omega arith) at out in
+          let most = lasting in
+          let later = ticks_rise trace keeps.trace_is.time (suc n) k (record { proc = q; act = Receive true ids }) (record { proc = p; act = act }) at there l in
+          let over = over-by r low heard fr part first last q mq begin.0 p mp k (act, there) (omega arith) in
+          omega arith
+        where
+          phase-low : round ≤ fr
+          phase-low = let p1 = come.part in omega arith
+
+    -- from when p comes to the round, time is past y
+    since-coming : (p n : ℕ) (act : Act) → has_proc set p ≡ true → step_at trace.steps (suc n) ≡ Some (record { proc = p; act = act }) → round ≤ rounds_after trace.steps p n + 1 → y ≤ tick_of trace (suc n)
+    since-coming p n act m at low =
         let low_round = come.later in
-        let begins = phase-low in
-        let begin = end-of c patience trace.steps p (fr - 1) n (omega arith) (omega arith) in
-        let end = end-of c patience trace.steps p (r - 1) n (omega arith) (omega arith) in
-        let rise = end-later p (fr - 1) (r - 1) begin.0 end.0 (omega arith) in
-        let ticks = patience-lasts trace patience p keeps.trace_is.time (r - 1) end.0 n (Receive true ids) end.1 (omega arith) at out in
-        let most = lasting in
-        let over = over-by r low heard p n m is fr part first last begin.0 (suc n) (Receive true ids, at) (omega arith) in
-        let here = round-here trace.steps p n in
+        let e = end-of c patience trace.steps p (round - 1) n (omega arith) (omega arith) in
+        let inside = e.1 in
+        let first = come.first p (suc e.0.place) m (comes p e.0) in
+        let rise = ticks_rise trace keeps.trace_is.time (suc e.0.place) (suc n) (record { proc = p; act = Receive true e.0.ids }) (record { proc = p; act = act }) e.0.step at (omega arith) in
         omega arith
+
+    -- of who is suspected nothing was heard of a later round
+    suspect-unheard : (p q n s : ℕ) → IsProc c q → rounds_after trace.steps p n ≤ s → Suspects c patience trace.steps p q n → HasHeardOf trace.steps p q s n → ⊥
+    suspect-unheard p q n s is late suspects h = go (suspected-silent c patience trace.steps p q keeps.run.well_formed is n suspects)
       where
-        phase-low : round ≤ fr
-        phase-low = let p1 = come.part in omega arith
+        go : WasSilent trace.steps p q n → ⊥
+        go was = elim (cases_lt was.place h.place) [
+          | inl after ↦ was.nothing h.place (let up = round_at-up c patience trace.steps p was.place h.place (omega arith) in let e = was.round_is in omega arith) h.by
+            (record { message = h.message; sent = h.sent; take = h.take })
+          | inr before ↦ was.behind (record { message = h.message; sent = h.sent; later = passed-by was.place was.step was.round_is was.by; place = h.place; take = h.take; by = before })
+        ]
+          where
+            passed-by : (k : ℕ) → step_at trace.steps k ≡ Some (record { proc = p; act = Receive true was.ids }) → round_at trace.steps p k ≡ was.round → k ≤ n → was.round ≤ round_at trace.steps q h.message
+            passed-by zero at here l = absurd (none-some _ at)
+            passed-by (suc k) at here l =
+                let after = rounds-ended c patience trace.steps p k was.ids at in
+                let e = round-here trace.steps p k in
+                let up = rounds-up c patience trace.steps p (suc k) n l in
+                let later = h.later in
+                omega arith
+
+    -- whom p may hear at a step, by its round
+    may-at : (p q n m : ℕ) → rounds_after trace.steps p n + 1 ≡ m → may_hear_of c trace.steps p m q ≡ true → may_hear c (node_before c trace.steps p (suc n)) (rounds_after trace.steps p n + 1) p q ≡ true
+    may-at p q n m is may =
+        let here = round-here trace.steps p n in
+        let before_is : passed (before trace.steps (suc n)) p ≡ m - 1 = omega arith in
+        rw (is, before_is) may
+
+    -- a message that was taken was sent before
+    sent-earlier : (p q s n : ℕ) (h : HasHeardOf trace.steps p q s n) → h.message < n
+    sent-earlier p q s n h =
+        let earlier = (keeps.run.well_formed.earlier h.place h.message (record { proc = p; act = Receive h.take.ends h.take.ids }) h.take.step h.take.taken).0 in
+        let by = h.by in
+        omega arith
+
+    -- the members heard one another in the round when they ended it, up to step n
+    abbrev HeardTo : ℕ → ℕ → Type 0
+    HeardTo r n = (p q k : ℕ) (ids : List ℕ) → has_proc set p ≡ true → has_proc set q ≡ true → k ≤ n → step_at trace.steps k ≡ Some (record { proc = p; act = Receive true ids })
+        → round_at trace.steps p k ≡ r → may_hear_of c trace.steps p r q ≡ true → HasHeardOf trace.steps p q r k
+
+    -- then each suspects none in a round before the next but one lock-release round
+    loud-to : (r n m : ℕ) → HeardBefore r → HeardTo r n → part_of m ≡ 4 → m ≤ r + 4 → round ≤ m → (q p k : ℕ) → has_proc set q ≡ true → has_proc set p ≡ true → k ≤ n → rounds_after trace.steps q k + 1 ≡ m
+        → ¬ Suspects c patience trace.steps q p k
+    loud-to r n m heard to mpart near low q p k mq mp l is = loud-on q p k mq mp (omega arith) last
+      where
+        last : HeardLast q p k
+        last s zero ids up part by at here = absurd (none-some _ at)
+        last s (suc i) ids up part by at here = elim (cases_lt s r) [
+          | inl before ↦ heard s up before q p (suc i) ids mq mp at here (may-all c trace.steps q s p part)
+          | inr not_before ↦ (
+            let after = rounds-ended c patience trace.steps q i ids at in
+            let e = round-here trace.steps q i in
+            let rise = rounds-up c patience trace.steps q (suc i) k by in
+            let same : s ≡ r = omega arith in
+            subst (λ x. HasHeardOf trace.steps q p x (suc i)) (sym same)
+            (to q p (suc i) ids mq mp (omega arith) at (here ∙ same) (subst (λ x. may_hear_of c trace.steps q x p ≡ true) same (may-all c trace.steps q s p part))))
+        ]
+
+    module _ (r : ℕ) (low : round ≤ r) (heard : HeardBefore r) (fr : ℕ) (part : part_of fr ≡ 1) (first : fr ≤ r) (last : r ≤ fr + 3)
+        (p n : ℕ) (act : Act) (mp : has_proc set p ≡ true) (at : step_at trace.steps (suc n) ≡ Some (record { proc = p; act = act })) (here : rounds_after trace.steps p n + 1 ≡ r) (to : HeardTo r n)
+        (m : ℕ) (mpart : part_of m ≡ 4) (later : r < m) (near : m ≤ r + 4) where
+      -- who was heard to be ahead isn't
+      unheard-of : (q z k s : ℕ) (ids : List ℕ) → has_proc set q ≡ true → has_proc set z ≡ false → IsProc c z → step_at trace.steps (suc k) ≡ Some (record { proc = q; act = Receive true ids }) → round ≤ rounds_after trace.steps q k + 1
+          → rounds_after trace.steps q k + 1 ≤ s → HasHeardOf trace.steps q z s (suc k) → ⊥
+      unheard-of q z k s ids mq mz is there up far h =
+          let silent = come.touch.silent q z mq is mz (suc k) (record { ids = ids; ends = true; step = there }) (since-coming q k (Receive true ids) mq there up) in
+          let ended = rounds-ended c patience trace.steps q k ids there in
+          suspect-unheard q z (suc k) s is (omega arith) silent h
+
+      -- no member ends round m before this step of p
+      nobody-ended : (bound k q : ℕ) (ids : List ℕ) → k < bound → suc k ≤ n → has_proc set q ≡ true → step_at trace.steps (suc k) ≡ Some (record { proc = q; act = Receive true ids })
+          → rounds_after trace.steps q k + 1 ≡ m → ⊥
+      nobody-ended zero k q ids b l mq there is = absurd (omega arith)
+      nobody-ended (suc bound) k q ids b l mq there is = go (nobody-ended bound) (why-ends c patience trace.steps q keeps.run.well_formed k ids true there (keeps.paced q mq) refl)
+        where
+          heard_p : HasHeardOf trace.steps q p (rounds_after trace.steps q k + 1) (suc k) → ⊥
+          heard_p h =
+              let earlier = sent-earlier q p (rounds_after trace.steps q k + 1) (suc k) h in
+              let up = round_at-up c patience trace.steps p h.message (suc n) (omega arith) in
+              let e = round-here trace.steps p n in
+              let ahead = h.later in
+              omega arith
+
+          go : ((k q : ℕ) (ids : List ℕ) → k < bound → suc k ≤ n → has_proc set q ≡ true → step_at trace.steps (suc k) ≡ Some (record { proc = q; act = Receive true ids }) → rounds_after trace.steps q k + 1 ≡ m → ⊥)
+              → Why c patience trace.steps q keeps.run.well_formed k ids true there (keeps.paced q mq) → ⊥
+          go before (Complete done) =
+              heard_p (complete-heard c patience trace.steps q keeps.run.well_formed k ids true there (keeps.paced q mq) p (proc p mp) done (may-at q p k m is (may-all c trace.steps q m p mpart))
+              (loud-to r n m heard to mpart near (omega arith) q p k mq mp (omega arith) is))
+          go before (Behind ahead) = of (has_proc set ahead.proc) refl
+            where
+              of : (b : Bool) → has_proc set ahead.proc ≡ b → ⊥
+              of false e = unheard-of q ahead.proc k (rounds_after trace.steps q k + 1 + 5) ids mq e ahead.is there (omega arith) (omega arith) ahead.heard_of
+              of true e =
+                  let h = ahead.heard_of in
+                  let earlier = sent-earlier q ahead.proc (rounds_after trace.steps q k + 1 + 5) (suc k) h in
+                  let far = h.later in
+                  let end = end-of c patience trace.steps ahead.proc m (h.message - 1) (omega arith) (omega arith) in
+                  let inside = end.1 in
+                  before end.0.place ahead.proc end.0.ids (omega arith) (omega arith) e end.0.step end.0.round_is
+          go before (Impatient out) =
+              let over = impatient r low heard fr part first last q k m ids mq there is (omega arith) out p (suc n) act mp at (omega arith) in
+              let e = round-here trace.steps p n in
+              omega arith
+
+      -- so p is not left behind
+      pub nobody-ahead : (z : ℕ) (ids : List ℕ) → IsProc c z → act ≡ Receive true ids → HasHeardOf trace.steps p z (r + 5) (suc n) → ⊥
+      nobody-ahead z ids is e h = of (has_proc set z) refl
+        where
+          of : (b : Bool) → has_proc set z ≡ b → ⊥
+          of false f = unheard-of p z n (r + 5) ids mp f is (at ∙ ap (λ a. Some (record { proc = p; act = a })) e) (omega arith) (omega arith) h
+          of true f =
+              let earlier = sent-earlier p z (r + 5) (suc n) h in
+              let far = h.later in
+              let end = end-of c patience trace.steps z m (h.message - 1) (omega arith) (omega arith) in
+              let inside = end.1 in
+              nobody-ended (suc end.0.place) end.0.place z end.0.ids (omega arith) (omega arith) f end.0.step end.0.round_is
 
     -- A round is heard out, if those before were.
-    heard-next : (r : ℕ) → round ≤ r → HeardBefore r → IsHeardOutByAll set trace r
-    heard-next r low heard p q zero ids mp mq at here may = absurd (none-some _ at)
-    heard-next r low heard p q (suc n) ids mp mq at here may = go (why-ends c patience trace.steps p keeps.run.well_formed n ids true at (keeps.paced p mp) refl)
+    heard-step : (r : ℕ) → round ≤ r → HeardBefore r → (n : ℕ) → HeardTo r n → (p q : ℕ) (ids : List ℕ) → has_proc set p ≡ true → has_proc set q ≡ true
+        → step_at trace.steps (suc n) ≡ Some (record { proc = p; act = Receive true ids }) → round_at trace.steps p (suc n) ≡ r → may_hear_of c trace.steps p r q ≡ true → HasHeardOf trace.steps p q r (suc n)
+    heard-step r low heard n to p q ids mp mq at here may = go (why-ends c patience trace.steps p keeps.run.well_formed n ids true at (keeps.paced p mp) refl)
       where
         is : rounds_after trace.steps p n + 1 ≡ r
         is = sym (round-here trace.steps p n) ∙ here
 
-        before_is : passed (before trace.steps (suc n)) p ≡ r - 1
-        before_is = omega arith
+        last : HeardLast p q n
+        last s zero ends up part by there is_at = absurd (none-some _ there)
+        last s (suc i) ends up part by there is_at =
+            let after = rounds-ended c patience trace.steps p i ends there in
+            let e = round-here trace.steps p i in
+            let f = is in
+            let rise = rounds-up c patience trace.steps p (suc i) n by in
+            heard s up (omega arith) p q (suc i) ends mp mq there is_at (may-all c trace.steps p s q part)
 
-        may_here : may_hear c (node_before c trace.steps p (suc n)) (rounds_after trace.steps p n + 1) p q ≡ true
-        may_here = rw (is, before_is) may
+        -- the phase of the round, and the lock-release round after it
+        ahead-of-none : (z : ℕ) → IsProc c z → HasHeardOf trace.steps p z (r + 5) (suc n) → ⊥
+        ahead-of-none z proper h =
+            let low_round = come.later in
+            elim (cases_eq ((r - 1) % 4) 3) [
+            | inl at_end ↦ nobody-ahead r low heard (r - (r - 1) % 4) (omega arith) (omega arith) (omega arith) p n (Receive true ids) mp at is to (r + 4) (omega arith) (omega arith) (omega arith) z ids proper refl h
+            | inr inside ↦ nobody-ahead r low heard (r - (r - 1) % 4) (omega arith) (omega arith) (omega arith) p n (Receive true ids) mp at is to (r - (r - 1) % 4 + 3) (omega arith) (omega arith) (omega arith) z ids proper refl h
+            ]
 
-        -- the phase of the round
         impossible : (pace_after c patience trace.steps p n).left ≤ 1 → ⊥
         impossible out =
             let low_round = come.later in
-            impatient r low heard p n ids mp at is out (r - (r - 1) % 4) (omega arith) (omega arith) (omega arith)
+            let over = impatient r low heard (r - (r - 1) % 4) (omega arith) (omega arith) (omega arith) p n r ids mp at is (omega arith) out p (suc n) (Receive true ids) mp at (omega arith) in
+            omega arith
 
         go : Why c patience trace.steps p keeps.run.well_formed n ids true at (keeps.paced p mp) → HasHeardOf trace.steps p q r (suc n)
         go (Complete done) =
             subst (λ s. HasHeardOf trace.steps p q s (suc n)) is
-            (complete-heard c patience trace.steps p keeps.run.well_formed n ids true at (keeps.paced p mp) q (proc q mq) done may_here
-            (loud-on p q n mp mq (let e = is in omega arith) (subst HeardBefore (sym is) heard)))
-        go (Behind ahead) = absurd (near p ahead.proc (suc n) mp ahead.is (record { ids = ids; ends = true; step = at }) (let e = here in omega arith)
-            (subst (λ s. HasHeardOf trace.steps p ahead.proc (s + 5) (suc n)) (sym (round-here trace.steps p n)) ahead.heard_of))
+            (complete-heard c patience trace.steps p keeps.run.well_formed n ids true at (keeps.paced p mp) q (proc q mq) done (may-at p q n r is may)
+            (loud-on p q n mp mq (let e = is in omega arith) last))
+        go (Behind ahead) = absurd (ahead-of-none ahead.proc ahead.is (subst (λ s. HasHeardOf trace.steps p ahead.proc (s + 5) (suc n)) is ahead.heard_of))
         go (Impatient out) = absurd (impossible out)
+
+    heard-to : (r : ℕ) → round ≤ r → HeardBefore r → (n : ℕ) → HeardTo r n
+    heard-to r low heard zero p q k ids mp mq l at here may = absurd (let a = (step_at_within trace.steps k _ at).0 in omega arith)
+    heard-to r low heard (suc n) p q k ids mp mq l at here may = go (heard-to r low heard n) (cases_eq k (suc n))
+      where
+        go : HeardTo r n → (k ≡ suc n) ⊎ (k ≢ suc n) → HasHeardOf trace.steps p q r k
+        go to (inl e) = subst (HasHeardOf trace.steps p q r) (sym e)
+            (heard-step r low heard n to p q ids mp mq (subst (λ i. step_at trace.steps i ≡ Some (record { proc = p; act = Receive true ids })) e at) (sym (ap (round_at trace.steps p) e) ∙ here) may)
+        go to (inr other) = to p q k ids mp mq (omega arith) at here may
+
+    heard-next : (r : ℕ) → round ≤ r → HeardBefore r → IsHeardOutByAll set trace r
+    heard-next r low heard p q k ids mp mq at here may = heard-to r low heard k p q k ids mp mq (omega arith) at here may
 
     heard-up : (r : ℕ) → HeardBefore r
     heard-up zero s low l = absurd (omega arith)
@@ -338,3 +483,35 @@ module _ (patience set : ℕ) (trace : Recorded) (g d f : ℕ) (keeps : KeepsBou
           where
             before_is : passed (before trace.steps (suc e.place)) p ≡ r - 1
             before_is = let is = end-round p r e in omega arith
+
+    -- Each member passes the deciding round in time.
+    pub passes-by : (p : ℕ) → has_proc set p ≡ true → y + t4 + (trace.config.n + 1) * t + f ≤ trace.last + 1
+        → HasPassedBy trace p (deciding_round c round) (y + t4 + (trace.config.n + 1) * t + f)
+    passes-by p m enough_ticks =
+        let since = come.touch.since in
+        let s = keeps.phi.each (y + t4 + (trace.config.n + 1) * t) (omega arith) enough_ticks p m in
+        let from = s.from in
+        let until = s.until in
+        let tick = s.step.tick in
+        of s.step.place s.step.step.0 s.step.step.1 (phases-on (trace.config.n + 1) p m s.step.place s.step.step (omega arith)) (omega arith)
+      where
+        deciding : deciding_round c round + 2 ≡ round + 4 * (trace.config.n + 1)
+        deciding = let first_part = come.part in omega arith
+
+        of : (k : ℕ) (act : Act) → step_at trace.steps k ≡ Some (record { proc = p; act = act }) → round + 4 * (trace.config.n + 1) ≤ round_at trace.steps p k → tick_of trace k ≤ y + t4 + (trace.config.n + 1) * t + f
+            → HasPassedBy trace p (deciding_round c round) (y + t4 + (trace.config.n + 1) * t + f)
+        of zero act at up by = absurd (none-some _ at)
+        of (suc k) act at up by =
+            let is = round-here trace.steps p k in
+            let d_is = deciding in
+            let e = end-of c patience trace.steps p (deciding_round c round) k (omega arith) (omega arith) in
+            let inside = e.1 in
+            let rise = ticks_rise trace keeps.trace_is.time (suc e.0.place) (suc k) (record { proc = p; act = Receive true e.0.ids }) (record { proc = p; act = act }) e.0.step at (omega arith) in
+            record { place = suc e.0.place; ids = e.0.ids; step = e.0.step; round_is = end-round p (deciding_round c round) e.0; by = omega arith }
+
+    -- who passed a round by a tick has passed it
+    pub passed-by : (p r x : ℕ) → HasPassedBy trace p r x → r ≤ passed trace.steps p
+    passed-by p r x h = of h.place h.step h.round_is
+      where
+        of : (k : ℕ) → step_at trace.steps k ≡ Some (record { proc = p; act = Receive true h.ids }) → round_at trace.steps p k ≡ r → r ≤ passed trace.steps p
+        of k at is = let e = round_at-passed trace.steps k (record { proc = p; act = Receive true h.ids }) at refl in omega arith

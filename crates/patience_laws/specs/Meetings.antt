@@ -2,13 +2,11 @@
 use Rattle.std.specs.Prelude.{ℕ, ◌≡◌, ◌+◌, ◌*◌, ◌<◌, ◌≤◌, List, Some, true, IsTrue}
 use Rattle.step_trace.specs.declared.steps.Act.TheVariants.{Receive}
 use Rattle.step_trace.specs.declared.steps.Step.{Step}
-use Rattle.step_trace.specs.Configurations.{IsProc}
 use Rattle.step_trace.specs.Processors.{has_proc}
-use Rattle.step_trace.specs.Traces.{Recorded, IsReceiveOf, step_at}
+use Rattle.step_trace.specs.Traces.{Recorded, step_at}
 use Rattle.step_trace.specs.Ticks.{tick_of}
 use Rattle.lock_phases.specs.Rounds.{part_of}
 use Rattle.step_buffers.specs.HeardTables.{round_at}
-use Rattle.deciding_runs.specs.HeardOut.{HasHeardOf}
 use Rattle.patience_laws.specs.Silence.{Suspects}
 use Rattle.patience_laws.specs.LeastRounds.{AreInRoundFrom, AreInTouch, TakeInOrder}
 
@@ -28,8 +26,3 @@ pub record ComeTogether (patience set : ℕ) (trace : Recorded) (g d f round y :
   pub first : (p k : ℕ) → IsTrue (has_proc set p) → ComesTo trace.steps p round k → y ≤ tick_of trace k
   pub all : AreInRoundFrom set trace round (y + (trace.config.n * f + d + f))
   pub loud : (p q k : ℕ) → IsTrue (has_proc set p) → IsTrue (has_proc set q) → ComesTo trace.steps p round k → ¬ Suspects trace.config patience trace.steps p q k
-
--- from this round on no member is left behind: none takes something of a round more than a phase later than its own
-abbrev pub NobodyIsBehind : ℕ → Recorded → ℕ → Type 0
-NobodyIsBehind set trace round = (p q k : ℕ) → IsTrue (has_proc set p) → IsProc trace.config q → IsReceiveOf trace.steps k p → round ≤ round_at trace.steps p k
-    → ¬ HasHeardOf trace.steps p q (round_at trace.steps p k + 5) k

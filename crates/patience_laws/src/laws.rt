@@ -13,10 +13,11 @@ ghost use Rattle.round_model.specs.BoundedDecision.{deciding_round, HaveDecided}
 ghost use Rattle.step_buffers.specs.HeardTables.{passed, round_at};
 ghost use Rattle.step_buffers.specs.Runs.{IsRun, IsSend, node_at};
 ghost use Rattle.deciding_runs.specs.HeardOut.{HasHeardOf, IsTakenBefore};
+ghost use Rattle.deciding_runs.specs.Together.{HavePassedBy};
 ghost use Rattle.deciding_runs.specs.Peers.{is_heard_of};
 ghost use Rattle.patience_laws.specs.PacedRuns.{StepsByPace, peer_after};
 ghost use Rattle.patience_laws.specs.LeastRounds.{AreInRoundFrom, AreInTouch, IsHeardOutByAll, KeepsBounds, OweAcknowledgements};
-ghost use Rattle.patience_laws.specs.Meetings.{ComeTogether, NobodyIsBehind};
+ghost use Rattle.patience_laws.specs.Meetings.{ComeTogether};
 ghost use Rattle.patience_laws.specs.RoundTicks.{EachEnds, HasHeardFrom, HearsMembers, IsInRoundFrom, sends_to};
 ghost use Rattle.patience_laws.specs.Silence.{Suspects, TakesOf, WasSilent};
 
@@ -115,22 +116,30 @@ pub fn least_laws()
 ///
 /// A theorem, as `knowledge_laws` is. At least N - t members step by the pace with a patience of at least 5 d + (3 N + 10) f
 /// Receives, come to the first round of a phase within d + (N + 1) f ticks of one another, suspect no member and
-/// suspect all others; what they say from then on comes under the bounds and is taken in order, and none is left
-/// behind. Then no patience ends a round of theirs: each round is ended when all members were heard that may be heard in it
-/// (`heard_out`). A phase takes 4 d + (2 N + 9) f ticks (`phases`). Who has passed the deciding round has decided (`decided`).
+/// suspect all others; and what they say from then on comes under the bounds and is taken in order. Then no patience ends
+/// a round of theirs, and none is left behind: each round is ended when all members were heard that may be heard in it
+/// (`heard_out`). A phase takes 4 d + (2 N + 9) f ticks (`phases`). So by a tick x, which is N + 1 phases and f ticks
+/// after the last member came to the round, each has passed the deciding round (`passed`), and has decided if the trace
+/// goes on so long (`decided`).
 pub fn meeting_laws()
     ensures heard_out { (patience set : ℕ) (trace : Recorded) (g d f round y r : ℕ) → KeepsBounds patience set trace g d f
-        → ComeTogether patience set trace g d f round y → NobodyIsBehind set trace round
+        → ComeTogether patience set trace g d f round y
         → 5 * d + (3 * trace.config.n + 10) * f ≤ patience → round ≤ r
         → IsHeardOutByAll set trace r }
     ensures phases { (patience set : ℕ) (trace : Recorded) (g d f round y phases : ℕ) → KeepsBounds patience set trace g d f
-        → ComeTogether patience set trace g d f round y → NobodyIsBehind set trace round
+        → ComeTogether patience set trace g d f round y
         → 5 * d + (3 * trace.config.n + 10) * f ≤ patience
         → AreInRoundFrom set trace (round + 4 * phases) (y + (d + (trace.config.n + 1) * f) + phases * (4 * d + (2 * trace.config.n + 9) * f)) }
-    ensures decided { (patience set : ℕ) (trace : Recorded) (g d f round y : ℕ) → IsSetup trace.config
-        → KeepsBounds patience set trace g d f → ComeTogether patience set trace g d f round y → NobodyIsBehind set trace round
+    ensures passed { (patience set : ℕ) (trace : Recorded) (g d f round y x : ℕ) → KeepsBounds patience set trace g d f
+        → ComeTogether patience set trace g d f round y
         → 5 * d + (3 * trace.config.n + 10) * f ≤ patience
-        → ((p : ℕ) → IsTrue (has_proc set p) → deciding_round trace.config round ≤ passed trace.steps p)
+        → x ≡ y + (d + (trace.config.n + 1) * f) + (trace.config.n + 1) * (4 * d + (2 * trace.config.n + 9) * f) + f
+        → x ≤ trace.last + 1
+        → HavePassedBy trace set (deciding_round trace.config round) x }
+    ensures decided { (patience set : ℕ) (trace : Recorded) (g d f round y : ℕ) → IsSetup trace.config
+        → KeepsBounds patience set trace g d f → ComeTogether patience set trace g d f round y
+        → 5 * d + (3 * trace.config.n + 10) * f ≤ patience
+        → y + (d + (trace.config.n + 1) * f) + (trace.config.n + 1) * (4 * d + (2 * trace.config.n + 9) * f) + f ≤ trace.last + 1
         → HaveDecided set (node_at trace.config trace.steps) }
 {
     heard_out_laws();
