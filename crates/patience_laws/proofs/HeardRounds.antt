@@ -30,6 +30,7 @@ use Rattle.patience_laws.specs.Meetings.{ComesTo, ComeTogether}
 use Rattle.patience_laws.proofs.PacedSteps.{rounds_after, round-here}
 use Rattle.patience_laws.proofs.KnownRounds.{rounds-up}
 use Rattle.patience_laws.proofs.SilentPhases.{suspected-silent, silent-suspected}
+use Rattle.patience_laws.proofs.UnheardSuspects.{suspect-unheard}
 use Rattle.patience_laws.proofs.RoundSends.{round_at-up}
 use Rattle.patience_laws.proofs.EndedReceives.{Why, Complete, Behind, Impatient, why-ends, complete-heard}
 use Rattle.patience_laws.proofs.LeastRounds.{may-in, part-next, listing-ends, locking-ends, acknowledging-ends, releasing-ends, touch-later}
@@ -37,7 +38,7 @@ use Rattle.patience_laws.proofs.PatienceTicks.{IsEndOf, rounds-ended, end-of, pa
 use Rattle.patience_laws.proofs.OwedAcknowledgements.{owe-all}
 
 -- in a lock-release round all may be heard
-may-all : (c : Setup) (steps : List Step) (p round q : ℕ) → part_of round ≡ 4 → may_hear_of c steps p round q ≡ true
+pub may-all : (c : Setup) (steps : List Step) (p round q : ℕ) → part_of round ≡ 4 → may_hear_of c steps p round q ≡ true
 may-all c steps p round q part = may-in Releasing c steps p round q (part_at-releasing round part)
 
 module _ (patience set : ℕ) (trace : Recorded) (g d f : ℕ) (keeps : KeepsBounds patience set trace g d f) (round y : ℕ)
@@ -266,26 +267,6 @@ module _ (patience set : ℕ) (trace : Recorded) (g d f : ℕ) (keeps : KeepsBou
         let rise = ticks_rise trace keeps.trace_is.time (suc e.0.place) (suc n) (record { proc = p; act = Receive true e.0.ids }) (record { proc = p; act = act }) e.0.step at (omega arith) in
         omega arith
 
-    -- of who is suspected nothing was heard of a later round
-    suspect-unheard : (p q n s : ℕ) → IsProc c q → rounds_after trace.steps p n ≤ s → Suspects c patience trace.steps p q n → HasHeardOf trace.steps p q s n → ⊥
-    suspect-unheard p q n s is late suspects h = go (suspected-silent c patience trace.steps p q keeps.run.well_formed is n suspects)
-      where
-        go : WasSilent trace.steps p q n → ⊥
-        go was = elim (cases_lt was.place h.place) [
-          | inl after ↦ was.nothing h.place (let up = round_at-up c patience trace.steps p was.place h.place (omega arith) in let e = was.round_is in omega arith) h.by
-            (record { message = h.message; sent = h.sent; take = h.take })
-          | inr before ↦ was.behind (record { message = h.message; sent = h.sent; later = passed-by was.place was.step was.round_is was.by; place = h.place; take = h.take; by = before })
-        ]
-          where
-            passed-by : (k : ℕ) → step_at trace.steps k ≡ Some (record { proc = p; act = Receive true was.ids }) → round_at trace.steps p k ≡ was.round → k ≤ n → was.round ≤ round_at trace.steps q h.message
-            passed-by zero at here l = absurd (none-some _ at)
-            passed-by (suc k) at here l =
-                let after = rounds-ended c patience trace.steps p k was.ids at in
-                let e = round-here trace.steps p k in
-                let up = rounds-up c patience trace.steps p (suc k) n l in
-                let later = h.later in
-                omega arith
-
     -- whom p may hear at a step, by its round
     may-at : (p q n m : ℕ) → rounds_after trace.steps p n + 1 ≡ m → may_hear_of c trace.steps p m q ≡ true → may_hear c (node_before c trace.steps p (suc n)) (rounds_after trace.steps p n + 1) p q ≡ true
     may-at p q n m is may =
@@ -332,7 +313,7 @@ module _ (patience set : ℕ) (trace : Recorded) (g d f : ℕ) (keeps : KeepsBou
       unheard-of q z k s ids mq mz is there up far h =
           let silent = come.touch.silent q z mq is mz (suc k) (record { ids = ids; ends = true; step = there }) (since-coming q k (Receive true ids) mq there up) in
           let ended = rounds-ended c patience trace.steps q k ids there in
-          suspect-unheard q z (suc k) s is (omega arith) silent h
+          suspect-unheard c patience trace.steps q z (suc k) s keeps.run.well_formed is (omega arith) silent h
 
       -- no member ends round m before this step of p
       nobody-ended : (bound k q : ℕ) (ids : List ℕ) → k < bound → suc k ≤ n → has_proc set q ≡ true → step_at trace.steps (suc k) ≡ Some (record { proc = q; act = Receive true ids })

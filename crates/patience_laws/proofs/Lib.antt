@@ -11,4 +11,6 @@ mod RoundMessages
 mod LeastRounds
 mod PatienceTicks
 mod OwedAcknowledgements
+mod UnheardSuspects
 mod HeardRounds
+mod FirstMeetings

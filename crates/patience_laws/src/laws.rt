@@ -17,7 +17,7 @@ ghost use Rattle.deciding_runs.specs.Together.{HavePassedBy};
 ghost use Rattle.deciding_runs.specs.Peers.{is_heard_of};
 ghost use Rattle.patience_laws.specs.PacedRuns.{StepsByPace, peer_after};
 ghost use Rattle.patience_laws.specs.LeastRounds.{AreInRoundFrom, AreInTouch, IsHeardOutByAll, KeepsBounds, OweAcknowledgements};
-ghost use Rattle.patience_laws.specs.Meetings.{ComeTogether};
+ghost use Rattle.patience_laws.specs.Meetings.{ComeTogether, MeetOnce};
 ghost use Rattle.patience_laws.specs.RoundTicks.{EachEnds, HasHeardFrom, HearsMembers, IsInRoundFrom, sends_to};
 ghost use Rattle.patience_laws.specs.Silence.{Suspects, TakesOf, WasSilent};
 
@@ -120,8 +120,10 @@ pub fn least_laws()
 /// a round of theirs, and none is left behind: each round is ended when all members were heard that may be heard in it
 /// (`heard_out`). A phase takes 4 d + (2 N + 9) f ticks (`phases`). So by a tick x, which is N + 1 phases and f ticks
 /// after the last member came to the round, each has passed the deciding round (`passed`), and has decided if the trace
-/// goes on so long (`decided`).
+/// goes on so long (`decided`). Members come together so once all have heard out one lock-release round (`meet`).
 pub fn meeting_laws()
+    ensures meet { (patience set : ℕ) (trace : Recorded) (g d f round y : ℕ) → KeepsBounds patience set trace g d f
+        → MeetOnce patience set trace g round y → ComeTogether patience set trace g d f round y }
     ensures heard_out { (patience set : ℕ) (trace : Recorded) (g d f round y r : ℕ) → KeepsBounds patience set trace g d f
         → ComeTogether patience set trace g d f round y
         → 5 * d + (3 * trace.config.n + 10) * f ≤ patience → round ≤ r

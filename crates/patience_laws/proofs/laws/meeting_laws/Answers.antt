@@ -2,8 +2,12 @@ use Rattle.std.proofs.Common.{ℕ, ◌≡◌, ◌+◌, ◌*◌, sym, ◌∙◌, 
 use Rattle.deciding_runs.specs.Together.{HasPassedBy}
 use Rattle.round_model.specs.BoundedDecision.{deciding_round}
 use Rattle.patience_laws.specs.RoundTicks.{IsInRoundFrom}
+use Rattle.patience_laws.proofs.FirstMeetings.{come-together}
 use Rattle.patience_laws.proofs.HeardRounds.{heard-all, phases-on, hear-out, passes-by, passed-by}
 use Rattle.patience_laws.proofs.laws.meeting_laws.Goals as goal
+
+pub returns-clause-meet : goal.returns-clause-meet
+returns-clause-meet c patience set trace g d f round y keeps meet = come-together patience set trace g d f keeps round y meet
 
 pub returns-clause-heard_out : goal.returns-clause-heard_out
 returns-clause-heard_out c patience set trace g d f round y r keeps come enough low = heard-all patience set trace g d f keeps round y come enough r low
