@@ -154,8 +154,8 @@ module _ (c : Setup) (patience : ℕ) (steps : List Step) (p : ℕ) (w : IsWellF
     suspected-before s =
         let e : received.mid.suspected ≡ true = ap (λ (x : Peer). x.suspected) mid-known ∙ s in
         elim received.heard [
-        | inl deaf ↦ ap (λ (x : Peer). x.suspected) (sym deaf.same) ∙ e
-        | inr listening ↦ absurd (true≢false (sym e ∙ listening.suspected))
+          | inl deaf ↦ ap (λ (x : Peer). x.suspected) (sym deaf.same) ∙ e
+          | inr listening ↦ absurd (true≢false (sym e ∙ listening.suspected))
         ]
 
   -- somebody of whom something of a round more than a phase later was heard
@@ -196,7 +196,7 @@ module _ (c : Setup) (patience : ℕ) (steps : List Step) (p : ℕ) (w : IsWellF
         let long = known-long in
         let test : is_far_ahead (rounds_after steps p k + 1) (peer_of known.peers q) ≡ true = lt-ltb 4 ((peer_of known.peers q).latest - (rounds_after steps p k + 1)) (omega arith) in
         let any : is_left_behind (rounds_after steps p k + 1) known.peers ≡ true =
-          list_any_at (is_far_ahead (rounds_after steps p k + 1)) known.peers (q - 1) unheard (omega arith) test in
+        list_any_at (is_far_ahead (rounds_after steps p k + 1)) known.peers (q - 1) unheard (omega arith) test in
         ends-is ∙ rw any (or-second (is_complete c here (rounds_after steps p k + 1) p known) (nat_le known.left 1))
 
     -- why a Receive ends the round: it is complete, or p is left behind, or the patience is over
@@ -209,9 +209,9 @@ module _ (c : Setup) (patience : ℕ) (steps : List Step) (p : ℕ) (w : IsWellF
     why-ends e =
         let over = or-three (is_complete c here (rounds_after steps p k + 1) p known) (is_left_behind (rounds_after steps p k + 1) known.peers) (nat_le known.left 1) (sym ends-is ∙ e) in
         elim over [
-        | inl done ↦ Complete done
-        | inr (inl behind) ↦ Behind (ahead-of behind)
-        | inr (inr out) ↦ Impatient (leb-true known.left 1 out)
+          | inl done ↦ Complete done
+          | inr (inl behind) ↦ Behind (ahead-of behind)
+          | inr (inr out) ↦ Impatient (leb-true known.left 1 out)
         ]
 
     -- a complete one has heard of all that it may hear and doesn't suspect
@@ -268,9 +268,9 @@ module _ (c : Setup) (patience : ℕ) (steps : List Step) (p : ℕ) (w : IsWellF
       enough all =
           let long = known-long in
           let places = count_by-places (has_proc set) (is_heard_of (rounds_after steps p k + 1)) known.peers 1 (λ i l m.
-            let e : 1 + i - 1 ≡ i = omega arith in
-            subst (λ n. is_heard_of (rounds_after steps p k + 1) (get_or known.peers n unheard) ≡ true) e
-            (member-known (1 + i) (omega arith, omega arith) m (all-each c here (rounds_after steps p k + 1) p (1 + i) all))) in
+          let e : 1 + i - 1 ≡ i = omega arith in
+          subst (λ n. is_heard_of (rounds_after steps p k + 1) (get_or known.peers n unheard) ≡ true) e
+          (member-known (1 + i) (omega arith, omega arith) m (all-each c here (rounds_after steps p k + 1) p (1 + i) all))) in
           let counted : number_of c.n (has_proc set) ≤ heard_count (rounds_after steps p k + 1) known.peers = subst (λ n. count_by (has_proc set) (range_with_len 1 n) ≤ heard_count (rounds_after steps p k + 1) known.peers) long places in
           omega arith
 

@@ -48,9 +48,11 @@ one-heard peers q from round low first last = go (cases_eq from q)
   where
     go : (from ≡ q) ⊎ (from ≢ q) → IsOneHeard peers q from (peer_of (slice_set peers (from - 1) (after_hearing round (peer_of peers from))) q) round
     go (inl e) =
-        inl (e,
-        subst (λ j. peer_of (slice_set peers (from - 1) (after_hearing round (peer_of peers from))) j ≡ after_hearing round (peer_of peers j)) e
-        (get_or-set_same peers (from - 1) (after_hearing round (peer_of peers from)) unheard (omega arith)))
+        inl (
+          e,
+          subst (λ j. peer_of (slice_set peers (from - 1) (after_hearing round (peer_of peers from))) j ≡ after_hearing round (peer_of peers j)) e
+              (get_or-set_same peers (from - 1) (after_hearing round (peer_of peers from)) unheard (omega arith)),
+        )
     go (inr other) =
         inr (other, get_or-set_other peers (from - 1) (q - 1) (after_hearing round (peer_of peers from)) unheard (λ e. other (omega arith)))
 

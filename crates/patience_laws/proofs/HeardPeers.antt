@@ -101,7 +101,7 @@ module _ (c : Setup) (patience : ℕ) (steps : List Step) (p q : ℕ) (w : IsWel
   pace-long (suc k) = elim (step-cases c patience steps p k) [
     | inl s ↦ ap (λ (x : Paced). length x.peers) s.pace ∙ pace-long k
     | inr r ↦ ap (λ (x : Paced). length x.peers) r.pace ∙ received-long r.ends (rounds_after steps p k + 1) (heard_ids (take k steps) p r.ids (pace_after c patience steps p k))
-      ∙ heard-long (take k steps) p r.ids (pace_after c patience steps p k).peers ∙ pace-long k
+        ∙ heard-long (take k steps) p r.ids (pace_after c patience steps p k).peers ∙ pace-long k
   ]
 
   module _ (k : ℕ) (r : IsReceived c patience steps p k) where
@@ -179,8 +179,8 @@ module _ (c : Setup) (patience : ℕ) (steps : List Step) (p q : ℕ) (w : IsWel
             let d = same-taken steps p (suc k) m.message r.ends r.ids r.step m.take in
             let l = (sent-here m.message d).0 in
             elim (cases_lt (rounds_after steps p k) (round_at steps q m.message)) [
-            | inl ahead ↦ Taken m (e ∙ ahead-here m.message l m.sent ahead)
-            | inr past ↦ Past (e ∙ past-here m.message l m.sent past)
+              | inl ahead ↦ Taken m (e ∙ ahead-here m.message l m.sent ahead)
+              | inr past ↦ Past (e ∙ past-here m.message l m.sent past)
             ]
 
     -- and then by the end of a phase

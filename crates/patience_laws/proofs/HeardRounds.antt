@@ -177,20 +177,20 @@ module _ (patience set : ℕ) (trace : Recorded) (g d f : ℕ) (keeps : KeepsBou
       go was = elim (cases_lt was.round round) [
         | inr late ↦ was.behind (heard was.round was.place was.ids late was.last was.by was.step was.round_is)
         | inl early ↦ (
-          let low_round = come.later in
-          let e = end-of c patience trace.steps p (round - 1) n (omega arith) (omega arith) in
-          let inside = e.1 in
-          come.loud p q (suc e.0.place) mp mq (comes p e.0) (silent-suspected c patience trace.steps p q keeps.run.well_formed (proc q mq) (suc e.0.place) (record {
-            round = was.round;
-            place = was.place;
-            ids = was.ids;
-            step = was.step;
-            round_is = was.round_is;
-            last = was.last;
-            by = came-before was early e.0;
-            nothing = λ m from by t. was.nothing m from (omega arith) t;
-            behind = was.behind;
-          })))
+            let low_round = come.later in
+            let e = end-of c patience trace.steps p (round - 1) n (omega arith) (omega arith) in
+            let inside = e.1 in
+            come.loud p q (suc e.0.place) mp mq (comes p e.0) (silent-suspected c patience trace.steps p q keeps.run.well_formed (proc q mq) (suc e.0.place) (record {
+              round = was.round;
+              place = was.place;
+              ids = was.ids;
+              step = was.step;
+              round_is = was.round_is;
+              last = was.last;
+              by = came-before was early e.0;
+              nothing = λ m from by t. was.nothing m from (omega arith) t;
+              behind = was.behind;
+            })))
       ]
         where
           -- the silent round was over before p came to the round
@@ -198,14 +198,14 @@ module _ (patience set : ℕ) (trace : Recorded) (g d f : ℕ) (keeps : KeepsBou
           came-before was early e = elim (cases_lt (suc e.place) was.place) [
             | inr l ↦ l
             | inl l ↦ absurd (
-              let up = round_at-up c patience trace.steps p (suc e.place + 1) was.place (omega arith) in
-              let is = was.round_is in
-              let after = e.after in
-              let low_round = come.later in
-              let here : round_at trace.steps p (suc (suc e.place)) ≡ rounds_after trace.steps p (suc e.place) + 1 = round-here trace.steps p (suc e.place) in
-              let f : suc e.place + 1 ≡ suc (suc e.place) = omega arith in
-              let g = ap (round_at trace.steps p) f in
-              omega arith)
+                let up = round_at-up c patience trace.steps p (suc e.place + 1) was.place (omega arith) in
+                let is = was.round_is in
+                let after = e.after in
+                let low_round = come.later in
+                let here : round_at trace.steps p (suc (suc e.place)) ≡ rounds_after trace.steps p (suc e.place) + 1 = round-here trace.steps p (suc e.place) in
+                let f : suc e.place + 1 ≡ suc (suc e.place) = omega arith in
+                let g = ap (round_at trace.steps p) f in
+                omega arith)
           ]
 
   -- A round is over so many ticks after one member came to the phase, if those before were heard out.
@@ -296,12 +296,12 @@ module _ (patience set : ℕ) (trace : Recorded) (g d f : ℕ) (keeps : KeepsBou
         last s (suc i) ids up part by at here = elim (cases_lt s r) [
           | inl before ↦ heard s up before q p (suc i) ids mq mp at here (may-all c trace.steps q s p part)
           | inr not_before ↦ (
-            let after = rounds-ended c patience trace.steps q i ids at in
-            let e = round-here trace.steps q i in
-            let rise = rounds-up c patience trace.steps q (suc i) k by in
-            let same : s ≡ r = omega arith in
-            subst (λ x. HasHeardOf trace.steps q p x (suc i)) (sym same)
-            (to q p (suc i) ids mq mp (omega arith) at (here ∙ same) (subst (λ x. may_hear_of c trace.steps q x p ≡ true) same (may-all c trace.steps q s p part))))
+              let after = rounds-ended c patience trace.steps q i ids at in
+              let e = round-here trace.steps q i in
+              let rise = rounds-up c patience trace.steps q (suc i) k by in
+              let same : s ≡ r = omega arith in
+              subst (λ x. HasHeardOf trace.steps q p x (suc i)) (sym same)
+              (to q p (suc i) ids mq mp (omega arith) at (here ∙ same) (subst (λ x. may_hear_of c trace.steps q x p ≡ true) same (may-all c trace.steps q s p part))))
         ]
 
     module _ (r : ℕ) (low : round ≤ r) (heard : HeardBefore r) (fr : ℕ) (part : part_of fr ≡ 1) (first : fr ≤ r) (last : r ≤ fr + 3)
@@ -385,8 +385,8 @@ module _ (patience set : ℕ) (trace : Recorded) (g d f : ℕ) (keeps : KeepsBou
         ahead-of-none z proper h =
             let low_round = come.later in
             elim (cases_eq ((r - 1) % 4) 3) [
-            | inl at_end ↦ nobody-ahead r low heard (r - (r - 1) % 4) (omega arith) (omega arith) (omega arith) p n (Receive true ids) mp at is to (r + 4) (omega arith) (omega arith) (omega arith) z ids proper refl h
-            | inr inside ↦ nobody-ahead r low heard (r - (r - 1) % 4) (omega arith) (omega arith) (omega arith) p n (Receive true ids) mp at is to (r - (r - 1) % 4 + 3) (omega arith) (omega arith) (omega arith) z ids proper refl h
+              | inl at_end ↦ nobody-ahead r low heard (r - (r - 1) % 4) (omega arith) (omega arith) (omega arith) p n (Receive true ids) mp at is to (r + 4) (omega arith) (omega arith) (omega arith) z ids proper refl h
+              | inr inside ↦ nobody-ahead r low heard (r - (r - 1) % 4) (omega arith) (omega arith) (omega arith) p n (Receive true ids) mp at is to (r - (r - 1) % 4 + 3) (omega arith) (omega arith) (omega arith) z ids proper refl h
             ]
 
         impossible : (pace_after c patience trace.steps p n).left ≤ 1 → ⊥
@@ -450,7 +450,7 @@ module _ (patience set : ℕ) (trace : Recorded) (g d f : ℕ) (keeps : KeepsBou
       numbered = let low_round = come.later in omega arith;
       order = come.order;
       rounds = λ p r m low high. ended p r m low (end-of c patience trace.steps p r (length trace.steps) (let low_round = come.later in omega arith)
-        (let all = passes p m in let e : rounds_after trace.steps p (length trace.steps) ≡ passed trace.steps p = ap (λ xs. passed xs p) (take-length trace.steps) in omega arith)).0;
+          (let all = passes p m in let e : rounds_after trace.steps p (length trace.steps) ≡ passed trace.steps p = ap (λ xs. passed xs p) (take-length trace.steps) in omega arith)).0;
     }
       where
         ended : (p r : ℕ) → has_proc set p ≡ true → round ≤ r → IsEndOf trace.steps p r → IsHeardOut c trace.steps set p r

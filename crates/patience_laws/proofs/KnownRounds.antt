@@ -56,10 +56,10 @@ module _ (c : Setup) (patience : ℕ) (steps : List Step) (p q : ℕ) (w : IsWel
   heard-cases r k h = elim (cases_lt h.place (suc k)) [
     | inl l ↦ inl (record { message = h.message; sent = h.sent; later = h.later; place = h.place; take = h.take; by = omega arith })
     | inr l ↦
-      let by = h.by in
-      let e : h.place ≡ suc k = omega arith in
-      let m : TakesOf steps p q (suc k) = record { message = h.message; sent = h.sent; take = subst (λ n. IsTakenAt steps p n h.message) e h.take } in
-      inr (m, h.later)
+        let by = h.by in
+        let e : h.place ≡ suc k = omega arith in
+        let m : TakesOf steps p q (suc k) = record { message = h.message; sent = h.sent; take = subst (λ n. IsTakenAt steps p n h.message) e h.take } in
+        inr (m, h.later)
   ]
 
   -- what was taken of a round that isn't over is known
@@ -79,18 +79,18 @@ module _ (c : Setup) (patience : ℕ) (steps : List Step) (p q : ℕ) (w : IsWel
           let this = before (let e = earlier in omega arith) old in
           let latest = ap (λ (y : Peer). y.latest) x.new ∙ latest-received x.ends (rounds_after steps p k + 1) x.mid in
           elim x.heard [
-          | inl deaf ↦ (let same = ap (λ (y : Peer). y.latest) deaf.same in omega arith)
-          | inr listening ↦ (let up = listening.up in omega arith)
+            | inl deaf ↦ (let same = ap (λ (y : Peer). y.latest) deaf.same in omega arith)
+            | inr listening ↦ (let up = listening.up in omega arith)
           ]
       go before (inr m) (inr x) =
           let latest = ap (λ (y : Peer). y.latest) x.new ∙ latest-received x.ends (rounds_after steps p k + 1) x.mid in
           elim x.heard [
-          | inl deaf ↦ absurd (deaf.none m.0)
-          | inr listening ↦ (
-            let e = earlier in
-            let round = m.1 in
-            let most = listening.each m.0.message m.0.take m.0.sent (omega arith) in
-            omega arith)
+            | inl deaf ↦ absurd (deaf.none m.0)
+            | inr listening ↦ (
+                let e = earlier in
+                let round = m.1 in
+                let most = listening.each m.0.message m.0.take m.0.sent (omega arith) in
+                omega arith)
           ]
 
   -- and what is known was taken
@@ -111,10 +111,10 @@ module _ (c : Setup) (patience : ℕ) (steps : List Step) (p q : ℕ) (w : IsWel
       go before (inr x) =
           let latest = ap (λ (y : Peer). y.latest) x.new ∙ latest-received x.ends (rounds_after steps p k + 1) x.mid in
           elim x.heard [
-          | inl deaf ↦ (
-            let same = ap (λ (y : Peer). y.latest) deaf.same in
-            heard-weaker steps p q (peer_after c patience steps p q k).latest (peer_after c patience steps p q (suc k)).latest k (suc k) (omega arith) (omega arith) (before (omega arith)))
-          | inr listening ↦ of x.mid latest listening.origin
+            | inl deaf ↦ (
+                let same = ap (λ (y : Peer). y.latest) deaf.same in
+                heard-weaker steps p q (peer_after c patience steps p q k).latest (peer_after c patience steps p q (suc k)).latest k (suc k) (omega arith) (omega arith) (before (omega arith)))
+            | inr listening ↦ of x.mid latest listening.origin
           ]
         where
           of : (mid : Peer) → (peer_after c patience steps p q (suc k)).latest ≡ mid.latest → Latest steps p q k (peer_after c patience steps p q k) mid

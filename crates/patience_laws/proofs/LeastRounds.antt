@@ -103,7 +103,7 @@ module _ (patience set : ℕ) (trace : Recorded) (g d f : ℕ) (keeps : KeepsBou
           let own : p ≡ owner c.n (phase_of round) = eqb-true p (owner c.n (phase_of round)) (sym (may-in Listing c trace.steps p round q (part_at-listing round part)) ∙ may) in
           let e = times-more 0 f in
           let s = says 0 p q (with_proper (node_in c trace.steps q round) (Listed (values_to_list (node_in c trace.steps q round)))) mq (proc p m) (few-one c trace.steps q round (inl part))
-            (subst (λ to. out c (node_in c trace.steps q round) q round to ≡ Some (with_proper (node_in c trace.steps q round) (Listed (values_to_list (node_in c trace.steps q round))))) (sym own) (list-sent c (node_in c trace.steps q round) q round part)) (omega arith) in
+          (subst (λ to. out c (node_in c trace.steps q round) q round to ≡ Some (with_proper (node_in c trace.steps q round) (Listed (values_to_list (node_in c trace.steps q round))))) (sym own) (list-sent c (node_in c trace.steps q round) q round part)) (omega arith) in
           let by = s.by in
           record { message = s.message; sent = s.sent; later = s.later; by = omega arith }
 
@@ -120,7 +120,7 @@ module _ (patience set : ℕ) (trace : Recorded) (g d f : ℕ) (keeps : KeepsBou
           let few = few-all c trace.steps q round in
           let product : suc (c.n - 1) * f ≡ c.n * f = ap (λ n. n * f) e in
           let s = says (c.n - 1) p q (with_proper (node_in c trace.steps q round) (Locks (node_in c trace.steps q round).locks)) mq (proc p m) (omega arith)
-            (locks-sent c (node_in c trace.steps q round) q round p part) (omega arith) in
+          (locks-sent c (node_in c trace.steps q round) q round p part) (omega arith) in
           let by = s.by in
           record { message = s.message; sent = s.sent; later = s.later; by = omega arith }
 
@@ -149,7 +149,7 @@ module _ (patience set : ℕ) (trace : Recorded) (g d f : ℕ) (keeps : KeepsBou
           let owes = owe v.0 (subst (λ o. has_proc set o ≡ true) own m) (subst (λ o. (node_in c trace.steps o round).proposal ≡ Some v.0) own v.1) q mq (came q mq last) in
           let e = times-more 0 f in
           let s = says 0 p q (with_proper (node_in c trace.steps q round) Ack) mq (proc p m) (few-one c trace.steps q round (inr part))
-            (subst (λ to. out c (node_in c trace.steps q round) q round to ≡ Some (with_proper (node_in c trace.steps q round) Ack)) (sym own) (acknowledgement-sent c (node_in c trace.steps q round) q round part owes)) (omega arith) in
+          (subst (λ to. out c (node_in c trace.steps q round) q round to ≡ Some (with_proper (node_in c trace.steps q round) Ack)) (sym own) (acknowledgement-sent c (node_in c trace.steps q round) q round part owes)) (omega arith) in
           let by = s.by in
           record { message = s.message; sent = s.sent; later = s.later; by = omega arith }
 
@@ -204,7 +204,7 @@ module _ (patience set : ℕ) (trace : Recorded) (g d f : ℕ) (keeps : KeepsBou
           let l = low_n in
           let few = few-all c trace.steps o round in
           let s = says (c.n - 1) p o (with_proper (node_in c trace.steps o round) (Lock v)) mo (proc p m) (omega arith)
-            (subst (λ j. out c (node_in c trace.steps o round) j round p ≡ Some (with_proper (node_in c trace.steps o round) (Lock v))) (sym own) (lock-sent c (node_in c trace.steps o round) round p v part e)) (omega arith) in
+          (subst (λ j. out c (node_in c trace.steps o round) j round p ≡ Some (with_proper (node_in c trace.steps o round) (Lock v))) (sym own) (lock-sent c (node_in c trace.steps o round) round p v part e)) (omega arith) in
           let by = s.by in
           record { message = s.message; sent = s.sent; later = s.later; by = omega arith }
       of o mo own last None e =
@@ -215,8 +215,8 @@ module _ (patience set : ℕ) (trace : Recorded) (g d f : ℕ) (keeps : KeepsBou
           let one = times-more 0 f in
           let since = touch.since in
           let s = sent-by trace patience set g f o keeps.run keeps.trace_is.time (keeps.paced o mo) mo keeps.phi (round + 1 + 1) (x + f + 1 * f + f) (omega arith) (idle-owner o mo own part e) (omega arith)
-            (c.n - 1) p (with_proper (node_in c trace.steps o (round + 1 + 1)) (Locks (node_in c trace.steps o (round + 1 + 1)).locks)) (omega arith) (proc p m)
-            (locks-sent c (node_in c trace.steps o (round + 1 + 1)) o (round + 1 + 1) p fourth) (omega arith) in
+          (c.n - 1) p (with_proper (node_in c trace.steps o (round + 1 + 1)) (Locks (node_in c trace.steps o (round + 1 + 1)).locks)) (omega arith) (proc p m)
+          (locks-sent c (node_in c trace.steps o (round + 1 + 1)) o (round + 1 + 1) p fourth) (omega arith) in
           let by = s.by in
           let later = s.later in
           record { message = s.message; sent = s.sent; later = omega arith; by = omega arith }

@@ -9,6 +9,7 @@ mod SentInRounds
 mod RoundsHeard
 mod RoundMessages
 mod LeastRounds
+mod CaughtPhases
 mod PatienceTicks
 mod OwedAcknowledgements
 mod UnheardSuspects

@@ -83,34 +83,34 @@ module _ (trace : Recorded) (patience set : ℕ) (run : IsRun trace.config trace
             go : HasHeardOf trace.steps q o round k → IsTold
             go h = elim (cases_lt round (round_at trace.steps o h.message)) [
               | inr same ↦ (
-                let later = h.later in
-                record {
-                  message = h.message;
-                  sent = h.sent;
-                  round_is = omega arith;
-                  place = h.place;
-                  take = h.take;
-                  in_time = let up = round_at-up c patience trace.steps q h.place k h.by in omega arith;
-                })
+                  let later = h.later in
+                  record {
+                    message = h.message;
+                    sent = h.sent;
+                    round_is = omega arith;
+                    place = h.place;
+                    take = h.take;
+                    in_time = let up = round_at-up c patience trace.steps q h.place k h.by in omega arith;
+                  })
               | inl passed_it ↦ (
-                let within = step_at_within trace.steps h.message _ h.sent in
-                let low_message = within.0 in
-                let e : suc (h.message - 1) ≡ h.message = omega arith in
-                let all : length (sends_to c trace.steps o round) ≤ sent_before trace.steps o round (suc (h.message - 1)) =
+                  let within = step_at_within trace.steps h.message _ h.sent in
+                  let low_message = within.0 in
+                  let e : suc (h.message - 1) ≡ h.message = omega arith in
+                  let all : length (sends_to c trace.steps o round) ≤ sent_before trace.steps o round (suc (h.message - 1)) =
                   all-passed c patience trace.steps o round (h.message - 1) run low (omega arith) in
-                let place = told-place c trace.steps o round q telling is said in
-                let index = place.1 in
-                let first = sent-to c trace.steps o q round run place.0 (suc (h.message - 1)) (omega arith) place.2 in
-                let earlier = first.earlier in
-                let taken = order q o mq mo first.message h.message h.place first.sent h.sent (omega arith) h.take in
-                record {
-                  message = first.message;
-                  sent = first.sent;
-                  round_is = first.round_is;
-                  place = taken.place;
-                  take = taken.take;
-                  in_time = let up = round_at-up c patience trace.steps q taken.place k (let a = taken.by in let b = h.by in omega arith) in omega arith;
-                })
+                  let place = told-place c trace.steps o round q telling is said in
+                  let index = place.1 in
+                  let first = sent-to c trace.steps o q round run place.0 (suc (h.message - 1)) (omega arith) place.2 in
+                  let earlier = first.earlier in
+                  let taken = order q o mq mo first.message h.message h.place first.sent h.sent (omega arith) h.take in
+                  record {
+                    message = first.message;
+                    sent = first.sent;
+                    round_is = first.round_is;
+                    place = taken.place;
+                    take = taken.take;
+                    in_time = let up = round_at-up c patience trace.steps q taken.place k (let a = taken.by in let b = h.by in omega arith) in omega arith;
+                  })
             ]
 
     hears : heard_table trace.steps q round o ≡ true

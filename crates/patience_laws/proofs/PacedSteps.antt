@@ -77,7 +77,7 @@ module _ (c : Setup) (patience : ℕ) (steps : List Step) (p k : ℕ) where
       own x (Send to) e f g = inl (record {
         pace = next (Some x) e ∙ rw (eq-eqb x.proc p g, f) refl;
         round = stays x e (ap (λ a. x.proc == p && act_ends a) f ∙ and_right (x.proc == p) false refl);
-        none = λ ends ids s. (let same : x.act ≡ Receive ends ids = ap (λ (y : Step). y.act) (same_Some _ _ (sym e ∙ s)) in true≢false (ap act_sends (sym f ∙ same) ));
+        none = λ ends ids s. (let same : x.act ≡ Receive ends ids = ap (λ (y : Step). y.act) (same_Some _ _ (sym e ∙ s)) in true≢false (ap act_sends (sym f ∙ same)));
       })
       own x (Receive false ids) e f g = inr (record {
         ids = ids;

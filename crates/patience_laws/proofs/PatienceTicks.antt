@@ -30,8 +30,8 @@ module _ (c : Setup) (patience : ℕ) (steps : List Step) (p : ℕ) where
   rounds-ended n ids at = elim (step-cases c patience steps p n) [
     | inl still ↦ absurd (still.none true ids at)
     | inr r ↦ (
-      let same = same_Some (receiving p r.ends r.ids) (receiving p true ids) (sym r.step ∙ at) in
-      r.round ∙ ap (λ (x : Step). rounds_after steps p n + cond (act_ends x.act) 1 0) same)
+        let same = same_Some (receiving p r.ends r.ids) (receiving p true ids) (sym r.step ∙ at) in
+        r.round ∙ ap (λ (x : Step). rounds_after steps p n + cond (act_ends x.act) 1 0) same)
   ]
 
   -- each round that was passed has such a step
@@ -86,13 +86,13 @@ module _ (trace : Recorded) (patience p : ℕ) (time : IsTimed trace) (round : �
   lasts-first k act l at = elim (step-cases trace.config patience trace.steps p end.place) [
     | inl still ↦ absurd (still.none true end.ids end.step)
     | inr r ↦ (
-      let same = same_Some (receiving p r.ends r.ids) (receiving p true end.ids) (sym r.step ∙ end.step) in
-      let ends : r.ends ≡ true = ap (λ (x : Step). act_ends x.act) same in
-      let x = heard_ids (take end.place trace.steps) p r.ids (pace_after trace.config patience trace.steps p end.place) in
-      let renewed : left (suc end.place) ≡ patience =
+        let same = same_Some (receiving p r.ends r.ids) (receiving p true end.ids) (sym r.step ∙ end.step) in
+        let ends : r.ends ≡ true = ap (λ (x : Step). act_ends x.act) same in
+        let x = heard_ids (take end.place trace.steps) p r.ids (pace_after trace.config patience trace.steps p end.place) in
+        let renewed : left (suc end.place) ≡ patience =
         ap (λ (y : Paced). y.left) r.pace ∙ ap (λ b. (after_receive b (rounds_after trace.steps p end.place + 1) x).left) ends ∙ pace-patience trace.config patience trace.steps p end.place in
-      let up = later (suc end.place) k (Receive true end.ids) act end.step at l in
-      omega arith)
+        let up = later (suc end.place) k (Receive true end.ids) act end.step at l in
+        omega arith)
   ]
 
   lasts-step : (n : ℕ) → rounds_after trace.steps p (suc n) ≡ rounds_after trace.steps p n → Lasts n → Lasts (suc n)

@@ -143,8 +143,8 @@ all-passed c patience steps q round (suc n) run low passed = elim (cases_lt (rou
         let none : slice_get (sends_to c steps q round) (sent_before steps q round (suc n)) ≡ None = sym (next_destination-in c steps q (suc n) round here) ∙ due in
         let up = sent_before-up steps q round (suc n) (suc (suc n)) (omega arith) in
         elim (cases_lt (sent_before steps q round (suc n)) (length (sends_to c steps q round))) [
-        | inl l ↦ absurd (none-some _ (sym none ∙ slice_get-get_or (sends_to c steps q round) (sent_before steps q round (suc n)) 0 l))
-        | inr l ↦ omega arith
+          | inl l ↦ absurd (none-some _ (sym none ∙ slice_get-get_or (sends_to c steps q round) (sent_before steps q round (suc n)) 0 l))
+          | inr l ↦ omega arith
         ]
 
 module _ (trace : Recorded) (patience set g f q : ℕ) (run : IsRun trace.config trace.steps) (time : IsTimed trace)
@@ -156,23 +156,23 @@ module _ (trace : Recorded) (patience set g f q : ℕ) (run : IsRun trace.config
   all-sent i zero act at late few = absurd (none-some _ at)
   all-sent i (suc j) act at late few = elim (cases_lt round (round_at trace.steps q (suc j))) [
     | inl passed ↦ (
-      let e = round-here trace.steps q j in
-      let all = all-passed trace.config patience trace.steps q round j run low (omega arith) in
-      let up = sent_before-up trace.steps q round (suc j) (suc (suc j)) (omega arith) in
-      omega arith)
+        let e = round-here trace.steps q j in
+        let all = all-passed trace.config patience trace.steps q round j run low (omega arith) in
+        let up = sent_before-up trace.steps q round (suc j) (suc (suc j)) (omega arith) in
+        omega arith)
     | inr not_yet ↦ (
-      let least = there (suc j) (act, at) (omega arith) in
-      let here : round_at trace.steps q (suc j) ≡ round = omega arith in
-      let up = sent_before-up trace.steps q round (suc j) (suc (suc j)) (omega arith) in
-      elim (cases_lt (sent_before trace.steps q round (suc j)) (length (sends_to trace.config trace.steps q round))) [
-      | inl more ↦ (
-        let grown = sends-first trace patience set g f q run time paced member phi round x since there (suc j) (suc (suc j)) act at here (omega arith) more in
-        elim (sends-in trace patience set g f q run time paced member phi round x since there i (suc j) (act, at) late here) [
-        | inl enough ↦ omega arith
-        | inr all ↦ omega arith
+        let least = there (suc j) (act, at) (omega arith) in
+        let here : round_at trace.steps q (suc j) ≡ round = omega arith in
+        let up = sent_before-up trace.steps q round (suc j) (suc (suc j)) (omega arith) in
+        elim (cases_lt (sent_before trace.steps q round (suc j)) (length (sends_to trace.config trace.steps q round))) [
+          | inl more ↦ (
+              let grown = sends-first trace patience set g f q run time paced member phi round x since there (suc j) (suc (suc j)) act at here (omega arith) more in
+              elim (sends-in trace patience set g f q run time paced member phi round x since there i (suc j) (act, at) late here) [
+                | inl enough ↦ omega arith
+                | inr all ↦ omega arith
+              ])
+          | inr all ↦ omega arith
         ])
-      | inr all ↦ omega arith
-      ])
   ]
 
   pub sent-by : (i p : ℕ) (body : Body) → length (sends_to trace.config trace.steps q round) ≤ suc i → IsProc trace.config p

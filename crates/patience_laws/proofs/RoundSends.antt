@@ -125,7 +125,7 @@ module _ (trace : Recorded) (patience set g f p : ℕ) (run : IsRun trace.config
     sends-first j k act at here l more =
         let to = get_or (sends_to trace.config trace.steps p round) (sent_before trace.steps p round j) 0 in
         let next : next_destination trace.config trace.steps p j ≡ Some to =
-          next_destination-in trace.config trace.steps p j round here ∙ slice_get-get_or (sends_to trace.config trace.steps p round) (sent_before trace.steps p round j) 0 more in
+        next_destination-in trace.config trace.steps p j round here ∙ slice_get-get_or (sends_to trace.config trace.steps p round) (sent_before trace.steps p round j) 0 more in
         let e : act ≡ Send to = paced.sends j to act at next in
         sent_before-send trace.steps p round to j k (at ∙ ap (λ a. Some (record { proc = p; act = a })) e) here l
 
@@ -141,13 +141,13 @@ module _ (trace : Recorded) (patience set g f p : ℕ) (run : IsRun trace.config
         let same = same-round one.place k one.act one.at (omega arith) (omega arith) here in
         let up = sent_before-up trace.steps p round one.place k (omega arith) in
         elim (cases_lt (sent_before trace.steps p round one.place) (length (sends_to trace.config trace.steps p round))) [
-        | inl more ↦ (
-          let grown = sends-first one.place k one.act one.at same l more in
-          elim (sends-in i one.place (one.act, one.at) from same) [
-            | inl enough ↦ inl (omega arith)
-            | inr all ↦ inr (omega arith)
-          ])
-        | inr all ↦ inr (omega arith)
+          | inl more ↦ (
+              let grown = sends-first one.place k one.act one.at same l more in
+              elim (sends-in i one.place (one.act, one.at) from same) [
+                | inl enough ↦ inl (omega arith)
+                | inr all ↦ inr (omega arith)
+              ])
+          | inr all ↦ inr (omega arith)
         ]
 
     -- where all is sent p receives
@@ -163,20 +163,20 @@ module _ (trace : Recorded) (patience set g f p : ℕ) (run : IsRun trace.config
     round-ends most z few late each k is after = elim (cases_lt round (round_at trace.steps p k)) [
       | inl done ↦ omega arith
       | inr not_yet ↦ (
-        let low = there k is (omega arith) in
-        let here : round_at trace.steps p k ≡ round = omega arith in
-        let one = one-before z k (omega arith) is after in
-        let from = one.from in
-        let l = one.earlier in
-        let same = same-round one.place k one.act one.at (omega arith) (omega arith) here in
-        let sent : length (sends_to trace.config trace.steps p round) ≤ sent_before trace.steps p round one.place = elim (sends-in most one.place (one.act, one.at) (omega arith) same) [
-          | inl enough ↦ omega arith
-          | inr all ↦ all
-        ] in
-        let r = receives one.place one.act one.at same sent in
-        let at : step_at trace.steps one.place ≡ Some (record { proc = p; act = Receive r.1 r.0 }) = one.at ∙ ap (λ a. Some (record { proc = p; act = a })) r.2 in
-        let ends = each one.place r.0 r.1 at same from in
-        let next = round_at-ended trace.steps one.place (record { proc = p; act = Receive r.1 r.0 }) at ends in
-        let up = round_at-up trace.config patience trace.steps p (one.place + 1) k (omega arith) in
-        omega arith)
+          let low = there k is (omega arith) in
+          let here : round_at trace.steps p k ≡ round = omega arith in
+          let one = one-before z k (omega arith) is after in
+          let from = one.from in
+          let l = one.earlier in
+          let same = same-round one.place k one.act one.at (omega arith) (omega arith) here in
+          let sent : length (sends_to trace.config trace.steps p round) ≤ sent_before trace.steps p round one.place = elim (sends-in most one.place (one.act, one.at) (omega arith) same) [
+            | inl enough ↦ omega arith
+            | inr all ↦ all
+          ] in
+          let r = receives one.place one.act one.at same sent in
+          let at : step_at trace.steps one.place ≡ Some (record { proc = p; act = Receive r.1 r.0 }) = subst (λ a. step_at trace.steps one.place ≡ Some (record { proc = p; act = a })) r.2 one.at in
+          let ends = each one.place r.0 r.1 at same from in
+          let next = round_at-ended trace.steps one.place (record { proc = p; act = Receive r.1 r.0 }) at ends in
+          let up = round_at-up trace.config patience trace.steps p (one.place + 1) k (omega arith) in
+          omega arith)
     ]

@@ -63,11 +63,11 @@ module _ (c : Setup) (steps : List Step) (q p r : ℕ) (run : IsRun c steps) whe
       go before true e = elim (cases_lt i (count_by (λ s. is_sent_in steps q r s) (range_with_len 1 n))) [
         | inl low ↦ longer (before low to)
         | inr high ↦ (
-          let more = count_by-more (λ s. is_sent_in steps q r s) n ∙ ap (λ b. count_by (λ s. is_sent_in steps q r s) (range_with_len 1 n) + cond b 1 0) e in
-          let is = IsSentIn-from_test steps q r (suc n) e in
-          let f : suc n - 1 ≡ n = omega arith in
-          let place : sent_before steps q r (suc n) ≡ count_by (λ s. is_sent_in steps q r s) (range_with_len 1 n) = ap (λ m. count_by (λ s. is_sent_in steps q r s) (range_with_len 1 m)) f in
-          record { message = suc n; sent = as-sent i (suc n) is (omega arith) to; round_is = is.round; earlier = omega arith })
+            let more = count_by-more (λ s. is_sent_in steps q r s) n ∙ ap (λ b. count_by (λ s. is_sent_in steps q r s) (range_with_len 1 n) + cond b 1 0) e in
+            let is = IsSentIn-from_test steps q r (suc n) e in
+            let f : suc n - 1 ≡ n = omega arith in
+            let place : sent_before steps q r (suc n) ≡ count_by (λ s. is_sent_in steps q r s) (range_with_len 1 n) = ap (λ m. count_by (λ s. is_sent_in steps q r s) (range_with_len 1 m)) f in
+            record { message = suc n; sent = as-sent i (suc n) is (omega arith) to; round_is = is.round; earlier = omega arith })
       ]
 
   pub sent-to : (i k : ℕ) → i < sent_before steps q r k → slice_get (sends_to c steps q r) i ≡ Some p → IsSentBefore steps q p r (suc (k - 1))

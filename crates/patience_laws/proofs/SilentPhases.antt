@@ -113,18 +113,18 @@ module _ (c : Setup) (patience : ℕ) (steps : List Step) (p q : ℕ) (w : IsWel
           (spoken-still k (peer_after c patience steps p q k).spoke s.round s.none before)
       go before (inr x) = elim (part-cases x.ends (rounds_after steps p k) x.mid) [
         | inl part ↦ (
-          let spoke : (peer_after c patience steps p q (suc k)).spoke ≡ x.mid.spoke = ap (λ (y : Peer). y.spoke) (x.new ∙ part.1) in
-          let first : first_after (rounds_after steps p (suc k)) ≡ first_after (rounds_after steps p k) = ap first_after x.round ∙ same-first x.ends (rounds_after steps p k) part.0 in
-          subst (IsSpoken (suc k)) (sym spoke)
-          (elim x.heard [
-            | inl deaf ↦ subst (IsSpoken (suc k)) (sym (ap (λ (y : Peer). y.spoke) deaf.same)) (spoken-same k (peer_after c patience steps p q k).spoke first deaf.none before)
-            | inr listening ↦ subst (IsSpoken (suc k)) (sym listening.spoke) (suc k, omega arith, (let f = round-here steps p k in omega arith), listening.one)
-          ]))
+            let spoke : (peer_after c patience steps p q (suc k)).spoke ≡ x.mid.spoke = ap (λ (y : Peer). y.spoke) (x.new ∙ part.1) in
+            let first : first_after (rounds_after steps p (suc k)) ≡ first_after (rounds_after steps p k) = ap first_after x.round ∙ same-first x.ends (rounds_after steps p k) part.0 in
+            subst (IsSpoken (suc k)) (sym spoke)
+            (elim x.heard [
+              | inl deaf ↦ subst (IsSpoken (suc k)) (sym (ap (λ (y : Peer). y.spoke) deaf.same)) (spoken-same k (peer_after c patience steps p q k).spoke first deaf.none before)
+              | inr listening ↦ subst (IsSpoken (suc k)) (sym listening.spoke) (suc k, omega arith, (let f = round-here steps p k in omega arith), listening.one)
+            ]))
         | inr part ↦ (
-          let spoke : (peer_after c patience steps p q (suc k)).spoke ≡ false = ap (λ (y : Peer). y.spoke) (x.new ∙ part.2) in
-          let ends : rounds_after steps p (suc k) ≡ rounds_after steps p k + 1 = x.round ∙ ap (λ b. rounds_after steps p k + cond b 1 0) part.0 in
-          let three = part.1 in
-          subst (IsSpoken (suc k)) (sym spoke) (λ m from by t. let up = round-up m k by in omega arith))
+            let spoke : (peer_after c patience steps p q (suc k)).spoke ≡ false = ap (λ (y : Peer). y.spoke) (x.new ∙ part.2) in
+            let ends : rounds_after steps p (suc k) ≡ rounds_after steps p k + 1 = x.round ∙ ap (λ b. rounds_after steps p k + cond b 1 0) part.0 in
+            let three = part.1 in
+            subst (IsSpoken (suc k)) (sym spoke) (λ m from by t. let up = round-up m k by in omega arith))
       ]
 
   -- what was silent is so with one step more
@@ -178,9 +178,9 @@ module _ (c : Setup) (patience : ℕ) (steps : List Step) (p q : ℕ) (w : IsWel
                 nothing = nothing-more (rounds_after steps p k + 1 - 3) k (subst (λ n. TakesNothingOf steps p q n k) e nothing) deaf.none;
                 behind = λ h. elim (heard-cases c patience steps p q w is (rounds_after steps p k + 1) k h) [
                   | inl old ↦ (
-                    let know = noted c patience steps p q w is (rounds_after steps p k + 1) k (omega arith) old in
-                    let same = ap (λ (y : Peer). y.latest) deaf.same in
-                    omega arith)
+                      let know = noted c patience steps p q w is (rounds_after steps p k + 1) k (omega arith) old in
+                      let same = ap (λ (y : Peer). y.latest) deaf.same in
+                      omega arith)
                   | inr m ↦ deaf.none m.0
                 ];
               }
@@ -243,9 +243,9 @@ module _ (c : Setup) (patience : ℕ) (steps : List Step) (p q : ℕ) (w : IsWel
               let late : nat_lt x.mid.latest (rounds_after steps p k + 1) ≡ true = elim (cases_lt x.mid.latest (rounds_after steps p k + 1)) [
                 | inl low ↦ lt-ltb x.mid.latest (rounds_after steps p k + 1) low
                 | inr high ↦ (
-                  let same = ap (λ (y : Peer). y.latest) deaf.same in
-                  let is_known = heard c patience steps p q w is k (omega arith) in
-                  absurd (s.behind (heard-weaker steps p q (peer_after c patience steps p q k).latest s.round k s.place (omega arith) (omega arith) is_known)))
+                    let same = ap (λ (y : Peer). y.latest) deaf.same in
+                    let is_known = heard c patience steps p q w is k (omega arith) in
+                    absurd (s.behind (heard-weaker steps p q (peer_after c patience steps p q k).latest s.round k s.place (omega arith) (omega arith) is_known)))
               ] in
               ap (λ (y : Peer). y.suspected) (x.new ∙ part.2) ∙ or-true x.mid.suspected (not x.mid.spoke && nat_lt x.mid.latest (rounds_after steps p k + 1)) (rw (quiet, late) refl)
             where

@@ -22,7 +22,7 @@ suspect-unheard c patience steps p q n s w is late suspects h = go (suspected-si
     go : WasSilent steps p q n → ⊥
     go was = elim (cases_lt was.place h.place) [
       | inl after ↦ was.nothing h.place (let up = round_at-up c patience steps p was.place h.place (omega arith) in let e = was.round_is in omega arith) h.by
-        (record { message = h.message; sent = h.sent; take = h.take })
+          (record { message = h.message; sent = h.sent; take = h.take })
       | inr before ↦ was.behind (record { message = h.message; sent = h.sent; later = passed-by was.place was.step was.round_is was.by; place = h.place; take = h.take; by = before })
     ]
       where

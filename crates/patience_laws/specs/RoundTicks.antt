@@ -1,5 +1,7 @@
 -- By which tick a round is over.
-use Rattle.std.specs.Prelude.{ℕ, ◌≡◌, ◌-◌, ◌≤◌, List, Some, Bool, true, false, IsTrue}
+use Rattle.std.specs.Prelude.{ℕ, ◌≡◌, ◌-◌, ◌≤◌, List, Some, Bool, true, false, IsTrue, ◌==◌, ◌&&◌, nat_le, count_by}
+use Rattle.std.specs.List.{range_with_len}
+use Rattle.std.specs.Option.{option_map_or}
 use Rattle.step_trace.specs.declared.steps.Act.TheVariants.{Receive}
 use Rattle.step_trace.specs.declared.steps.Step.{Step}
 use Rattle.step_trace.specs.Configurations.{Setup, IsProc}
@@ -42,3 +44,11 @@ may_hear_of c steps p round q = may_hear c (state_after c (heard_table steps) (r
 pub record HearsMembers (patience set : ℕ) (trace : Recorded) (p round x : ℕ) : Type 0 where
   pub members : (q : ℕ) → IsTrue (has_proc set q) → may_hear_of trace.config trace.steps p round q ≡ true → HasHeardFrom trace p q round x
   pub others : (q : ℕ) → IsProc trace.config q → has_proc set q ≡ false → may_hear_of trace.config trace.steps p round q ≡ true → SuspectsFrom patience trace p q x
+
+-- whether step j is one of p, from this tick on
+abbrev pub is_step_since : Recorded → ℕ → ℕ → ℕ → Bool
+is_step_since trace p x j = option_map_or (λ s. s.proc == p) (step_at trace.steps j) false && nat_le x (tick_of trace j)
+
+-- how many steps p makes before step k, from this tick on
+abbrev pub steps_since : Recorded → ℕ → ℕ → ℕ → ℕ
+steps_since trace p x k = count_by (is_step_since trace p x) (range_with_len 1 (k - 1))

@@ -4,7 +4,7 @@ ghost use Rattle.std.specs.Prelude.{ℕ, ◌≡◌, ◌+◌, ◌-◌, ◌*◌, �
 ghost use Rattle.step_trace.specs.declared.steps.Step.{Step as TraceStep};
 ghost use Rattle.step_trace.specs.Configurations.{Setup, IsProc, IsSetup};
 ghost use Rattle.step_trace.specs.Processors.{has_proc, IsWithin};
-ghost use Rattle.step_trace.specs.Traces.{Recorded, IsReceiveOf, IsWellFormed};
+ghost use Rattle.step_trace.specs.Traces.{Recorded, IsReceiveOf, IsStepOf, IsWellFormed};
 ghost use Rattle.step_trace.specs.Ticks.{IsTimed, IsTrace, tick_of};
 ghost use Rattle.step_trace.specs.Bounds.{DeltaHolds, PhiHolds};
 ghost use Rattle.lock_phases.specs.Hearing.{number_of};
@@ -18,7 +18,7 @@ ghost use Rattle.deciding_runs.specs.Peers.{is_heard_of};
 ghost use Rattle.patience_laws.specs.PacedRuns.{StepsByPace, peer_after};
 ghost use Rattle.patience_laws.specs.LeastRounds.{AreInRoundFrom, AreInTouch, IsHeardOutByAll, KeepsBounds, OweAcknowledgements};
 ghost use Rattle.patience_laws.specs.Meetings.{ComeTogether, MeetOnce};
-ghost use Rattle.patience_laws.specs.RoundTicks.{EachEnds, HasHeardFrom, HearsMembers, IsInRoundFrom, sends_to};
+ghost use Rattle.patience_laws.specs.RoundTicks.{EachEnds, HasHeardFrom, HearsMembers, IsInRoundFrom, sends_to, steps_since};
 ghost use Rattle.patience_laws.specs.Silence.{Suspects, TakesOf, WasSilent};
 
 use deciding_runs::heard_out_laws;
@@ -59,7 +59,8 @@ pub fn silence_laws()
 /// from tick z on, the round is over by tick z + f (`ends`). They do if it has heard of a round more than a phase ahead
 /// (`behind`), and if the set has N - t members, it has heard of all of them that it may hear in the round, and suspects
 /// all others (`hears`). By the communication bound d, what one member sends to another from tick g on is taken by each
-/// Receive d ticks later (`taken`).
+/// Receive d ticks later (`taken`). In so many times f ticks a processor makes as many steps (`steps`); so who is left behind
+/// passes a phase in (2 N + 6) f ticks (`catches_up`).
 pub fn round_laws()
     ensures ends { (trace : Recorded) (patience set g f p round x most z : ℕ) → IsRun trace.config trace.steps
         → IsTimed trace → StepsByPace trace.config patience trace.steps p → IsTrue (has_proc set p)
@@ -75,6 +76,15 @@ pub fn round_laws()
         → PhiHolds set trace g f → g ≤ x → IsInRoundFrom trace p round x
         → length (sends_to trace.config trace.steps p round) ≤ most → IsProc trace.config q
         → HasHeardFrom trace p q (round + 5) (x + most * f) → IsInRoundFrom trace p (round + 1) (x + most * f + f) }
+    ensures steps { (trace : Recorded) (patience set g f p x count k : ℕ) → IsRun trace.config trace.steps
+        → IsTimed trace → StepsByPace trace.config patience trace.steps p → IsTrue (has_proc set p)
+        → PhiHolds set trace g f → g ≤ x → IsStepOf trace.steps k p → x + count * f ≤ tick_of trace k
+        → count ≤ steps_since trace p x k }
+    ensures catches_up { (trace : Recorded) (patience set g f p q round x : ℕ) → IsRun trace.config trace.steps
+        → IsTimed trace → StepsByPace trace.config patience trace.steps p → IsTrue (has_proc set p)
+        → PhiHolds set trace g f → g ≤ x → IsInRoundFrom trace p round x → 1 ≤ round → part_of round ≡ 1
+        → IsProc trace.config q → HasHeardFrom trace p q (round + 8) x
+        → IsInRoundFrom trace p (round + 4) (x + (2 * trace.config.n + 6) * f) }
     ensures hears { (trace : Recorded) (patience set g f p round x most z : ℕ) → IsRun trace.config trace.steps
         → IsTimed trace → StepsByPace trace.config patience trace.steps p → IsTrue (has_proc set p)
         → PhiHolds set trace g f → g ≤ x → IsInRoundFrom trace p round x
