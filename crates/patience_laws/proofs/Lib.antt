@@ -1,5 +1,6 @@
 mod HeardMessages
 mod PacedSteps
+mod GrownPaces
 mod HeardPeers
 mod KnownRounds
 mod SilentPhases

@@ -1,15 +1,16 @@
 -- Runs in which a processor steps by the pace "heard out" (own).
-use Rattle.std.specs.Prelude.{ℕ, zero, suc, ◌≡◌, ◌+◌, ◌-◌, List, Option, Some, None, take, slice_get, ◌==◌, if◌then◌else◌, Bool}
+use Rattle.std.specs.Prelude.{ℕ, zero, suc, ◌≡◌, ◌+◌, ◌-◌, List, Option, Some, None, take, length, slice_get, ◌==◌, if◌then◌else◌, Bool}
 use Rattle.step_trace.specs.declared.steps.Act.{Act}
 use Rattle.step_trace.specs.declared.steps.Act.TheVariants.{Send, Receive}
 use Rattle.step_trace.specs.declared.steps.Step.{Step}
 use Rattle.step_trace.specs.Configurations.{Setup}
 use Rattle.step_trace.specs.Traces.{step_at}
 use Rattle.step_buffers.specs.HeardTables.{passed, before, round_at}
+use Rattle.step_buffers.specs.Moves.{next_send}
 use Rattle.step_buffers.specs.Runs.{next_destination, node_before}
 use Rattle.deciding_runs.specs.declared.peers.Peer.{Peer}
 use Rattle.deciding_runs.specs.Peers.{peer_of}
-use Rattle.deciding_runs.specs.Paces.{Paced, opening_pace, heard_ids, is_over, after_receive}
+use Rattle.deciding_runs.specs.Paces.{Paced, opening_pace, heard_ids, is_over, ends_taking, after_receive}
 
 -- the pace of p after a step of its own that comes after these steps
 abbrev pub pace_acting : List Step → ℕ → Act → Paced → Paced
@@ -41,3 +42,14 @@ pub record StepsByPace (c : Setup) (patience : ℕ) (steps : List Step) (p : ℕ
   pub sends : (k to : ℕ) (act : Act) → step_at steps k ≡ Some (record { proc = p; act = act }) → next_destination c steps p k ≡ Some to → act ≡ Send to
   pub ends : (k : ℕ) (ids : List ℕ) (ends : Bool) → step_at steps k ≡ Some (record { proc = p; act = Receive ends ids })
       → ends ≡ is_over c (node_before c steps p k) (round_at steps p k) p (pace_taking c patience steps p k ids)
+
+-- what p does next by its pace, by where it sends next: it sends there, or a Receive ends its round exactly if the round
+-- is over then
+abbrev pub IsPacedAct : Setup → ℕ → List Step → ℕ → Option ℕ → Act → Type 0
+IsPacedAct c patience steps p (Some to) act = act ≡ Send to
+IsPacedAct c patience steps p None (Send to) = Unit {0}
+IsPacedAct c patience steps p None (Receive ends ids) = ends ≡ ends_taking c steps p ids (pace_after c patience steps p (length steps))
+
+-- if the step is one of p, it is what p does next by its pace
+abbrev pub IsPacedStep : Setup → ℕ → List Step → ℕ → Step → Type 0
+IsPacedStep c patience steps p step = step.proc ≡ p → IsPacedAct c patience steps p (next_send c steps p) step.act

@@ -1,6 +1,6 @@
 //! What a pace knows of the others, whom it suspects, and how long a round may take by it.
 
-ghost use Rattle.std.specs.Prelude.{ℕ, ◌≡◌, ◌+◌, ◌-◌, ◌*◌, ◌<◌, ◌≤◌, List, length, true, IsTrue};
+ghost use Rattle.std.specs.Prelude.{ℕ, ◌≡◌, ◌+◌, ◌-◌, ◌*◌, ◌<◌, ◌≤◌, List, length, true, IsTrue, ◌++◌, ◌∷◌, [], suc, Some};
 ghost use Rattle.step_trace.specs.declared.steps.Step.{Step as TraceStep};
 ghost use Rattle.step_trace.specs.Configurations.{Setup, IsProc, IsSetup};
 ghost use Rattle.step_trace.specs.Processors.{has_proc, IsWithin};
@@ -15,7 +15,7 @@ ghost use Rattle.step_buffers.specs.Runs.{IsRun, IsSend, node_at};
 ghost use Rattle.deciding_runs.specs.HeardOut.{HasHeardOf, IsTakenBefore};
 ghost use Rattle.deciding_runs.specs.Together.{HavePassedBy};
 ghost use Rattle.deciding_runs.specs.Peers.{is_heard_of};
-ghost use Rattle.patience_laws.specs.PacedRuns.{StepsByPace, peer_after};
+ghost use Rattle.patience_laws.specs.PacedRuns.{IsPacedStep, StepsByPace, pace_after, pace_stepping, peer_after};
 ghost use Rattle.patience_laws.specs.LeastRounds.{AreInRoundFrom, AreInTouch, IsHeardOutByAll, KeepsBounds, OweAcknowledgements};
 ghost use Rattle.patience_laws.specs.Meetings.{ComeTogether, MeetOnce};
 ghost use Rattle.patience_laws.specs.RoundTicks.{EachEnds, HasHeardFrom, HearsMembers, IsInRoundFrom, sends_to, steps_since};
@@ -23,9 +23,24 @@ ghost use Rattle.patience_laws.specs.Silence.{Suspects, TakesOf, WasSilent};
 
 use deciding_runs::heard_out_laws;
 
+/// A run by the pace goes on with what `Pace::take` and `Pace::next_move` of `deciding_runs` answer (own).
+///
+/// A theorem: it stands in the contract, and calling it does nothing. No steps are a run by the pace (`begins`). With a
+/// step more it stays one, if the step is another processor's or what the pace answers (`moved`), and the pace goes on as
+/// that answer says (`pace`).
+pub fn paced_laws()
+    ensures begins { (c : Setup) (patience p : ℕ) → StepsByPace c patience [] p }
+    ensures moved { (c : Setup) (patience : ℕ) (steps : List TraceStep) (step : TraceStep) (p : ℕ) → IsWellFormed c steps
+        → StepsByPace c patience steps p → IsPacedStep c patience steps p step
+        → StepsByPace c patience (steps ++ step ∷ []) p }
+    ensures pace { (c : Setup) (patience : ℕ) (steps : List TraceStep) (step : TraceStep) (p : ℕ)
+        → pace_after c patience (steps ++ step ∷ []) p (suc (length steps))
+        ≡ pace_stepping steps p (Some step) (pace_after c patience steps p (length steps)) }
+{}
+
 /// What a pace knows of a processor is what was taken of it (own).
 ///
-/// A theorem: it stands in the contract, and calling it does nothing. Of the round in which a processor is, and of
+/// A theorem, as `paced_laws` is. Of the round in which a processor is, and of
 /// later ones, its pace has heard another one exactly if it took a message of it of that round or of a later one.
 pub fn knowledge_laws()
     ensures noted { (c : Setup) (patience : ℕ) (steps : List TraceStep) (p q round k : ℕ) → IsWellFormed c steps
@@ -38,7 +53,7 @@ pub fn knowledge_laws()
 
 /// Who is suspected, and since when (own).
 ///
-/// A theorem, as `knowledge_laws` is. A processor suspects another one exactly if it ended a phase in which it took
+/// A theorem, as `paced_laws` is. A processor suspects another one exactly if it ended a phase in which it took
 /// nothing of it, nor has it since, and had heard nothing of it of the last round of that phase or of a later one
 /// (`silent`, `suspects`). So it goes on to suspect it until it takes something of it (`stays`).
 pub fn silence_laws()
@@ -54,7 +69,7 @@ pub fn silence_laws()
 
 /// How soon a round is over, by the processor bound f.
 ///
-/// A theorem, as `knowledge_laws` is. A processor with at most `most` messages to send in its round has sent them
+/// A theorem, as `paced_laws` is. A processor with at most `most` messages to send in its round has sent them
 /// `most` times f ticks after it came to the round. From then on each of its Receives may end the round; if each does
 /// from tick z on, the round is over by tick z + f (`ends`). They do if it has heard of a round more than a phase ahead
 /// (`behind`), and if the set has N - t members, it has heard of all of them that it may hear in the round, and suspects
@@ -96,7 +111,7 @@ pub fn round_laws()
 
 /// By which tick the least round of the members is over, by the bounds d and f (own).
 ///
-/// A theorem, as `knowledge_laws` is. At least N - t members step by the pace, are in a round or in later ones from tick x
+/// A theorem, as `paced_laws` is. At least N - t members step by the pace, are in a round or in later ones from tick x
 /// on, and suspect all others; and what they send in these rounds comes under the bounds. Then the round is over for all
 /// of them d + 2 f ticks later if it is a listing round, d + (N + 4) f later if it is a locking round, d + 2 f later
 /// if it is an acknowledging round in which all owe an acknowledgement to an owner with a proposal, and d + (N + 1) f later
@@ -124,7 +139,7 @@ pub fn least_laws()
 
 /// Members that come to a round together, and have the patience for it, decide (own).
 ///
-/// A theorem, as `knowledge_laws` is. At least N - t members step by the pace with a patience of at least 5 d + (3 N + 10) f
+/// A theorem, as `paced_laws` is. At least N - t members step by the pace with a patience of at least 5 d + (3 N + 10) f
 /// Receives, come to the first round of a phase within d + (N + 1) f ticks of one another, suspect no member and
 /// suspect all others; and what they say from then on comes under the bounds and is taken in order. Then no patience ends
 /// a round of theirs, and none is left behind: each round is ended when all members were heard that may be heard in it
