@@ -52,13 +52,7 @@ module _ (c : Setup) (patience : ℕ) (steps : List Step) (p : ℕ) where
           let g : rounds_after steps p n + 1 ≡ round = omega arith in
           (record { place = n; ids = r.ids; step = r.step ∙ ap (λ b. Some (record { proc = p; act = Receive b r.ids })) e; round_is = g; after = f ∙ g }, omega arith)
 
--- a Receive has the patience anew, or one less
-left-renewed : (round : ℕ) (x : Paced) → (after_receive true round x).left ≡ x.patience
-left-renewed round x = refl
-
-left-less : (round : ℕ) (x : Paced) → (after_receive false round x).left ≡ x.left - 1
-left-less round x = refl
-
+-- a Receive leaves the patience as it is
 patience-kept : (ends : Bool) (round : ℕ) (x : Paced) → (after_receive ends round x).patience ≡ x.patience
 patience-kept true round x = refl
 patience-kept false round x = refl
