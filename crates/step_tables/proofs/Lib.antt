@@ -1,0 +1,2 @@
+pub mod RefusalsGoOn
+pub mod Texts

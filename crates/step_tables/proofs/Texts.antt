@@ -1,0 +1,26 @@
+-- Bytes that are text, and bytes that aren't; and the words of a field.
+use Rattle.std.proofs.Common.{◌≡◌, ℕ, ◌<◌, ◌==◌, ◌∷◌, List, [], length, arith, Bool, true, false, Some, None, refl}
+use Rattle.std.specs.Prelude.{if◌then◌else◌}
+use Rattle.std.specs.List.{slice_split}
+use Rattle.std.specs.Str.{IsUtf8, is_utf8}
+use Rattle.std.proofs.lemmas.Str.{IsUtf8-from_is_utf8, is_utf8-from_IsUtf8}
+use Rattle.step_tables.specs.Names.{text_of, words_of}
+
+pub text_of-text : (bytes : List ℕ) → IsUtf8 bytes → Some bytes ≡ text_of bytes
+unfolding text_of
+text_of-text bytes text = rw (is_utf8-from_IsUtf8 bytes text) refl
+
+pub text_of-broken : (bytes : List ℕ) → ¬ (IsUtf8 bytes) → None ≡ text_of bytes
+unfolding text_of
+text_of-broken bytes broken = go (is_utf8 bytes) refl where
+  go : (t : Bool) → is_utf8 bytes ≡ t → None ≡ (if t then Some bytes else None)
+  go true e = absurd (broken (IsUtf8-from_is_utf8 bytes e))
+  go false e = refl
+
+pub words-none : (field : List ℕ) → length field ≡ 0 → words_of field ≡ []
+words-none [] e = refl
+words-none (b ∷ bs) e = absurd (omega (arith, e))
+
+pub words-split : (field : List ℕ) → 0 < length field → words_of field ≡ slice_split (λ byte. byte == 32) field
+words-split [] lt = absurd (omega (arith, lt))
+words-split (b ∷ bs) lt = refl

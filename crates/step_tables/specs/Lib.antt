@@ -1,0 +1,5 @@
+pub mod Names
+pub mod Records
+pub mod RefusalTexts
+pub mod Tables
+pub mod Told

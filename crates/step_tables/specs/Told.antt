@@ -1,0 +1,18 @@
+-- What a table says of a trace (own).
+use Rattle.std.specs.Prelude.{ℕ, List, Option}
+use Rattle.step_trace.specs.Traces.{Recorded}
+
+-- what it says of a step: the number of its record in the log, if it has one, and what its message is called, if it is a Send
+pub record Said : Type 0 where
+  pub source : Option ℕ
+  pub message : List ℕ
+
+-- what the processors are called, in their order, where nothing stands for one that no record names; and what is said of each step
+pub record Told : Type 0 where
+  pub nodes : List (List ℕ)
+  pub rows : List Said
+
+-- the trace that a table is read for, and what it says so far; None before the header
+pub record SoFar : Type 0 where
+  pub trace : Recorded
+  pub told : Option Told

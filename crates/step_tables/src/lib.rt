@@ -1,0 +1,14 @@
+//! The table of the steps of a trace, as `import --table` writes it: read, and tested against the trace. `specs/` has the
+//! definitions that the contracts cite.
+#![tactic(auto)]
+
+mod names;
+mod reading;
+mod records;
+mod refusal_texts;
+mod refusals;
+mod tables;
+
+pub use reading::table_of_text;
+pub use refusals::TableError;
+pub use tables::{StepRow, StepTable, message_at, source_at};
