@@ -4,13 +4,14 @@ use Rattle.trace_text.specs.RefusalTexts.{text_error_text}
 use Rattle.front.specs.RefusalTexts.{report_error_text}
 use Rattle.event_log.specs.RefusalTexts.{log_error_text}
 use Rattle.judged_runs.specs.RefusalTexts.{decisions_error_text, run_list_error_text}
+use Rattle.step_tables.specs.RefusalTexts.{table_error_text}
 use Rattle.command_faults.specs.declared.faults.Fault.{Fault}
 use Rattle.command_faults.specs.declared.faults.Fault.TheVariants as fault
 use Rattle.command_faults.specs.declared.faults.PictureOption.{PictureOption}
 use Rattle.command_faults.specs.declared.faults.PictureOption.TheVariants as option
 use Rattle.command_faults.specs.declared.faults.ListedField.{ListedField}
 use Rattle.command_faults.specs.declared.faults.ListedField.TheVariants as field
-use Rattle.command_faults.specs.Hints.{certificate_hint, decisions_hint, due_hint, file_hint, formula_hint, listed_hint, picture_hint, run_list_hint, trace_hint}
+use Rattle.command_faults.specs.Hints.{certificate_hint, decisions_hint, due_hint, file_hint, formula_hint, listed_hint, picture_hint, run_list_hint, table_hint, trace_hint}
 use Rattle.command_faults.specs.LogFaultLines.{help_line, import_option_words, length_hint, log_lead}
 use Rattle.command_faults.specs.OutsideLines.{member_line, report_option_words, set_option_words, tick_line}
 
@@ -37,6 +38,7 @@ fault_line (fault.Trace reason) = codes "synchrony: trace: " ++ (text_error_text
 fault_line (fault.Certificate reason) = codes "synchrony: certificate: " ++ (report_error_text reason ++ certificate_hint reason)
 fault_line (fault.Decisions reason) = codes "synchrony: decisions: " ++ (decisions_error_text reason ++ decisions_hint reason)
 fault_line (fault.Runs reason) = codes "synchrony: runs: " ++ (run_list_error_text reason ++ run_list_hint reason)
+fault_line (fault.Table reason) = codes "synchrony: table: " ++ (table_error_text reason ++ table_hint reason)
 fault_line (fault.Listed field) = codes "synchrony: bad " ++ (listed_field_words field ++ listed_hint field)
 fault_line (fault.Within why) = codes "synchrony: bad --within" ++ formula_hint why
 fault_line fault.Memory = codes "synchrony: out of memory"

@@ -14,6 +14,8 @@ use Rattle.judged_runs.specs.declared.refusals.DecisionsError.{DecisionsError}
 use Rattle.judged_runs.specs.declared.refusals.DecisionsError.TheVariants as undecided
 use Rattle.judged_runs.specs.declared.refusals.RunListError.{RunListError}
 use Rattle.judged_runs.specs.declared.refusals.RunListError.TheVariants as unlisted
+use Rattle.step_tables.specs.declared.refusals.TableError.{TableError}
+use Rattle.step_tables.specs.declared.refusals.TableError.TheVariants as untabled
 use Rattle.event_log.specs.declared.options.OptionError.{OptionError}
 use Rattle.event_log.specs.declared.options.OptionError.TheVariants as no_options
 use Rattle.event_log.specs.declared.refusals.LogError.{LogError}
@@ -45,6 +47,7 @@ status_of (fault.Trace e) = 3
 status_of (fault.Certificate e) = 4
 status_of (fault.Decisions e) = 4
 status_of (fault.Runs e) = 4
+status_of (fault.Table e) = 3
 status_of (fault.Listed field) = 4
 status_of (fault.Within why) = 2
 status_of fault.Memory = 5
@@ -80,6 +83,11 @@ fault_of_decisions e = fault.Decisions e
 abbrev pub fault_of_run_list : RunListError → Fault
 fault_of_run_list unlisted.Memory = fault.Memory
 fault_of_run_list e = fault.Runs e
+
+-- the fault that a refusal of a table is, likewise
+abbrev pub fault_of_table : TableError → Fault
+fault_of_table untabled.Memory = fault.Memory
+fault_of_table e = fault.Table e
 
 -- the fault that a text which is no formula is
 abbrev pub fault_of_formula : FormulaError → Fault

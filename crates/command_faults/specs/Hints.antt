@@ -8,6 +8,8 @@ use Rattle.judged_runs.specs.declared.refusals.DecisionsError.{DecisionsError}
 use Rattle.judged_runs.specs.declared.refusals.DecisionsError.TheVariants as undecided
 use Rattle.judged_runs.specs.declared.refusals.RunListError.{RunListError}
 use Rattle.judged_runs.specs.declared.refusals.RunListError.TheVariants as unlisted
+use Rattle.step_tables.specs.declared.refusals.TableError.{TableError}
+use Rattle.step_tables.specs.declared.refusals.TableError.TheVariants as untabled
 use Rattle.step_buffers.specs.declared.dues.Due.{Due}
 use Rattle.step_buffers.specs.declared.dues.DueStep.{DueStep}
 use Rattle.step_buffers.specs.declared.dues.DueStep.TheVariants.{SendTo, SendFirst, Receive}
@@ -55,6 +57,11 @@ decisions_hint e = []
 abbrev pub run_list_hint : RunListError → List ℕ
 run_list_hint unlisted.BadHeader = hint (codes "a list of runs begins with trace,decisions,correct,start")
 run_list_hint e = []
+
+-- where the table of a trace comes from
+abbrev pub table_hint : TableError → List ℕ
+table_hint untabled.TooLarge = []
+table_hint e = hint (codes "import LOG --table prints the table of a trace, by the options by which import LOG printed the trace")
 
 -- what a field of a run in a list takes
 abbrev pub listed_hint : ListedField → List ℕ

@@ -6,7 +6,7 @@ ghost use Rattle.command_faults.specs.FaultLines.{fault_line, ended_line};
 use crate::faults::{Fault, ListedField, PictureOption};
 use crate::hints::{
     CertificateHint, DecisionsHint, DueHint, FileHint, FormulaHint, ListedHint, PictureHint,
-    RunListHint, TraceHint,
+    RunListHint, TableHint, TraceHint,
 };
 use crate::log_fault_lines::{HelpLine, LengthHint, LogLead};
 use crate::outside_lines::{MemberLine, TickLine};
@@ -53,6 +53,7 @@ impl fmt::Display for Fault {
                 write!(f, "synchrony: decisions: {why}{}", DecisionsHint(why))
             }
             Fault::Runs(why) => { write!(f, "synchrony: runs: {why}{}", RunListHint(why)) }
+            Fault::Table(why) => { write!(f, "synchrony: table: {why}{}", TableHint(why)) }
             Fault::Listed(field) => { write!(f, "synchrony: bad {field}{}", ListedHint(*field)) }
             Fault::Within(why) => { write!(f, "synchrony: bad --within{}", FormulaHint(*why)) }
             Fault::Memory => f.write_str("synchrony: out of memory"),

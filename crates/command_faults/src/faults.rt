@@ -10,6 +10,7 @@ use front::ReportError;
 use judged_runs::{DecisionsError, RunListError};
 use std::alloc::AllocError;
 use step_buffers::{Due, ReplayError};
+use step_tables::TableError;
 use thiserror::Error;
 use trace_text::{TextError, WriteError};
 
@@ -28,6 +29,8 @@ pub enum Fault {
     Decisions(DecisionsError),
     /// The list of runs is refused. `Memory` is a fault of its own.
     Runs(RunListError),
+    /// The table of the trace's steps is refused. `Memory` is a fault of its own.
+    Table(TableError),
     /// This field of a run in a list says nothing that the run can be judged by.
     Listed(ListedField),
     /// The text of a deadline is no formula, for this reason.
@@ -207,6 +210,19 @@ impl From<RunListError> for Fault {
     }
 }
 
+impl From<TableError> for Fault {
+    ghost use Rattle.command_faults.specs.Faults.{fault_of_table};
+
+    ghost from_gives = { λ why made. made ≡ fault_of_table why };
+
+    fn from(why: TableError) -> Fault {
+        match why {
+            TableError::Memory => Fault::Memory,
+            why => Fault::Table(why),
+        }
+    }
+}
+
 impl From<FormulaError> for Fault {
     ghost use Rattle.command_faults.specs.Faults.{fault_of_formula};
 
@@ -286,7 +302,7 @@ pub fn status(fault: &Fault) -> u8
         Fault::Picture(_) | Fault::Report(_, _) | Fault::Import(_) => 2,
         Fault::Length(_, _) => 2,
         Fault::Log(LogError::TickUnfit | LogError::UntilUnfit | LogError::IdleUnfit) => 2,
-        Fault::Trace(_) | Fault::Log(_) => 3,
+        Fault::Trace(_) | Fault::Log(_) | Fault::Table(_) => 3,
         Fault::Certificate(_) | Fault::Decisions(_) => 4,
         Fault::Runs(_) | Fault::Listed(_) => 4,
         Fault::Memory => 5,

@@ -10,6 +10,7 @@ use front::ReportError;
 use judged_runs::{DecisionsError, RunListError};
 use std::fmt;
 use step_buffers::{Due, DueStep};
+use step_tables::TableError;
 use trace_text::TextError;
 
 /// The file that wasn't read, and why.
@@ -120,6 +121,26 @@ impl fmt::Display for RunListHint<'_> {
                 "\nsynchrony: a list of runs begins with trace,decisions,correct,start",
             ),
             _ => f.write_str(""),
+        }
+    }
+}
+
+/// Where the table of a trace comes from, where a text is none of it.
+#[derive(Clone, Copy)]
+pub(crate) struct TableHint<'a>(pub(crate) &'a TableError);
+
+impl fmt::Display for TableHint<'_> {
+    ghost use Rattle.std.specs.Prelude.{Some};
+    ghost use Rattle.command_faults.specs.Hints.{table_hint};
+
+    ghost output = { λ hint. Some (table_hint hint.0.now) };
+
+    fn fmt<W: fmt::Write>(&self, f: &mut fmt::Formatter<W>) -> fmt::Result {
+        match self.0 {
+            TableError::TooLarge => f.write_str(""),
+            _ => f.write_str(
+                "\nsynchrony: import LOG --table prints the table of a trace, by the options by which import LOG printed the trace",
+            ),
         }
     }
 }
