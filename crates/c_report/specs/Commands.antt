@@ -1,5 +1,5 @@
 -- What the words of a command line are answered, and what the room holds then.
-use Rattle.std.specs.Prelude.{ℕ, ◌≡◌, ◌≢◌, ◌<◌, ◌≤◌, ◌⊎◌, ◌==◌, List, ◌∷◌, length, option_map, IsUtf8, codes, string_bytes, ⊤}
+use Rattle.std.specs.Prelude.{ℕ, ◌≡◌, ◌≢◌, ◌<◌, ◌≤◌, ◌⊎◌, ◌==◌, List, ◌∷◌, length, Option, String, option_map, IsUtf8, codes, string_bytes, ⊤}
 use Rattle.std.specs.List.{slice_split}
 use Rattle.certificate_checker.specs.declared.verdicts.Verdict.{Verdict}
 use Rattle.command_options.specs.declared.ImportForm.{ImportForm}
@@ -24,7 +24,7 @@ use Rattle.text_commands.specs.Drawings.{IsDrawingOf, IsUndrawnTrace}
 use Rattle.text_commands.specs.EachBounds.{IsEachOf, IsNoEach}
 use Rattle.text_commands.specs.Imports.{IsImportOptionFault, IsImportText, IsUnimported}
 use Rattle.text_commands.specs.Judgings.{IsJudgementOn, IsUnjudged}
-use Rattle.text_commands.specs.Pages.{IsNoPage, IsPageOf}
+use Rattle.text_commands.specs.Pages.{IsNoPageBy, IsPageBy}
 use Rattle.text_commands.specs.Replays.{IsOffRun, IsReplayOf}
 use Rattle.text_commands.specs.ReportParts.{IsPartOfReport, IsUntoldPart}
 use Rattle.text_commands.specs.TimeoutTables.{AreTimeoutsOf, IsNoTable}
@@ -123,6 +123,10 @@ abbrev pub IsUnimportedFor : ImportOptions → List ℕ → Fault → Type 0
 IsUnimportedFor given log w = IsImportOptionFault (option_map string_bytes given.nodes) (option_map string_bytes given.unit) (option_map string_bytes given.tick) (option_map string_bytes given.until) (option_map string_bytes given.idle) w
     ⊎ ((o : Options) × AreImportOptions given o × IsUnimported o log w)
 
+-- the second text, if a file is named for it
+abbrev pub second_if : {B : Type 0} → Option (String B) → List ℕ → Option (List ℕ)
+second_if file second = option_map (λ _. second) file
+
 -- what is printed for a job, of the text that is lent and, in a check, of the second one, and with which status
 abbrev pub IsPrintedFor : Job → List ℕ → List ℕ → ℕ → List ℕ → Type 0
 IsPrintedFor (job.Report j) text second = IsPrintedOf (string_bytes j.file) (IsAnswerTo (IsPartOfReport j.part) text)
@@ -132,7 +136,7 @@ IsPrintedFor (job.Timeouts j) text second = IsPrintedOf (string_bytes j.file) (I
 IsPrintedFor (job.Replay j) text second = IsPrintedOf (string_bytes j.file) (IsAnswerTo IsReplayOf text)
 IsPrintedFor (job.Upgrade j) text second = IsPrintedOf (string_bytes j.file) (IsAnswerTo IsUpgradeOf text)
 IsPrintedFor (job.Draw j) text second = IsPrintedOf (string_bytes j.file) (IsAnswerTo (IsDrawingOf j.drawing) text)
-IsPrintedFor (job.Page j) text second = IsPrintedOf (string_bytes j.file) (IsAnswerTo (IsPageOf j.page) text)
+IsPrintedFor (job.Page j) text second = IsPrintedOf (string_bytes j.file) (IsAnswerTo (IsPageBy j.page (second_if j.table second)) text)
 IsPrintedFor (job.Import j) text second = IsPrintedOf (string_bytes j.file) (IsImportFor j.options text)
 IsPrintedFor (job.Check j) text second = IsLineOf (string_bytes j.file) (λ verdict. OfTrace (IsVerdictOn j.claim.correct j.claim.until second verdict) text)
 IsPrintedFor (job.Judge j) text second = IsJudgementPrinted (string_bytes j.file) (λ verdict out. OfTrace (IsJudgementOn j.judging second verdict out) text)
@@ -150,7 +154,7 @@ IsUnprintedFor (job.Timeouts j) text second = IsUnprintedOf (string_bytes j.file
 IsUnprintedFor (job.Replay j) text second = IsUnprintedOf (string_bytes j.file) (IsUnanswered IsOffRun text)
 IsUnprintedFor (job.Upgrade j) text second = IsUnprintedOf (string_bytes j.file) (IsUnanswered IsNothingElse text)
 IsUnprintedFor (job.Draw j) text second = IsUnprintedOf (string_bytes j.file) (IsUnanswered (IsUndrawnTrace j.drawing) text)
-IsUnprintedFor (job.Page j) text second = IsUnprintedOf (string_bytes j.file) (IsUnanswered (IsNoPage j.page) text)
+IsUnprintedFor (job.Page j) text second = IsUnprintedOf (string_bytes j.file) (IsUnanswered (IsNoPageBy j.page (second_if j.table second)) text)
 IsUnprintedFor (job.Import j) text second = IsUnprintedOf (string_bytes j.file) (IsUnimportedFor j.options text)
 IsUnprintedFor (job.Check j) text second = IsUnprintedOf (string_bytes j.file) (IsUnanswered (IsUnchecked j.claim second) text)
 IsUnprintedFor (job.Judge j) text second = IsUnprintedOf (string_bytes j.file) (IsUnanswered (IsUnjudged j.judging second) text)

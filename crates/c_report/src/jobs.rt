@@ -1,23 +1,25 @@
 //! What is printed for the job of a command line, of the texts that a caller lends.
 
 ghost use Rattle.std.specs.Prelude.{◌≡◌, ◌≢◌, ◌<◌, IfOk, IfErr, OnOk, option_map, codes, string_bytes};
-ghost use Rattle.c_report.specs.Commands.{IsImportFor, IsJudgementPrinted, IsLineOf, IsPrintedFor, IsPrintedOf, IsSaid, IsTextOfLog, IsUnimportedFor, IsUnprintedFor, IsUnprintedOf, lent, other_file_words, run_words, runs_words, simulation_words};
+ghost use Rattle.c_report.specs.Commands.{IsImportFor, IsJudgementPrinted, IsLineOf, IsPrintedFor, IsPrintedOf, IsSaid, IsTextOfLog, IsUnimportedFor, IsUnprintedFor, IsUnprintedOf, lent, other_file_words, run_words, runs_words, second_if, simulation_words};
 ghost use Rattle.c_report.specs.declared.answers.TheConstants.{NO_MEMORY, NO_ROOM};
 ghost use Rattle.text_commands.specs.Answers.{IsAnswerTo, IsUnanswered};
 ghost use Rattle.text_commands.specs.Checks.{IsUnchecked};
 ghost use Rattle.text_commands.specs.Imports.{IsUnimported};
 ghost use Rattle.text_commands.specs.Judgings.{IsJudgementOn, IsUnjudged};
+ghost use Rattle.text_commands.specs.Pages.{IsNoPageBy, IsPageBy};
 ghost use Rattle.text_verdicts.specs.Checks.{IsVerdictOn};
 ghost use Rattle.text_verdicts.specs.Texts.{OfTrace};
 
 use command_faults::Fault;
-use command_line::jobs::{CheckJob, ImportJob, JudgeJob};
+use command_line::jobs::{CheckJob, ImportJob, JudgeJob, PageJob};
 use command_line::{Job, names_standard_input};
 use command_options::{ImportForm, ImportOptions};
 use event_log::{Options, read_log, read_table};
 use std::alloc::{AllocError, Global};
 use text_commands::{
-    Answer, Replay, Upgrade, answer_to, import_options, judgement_on, judgement_status, verdict_on,
+    Answer, Replay, ToldPage, Upgrade, answer_to, import_options, judgement_on, judgement_status,
+    verdict_on,
 };
 use text_verdicts::{verdict_status, verdict_text};
 
@@ -48,7 +50,7 @@ pub(crate) fn printed_for(
         Job::Replay(job) => answer(alloc, job.file.as_str(), &Replay, text),
         Job::Upgrade(job) => answer(alloc, job.file.as_str(), &Upgrade, text),
         Job::Draw(job) => answer(alloc, job.file.as_str(), &job.drawing, text),
-        Job::Page(job) => answer(alloc, job.file.as_str(), &job.page, text),
+        Job::Page(job) => page(alloc, job, text, second),
         Job::Import(job) => import(alloc, &job, text),
         Job::Check(job) => check(alloc, &job, text, second),
         Job::Judge(job) => judge(alloc, &job, text, second),
@@ -74,6 +76,31 @@ fn answer<A: Answer>(alloc: Global, file: &str, command: &A, text: &[u8]) -> Res
 {
     test_file(alloc, file)?;
     Ok(well(answer_to(alloc, command, text)?))
+}
+
+/// The page about the trace, by the table in the second text, if one is asked for.
+fn page(alloc: Global, job: PageJob, text: &[u8], second: &[u8]) -> Result<Printed, Fault>
+    ensures printed { IfOk result (λ p. IsPrintedOf (string_bytes job.file) (IsAnswerTo (IsPageBy job.page (second_if job.table second.now)) text.now) p.status p.text.items) }
+    ensures refused { IfErr result (IsUnprintedOf (string_bytes job.file) (IsUnanswered (IsNoPageBy job.page (second_if job.table second.now)) text.now)) }
+{
+    test_file(alloc, job.file.as_str())?;
+    let table = second_if(alloc, &job.table, second)?;
+    let page = job.page;
+    Ok(well(answer_to(alloc, &ToldPage { page, table }, text)?))
+}
+
+/// The second text, if a file is named for it.
+fn second_if(
+    alloc: Global,
+    file: &Option<String>,
+    second: &[u8],
+) -> Result<Option<Vec<u8>>, AllocError>
+    ensures { IfOk result (λ text. option_map (λ text. text.items) text ≡ second_if file.now second.now) }
+{
+    match file {
+        Some(_) => Ok(Some(Vec::from_slice(alloc, second)?)),
+        None => Ok(None),
+    }
 }
 
 /// The verdict on the second text.

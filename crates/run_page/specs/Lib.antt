@@ -1,3 +1,4 @@
 pub mod EvidenceTicks
+pub mod LongNames
 pub mod Pens
 pub mod Pieces

@@ -1,9 +1,12 @@
 -- What the pieces of a phrase are as HTML (own).
-use Rattle.std.specs.Prelude.{ℕ, ◌==◌, ◌-◌, ◌/◌, ◌%◌, ◌++◌, ◌&&◌, Bool, List, [], codes, decimal, if◌then◌else◌, nat_le, nat_lt, length}
+use Rattle.std.specs.Prelude.{ℕ, ◌==◌, ◌-◌, ◌/◌, ◌%◌, ◌++◌, ◌||◌, List, [], codes, decimal, if◌then◌else◌, is_none, nat_lt, length}
 use Rattle.std.specs.List.{flat_map}
-use Rattle.run_picture.specs.Escapes.{escaped}
+use Rattle.std.specs.Option.{option_map_or}
 use Rattle.run_picture.specs.Names.{name_at}
 use Rattle.run_picture.specs.ShortNames.{short_text}
+use Rattle.step_tables.specs.Records.{message_at, source_at}
+use Rattle.step_tables.specs.Told.{Said}
+use Rattle.run_page.specs.LongNames.{long_text}
 use Rattle.run_page.specs.declared.pieces.Piece.{Piece}
 use Rattle.run_page.specs.declared.pieces.Piece.TheVariants as piece
 use Rattle.run_page.specs.declared.scales.Place.{Place}
@@ -31,17 +34,33 @@ many_text n what = count_text n ++ (codes " " ++ (what ++ (if n == 1 then [] els
 abbrev pub bound_text : List ℕ → ℕ → List ℕ
 bound_text mark n = mark ++ (many_text n (codes "tick") ++ codes "</b>")
 
--- whether processor p has a name among so many
-abbrev pub has_name : ℕ → ℕ → Bool
-has_name count p = nat_le 1 p && nat_le p count
+-- the name of processor p; nothing if it has none
+abbrev pub name_of : List (List ℕ) → ℕ → List ℕ
+name_of names p = if nat_lt p 1 || nat_lt (length names) p then [] else name_at names (p - 1)
 
 -- what processor p is called: its name, which HTML can't mistake for its own, or its number
 abbrev pub node_text : List (List ℕ) → ℕ → List ℕ
-node_text names p = if has_name (length names) p then escaped (name_at names (p - 1)) else codes "processor " ++ decimal p
+node_text names p = if nat_lt 0 (length (name_of names p)) then long_text 64 (name_of names p) else codes "processor " ++ decimal p
 
 -- what processor p is called where there is little room
 abbrev pub label_text : List (List ℕ) → ℕ → List ℕ
-label_text names p = if has_name (length names) p then short_text (name_at names (p - 1)) else decimal p
+label_text names p = if nat_lt 0 (length (name_of names p)) then short_text (name_of names p) else decimal p
+
+-- what message s is called: its name, or its number
+abbrev pub message_text : List Said → ℕ → List ℕ
+message_text said s = if nat_lt 0 (length (message_at said s)) then long_text 48 (message_at said s) else decimal s
+
+-- a record of the log
+abbrev pub source_text : ℕ → List ℕ
+source_text number = codes ", record " ++ decimal number
+
+-- step k, with its record in the log, if it has one
+abbrev pub step_text : List Said → ℕ → List ℕ
+step_text said k = codes "step " ++ (decimal k ++ option_map_or source_text (source_at said k) [])
+
+-- the same in parentheses, if it has a record
+abbrev pub known_text : List Said → ℕ → List ℕ
+known_text said k = if is_none (source_at said k) then [] else codes " (" ++ (step_text said k ++ codes ")")
 
 -- a part of a width, in hundredths of a per cent
 abbrev pub percent_text : ℕ → List ℕ
@@ -51,19 +70,22 @@ percent_text n = decimal (n / 100) ++ (codes "." ++ (digits_text (n % 100) ++ co
 abbrev pub place_text : Place → List ℕ
 place_text place = (if place.is_before then codes "-" else []) ++ decimal place.far
 
-abbrev pub piece_text : List (List ℕ) → Piece → List ℕ
-piece_text names (piece.Text text) = text.now
-piece_text names (piece.Number n) = decimal n
-piece_text names (piece.Count n) = count_text n
-piece_text names (piece.Many n what) = many_text n what.now
-piece_text names (piece.Ticks n) = many_text n (codes "tick")
-piece_text names (piece.Late n) = bound_text (codes "<b class=\"dl\">") n
-piece_text names (piece.Silent n) = bound_text (codes "<b class=\"phi\">") n
-piece_text names (piece.Node p) = node_text names p
-piece_text names (piece.Label p) = label_text names p
-piece_text names (piece.Percent n) = percent_text n
-piece_text names (piece.At place) = place_text place
+abbrev pub piece_text : List (List ℕ) → List Said → Piece → List ℕ
+piece_text names said (piece.Text text) = text.now
+piece_text names said (piece.Number n) = decimal n
+piece_text names said (piece.Count n) = count_text n
+piece_text names said (piece.Many n what) = many_text n what.now
+piece_text names said (piece.Ticks n) = many_text n (codes "tick")
+piece_text names said (piece.Late n) = bound_text (codes "<b class=\"dl\">") n
+piece_text names said (piece.Silent n) = bound_text (codes "<b class=\"phi\">") n
+piece_text names said (piece.Node p) = node_text names p
+piece_text names said (piece.Message s) = message_text said s
+piece_text names said (piece.Step k) = step_text said k
+piece_text names said (piece.Source k) = known_text said k
+piece_text names said (piece.Label p) = label_text names p
+piece_text names said (piece.Percent n) = percent_text n
+piece_text names said (piece.At place) = place_text place
 
 -- one after the other
-abbrev pub pieces_text : List (List ℕ) → List Piece → List ℕ
-pieces_text names pieces = flat_map (piece_text names) pieces
+abbrev pub pieces_text : List (List ℕ) → List Said → List Piece → List ℕ
+pieces_text names said pieces = flat_map (piece_text names said) pieces

@@ -68,7 +68,7 @@ fn put_card(alloc: Global, pen: &mut Pen<'_>, run: &Run<'_>, evidence: &Evidence
     put_card_words(pen, run, evidence);
     pen.text("</div><div class=\"px\">");
     let scene = Scene::of(run, evidence, place.saturating_add(1));
-    let mut picture = Pen::new(alloc, run.names);
+    let mut picture = Pen::new(alloc, run.names, run.said);
     put_picture(&mut picture, &scene);
     let is_large = pen.len().saturating_add(picture.len()) > ROOM_FOR_PICTURES;
     if is_large && !picture.is_refused() {

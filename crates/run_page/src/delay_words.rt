@@ -2,7 +2,7 @@
 
 use crate::headlines::was;
 use crate::pens::Pen;
-use crate::pieces::Piece::{Late, Many, Node, Number, Text, Ticks};
+use crate::pieces::Piece::{Late, Many, Message, Node, Number, Source, Step, Text, Ticks};
 use crate::runs::Run;
 use run_story::{Delay, Stall};
 use step_trace::Act;
@@ -30,7 +30,7 @@ fn put_missed(pen: &mut Pen<'_>, run: &Run<'_>, delay: Delay) {
     let miss = delay.miss;
     pen.put(&[
         Text("<p>Message <b>"),
-        Number(miss.sent),
+        Message(miss.sent),
         Text("</b> from <b>"),
         Node(run.proc(miss.sent)),
         Text("</b> to <b>"),
@@ -39,12 +39,13 @@ fn put_missed(pen: &mut Pen<'_>, run: &Run<'_>, delay: Delay) {
         Number(run.tick(miss.sent)),
     ]);
     pen.put(&[
+        Source(miss.sent),
         Text(", was not there when "),
         Node(delay.to),
         Text(" received in tick "),
         Number(run.tick(miss.missed)),
-        Text(" (step "),
-        Number(miss.missed),
+        Text(" ("),
+        Step(miss.missed),
         Text("), "),
         Late(delay.ticks),
         Text(" later. "),
@@ -55,16 +56,18 @@ fn put_missed(pen: &mut Pen<'_>, run: &Run<'_>, delay: Delay) {
 fn put_fate(pen: &mut Pen<'_>, run: &Run<'_>, sent: u64) {
     let tick = run.tick(sent);
     match run.taker(sent) {
-        Some(taker) => put_received(pen, tick, run.tick(taker)),
+        Some(taker) => put_received(pen, run, tick, taker),
         None => put_never_received(pen, run, tick),
     }
 }
 
-/// Writes in which tick a message was received, by the tick in which it was sent.
-fn put_received(pen: &mut Pen<'_>, sent: u64, taken: u64) {
+/// Writes in which tick a message was received, by the tick in which it was sent and the Receive that took it.
+fn put_received(pen: &mut Pen<'_>, run: &Run<'_>, sent: u64, taker: u64) {
+    let taken = run.tick(taker);
     pen.put(&[
         Text("It was received in tick "),
         Number(taken),
+        Source(taker),
         Text(", "),
         Ticks(taken.saturating_sub(sent)),
         Text(" after it was sent. "),
@@ -174,9 +177,10 @@ fn put_later_ones(pen: &mut Pen<'_>, run: &Run<'_>, delay: Delay) {
     pen.put(&[
         Text(if more == 1 { " rules" } else { " rule" }),
         Text(" out less and less, the last one <b>message "),
-        Number(delay.last_message),
+        Message(delay.last_message),
         Text("</b>, sent in tick "),
         Number(run.tick(delay.last_message)),
+        Source(delay.last_message),
         Text("."),
     ]);
 }

@@ -2,7 +2,7 @@
 
 use crate::headlines::was;
 use crate::pens::Pen;
-use crate::pieces::Piece::{Count, Late, Many, Node, Number, Silent, Text, Ticks};
+use crate::pieces::Piece::{Count, Late, Many, Message, Node, Silent, Text, Ticks};
 use crate::runs::Run;
 use crate::stall_words::put_stretch;
 use crate::titles::gap_ticks;
@@ -97,7 +97,7 @@ fn put_late(pen: &mut Pen<'_>, run: &Run<'_>, delay: Delay) {
     let sent = delay.miss.sent;
     pen.put(&[
         Text("message "),
-        Number(sent),
+        Message(sent),
         Text(" from <b>"),
         Node(run.proc(sent)),
         Text("</b> to <b>"),

@@ -8,6 +8,7 @@ mod evidence_ticks;
 mod glances;
 mod headlines;
 mod leads;
+mod long_names;
 mod message_marks;
 mod node_bounds;
 mod pages;

@@ -2,7 +2,7 @@
 
 use crate::panes::{LANE, Pane};
 use crate::pens::Pen;
-use crate::pieces::Piece::{At, Node, Number, Text, Ticks};
+use crate::pieces::Piece::{At, Message, Node, Number, Source, Text, Ticks};
 use crate::runs::Run;
 use crate::scales::Place;
 use crate::scenes::nodes_of;
@@ -275,13 +275,15 @@ fn put_miss_title(pen: &mut Pen<'_>, run: &Run<'_>, delay: Delay) {
     let miss = delay.miss;
     pen.put(&[
         Text("message "),
-        Number(miss.sent),
+        Message(miss.sent),
         Text(", sent in tick "),
         Number(run.tick(miss.sent)),
+        Source(miss.sent),
         Text(", is not there when "),
         Node(delay.to),
         Text(" receives in tick "),
         Number(run.tick(miss.missed)),
+        Source(miss.missed),
     ]);
 }
 
@@ -290,26 +292,29 @@ fn put_way_title(pen: &mut Pen<'_>, run: &Run<'_>, sent: u64) {
     let tick = run.tick(sent);
     pen.put(&[
         Text("message "),
-        Number(sent),
+        Message(sent),
         Text(", "),
         Node(run.proc(sent)),
         Text(" to "),
         Node(run.receiver(sent)),
         Text(": sent in tick "),
         Number(tick),
+        Source(sent),
         Text(", "),
     ]);
     match run.taker(sent) {
-        Some(taker) => put_taking(pen, tick, run.tick(taker)),
+        Some(taker) => put_taking(pen, run, tick, taker),
         None => pen.text("never received"),
     }
 }
 
-/// Writes in which tick a message was received, by the tick in which it was sent.
-fn put_taking(pen: &mut Pen<'_>, sent: u64, taken: u64) {
+/// Writes in which tick a message was received, by the tick in which it was sent and the Receive that took it.
+fn put_taking(pen: &mut Pen<'_>, run: &Run<'_>, sent: u64, taker: u64) {
+    let taken = run.tick(taker);
     pen.put(&[
         Text("received in tick "),
         Number(taken),
+        Source(taker),
         Text(", "),
         Ticks(taken.saturating_sub(sent)),
         Text(" later"),

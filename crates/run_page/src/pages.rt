@@ -23,10 +23,11 @@ use run_story::{
     named_evidence,
 };
 use std::alloc::{AllocError, Global};
+use step_tables::StepRow;
 use step_trace::{ProcSet, Row, Trace};
 
 /// The page about a run, in UTF-8: HTML that needs no script and asks for nothing else. `rows` is the report of the trace for
-/// the set, `names` calls the processors in their order, and numbers those that it has no name for. The row that applies to
+/// the set, `names` calls the processors in their order, and numbers those that it has no name for; `said` is what a table says of the steps, and nothing without one. The row that applies to
 /// the tick `at` is the calm one, if it is given.
 ///
 /// Time grows with the trace and the rows, apart from the sorting of the evidence. Refuses only for want of memory.
@@ -36,6 +37,7 @@ pub fn page_text(
     set: ProcSet,
     rows: &[Row],
     names: &[&str],
+    said: &[StepRow],
     at: Option<u64>,
 ) -> Result<Vec<u8>, AllocError>
     requires within { IsWithin set trace.now.config.n }
@@ -50,6 +52,7 @@ pub fn page_text(
         set,
         rows,
         names,
+        said,
         evidence: &story.evidence,
         named: &story.named,
         brief: &story.brief,
@@ -162,7 +165,7 @@ impl Steps {
 
 /// The text of the page.
 fn written(alloc: Global, run: &Run<'_>) -> Result<Vec<u8>, AllocError> {
-    let mut pen = Pen::new(alloc, run.names);
+    let mut pen = Pen::new(alloc, run.names, run.said);
     put_head(&mut pen, run);
     put_header(&mut pen, run);
     if run.is_shown() {

@@ -6,6 +6,7 @@ ghost use Rattle.run_page.specs.Pens.{HasWritten};
 
 use crate::pieces::{Piece, push_pieces};
 use std::alloc::{AllocError, Global};
+use step_tables::StepRow;
 
 /// A page while it is written. Once memory is refused, it writes nothing more, and has no text in the end: so a phrase is a
 /// list of calls, and only the whole page may fail.
@@ -14,15 +15,18 @@ pub(crate) struct Pen<'a> {
     text: Vec<u8>,
     // What processors are called, in their order.
     names: &'a [&'a str],
+    // What a table says of the steps; nothing without one.
+    said: &'a [StepRow],
     is_refused: bool,
 }
 
 impl<'a> Pen<'a> {
     /// A pen that has written nothing.
-    pub(crate) fn new(alloc: Global, names: &'a [&'a str]) -> Self {
+    pub(crate) fn new(alloc: Global, names: &'a [&'a str], said: &'a [StepRow]) -> Self {
         Pen {
             text: Vec::new(alloc),
             names,
+            said,
             is_refused: false,
         }
     }
@@ -50,9 +54,12 @@ impl<'a> Pen<'a> {
 
     /// Writes these pieces, one after the other.
     pub(crate) fn put(&mut self, pieces: &[Piece])
-        ensures { HasWritten (pieces_text (map (λ x. x.now) self.old.names.now) pieces.now) self.old self.new }
+        ensures { HasWritten (pieces_text (map (λ x. x.now) self.old.names.now) self.old.said.now pieces.now) self.old self.new }
     {
-        if !self.is_refused && push_pieces(&mut self.text, self.names, pieces).is_err() {
+        if self.is_refused {
+            return;
+        }
+        if push_pieces(&mut self.text, self.names, self.said, pieces).is_err() {
             self.is_refused = true;
         }
     }

@@ -1,12 +1,14 @@
 //! The pieces of a phrase, and how each of them is written.
 
 ghost use Rattle.std.specs.Prelude.{◌≡◌, ◌≤◌, ◌<◌, ◌++◌, OnOk, map, length, decimal};
-ghost use Rattle.run_page.specs.Pieces.{bound_text, count_text, digits_text, grouped_text, has_name, label_text, many_text, node_text, percent_text, piece_text, pieces_text, place_text};
+ghost use Rattle.run_page.specs.Pieces.{bound_text, count_text, digits_text, grouped_text, known_text, label_text, many_text, message_text, name_of, node_text, percent_text, piece_text, pieces_text, place_text, source_text, step_text};
 
+use crate::long_names::push_long;
 use crate::scales::Place;
 use itoa::Buffer;
-use run_picture::{push_escaped, push_short};
+use run_picture::push_short;
 use std::alloc::AllocError;
+use step_tables::{StepRow, message_at, source_at};
 
 /// A piece of a phrase.
 #[derive(Clone, Copy)]
@@ -27,6 +29,12 @@ pub(crate) enum Piece {
     Silent(u64),
     /// What a processor is called: its name, or `processor` and its number.
     Node(u64),
+    /// What a message is called: its name, or its number.
+    Message(u64),
+    /// A step, by its number, with that of its record in the log, if it is known.
+    Step(u64),
+    /// The same in parentheses, with a space before them; nothing if the record isn't known.
+    Source(u64),
     /// What a processor is called beside its lane: its name, shortened, or its number.
     Label(u64),
     /// A part of the width of a picture, in hundredths of a per cent.
@@ -35,24 +43,31 @@ pub(crate) enum Piece {
     At(Place),
 }
 
-/// Appends these pieces, one after the other; `names` calls the processors in their order.
+/// Appends these pieces, one after the other; `names` calls the processors in their order, and `said` is what a table says of
+/// the steps.
 ///
 /// Refuses only for want of memory.
 pub(crate) fn push_pieces(
     out: &mut Vec<u8>,
     names: &[&str],
+    said: &[StepRow],
     pieces: &[Piece],
 ) -> Result<(), AllocError>
-    ensures { OnOk result (out.new.items ≡ out.old.items ++ pieces_text (map (λ x. x.now) names.now) pieces.now) }
+    ensures { OnOk result (out.new.items ≡ out.old.items ++ pieces_text (map (λ x. x.now) names.now) said.now pieces.now) }
 {
     for piece in pieces {
-        push_piece(out, names, *piece)?;
+        push_piece(out, names, said, *piece)?;
     }
     Ok(())
 }
 
-fn push_piece(out: &mut Vec<u8>, names: &[&str], piece: Piece) -> Result<(), AllocError>
-    ensures { OnOk result (out.new.items ≡ out.old.items ++ piece_text (map (λ x. x.now) names.now) piece) }
+fn push_piece(
+    out: &mut Vec<u8>,
+    names: &[&str],
+    said: &[StepRow],
+    piece: Piece,
+) -> Result<(), AllocError>
+    ensures { OnOk result (out.new.items ≡ out.old.items ++ piece_text (map (λ x. x.now) names.now) said.now piece) }
 {
     match piece {
         Piece::Text(text) => out.extend_from_slice(text.as_bytes()),
@@ -63,6 +78,9 @@ fn push_piece(out: &mut Vec<u8>, names: &[&str], piece: Piece) -> Result<(), All
         Piece::Late(count) => push_bound(out, b"<b class=\"dl\">", count),
         Piece::Silent(count) => push_bound(out, b"<b class=\"phi\">", count),
         Piece::Node(processor) => push_node(out, names, processor),
+        Piece::Message(number) => push_message(out, said, number),
+        Piece::Step(number) => push_step(out, said, number),
+        Piece::Source(number) => push_known(out, said, number),
         Piece::Label(processor) => push_label(out, names, processor),
         Piece::Percent(parts) => push_percent(out, parts),
         Piece::At(place) => push_place(out, place),
@@ -131,18 +149,27 @@ fn push_bound(out: &mut Vec<u8>, mark: &[u8], count: u64) -> Result<(), AllocErr
     out.extend_from_slice(b"</b>")
 }
 
-/// Whether the processor of this number has a name among so many.
-fn has_name(count: usize, processor: u64) -> bool
-    ensures { result ≡ has_name count processor }
+/// How many characters of a processor's name, and of a message's, are shown.
+const NODE_CHARACTERS: usize = 64;
+
+const MESSAGE_CHARACTERS: usize = 48;
+
+/// The name of the processor of this number; nothing if it has none.
+fn name_of<'a>(names: &[&'a str], processor: u64) -> &'a [u8]
+    ensures { result.now ≡ name_of (map (λ x. x.now) names.now) processor }
 {
-    1 <= processor && processor <= count as u64
+    if processor < 1 || processor > names.len() as u64 {
+        return &[];
+    }
+    names[processor as usize - 1].as_bytes()
 }
 
 fn push_node(out: &mut Vec<u8>, names: &[&str], processor: u64) -> Result<(), AllocError>
     ensures { OnOk result (out.new.items ≡ out.old.items ++ node_text (map (λ x. x.now) names.now) processor) }
 {
-    if has_name(names.len(), processor) {
-        return push_escaped(out, names[processor as usize - 1].as_bytes());
+    let name = name_of(names, processor);
+    if name.len() > 0 {
+        return push_long(out, name, NODE_CHARACTERS);
     }
     out.extend_from_slice(b"processor ")?;
     push_number(out, processor)
@@ -151,10 +178,52 @@ fn push_node(out: &mut Vec<u8>, names: &[&str], processor: u64) -> Result<(), Al
 fn push_label(out: &mut Vec<u8>, names: &[&str], processor: u64) -> Result<(), AllocError>
     ensures { OnOk result (out.new.items ≡ out.old.items ++ label_text (map (λ x. x.now) names.now) processor) }
 {
-    if has_name(names.len(), processor) {
-        return push_short(out, names[processor as usize - 1].as_bytes());
+    let name = name_of(names, processor);
+    if name.len() > 0 {
+        return push_short(out, name);
     }
     push_number(out, processor)
+}
+
+fn push_message(out: &mut Vec<u8>, said: &[StepRow], number: u64) -> Result<(), AllocError>
+    ensures { OnOk result (out.new.items ≡ out.old.items ++ message_text said.now number) }
+{
+    let name = message_at(said, number);
+    if name.len() > 0 {
+        return push_long(out, name, MESSAGE_CHARACTERS);
+    }
+    push_number(out, number)
+}
+
+fn push_step(out: &mut Vec<u8>, said: &[StepRow], number: u64) -> Result<(), AllocError>
+    ensures { OnOk result (out.new.items ≡ out.old.items ++ step_text said.now number) }
+{
+    out.extend_from_slice(b"step ")?;
+    push_number(out, number)?;
+    match source_at(said, number) {
+        Some(source) => push_source(out, source),
+        None => Ok(()),
+    }
+}
+
+/// Appends a step with its record in the log, in parentheses; nothing if the record isn't known.
+fn push_known(out: &mut Vec<u8>, said: &[StepRow], number: u64) -> Result<(), AllocError>
+    ensures { OnOk result (out.new.items ≡ out.old.items ++ known_text said.now number) }
+{
+    if source_at(said, number).is_none() {
+        return Ok(());
+    }
+    out.extend_from_slice(b" (")?;
+    push_step(out, said, number)?;
+    out.extend_from_slice(b")")
+}
+
+/// Appends the number of a record of the log.
+fn push_source(out: &mut Vec<u8>, source: u64) -> Result<(), AllocError>
+    ensures { OnOk result (out.new.items ≡ out.old.items ++ source_text source) }
+{
+    out.extend_from_slice(b", record ")?;
+    push_number(out, source)
 }
 
 fn push_percent(out: &mut Vec<u8>, parts: u64) -> Result<(), AllocError>

@@ -6,6 +6,7 @@ use crate::node_bounds::NodeBounds;
 use crate::scans::{Scan, tick_at};
 use run_picture::takers::taker_in;
 use run_story::{Evidence, Headline, MessageCounts, Named};
+use step_tables::StepRow;
 use step_trace::{Act, ProcSet, Row, Trace};
 
 /// A run, and what is found in it. All is lent, so that a phrase takes it whole.
@@ -15,6 +16,8 @@ pub(crate) struct Run<'a> {
     pub set: ProcSet,
     pub rows: &'a [Row],
     pub names: &'a [&'a str],
+    /// What a table says of the steps; nothing without one.
+    pub said: &'a [StepRow],
     /// Evidence in the order of the page, and for each row which it names.
     pub evidence: &'a [Evidence],
     pub named: &'a [Named],

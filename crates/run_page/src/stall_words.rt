@@ -1,7 +1,7 @@
 //! A silence in words.
 
 use crate::pens::Pen;
-use crate::pieces::Piece::{Node, Number, Silent, Text, Ticks};
+use crate::pieces::Piece::{Message, Node, Number, Silent, Step, Text, Ticks};
 use crate::runs::Run;
 use crate::titles::gap_ticks;
 use run_story::Stall;
@@ -98,7 +98,7 @@ fn put_deed(pen: &mut Pen<'_>, run: &Run<'_>, no: u64) {
     match &step.act {
         Act::Send { to } => pen.put(&[
             Text("it sent message "),
-            Number(no),
+            Message(no),
             Text(" to "),
             Node(*to),
         ]),
@@ -107,7 +107,7 @@ fn put_deed(pen: &mut Pen<'_>, run: &Run<'_>, no: u64) {
             put_received(pen, ids.as_slice());
         }
     }
-    pen.put(&[Text(" (step "), Number(no), Text(")")]);
+    pen.put(&[Text(" ("), Step(no), Text(")")]);
 }
 
 /// How many messages of a Receive are named.
@@ -122,7 +122,7 @@ pub(crate) fn put_received(pen: &mut Pen<'_>, ids: &[u64]) {
         _ => "messages",
     });
     for id in &ids[..count.min(NAMED_IDS)] {
-        pen.put(&[Text(" "), Number(*id)]);
+        pen.put(&[Text(" "), Message(*id)]);
     }
     if count > NAMED_IDS {
         let more = count - NAMED_IDS;

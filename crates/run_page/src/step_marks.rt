@@ -2,7 +2,7 @@
 
 use crate::panes::Pane;
 use crate::pens::Pen;
-use crate::pieces::Piece::{At, Node, Number, Text};
+use crate::pieces::Piece::{At, Message, Node, Number, Step, Text};
 use crate::runs::Run;
 use crate::stall_words::put_received;
 use step_trace::Act;
@@ -124,7 +124,7 @@ fn put_step_title(pen: &mut Pen<'_>, run: &Run<'_>, no: u64) {
         Act::Send { to } => pen.put(&[
             Node(step.proc),
             Text(" sends message "),
-            Number(no),
+            Message(no),
             Text(" to "),
             Node(*to),
         ]),
@@ -134,8 +134,8 @@ fn put_step_title(pen: &mut Pen<'_>, run: &Run<'_>, no: u64) {
         }
     }
     pen.put(&[
-        Text(" (step "),
-        Number(no),
+        Text(" ("),
+        Step(no),
         Text(", tick "),
         Number(run.tick(no)),
         Text(")"),

@@ -1,7 +1,7 @@
 //! Evidence in one line.
 
 use crate::pens::Pen;
-use crate::pieces::Piece::{Node, Number, Text, Ticks};
+use crate::pieces::Piece::{Message, Node, Text, Ticks};
 use crate::runs::Run;
 use run_story::{Delay, Evidence, Stall};
 
@@ -39,7 +39,7 @@ fn put_delay_title(pen: &mut Pen<'_>, run: &Run<'_>, delay: Delay) {
         Text(" → "),
         Node(delay.to),
         Text(": message "),
-        Number(sent),
+        Message(sent),
     ]);
     match run.taker(sent) {
         Some(_) => pen.put(&[

@@ -14,7 +14,7 @@ use crate::line_faults::refused_line;
 use crate::outputs::{Output, stopped};
 use crate::run_lists::judge_runs;
 use command_faults::{Fault, print, status, tell};
-use command_line::jobs::{CheckJob, DrawJob, ImportJob, JudgeJob, ReportJob};
+use command_line::jobs::{CheckJob, ImportJob, JudgeJob, PageJob, ReportJob};
 use command_line::{Job, read_command, refuse_words};
 use command_options::{RunOptions, SimulationOptions, Workers};
 use node_runs::{follower_for, run_nodes, run_simulation};
@@ -25,8 +25,8 @@ use std::thread::Threads;
 use std::time::Clock;
 use step_trace::{Correct, OpenGate};
 use text_commands::{
-    Answer, Replay, Upgrade, import_options, judgement_status, read_decisions, run_check,
-    run_import, run_judge, run_report, serve, verdict_status,
+    Answer, Replay, ToldPage, Upgrade, import_options, judgement_status, read_decisions,
+    read_table, run_check, run_import, run_judge, run_report, serve, verdict_status,
 };
 use trace_text::Counting;
 
@@ -59,7 +59,7 @@ fn run<R: Threads + Wait + Clock + Sync>(rt: &HostRuntime, threads: &R) -> Resul
         Job::Judge(job) => judge(rt, job),
         Job::JudgeRuns(job) => judge_runs(rt, job),
         Job::Draw(job) => answer(rt, job.file, &job.drawing),
-        Job::Page(job) => answer(rt, job.file, &job.page),
+        Job::Page(job) => page(rt, job),
         Job::Import(job) => import(rt, job),
         Job::Help(text) => help(rt, text),
     }
@@ -171,7 +171,15 @@ fn whole_report<T: Threads + Wait + Sync>(
 
 /// Prints the answer of a command to the trace in a file.
 fn answer<A: Answer>(rt: &HostRuntime, file: String, command: &A) -> Result<u8, Fault> {
-    let mut trace = Input::open(rt, file)?;
+    answer_to_input(rt, Input::open(rt, file)?, command)
+}
+
+/// Prints the answer of a command to the trace of an input.
+fn answer_to_input<A: Answer>(
+    rt: &HostRuntime,
+    mut trace: Input,
+    command: &A,
+) -> Result<u8, Fault> {
     let mut output = Output::new(rt.stdout());
     let served = serve(
         rt.alloc(),
@@ -180,6 +188,25 @@ fn answer<A: Answer>(rt: &HostRuntime, file: String, command: &A) -> Result<u8, 
         &mut Counting::new(&mut output),
     );
     output.ended(served.map_err(|fault| trace.named(fault)))
+}
+
+/// Prints the page about the trace in a file, by the table in another, if there is one. Both files are opened before one is read;
+/// the table is read first.
+fn page(rt: &HostRuntime, job: PageJob) -> Result<u8, Fault> {
+    let trace = Input::open(rt, job.file)?;
+    let table = match job.table {
+        Some(file) => Some(table_in(rt, file)?),
+        None => None,
+    };
+    let page = job.page;
+    answer_to_input(rt, trace, &ToldPage { page, table })
+}
+
+/// The text of the table in a file.
+fn table_in(rt: &HostRuntime, file: String) -> Result<Vec<u8>, Fault> {
+    let mut table = Input::open(rt, file)?;
+    let read = read_table(rt.alloc(), &mut Counting::new(&mut table));
+    read.map_err(|fault| table.named(fault))
 }
 
 /// The text, where there is one.

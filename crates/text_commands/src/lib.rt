@@ -35,6 +35,7 @@ pub use imports::{import_options, run_import};
 pub use judged_runs::verdict_status as judgement_status;
 pub use judgings::{judgement_on, read_decisions, run_judge, test_formula};
 pub use listed_runs::{judged_line, listed_judging, listed_path, read_runs, unjudged_line};
+pub use pages::{ToldPage, read_table};
 pub use replays::{Replay, run_replay};
 pub use reports::run_report;
 pub use serving::serve;

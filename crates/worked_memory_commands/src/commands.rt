@@ -13,7 +13,7 @@ use test_support::texts::{
     ONE_MISS_EACH, ONE_MISS_UPGRADE, SMALL_PHI, UNTIL_THREE_AT_TWO,
 };
 use text_commands::{
-    Upgrade, import_options, run_check, run_import, run_replay, run_report, serve,
+    ToldPage, Upgrade, import_options, run_check, run_import, run_replay, run_report, serve,
 };
 use trace_text::Counting;
 
@@ -26,6 +26,11 @@ const TWO_NODES: &str =
 const TWO_NODES_IMPORT: &str =
     "dls-trace,2,2,0\ninit,0,0\n1,1,1,S,2\n2,1,2,S,1\n3,3,1,R,\n4,3,2,R,\n5,4,1,R,\n\
     6,4,2,R,1\n7,5,1,R,\n8,6,1,R,2\n9,6,2,R,\nend,6\n";
+
+/// The table of the steps of one-miss.
+const ONE_MISS_STEPS: &str =
+    "step,tick,begins,record,time,node,event,to,message\n1,1,0,2,0,a,send,b,m1\n\
+    2,2,1,3,1,b,receive,,\n3,3,2,4,2,b,receive,,m1\n";
 
 const TWO_NODES_TABLE: &str =
     "step,tick,begins,record,time,node,event,to,message\n1,1,10,2,10,b,send,a,m2\n\
@@ -133,7 +138,8 @@ fn ended<T: Threads + Wait + Sync>(
                 at: None,
                 names: None,
             };
-            serve(alloc, &page, &mut trace, &mut output)
+            let table = Some(Vec::from_slice(alloc, ONE_MISS_STEPS.as_bytes())?);
+            serve(alloc, &ToldPage { page, table }, &mut trace, &mut output)
         }
         Command::Import(nodes, spread, form) => {
             let options = import_options(

@@ -241,9 +241,19 @@ def draw(
     return _asked("draw", trace, correct=_set_of(correct)[1], from_tick=from_tick, to_tick=to_tick, names=names)
 
 
-def page(trace: Text, correct: Correct, at: Optional[int] = None, names: Optional[Iterable[str]] = None) -> bytes:
-    """A page about the run, as HTML. The run counts as calm from the tick `at` on; `names` are names for the processors."""
-    return _asked("page", trace, correct=_set_of(correct)[1], at=at, names=names)
+def page(
+    trace: Text,
+    correct: Correct,
+    at: Optional[int] = None,
+    names: Optional[Iterable[str]] = None,
+    table: Optional[Text] = None,
+) -> bytes:
+    """A page about the run, as HTML. The run counts as calm from the tick `at` on; `names` are names for the processors. Those of
+    nodes and messages, and the records of the log, come from `table`, the table of the steps."""
+    listed = _set_of(correct)[1]
+    if table is None:
+        return _asked("page", trace, correct=listed, at=at, names=names)
+    return _asked("page", trace, _bytes_of(table), "--table=table", correct=listed, at=at, names=names)
 
 
 def import_log(
@@ -349,9 +359,9 @@ OPTIONS: Dict[str, Tuple[str, Optional[Callable[[Any], str]]]] = {
 ERRORS = {BAD_TRACE: TraceRefused, BAD_CERTIFICATE: CertificateRefused}
 
 
-def _asked(command: str, text: Text, second: Optional[bytes] = None, **given: Any) -> bytes:
-    """What the program prints for a command with these options; None and False leave one out."""
-    words = [command, "-"] + (["certificate"] if second is not None else [])
+def _asked(command: str, text: Text, second: Optional[bytes] = None, second_word: str = "certificate", **given: Any) -> bytes:
+    """What the program prints for a command with these options; None and False leave one out. `second_word` names the second text."""
+    words = [command, "-"] + ([second_word] if second is not None else [])
     for name, value in given.items():
         option, word_of = OPTIONS[name]
         if word_of is None:

@@ -1,21 +1,50 @@
 -- The command `page`: what it takes, and the job that its words give.
-use Rattle.std.specs.Prelude.{ℕ, ◌≡◌, List, [], ◌∷◌, Option, codes, option_map, string_bytes}
+use Rattle.std.specs.Prelude.{ℕ, ◌≡◌, ◌⊎◌, List, [], ◌∷◌, Option, Some, None, codes, option_map, string_bytes}
 use Rattle.clap.specs.Words.{App, Row, first_of}
+use Rattle.step_trace.specs.declared.correct_sets.Correct.{Correct}
 use Rattle.step_trace.specs.CorrectSets.{IsCorrectIn}
 use Rattle.command_line.specs.declared.jobs.Job.{Job}
 use Rattle.command_line.specs.declared.jobs.Job.TheVariants as job
+use Rattle.command_line.specs.declared.line_errors.LineError.{LineError}
+use Rattle.command_line.specs.declared.line_errors.LineError.TheVariants as unread
 use Rattle.command_line.specs.Answers.{Given, ◌>>=◌, answers}
 use Rattle.command_line.specs.Arguments.{command_app, IsListFault, correct_rule, file_rule, optional_rule, tick_in, tick_rule}
+use Rattle.command_line.specs.Commands.Check.{AreBothStandardInput}
+use Rattle.command_line.specs.Commands.Judge.{IsOneInputRefusal}
 
--- page FILE --correct LIST --at TICK --names LIST
+-- page FILE --correct LIST --at TICK --names LIST --table STEPS
 abbrev pub page_app : App
-page_app = command_app (codes "page") (file_rule ∷ correct_rule ∷ tick_rule (codes "at") ∷ optional_rule (codes "names") ∷ [])
+page_app = command_app (codes "page") (file_rule ∷ correct_rule ∷ tick_rule (codes "at") ∷ optional_rule (codes "names") ∷ optional_rule (codes "table") ∷ [])
 
--- the page about the file of this name, for the processors that this list names, with this tick and these names
-abbrev pub IsPage : List ℕ → List ℕ → Option ℕ → Option (List ℕ) → Job → Type 0
-IsPage name list at names (job.Page j) =
+-- a table comes without names, and not both files are standard input
+abbrev pub FitsTable : List ℕ → Option (List ℕ) → Option (List ℕ) → Type 0
+FitsTable name names None = Unit {0}
+FitsTable name None (Some table) = ¬ AreBothStandardInput name table
+FitsTable name (Some names) (Some table) = ⊥
+
+-- the page about the file of this name, for the processors that this list names, with this tick, these names, and the table in the
+-- file of that name
+abbrev pub IsPage : List ℕ → List ℕ → Option ℕ → Option (List ℕ) → Option (List ℕ) → Job → Type 0
+IsPage name list at names table (job.Page j) =
     (string_bytes j.file ≡ name) × IsCorrectIn list j.page.correct × (j.page.at ≡ at) × (option_map string_bytes j.page.names ≡ names)
-IsPage name list at names _ = ⊥
+    × (option_map string_bytes j.table ≡ table) × FitsTable name names table
+IsPage name list at names table _ = ⊥
+
+-- both names and a table are refused in these words
+abbrev pub IsNamesRefusal : LineError → Type 0
+IsNamesRefusal (unread.Refused text) = string_bytes text ≡ codes "synchrony: page takes either --names or --table"
+IsNamesRefusal _ = ⊥
+
+-- why a table doesn't fit; or want of memory
+abbrev pub IsTableFault : List ℕ → Option (List ℕ) → Option (List ℕ) → LineError → Type 0
+IsTableFault name names table unread.Memory = Unit {0}
+IsTableFault name names None e = ⊥
+IsTableFault name (Some names) (Some table) e = IsNamesRefusal e
+IsTableFault name None (Some table) e = IsOneInputRefusal name table e
+
+-- the refusal of a text that is no list, or else of the table; or want of memory
+abbrev pub IsPageFault : List ℕ → List ℕ → Option (List ℕ) → Option (List ℕ) → LineError → Type 0
+IsPageFault name list names table e = IsListFault list e ⊎ (((correct : Correct) × IsCorrectIn list correct) × IsTableFault name names table e)
 
 -- what the rows below `page` give
 abbrev pub page_given : List Row → Given → Type 0
@@ -23,4 +52,4 @@ page_given rows = do
   file ← first_of (codes "file") rows
   list ← first_of (codes "correct") rows
   at ← tick_in rows (codes "at")
-  answers (IsPage file list at (first_of (codes "names") rows)) (IsListFault list)
+  answers (IsPage file list at (first_of (codes "names") rows) (first_of (codes "table") rows)) (IsPageFault file list (first_of (codes "names") rows) (first_of (codes "table") rows))

@@ -1,14 +1,14 @@
 //! The command `page`: its words and its help text, and the job that they give.
 
-ghost use Rattle.std.specs.Prelude.{IfOk, IfErr, option_map};
+ghost use Rattle.std.specs.Prelude.{IfOk, IfErr, OnOk, option_map};
 ghost use Rattle.clap.specs.Words.{found_of, rows_of};
-ghost use Rattle.command_line.specs.Arguments.{IsCommand, IsListFault};
-ghost use Rattle.command_line.specs.Commands.Page.{IsPage, page_app, page_given};
+ghost use Rattle.command_line.specs.Arguments.{IsCommand};
+ghost use Rattle.command_line.specs.Commands.Page.{FitsTable, IsNamesRefusal, IsPage, IsPageFault, IsTableFault, page_app, page_given};
 
 use crate::jobs::Job;
 use crate::jobs::arguments::{
-    correct_argument, correct_in, file_argument, kept, new_command, optional_argument, text, tick,
-    tick_argument,
+    correct_argument, correct_in, file_argument, kept, names_standard_input, new_command,
+    optional_argument, text, tick, tick_argument,
 };
 use crate::line_errors::LineError;
 use clap::{ArgMatches, Command};
@@ -23,11 +23,16 @@ const AT_HELP: &str =
 const NAMES_HELP: &str =
     "The names of all processors, in their order; their numbers if it is left out";
 
-/// The page about the trace in a file, as HTML.
+const TABLE_HELP: &str =
+    "The table of the trace's steps, from which it takes names, messages and records; - is standard input";
+
+/// The page about the trace in a file, as HTML. One of the two files at most is standard input.
 #[derive(Debug, Drop)]
 pub struct PageJob {
     /// The path of the file; `-` is standard input.
     pub file: String,
+    /// The path of the file with the table of the trace's steps, if it is given; `-` is standard input.
+    pub table: Option<String>,
     /// What the page is asked for.
     pub page: Page,
 }
@@ -41,13 +46,15 @@ pub fn command<'a>(alloc: Global) -> Result<Command<'a>, AllocError>
         correct_argument(alloc),
         tick_argument(alloc, "at", AT_HELP),
         optional_argument(alloc, "names", "A,B,C", NAMES_HELP),
+        optional_argument(alloc, "table", "STEPS", TABLE_HELP),
     ]?;
     new_command(alloc, "page", ABOUT, help(), arguments)
 }
 
 /// The job that the words after `page` ask for; none where one of them lacks.
 ///
-/// Refuses a list that isn't one. Memory may come instead.
+/// Refuses a list that isn't one; then both names and a table; and then two files that are both standard input. Memory may come
+/// instead.
 pub fn job(alloc: Global, found: &ArgMatches<'_>) -> Option<Result<Job, LineError>>
     ensures { page_given (rows_of (found_of found.now)) result }
 {
@@ -55,7 +62,8 @@ pub fn job(alloc: Global, found: &ArgMatches<'_>) -> Option<Result<Job, LineErro
     let list = text(found, "correct")?;
     let at = tick(found, "at")?;
     let names = text(found, "names");
-    Some(page(alloc, file, list, at, names))
+    let table = text(found, "table");
+    Some(page(alloc, file, list, at, names, table))
 }
 
 /// The job of a page with these words.
@@ -65,15 +73,49 @@ fn page(
     list: &str,
     at: Option<u64>,
     names: Option<&str>,
+    table: Option<&str>,
 ) -> Result<Job, LineError>
-    ensures job { IfOk result (IsPage file.now list.now at (option_map (λ n. n.now) names.entry)) }
-    ensures refused { IfErr result (IsListFault list.now) }
+    ensures job { IfOk result (IsPage file.now list.now at (option_map (λ n. n.now) names.entry) (option_map (λ t. t.now) table.entry)) }
+    ensures refused { IfErr result (IsPageFault file.now list.now (option_map (λ n. n.now) names.entry) (option_map (λ t. t.now) table.entry)) }
 {
     let correct = correct_in(alloc, "correct", list)?;
+    test_table(alloc, file, names, table)?;
     let file = String::from_str(alloc, file)?;
     let names = kept(alloc, names)?;
+    let table = kept(alloc, table)?;
     let page = Page { correct, at, names };
-    Ok(Job::Page(PageJob { file, page }))
+    Ok(Job::Page(PageJob { file, table, page }))
+}
+
+/// Refuses a table beside names, and then one that is standard input as the trace is.
+fn test_table(
+    alloc: Global,
+    file: &str,
+    names: Option<&str>,
+    table: Option<&str>,
+) -> Result<(), LineError>
+    ensures fits { OnOk result (FitsTable file.now (option_map (λ n. n.now) names.entry) (option_map (λ t. t.now) table.entry)) }
+    ensures refused { IfErr result (IsTableFault file.now (option_map (λ n. n.now) names.entry) (option_map (λ t. t.now) table.entry)) }
+{
+    let Some(table) = table else {
+        return Ok(());
+    };
+    if names.is_some() {
+        return Err(both_given(alloc)?);
+    }
+    if names_standard_input(file) && names_standard_input(table) {
+        let text = String::from_str(alloc, "synchrony: only one file can be -")?;
+        return Err(LineError::Refused(text));
+    }
+    Ok(())
+}
+
+/// The refusal of both names and a table.
+fn both_given(alloc: Global) -> Result<LineError, AllocError>
+    ensures { IfOk result IsNamesRefusal }
+{
+    let text = String::from_str(alloc, "synchrony: page takes either --names or --table")?;
+    Ok(LineError::Refused(text))
 }
 
 /// What a page shows.
@@ -97,6 +139,10 @@ most often: the one with the greatest square of the rest over delta times phi.
 With --at it is the row that applies to that tick. Numbers are those of `report`
 and `each`. Time is counted in ticks.
 
+STEPS is the table that `import LOG --table` prints, by the same options as the
+trace. With it nodes and messages have their names of the log, and each step
+that the page tells of has the number of its record there.
+
 At most 40 pieces of evidence have a card, and the page says how many have none.
 The same input gives the same bytes.
 
@@ -109,8 +155,8 @@ Exit status:
      the trace's number of processors; the names aren't as many different ones
      as there are processors, each of 1 to 64 bytes without control characters;
      or the tick of --at is none of the trace
-  3  the trace is refused
+  3  the trace is refused, or STEPS isn't the table of its steps
   5  out of memory
-  6  FILE can't be opened or read, or the output can't be written
+  6  a file can't be opened or read, or the output can't be written
 Faults go to standard error. Output begins once all of it is known."
 }

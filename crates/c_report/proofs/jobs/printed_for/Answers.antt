@@ -30,7 +30,7 @@ returns-in-Draw-clause-printed c = rw c.in-Draw.is (rw (sym c.as_str-in-Draw.ens
 
 -- src/jobs.rt:39:1
 pub returns-in-Page-clause-printed : goal.returns-in-Page-clause-printed
-returns-in-Page-clause-printed c = rw c.in-Page.is (rw (sym c.as_str-in-Page.ensures.value) c.answer-in-Page.ensures.printed)
+returns-in-Page-clause-printed c = rw c.in-Page.is c.page.ensures.printed
 
 -- src/jobs.rt:39:1
 pub returns-in-Import-clause-printed : goal.returns-in-Import-clause-printed
