@@ -1,2 +1,3 @@
 pub mod RefusalsGoOn
+pub mod SortedWords
 pub mod Texts

@@ -1,7 +1,10 @@
 //! The names of nodes and messages in a table.
 
 ghost use Rattle.std.specs.Prelude.{◌≡◌, IfOk, None, Some, if◌then◌else◌, map, option_map, string_bytes};
+ghost use Rattle.std.specs.Cmp.Lexicographic.{slice_cmp};
 ghost use Rattle.std.specs.List.{list_any};
+ghost use Rattle.std.specs.List.Sorted.{IsSorted};
+ghost use Rattle.std.specs.Ordering.{nat_cmp};
 ghost use Rattle.step_tables.specs.Names.{has_name, is_control, is_message_name, is_name, text_of, words_of};
 
 use std::alloc::{AllocError, Global};
@@ -75,14 +78,10 @@ pub(crate) fn words_of(alloc: Global, field: &[u8]) -> Result<Vec<&[u8]>, AllocE
     Ok(words)
 }
 
-/// Whether a name is among these words.
+/// Whether a name is among these words, which are in order.
 pub(crate) fn has_word(words: &[&[u8]], name: &[u8]) -> bool
+    requires { IsSorted (λ x y. slice_cmp nat_cmp x.now y.now) words.now }
     ensures { result ≡ has_name (map (λ word. word.now) words.now) name.now }
 {
-    for word in words {
-        if name == *word {
-            return true;
-        }
-    }
-    false
+    words.binary_search(&name).is_ok()
 }

@@ -1,9 +1,13 @@
 //! The records of a table, each tested against the step that it is to be of.
 
 ghost use Rattle.std.specs.Prelude.{◌≡◌, ◌≢◌, ◌-◌, ◌+◌, ◌∷◌, [], ◌++◌, Err, IfErr, IfOk, MatchBool, OnOk, false, length, map, slice_index_or, slice_set, string_bytes, true, ⊤};
+ghost use Rattle.std.specs.Cmp.Lexicographic.{slice_cmp};
+ghost use Rattle.std.specs.List.{list_all};
+ghost use Rattle.std.specs.List.Sorted.{IsSorted};
+ghost use Rattle.std.specs.Ordering.{nat_cmp};
 ghost use Rattle.csv.specs.Records.{fields_of};
-ghost use Rattle.step_tables.specs.Records.{after_record, are_names_of, is_at, is_source, message_of, named, said_of, with_act, with_deed, with_step};
-ghost use Rattle.step_tables.specs.Names.{words_of};
+ghost use Rattle.step_tables.specs.Records.{after_record, are_names_of, is_at, is_source, message_at, message_of, named, said_of, with_act, with_deed, with_step};
+ghost use Rattle.step_tables.specs.Names.{has_name, words_of};
 ghost use Rattle.step_tables.specs.Tables.{is_memory};
 ghost use Rattle.trace_text.specs.Records.{ReachesUnless};
 
@@ -186,23 +190,33 @@ fn test_received(
     ensures fits { OnOk result (are_names_of rows.now ids.now (words_of names.now) ≡ true) }
     ensures refused { IfErr result (λ why. MatchBool (is_memory why) ⊤ ((why ≡ TableError.Unfit at) × (are_names_of rows.now ids.now (words_of names.now) ≡ false))) }
 {
-    let Ok(words) = words_of(alloc, names) else {
+    let Ok(mut words) = words_of(alloc, names) else {
         return Err(TableError::Memory);
     };
-    if are_names_of(rows, ids, &words) {
+    if are_names_of(rows, ids, &mut words) {
         Ok(())
     } else {
         Err(TableError::Unfit(at))
     }
 }
 
-/// Whether there are as many words as messages, and each message's name is among them.
-fn are_names_of(rows: &[StepRow], ids: &[u64], words: &[&[u8]]) -> bool
-    ensures { result ≡ are_names_of rows.now ids.now (map (λ word. word.now) words.now) }
+/// Whether there are as many words as messages, and each message's name is among them. The words are put in order first, so that
+/// k messages take about k log k comparisons.
+fn are_names_of(rows: &[StepRow], ids: &[u64], words: &mut [&[u8]]) -> bool
+    ensures { result ≡ are_names_of rows.now ids.now (map (λ word. word.now) words.old) }
 {
     if words.len() != ids.len() {
         return false;
     }
+    words.sort_unstable();
+    are_among(rows, ids, words)
+}
+
+/// Whether each message's name is among these words, which are in order.
+fn are_among(rows: &[StepRow], ids: &[u64], words: &[&[u8]]) -> bool
+    requires { IsSorted (λ x y. slice_cmp nat_cmp x.now y.now) words.now }
+    ensures { result ≡ list_all (λ id. has_name (map (λ word. word.now) words.now) (message_at rows.now id)) ids.now }
+{
     for id in ids {
         if !has_word(words, message_at(rows, *id)) {
             return false;

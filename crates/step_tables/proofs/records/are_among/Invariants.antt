@@ -2,7 +2,7 @@ use Rattle.std.proofs.Common.{◌≡◌, ◌≤◌, drop, length, map}
 use Rattle.std.specs.List.{list_all}
 use Rattle.step_tables.specs.Names.{has_name}
 use Rattle.step_tables.specs.Records.{message_at}
-use Rattle.step_tables.proofs.records.are_names_of.Given as goal
+use Rattle.step_tables.proofs.records.are_among.Given as goal
 
 -- all messages have their names among the words if those that follow do
 abbrev pub invariant-loop-id : goal.invariant-loop-id
