@@ -106,7 +106,7 @@ pub record IsJudgementPrinted (file : List ℕ) (Judges : Judgement → List ℕ
 
 -- the texts tell these options of a log
 abbrev pub AreImportOptions : ImportOptions → Options → Type 0
-AreImportOptions given o = AreOptions (option_map string_bytes given.nodes) (option_map string_bytes given.unit) (option_map string_bytes given.tick) (option_map string_bytes given.until) (option_map string_bytes given.idle) given.spread given.align o
+AreImportOptions given o = AreOptions (option_map string_bytes given.nodes) (option_map string_bytes given.unit) (option_map string_bytes given.tick) (option_map string_bytes given.until) (option_map string_bytes given.idle) given.spread given.align given.drop_lost o
 
 -- The log is read by these options, and the text is what is printed of it.
 pub record IsTextOfLog (form : ImportForm) (o : Options) (log out : List ℕ) : Type 0 where

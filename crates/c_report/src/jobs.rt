@@ -152,6 +152,7 @@ fn imported(alloc: Global, given: &ImportOptions, text: &[u8]) -> Result<Vec<u8>
         text_in(&given.idle),
         given.spread,
         given.align,
+        given.drop_lost,
     )?;
     log_text(alloc, text, &options, given.form)
 }

@@ -200,6 +200,8 @@ pub struct ImportOptions {
     pub spread: bool,
     /// Whether the clocks of the nodes are moved, so that each message is received later than it is sent.
     pub align: bool,
+    /// Whether the sends of messages that no record receives are left out.
+    pub drop_lost: bool,
     /// What is printed.
     pub form: ImportForm,
 }

@@ -1,6 +1,6 @@
 -- A reason against events names one of them.
-use Rattle.std.proofs.Common.{◌≡◌, ℕ, zero, suc, ◌<◌, ◌≤◌, arith, List, length, Option, Some, None, Bool, true, false, cond, refl, sym, subst}
-use Rattle.std.specs.Prelude.{int_lt, nat_lt, option_map, slice_index_or, IfErr, IfSome, Ok, Err, Result}
+use Rattle.std.proofs.Common.{◌≡◌, ℕ, zero, suc, ◌<◌, arith, List, length, Option, Some, None, Bool, true, false, cond, refl, sym, subst}
+use Rattle.std.specs.Prelude.{int_lt, nat_lt, option_map, slice_index_or, IfSome}
 use Rattle.std.specs.Option.{option_or}
 use Rattle.timed_events.specs.declared.events.Event.{Event}
 use Rattle.timed_events.specs.declared.events.Clock.{Clock}
@@ -11,8 +11,6 @@ use Rattle.timed_events.specs.Checks.{earlier_at, event_refusal, events_refusal,
 use Rattle.step_trace.specs.declared.traces.TheConstants.{MAX_TICKS}
 use Rattle.timed_events.specs.Times.{end_time, greatest_time, last_tick, time_ticks, times_refusal}
 use Rattle.timed_events.specs.Spreads.{IsAfterTimes, IsCausalRefusal, IsSpreadRefusal, IsTimedRefusal}
-use Rattle.timed_events.specs.declared.spread_traces.TimedTrace.{TimedTrace}
-use Rattle.event_log.specs.declared.reading.TheConstants.{MAX_EVENTS}
 use Rattle.event_log.specs.Imports.{event_place}
 
 -- a reason, if there is one, names the event at this place

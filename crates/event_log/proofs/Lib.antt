@@ -19,3 +19,7 @@ pub mod SeenSilences
 pub mod UnmadeLogs
 pub mod ToldTimes
 pub mod StepPlaces
+pub mod LostSends
+pub mod LeftEvents
+pub mod PlacedImports
+pub mod PlacedErrors

@@ -1,13 +1,12 @@
 -- Where events are refused for a cycle, nothing is against their messages.
 use Rattle.std.proofs.Common.{◌≡◌, ℕ, zero, suc, List, length, Option, Some, None, Bool, true, false, cond, subst, sym}
-use Rattle.std.specs.Prelude.{⊤, IfErr, Ok, Err, Result, int_lt, nat_lt, option_map, slice_index_or}
+use Rattle.std.specs.Prelude.{⊤, int_lt, nat_lt, option_map, slice_index_or}
 use Rattle.std.specs.Option.{option_or}
 use Rattle.step_trace.specs.declared.traces.TheConstants.{MAX_TICKS}
 use Rattle.timed_events.specs.declared.events.Event.{Event}
 use Rattle.timed_events.specs.declared.events.Clock.{Clock}
 use Rattle.timed_events.specs.declared.events.EventError.{EventError}
 use Rattle.timed_events.specs.declared.events.EventError.TheVariants as refused
-use Rattle.timed_events.specs.declared.spread_traces.TimedTrace.{TimedTrace}
 use Rattle.timed_events.specs.Firsts.{first_of}
 use Rattle.timed_events.specs.Checks.{earlier_at, event_refusal, events_refusal, first_fault, is_for, message_fault, message_faults, message_refusal, messages_at, messages_refusal, moment_at, processor_at, second_refusal, was_received}
 use Rattle.timed_events.specs.Times.{end_time, greatest_time, last_tick, time_ticks, times_refusal}

@@ -4,12 +4,11 @@ use Rattle.std.specs.Prelude.{nat_le, option_map, ⊤, MatchBool}
 use Rattle.std.specs.Borrow.{Bor}
 use Rattle.std.proofs.lemmas.Bool.Decides.{nat_tests}
 use Rattle.timed_events.specs.declared.events.Event.{Event}
-use Rattle.timed_events.specs.declared.idle_traces.IdleError.{IdleError}
 use Rattle.trace_text.specs.declared.byte_loops.TheConstants.{MAX_TEXT_BYTES}
 use Rattle.event_log.specs.declared.options.Options.{Options}
 use Rattle.event_log.specs.declared.refusals.LogError.{LogError}
 use Rattle.event_log.specs.declared.refusals.LogError.TheVariants.{TooLarge, Memory}
-use Rattle.event_log.specs.Imports.{IsAlignRefusal, IsIdleErrorOf, IsIdleErrorUnlessMemory, IsLogRefusal, IsRead, IsUnaligned, IsUnalignedFor, IsUnfit, IsUntimed}
+use Rattle.event_log.specs.Imports.{IsAlignRefusal, IsLogRefusal, IsRead, IsUnaligned, IsUnalignedFor, IsUnfit, IsUntimed}
 use Rattle.event_log.specs.Naming.{is_memory}
 
 -- any refusal but want of memory
@@ -21,8 +20,8 @@ due : (P : Type 0) (t : Bool) → t ≡ false → MatchBool t ⊤ P → P
 due P true n h = absurd (cc)
 due P false n h = h
 
-pub untimed-refusal : (o : Options) (text : List ℕ) (nodes : List (List ℕ)) (events : List Event) (reason : IdleError) (why : LogError) → IsIdleErrorUnlessMemory text nodes events reason why → (IsIdleErrorOf text nodes events reason why → IsUntimed o text why) → IsLogRefusal o text why
-untimed-refusal o text nodes events reason why h f = refusal-unless_memory o text why (λ n. inr (inr (inr (f (due (IsIdleErrorOf text nodes events reason why) (is_memory why) n h)))))
+pub untimed-refusal : (o : Options) (text : List ℕ) (why : LogError) (Unmade : Type 0) → MatchBool (is_memory why) ⊤ Unmade → (Unmade → IsUntimed o text why) → IsLogRefusal o text why
+untimed-refusal o text why Unmade h f = refusal-unless_memory o text why (λ n. inr (inr (inr (f (due Unmade (is_memory why) n h)))))
 
 pub unaligned-refusal : (o : Options) (text : List ℕ) (nodes : List (List ℕ)) (events : List Event) (why : LogError) → IsAlignRefusal text nodes events why → (IsUnalignedFor text nodes events why → IsUnaligned o text why) → IsLogRefusal o text why
 unaligned-refusal o text nodes events why h f = refusal-unless_memory o text why (λ n. inr (inr (inl (f (due (IsUnalignedFor text nodes events why) (is_memory why) n h)))))

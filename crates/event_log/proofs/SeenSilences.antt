@@ -1,5 +1,5 @@
 -- Events that a contract sees as the same make the same trace with receives of nothing in short silences.
-use Rattle.std.proofs.Common.{ℕ, ◌≡◌, ◌∙◌, ◌+◌, ◌<◌, ◌⊎◌, inl, inr, Bool, List, ◌++◌, length, map, Option, Some, None, refl, sym, ap, subst}
+use Rattle.std.proofs.Common.{ℕ, ◌≡◌, ◌∙◌, ◌+◌, ◌<◌, ◌⊎◌, inl, inr, Bool, List, ◌++◌, map, Option, Some, None, refl, sym, ap, subst}
 use Rattle.std.proofs.lemmas.List.{map-append}
 use Rattle.std.proofs.lemmas.List.Elements.{All-weaker}
 use Rattle.step_trace.specs.Traces.{Recorded}
@@ -12,12 +12,11 @@ use Rattle.timed_events.specs.declared.spread_traces.TimedTrace.{TimedTrace}
 use Rattle.timed_events.specs.IdleTicks.{HasEventIn, IsShortSilence, IsIdleEnd, IsIdleTick, AreIdle, ticks_of}
 use Rattle.timed_events.specs.IdleTraces.{IsFilled, IsIdleTimed}
 use Rattle.timed_events.specs.Spreads.{last_of, moved_of}
-use Rattle.timed_events.specs.TimedTraces.{IsTraceOf}
 use Rattle.timed_events.proofs.OneIdle.{IsIdleTimed-unique}
 use Rattle.timed_events.proofs.OneSpread.{IsTimed-unique}
 use Rattle.event_log.specs.declared.imports.IdleReceives.{IdleReceives}
 use Rattle.event_log.specs.Events.{seen}
-use Rattle.event_log.specs.Imports.{IsFilledWith, IsMadeBy}
+use Rattle.event_log.specs.Imports.{IsMadeBy}
 use Rattle.event_log.proofs.SeenEvents.{lasts, lengths, own-ticks, passed, processors, ticks-same, timed-as-seen, traces}
 
 has-event : (xs ys : List Event) → map seen xs ≡ map seen ys → (ticks : List ℕ) (p y : ℕ) → HasEventIn xs ticks p y → HasEventIn ys ticks p y

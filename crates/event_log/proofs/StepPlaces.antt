@@ -1,5 +1,5 @@
 -- The places of the steps of a trace of events.
-use Rattle.std.proofs.Common.{ℕ, ◌≡◌, ◌∙◌, ◌*◌, ℤ, Bool, List, ap, ap₂, length, subst, sym}
+use Rattle.std.proofs.Common.{ℕ, ◌≡◌, ◌∙◌, ℤ, Bool, List, Option, ap₂, length, subst, sym}
 use Rattle.std.proofs.lemmas.Slice.Zip.{AllZip-long}
 use Rattle.timed_events.specs.declared.events.Clock.{Clock}
 use Rattle.timed_events.specs.declared.events.Event.{Event}
@@ -14,7 +14,7 @@ use Rattle.step_trace.specs.Traces.{Recorded}
 use Rattle.event_log.specs.declared.imports.Import.{Import}
 use Rattle.event_log.specs.declared.options.Options.{Options}
 use Rattle.event_log.specs.Imports.{ArePlacedBy, IsPlacedImport}
-use Rattle.event_log.specs.StepTables.{IsTableOf, message_fields, rows_text, table_text}
+use Rattle.event_log.specs.StepTables.{IsTableOf, table_text}
 
 -- there is one for each step
 one-each : (n : ℕ) (events : List Event) (places : List ℕ) (trace : Recorded) → HasStepsAt n events places trace → length places ≡ length trace.steps
@@ -27,13 +27,13 @@ pub filled-long : (spread : Bool) (n : ℕ) (events : List Event) (clock : Clock
 filled-long spread n events clock limit timed filled places t p = one-each n filled places timed.trace (steps-filled spread n events clock limit timed filled places t p)
 
 -- the table of an import whose events, clock and places are known
-pub table-made : (o : Options) (text : List ℕ) (import : Import) (filled : List Event) (logged : ℕ) (first : ℤ) (clock : Clock) (places table : List ℕ) → IsPlacedImport o text import filled logged first clock places → table ≡ table_text text import.nodes filled logged first clock.width import.trace.ticks places → IsTableOf o text import table
-table-made o text import filled logged first clock places table h e = record {
+pub table-made : (o : Options) (text : List ℕ) (import : Import) (filled : List Event) (logged : ℕ) (left_at : Option (List ℕ)) (first : ℤ) (clock : Clock) (places table : List ℕ) → IsPlacedImport o text import filled logged left_at first clock places → table ≡ table_text text import.nodes filled logged left_at first clock.width import.trace.ticks places → IsTableOf o text import table
+table-made o text import filled logged left_at first clock places table h e = record {
   is = h.is;
   filled = filled;
   places = places;
-  placed = subst (λ (c : Clock). ArePlacedBy h.is.limit o.spread (length h.is.log.nodes) h.is.aligned c filled places) (sym h.clock_is) h.placed;
+  placed = subst (λ (c : Clock). ArePlacedBy h.is.limit o.spread (length h.is.log.nodes) h.is.made.left c filled places) (sym h.clock_is) h.placed;
   written = e
-      ∙ ap (λ (n : ℕ). table_text text import.nodes filled n first clock.width import.trace.ticks places) h.so_many
-      ∙ ap₂ (λ (z : ℤ) (c : Clock). table_text text import.nodes filled (length h.is.aligned) z c.width import.trace.ticks places) h.begins (sym h.clock_is);
+      ∙ ap₂ (λ (n : ℕ) (at : Option (List ℕ)). table_text text import.nodes filled n at first clock.width import.trace.ticks places) h.so_many h.at
+      ∙ ap₂ (λ (z : ℤ) (c : Clock). table_text text import.nodes filled (length h.is.made.left) h.is.made.left_at z c.width import.trace.ticks places) h.begins (sym h.clock_is);
 }

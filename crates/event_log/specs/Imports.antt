@@ -1,5 +1,5 @@
 -- Logs read as traces.
-use Rattle.std.specs.Prelude.{ℕ, ◌≡◌, ◌+◌, ◌*◌, ◌/◌, ◌⊎◌, Bool, List, [], map, length, Option, Some, None, Result, Ok, Err, option_map, nat_lt, if◌then◌else◌, slice_get, slice_index_or, unwrap_or, ℤ, pos, true, IfSome, MatchBool, ⊤}
+use Rattle.std.specs.Prelude.{ℕ, ◌≡◌, ◌+◌, ◌-◌, ◌*◌, ◌/◌, ◌⊎◌, Bool, false, List, [], map, length, Option, Some, None, Result, Ok, Err, option_map, nat_lt, if◌then◌else◌, slice_get, slice_index_or, unwrap_or, ℤ, pos, true, IfSome, MatchBool, ⊤}
 use Rattle.std.specs.Borrow.{Bor}
 use Rattle.std.specs.Option.{option_map_or}
 use Rattle.timed_events.specs.declared.cause_cycles.Hop.{Hop}
@@ -25,7 +25,7 @@ use Rattle.event_log.specs.declared.imports.IdleReceives.{IdleReceives}
 use Rattle.event_log.specs.declared.imports.Import.{Import}
 use Rattle.event_log.specs.declared.options.Options.{Options}
 use Rattle.event_log.specs.declared.refusals.LogError.{LogError}
-use Rattle.event_log.specs.declared.refusals.LogError.TheVariants.{TickUnfit, UntilUnfit, IdleUnfit, TooManyTicks, NeverSent, WrongReceiver, ReceivedBefore, NotLater, SecondEvent, Cycle, NoOffsets, TooLate, TooManySteps, Memory}
+use Rattle.event_log.specs.declared.refusals.LogError.TheVariants.{NoEvents, TickUnfit, UntilUnfit, IdleUnfit, TooManyTicks, NeverSent, WrongReceiver, ReceivedBefore, NotLater, SecondEvent, Cycle, NoOffsets, TooLate, TooManySteps, Memory}
 use Rattle.event_log.specs.declared.times.LogEnd.{LogEnd}
 use Rattle.event_log.specs.declared.times.LogEnd.TheVariants as end
 use Rattle.event_log.specs.declared.times.TimeKind.{TimeKind}
@@ -40,6 +40,7 @@ use Rattle.event_log.specs.ClockLines.{clock_lines}
 use Rattle.event_log.specs.Events.{seen}
 use Rattle.event_log.specs.HopLines.{hop_lines}
 use Rattle.event_log.specs.Logs.{SeenLog}
+use Rattle.event_log.specs.LostSends.{AreLeft, left_places}
 use Rattle.event_log.specs.Naming.{is_memory}
 use Rattle.event_log.specs.Stages.{staged_log}
 use Rattle.event_log.specs.Times.{nanoseconds_in}
@@ -217,14 +218,88 @@ IsUnmadeFor None spread n events clock (filled.Events why) = IsTimedRefusal spre
 IsUnmadeFor None spread n events clock filled.TooManySteps = ⊥
 IsUnmadeFor (Some limit) spread n events clock why = IsIdleRefusal spread n events clock limit why
 
+-- Where lost sends are left out, `left` are the other events, and these are their places; else `left` are all events, each at its
+-- own place.
+abbrev pub AreLeftBy : Bool → List Event → List Event → Option (List ℕ) → Type 0
+AreLeftBy false events left places = (left ≡ events) × (places ≡ None)
+AreLeftBy true events left None = ⊥
+AreLeftBy true events left (Some places) = AreLeft events left places
+
+-- the place in the log of the event at a place among those that are left
+abbrev pub place_in : List ℕ → ℕ → ℕ
+place_in places i = slice_index_or places i 0
+
+abbrev pub log_place : Option (List ℕ) → ℕ → ℕ
+log_place None i = i
+log_place (Some places) i = place_in places i
+
+-- how far events went, by the place of the farthest in the log
+abbrev pub moved_in : Option (List ℕ) → Moved → Moved
+moved_in None moved = moved
+moved_in (Some places) moved = record { events = moved.events; ticks = moved.ticks; farthest = option_map (place_in places) moved.farthest }
+
+-- a reason by the place of its event in the log
+abbrev pub reason_in : List ℕ → EventError → EventError
+reason_in places refused.UntilTooEarly = refused.UntilTooEarly
+reason_in places refused.TooManyTicks = refused.TooManyTicks
+reason_in places (refused.NeverSent i k) = refused.NeverSent (place_in places i) k
+reason_in places (refused.WrongReceiver i k) = refused.WrongReceiver (place_in places i) k
+reason_in places (refused.ReceivedBefore i k) = refused.ReceivedBefore (place_in places i) k
+reason_in places (refused.NotLater i k hint) = refused.NotLater (place_in places i) k hint
+reason_in places (refused.SecondEvent i tick hint) = refused.SecondEvent (place_in places i) tick hint
+reason_in places (refused.Cycle i) = refused.Cycle (place_in places i)
+reason_in places refused.Memory = refused.Memory
+
+-- a hop by the places of its events in the log
+abbrev pub hop_in : List ℕ → Hop → Hop
+hop_in places hop = record { event = place_in places hop.event; message = place_in places hop.message }
+
+-- The refusal tells the first event that is in a cycle of messages or behind one, and the hops of such a cycle, from the least
+-- of their events on, by their records.
+pub record IsLeftCycleError (text : List ℕ) (nodes : List (List ℕ)) (events left : List Event) (places : List ℕ) (i : ℕ) (error : LogError) : Type 0 where
+  pub hops : List Hop
+  pub cycle : IsCauseCycle left hops
+  pub first : BeginsAtLeast hops
+  pub is : error ≡ Cycle (place_in places i + 2) (hop_lines text nodes events (map (hop_in places) hops))
+
+-- the refusal of a log for a reason against the events that are left, which are at these places
+abbrev pub IsPlacedErrorOf : List ℕ → List (List ℕ) → List Event → List Event → List ℕ → IdleError → LogError → Type 0
+IsPlacedErrorOf text nodes events left places (filled.Events (refused.Cycle i)) error = IsLeftCycleError text nodes events left places i error
+IsPlacedErrorOf text nodes events left places (filled.Events why) error = IsErrorOf text nodes events (reason_in places why) error
+IsPlacedErrorOf text nodes events left places filled.TooManySteps error = error ≡ TooManySteps
+
+abbrev pub IsLeftErrorOf : List ℕ → List (List ℕ) → List Event → List Event → Option (List ℕ) → IdleError → LogError → Type 0
+IsLeftErrorOf text nodes events left None why error = IsIdleErrorOf text nodes events why error
+IsLeftErrorOf text nodes events left (Some places) why error = IsPlacedErrorOf text nodes events left places why error
+
+-- the same, or want of memory
+abbrev pub IsPlacedErrorUnlessMemory : List ℕ → List (List ℕ) → List Event → List Event → List ℕ → IdleError → LogError → Type 0
+IsPlacedErrorUnlessMemory text nodes events left places why error = MatchBool (is_memory error) ⊤ (IsPlacedErrorOf text nodes events left places why error)
+
 -- events and a clock, which a text and options tell
 pub record AreEventsOf (o : Options) (text : List ℕ) (log : SeenLog) (events : List Event) (clock : Clock) : Type 0 where
   pub read : IsRead o text (Ok log)
   pub same : map seen events ≡ log.events
   pub fits : clock_in o log.kind ≡ Ok clock
 
--- The trace is that of the events that the text tells, by the options, with their clocks aligned if that is asked for; the
--- nodes are the processors, in their order; and so many messages of the events are late.
+-- how many lost sends are left out of so many events, if they are
+abbrev pub lost_of : ℕ → Option (List ℕ) → Option ℕ
+lost_of count None = None
+lost_of count (Some places) = Some (count - length places)
+
+-- The trace is that of the events of a log, without lost sends if these are left out. How far they went is told by their places in the
+-- log.
+pub record IsMadeOfLog (drop : Bool) (limit : Option ℕ) (spread : Bool) (n : ℕ) (events : List Event) (clock : Clock) (import : Import) : Type 0 where
+  pub left : List Event
+  pub left_at : Option (List ℕ)
+  pub are_left : AreLeftBy drop events left left_at
+  pub moved : Moved
+  pub made : IsMadeBy limit spread n left clock import.trace moved import.idle
+  pub moved_is : import.moved ≡ moved_in left_at moved
+  pub lost : import.lost ≡ lost_of (length events) left_at
+
+-- The trace is that of the events that the text tells, by the options, with their clocks aligned and without lost sends if that
+-- is asked for; the nodes are the processors, in their order; and so many messages of the events are late.
 pub record IsImportOf (o : Options) (text : List ℕ) (import : Import) : Type 0 where
   pub log : SeenLog
   pub events : List Event
@@ -234,25 +309,55 @@ pub record IsImportOf (o : Options) (text : List ℕ) (import : Import) : Type 0
   pub clocks : AreAligned o.align (length log.nodes) events import.offsets aligned
   pub limit : Option ℕ
   pub fits_idle : limit_in o log.kind clock ≡ Ok limit
-  pub made : IsMadeBy limit o.spread (length log.nodes) aligned clock import.trace import.moved import.idle
+  pub made : IsMadeOfLog o.drop_lost limit o.spread (length log.nodes) aligned clock import
   pub nodes : import.nodes ≡ log.nodes
   pub lateness : import.lateness ≡ lateness_of aligned
 
--- The import is that of the text by the options. `filled` has its events, so many, in the order of their records and with their
--- clocks aligned if that is asked for, and behind them the receives of nothing that were added. Its ticks begin by this clock, tick 1
--- at the time `first`; and its steps are those of the list at these places.
-pub record IsPlacedImport (o : Options) (text : List ℕ) (import : Import) (filled : List Event) (logged : ℕ) (first : ℤ) (clock : Clock) (places : List ℕ) : Type 0 where
+-- The import is that of a log's events. `filled` has those that are left, so many, in the order of their records, and behind them the
+-- receives of nothing that were added. The events are at the places `left_at` of the log. Tick 1 begins at the time `first`, and the
+-- steps are those of the list at these places.
+pub record IsPlacedOfLog (drop : Bool) (limit : Option ℕ) (spread : Bool) (n : ℕ) (events : List Event) (clock : Clock) (import : Import) (filled : List Event) (logged : ℕ) (left_at : Option (List ℕ)) (first : ℤ) (places : List ℕ) : Type 0 where
+  pub is : IsMadeOfLog drop limit spread n events clock import
+  pub so_many : logged ≡ length is.left
+  pub at : left_at ≡ is.left_at
+  pub begins : first ≡ least_time is.left
+  pub placed : ArePlacedBy limit spread n is.left clock filled places
+
+-- The import is that of the text by the options, and its events are placed so.
+pub record IsPlacedImport (o : Options) (text : List ℕ) (import : Import) (filled : List Event) (logged : ℕ) (left_at : Option (List ℕ)) (first : ℤ) (clock : Clock) (places : List ℕ) : Type 0 where
   pub is : IsImportOf o text import
   pub clock_is : is.clock ≡ clock
-  pub so_many : logged ≡ length is.aligned
-  pub begins : first ≡ least_time is.aligned
-  pub placed : ArePlacedBy is.limit o.spread (length is.log.nodes) is.aligned clock filled places
+  pub so_many : logged ≡ length is.made.left
+  pub at : left_at ≡ is.made.left_at
+  pub begins : first ≡ least_time is.made.left
+  pub placed : ArePlacedBy is.limit o.spread (length is.log.nodes) is.made.left clock filled places
 
 -- the events are told, and an option doesn't fit their times
 pub record IsUnfit (o : Options) (text : List ℕ) (why : LogError) : Type 0 where
   pub log : SeenLog
   pub read : IsRead o text (Ok log)
   pub unfit : (clock_in o log.kind ≡ Err why) ⊎ ((clock : Clock) × (clock_in o log.kind ≡ Ok clock) × (limit_in o log.kind clock ≡ Err why))
+
+-- there is a reason against those of a log's events that are left
+pub record IsUntimedOf (drop : Bool) (limit : Option ℕ) (spread : Bool) (text : List ℕ) (nodes : List (List ℕ)) (events : List Event) (clock : Clock) (why : LogError) : Type 0 where
+  pub left : List Event
+  pub left_at : Option (List ℕ)
+  pub are_left : AreLeftBy drop events left left_at
+  pub reason : IdleError
+  pub untimed : IsUnmadeFor limit spread (length nodes) left clock reason
+  pub is : IsLeftErrorOf text nodes events left left_at reason why
+
+-- all events are lost sends, which are left out
+abbrev pub IsEmptied : Bool → List Event → LogError → Type 0
+IsEmptied drop events why = (drop ≡ true) × (left_places events ≡ []) × (why ≡ NoEvents)
+
+-- why the events of a log make no trace
+abbrev pub IsUnmadeOfLog : Bool → Option ℕ → Bool → List ℕ → List (List ℕ) → List Event → Clock → LogError → Type 0
+IsUnmadeOfLog drop limit spread text nodes events clock why = IsEmptied drop events why ⊎ IsUntimedOf drop limit spread text nodes events clock why
+
+-- the same, or want of memory
+abbrev pub IsUnmadeUnlessMemory : Bool → Option ℕ → Bool → List ℕ → List (List ℕ) → List Event → Clock → LogError → Type 0
+IsUnmadeUnlessMemory drop limit spread text nodes events clock why = MatchBool (is_memory why) ⊤ (IsUnmadeOfLog drop limit spread text nodes events clock why)
 
 -- the events are told, and they make no trace
 pub record IsUntimed (o : Options) (text : List ℕ) (why : LogError) : Type 0 where
@@ -265,9 +370,7 @@ pub record IsUntimed (o : Options) (text : List ℕ) (why : LogError) : Type 0 w
   pub clocks : AreAligned o.align (length log.nodes) events offsets aligned
   pub limit : Option ℕ
   pub fits_idle : limit_in o log.kind clock ≡ Ok limit
-  pub reason : IdleError
-  pub untimed : IsUnmadeFor limit o.spread (length log.nodes) aligned clock reason
-  pub is : IsIdleErrorOf text log.nodes aligned reason why
+  pub unmade : IsUnmadeOfLog o.drop_lost limit o.spread text log.nodes aligned clock why
 
 -- the events are told, and their clocks aren't aligned, though that is asked for
 pub record IsUnaligned (o : Options) (text : List ℕ) (why : LogError) : Type 0 where

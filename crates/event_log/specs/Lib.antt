@@ -13,7 +13,9 @@ pub mod Stages
 pub mod Options
 pub mod ToldNames
 pub mod HopLines
+pub mod LostSends
 pub mod Imports
+pub mod Given
 pub mod Alignments
 pub mod ClockLines
 pub mod StepTables

@@ -62,7 +62,7 @@ IsIdleIn None idle = idle ≡ None
 IsIdleIn (Some text) idle = (width : Width) × IsWidth text width × (idle ≡ Some width)
 
 -- the options that the five texts tell
-pub record AreOptions (nodes unit tick until idle : Option (List ℕ)) (spread align : Bool) (o : Options) : Type 0 where
+pub record AreOptions (nodes unit tick until idle : Option (List ℕ)) (spread align drop_lost : Bool) (o : Options) : Type 0 where
   pub nodes_are : AreNodesIn nodes o.nodes
   pub unit_is : IsUnitIn unit o.unit
   pub width_is : IsWidthIn tick o.width
@@ -70,6 +70,7 @@ pub record AreOptions (nodes unit tick until idle : Option (List ℕ)) (spread a
   pub idle_is : IsIdleIn idle o.idle
   pub spread_is : o.spread ≡ spread
   pub align_is : o.align ≡ align
+  pub drop_is : o.drop_lost ≡ drop_lost
 
 -- a text that lists no nodes, one that names no unit, one that tells no length of a tick or of a silence, and one that tells
 -- no end

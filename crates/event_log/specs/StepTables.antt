@@ -1,11 +1,10 @@
 -- The table of the steps of a log's trace: a record for each step, with the record of the log that it is.
-use Rattle.std.specs.Prelude.{ℕ, ◌≡◌, ◌+◌, ◌-◌, ◌*◌, ℤ, pos, List, [], ◌∷◌, ◌++◌, length, map, codes, decimal, if◌then◌else◌, nat_lt, slice_get, slice_index, slice_index_or}
+use Rattle.std.specs.Prelude.{ℕ, ◌≡◌, ◌+◌, ◌-◌, ◌*◌, ℤ, pos, List, [], ◌∷◌, ◌++◌, Option, length, map, codes, decimal, if◌then◌else◌, nat_lt, slice_get, slice_index, slice_index_or}
 use Rattle.std.proofs.Common.{◌+ℤ◌}
 use Rattle.std.specs.Fmt.{signed_decimal}
 use Rattle.std.specs.List.{flat_map, range_with_len}
 use Rattle.std.specs.Option.{option_map_or}
 use Rattle.csv.specs.Writing.{row_text}
-use Rattle.step_trace.specs.Traces.{Recorded}
 use Rattle.timed_events.specs.declared.events.Event.{Event}
 use Rattle.timed_events.specs.declared.events.EventAct.{EventAct}
 use Rattle.timed_events.specs.declared.events.EventAct.TheVariants as act
@@ -15,7 +14,7 @@ use Rattle.trace_text.specs.Records.{field_of, records_of_text}
 use Rattle.trace_text.specs.RecordWriting.{our_writer}
 use Rattle.event_log.specs.declared.imports.Import.{Import}
 use Rattle.event_log.specs.declared.options.Options.{Options}
-use Rattle.event_log.specs.Imports.{ArePlacedBy, IsImportOf}
+use Rattle.event_log.specs.Imports.{ArePlacedBy, IsImportOf, log_place}
 use Rattle.event_log.specs.ToldNames.{message_place, node_name}
 
 -- the names of the columns
@@ -52,24 +51,25 @@ if_logged logged i field = if nat_lt i logged then field else []
 
 -- Step k, counted from 0, which is the event at place i, in a tick: its number and tick, when the tick begins, the number of its
 -- record, the time of the event, the node, what it did, the node that a send is for, and what its record has in the column of
--- messages. The records of events come after that of the header, which is number 1. Tick 1 begins at the time `first`.
-abbrev pub step_record : List (List ℕ) → List (List ℕ) → List Event → ℕ → ℤ → ℕ → ℕ → ℕ → ℕ → List (List ℕ)
-step_record messages nodes events logged first width k tick i =
-    decimal (k + 1) ∷ decimal tick ∷ signed_decimal (begin_of first width tick) ∷ if_logged logged i (decimal (i + 2)) ∷ if_logged logged i (signed_decimal (time_at events i))
-    ∷ node_name nodes (processor_at events i) ∷ word_at events i ∷ receiver_name_at nodes events i ∷ if_logged logged i (slice_index_or messages (i + 1) []) ∷ []
+-- messages. The events are at the places `left_at` of the log, whose records come after that of the header, which is number 1. Tick 1
+-- begins at the time `first`.
+abbrev pub step_record : List (List ℕ) → List (List ℕ) → List Event → ℕ → Option (List ℕ) → ℤ → ℕ → ℕ → ℕ → ℕ → List (List ℕ)
+step_record messages nodes events logged left_at first width k tick i =
+    decimal (k + 1) ∷ decimal tick ∷ signed_decimal (begin_of first width tick) ∷ if_logged logged i (decimal (log_place left_at i + 2)) ∷ if_logged logged i (signed_decimal (time_at events i))
+    ∷ node_name nodes (processor_at events i) ∷ word_at events i ∷ receiver_name_at nodes events i ∷ if_logged logged i (slice_index_or messages (log_place left_at i + 1) []) ∷ []
 
 -- the same by the ticks of the steps and the places of their events
-abbrev pub record_of_step : List (List ℕ) → List (List ℕ) → List Event → ℕ → ℤ → ℕ → List ℕ → List ℕ → ℕ → List (List ℕ)
-record_of_step messages nodes events logged first width ticks places k = step_record messages nodes events logged first width k (slice_index ticks k) (slice_index places k)
+abbrev pub record_of_step : List (List ℕ) → List (List ℕ) → List Event → ℕ → Option (List ℕ) → ℤ → ℕ → List ℕ → List ℕ → ℕ → List (List ℕ)
+record_of_step messages nodes events logged left_at first width ticks places k = step_record messages nodes events logged left_at first width k (slice_index ticks k) (slice_index places k)
 
 -- the header and the records of so many steps, as csv writes them; the messages are those of all records of the log
-abbrev pub rows_text : List (List ℕ) → List (List ℕ) → List Event → ℕ → ℤ → ℕ → List ℕ → List ℕ → ℕ → List ℕ
-rows_text messages nodes events logged first width ticks places count =
-    row_text our_writer table_header ++ flat_map (λ k. row_text our_writer (record_of_step messages nodes events logged first width ticks places k)) (range_with_len 0 count)
+abbrev pub rows_text : List (List ℕ) → List (List ℕ) → List Event → ℕ → Option (List ℕ) → ℤ → ℕ → List ℕ → List ℕ → ℕ → List ℕ
+rows_text messages nodes events logged left_at first width ticks places count =
+    row_text our_writer table_header ++ flat_map (λ k. row_text our_writer (record_of_step messages nodes events logged left_at first width ticks places k)) (range_with_len 0 count)
 
 -- the table of the steps of all events, of which so many are the log's
-abbrev pub table_text : List ℕ → List (List ℕ) → List Event → ℕ → ℤ → ℕ → List ℕ → List ℕ → List ℕ
-table_text text nodes events logged first width ticks places = rows_text (message_fields text) nodes events logged first width ticks places (length places)
+abbrev pub table_text : List ℕ → List (List ℕ) → List Event → ℕ → Option (List ℕ) → ℤ → ℕ → List ℕ → List ℕ → List ℕ
+table_text text nodes events logged left_at first width ticks places = rows_text (message_fields text) nodes events logged left_at first width ticks places (length places)
 
 -- The import is that of the text by the options, and the table has a record for each of its steps: that of its event, or of the
 -- receive of nothing that was added.
@@ -77,5 +77,5 @@ pub record IsTableOf (o : Options) (text : List ℕ) (import : Import) (table : 
   pub is : IsImportOf o text import
   pub filled : List Event
   pub places : List ℕ
-  pub placed : ArePlacedBy is.limit o.spread (length is.log.nodes) is.aligned is.clock filled places
-  pub written : table ≡ table_text text import.nodes filled (length is.aligned) (least_time is.aligned) is.clock.width import.trace.ticks places
+  pub placed : ArePlacedBy is.limit o.spread (length is.log.nodes) is.made.left is.clock filled places
+  pub written : table ≡ table_text text import.nodes filled (length is.made.left) is.made.left_at (least_time is.made.left) is.clock.width import.trace.ticks places

@@ -1,10 +1,11 @@
 //! Logs read as traces.
 
-ghost use Rattle.std.specs.Prelude.{◌≡◌, ◌*◌, ◌^◌, ◌<◌, ◌≤◌, ℕ, [], Err, Ok, IfErr, IfOk, None, OnErr, Some, length, unwrap_or};
+ghost use Rattle.std.specs.Prelude.{◌≡◌, ◌*◌, ◌^◌, ◌<◌, ◌≤◌, ℕ, [], Err, Ok, false, IfErr, IfOk, None, OnErr, Some, length, unwrap_or};
 ghost use Rattle.timed_events.specs.Checks.{AreMeant, AreOfProcessors};
 ghost use Rattle.timed_events.specs.Lateness.{lateness_of};
 ghost use Rattle.timed_events.specs.Times.{least_time};
-ghost use Rattle.event_log.specs.Imports.{ArePlacedBy, IsBehindCycle, IsIdleErrorUnlessMemory, IsImportOf, IsLogRefusal, IsMadeBy, IsPlacedImport, IsRead, IsReadRefusal, IsUnmadeFor, above_zero, clock_in, end_in, idle_place, units_in, until_in, width_in};
+ghost use Rattle.event_log.specs.Imports.{ArePlacedBy, IsBehindCycle, IsIdleErrorUnlessMemory, IsImportOf, IsLogRefusal, IsMadeBy, IsPlacedImport, IsPlacedOfLog, IsRead, IsReadRefusal, IsUnmadeFor, IsUnmadeUnlessMemory, above_zero, clock_in, end_in, idle_place, units_in, until_in, width_in};
+ghost use Rattle.event_log.specs.Given.{AreGiven};
 ghost use Rattle.event_log.specs.Logs.{seen_log};
 ghost use Rattle.event_log.specs.SoundLogs.{IsSound};
 ghost use Rattle.event_log.specs.Times.{nanoseconds_in, nanoseconds_of};
@@ -12,6 +13,8 @@ ghost use Rattle.event_log.specs.Times.{nanoseconds_in, nanoseconds_of};
 use crate::alignments::{AlignedLog, aligned_log};
 use crate::event_refusals::error_of;
 use crate::idle_limits::limit_for;
+use crate::left_imports::left_import;
+use crate::log_places::LogPlaces;
 use crate::logs::{NamedEvents, events_of_log};
 use crate::names::NameSet;
 use crate::options::Options;
@@ -42,6 +45,8 @@ pub struct Import {
     pub offsets: Option<Offsets>,
     /// The receives of nothing that were added, where they were asked for.
     pub idle: Option<IdleReceives>,
+    /// How many sends of messages that no record receives were left out, where that was asked for.
+    pub lost: Option<u64>,
 }
 
 /// Receives of nothing that were added to a trace.
@@ -56,17 +61,18 @@ pub struct IdleReceives {
 /// The trace of a log, how far its events went, the receives of nothing that were added, and the places of the events and of
 /// these receives in the order of its steps.
 #[derive(Drop)]
-struct LogTrace {
-    trace: Trace,
-    moved: Moved,
-    idle: Option<IdleReceives>,
-    places: Vec<u32>,
+pub(crate) struct LogTrace {
+    pub(crate) trace: Trace,
+    pub(crate) moved: Moved,
+    pub(crate) idle: Option<IdleReceives>,
+    pub(crate) places: Vec<u32>,
 }
 
 /// Reads a log as a trace: each event is one step, in the tick of its time or, where events may be spread, as little later
 /// as need be.
 ///
-/// Where clocks are to be aligned, each is moved first, and the end of the log is one by the moved times.
+/// Where clocks are to be aligned, each is moved first, and the end of the log is one by the moved times. Where lost sends are left
+/// out, they are no steps, and take no time; all else is named by its place in the whole log.
 ///
 /// Refuses in the order of `LogError`; where events may be spread, none is NotLater or SecondEvent, Cycle comes after the
 /// other refusals of events, and TooManyTicks last where an event came too far. Memory comes only for a text that isn't too large.
@@ -82,11 +88,13 @@ pub fn read_log(alloc: Global, text: &[u8], options: &Options) -> Result<Import,
 #[derive(Drop)]
 pub(crate) struct PlacedImport {
     pub(crate) import: Import,
-    /// The events of the log in the order of their records, with their clocks aligned if that was asked for, and behind them the
-    /// receives of nothing that were added.
+    /// The events of the log in the order of their records, with their clocks aligned and without lost sends if that was asked
+    /// for, and behind them the receives of nothing that were added.
     pub(crate) events: Vec<Event>,
     /// How many of the events are the log's.
     pub(crate) logged: usize,
+    /// Where these are in the log.
+    pub(crate) left_at: LogPlaces,
     /// When tick 1 begins.
     pub(crate) first: i128,
     /// How long ticks are.
@@ -103,7 +111,7 @@ pub(crate) fn placed_import(
     text: &[u8],
     options: &Options,
 ) -> Result<PlacedImport, LogError>
-    ensures import { IfOk result (λ p. IsPlacedImport options.now text.now p.import p.events.items p.logged p.first p.clock p.places.items) }
+    ensures import { IfOk result (λ p. IsPlacedImport options.now text.now p.import p.events.items p.logged p.left_at p.first p.clock p.places.items) }
     ensures long { IfOk result (λ p. length p.places.items ≡ length p.import.trace.steps) }
     ensures short { IfOk result (λ p. p.clock.width < 2 ^ 94) }
     ensures refused { IfErr result (λ why. IsLogRefusal options.now text.now why) }
@@ -115,19 +123,38 @@ pub(crate) fn placed_import(
     let log = events_by(alloc, text, options)?;
     let clock = clock_for(options, log.kind)?;
     let limit = limit_for(options, log.kind, &clock)?;
-    let mut aligned = aligned_log(alloc, text, log, options.align)?;
+    let aligned = aligned_log(alloc, text, log, options.align)?;
     let lateness = lateness_in(alloc, &aligned.log)?;
+    if options.drop_lost {
+        return left_import(alloc, text, aligned, lateness, clock, limit, options.spread);
+    }
+    whole_import(alloc, text, aligned, lateness, clock, limit, options.spread)
+}
+
+/// The import of all events of an aligned log.
+///
+/// Refuses the first reason against them. Memory may come at any step.
+fn whole_import(
+    alloc: Global,
+    text: &[u8],
+    aligned: AlignedLog,
+    lateness: Lateness,
+    clock: Clock,
+    limit: Option<u128>,
+    spread: bool,
+) -> Result<PlacedImport, LogError>
+    requires sound { IsSound (seen_log aligned.log) }
+    requires width { 0 < clock.width }
+    ensures made { IfOk result (λ p. IsPlacedOfLog false limit spread (length aligned.log.nodes) aligned.log.events.items clock p.import p.events.items p.logged p.left_at p.first p.places.items) }
+    ensures given { IfOk result (λ p. AreGiven aligned lateness clock p) }
+    ensures long { IfOk result (λ p. length p.places.items ≡ length p.import.trace.steps) }
+    ensures refused { IfErr result (IsUnmadeUnlessMemory false limit spread text.now aligned.log.nodes aligned.log.events.items clock) }
+{
+    let mut aligned = aligned;
     let n = aligned.log.nodes.len() as u64;
     let logged = aligned.log.events.len();
     let first = least_time(aligned.log.events.as_slice());
-    match trace_of_log(
-        alloc,
-        n,
-        &mut aligned.log.events,
-        &clock,
-        options.spread,
-        limit,
-    ) {
+    match trace_of_log(alloc, n, &mut aligned.log.events, &clock, spread, limit) {
         Ok(made) => Ok(import_of(aligned, made, lateness, logged, first, clock)),
         Err(why) => Err(log_error(alloc, text, &aligned.log, why)),
     }
@@ -143,9 +170,10 @@ fn import_of(
     first: i128,
     clock: Clock,
 ) -> PlacedImport
-    ensures import { result.import ≡ record { trace = made.trace; nodes = aligned.log.nodes; moved = made.moved; lateness = lateness; offsets = aligned.offsets; idle = made.idle } }
+    ensures import { result.import ≡ record { trace = made.trace; nodes = aligned.log.nodes; moved = made.moved; lateness = lateness; offsets = aligned.offsets; idle = made.idle; lost = None } }
     ensures events { result.events.items ≡ aligned.log.events.items }
     ensures logged { result.logged ≡ logged }
+    ensures at { result.left_at ≡ None }
     ensures first { result.first ≡ first }
     ensures clock { result.clock ≡ clock }
     ensures places { result.places.items ≡ made.places.items }
@@ -165,9 +193,11 @@ fn import_of(
             lateness,
             offsets,
             idle,
+            lost: None,
         },
         events: log.events,
         logged,
+        left_at: LogPlaces::all(),
         first,
         clock,
         places,
@@ -312,7 +342,7 @@ fn lateness_in(alloc: Global, log: &NamedEvents) -> Result<Lateness, LogError>
 
 /// The trace of the events of a log, with receives of nothing in silences of at most so many ticks, if there is a limit. These
 /// stand behind the events then; after a refusal the events are as they were.
-fn trace_of_log(
+pub(crate) fn trace_of_log(
     alloc: Global,
     n: u64,
     events: &mut Vec<Event>,

@@ -24,8 +24,9 @@ pub fn read_options(
     idle: Option<&str>,
     spread: bool,
     align: bool,
+    drop_lost: bool,
 ) -> Result<Options, OptionError>
-    ensures options { IfOk result (λ o. AreOptions (option_map (λ t. t.now) nodes.entry) (option_map (λ t. t.now) unit.entry) (option_map (λ t. t.now) tick.entry) (option_map (λ t. t.now) until.entry) (option_map (λ t. t.now) idle.entry) spread align o) }
+    ensures options { IfOk result (λ o. AreOptions (option_map (λ t. t.now) nodes.entry) (option_map (λ t. t.now) unit.entry) (option_map (λ t. t.now) tick.entry) (option_map (λ t. t.now) until.entry) (option_map (λ t. t.now) idle.entry) spread align drop_lost o) }
     ensures refused { IfErr result (λ why. IsOptionFault (option_map (λ t. t.now) nodes.entry) (option_map (λ t. t.now) unit.entry) (option_map (λ t. t.now) tick.entry) (option_map (λ t. t.now) until.entry) (option_map (λ t. t.now) idle.entry) why) }
     ensures more { result ≡ Err OptionError.Memory → IsSome nodes.entry }
 {
@@ -40,6 +41,7 @@ pub fn read_options(
         idle,
         spread,
         align,
+        drop_lost,
     })
 }
 

@@ -23,6 +23,8 @@ pub struct Options {
     pub spread: bool,
     /// Whether the clocks of the nodes are moved, so that each message is received later than it is sent.
     pub align: bool,
+    /// Whether the sends of messages that no record receives are left out.
+    pub drop_lost: bool,
     ghost short: { nanoseconds_of width < 2 ^ 94 },
 }
 

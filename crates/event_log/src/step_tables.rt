@@ -7,7 +7,7 @@ ghost use Rattle.csv.specs.Records.{fields_of, partial_of};
 ghost use Rattle.csv.specs.Writing.{row_text};
 ghost use Rattle.timed_events.specs.Checks.{processor_at, time_at};
 ghost use Rattle.trace_text.specs.RecordWriting.{IsReady, our_writer, written};
-ghost use Rattle.event_log.specs.Imports.{IsLogRefusal};
+ghost use Rattle.event_log.specs.Imports.{IsLogRefusal, log_place};
 ghost use Rattle.event_log.specs.StepTables.{IsTableOf, begin_of, if_logged, message_fields, receiver_name_at, record_of_step, step_record, table_header, table_text, word_at};
 ghost use Rattle.event_log.specs.ToldNames.{node_name};
 
@@ -60,7 +60,7 @@ pub fn read_table(alloc: Global, text: &[u8], options: &Options) -> Result<LogTa
 fn table_of(alloc: Global, text: &[u8], placed: &PlacedImport) -> Result<Vec<u8>, AllocError>
     requires long { length placed.now.places.items ≡ length placed.now.import.trace.steps }
     requires short { placed.now.clock.width < 2 ^ 94 }
-    ensures { IfOk result (λ table. table.items ≡ table_text text.now placed.now.import.nodes placed.now.events.items placed.now.logged placed.now.first placed.now.clock.width placed.now.import.trace.ticks placed.now.places.items) }
+    ensures { IfOk result (λ table. table.items ≡ table_text text.now placed.now.import.nodes placed.now.events.items placed.now.logged placed.now.left_at placed.now.first placed.now.clock.width placed.now.import.trace.ticks placed.now.places.items) }
 {
     let messages = message_fields(alloc, text)?;
     let mut writer = record_writer(alloc);
@@ -98,7 +98,7 @@ fn write_step(
     requires short { placed.now.clock.width < 2 ^ 94 }
     ensures ready { OnOk result (IsReady writer.new) }
     ensures text { OnOk result (written writer.new ≡ written writer.old ++ row_text our_writer
-        (record_of_step messages.now placed.now.import.nodes placed.now.events.items placed.now.logged placed.now.first placed.now.clock.width placed.now.import.trace.ticks placed.now.places.items k)) }
+        (record_of_step messages.now placed.now.import.nodes placed.now.events.items placed.now.logged placed.now.left_at placed.now.first placed.now.clock.width placed.now.import.trace.ticks placed.now.places.items k)) }
 {
     let place = placed.places[k] as usize;
     let tick = tick_of(&placed.import.trace, k);
@@ -106,9 +106,9 @@ fn write_step(
     push_number(alloc, &mut fields, k as u64 + 1)?;
     push_number(alloc, &mut fields, tick)?;
     push_begin(alloc, &mut fields, placed.first, placed.clock.width, tick)?;
-    push_source(alloc, &mut fields, &placed.events, placed.logged, place)?;
+    push_source(alloc, &mut fields, placed, place)?;
     push_event(&mut fields, &placed.import.nodes, &placed.events, place)?;
-    fields.push_field(message_at(messages, placed.logged, place))?;
+    fields.push_field(message_at(messages, placed, place))?;
     write_fields(writer, &fields)
 }
 
@@ -143,23 +143,22 @@ fn push_time(alloc: Global, fields: &mut ByteRecord, time: i128) -> Result<(), A
 }
 
 /// Puts last the number of the record of the event at a place, and its time: two empty fields for a receive that was added, behind
-/// the log's events, of which there are so many.
+/// the log's events.
 fn push_source(
     alloc: Global,
     fields: &mut ByteRecord,
-    events: &[Event],
-    logged: usize,
+    placed: &PlacedImport,
     place: usize,
 ) -> Result<(), AllocError>
     requires whole { partial_of fields.old ≡ [] }
     requires small { place < 2 ^ 32 }
     ensures whole { OnOk result (partial_of fields.new ≡ []) }
     ensures fields { OnOk result (fields_of fields.new ≡ fields_of fields.old
-        ++ if_logged logged place (decimal (place + 2)) ∷ if_logged logged place (signed_decimal (time_at events.now place)) ∷ []) }
+        ++ if_logged placed.now.logged place (decimal (log_place placed.now.left_at place + 2)) ∷ if_logged placed.now.logged place (signed_decimal (time_at placed.now.events.items place)) ∷ []) }
 {
-    if place < logged {
-        push_number(alloc, fields, place as u64 + 2)?;
-        return push_time(alloc, fields, time_at(events, place));
+    if place < placed.logged {
+        push_number(alloc, fields, placed.left_at.at(place) as u64 + 2)?;
+        return push_time(alloc, fields, time_at(&placed.events, place));
     }
     fields.push_field(&[])?;
     fields.push_field(&[])
@@ -249,15 +248,15 @@ fn receiver_name_at<'a>(nodes: &'a NameSet, events: &[Event], place: usize) -> &
     }
 }
 
-/// What the record of the event at a place has as messages, if it is one of the log's events, of which there are so many.
-fn message_at(messages: &[Name], logged: usize, place: usize) -> &[u8]
+/// What the record of the event at a place has as messages, if it is one of the log's events.
+fn message_at<'a>(messages: &'a [Name], placed: &PlacedImport, place: usize) -> &'a [u8]
     requires { place < 2 ^ 32 }
-    ensures { result.now ≡ if_logged logged place (slice_index_or messages.now (place + 1) []) }
+    ensures { result.now ≡ if_logged placed.now.logged place (slice_index_or messages.now (log_place placed.now.left_at place + 1) []) }
 {
-    if place >= logged {
+    if place >= placed.logged {
         return &[];
     }
-    match messages.get(place + 1) {
+    match messages.get(placed.left_at.at(place) + 1) {
         Some(name) => name.as_bytes(),
         None => &[],
     }

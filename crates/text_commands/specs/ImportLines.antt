@@ -79,6 +79,17 @@ abbrev pub clock_notes : List (List ℕ) → Option (List ℤ) → List ℕ
 clock_notes nodes None = []
 clock_notes nodes (Some offsets) = clock_lines nodes offsets (length nodes)
 
+-- the line that tells how many messages were never received, whose sends are left out
+abbrev pub lost_line : ℕ → List ℕ
+lost_line lost =
+    if lost == 1 then codes "synchrony: 1 message was never received; its send is left out" ++ 10 ∷ []
+    else codes "synchrony: " ++ (decimal lost ++ (codes " messages were never received; their sends are left out" ++ 10 ∷ []))
+
+-- it is told where they are
+abbrev pub lost_notes : Option ℕ → List ℕ
+lost_notes None = []
+lost_notes (Some lost) = lost_line lost
+
 -- so many receives of nothing
 abbrev pub receives_words : ℕ → List ℕ
 receives_words count = if count == 1 then codes "1 receive of nothing" else decimal count ++ codes " receives of nothing"
@@ -100,4 +111,4 @@ event_count steps (Some idle) = steps - idle.count
 
 -- what is told of a log that was read as a trace
 abbrev pub notes_of : Options → Import → List ℕ
-notes_of o import = node_notes o.nodes import.nodes ++ (clock_notes import.nodes import.offsets ++ (moved_notes o.spread (event_count (length import.trace.steps) import.idle) import.moved import.lateness ++ idle_notes import.idle))
+notes_of o import = node_notes o.nodes import.nodes ++ (clock_notes import.nodes import.offsets ++ (lost_notes import.lost ++ (moved_notes o.spread (event_count (length import.trace.steps) import.idle) import.moved import.lateness ++ idle_notes import.idle)))

@@ -4,6 +4,7 @@ ghost use Rattle.std.specs.Prelude.{◌≡◌, [], IfOk, Some, length, slice_ind
 ghost use Rattle.text_commands.specs.ImportLines.{clock_line_at, clock_lines, clock_notes, event_count, late_lines, moved_notes, node_lines, notes_of};
 
 use crate::idle_lines::{event_count, idle_notes};
+use crate::lost_lines::lost_notes;
 use crate::tick_words::Ticks;
 use clock_offsets::Offsets;
 use event_log::{Import, NameSet, Options, printed};
@@ -11,8 +12,9 @@ use std::alloc::{AllocError, Global};
 use std::fmt;
 use timed_events::{LateMessage, Lateness, Moved};
 
-/// What is told of a log that was read as a trace: which processor each node is, where the nodes weren't listed; how far
-/// events went, where they might; and how many receives of nothing were added, where they might be.
+/// What is told of a log that was read as a trace: which processor each node is, where the nodes weren't listed; by how much
+/// clocks moved and how many lost sends are left out, where that was asked for; how far events went, where they might; and how
+/// many receives of nothing were added, where they might be.
 pub(crate) fn notes_text(
     alloc: Global,
     options: &Options,
@@ -26,6 +28,8 @@ pub(crate) fn notes_text(
     };
     let clocks = clock_notes(alloc, &import.nodes, &import.offsets)?;
     notes.push_str(clocks.as_str())?;
+    let lost = lost_notes(alloc, import.lost)?;
+    notes.push_str(lost.as_str())?;
     let moved = moved_notes(alloc, options.spread, import)?;
     notes.push_str(moved.as_str())?;
     let idle = idle_notes(alloc, import.idle)?;

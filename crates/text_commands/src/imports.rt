@@ -35,11 +35,14 @@ pub fn import_options(
     idle: Option<&str>,
     spread: bool,
     align: bool,
+    drop_lost: bool,
 ) -> Result<Options, Fault>
-    ensures options { IfOk result (λ o. AreOptions (option_map (λ t. t.now) nodes.entry) (option_map (λ t. t.now) unit.entry) (option_map (λ t. t.now) tick.entry) (option_map (λ t. t.now) until.entry) (option_map (λ t. t.now) idle.entry) spread align o) }
+    ensures options { IfOk result (λ o. AreOptions (option_map (λ t. t.now) nodes.entry) (option_map (λ t. t.now) unit.entry) (option_map (λ t. t.now) tick.entry) (option_map (λ t. t.now) until.entry) (option_map (λ t. t.now) idle.entry) spread align drop_lost o) }
     ensures refused { IfErr result (IsImportOptionFault (option_map (λ t. t.now) nodes.entry) (option_map (λ t. t.now) unit.entry) (option_map (λ t. t.now) tick.entry) (option_map (λ t. t.now) until.entry) (option_map (λ t. t.now) idle.entry)) }
 {
-    match read_options(alloc, nodes, unit, tick, until, idle, spread, align) {
+    match read_options(
+        alloc, nodes, unit, tick, until, idle, spread, align, drop_lost,
+    ) {
         Ok(options) => Ok(options),
         Err(OptionError::Tick) => Err(no_length(alloc, ImportOption::Tick, tick.unwrap_or(""))),
         Err(OptionError::Idle) => Err(no_length(alloc, ImportOption::Idle, idle.unwrap_or(""))),
@@ -58,8 +61,8 @@ fn no_length(alloc: Global, option: ImportOption, text: &str) -> Fault
 }
 
 /// Reads a log to its end, tells the notes on it, and writes the text of its trace in version 2, or the table of its steps.
-/// The notes are which processor each node is, where the nodes aren't listed, and how far events went, where they may be
-/// spread. Nothing is told or written before both texts stand; that the notes can't be told stops nothing.
+/// The notes are which processor each node is, where the nodes aren't listed; how many lost sends are left out, where they are; and
+/// how far events went, where they may be spread. Nothing is told or written before both texts stand; that the notes can't be told stops nothing.
 ///
 /// Refuses, in this order: Read, or Log for a text that is too large; Log for any other refusal of the log; Write with the
 /// number of bytes that went out before. Memory may come at any step before the notes are told.

@@ -14,6 +14,7 @@ mod import_lines;
 mod imports;
 mod judgings;
 mod listed_runs;
+mod lost_lines;
 mod names;
 mod pages;
 mod replay_texts;

@@ -21,6 +21,7 @@ struct Given {
     idle: Option<&'static str>,
     spread: bool,
     align: bool,
+    drop_lost: bool,
 }
 
 const TWO_NODES: &str =
@@ -36,6 +37,7 @@ const LISTED: Given = Given {
     idle: None,
     spread: false,
     align: false,
+    drop_lost: false,
 };
 
 const LISTED_TRACE: &str = "dls-trace,2,2,0\ninit,0,0\n1,1,1,S,2\n2,1,2,S,1\n3,4,1,R,2\n4,4,2,R,\n\
@@ -50,6 +52,7 @@ const UNLISTED: Given = Given {
     idle: None,
     spread: false,
     align: false,
+    drop_lost: false,
 };
 
 const UNLISTED_TRACE: &str =
@@ -67,6 +70,7 @@ const UNMOVED: Given = Given {
     idle: None,
     spread: true,
     align: false,
+    drop_lost: false,
 };
 
 const BROADCAST: &str =
@@ -86,6 +90,7 @@ const SPREAD: Given = Given {
     idle: None,
     spread: true,
     align: false,
+    drop_lost: false,
 };
 
 const SPREAD_TRACE: &str =
@@ -112,6 +117,18 @@ const IDLE_TABLE: &str =
     2,1,10,2,10,b,send,a,m2\n3,3,12,,,a,receive,,\n4,3,12,,,b,receive,,\n5,4,13,4,13,a,receive,,m2\n\
     6,4,13,5,13,b,receive,,\n7,5,14,,,b,receive,,\n8,6,15,6,15,b,receive,,m1\n9,7,16,,,b,receive,,\n";
 
+/// Without the send of m2, which no record receives.
+const LEFT: Given = Given {
+    log: "time,node,event,to,message\n1,a,send,b,m2\n3,a,send,b,m1\n7,b,receive,,m1\n",
+    drop_lost: true,
+    until: None,
+    ..LISTED
+};
+
+const LEFT_TABLE: &str =
+    "step,tick,begins,record,time,node,event,to,message\n1,1,3,3,3,a,send,b,m1\n\
+    2,5,7,4,7,b,receive,,m1\n";
+
 /// Logs, what is asked for, what is written of them, and what is told.
 const IMPORTED: &[(Given, ImportForm, &str, &str)] = &[
     (LISTED, ImportForm::Trace, LISTED_TRACE, ""),
@@ -130,6 +147,12 @@ const IMPORTED: &[(Given, ImportForm, &str, &str)] = &[
         IDLE_TABLE,
         "synchrony: 4 receives of nothing added, in silences of at most 2 ticks\n",
     ),
+    (
+        LEFT,
+        ImportForm::Table,
+        LEFT_TABLE,
+        "synchrony: 1 message was never received; its send is left out\n",
+    ),
 ];
 
 fn options_of(alloc: Global, given: Given) -> Result<Options, Fault> {
@@ -142,6 +165,7 @@ fn options_of(alloc: Global, given: Given) -> Result<Options, Fault> {
         given.idle,
         given.spread,
         given.align,
+        given.drop_lost,
     )
 }
 

@@ -29,6 +29,7 @@ fn refuses(
         idle: None,
         spread: true,
         align: false,
+        drop_lost: false,
     };
     let bytes = LOG.as_bytes();
     let first = bytes.get(..cut.count).unwrap_or(bytes);

@@ -182,7 +182,7 @@ const IMPORTED_SPREAD: &[Imported] = &[
 /// The import of a log, or why it is refused.
 fn import(alloc: Global, text: &str, asked: &Asked) -> Result<Import, LogError> {
     let &(nodes, tick, until, spread, align) = asked;
-    match read_options(alloc, nodes, None, tick, until, None, spread, align) {
+    match read_options(alloc, nodes, None, tick, until, None, spread, align, false) {
         Ok(options) => read_log(alloc, text.as_bytes(), &options),
         Err(OptionError::Memory) => Err(LogError::Memory),
         Err(_) => Err(LogError::TickUnfit),

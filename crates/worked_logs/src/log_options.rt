@@ -36,7 +36,17 @@ const BAD_ENDS: &[&str] = &[
 
 /// The refusal of texts with this longest wait, if they are refused.
 fn refusal_for(alloc: Global, until: Option<&str>, idle: &str) -> Option<OptionError> {
-    match read_options(alloc, None, None, None, until, Some(idle), false, false) {
+    match read_options(
+        alloc,
+        None,
+        None,
+        None,
+        until,
+        Some(idle),
+        false,
+        false,
+        false,
+    ) {
         Ok(_) => None,
         Err(why) => Some(why),
     }
@@ -50,7 +60,7 @@ fn refusal(
     tick: Option<&str>,
     until: Option<&str>,
 ) -> Option<OptionError> {
-    match read_options(alloc, nodes, unit, tick, until, None, false, false) {
+    match read_options(alloc, nodes, unit, tick, until, None, false, false, false) {
         Ok(_) => None,
         Err(why) => Some(why),
     }
@@ -167,6 +177,7 @@ fn are_all_given(options: &Options) -> bool {
         && is_stamp(options.until, 1_500_000_000)
         && options.spread
         && options.align
+        && options.drop_lost
 }
 
 #[test]
@@ -180,6 +191,7 @@ fn reads_all(rt: HostRuntime) {
         Some("1m 30s"),
         until,
         Some("20ms"),
+        true,
         true,
         true,
     ) {
@@ -197,11 +209,22 @@ fn are_left_out(options: &Options) -> bool {
         && options.idle.is_none()
         && !options.spread
         && !options.align
+        && !options.drop_lost
 }
 
 #[test]
 fn leaves_out_all(rt: HostRuntime) {
-    let is_read = match read_options(rt.alloc(), None, None, None, None, None, false, false) {
+    let is_read = match read_options(
+        rt.alloc(),
+        None,
+        None,
+        None,
+        None,
+        None,
+        false,
+        false,
+        false,
+    ) {
         Ok(options) => are_left_out(&options),
         Err(_) => false,
     };

@@ -238,7 +238,7 @@ fn hint(why: &LogError) -> Option<Hint> {
 fn is_refused(alloc: Global, log: &Refused) -> Result<bool, AllocError> {
     let &(events, tick, until, line, help) = log;
     let text = format!(in alloc; "time,node,event,to,message\n{events}")?;
-    let options = match read_options(alloc, None, None, tick, until, None, false, false) {
+    let options = match read_options(alloc, None, None, tick, until, None, false, false, false) {
         Ok(options) => options,
         Err(OptionError::Memory) => return Err(AllocError),
         Err(_) => return Ok(false),

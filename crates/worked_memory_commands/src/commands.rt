@@ -151,6 +151,7 @@ fn ended<T: Threads + Wait + Sync>(
                 Some("2"),
                 spread,
                 false,
+                false,
             )?;
             let mut notes = Vec::with_capacity(alloc, ROOM)?;
             let mut notes = Counting::new(&mut notes);

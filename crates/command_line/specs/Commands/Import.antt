@@ -8,11 +8,11 @@ use Rattle.command_line.specs.declared.jobs.Job.TheVariants as job
 use Rattle.command_line.specs.Answers.{Given, ◌>>=◌, answers}
 use Rattle.command_line.specs.Arguments.{command_app, IsMemory, flag_in, flag_rule, optional_rule, positional_rule}
 
--- import LOG --nodes LIST --unit UNIT --tick LENGTH --until TIME --idle LENGTH --spread --align --table
+-- import LOG --nodes LIST --unit UNIT --tick LENGTH --until TIME --idle LENGTH --spread --align --drop-lost --table
 abbrev pub import_app : App
 import_app = command_app (codes "import") (positional_rule (codes "log") ∷ optional_rule (codes "nodes") ∷ optional_rule (codes "unit")
     ∷ optional_rule (codes "tick") ∷ optional_rule (codes "until") ∷ optional_rule (codes "idle") ∷ flag_rule (codes "spread") ∷ flag_rule (codes "align")
-    ∷ flag_rule (codes "table") ∷ [])
+    ∷ flag_rule (codes "drop-lost") ∷ flag_rule (codes "table") ∷ [])
 
 -- the line `import LOG`, after the program's name
 abbrev pub import_line : Text → Text → List Text
@@ -24,12 +24,12 @@ form_of true = forms.Table
 form_of false = forms.Trace
 
 -- what is printed of the log of this name, with these texts and these flags
-abbrev pub IsImport : List ℕ → Option (List ℕ) → Option (List ℕ) → Option (List ℕ) → Option (List ℕ) → Option (List ℕ) → Bool → Bool → ImportForm → Job → Type 0
-IsImport log nodes unit tick until idle spread align form (job.Import j) =
+abbrev pub IsImport : List ℕ → Option (List ℕ) → Option (List ℕ) → Option (List ℕ) → Option (List ℕ) → Option (List ℕ) → Bool → Bool → Bool → ImportForm → Job → Type 0
+IsImport log nodes unit tick until idle spread align drop_lost form (job.Import j) =
     (string_bytes j.file ≡ log) × (option_map string_bytes j.options.nodes ≡ nodes) × (option_map string_bytes j.options.unit ≡ unit)
     × (option_map string_bytes j.options.tick ≡ tick) × (option_map string_bytes j.options.until ≡ until) × (option_map string_bytes j.options.idle ≡ idle)
-    × (j.options.spread ≡ spread) × (j.options.align ≡ align) × (j.options.form ≡ form)
-IsImport log nodes unit tick until idle spread align form _ = ⊥
+    × (j.options.spread ≡ spread) × (j.options.align ≡ align) × (j.options.drop_lost ≡ drop_lost) × (j.options.form ≡ form)
+IsImport log nodes unit tick until idle spread align drop_lost form _ = ⊥
 
 -- what the rows below `import` give
 abbrev pub import_given : List Row → Given → Type 0
@@ -37,5 +37,6 @@ import_given rows = do
   log ← first_of (codes "log") rows
   spread ← flag_in rows (codes "spread")
   align ← flag_in rows (codes "align")
+  drop_lost ← flag_in rows (codes "drop-lost")
   table ← flag_in rows (codes "table")
-  answers (IsImport log (first_of (codes "nodes") rows) (first_of (codes "unit") rows) (first_of (codes "tick") rows) (first_of (codes "until") rows) (first_of (codes "idle") rows) spread align (form_of table)) IsMemory
+  answers (IsImport log (first_of (codes "nodes") rows) (first_of (codes "unit") rows) (first_of (codes "tick") rows) (first_of (codes "until") rows) (first_of (codes "idle") rows) spread align drop_lost (form_of table)) IsMemory

@@ -50,6 +50,7 @@ pub fn command<'a>(alloc: Global) -> Result<Command<'a>, AllocError>
         optional_argument(alloc, "idle", "Y", IDLE_HELP),
         spread_argument(alloc),
         align_argument(alloc),
+        drop_lost_argument(alloc),
         table_argument(alloc),
     ]?;
     new_command(alloc, "import", ABOUT, help(), arguments)
@@ -75,6 +76,16 @@ fn align_argument<'a>(alloc: Global) -> Arg<'a>
         .action(ArgAction::SetTrue)
 }
 
+/// The flag --drop-lost.
+fn drop_lost_argument<'a>(alloc: Global) -> Arg<'a>
+    ensures { IsArgument (flag_rule (codes "drop-lost")) result }
+{
+    Arg::new(alloc, "drop-lost")
+        .long("drop-lost")
+        .help("Leaves out sends of messages that no record receives")
+        .action(ArgAction::SetTrue)
+}
+
 /// The flag --table.
 fn table_argument<'a>(alloc: Global) -> Arg<'a>
     ensures { IsArgument (flag_rule (codes "table")) result }
@@ -93,6 +104,7 @@ pub fn job(alloc: Global, found: &ArgMatches<'_>) -> Option<Result<Job, LineErro
     let log = text(found, "log")?;
     let spread = flag(found, "spread")?;
     let align = flag(found, "align")?;
+    let drop_lost = flag(found, "drop-lost")?;
     let form = form_of(flag(found, "table")?);
     let nodes = text(found, "nodes");
     let unit = text(found, "unit");
@@ -100,7 +112,7 @@ pub fn job(alloc: Global, found: &ArgMatches<'_>) -> Option<Result<Job, LineErro
     let until = text(found, "until");
     let idle = text(found, "idle");
     Some(import(
-        alloc, log, nodes, unit, tick, until, idle, spread, align, form,
+        alloc, log, nodes, unit, tick, until, idle, spread, align, drop_lost, form,
     ))
 }
 
@@ -125,9 +137,10 @@ fn import(
     idle: Option<&str>,
     spread: bool,
     align: bool,
+    drop_lost: bool,
     form: ImportForm,
 ) -> Result<Job, LineError>
-    ensures job { IfOk result (IsImport log.now (option_map (λ t. t.now) nodes.entry) (option_map (λ t. t.now) unit.entry) (option_map (λ t. t.now) tick.entry) (option_map (λ t. t.now) until.entry) (option_map (λ t. t.now) idle.entry) spread align form) }
+    ensures job { IfOk result (IsImport log.now (option_map (λ t. t.now) nodes.entry) (option_map (λ t. t.now) unit.entry) (option_map (λ t. t.now) tick.entry) (option_map (λ t. t.now) until.entry) (option_map (λ t. t.now) idle.entry) spread align drop_lost form) }
     ensures refused { IfErr result IsMemory }
 {
     let file = String::from_str(alloc, log)?;
@@ -139,6 +152,7 @@ fn import(
         idle: kept(alloc, idle)?,
         spread,
         align,
+        drop_lost,
         form,
     };
     Ok(Job::Import(ImportJob { file, options }))
@@ -190,6 +204,9 @@ version 2, whose tick 1 begins at the least time.
                  unit of the times at least; standard error tells by how much.
                  X is then by the moved clocks. It is refused if clocks drift
                  or step
+  --drop-lost    the sends of messages that no record receives are left out,
+                 after --align, as if LOG hadn't their records; standard error
+                 tells how many. Records keep their numbers
   --table        in place of the trace, a table of its steps: which record each
                  is, when its tick begins, and the event, with names
 

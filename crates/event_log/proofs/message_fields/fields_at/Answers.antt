@@ -1,4 +1,4 @@
-use Rattle.std.proofs.Common.{ℕ, List, ◌∙◌, ap, sym, refl, inr, ◌∷◌, [], ◌++◌, map}
+use Rattle.std.proofs.Common.{ℕ, List, ◌∙◌, ap, sym, refl, inr, ◌∷◌, [], ◌++◌}
 use Rattle.std.proofs.lemmas.List.{map-append}
 use Rattle.csv.specs.Reading.{Reached, strip_bom}
 use Rattle.csv.specs.Records.{fields_of}

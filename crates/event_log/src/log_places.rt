@@ -1,0 +1,139 @@
+//! Where the events that are left of a log are in it.
+
+ghost use Rattle.std.specs.Prelude.{◌≡◌, ◌<◌, ◌^◌, ℕ, IfOk, None, Some, length, map, option_map, slice_index};
+ghost use Rattle.timed_events.specs.declared.cause_cycles.Hop.{Hop};
+ghost use Rattle.event_log.specs.Imports.{hop_in, log_place, moved_in, place_in, reason_in};
+
+use std::alloc::{AllocError, Global};
+use std::marker::Model;
+use timed_events::{EventError, Hop, Moved};
+
+/// Where the events that are left of a log are in it: each at its own place, or at these.
+#[derive(Drop)]
+pub(crate) struct LogPlaces {
+    places: Option<Vec<u32>>,
+}
+
+impl Model for LogPlaces {
+    ghost use Rattle.std.specs.Prelude.{ℕ, List, Option, option_map};
+
+    ghost Value = { Option (List ℕ) };
+
+    ghost view = { λ p. option_map (λ v. v.items) p.places };
+}
+
+impl LogPlaces {
+    /// Each event is at its own place.
+    pub(crate) fn all() -> LogPlaces
+        ensures { result ≡ None }
+    {
+        LogPlaces { places: None }
+    }
+
+    /// The events are at these places.
+    pub(crate) fn of(places: Vec<u32>) -> LogPlaces
+        ensures { result ≡ Some places.items }
+    {
+        LogPlaces {
+            places: Some(places),
+        }
+    }
+
+    /// The place in the log of the event at this place.
+    pub(crate) fn at(&self, place: usize) -> usize
+        requires { place < 2 ^ 32 }
+        ensures is { result ≡ log_place self.now place }
+        ensures small { result < 2 ^ 32 }
+    {
+        match &self.places {
+            None => place,
+            Some(places) => place_in(places, place) as usize,
+        }
+    }
+}
+
+/// The place in the log of the event at a place among those that are at these places.
+pub(crate) fn place_in(places: &[u32], place: usize) -> u32
+    ensures { result ≡ place_in places.now place }
+{
+    match places.get(place) {
+        Some(place) => *place,
+        None => 0,
+    }
+}
+
+/// How far events went, by the place of the farthest in the log.
+pub(crate) fn moved_in(places: &[u32], moved: Moved) -> Moved
+    ensures { result ≡ moved_in (Some places.now) moved }
+{
+    let farthest = match moved.farthest {
+        Some(place) => Some(place_in(places, place) as usize),
+        None => None,
+    };
+    Moved {
+        events: moved.events,
+        ticks: moved.ticks,
+        farthest,
+    }
+}
+
+/// A reason by the place of its event in the log.
+pub(crate) fn reason_in(places: &[u32], why: EventError) -> EventError
+    ensures { result ≡ reason_in places.now why }
+{
+    match why {
+        EventError::NeverSent { event, message } => EventError::NeverSent {
+            event: place_in(places, event) as usize,
+            message,
+        },
+        EventError::WrongReceiver { event, message } => EventError::WrongReceiver {
+            event: place_in(places, event) as usize,
+            message,
+        },
+        EventError::ReceivedBefore { event, message } => EventError::ReceivedBefore {
+            event: place_in(places, event) as usize,
+            message,
+        },
+        EventError::NotLater {
+            event,
+            message,
+            hint,
+        } => EventError::NotLater {
+            event: place_in(places, event) as usize,
+            message,
+            hint,
+        },
+        EventError::SecondEvent { event, tick, hint } => EventError::SecondEvent {
+            event: place_in(places, event) as usize,
+            tick,
+            hint,
+        },
+        EventError::Cycle { event } => EventError::Cycle {
+            event: place_in(places, event) as usize,
+        },
+        EventError::UntilTooEarly => EventError::UntilTooEarly,
+        EventError::TooManyTicks => EventError::TooManyTicks,
+        EventError::Memory => EventError::Memory,
+    }
+}
+
+/// Hops by the places of their events in the log.
+pub(crate) fn hops_in(alloc: Global, places: &[u32], hops: &[Hop]) -> Result<Vec<Hop>, AllocError>
+    ensures { IfOk result (λ v. v.items ≡ map (hop_in places.now) hops.now) }
+{
+    let mut placed = Vec::with_capacity(alloc, hops.len())?;
+    for hop in hops {
+        placed.push(hop_in(places, *hop))?;
+    }
+    Ok(placed)
+}
+
+/// A hop by the places of its events in the log.
+fn hop_in(places: &[u32], hop: Hop) -> Hop
+    ensures { result ≡ hop_in places.now hop }
+{
+    Hop {
+        event: place_in(places, hop.event as usize),
+        message: place_in(places, hop.message as usize),
+    }
+}
