@@ -1,7 +1,7 @@
 #!/usr/bin/env python3
 """What `synchrony import` says of a log, straight from the words of its format: slow, and sharing no line with the program.
 
-    bench/import_oracle.py import LOG [--nodes A,B,..] [--unit U] [--tick W] [--until X] [--idle Y] [--spread] [--align] [--table]
+    bench/import_oracle.py import LOG [--nodes A,B,..] [--unit U] [--tick W] [--until X] [--idle Y] [--spread] [--align] [--drop-lost] [--table]
     bench/import_oracle.py --self-test
 
 The first answers as the program should: standard output, standard error and status. The second tries the texts of
@@ -78,6 +78,7 @@ class Options:
     idle: Optional[bytes] = None
     spread: bool = False
     align: bool = False
+    drop_lost: bool = False
     table: bool = False
 
 
@@ -405,6 +406,22 @@ def align(events, nodes, sends, latest):
     return offset
 
 
+def without_lost(events):
+    """The events but the sends of messages that no record receives, and how many these are."""
+    received = {name for it in events if it.to is None for name in it.messages}
+    kept = [it for it in events if it.to is None or it.messages[0] in received]
+    if not kept:
+        refuse_log(b"no events")
+    return kept, len(events) - len(kept)
+
+
+def lost_line(lost):
+    """What is told of so many lost messages."""
+    if lost == 1:
+        return b"1 message was never received; its send is left out"
+    return b"%d messages were never received; their sends are left out" % lost
+
+
 def test_messages(events, sends):
     """Refuses the first message that can't be received, whenever that is."""
     received = set()
@@ -597,10 +614,13 @@ def imported(log, options):
     nodes, sends = numbered(events, listed)
     width, until, idle = fitted(kind, width, until, idle)
     offset = align(events, nodes, sends, kind.latest) if options.align else {}
+    events, lost = without_lost(events) if options.drop_lost else (events, 0)
     last_tick = last_tick_of(events, width, until)
     test_steps(events, sends, options.spread)
     told = [] if listed else [b"processor %d is %b" % (at, name) for at, name in enumerate(nodes, 1)]
     told += [b"the clock of %b moved by %d" % (node, offset[node]) for node in nodes if offset.get(node, 0) > 0]
+    if options.drop_lost:
+        told.append(lost_line(lost))
     if options.spread:
         count, most, first = spread_out(order_of_causes(events, sends), sends)
         far = b"" if most == 0 else b", by at most %d tick%b (record %d)" % (most, b"" if most == 1 else b"s", first)
@@ -655,14 +675,14 @@ def main():
     command.add_argument("log")
     for name in ("--nodes", "--unit", "--tick", "--until", "--idle"):
         command.add_argument(name, type=os.fsencode)
-    for name in ("--spread", "--align", "--table"):
+    for name in ("--spread", "--align", "--drop-lost", "--table"):
         command.add_argument(name, action="store_true")
     words = words.parse_args()
     if words.self_test:
         return self_test()
     if not hasattr(words, "log"):
         command.error("no command")
-    status, output, told = answer(read_log(words.log), Options(words.nodes, words.unit, words.tick, words.until, words.idle, words.spread, words.align, words.table))
+    status, output, told = answer(read_log(words.log), Options(words.nodes, words.unit, words.tick, words.until, words.idle, words.spread, words.align, words.drop_lost, words.table))
     sys.stderr.buffer.write(told)
     sys.stdout.buffer.write(output)
     return status

@@ -8,7 +8,7 @@ from dataclasses import dataclass, field
 COLUMNS = ["time", "node", "event", "to", "message"]
 NAMES = ["a", "b", "c", "node-7", "10.0.0.1:8080", "é", "a b", 'x"y', "p,q", "A", " a", "→", "send", "1"]
 # The options that are words alone.
-FLAGS = ("spread", "align", "table")
+FLAGS = ("spread", "align", "drop-lost", "table")
 GREATEST = 2**64 - 1
 TEXT_LIMIT = 67_108_864
 
@@ -123,6 +123,8 @@ def options_of(chance, log):
         options["spread"] = ""
     if chance.random() < 0.2:
         options["align"] = ""
+    if chance.random() < 0.3:
+        options["drop-lost"] = ""
     if chance.random() < 0.4:
         options["table"] = ""
     return options

@@ -266,10 +266,12 @@ def import_log(
     unit: Optional[str] = None,
     idle: Union[int, str, None] = None,
     table: bool = False,
+    drop_lost: bool = False,
 ) -> bytes:
     """The trace of a log, as a text of version 2, or the `table` of its steps. Nodes are numbered in the order of `nodes`, or else
     as the log names them. With `unit`, one of s, ms, us and ns, the times are whole numbers of it. With `idle`, a node without
-    an event for at most so long gets a receive of nothing."""
+    an event for at most so long gets a receive of nothing. With `drop_lost`, sends of messages that no record receives are left
+    out."""
     return _asked(
         "import",
         log,
@@ -280,6 +282,7 @@ def import_log(
         spread=spread,
         align=align,
         idle=idle,
+        drop_lost=drop_lost,
         table=table,
     )
 
@@ -345,6 +348,7 @@ OPTIONS: Dict[str, Tuple[str, Optional[Callable[[Any], str]]]] = {
     "idle": ("--idle", str),
     "spread": ("--spread", None),
     "align": ("--align", None),
+    "drop_lost": ("--drop-lost", None),
     "table": ("--table", None),
     "within": ("--within", str),
     "start": ("--start", str),
