@@ -1,26 +1,22 @@
 -- The window that shows the first evidence of a report is one of the trace.
-use Rattle.std.proofs.Common.{ℕ, ◌≡◌, ◌+◌, ◌-◌, ◌<◌, ◌≤◌, ◌⊎◌, inl, inr, Bool, true, false, cond, List, [], ◌∷◌, ◌++◌, map, filter, find, All, Contains, Option, Some, None, IfSome, option_map, refl, sym, subst, arith, min, max}
+use Rattle.std.proofs.Common.{ℕ, ◌≡◌, ◌-◌, ◌≤◌, inl, inr, Bool, true, false, cond, List, [], ◌∷◌, find, Contains, Option, Some, None, IfSome, refl, subst, arith, max}
 use Rattle.std.specs.Prelude.{nat_lt, slice_get, if◌then◌else◌}
-use Rattle.std.specs.List.Sorted.{IsPermutation}
 use Rattle.std.specs.Option.{option_and_then}
 use Rattle.std.proofs.lemmas.List.Elements.{Contains-append_cases}
 use Rattle.std.proofs.lemmas.List.Sorted.{IsPermutation-sym, Contains-permutation}
 use Rattle.std.proofs.lemmas.Option.{none-some, same_Some}
-use Rattle.step_trace.specs.declared.rows.Miss.{Miss}
-use Rattle.step_trace.specs.declared.rows.Gap.{Gap}
 use Rattle.step_trace.specs.declared.rows.Row.{Row}
 use Rattle.step_trace.specs.Traces.{Recorded}
 use Rattle.step_trace.specs.Ticks.{IsTimed, tick_of}
 use Rattle.step_trace.specs.Witnesses.{IsGap, IsMiss, NamesMiss, NamesGap}
 use Rattle.step_trace.specs.Fronts.{IsReport}
 use Rattle.step_trace.proofs.ListMembers.{Contains-slice_get, Contains-from_map, Contains-from_filter, Contains-head, Contains-rest}
-use Rattle.run_picture.specs.declared.windows.Window.{Window}
 use Rattle.run_story.specs.declared.delays.Delay.{Delay}
 use Rattle.run_story.specs.declared.evidence.Evidence.{Evidence}
 use Rattle.run_story.specs.declared.stalls.Stall.{Stall}
-use Rattle.run_story.specs.Delays.{AreDelays, IsDelay}
+use Rattle.run_story.specs.Delays.{IsDelay}
 use Rattle.run_story.specs.Evidence.{AreEvidence, all_evidence, alone, explained, explains, other_evidence, stall_evidence, with_delay}
-use Rattle.run_story.specs.Stalls.{AreStalls, IsStall}
+use Rattle.run_story.specs.Stalls.{IsStall}
 use Rattle.run_page.specs.declared.scales.Span.{Span}
 use Rattle.run_page.specs.EvidenceTicks.{IsWindowOf, around_gap, around_miss, both, core_of, drawn_first, miss_end, padded}
 

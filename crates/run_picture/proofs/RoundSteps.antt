@@ -45,12 +45,9 @@ first-later i r limit most inside is large =
     let not : nat_le (limit / at i) most ≡ false = grind (arith, nat_tests) in
     let after : i + 1 ≡ suc i = omega arith in
     ap (λ k. first_step (drop k round_numbers) limit most) after
-        ∙ sym (first_step-at round_numbers i limit most inside ∙ ap (λ b. if b then at i else first_step (drop (suc i) round_numbers) limit most) not)
+    ∙ sym (first_step-at round_numbers i limit most inside ∙ ap (λ b. if b then at i else first_step (drop (suc i) round_numbers) limit most) not)
 
--- the first round number, from the first place on, and from the last on
+-- the first round number, from the first place on
 pub all-left : (limit most : ℕ) → first_step (drop 0 round_numbers) limit most ≡ round_step limit most
 unfolding round_step
 all-left limit most = refl
-
-pub none-left : (i limit most : ℕ) → 19 ≤ i → i ≤ 19 → 1000000 ≡ first_step (drop i round_numbers) limit most
-none-left i limit most end inside = let last : i ≡ 19 = omega arith in rw last refl

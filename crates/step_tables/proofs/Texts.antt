@@ -17,10 +17,6 @@ text_of-broken bytes broken = go (is_utf8 bytes) refl where
   go true e = absurd (broken (IsUtf8-from_is_utf8 bytes e))
   go false e = refl
 
-pub words-none : (field : List ℕ) → length field ≡ 0 → words_of field ≡ []
-words-none [] e = refl
-words-none (b ∷ bs) e = absurd (omega (arith, e))
-
 pub words-split : (field : List ℕ) → 0 < length field → words_of field ≡ slice_split (λ byte. byte == 32) field
 words-split [] lt = absurd (omega (arith, lt))
 words-split (b ∷ bs) lt = refl

@@ -4,7 +4,6 @@ use Rattle.std.proofs.Math.ListN.{replicate}
 use Rattle.std.specs.Str.{bytes_eq}
 use Rattle.std.proofs.Common.{refl, arith, length-append}
 use Rattle.step_trace.specs.Traces.{Recorded, step_at}
-use Rattle.step_trace.specs.Ticks.{tick_of}
 use Rattle.step_trace.specs.declared.steps.Step.{Step}
 use Rattle.trace_text.specs.declared.byte_loops.TheConstants.{MAX_TEXT_BYTES}
 use Rattle.trace_text.specs.declared.record_limits.TheConstants.{MAX_FIELDS}

@@ -1,4 +1,4 @@
-use Rattle.std.proofs.Common.{◌≡◌, sym, subst}
+use Rattle.std.proofs.Common.{sym, subst}
 use Rattle.std.specs.Prelude.{Contains}
 use Rattle.run_page.proofs.EvidenceWindows.{window-inside}
 use Rattle.run_page.proofs.evidence_ticks.evidence_window.Goals as goal

@@ -1,5 +1,5 @@
 use Rattle.std.proofs.Common.{◌≡◌, ◌≤◌, ◌<◌, ◌∙◌, sym, arith}
-use Rattle.run_picture.proofs.RoundSteps.{all-left, divisor, first-here, first-later, none-left}
+use Rattle.run_picture.proofs.RoundSteps.{all-left, divisor, first-here, first-later}
 use Rattle.run_picture.proofs.round_numbers.round_step.Goals as goal
 
 pub returns-then-limit-max-clause-value : goal.returns-then-limit-max-clause-value

@@ -1,10 +1,9 @@
-use Rattle.std.proofs.Common.{◌==◌, ◌∙◌, ◌<◌, ◌∷◌, [], refl, sym, ap, map, arith, rules, length}
+use Rattle.std.proofs.Common.{◌==◌, ◌∙◌, ◌<◌, sym, arith, rules, length}
 use Rattle.std.proofs.lemmas.Iterator.Splits.{YieldsList-from_slice_split}
 use Rattle.std.proofs.lemmas.Iterator.Consumers.{YieldsList-end}
-use Rattle.std.proofs.lemmas.List.{map-append}
 use Rattle.std.proofs.iter.Serving.{serving}
 use borrow.Author.Tests.{tests}
-use Rattle.step_tables.proofs.Texts.{words-none, words-split}
+use Rattle.step_tables.proofs.Texts.{words-split}
 use Rattle.step_tables.proofs.names.words_of.Goals as goal
 
 pub loop-word-init : goal.loop-word-init

@@ -9,5 +9,5 @@ pub returns-in-Err : goal.returns-in-Err
 returns-in-Err c =
     let fields = fields_of c.args.fields.now in
     refusal-goes_on (named c.args.at (map string_bytes c.args.nodes.now.items) (c.args.step.now.proc - 1) (field_of fields 5))
-        (λ (nodes : List (List ℕ)). with_deed c.args.at (record { nodes = nodes; rows = c.args.rows.now.items }) c.args.step.now.act fields)
-        c.in-Err.why (rw c.field.ensures at c.in-Err.ensures)
+    (λ (nodes : List (List ℕ)). with_deed c.args.at (record { nodes = nodes; rows = c.args.rows.now.items }) c.args.step.now.act fields)
+    c.in-Err.why (rw c.field.ensures at c.in-Err.ensures)
