@@ -2,8 +2,18 @@
 #![tactic(auto)]
 
 #[cfg(test)]
-mod command_line_tests;
+mod import_lines;
 #[cfg(test)]
-mod judgement_tests;
+mod judgement_lines;
 #[cfg(test)]
-mod pace_tests;
+mod lines;
+#[cfg(test)]
+mod other_lines;
+#[cfg(test)]
+mod pace_lines;
+#[cfg(test)]
+mod picture_lines;
+#[cfg(test)]
+mod report_lines;
+#[cfg(test)]
+mod run_lines;

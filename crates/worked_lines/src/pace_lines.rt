@@ -1,6 +1,7 @@
 //! The paces of runs that command lines ask for, and their refusals.
 
-use crate::command_line_tests::{BAD_FOLLOW, is_refusal, read};
+use crate::lines::{is_refusal, read};
+use crate::run_lines::BAD_FOLLOW;
 use command_line::{Job, LineError};
 use command_options::{Pace, RunEnd};
 use std::alloc::Global;

@@ -1,6 +1,6 @@
 //! Command lines that ask for judgements, of one run or of a list.
 
-use crate::command_line_tests::{has_members, is_refusal, read};
+use crate::lines::{has_members, is_refusal, read};
 use command_line::Job;
 use std::alloc::Global;
 use std::test::Fail;
