@@ -193,12 +193,12 @@ fn answer_to_input<A: Answer>(
 /// Prints the page about the trace in a file, by the table in another, if there is one. Both files are opened before one is read;
 /// the table is read first.
 fn page(rt: &HostRuntime, job: PageJob) -> Result<u8, Fault> {
-    let trace = Input::open(rt, job.file)?;
-    let table = match job.table {
+    let PageJob { file, table, page } = job;
+    let trace = Input::open(rt, file)?;
+    let table = match table {
         Some(file) => Some(table_in(rt, file)?),
         None => None,
     };
-    let page = job.page;
     answer_to_input(rt, trace, &ToldPage { page, table })
 }
 
