@@ -1,5 +1,5 @@
 -- Which Receives end a round.
-use Rattle.std.proofs.Common.{ℕ, suc, ◌≡◌, ◌+◌, ◌-◌, ◌<◌, ◌≤◌, inl, inr, List, [], ◌∷◌, length, take, Some, Bool, true, false, ◌||◌, not, cond, get_or, refl, sym, ap, subst, ◌∙◌, arith, ◌⊎◌, ◌==◌}
+use Rattle.std.proofs.Common.{ℕ, zero, suc, ◌≡◌, ◌+◌, ◌-◌, ◌<◌, ◌≤◌, inl, inr, List, [], ◌∷◌, length, take, Some, Bool, true, false, ◌||◌, not, cond, get_or, refl, sym, ap, subst, ◌∙◌, arith, ◌⊎◌, ◌==◌}
 use Rattle.std.specs.Prelude.{Contains, count_by, nat_le}
 use Rattle.std.specs.List.{range_with_len}
 use Rattle.std.proofs.lemmas.Bool.{eqb-true, leb-true, ltb-true, and_parts, true≢false, and_left, lt-ltb, le-leb}
@@ -61,6 +61,39 @@ count_by-places test good (x ∷ xs) a each =
     let right = sum_by-cons (λ (z : Peer). cond {A = ℕ} (good z) 1 0) x xs in
     omega arith
 
+-- and the other way round: where one passes the test by number alone, fewer are counted by place
+count_by-most : (test : ℕ → Bool) (good : Peer → Bool) (xs : List Peer) (a : ℕ) → ((i : ℕ) → i < length xs → good (get_or xs i unheard) ≡ true → test (a + i) ≡ true)
+    → count_by good xs ≤ count_by test (range_with_len a (length xs))
+count_by-most test good [] a each = omega arith
+count_by-most test good (x ∷ xs) a each =
+    let rest = count_by-most test good xs (a + 1) (λ i l t. let e : a + suc i ≡ a + 1 + i = omega arith in subst (λ n. test n ≡ true) e (each (suc i) (omega arith) t)) in
+    let e : a + 0 ≡ a = omega arith in
+    let first = cond-up (good x) (test a) (λ t. subst (λ n. test n ≡ true) e (each 0 (omega arith) t)) in
+    let left = sum_by-cons (λ z. cond {A = ℕ} (test z) 1 0) a (range_with_len (a + 1) (length xs)) in
+    let right = sum_by-cons (λ (z : Peer). cond {A = ℕ} (good z) 1 0) x xs in
+    omega arith
+
+count_by-fewer : (test : ℕ → Bool) (good : Peer → Bool) (xs : List Peer) (a j : ℕ) → ((i : ℕ) → i < length xs → good (get_or xs i unheard) ≡ true → test (a + i) ≡ true)
+    → j < length xs → test (a + j) ≡ true → good (get_or xs j unheard) ≡ false → count_by good xs < count_by test (range_with_len a (length xs))
+count_by-fewer test good [] a j each l passes fails = absurd (omega arith)
+count_by-fewer test good (x ∷ xs) a zero each l passes fails =
+    let rest = count_by-most test good xs (a + 1) (λ i l t. let e : a + suc i ≡ a + 1 + i = omega arith in subst (λ n. test n ≡ true) e (each (suc i) (omega arith) t)) in
+    let e : a + 0 ≡ a = omega arith in
+    let yes_a : cond {A = ℕ} (test a) 1 0 ≡ 1 = ap (λ b. cond {A = ℕ} b 1 0) (subst (λ n. test n ≡ true) e passes) in
+    let no_x : cond {A = ℕ} (good x) 1 0 ≡ 0 = ap (λ b. cond {A = ℕ} b 1 0) fails in
+    let left = sum_by-cons (λ z. cond {A = ℕ} (test z) 1 0) a (range_with_len (a + 1) (length xs)) in
+    let right = sum_by-cons (λ (z : Peer). cond {A = ℕ} (good z) 1 0) x xs in
+    omega arith
+count_by-fewer test good (x ∷ xs) a (suc j) each l passes fails =
+    let f : a + suc j ≡ a + 1 + j = omega arith in
+    let rest = count_by-fewer test good xs (a + 1) j (λ i l t. let e : a + suc i ≡ a + 1 + i = omega arith in subst (λ n. test n ≡ true) e (each (suc i) (omega arith) t))
+    (omega arith) (subst (λ n. test n ≡ true) f passes) fails in
+    let e : a + 0 ≡ a = omega arith in
+    let first = cond-up (good x) (test a) (λ t. subst (λ n. test n ≡ true) e (each 0 (omega arith) t)) in
+    let left = sum_by-cons (λ z. cond {A = ℕ} (test z) 1 0) a (range_with_len (a + 1) (length xs)) in
+    let right = sum_by-cons (λ (z : Peer). cond {A = ℕ} (good z) 1 0) x xs in
+    omega arith
+
 -- who may hear all may hear each
 all-in : (part : Part) (node : State) (owner p q : ℕ) → may_hear_all_in part node owner p ≡ true → may_hear_in part node owner p q ≡ true
 all-in Listing node owner p q h = h
@@ -98,6 +131,10 @@ or-last false = refl
 or-second : (a c : Bool) → (a || true || c) ≡ true
 or-second true c = refl
 or-second false c = refl
+
+or-third : (a b : Bool) → (a || b || true) ≡ true
+or-third true b = refl
+or-third false b = or-last b
 
 or-first : (b c : Bool) → (true || b || c) ≡ true
 or-first b c = refl
@@ -199,6 +236,12 @@ module _ (c : Setup) (patience : ℕ) (steps : List Step) (p : ℕ) (w : IsWellF
         list_any_at (is_far_ahead (rounds_after steps p k + 1)) known.peers (q - 1) unheard (omega arith) test in
         ends-is ∙ rw any (or-second (is_complete c here (rounds_after steps p k + 1) p known) (nat_le known.left 1))
 
+    -- where the patience is over, the Receive ends the round
+    pub ends-out : (pace_after c patience steps p k).left ≤ 1 → ends ≡ true
+    ends-out out =
+        let over : nat_le known.left 1 ≡ true = le-leb known.left 1 out in
+        ends-is ∙ rw over (or-third (is_complete c here (rounds_after steps p k + 1) p known) (is_left_behind (rounds_after steps p k + 1) known.peers))
+
     -- why a Receive ends the round: it is complete, or p is left behind, or the patience is over
     pub data Why : Type 0 where
       Complete : is_complete c here (rounds_after steps p k + 1) p known ≡ true → Why
@@ -227,6 +270,46 @@ module _ (c : Setup) (patience : ℕ) (steps : List Step) (p : ℕ) (w : IsWellF
         go true b e f h = known-heard q is (rounds_after steps p k + 1) (omega arith) (leb-true (rounds_after steps p k + 1) (peer_of known.peers q).latest e)
         go false true e f h = absurd (loud (suspected-before q is f))
         go false false e f h = absurd (true≢false (sym (rw (may, e, f) refl) ∙ h))
+
+    -- Where N - t are heard of, and no more are members, a complete one that may hear all has heard of each member.
+    module _ (set : ℕ) (few : number_of c.n (has_proc set) ≤ c.n - c.t)
+        (others : (q : ℕ) → IsProc c q → has_proc set q ≡ false → HasHeardOf steps p q (rounds_after steps p k + 1) (suc k) → ⊥) where
+      heard-member : (i : ℕ) → i < c.n → is_heard_of (rounds_after steps p k + 1) (get_or known.peers i unheard) ≡ true → has_proc set (1 + i) ≡ true
+      heard-member i l t = go (has_proc set (1 + i)) refl
+        where
+          go : (b : Bool) → has_proc set (1 + i) ≡ b → has_proc set (1 + i) ≡ true
+          go true e = e
+          go false e =
+              let same : 1 + i - 1 ≡ i = omega arith in
+              let latest = leb-true (rounds_after steps p k + 1) (get_or known.peers i unheard).latest t in
+              let is : IsProc c (1 + i) = (omega arith, omega arith) in
+              absurd (others (1 + i) is e (known-heard (1 + i) is (rounds_after steps p k + 1) (omega arith) (subst (λ n. rounds_after steps p k + 1 ≤ (get_or known.peers n unheard).latest) (sym same) latest)))
+
+      pub quorum-heard : (q : ℕ) → IsProc c q → has_proc set q ≡ true → is_complete c here (rounds_after steps p k + 1) p known ≡ true → may_hear_all c here (rounds_after steps p k + 1) p ≡ true
+          → HasHeardOf steps p q (rounds_after steps p k + 1) (suc k)
+      quorum-heard q is m done all = go (is_heard_of (rounds_after steps p k + 1) (peer_of known.peers q)) refl
+        where
+          quorum : c.n - c.t ≤ heard_count (rounds_after steps p k + 1) known.peers
+          quorum =
+              let part = (and_parts (awaited_count c here (rounds_after steps p k + 1) p known.peers == 0) (not (may_hear_all c here (rounds_after steps p k + 1) p) || nat_le known.quorum (heard_count (rounds_after steps p k + 1) known.peers)) done).1 in
+              let le : nat_le known.quorum (heard_count (rounds_after steps p k + 1) known.peers) ≡ true =
+              sym (ap (λ b. not b || nat_le known.quorum (heard_count (rounds_after steps p k + 1) known.peers)) all) ∙ part in
+              let l = leb-true known.quorum (heard_count (rounds_after steps p k + 1) known.peers) le in
+              let e : known.quorum ≡ c.n - c.t = pace-quorum c patience steps p k in
+              omega arith
+
+          go : (b : Bool) → is_heard_of (rounds_after steps p k + 1) (peer_of known.peers q) ≡ b → HasHeardOf steps p q (rounds_after steps p k + 1) (suc k)
+          go true e = known-heard q is (rounds_after steps p k + 1) (omega arith) (leb-true (rounds_after steps p k + 1) (peer_of known.peers q).latest e)
+          go false e =
+              let long = known-long in
+              let low = is.0 in
+              let high = is.1 in
+              let f : 1 + (q - 1) ≡ q = omega arith in
+              let fewer = count_by-fewer (has_proc set) (is_heard_of (rounds_after steps p k + 1)) known.peers 1 (q - 1) (λ i l t. heard-member i (omega arith) t) (omega arith)
+              (subst (λ n. has_proc set n ≡ true) (sym f) m) e in
+              let counted : heard_count (rounds_after steps p k + 1) known.peers < number_of c.n (has_proc set) = subst (λ n. heard_count (rounds_after steps p k + 1) known.peers < count_by (has_proc set) (range_with_len 1 n)) long fewer in
+              let enough = quorum in
+              absurd (omega arith)
 
     -- Who has heard of all members whom it may hear, and suspects the others, ends its round.
     module _ (set : ℕ) (within : IsWithin set c.n) (size : c.n - c.t ≤ number_of c.n (has_proc set)) (none : ends ≡ false)

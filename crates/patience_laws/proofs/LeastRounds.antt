@@ -68,7 +68,7 @@ module _ (patience set : ℕ) (trace : Recorded) (g d f : ℕ) (keeps : KeepsBou
   c = trace.config
 
   -- each member that p may hear sends it something by tick y
-  abbrev AreTold : ℕ → ℕ → Type 0
+  abbrev pub AreTold : ℕ → ℕ → Type 0
   AreTold p y = (q : ℕ) → has_proc set q ≡ true → may_hear_of c trace.steps p round q ≡ true → y ≤ trace.last → IsSentBy trace q p round y
 
   proc : (q : ℕ) → has_proc set q ≡ true → IsProc c q
@@ -89,7 +89,7 @@ module _ (patience set : ℕ) (trace : Recorded) (g d f : ℕ) (keeps : KeepsBou
       })
 
   -- what q says to p in the round is sent in time
-  says : (i p q : ℕ) (body : Body) → has_proc set q ≡ true → IsProc c p → length (sends_to c trace.steps q round) ≤ suc i
+  pub says : (i p q : ℕ) (body : Body) → has_proc set q ≡ true → IsProc c p → length (sends_to c trace.steps q round) ≤ suc i
       → out c (node_in c trace.steps q round) q round p ≡ Some body → x + suc i * f ≤ trace.last → IsSentBy trace q p round (x + suc i * f)
   says i p q body m is few said last =
       sent-by trace patience set g f q keeps.run keeps.trace_is.time (keeps.paced q m) m keeps.phi round x touch.since (there q m) low i p body few is said last

@@ -16,3 +16,9 @@ mod OwedAcknowledgements
 mod UnheardSuspects
 mod HeardRounds
 mod FirstMeetings
+mod PassedRounds
+mod SettledMembers
+mod AskedAcknowledgements
+mod FirstEnds
+mod ClosingWaves
+mod MeetingMembers

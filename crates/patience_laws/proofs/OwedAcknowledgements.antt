@@ -1,6 +1,10 @@
 -- Who hears out a locking round owes an acknowledgement to an owner with a proposal.
-use Rattle.std.proofs.Common.{ℕ, suc, ◌≡◌, ◌+◌, ◌-◌, ◌≤◌, inl, inr, List, length, Some, is_some, Bool, true, false, ◌==◌, ◌&&◌, ◌||◌, not, refl, sym, ap, subst, ◌∙◌, arith, eq-eqb}
-use Rattle.std.proofs.lemmas.Bool.{cases_lt, eqb-true}
+use Rattle.std.proofs.Common.{ℕ, zero, suc, ◌≡◌, ◌+◌, ◌-◌, ◌≤◌, inl, inr, List, length, Some, is_some, Bool, true, false, ◌==◌, ◌&&◌, ◌||◌, not, refl, sym, ap, subst, ◌∙◌, arith, eq-eqb}
+use Rattle.std.proofs.lemmas.Bool.{cases_lt, cases_eq, eqb-true, true≢false}
+use Rattle.std.proofs.lemmas.Option.{none-some, same_Some}
+use Rattle.step_trace.specs.Steps.{act_sends}
+use Rattle.step_trace.specs.declared.steps.Step.{Step}
+use Rattle.patience_laws.specs.Gatherings.{HearThemselves}
 use Rattle.std.proofs.Math.Seq.{take-length}
 use Rattle.step_trace.specs.declared.steps.Act.TheVariants.{Send, Receive}
 use Rattle.step_trace.specs.Configurations.{Setup, IsProc}
@@ -30,23 +34,24 @@ use Rattle.patience_laws.proofs.RoundSends.{round_at-up}
 use Rattle.patience_laws.proofs.SentInRounds.{sent-to}
 use Rattle.patience_laws.proofs.RoundMessages.{told-place, all-passed}
 use Rattle.patience_laws.proofs.LeastRounds.{may-in, node-next, proposal-kept}
-use Rattle.patience_laws.proofs.PatienceTicks.{end-of}
+use Rattle.patience_laws.proofs.PatienceTicks.{end-of, rounds-ended}
 
 -- the next round of a locking round is of the same phase
-same-phase : (round : ℕ) → 1 ≤ round → part_of round ≡ 2 → phase_of (round + 1) ≡ phase_of round
+pub same-phase : (round : ℕ) → 1 ≤ round → part_of round ≡ 2 → phase_of (round + 1) ≡ phase_of round
 same-phase round low part = omega arith
 
 or-where : (a b : Bool) → (a ≡ true → b ≡ true) → (not a || b) ≡ true
 or-where true b h = h refl
 or-where false b h = refl
 
-module _ (trace : Recorded) (patience set : ℕ) (run : IsRun trace.config trace.steps) (order : TakeInOrder set trace) (round : ℕ) (low : 1 ≤ round) (part : part_of round ≡ 2)
-    (heard : IsHeardOutByAll set trace round) where
+module _ (trace : Recorded) (patience set : ℕ) (run : IsRun trace.config trace.steps) (order : TakeInOrder set trace) (round : ℕ) (low : 1 ≤ round) (part : part_of round ≡ 2) where
   abbrev c : Setup
   c = trace.config
 
   module _ (o q v : ℕ) (own : o ≡ owner c.n (phase_of round)) (mo : has_proc set o ≡ true) (mq : has_proc set q ≡ true) (is : IsProc c q) (from : IsProc c o)
-      (proposes : (node_in c trace.steps o round).proposal ≡ Some v) (over : round ≤ passed trace.steps q) where
+      (proposes : (node_in c trace.steps o round).proposal ≡ Some v) (over : round ≤ passed trace.steps q)
+      (heard : (k : ℕ) (ids : List ℕ) → step_at trace.steps k ≡ Some (record { proc = q; act = Receive true ids }) → round_at trace.steps q k ≡ round → may_hear_of c trace.steps q round o ≡ true
+      → HasHeardOf trace.steps q o round k) where
     -- the message that tells q to lock
     abbrev telling : Body
     telling = with_proper (node_in c trace.steps o round) (Lock v)
@@ -78,7 +83,7 @@ module _ (trace : Recorded) (patience set : ℕ) (run : IsRun trace.config trace
         of (suc e.0.place) e.0.ids e.0.step (round-here trace.steps q e.0.place ∙ e.0.round_is)
       where
         of : (k : ℕ) (ids : List ℕ) → step_at trace.steps k ≡ Some (record { proc = q; act = Receive true ids }) → round_at trace.steps q k ≡ round → IsTold
-        of k ids at here = go (heard q o k ids mq mo at here may)
+        of k ids at here = go (heard k ids at here may)
           where
             go : HasHeardOf trace.steps q o round k → IsTold
             go h = elim (cases_lt round (round_at trace.steps o h.message)) [
@@ -137,8 +142,39 @@ module _ (trace : Recorded) (patience set : ℕ) (run : IsRun trace.config trace
         ap (λ (s : State). s.owes_ack) (node-next c trace.steps q round low)
         ∙ (locking-told c (node_in c trace.steps q round) q round all v part (messages_heard-rise c (heard_table trace.steps) nodes q round) told).owes_ack
 
-  pub owe-all : ((p : ℕ) → has_proc set p ≡ true → IsProc c p) → OweAcknowledgements set trace (round + 1)
-  owe-all procs v mo proposes q mq came =
+  -- an owner that takes what it sends to itself owes itself one
+  pub owes-itself : HearThemselves set trace → (o v : ℕ) → o ≡ owner c.n (phase_of round) → has_proc set o ≡ true → IsProc c o → (node_in c trace.steps o round).proposal ≡ Some v
+      → round ≤ passed trace.steps o → (node_in c trace.steps o (round + 1)).owes_ack ≡ true
+  owes-itself itself o v own mo is proposes over = owes o o v own mo mo is is proposes over heard
+    where
+      said : out c (node_in c trace.steps o round) o round o ≡ Some (with_proper (node_in c trace.steps o round) (Lock v))
+      said = subst (λ j. out c (node_in c trace.steps o round) j round o ≡ Some (with_proper (node_in c trace.steps o round) (Lock v))) (sym own) (lock-sent c (node_in c trace.steps o round) round o v part proposes)
+
+      heard : (k : ℕ) (ids : List ℕ) → step_at trace.steps k ≡ Some (record { proc = o; act = Receive true ids }) → round_at trace.steps o k ≡ round → may_hear_of c trace.steps o round o ≡ true
+          → HasHeardOf trace.steps o o round k
+      heard zero ids at here told = absurd (none-some _ at)
+      heard (suc k) ids at here told =
+          let ended = rounds-ended c patience trace.steps o k ids at in
+          let e = round-here trace.steps o k in
+          let all = all-passed c patience trace.steps o round (suc k) run low (omega arith) in
+          let place = told-place c trace.steps o round o (with_proper (node_in c trace.steps o round) (Lock v)) is said in
+          let index = place.1 in
+          let first = sent-to c trace.steps o o round run place.0 (suc (suc k)) (omega arith) place.2 in
+          let earlier = first.earlier in
+          let round_is = first.round_is in
+          elim (cases_eq first.message (suc k)) [
+            | inl same ↦ absurd (sends-not ids (subst (λ n. step_at trace.steps n ≡ Some (record { proc = o; act = Send o })) same first.sent) at)
+            | inr other ↦ (
+                let taken = itself o first.message (suc k) mo first.sent (record { ids = ids; ends = true; step = at }) (omega arith) in
+                record { message = first.message; sent = first.sent; later = omega arith; place = taken.place; take = taken.take; by = taken.by })
+          ]
+        where
+          sends-not : (ids : List ℕ) → step_at trace.steps (suc k) ≡ Some (record { proc = o; act = Send o }) → step_at trace.steps (suc k) ≡ Some (record { proc = o; act = Receive true ids }) → ⊥
+          sends-not ids a b = true≢false (ap (λ (x : Step). act_sends x.act) (same_Some (record { proc = o; act = Send o }) (record { proc = o; act = Receive true ids }) (sym a ∙ b)))
+
+  pub owe-all : IsHeardOutByAll set trace round → ((p : ℕ) → has_proc set p ≡ true → IsProc c p) → OweAcknowledgements set trace (round + 1)
+  owe-all heard procs v mo proposes q mq came =
       let own : owner c.n (phase_of (round + 1)) ≡ owner c.n (phase_of round) = ap (owner c.n) (same-phase round low part) in
       owes (owner c.n (phase_of (round + 1))) q v own mo mq (procs q mq) (procs (owner c.n (phase_of (round + 1))) mo)
       (sym (proposal-kept c trace.steps (owner c.n (phase_of (round + 1))) round low part) ∙ proposes) (omega arith)
+      (λ k ids at here is_heard. heard q (owner c.n (phase_of (round + 1))) k ids mq mo at here is_heard)

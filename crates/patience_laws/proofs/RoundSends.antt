@@ -151,7 +151,7 @@ module _ (trace : Recorded) (patience set g f p : ℕ) (run : IsRun trace.config
         ]
 
     -- where all is sent p receives
-    receives : (j : ℕ) (act : Act) → step_at trace.steps j ≡ Some (record { proc = p; act = act }) → round_at trace.steps p j ≡ round
+    pub receives : (j : ℕ) (act : Act) → step_at trace.steps j ≡ Some (record { proc = p; act = act }) → round_at trace.steps p j ≡ round
         → length (sends_to trace.config trace.steps p round) ≤ sent_before trace.steps p round j → (ids : List ℕ) × (ends : Bool) × (act ≡ Receive ends ids)
     receives j (Send to) at here all =
         let due = run.each j (record { proc = p; act = Send to }) at in

@@ -3,3 +3,4 @@ pub mod Silence
 pub mod RoundTicks
 pub mod LeastRounds
 pub mod Meetings
+pub mod Gatherings

@@ -16,8 +16,9 @@ ghost use Rattle.deciding_runs.specs.HeardOut.{HasHeardOf, IsTakenBefore};
 ghost use Rattle.deciding_runs.specs.Together.{HavePassedBy};
 ghost use Rattle.deciding_runs.specs.Peers.{is_heard_of};
 ghost use Rattle.patience_laws.specs.PacedRuns.{IsPacedStep, StepsByPace, pace_after, pace_stepping, peer_after};
-ghost use Rattle.patience_laws.specs.LeastRounds.{AreInRoundFrom, AreInTouch, IsHeardOutByAll, KeepsBounds, OweAcknowledgements};
-ghost use Rattle.patience_laws.specs.Meetings.{ComeTogether, MeetOnce};
+ghost use Rattle.patience_laws.specs.LeastRounds.{AreInRoundFrom, AreInTouch, IsHeardOutByAll, KeepsBounds, OweAcknowledgements, TakeInOrder};
+ghost use Rattle.patience_laws.specs.Meetings.{ComeTogether, ComesTo, MeetOnce};
+ghost use Rattle.patience_laws.specs.Gatherings.{AreAlone, HaveMet, HearThemselves, NeedAll, met_round, met_tick};
 ghost use Rattle.patience_laws.specs.RoundTicks.{EachEnds, HasHeardFrom, HearsMembers, IsInRoundFrom, sends_to, steps_since};
 ghost use Rattle.patience_laws.specs.Silence.{Suspects, TakesOf, WasSilent};
 
@@ -137,6 +138,25 @@ pub fn least_laws()
         → AreInRoundFrom set trace (round + 4) (x + (4 * d + (2 * trace.config.n + 9) * f)) }
 {}
 
+/// No member is stuck, and after a phase the others count no more (own).
+///
+/// A theorem, as `paced_laws` is. Whatever it hears, a member passes each round in (N + P + 1) f ticks with a patience of P
+/// (`passes`). From tick g on no member takes anything of another processor. Then the members are in touch once each has
+/// passed a phase that nobody had come to before g (`in_touch`). A processor comes to no more than one round in a tick
+/// (`comes`).
+pub fn progress_laws()
+    ensures passes { (trace : Recorded) (patience set g f p round x count : ℕ) → IsRun trace.config trace.steps
+        → IsTimed trace → StepsByPace trace.config patience trace.steps p → IsTrue (has_proc set p)
+        → PhiHolds set trace g f → g ≤ x → IsInRoundFrom trace p round x
+        → IsInRoundFrom trace p (round + count) (x + count * ((trace.config.n + patience + 1) * f)) }
+    ensures in_touch { (patience set : ℕ) (trace : Recorded) (g d f least most round x : ℕ)
+        → KeepsBounds patience set trace g d f → AreAlone set trace g least most → g ≤ x → most < round
+        → part_of round ≡ 1 → AreInRoundFrom set trace (round + 4) x → AreInTouch patience set trace g round x }
+    ensures comes { (patience set : ℕ) (trace : Recorded) (g d f least most p round k x : ℕ)
+        → KeepsBounds patience set trace g d f → AreAlone set trace g least most → ComesTo trace.steps p round k → g ≤ x
+        → most + 1 + (x - g) < round → x ≤ tick_of trace k }
+{}
+
 /// Members that come to a round together, and have the patience for it, decide (own).
 ///
 /// A theorem, as `paced_laws` is. At least N - t members step by the pace with a patience of at least 5 d + (3 N + 10) f
@@ -170,4 +190,33 @@ pub fn meeting_laws()
         → HaveDecided set (node_at trace.config trace.steps) }
 {
     heard_out_laws();
+}
+
+/// Members that need one another meet, and decide (own).
+///
+/// A theorem, as `paced_laws` is. At least N - t members step by the pace with a patience P of at least
+/// 5 d + (4 N + 14) f Receives, which 8 d + (4 N + 18) f is. From tick g on the bounds hold, and the members are alone, in
+/// rounds from `least` on; before g nobody was in a round above `most`. They take one another's messages in order, and each
+/// takes its own at once. And they need one another: they are exactly N - t, or none suspects a member from g on. Whatever
+/// they had heard and sent, they meet before a tick (`meet`): with u = (N + P + 1) f and w = (most + 9 - least) u, it is
+/// g + (most + 5 w + 21 - least) u. So all decide N + 1 phases later (`decide`). The gap closes, for all members pass five
+/// rounds in P ticks (`five`), and the foremost doesn't end a lock-release round sooner if a member isn't in it.
+pub fn gathering_laws()
+    ensures five { (patience set : ℕ) (trace : Recorded) (g d f round x wait : ℕ) → KeepsBounds patience set trace g d f
+        → TakeInOrder set trace → HearThemselves set trace → AreInTouch patience set trace g round x
+        → AreInRoundFrom set trace round x → 1 ≤ round → 5 * d + (4 * trace.config.n + 14) * f ≤ wait
+        → AreInRoundFrom set trace (round + 5) (x + wait) }
+    ensures meet { (patience set : ℕ) (trace : Recorded) (g d f least most p : ℕ) → KeepsBounds patience set trace g d f
+        → TakeInOrder set trace → HearThemselves set trace → AreAlone set trace g least most
+        → NeedAll patience set trace g → 5 * d + (4 * trace.config.n + 14) * f ≤ patience → IsTrue (has_proc set p)
+        → met_tick trace.config patience g f least most + f ≤ trace.last + 1
+        → HaveMet patience set trace g (met_round trace.config patience f least most) (met_tick trace.config patience g f least most) }
+    ensures decide { (patience set : ℕ) (trace : Recorded) (g d f least most : ℕ) → IsSetup trace.config
+        → KeepsBounds patience set trace g d f
+        → TakeInOrder set trace → HearThemselves set trace → AreAlone set trace g least most
+        → NeedAll patience set trace g → 5 * d + (4 * trace.config.n + 14) * f ≤ patience
+        → met_tick trace.config patience g f least most + (d + (trace.config.n + 1) * f) + (trace.config.n + 1) * (4 * d + (2 * trace.config.n + 9) * f) + f ≤ trace.last + 1
+        → HaveDecided set (node_at trace.config trace.steps) }
+{
+    meeting_laws();
 }

@@ -1,0 +1,283 @@
+-- The gap between members closes: while the foremost waits, all others pass five rounds.
+use Rattle.std.proofs.Common.{ℕ, zero, suc, ◌≡◌, ◌+◌, ◌-◌, ◌*◌, ◌<◌, ◌≤◌, ◌⊎◌, inl, inr, List, take, Some, Bool, true, false, refl, sym, ap, subst, ◌∙◌, arith}
+use Rattle.std.proofs.lemmas.Bool.{cases_lt}
+use Rattle.std.proofs.lemmas.Option.{none-some}
+use Rattle.step_trace.specs.declared.steps.Act.{Act}
+use Rattle.step_trace.specs.declared.steps.Act.TheVariants.{Send, Receive}
+use Rattle.step_trace.specs.Configurations.{Setup, IsProc}
+use Rattle.step_trace.specs.Processors.{has_proc}
+use Rattle.step_trace.specs.Traces.{Recorded, step_at}
+use Rattle.step_trace.specs.Ticks.{tick_of}
+use Rattle.step_trace.proofs.TickOrder.{number_below, ticks_rise}
+use Rattle.lock_phases.specs.Rounds.{part_of}
+use Rattle.round_model.proofs.BoundedDecisions.{member-positive}
+use Rattle.step_buffers.specs.Runs.{node_before}
+use Rattle.deciding_runs.specs.HeardOut.{HasHeardOf}
+use Rattle.deciding_runs.specs.Paces.{heard_ids, is_complete}
+use Rattle.patience_laws.specs.PacedRuns.{pace_after}
+use Rattle.patience_laws.specs.LeastRounds.{KeepsBounds, AreInTouch, AreInRoundFrom, IsHeardOutByAll, TakeInOrder}
+use Rattle.patience_laws.specs.Meetings.{ComesTo}
+use Rattle.patience_laws.specs.Gatherings.{HearThemselves}
+use Rattle.patience_laws.proofs.PacedSteps.{rounds_after, round-here}
+use Rattle.patience_laws.proofs.KnownRounds.{rounds-up}
+use Rattle.patience_laws.proofs.RoundSends.{round_at-up}
+use Rattle.patience_laws.proofs.UnheardSuspects.{suspect-unheard}
+use Rattle.patience_laws.proofs.EndedReceives.{Why, Complete, Behind, Impatient, why-ends}
+use Rattle.patience_laws.proofs.PatienceTicks.{IsEndOf, rounds-ended, end-of, patience-lasts}
+use Rattle.patience_laws.proofs.AskedAcknowledgements.{five-rounds}
+use Rattle.patience_laws.proofs.FirstEnds.{FirstEnd, first-end}
+
+module _ (patience set : ℕ) (trace : Recorded) (g d f : ℕ) (keeps : KeepsBounds patience set trace g d f) (order : TakeInOrder set trace) (itself : HearThemselves set trace)
+    (enough : 5 * d + (4 * trace.config.n + 14) * f ≤ patience) (base x0 : ℕ) (touch : AreInTouch patience set trace g base x0) (low : 1 < base)
+    (hears : (p q n : ℕ) (ids : List ℕ) → has_proc set p ≡ true → has_proc set q ≡ true → step_at trace.steps (suc n) ≡ Some (record { proc = p; act = Receive true ids })
+    → base ≤ rounds_after trace.steps p n + 1 → part_of (rounds_after trace.steps p n + 1) ≡ 4 → x0 ≤ tick_of trace (suc n)
+    → is_complete trace.config (node_before trace.config trace.steps p (suc n)) (rounds_after trace.steps p n + 1) p (heard_ids (take n trace.steps) p ids (pace_after trace.config patience trace.steps p n)) ≡ true
+    → HasHeardOf trace.steps p q (rounds_after trace.steps p n + 1) (suc n)) where
+  abbrev c : Setup
+  c = trace.config
+
+  proc : (q : ℕ) → has_proc set q ≡ true → IsProc c q
+  proc q m = (member-positive set q m, keeps.within q m)
+
+  -- no member comes to the round before this tick
+  abbrev pub NoneBefore : ℕ → ℕ → Type 0
+  NoneBefore r x = (p k : ℕ) → has_proc set p ≡ true → ComesTo trace.steps p r k → x ≤ tick_of trace k
+
+  left : ℕ → ℕ → ℕ
+  left q n = (pace_after c patience trace.steps q n).left
+
+  -- who ends a later round ends it later
+  end-later : (p r s : ℕ) (e : IsEndOf trace.steps p r) (h : IsEndOf trace.steps p s) → r ≤ s → tick_of trace (suc e.place) ≤ tick_of trace (suc h.place)
+  end-later p r s e h l = elim (cases_lt h.place e.place) [
+    | inl before ↦ absurd (let up = rounds-up c patience trace.steps p (suc h.place) e.place (omega arith) in let a = h.after in let b = e.round_is in omega arith)
+    | inr after ↦ ticks_rise trace keeps.trace_is.time (suc e.place) (suc h.place) (record { proc = p; act = Receive true e.ids }) (record { proc = p; act = Receive true h.ids }) e.step h.step (omega arith)
+  ]
+
+  -- a message that was taken was sent before
+  sent-earlier : (p q s n : ℕ) (h : HasHeardOf trace.steps p q s n) → h.message < n
+  sent-earlier p q s n h =
+      let earlier = (keeps.run.well_formed.earlier h.place h.message (record { proc = p; act = Receive h.take.ends h.take.ids }) h.take.step h.take.taken).0 in
+      let by = h.by in
+      omega arith
+
+  module _ (r x : ℕ) (up : base ≤ r) (late : x0 ≤ x) (first : NoneBefore r x) where
+    -- what comes in the round or after it comes no earlier
+    pub since : (q n : ℕ) (act : Act) → has_proc set q ≡ true → step_at trace.steps (suc n) ≡ Some (record { proc = q; act = act }) → r ≤ rounds_after trace.steps q n + 1 → x ≤ tick_of trace (suc n)
+    since q n act m at there =
+        let e = end-of c patience trace.steps q (r - 1) n (omega arith) (omega arith) in
+        let inside = e.1 in
+        let is = e.0.round_is in
+        let here = round-here trace.steps q e.0.place in
+        let come = first q (suc e.0.place) m (record { ids = e.0.ids; step = e.0.step; round_is = omega arith }) in
+        let rise = ticks_rise trace keeps.trace_is.time (suc e.0.place) (suc n) (record { proc = q; act = Receive true e.0.ids }) (record { proc = q; act = act }) e.0.step at (omega arith) in
+        omega arith
+
+    -- and a patience ends such a round so much later
+    impatient : (q n : ℕ) (act : Act) → has_proc set q ≡ true → step_at trace.steps (suc n) ≡ Some (record { proc = q; act = act }) → r ≤ rounds_after trace.steps q n + 1
+        → (pace_after c patience trace.steps q n).left ≤ 1 → x + patience ≤ tick_of trace (suc n)
+    impatient q n act m at there out =
+        let e = end-of c patience trace.steps q (r - 1) n (omega arith) (omega arith) in
+        let is = e.0.round_is in
+        let here = round-here trace.steps q e.0.place in
+        let come = first q (suc e.0.place) m (record { ids = e.0.ids; step = e.0.step; round_is = omega arith }) in
+        let h = end-of c patience trace.steps q (rounds_after trace.steps q n) n (omega arith) (omega arith) in
+        let rise = end-later q (r - 1) (rounds_after trace.steps q n) e.0 h.0 (omega arith) in
+        let ticks = patience-lasts trace patience q keeps.trace_is.time (rounds_after trace.steps q n) h.0 n act h.1 refl at out in
+        omega arith
+
+    -- of another processor nothing is heard of such a round
+    unheard : (q z n s : ℕ) (ids : List ℕ) → has_proc set q ≡ true → has_proc set z ≡ false → IsProc c z → step_at trace.steps (suc n) ≡ Some (record { proc = q; act = Receive true ids })
+        → r ≤ rounds_after trace.steps q n + 1 → rounds_after trace.steps q n + 1 ≤ s → HasHeardOf trace.steps q z s (suc n) → ⊥
+    unheard q z n s ids mq mz is at there far h =
+        let tick = since q n (Receive true ids) mq at there in
+        let silent = touch.silent q z mq is mz (suc n) (record { ids = ids; ends = true; step = at }) (omega arith) in
+        let ended = rounds-ended c patience trace.steps q n ids at in
+        suspect-unheard c patience trace.steps q z (suc n) s keeps.run.well_formed is (omega arith) silent h
+
+    -- who was heard of in a later round has ended this one
+    ended-before : (q z n s : ℕ) (h : HasHeardOf trace.steps q z s (suc n)) (m : ℕ) → 1 ≤ m → m < s → (e : IsEndOf trace.steps z m) × (suc e.place ≤ n)
+    ended-before q z n s h m positive below =
+        let earlier = sent-earlier q z s (suc n) h in
+        let far = h.later in
+        let e = end-of c patience trace.steps z m (h.message - 1) positive (omega arith) in
+        let inside = e.1 in
+        (e.0, omega arith)
+
+    module _ (part : part_of r ≡ 4) (over : AreInRoundFrom set trace (r + 1) (x + patience)) where
+      -- no member is past the next lock-release round while one is in this
+      nobody-ended : (p n : ℕ) (act : Act) → has_proc set p ≡ true → step_at trace.steps (suc n) ≡ Some (record { proc = p; act = act }) → rounds_after trace.steps p n + 1 ≡ r
+          → (bound k q : ℕ) (ids : List ℕ) → k < bound → suc k ≤ n → has_proc set q ≡ true → step_at trace.steps (suc k) ≡ Some (record { proc = q; act = Receive true ids })
+          → rounds_after trace.steps q k + 1 ≡ r + 4 → ⊥
+      nobody-ended p n act mp at here zero k q ids b l mq there is = absurd (omega arith)
+      nobody-ended p n act mp at here (suc bound) k q ids b l mq there is =
+          go (nobody-ended p n act mp at here bound) (why-ends c patience trace.steps q keeps.run.well_formed k ids true there (keeps.paced q mq) refl)
+        where
+          tick : x ≤ tick_of trace (suc k)
+          tick = since q k (Receive true ids) mq there (omega arith)
+
+          part_is : part_of (rounds_after trace.steps q k + 1) ≡ 4
+          part_is = omega arith
+
+          heard_p : HasHeardOf trace.steps q p (rounds_after trace.steps q k + 1) (suc k) → ⊥
+          heard_p h =
+              let earlier = sent-earlier q p (rounds_after trace.steps q k + 1) (suc k) h in
+              let rise = round_at-up c patience trace.steps p h.message (suc n) (omega arith) in
+              let e = round-here trace.steps p n in
+              let ahead = h.later in
+              omega arith
+
+          go : ((k q : ℕ) (ids : List ℕ) → k < bound → suc k ≤ n → has_proc set q ≡ true → step_at trace.steps (suc k) ≡ Some (record { proc = q; act = Receive true ids }) → rounds_after trace.steps q k + 1 ≡ r + 4 → ⊥)
+              → Why c patience trace.steps q keeps.run.well_formed k ids true there (keeps.paced q mq) → ⊥
+          go before (Complete done) = let t = tick in heard_p (hears q p k ids mq mp there (omega arith) part_is (omega arith) done)
+          go before (Impatient out) =
+              let long = impatient q k (Receive true ids) mq there (omega arith) out in
+              let rise = ticks_rise trace keeps.trace_is.time (suc k) (suc n) (record { proc = q; act = Receive true ids }) (record { proc = p; act = act }) there at (omega arith) in
+              let past = over p mp (suc n) (act, at) (omega arith) in
+              let e = round-here trace.steps p n in
+              omega arith
+          go before (Behind ahead) = of (has_proc set ahead.proc) refl
+            where
+              of : (b : Bool) → has_proc set ahead.proc ≡ b → ⊥
+              of false e = unheard q ahead.proc k (rounds_after trace.steps q k + 1 + 5) ids mq e ahead.is there (omega arith) (omega arith) ahead.heard_of
+              of true e =
+                  let end = ended-before q ahead.proc k (rounds_after trace.steps q k + 1 + 5) ahead.heard_of (r + 4) (omega arith) (omega arith) in
+                  let inside = end.1 in
+                  before end.0.place ahead.proc end.0.ids (omega arith) (omega arith) e end.0.step end.0.round_is
+
+      -- So all hear out the round, if all are past it before a patience is.
+      pub hear-out-round : IsHeardOutByAll set trace r
+      hear-out-round p q zero ids mp mq at here may = absurd (none-some _ at)
+      hear-out-round p q (suc n) ids mp mq at here may = go (why-ends c patience trace.steps p keeps.run.well_formed n ids true at (keeps.paced p mp) refl)
+        where
+          is : rounds_after trace.steps p n + 1 ≡ r
+          is = sym (round-here trace.steps p n) ∙ here
+
+          go : Why c patience trace.steps p keeps.run.well_formed n ids true at (keeps.paced p mp) → HasHeardOf trace.steps p q r (suc n)
+          go (Complete done) =
+              let e = is in
+              let tick = since p n (Receive true ids) mp at (omega arith) in
+              subst (λ s. HasHeardOf trace.steps p q s (suc n)) is (hears p q n ids mp mq at (omega arith) (ap part_of is ∙ part) (omega arith) done)
+          go (Impatient out) =
+              let e = is in
+              let long = impatient p n (Receive true ids) mp at (omega arith) out in
+              let past = over p mp (suc n) (Receive true ids, at) (omega arith) in
+              absurd (omega arith)
+          go (Behind ahead) = let e = is in of e (has_proc set ahead.proc) refl
+            where
+              of : rounds_after trace.steps p n + 1 ≡ r → (b : Bool) → has_proc set ahead.proc ≡ b → HasHeardOf trace.steps p q r (suc n)
+              of e false other = absurd (unheard p ahead.proc n (rounds_after trace.steps p n + 1 + 5) ids mp other ahead.is at (omega arith) (omega arith) ahead.heard_of)
+              of e true member =
+                  let end = ended-before p ahead.proc n (rounds_after trace.steps p n + 1 + 5) ahead.heard_of (r + 4) (omega arith) (omega arith) in
+                  let inside = end.1 in
+                  absurd (nobody-ended p n (Receive true ids) mp at e (suc end.0.place) end.0.place ahead.proc end.0.ids (omega arith) (omega arith) member end.0.step end.0.round_is)
+
+    -- nobody comes to the next lock-release round before one has ended this
+    next-first : (end : FirstEnd set trace.steps r) → NoneBefore (r + 4) (tick_of trace (suc end.place))
+    next-first end p zero m come = absurd (none-some _ come.step)
+    next-first end p (suc k) m come =
+        let is = come.round_is in
+        let here = round-here trace.steps p k in
+        let e = end-of c patience trace.steps p r (suc k) (omega arith) (let ended = rounds-ended c patience trace.steps p k come.ids come.step in omega arith) in
+        let inside = e.1 in
+        let begins = end.first p (suc e.0.place) e.0.ids m e.0.step (round-here trace.steps p e.0.place ∙ e.0.round_is) in
+        ticks_rise trace keeps.trace_is.time (suc end.place) (suc k) (record { proc = end.proc; act = Receive true end.ids }) (record { proc = p; act = Receive true come.ids }) end.step come.step (omega arith)
+
+    -- The first that ends the round heard of all, and so all are in it; or it waited for its patience.
+    module _ (part : part_of r ≡ 4) (end : FirstEnd set trace.steps r) where
+      first-ends : AreInRoundFrom set trace r (tick_of trace (suc end.place)) ⊎ (x + patience ≤ tick_of trace (suc end.place))
+      first-ends = go (why-ends c patience trace.steps end.proc keeps.run.well_formed end.place end.ids true end.step (keeps.paced end.proc end.member) refl)
+        where
+          is : rounds_after trace.steps end.proc end.place + 1 ≡ r
+          is = end.round_is
+
+          tick : x ≤ tick_of trace (suc end.place)
+          tick = let e = is in since end.proc end.place (Receive true end.ids) end.member end.step (omega arith)
+
+          go : Why c patience trace.steps end.proc keeps.run.well_formed end.place end.ids true end.step (keeps.paced end.proc end.member)
+              → AreInRoundFrom set trace r (tick_of trace (suc end.place)) ⊎ (x + patience ≤ tick_of trace (suc end.place))
+          go (Impatient out) = let e = is in inr (impatient end.proc end.place (Receive true end.ids) end.member end.step (omega arith) out)
+          go (Complete done) = inl there
+            where
+              there : AreInRoundFrom set trace r (tick_of trace (suc end.place))
+              there q mq k step by =
+                  let e = is in
+                  let t = tick in
+                  let h = hears end.proc q end.place end.ids end.member mq end.step (omega arith) (ap part_of is ∙ part) (omega arith) done in
+                  let later = h.later in
+                  let sent = keeps.trace_is.time.later h.place h.message (record { proc = end.proc; act = Receive h.take.ends h.take.ids }, h.take.step, h.take.taken) in
+                  let rise = ticks_rise trace keeps.trace_is.time h.place (suc end.place) (record { proc = end.proc; act = Receive h.take.ends h.take.ids }) (record { proc = end.proc; act = Receive true end.ids }) h.take.step end.step h.by in
+                  let earlier = number_below trace keeps.trace_is.time h.message k (record { proc = q; act = Send end.proc }) (record { proc = q; act = step.0 }) h.sent step.1 (omega arith) in
+                  let up_to = round_at-up c patience trace.steps q h.message k (omega arith) in
+                  omega arith
+          go (Behind ahead) = let e = is in of e (has_proc set ahead.proc) refl
+            where
+              of : rounds_after trace.steps end.proc end.place + 1 ≡ r → (b : Bool) → has_proc set ahead.proc ≡ b
+                  → AreInRoundFrom set trace r (tick_of trace (suc end.place)) ⊎ (x + patience ≤ tick_of trace (suc end.place))
+              of e false other = absurd (unheard end.proc ahead.proc end.place (rounds_after trace.steps end.proc end.place + 1 + 5) end.ids end.member other ahead.is end.step (omega arith) (omega arith) ahead.heard_of)
+              of e true member =
+                  let before = ended-before end.proc ahead.proc end.place (rounds_after trace.steps end.proc end.place + 1 + 5) ahead.heard_of r (omega arith) (omega arith) in
+                  let inside = before.1 in
+                  let begins = end.first ahead.proc (suc before.0.place) before.0.ids member before.0.step (round-here trace.steps ahead.proc before.0.place ∙ before.0.round_is) in
+                  absurd (omega arith)
+
+  -- a lock-release round that all hear out, not before this tick
+  pub record HeardOutOnce (least most : ℕ) : Type 0 where
+    pub round : ℕ
+    pub above : least ≤ round
+    pub below : round ≤ most
+    pub part : part_of round ≡ 4
+    pub heard : IsHeardOutByAll set trace round
+    pub from : NoneBefore round x0
+
+  wider : (least most a b : ℕ) → a ≤ least → most ≤ b → HeardOutOnce least most → HeardOutOnce a b
+  wider least most a b l m h = record {
+    round = h.round;
+    above = let e = h.above in omega arith;
+    below = let e = h.below in omega arith;
+    part = h.part;
+    heard = h.heard;
+    from = h.from;
+  }
+
+  -- Members that are no more than a phase apart when the foremost comes to such a round hear it out.
+  closes-near : (s r x : ℕ) → base ≤ s → s ≤ r → r ≤ s + 4 → part_of r ≡ 4 → x0 ≤ x → NoneBefore r x → AreInRoundFrom set trace s x → HeardOutOnce r r
+  closes-near s r x up below near part late first there = record {
+    round = r;
+    above = omega arith;
+    below = omega arith;
+    part = part;
+    heard = hear-out-round r x (omega arith) late first part over;
+    from = λ p k m come. let l = first p k m come in omega arith;
+  }
+    where
+      over : AreInRoundFrom set trace (r + 1) (x + patience)
+      over p m k is by =
+          let five = five-rounds patience set trace g d f keeps order itself base x0 touch (omega arith) patience s x enough up late there p m k is by in
+          omega arith
+
+  -- Members that are more apart do so within as many phases as they are rounds apart.
+  module _ (one : ℕ) (mo : has_proc set one ≡ true) (limit : ℕ) (ends : (m : ℕ) → 1 ≤ m → m ≤ limit → IsEndOf trace.steps one m) where
+    abbrev Closes : ℕ → Type 0
+    Closes gap = (s r x : ℕ) → base ≤ s → s ≤ r → r ≤ s + 4 + gap → part_of r ≡ 4 → x0 ≤ x → NoneBefore r x → AreInRoundFrom set trace s x → r + 4 * gap ≤ limit → HeardOutOnce r (r + 4 * gap)
+
+    pub closes : (gap : ℕ) → Closes gap
+    closes zero s r x up below near part late first there within = wider r r r (r + 4 * zero) (omega arith) (omega arith) (closes-near s r x up below (omega arith) part late first there)
+    closes (suc gap) s r x up below near part late first there within = go (closes gap) (first-end set trace.steps r one mo (ends r (omega arith) (omega arith)))
+      where
+        later : (z : ℕ) → x + patience ≤ z → AreInRoundFrom set trace (s + 5) z
+        later z l p m k is by = five-rounds patience set trace g d f keeps order itself base x0 touch (omega arith) patience s x enough up late there p m k is (omega arith)
+
+        go : Closes gap → FirstEnd set trace.steps r → HeardOutOnce r (r + 4 * suc gap)
+        go rest end = elim (cases_lt (s + 4) r) [
+          | inr close ↦ wider r r r (r + 4 * suc gap) (omega arith) (omega arith) (closes-near s r x up below close part late first there)
+          | inl far ↦ elim (first-ends r x (omega arith) late first part end) [
+            | inl all ↦ wider (r + 4) (r + 4) r (r + 4 * suc gap) (omega arith) (omega arith)
+                (closes-near r (r + 4) (tick_of trace (suc end.place)) (omega arith) (omega arith) (omega arith) (omega arith) after (next-first r x (omega arith) late first end) all)
+            | inr waited ↦ wider (r + 4) (r + 4 + 4 * gap) r (r + 4 * suc gap) (omega arith) (omega arith)
+                (rest (s + 5) (r + 4) (tick_of trace (suc end.place)) (omega arith) (omega arith) (omega arith) (omega arith) after (next-first r x (omega arith) late first end)
+                (later (tick_of trace (suc end.place)) waited) (omega arith))
+          ]
+        ]
+          where
+            after : x0 ≤ tick_of trace (suc end.place)
+            after = let is = end.round_is in let t = since r x (omega arith) late first end.proc end.place (Receive true end.ids) end.member end.step (omega arith) in omega arith
