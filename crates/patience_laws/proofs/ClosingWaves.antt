@@ -1,30 +1,26 @@
 -- The gap between members closes: while the foremost waits, all others pass five rounds.
-use Rattle.std.proofs.Common.{ℕ, zero, suc, ◌≡◌, ◌+◌, ◌-◌, ◌*◌, ◌<◌, ◌≤◌, ◌⊎◌, inl, inr, List, take, Some, Bool, true, false, refl, sym, ap, subst, ◌∙◌, arith}
+use Rattle.std.proofs.Common.{ℕ, zero, suc, ◌≡◌, ◌+◌, ◌*◌, ◌<◌, ◌≤◌, ◌⊎◌, inl, inr, List, take, Some, Bool, true, false, refl, ap, ◌∙◌, arith}
 use Rattle.std.proofs.lemmas.Bool.{cases_lt}
 use Rattle.std.proofs.lemmas.Option.{none-some}
-use Rattle.step_trace.specs.declared.steps.Act.{Act}
 use Rattle.step_trace.specs.declared.steps.Act.TheVariants.{Send, Receive}
-use Rattle.step_trace.specs.Configurations.{Setup, IsProc}
+use Rattle.step_trace.specs.Configurations.{Setup}
 use Rattle.step_trace.specs.Processors.{has_proc}
 use Rattle.step_trace.specs.Traces.{Recorded, step_at}
 use Rattle.step_trace.specs.Ticks.{tick_of}
 use Rattle.step_trace.proofs.TickOrder.{number_below, ticks_rise}
 use Rattle.lock_phases.specs.Rounds.{part_of}
-use Rattle.round_model.proofs.BoundedDecisions.{member-positive}
 use Rattle.step_buffers.specs.Runs.{node_before}
 use Rattle.deciding_runs.specs.HeardOut.{HasHeardOf}
 use Rattle.deciding_runs.specs.Paces.{heard_ids, is_complete}
 use Rattle.patience_laws.specs.PacedRuns.{pace_after}
 use Rattle.patience_laws.specs.LeastRounds.{KeepsBounds, AreInTouch, AreInRoundFrom, IsHeardOutByAll, TakeInOrder}
-use Rattle.patience_laws.specs.Meetings.{ComesTo}
-use Rattle.patience_laws.specs.Gatherings.{HearThemselves}
+use Rattle.patience_laws.specs.Gatherings.{HearThemselves, NoneBefore}
 use Rattle.patience_laws.proofs.PacedSteps.{rounds_after, round-here}
-use Rattle.patience_laws.proofs.KnownRounds.{rounds-up}
 use Rattle.patience_laws.proofs.RoundSends.{round_at-up}
-use Rattle.patience_laws.proofs.UnheardSuspects.{suspect-unheard}
 use Rattle.patience_laws.proofs.EndedReceives.{Why, Complete, Behind, Impatient, why-ends}
-use Rattle.patience_laws.proofs.PatienceTicks.{IsEndOf, rounds-ended, end-of, patience-lasts}
+use Rattle.patience_laws.proofs.PatienceTicks.{IsEndOf, rounds-ended, end-of}
 use Rattle.patience_laws.proofs.AskedAcknowledgements.{five-rounds}
+use Rattle.patience_laws.proofs.HeldRounds.{IsCompleteAt, since, impatient, unheard, ended-before, hear-out-round}
 use Rattle.patience_laws.proofs.FirstEnds.{FirstEnd, first-end}
 
 module _ (patience set : ℕ) (trace : Recorded) (g d f : ℕ) (keeps : KeepsBounds patience set trace g d f) (order : TakeInOrder set trace) (itself : HearThemselves set trace)
@@ -36,143 +32,9 @@ module _ (patience set : ℕ) (trace : Recorded) (g d f : ℕ) (keeps : KeepsBou
   abbrev c : Setup
   c = trace.config
 
-  proc : (q : ℕ) → has_proc set q ≡ true → IsProc c q
-  proc q m = (member-positive set q m, keeps.within q m)
-
-  -- no member comes to the round before this tick
-  abbrev pub NoneBefore : ℕ → ℕ → Type 0
-  NoneBefore r x = (p k : ℕ) → has_proc set p ≡ true → ComesTo trace.steps p r k → x ≤ tick_of trace k
-
-  left : ℕ → ℕ → ℕ
-  left q n = (pace_after c patience trace.steps q n).left
-
-  -- who ends a later round ends it later
-  end-later : (p r s : ℕ) (e : IsEndOf trace.steps p r) (h : IsEndOf trace.steps p s) → r ≤ s → tick_of trace (suc e.place) ≤ tick_of trace (suc h.place)
-  end-later p r s e h l = elim (cases_lt h.place e.place) [
-    | inl before ↦ absurd (let up = rounds-up c patience trace.steps p (suc h.place) e.place (omega arith) in let a = h.after in let b = e.round_is in omega arith)
-    | inr after ↦ ticks_rise trace keeps.trace_is.time (suc e.place) (suc h.place) (record { proc = p; act = Receive true e.ids }) (record { proc = p; act = Receive true h.ids }) e.step h.step (omega arith)
-  ]
-
-  -- a message that was taken was sent before
-  sent-earlier : (p q s n : ℕ) (h : HasHeardOf trace.steps p q s n) → h.message < n
-  sent-earlier p q s n h =
-      let earlier = (keeps.run.well_formed.earlier h.place h.message (record { proc = p; act = Receive h.take.ends h.take.ids }) h.take.step h.take.taken).0 in
-      let by = h.by in
-      omega arith
-
-  module _ (r x : ℕ) (up : base ≤ r) (late : x0 ≤ x) (first : NoneBefore r x) where
-    -- what comes in the round or after it comes no earlier
-    pub since : (q n : ℕ) (act : Act) → has_proc set q ≡ true → step_at trace.steps (suc n) ≡ Some (record { proc = q; act = act }) → r ≤ rounds_after trace.steps q n + 1 → x ≤ tick_of trace (suc n)
-    since q n act m at there =
-        let e = end-of c patience trace.steps q (r - 1) n (omega arith) (omega arith) in
-        let inside = e.1 in
-        let is = e.0.round_is in
-        let here = round-here trace.steps q e.0.place in
-        let come = first q (suc e.0.place) m (record { ids = e.0.ids; step = e.0.step; round_is = omega arith }) in
-        let rise = ticks_rise trace keeps.trace_is.time (suc e.0.place) (suc n) (record { proc = q; act = Receive true e.0.ids }) (record { proc = q; act = act }) e.0.step at (omega arith) in
-        omega arith
-
-    -- and a patience ends such a round so much later
-    impatient : (q n : ℕ) (act : Act) → has_proc set q ≡ true → step_at trace.steps (suc n) ≡ Some (record { proc = q; act = act }) → r ≤ rounds_after trace.steps q n + 1
-        → (pace_after c patience trace.steps q n).left ≤ 1 → x + patience ≤ tick_of trace (suc n)
-    impatient q n act m at there out =
-        let e = end-of c patience trace.steps q (r - 1) n (omega arith) (omega arith) in
-        let is = e.0.round_is in
-        let here = round-here trace.steps q e.0.place in
-        let come = first q (suc e.0.place) m (record { ids = e.0.ids; step = e.0.step; round_is = omega arith }) in
-        let h = end-of c patience trace.steps q (rounds_after trace.steps q n) n (omega arith) (omega arith) in
-        let rise = end-later q (r - 1) (rounds_after trace.steps q n) e.0 h.0 (omega arith) in
-        let ticks = patience-lasts trace patience q keeps.trace_is.time (rounds_after trace.steps q n) h.0 n act h.1 refl at out in
-        omega arith
-
-    -- of another processor nothing is heard of such a round
-    unheard : (q z n s : ℕ) (ids : List ℕ) → has_proc set q ≡ true → has_proc set z ≡ false → IsProc c z → step_at trace.steps (suc n) ≡ Some (record { proc = q; act = Receive true ids })
-        → r ≤ rounds_after trace.steps q n + 1 → rounds_after trace.steps q n + 1 ≤ s → HasHeardOf trace.steps q z s (suc n) → ⊥
-    unheard q z n s ids mq mz is at there far h =
-        let tick = since q n (Receive true ids) mq at there in
-        let silent = touch.silent q z mq is mz (suc n) (record { ids = ids; ends = true; step = at }) (omega arith) in
-        let ended = rounds-ended c patience trace.steps q n ids at in
-        suspect-unheard c patience trace.steps q z (suc n) s keeps.run.well_formed is (omega arith) silent h
-
-    -- who was heard of in a later round has ended this one
-    ended-before : (q z n s : ℕ) (h : HasHeardOf trace.steps q z s (suc n)) (m : ℕ) → 1 ≤ m → m < s → (e : IsEndOf trace.steps z m) × (suc e.place ≤ n)
-    ended-before q z n s h m positive below =
-        let earlier = sent-earlier q z s (suc n) h in
-        let far = h.later in
-        let e = end-of c patience trace.steps z m (h.message - 1) positive (omega arith) in
-        let inside = e.1 in
-        (e.0, omega arith)
-
-    module _ (part : part_of r ≡ 4) (over : AreInRoundFrom set trace (r + 1) (x + patience)) where
-      -- no member is past the next lock-release round while one is in this
-      nobody-ended : (p n : ℕ) (act : Act) → has_proc set p ≡ true → step_at trace.steps (suc n) ≡ Some (record { proc = p; act = act }) → rounds_after trace.steps p n + 1 ≡ r
-          → (bound k q : ℕ) (ids : List ℕ) → k < bound → suc k ≤ n → has_proc set q ≡ true → step_at trace.steps (suc k) ≡ Some (record { proc = q; act = Receive true ids })
-          → rounds_after trace.steps q k + 1 ≡ r + 4 → ⊥
-      nobody-ended p n act mp at here zero k q ids b l mq there is = absurd (omega arith)
-      nobody-ended p n act mp at here (suc bound) k q ids b l mq there is =
-          go (nobody-ended p n act mp at here bound) (why-ends c patience trace.steps q keeps.run.well_formed k ids true there (keeps.paced q mq) refl)
-        where
-          tick : x ≤ tick_of trace (suc k)
-          tick = since q k (Receive true ids) mq there (omega arith)
-
-          part_is : part_of (rounds_after trace.steps q k + 1) ≡ 4
-          part_is = omega arith
-
-          heard_p : HasHeardOf trace.steps q p (rounds_after trace.steps q k + 1) (suc k) → ⊥
-          heard_p h =
-              let earlier = sent-earlier q p (rounds_after trace.steps q k + 1) (suc k) h in
-              let rise = round_at-up c patience trace.steps p h.message (suc n) (omega arith) in
-              let e = round-here trace.steps p n in
-              let ahead = h.later in
-              omega arith
-
-          go : ((k q : ℕ) (ids : List ℕ) → k < bound → suc k ≤ n → has_proc set q ≡ true → step_at trace.steps (suc k) ≡ Some (record { proc = q; act = Receive true ids }) → rounds_after trace.steps q k + 1 ≡ r + 4 → ⊥)
-              → Why c patience trace.steps q keeps.run.well_formed k ids true there (keeps.paced q mq) → ⊥
-          go before (Complete done) = let t = tick in heard_p (hears q p k ids mq mp there (omega arith) part_is (omega arith) done)
-          go before (Impatient out) =
-              let long = impatient q k (Receive true ids) mq there (omega arith) out in
-              let rise = ticks_rise trace keeps.trace_is.time (suc k) (suc n) (record { proc = q; act = Receive true ids }) (record { proc = p; act = act }) there at (omega arith) in
-              let past = over p mp (suc n) (act, at) (omega arith) in
-              let e = round-here trace.steps p n in
-              omega arith
-          go before (Behind ahead) = of (has_proc set ahead.proc) refl
-            where
-              of : (b : Bool) → has_proc set ahead.proc ≡ b → ⊥
-              of false e = unheard q ahead.proc k (rounds_after trace.steps q k + 1 + 5) ids mq e ahead.is there (omega arith) (omega arith) ahead.heard_of
-              of true e =
-                  let end = ended-before q ahead.proc k (rounds_after trace.steps q k + 1 + 5) ahead.heard_of (r + 4) (omega arith) (omega arith) in
-                  let inside = end.1 in
-                  before end.0.place ahead.proc end.0.ids (omega arith) (omega arith) e end.0.step end.0.round_is
-
-      -- So all hear out the round, if all are past it before a patience is.
-      pub hear-out-round : IsHeardOutByAll set trace r
-      hear-out-round p q zero ids mp mq at here may = absurd (none-some _ at)
-      hear-out-round p q (suc n) ids mp mq at here may = go (why-ends c patience trace.steps p keeps.run.well_formed n ids true at (keeps.paced p mp) refl)
-        where
-          is : rounds_after trace.steps p n + 1 ≡ r
-          is = sym (round-here trace.steps p n) ∙ here
-
-          go : Why c patience trace.steps p keeps.run.well_formed n ids true at (keeps.paced p mp) → HasHeardOf trace.steps p q r (suc n)
-          go (Complete done) =
-              let e = is in
-              let tick = since p n (Receive true ids) mp at (omega arith) in
-              subst (λ s. HasHeardOf trace.steps p q s (suc n)) is (hears p q n ids mp mq at (omega arith) (ap part_of is ∙ part) (omega arith) done)
-          go (Impatient out) =
-              let e = is in
-              let long = impatient p n (Receive true ids) mp at (omega arith) out in
-              let past = over p mp (suc n) (Receive true ids, at) (omega arith) in
-              absurd (omega arith)
-          go (Behind ahead) = let e = is in of e (has_proc set ahead.proc) refl
-            where
-              of : rounds_after trace.steps p n + 1 ≡ r → (b : Bool) → has_proc set ahead.proc ≡ b → HasHeardOf trace.steps p q r (suc n)
-              of e false other = absurd (unheard p ahead.proc n (rounds_after trace.steps p n + 1 + 5) ids mp other ahead.is at (omega arith) (omega arith) ahead.heard_of)
-              of e true member =
-                  let end = ended-before p ahead.proc n (rounds_after trace.steps p n + 1 + 5) ahead.heard_of (r + 4) (omega arith) (omega arith) in
-                  let inside = end.1 in
-                  absurd (nobody-ended p n (Receive true ids) mp at e (suc end.0.place) end.0.place ahead.proc end.0.ids (omega arith) (omega arith) member end.0.step end.0.round_is)
-
+  module _ (r x : ℕ) (up : base ≤ r) (late : x0 ≤ x) (first : NoneBefore set trace r x) where
     -- nobody comes to the next lock-release round before one has ended this
-    next-first : (end : FirstEnd set trace.steps r) → NoneBefore (r + 4) (tick_of trace (suc end.place))
+    next-first : (end : FirstEnd set trace.steps r) → NoneBefore set trace (r + 4) (tick_of trace (suc end.place))
     next-first end p zero m come = absurd (none-some _ come.step)
     next-first end p (suc k) m come =
         let is = come.round_is in
@@ -191,11 +53,11 @@ module _ (patience set : ℕ) (trace : Recorded) (g d f : ℕ) (keeps : KeepsBou
           is = end.round_is
 
           tick : x ≤ tick_of trace (suc end.place)
-          tick = let e = is in since end.proc end.place (Receive true end.ids) end.member end.step (omega arith)
+          tick = let e = is in since patience set trace g d f keeps base x0 touch low r x up late first end.proc end.place (Receive true end.ids) end.member end.step (omega arith)
 
           go : Why c patience trace.steps end.proc keeps.run.well_formed end.place end.ids true end.step (keeps.paced end.proc end.member)
               → AreInRoundFrom set trace r (tick_of trace (suc end.place)) ⊎ (x + patience ≤ tick_of trace (suc end.place))
-          go (Impatient out) = let e = is in inr (impatient end.proc end.place (Receive true end.ids) end.member end.step (omega arith) out)
+          go (Impatient out) = let e = is in inr (impatient patience set trace g d f keeps base x0 touch low r x up late first end.proc end.place (Receive true end.ids) end.member end.step (omega arith) out)
           go (Complete done) = inl there
             where
               there : AreInRoundFrom set trace r (tick_of trace (suc end.place))
@@ -213,9 +75,9 @@ module _ (patience set : ℕ) (trace : Recorded) (g d f : ℕ) (keeps : KeepsBou
             where
               of : rounds_after trace.steps end.proc end.place + 1 ≡ r → (b : Bool) → has_proc set ahead.proc ≡ b
                   → AreInRoundFrom set trace r (tick_of trace (suc end.place)) ⊎ (x + patience ≤ tick_of trace (suc end.place))
-              of e false other = absurd (unheard end.proc ahead.proc end.place (rounds_after trace.steps end.proc end.place + 1 + 5) end.ids end.member other ahead.is end.step (omega arith) (omega arith) ahead.heard_of)
+              of e false other = absurd (unheard patience set trace g d f keeps base x0 touch low r x up late first end.proc ahead.proc end.place (rounds_after trace.steps end.proc end.place + 1 + 5) end.ids end.member other ahead.is end.step (omega arith) (omega arith) ahead.heard_of)
               of e true member =
-                  let before = ended-before end.proc ahead.proc end.place (rounds_after trace.steps end.proc end.place + 1 + 5) ahead.heard_of r (omega arith) (omega arith) in
+                  let before = ended-before patience set trace g d f keeps base x0 touch low r x up late first end.proc ahead.proc end.place (rounds_after trace.steps end.proc end.place + 1 + 5) ahead.heard_of r (omega arith) (omega arith) in
                   let inside = before.1 in
                   let begins = end.first ahead.proc (suc before.0.place) before.0.ids member before.0.step (round-here trace.steps ahead.proc before.0.place ∙ before.0.round_is) in
                   absurd (omega arith)
@@ -227,7 +89,7 @@ module _ (patience set : ℕ) (trace : Recorded) (g d f : ℕ) (keeps : KeepsBou
     pub below : round ≤ most
     pub part : part_of round ≡ 4
     pub heard : IsHeardOutByAll set trace round
-    pub from : NoneBefore round x0
+    pub from : NoneBefore set trace round x0
 
   wider : (least most a b : ℕ) → a ≤ least → most ≤ b → HeardOutOnce least most → HeardOutOnce a b
   wider least most a b l m h = record {
@@ -240,13 +102,13 @@ module _ (patience set : ℕ) (trace : Recorded) (g d f : ℕ) (keeps : KeepsBou
   }
 
   -- Members that are no more than a phase apart when the foremost comes to such a round hear it out.
-  closes-near : (s r x : ℕ) → base ≤ s → s ≤ r → r ≤ s + 4 → part_of r ≡ 4 → x0 ≤ x → NoneBefore r x → AreInRoundFrom set trace s x → HeardOutOnce r r
+  closes-near : (s r x : ℕ) → base ≤ s → s ≤ r → r ≤ s + 4 → part_of r ≡ 4 → x0 ≤ x → NoneBefore set trace r x → AreInRoundFrom set trace s x → HeardOutOnce r r
   closes-near s r x up below near part late first there = record {
     round = r;
     above = omega arith;
     below = omega arith;
     part = part;
-    heard = hear-out-round r x (omega arith) late first part over;
+    heard = hear-out-round patience set trace g d f keeps base x0 touch low r x (omega arith) late first part over now next;
     from = λ p k m come. let l = first p k m come in omega arith;
   }
     where
@@ -255,10 +117,23 @@ module _ (patience set : ℕ) (trace : Recorded) (g d f : ℕ) (keeps : KeepsBou
           let five = five-rounds patience set trace g d f keeps order itself base x0 touch (omega arith) patience s x enough up late there p m k is by in
           omega arith
 
+      now : (p q n : ℕ) (ids : List ℕ) → has_proc set p ≡ true → has_proc set q ≡ true → (at : step_at trace.steps (suc n) ≡ Some (record { proc = p; act = Receive true ids }))
+          → rounds_after trace.steps p n + 1 ≡ r → IsCompleteAt patience set trace g d f keeps base x0 touch low p n ids → HasHeardOf trace.steps p q (rounds_after trace.steps p n + 1) (suc n)
+      now p q n ids mp mq at is done =
+          let tick = since patience set trace g d f keeps base x0 touch low r x (omega arith) late first p n (Receive true ids) mp at (omega arith) in
+          hears p q n ids mp mq at (omega arith) (ap part_of is ∙ part) (omega arith) done
+
+      next : (p q n : ℕ) (ids : List ℕ) → has_proc set p ≡ true → has_proc set q ≡ true → (at : step_at trace.steps (suc n) ≡ Some (record { proc = p; act = Receive true ids }))
+          → rounds_after trace.steps p n + 1 ≡ r + 4 → (e : IsEndOf trace.steps p r) → suc e.place ≤ n → HasHeardOf trace.steps p q r (suc e.place)
+          → IsCompleteAt patience set trace g d f keeps base x0 touch low p n ids → HasHeardOf trace.steps p q (rounds_after trace.steps p n + 1) (suc n)
+      next p q n ids mp mq at is e before h done =
+          let tick = since patience set trace g d f keeps base x0 touch low r x (omega arith) late first p n (Receive true ids) mp at (omega arith) in
+          hears p q n ids mp mq at (omega arith) (omega arith) (omega arith) done
+
   -- Members that are more apart do so within as many phases as they are rounds apart.
   module _ (one : ℕ) (mo : has_proc set one ≡ true) (limit : ℕ) (ends : (m : ℕ) → 1 ≤ m → m ≤ limit → IsEndOf trace.steps one m) where
     abbrev Closes : ℕ → Type 0
-    Closes gap = (s r x : ℕ) → base ≤ s → s ≤ r → r ≤ s + 4 + gap → part_of r ≡ 4 → x0 ≤ x → NoneBefore r x → AreInRoundFrom set trace s x → r + 4 * gap ≤ limit → HeardOutOnce r (r + 4 * gap)
+    Closes gap = (s r x : ℕ) → base ≤ s → s ≤ r → r ≤ s + 4 + gap → part_of r ≡ 4 → x0 ≤ x → NoneBefore set trace r x → AreInRoundFrom set trace s x → r + 4 * gap ≤ limit → HeardOutOnce r (r + 4 * gap)
 
     pub closes : (gap : ℕ) → Closes gap
     closes zero s r x up below near part late first there within = wider r r r (r + 4 * zero) (omega arith) (omega arith) (closes-near s r x up below (omega arith) part late first there)
@@ -280,4 +155,4 @@ module _ (patience set : ℕ) (trace : Recorded) (g d f : ℕ) (keeps : KeepsBou
         ]
           where
             after : x0 ≤ tick_of trace (suc end.place)
-            after = let is = end.round_is in let t = since r x (omega arith) late first end.proc end.place (Receive true end.ids) end.member end.step (omega arith) in omega arith
+            after = let is = end.round_is in let t = since patience set trace g d f keeps base x0 touch low r x (omega arith) late first end.proc end.place (Receive true end.ids) end.member end.step (omega arith) in omega arith

@@ -20,5 +20,7 @@ mod PassedRounds
 mod SettledMembers
 mod AskedAcknowledgements
 mod FirstEnds
+mod HeldRounds
 mod ClosingWaves
+mod NearMembers
 mod MeetingMembers

@@ -1,5 +1,5 @@
 -- Members that need one another meet.
-use Rattle.std.proofs.Common.{ℕ, suc, ◌≡◌, ◌+◌, ◌-◌, ◌*◌, ◌%◌, ◌<◌, ◌≤◌, inl, inr, List, take, Some, true, false, refl, sym, ap, subst, ◌∙◌, arith}
+use Rattle.std.proofs.Common.{ℕ, suc, ◌≡◌, ◌+◌, ◌-◌, ◌*◌, ◌%◌, ◌<◌, ◌≤◌, inl, inr, List, take, Some, true, false, sym, ap, subst, ◌∙◌, arith}
 use Rattle.std.proofs.lemmas.Bool.{cases_lt}
 use Rattle.step_trace.specs.declared.steps.Act.TheVariants.{Receive}
 use Rattle.step_trace.specs.Configurations.{Setup, IsProc}
@@ -10,7 +10,6 @@ use Rattle.step_trace.proofs.TickOrder.{ticks_rise}
 use Rattle.lock_phases.specs.Rounds.{part_of, owner, phase_of}
 use Rattle.lock_phases.proofs.RoundLaws.{part_at-releasing}
 use Rattle.round_model.proofs.BoundedDecisions.{member-positive}
-use Rattle.step_buffers.specs.HeardTables.{round_at}
 use Rattle.step_buffers.specs.Runs.{node_before}
 use Rattle.deciding_runs.specs.Audible.{may_hear_in, may_hear_all_in}
 use Rattle.deciding_runs.specs.HeardOut.{HasHeardOf}
@@ -25,9 +24,9 @@ use Rattle.patience_laws.proofs.EndedReceives.{complete-heard, quorum-heard}
 use Rattle.patience_laws.proofs.PatienceTicks.{IsEndOf, rounds-ended, end-of}
 use Rattle.patience_laws.proofs.PassedRounds.{passes-rounds}
 use Rattle.patience_laws.proofs.SettledMembers.{in-touch, comes-late}
-use Rattle.patience_laws.proofs.LeastRounds.{touch-later}
 use Rattle.patience_laws.proofs.FirstEnds.{FirstEnd, first-end}
-use Rattle.patience_laws.proofs.ClosingWaves.{HeardOutOnce, closes, since}
+use Rattle.patience_laws.proofs.ClosingWaves.{HeardOutOnce, closes}
+use Rattle.patience_laws.proofs.HeldRounds.{since, meet-once}
 
 module _ (patience set : ℕ) (trace : Recorded) (g d f : ℕ) (keeps : KeepsBounds patience set trace g d f) where
   abbrev c : Setup
@@ -124,33 +123,15 @@ module _ (patience set : ℕ) (trace : Recorded) (g d f : ℕ) (keeps : KeepsBou
                   meets end own = record {
                     first = r + 1;
                     since = tick_of trace (suc end.place);
-                    met = record {
-                      later = omega arith;
-                      part = omega arith;
-                      touch = subst (λ m. AreInTouch patience set trace g m (tick_of trace (suc end.place))) same (touch-later patience set trace g base x0 r (tick_of trace (suc end.place)) (omega arith) late touch);
-                      order = order;
-                      first = λ p k m come. rises p k come.ids come.step (end.first p k come.ids m come.step (let e = come.round_is in omega arith));
-                      one = end.proc;
-                      member = end.member;
-                      place = suc end.place;
-                      comes = record { ids = end.ids; step = end.step; round_is = (let e = here in omega arith) };
-                      at = refl;
-                      heard = subst (IsHeardOutByAll set trace) same heard;
-                    };
+                    met = meet-once patience set trace g d f keeps order base x0 r touch (omega arith) part heard end late;
                     in_time = omega arith;
                     before = let l = own-early in let rise = rises one (suc own.place) own.ids own.step (end.first one (suc own.place) own.ids mo own.step (round-here trace.steps one own.place ∙ own.round_is)) in omega arith;
                   }
                     where
-                      same : r ≡ r + 1 - 1
-                      same = omega arith
-
-                      here : round_at trace.steps end.proc (suc end.place) ≡ r
-                      here = round-here trace.steps end.proc end.place ∙ end.round_is
-
                       late : x0 ≤ tick_of trace (suc end.place)
                       late =
                           let is = end.round_is in
-                          since patience set trace g d f keeps order itself enough base x0 touch (omega arith) (needs base x0 touch (need-later g x0 (omega arith) need)) r x0 (omega arith) (omega arith) from
+                          since patience set trace g d f keeps base x0 touch (omega arith) r x0 (omega arith) (omega arith) from
                           end.proc end.place (Receive true end.ids) end.member end.step (omega arith)
 
                       rises : (p k : ℕ) (ids : List ℕ) → step_at trace.steps k ≡ Some (record { proc = p; act = Receive true ids }) → suc end.place ≤ k → tick_of trace (suc end.place) ≤ tick_of trace k

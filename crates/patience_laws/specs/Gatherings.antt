@@ -10,7 +10,7 @@ use Rattle.step_buffers.specs.Runs.{IsSend}
 use Rattle.deciding_runs.specs.HeardOut.{IsTakenBefore}
 use Rattle.patience_laws.specs.Silence.{Suspects, TakesOf}
 use Rattle.patience_laws.specs.LeastRounds.{AreInRoundFrom}
-use Rattle.patience_laws.specs.Meetings.{MeetOnce}
+use Rattle.patience_laws.specs.Meetings.{ComesTo, MeetOnce}
 
 -- Before tick g no processor is in a round above `most`. From tick g on, no member takes anything of another processor,
 -- and each member is in round `least` or in a later one.
@@ -20,6 +20,10 @@ pub record AreAlone (set : ℕ) (trace : Recorded) (g least most : ℕ) : Type 0
   pub there : AreInRoundFrom set trace least g
   pub low : 1 ≤ least
 
+-- no member comes to the round before this tick
+abbrev pub NoneBefore : ℕ → Recorded → ℕ → ℕ → Type 0
+NoneBefore set trace round x = (p k : ℕ) → IsTrue (has_proc set p) → ComesTo trace.steps p round k → x ≤ tick_of trace k
+
 -- by each of its Receives a member has taken what it sent to itself before
 abbrev pub HearThemselves : ℕ → Recorded → Type 0
 HearThemselves set trace = (p s k : ℕ) → IsTrue (has_proc set p) → IsSend trace.steps p p s → IsReceiveOf trace.steps k p → s < k → IsTakenBefore trace.steps p k s
@@ -27,6 +31,11 @@ HearThemselves set trace = (p s k : ℕ) → IsTrue (has_proc set p) → IsSend 
 -- when a member makes a Receive from tick x on, it suspects no member
 abbrev pub SuspectNone : ℕ → ℕ → Recorded → ℕ → Type 0
 SuspectNone patience set trace x = (p q k : ℕ) → IsTrue (has_proc set p) → IsTrue (has_proc set q) → IsReceiveOf trace.steps k p → x ≤ tick_of trace k
+    → ¬ Suspects trace.config patience trace.steps p q (k - 1)
+
+-- when a member makes a Receive in this round of its own, it suspects no member
+abbrev pub SuspectNoneIn : ℕ → ℕ → Recorded → ℕ → Type 0
+SuspectNoneIn patience set trace round = (p q k : ℕ) → IsTrue (has_proc set p) → IsTrue (has_proc set q) → IsReceiveOf trace.steps k p → round_at trace.steps p k ≡ round
     → ¬ Suspects trace.config patience trace.steps p q (k - 1)
 
 -- No member goes on without another: the members are no more than N - t, or none suspects a member from tick x on.

@@ -18,7 +18,7 @@ ghost use Rattle.deciding_runs.specs.Peers.{is_heard_of};
 ghost use Rattle.patience_laws.specs.PacedRuns.{IsPacedStep, StepsByPace, pace_after, pace_stepping, peer_after};
 ghost use Rattle.patience_laws.specs.LeastRounds.{AreInRoundFrom, AreInTouch, IsHeardOutByAll, KeepsBounds, OweAcknowledgements, TakeInOrder};
 ghost use Rattle.patience_laws.specs.Meetings.{ComeTogether, ComesTo, MeetOnce};
-ghost use Rattle.patience_laws.specs.Gatherings.{AreAlone, HaveMet, HearThemselves, NeedAll, met_round, met_tick};
+ghost use Rattle.patience_laws.specs.Gatherings.{AreAlone, HaveMet, HearThemselves, NeedAll, NoneBefore, SuspectNoneIn, met_round, met_tick};
 ghost use Rattle.patience_laws.specs.RoundTicks.{EachEnds, HasHeardFrom, HearsMembers, IsInRoundFrom, sends_to, steps_since};
 ghost use Rattle.patience_laws.specs.Silence.{Suspects, TakesOf, WasSilent};
 
@@ -200,12 +200,20 @@ pub fn meeting_laws()
 /// takes its own at once. And they need one another: they are exactly N - t, or none suspects a member from g on. Whatever
 /// they had heard and sent, they meet before a tick (`meet`): with u = (N + P + 1) f and w = (most + 9 - least) u, it is
 /// g + (most + 5 w + 21 - least) u. So all decide N + 1 phases later (`decide`). The gap closes, for all members pass five
-/// rounds in P ticks (`five`), and the foremost doesn't end a lock-release round sooner if a member isn't in it.
+/// rounds in P ticks (`five`), and the foremost doesn't end a lock-release round sooner if a member isn't in it. Any
+/// members that are within a phase of one another when the first comes to such a round, and suspect none in it, meet in it,
+/// before P ticks are over (`near`).
 pub fn gathering_laws()
     ensures five { (patience set : ℕ) (trace : Recorded) (g d f round x wait : ℕ) → KeepsBounds patience set trace g d f
         → TakeInOrder set trace → HearThemselves set trace → AreInTouch patience set trace g round x
         → AreInRoundFrom set trace round x → 1 ≤ round → 5 * d + (4 * trace.config.n + 14) * f ≤ wait
         → AreInRoundFrom set trace (round + 5) (x + wait) }
+    ensures near { (patience set : ℕ) (trace : Recorded) (g d f least round x p : ℕ) → KeepsBounds patience set trace g d f
+        → TakeInOrder set trace → HearThemselves set trace → AreInTouch patience set trace g least x → 1 < least
+        → AreInRoundFrom set trace least x → NoneBefore set trace round x → least ≤ round → round ≤ least + 4
+        → part_of round ≡ 4 → SuspectNoneIn patience set trace round
+        → 5 * d + (4 * trace.config.n + 14) * f ≤ patience → IsTrue (has_proc set p)
+        → x + patience + f ≤ trace.last + 1 → HaveMet patience set trace g (round + 1) (x + patience) }
     ensures meet { (patience set : ℕ) (trace : Recorded) (g d f least most p : ℕ) → KeepsBounds patience set trace g d f
         → TakeInOrder set trace → HearThemselves set trace → AreAlone set trace g least most
         → NeedAll patience set trace g → 5 * d + (4 * trace.config.n + 14) * f ≤ patience → IsTrue (has_proc set p)

@@ -3,4 +3,7 @@
 
 mod laws;
 
-pub use laws::{gathering_laws, knowledge_laws, least_laws, meeting_laws, paced_laws, progress_laws, round_laws, silence_laws};
+pub use laws::{
+    gathering_laws, knowledge_laws, least_laws, meeting_laws, paced_laws, progress_laws,
+    round_laws, silence_laws,
+};
