@@ -7,8 +7,9 @@ use thiserror::Error;
 use timed_events::Hint;
 
 /// Why a log is refused, in the order in which the stages and their reasons are tested; where clocks are to be aligned, the
-/// reasons against messages whatever their times, then NoOffsets and TooLate, come before those that the end of the log gives. A record's number is its place
-/// among all records, from 1; the header is record 1.
+/// reasons against messages whatever their times, then NoOffsets and TooLate, come before those that the end of the log gives;
+/// so does, after these, NoEvents where lost sends are left out. A record's number is its place among all records, from 1; the
+/// header is record 1.
 #[derive(Debug, Drop, Error)]
 pub enum LogError {
     /// The text has more than 67,108,864 bytes.
@@ -29,7 +30,7 @@ pub enum LogError {
     BadNode(u64, Option<Name>),
     /// A send's message isn't a name, or a receive's aren't names with one space between them.
     BadMessage(u64),
-    /// The header is the only record.
+    /// The header is the only record; or all events are lost sends, and these are left out.
     NoEvents,
     /// The record names a 65th node.
     TooManyNodes(u64),
