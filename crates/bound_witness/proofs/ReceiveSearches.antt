@@ -1,4 +1,5 @@
--- Searches for a Receive from a tick on and before the delivery, and what they say of misses and of the bound.
+-- Searches for a Receive from a tick on and before the delivery, and what they show about misses and the
+-- bound.
 use Rattle.std.proofs.Common.{ℕ, ◌≡◌, ◌+◌, ◌<◌, ◌≤◌, ◌↔◌, inl, inr, refl, arith, subst, sym}
 use Rattle.std.proofs.lemmas.Bool.{cases_lt}
 use Rattle.step_trace.specs.declared.rows.Miss.{Miss}

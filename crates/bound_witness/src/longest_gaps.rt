@@ -49,7 +49,7 @@ fn push_gaps_of(trace: &Trace, set: ProcSet, p: u64, found: &mut Vec<Gap>) -> Re
 /// The gaps of the members that no longer gap covers: the longest intervals of ticks, from 1 to
 /// the last tick, in which a member takes no step. They are listed by processor, then by beginning.
 ///
-/// Refuses only for want of memory, and only where there is a gap to list.
+/// Fails only if out of memory, and only if there is a gap to list.
 pub fn gaps(alloc: Global, trace: &Trace, set: ProcSet) -> Result<Vec<Gap>, AllocError>
     requires { IsWithin set trace.now.config.n }
     ensures listed { IfOk result (λ v. (w : Gap) → (Contains v.items w ↔ IsLongestGap set trace.now w)) }

@@ -17,12 +17,12 @@ use Rattle.text_commands.specs.Answers.{IsAnswerTo}
 use Rattle.text_commands.specs.Checks.{IsRefusalOfText}
 use Rattle.c_report.specs.Rooms.{over}
 
--- These words stand in the room, as far as they fit, and `size` is the length of all of them.
+-- The buffer holds these words, as far as they fit, and `size` is the length of all of them.
 pub record IsToldOf (words old new : List ℕ) (size : ℕ) : Type 0 where
   pub sized : size ≡ length words
   pub written : new ≡ over words old
 
--- The report of the text stands in the room, whole.
+-- The buffer holds the whole report of the text.
 pub record IsReported (correct : Correct) (text old new : List ℕ) (size : ℕ) : Type 0 where
   pub report : List ℕ
   pub exact : IsAnswerTo (IsReportFor correct) text report
@@ -40,13 +40,13 @@ pub record IsTooLong (correct : Correct) (text : List ℕ) (room size : ℕ) : T
 abbrev pub IsSetOutside : Correct → List ℕ → Type 0
 IsSetOutside correct text = OfTrace (λ t. (o : MemberOutside) × IsMemberOutside (named correct t.config.n) t.config.n o) text
 
--- The text stands for no trace; the room holds its first refusal in words.
+-- The text encodes no trace; the buffer holds its first refusal in words.
 pub record IsTraceRefused (text old new : List ℕ) (size : ℕ) : Type 0 where
   pub reason : TextError
   pub first : IsRefusedFor text reason
   pub told : IsToldOf (text_error_text reason) old new size
 
--- The verdict on the certificate has this number, and its line stands in the room, whole.
+-- The verdict on the certificate has this number, and the buffer holds its whole line.
 pub record IsJudged (correct : Correct) (text certificate old new : List ℕ) (size answer : ℕ) : Type 0 where
   pub verdict : Verdict
   pub exact : OfTrace (IsVerdictOn correct None certificate verdict) text
@@ -61,7 +61,7 @@ pub record IsLineTooLong (correct : Correct) (text certificate : List ℕ) (room
   pub sized : size ≡ length (told_verdict verdict)
   pub more : room < size
 
--- The certificate stands for no rows; the room holds its first refusal in words.
+-- The certificate encodes no rows; the buffer holds its first refusal in words.
 pub record IsCertificateRefused (correct : Correct) (text certificate old new : List ℕ) (size : ℕ) : Type 0 where
   pub reason : ReportError
   pub first : OfTrace (IsUncertified correct None certificate reason) text

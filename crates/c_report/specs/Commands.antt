@@ -46,13 +46,13 @@ abbrev pub fault_of_line : LineError → Fault
 fault_of_line (unread.Refused words) = fault.Command words
 fault_of_line unread.Memory = fault.Memory
 
--- a refusal in these words; or there was no memory for them
+-- a refusal in these words, or out of memory for them
 abbrev pub IsSaid : List ℕ → Fault → Type 0
 IsSaid words (fault.Command told) = string_bytes told ≡ words
 IsSaid words fault.Memory = ⊤
 IsSaid words _ = ⊥
 
--- why the lines give no job: they are no text, or the words in them are refused; or want of memory
+-- why the lines give no job: they are no text, or the words in them are refused; or out of memory
 abbrev pub IsRefusedLine : List ℕ → Fault → Type 0
 IsRefusedLine lines (fault.Command told) = (¬ IsUtf8 lines) ⊎ IsRefusalOf (words_in lines) (unread.Refused told)
 IsRefusedLine lines fault.Memory = ⊤
@@ -62,7 +62,7 @@ IsRefusedLine lines _ = ⊥
 abbrev pub lent : List ℕ
 lent = codes "-"
 
--- what is said of a file of another name, and of a run
+-- what is printed about a file of another name, and about a run
 abbrev pub other_file_words : List ℕ
 other_file_words = codes "synchrony: the library reads the file - alone"
 
@@ -104,7 +104,7 @@ pub record IsJudgementPrinted (file : List ℕ) (Judges : Judgement → List ℕ
   pub status_is : status ≡ status_of_judgement verdict
   pub written : out ≡ text
 
--- the texts tell these options of a log
+-- the texts encode these options of a log
 abbrev pub AreImportOptions : ImportOptions → Options → Type 0
 AreImportOptions given o = AreOptions (option_map string_bytes given.nodes) (option_map string_bytes given.unit) (option_map string_bytes given.tick) (option_map string_bytes given.until) (option_map string_bytes given.idle) given.spread given.align given.drop_lost o
 
@@ -175,23 +175,23 @@ pub record IsUnprinted (lines text second : List ℕ) (w : Fault) : Type 0 where
   pub asked : IsJobOf (words_in lines) job
   pub cause : IsUnprintedFor job text second w
 
--- The line of a fault is told, with its status.
+-- The line of a fault is printed, with its status.
 pub record IsTold (fault : Fault) (status : ℕ) (out : List ℕ) : Type 0 where
   pub status_is : status ≡ status_of fault
   pub line : out ≡ ended_line (fault_line fault)
 
--- The lines give no job, or nothing is printed for theirs: this fault is told.
+-- The lines give no job, or nothing is printed for theirs: this fault is reported.
 pub record HasTold (lines text second : List ℕ) (status : ℕ) (out : List ℕ) : Type 0 where
   pub fault : Fault
   pub cause : IsRefusedLine lines fault ⊎ IsUnprinted lines text second fault
   pub told : IsTold fault status out
 
--- what the lines are answered, and with which status; want of memory is no answer
+-- what the lines are answered, and with which status; out of memory is no answer
 pub record IsAnswerFor (lines text second : List ℕ) (status : ℕ) (out : List ℕ) : Type 0 where
   pub there : status ≢ NO_MEMORY
   pub exact : HasPrinted lines text second status out ⊎ HasTold lines text second status out
 
--- The answer has this number, and stands in the room, whole.
+-- The answer has this number, and the buffer holds all of it.
 pub record IsAnswered (lines text second old new : List ℕ) (size status : ℕ) : Type 0 where
   pub out : List ℕ
   pub exact : IsAnswerFor lines text second status out

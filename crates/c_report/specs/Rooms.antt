@@ -1,4 +1,4 @@
--- What stands in the room that a caller brings.
+-- What the buffer of a caller holds.
 use Rattle.std.specs.Prelude.{ℕ, List, ◌++◌, length, take, drop}
 
 -- the room with these bytes in place of its first ones, as far as they fit

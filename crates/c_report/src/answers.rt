@@ -6,19 +6,19 @@ ghost use Rattle.c_report.specs.CorrectMasks.{correct_of};
 
 use step_trace::{Correct, ProcSet};
 
-/// The report stands in the caller's room.
+/// The report is in the caller's buffer.
 pub const DONE: u32 = 0;
-/// The rows are the certificate of the trace; the line that says so stands in the caller's room.
+/// The rows are the certificate of the trace; the line that says so is in the caller's buffer.
 pub const YES: u32 = 0;
-/// The rows are no certificate; the line that says why stands in the caller's room.
+/// The rows are no certificate; the line that says why is in the caller's buffer.
 pub const NO: u32 = 1;
 /// The set has a member that the trace hasn't.
 pub const BAD_SET: u32 = 2;
-/// The trace text stands for no trace; why stands in the caller's room, as far as it fits.
+/// The trace text encodes no trace; the caller's buffer has the reason, as far as it fits.
 pub const BAD_TRACE: u32 = 3;
-/// The certificate stands for no rows; why stands in the caller's room, as far as it fits.
+/// The certificate encodes no rows; the caller's buffer has the reason, as far as it fits.
 pub const BAD_CERTIFICATE: u32 = 4;
-/// There was no memory.
+/// Out of memory.
 pub const NO_MEMORY: u32 = 5;
 /// The answer is longer than the caller's room. No exit status of the program is the same.
 pub const NO_ROOM: u32 = 9;

@@ -19,16 +19,15 @@ use std::alloc::{AllocError, Global};
 use text_commands::verdict_on;
 use text_verdicts::{verdict_status, verdict_text};
 
-/// Checks a certificate against a trace text: `YES` where its rows are the trace's report, `NO` where they aren't. The
-/// line of the verdict, with its line feed, is written over the first bytes of `out`, and its length in bytes into
-/// `size`. Processor p counts as correct if bit p - 1 of `correct` is set; all of the trace do if `correct` is `ALL`. What
-/// stands behind the line in `out` is as before.
+/// Checks a certificate against a trace text: `YES` if its rows are the trace's report, `NO` if they aren't. The line
+/// of the verdict, with its line feed, is written over the first bytes of `out`, its length in bytes into `size`.
+/// Processor p counts as correct if bit p - 1 of `correct` is set; all of the trace do if `correct` is `ALL`.
 ///
-/// Refuses, in this order: `BAD_TRACE` for a text that stands for no trace; `BAD_SET` where a member of the set is above
-/// the trace's number of processors; `BAD_CERTIFICATE` for a certificate that stands for no rows; `NO_ROOM` where the
-/// line is longer than `out`, and then its length stands in `size`. With a text that is refused, the words for its
-/// first refusal stand in `out` as far as they fit, and their whole length in `size`. `NO_MEMORY` may come instead of
-/// any. What isn't said to be written is as before.
+/// Refuses, in this order: `BAD_TRACE` for a text that encodes no trace; `BAD_SET` if a member of the set is above the
+/// trace's number of processors; `BAD_CERTIFICATE` for a certificate that encodes no rows; `NO_ROOM` if the line is
+/// longer than `out`, with its length in `size`. For a refused text, `out` has the words for its first refusal as far
+/// as they fit, `size` their whole length. `NO_MEMORY` may come instead of any. Nothing else is written: the rest of
+/// `out` is unchanged.
 #[unsafe(no_mangle)]
 pub extern "C" fn synchrony_check(
     alloc: Global,
@@ -62,7 +61,7 @@ pub extern "C" fn synchrony_check(
     }
 }
 
-/// Tells a verdict.
+/// Writes the line of a verdict.
 fn tell_verdict(alloc: Global, verdict: Verdict, out: &mut [u8], size: &mut usize) -> u32
     ensures told { result ≢ NO_ROOM → result ≢ NO_MEMORY → IsToldOf (told_verdict verdict) out.old out.new size.new }
     ensures fits { result ≢ NO_ROOM → result ≢ NO_MEMORY → length (told_verdict verdict) ≤ length out.old }
@@ -85,7 +84,7 @@ fn tell_verdict(alloc: Global, verdict: Verdict, out: &mut [u8], size: &mut usiz
     }
 }
 
-/// Tells why a certificate is refused.
+/// Writes why a certificate is refused.
 fn tell_certificate(alloc: Global, why: &ReportError, out: &mut [u8], size: &mut usize) -> u32
     ensures told { result ≡ BAD_CERTIFICATE → IsToldOf (report_error_text why.now) out.old out.new size.new }
     ensures memory { result ≢ BAD_CERTIFICATE → result ≡ NO_MEMORY }

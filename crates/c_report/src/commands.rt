@@ -10,15 +10,15 @@ use crate::words::job_of;
 use command_faults::{Fault, status, told_line};
 use std::alloc::{AllocError, Global};
 
-/// Does what the words of a command line ask for, with texts in place of its files, and writes what the program prints over
-/// the first bytes of `out`, and its length in bytes into `size`. `words` has the words after the program's name, with a line
-/// feed between each two. `text` is the text of the file `-`; `second`, in a check alone, that of the certificate, whatever
-/// name the words have for it. What stands behind the answer in `out` is as before.
+/// Does what the words of a command line ask for, with texts in place of its files. Writes what the program prints over
+/// the first bytes of `out`, and its length in bytes into `size`. `words` has the words after the program's name, with
+/// a line feed between each two. `text` is the text of the file `-`; `second`, in a check alone, that of the
+/// certificate, under any name.
 ///
-/// Answers the exit status that the program has. With 0 and 1 its standard output is written, but not the notes of an import;
-/// with another number its standard error. Two things are refused that the program does, both with status 2: `run`, and a file
-/// of another name than `-`. `NO_ROOM` if the answer is longer than `out`, and then its length stands in `size`;
-/// `NO_MEMORY` may come instead of any. What isn't said to be written is as before.
+/// Answers the exit status that the program has. With 0 and 1 its standard output is written, but not the notes of an
+/// import; with another number its standard error. Two things are refused that the program does, both with status 2:
+/// `run`, and a file of another name than `-`. `NO_ROOM` if the answer is longer than `out`, with its length in `size`;
+/// `NO_MEMORY` may come instead of any. Nothing else is written: the rest of `out` is unchanged.
 #[unsafe(no_mangle)]
 pub extern "C" fn synchrony_answer(
     alloc: Global,
@@ -70,7 +70,7 @@ fn printed(alloc: Global, words: &[u8], text: &[u8], second: &[u8]) -> Result<Pr
     printed_for(alloc, job, text, second)
 }
 
-/// The line of a fault, with its status. Where the fault is want of memory there is no line.
+/// The line of a fault, with its status. There is no line if the fault is out of memory.
 fn told(alloc: Global, fault: &Fault) -> Result<Printed, AllocError>
     ensures { IfOk result (λ p. IsTold fault.now p.status p.text.items) }
 {

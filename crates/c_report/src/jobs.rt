@@ -138,7 +138,7 @@ fn import(alloc: Global, job: &ImportJob, text: &[u8]) -> Result<Printed, Fault>
     Ok(well(imported(alloc, &job.options, text)?))
 }
 
-/// What is printed of a log. Nothing is told of how the log was read.
+/// What is printed of a log, without notes on how it was read.
 fn imported(alloc: Global, given: &ImportOptions, text: &[u8]) -> Result<Vec<u8>, Fault>
     ensures imported { IfOk result (λ out. IsImportFor given.now text.now out.items) }
     ensures refused { IfErr result (IsUnimportedFor given.now text.now) }

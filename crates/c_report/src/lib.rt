@@ -1,6 +1,6 @@
-//! The commands for C, and for whatever calls C: the report of a trace text, the verdict on a certificate's text, and
-//! every command from text to text by the words of a command line. Each export is a function of its arguments: no thread,
-//! no device, and nothing kept between two calls but what the caller's heap keeps.
+//! The commands for C and for callers of C: the report of a trace text, the verdict on a certificate's text, and every
+//! command from text to text by the words of a command line. Each export is a function of its arguments. It uses no
+//! thread and no device, and keeps nothing between calls but the caller's heap.
 #![tactic(auto)]
 
 mod answers;

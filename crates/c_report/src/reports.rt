@@ -14,13 +14,12 @@ use text_commands::answer_to;
 use trace_text::TextError;
 
 /// Writes the report of a trace text over the first bytes of `out`, and its length in bytes into `size`. Processor p
-/// counts as correct if bit p - 1 of `correct` is set; all of the trace do if `correct` is `ALL`. What stands behind the
-/// report in `out` is as before.
+/// counts as correct if bit p - 1 of `correct` is set; all of the trace do if `correct` is `ALL`.
 ///
-/// Refuses, in this order: `BAD_TRACE` for a text that stands for no trace, and then the words for its first refusal
-/// stand in `out` as far as they fit, and their whole length in `size`; `BAD_SET` where a member of the set is above the
-/// trace's number of processors; `NO_ROOM` where the report is longer than `out`, and then its length stands in `size`.
-/// `NO_MEMORY` may come instead of any. What isn't said to be written is as before.
+/// Refuses, in this order: `BAD_TRACE` for a text that encodes no trace, with the words for its first refusal in `out`
+/// as far as they fit, and their whole length in `size`; `BAD_SET` if a member of the set is above the trace's number
+/// of processors; `NO_ROOM` if the report is longer than `out`, with its length in `size`. `NO_MEMORY` may come instead
+/// of any. Nothing else is written: the rest of `out` is unchanged.
 #[unsafe(no_mangle)]
 pub extern "C" fn synchrony_report(
     alloc: Global,
@@ -57,7 +56,7 @@ pub extern "C" fn synchrony_report(
     }
 }
 
-/// Tells why a trace text is refused.
+/// Writes why a trace text is refused.
 pub(crate) fn tell_trace(alloc: Global, why: &TextError, out: &mut [u8], size: &mut usize) -> u32
     ensures told { result ≡ BAD_TRACE → IsToldOf (text_error_text why.now) out.old out.new size.new }
     ensures memory { result ≢ BAD_TRACE → result ≡ NO_MEMORY }

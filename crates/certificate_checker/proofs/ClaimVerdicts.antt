@@ -38,13 +38,13 @@ record RiseFromOne (rows : List Row) : Type 0 where
   begin : BeginAtOne rows
   rising : (k : ℕ) → ¬ IsNotRising rows k
 
--- the reason stands, and none comes before it
+-- the reason holds, and none comes before it
 abbrev IsSettled : List Row → Reason → Type 0
 IsSettled rows FirstNotOne = (a : HasRow rows 1) × (a.row.gst ≢ 1)
 IsSettled rows (NotRising k) = BeginAtOne rows × IsFirst (IsNotRising rows) (Some k)
 IsSettled rows why = ⊥
 
--- what is kept of rows tells this of them
+-- what is kept of rows describes them
 abbrev Tells : ℕ → ClaimedRows → List Row → Type 0
 Tells last (InOrder kept) rows = (kept ≡ rows) × RiseFromOne rows × ((k : ℕ) → ¬ IsBeyond last rows k)
 Tells last (Beyond first count gst) rows = (count ≡ length rows) × (1 ≤ count) × (gst ≡ last_gst rows) × RiseFromOne rows × IsFirst (IsBeyond last rows) (Some first)
@@ -214,7 +214,7 @@ fallen-one rows new h e = λ one. (let other : (new.gst == 1) ≡ false = rw e a
 fallen-above : (rows : List Row) (new : Row) → risen rows new ≡ false → 0 < length rows → new.gst ≤ last_gst rows
 fallen-above rows new h some = let other : (length rows == 0) ≡ false = grind (arith, nat_tests) in let above = rw other at h in grind (arith, nat_tests)
 
--- what is kept of rows in order with one more tells of them
+-- what is kept of rows in order describes them with one more
 in_order-on : (last : ℕ) (rows : List Row) (new : Row) → RiseFromOne rows → ((k : ℕ) → ¬ IsBeyond last rows k) → Tells last (next_in_order last rows new) (rows ++ new ∷ [])
 in_order-on last rows new rise none = go (length rows == 0) refl (risen rows new) refl (nat_le new.gst last) refl where
   go : (z : Bool) → (length rows == 0) ≡ z → (u : Bool) → risen rows new ≡ u → (w : Bool) → nat_le new.gst last ≡ w

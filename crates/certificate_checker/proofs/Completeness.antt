@@ -1,4 +1,4 @@
--- No reason stands against the report.
+-- No reason holds against the report.
 use Rattle.std.proofs.Common.{ℕ, ◌≡◌, ◌+◌, ◌-◌, ◌≤◌, ◌⊎◌, inl, inr, List, Option, Some, None, arith}
 use Rattle.std.proofs.lemmas.Bool.{cases_lt}
 use Rattle.step_trace.specs.declared.rows.Miss.{Miss}
@@ -65,7 +65,7 @@ ShowsPhi-report set trace rows k r report here =
     let row = report.sound r (Contains-row_at rows k r here) in
     rw after (ShowsPhi-named set trace r.gst h r.phi r.gap row.front.feasible.start serves.from least.phi row.gap)
 
--- no reason stands against the report
+-- no reason holds against the report
 pub IsUnopposed-report : (set : ℕ) (trace : Recorded) (rows : List Row) → IsReport set trace rows → (w : Reason) → ¬ Stands set trace rows w
 IsUnopposed-report set trace rows report = IsUnopposed-front set trace rows (AreTheFront-report set trace rows report)
     (λ k r here. ShowsDelta-report set trace rows k r report here) (λ k r here. ShowsPhi-report set trace rows k r report here)

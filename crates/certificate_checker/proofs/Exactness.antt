@@ -1,4 +1,4 @@
--- Rows against which nothing stands are the certificates that name nothing beside the bound 1.
+-- Rows that no reason refutes are the certificates that name nothing beside the bound 1.
 use Rattle.std.proofs.Common.{ℕ, ◌≡◌, ◌+◌, ◌-◌, ◌<◌, inl, inr, List, Option, Some, None, refl, arith}
 use Rattle.std.proofs.lemmas.Bool.{cases_lt, cases_eq}
 use Rattle.step_trace.specs.declared.rows.Miss.{Miss}
@@ -25,7 +25,7 @@ ShowsPhi-at_one : (set : ℕ) (trace : Recorded) (after f : ℕ) (o : Option Gap
 ShowsPhi-at_one set trace after f None s e = refl
 ShowsPhi-at_one set trace after f (Some w) s e = absurd (let l = s.0 in omega (arith, l, e))
 
--- where nothing stands against the rows, they name nothing beside 1
+-- rows that no reason refutes name nothing beside 1
 pub NamesNothingBesideOne-unopposed : (set : ℕ) (trace : Recorded) (rows : List Row) → ((w : Reason) → ¬ Stands set trace rows w) → NamesNothingBesideOne rows
 NamesNothingBesideOne-unopposed set trace rows nothing = record {
   miss = λ r c one.
@@ -90,7 +90,7 @@ ShowsPhi-certified set trace rows k r certified sparing here =
           rw (named, after) (ShowsPhi-refuting set trace h r.phi w (omega (arith, positive, more)) least refutes))
     ]
 
--- no reason stands against a certificate that names nothing beside 1
+-- no reason holds against a certificate that names nothing beside 1
 pub IsUnopposed-certified : (set : ℕ) (trace : Recorded) (rows : List Row) → Certifies set trace rows → NamesNothingBesideOne rows → (w : Reason) → ¬ Stands set trace rows w
 IsUnopposed-certified set trace rows certified sparing = IsUnopposed-front set trace rows (AreTheFront-certified set trace rows certified)
     (λ k r here. ShowsDelta-certified set trace rows k r certified sparing here) (λ k r here. ShowsPhi-certified set trace rows k r certified sparing here)

@@ -1,4 +1,4 @@
--- Rows of which a bound doesn't hold, gone over from the last one back.
+-- Rows of which a bound doesn't hold, scanned from the last one back.
 use Rattle.std.proofs.Common.{ℕ, ◌≡◌, ◌+◌, ◌<◌, ◌≤◌, inl, inr, List, length, get_or, Option, Some, None, ap, subst, arith}
 use Rattle.std.proofs.lemmas.Bool.{cases_eq, cases_lt}
 use Rattle.step_trace.specs.declared.rows.Miss.{Miss}
@@ -48,7 +48,7 @@ found_all P (Some f) positive h = (h.1, λ j x p. h.2 j x (positive j x p) p)
 pub AreFrom-earlier : (t : Recorded) (done g h : ℕ) → g ≤ h → AreFrom t done h → AreFrom t done g
 AreFrom-earlier t done g h l a k x e b = let c = a k x e b in omega (arith, c, l)
 
--- the stabilization time of a row that was gone over is at most the next one's
+-- the stabilization time of a scanned row is at most the next one's
 pub gst_below : (rows : List Row) (last i j : ℕ) (r : Row) → AreInOrder rows last → i < length rows → j ≤ i → row_at rows j ≡ Some r → r.gst ≤ (get_or rows i no_row).gst
 gst_below rows last i j r order inside l e = let above = order.rising j (i + 1) r (get_or rows i no_row) (omega (arith, l)) e (row_at_next rows i no_row inside) in omega (arith, above)
 
@@ -81,7 +81,7 @@ delta_fails set t rows i done w inside l above below long =
       },
     )
 
--- where there is no miss from there on the row stands
+-- if there is no miss from there on, the row holds
 pub delta_stands_none : (set : ℕ) (t : Recorded) (rows : List Row) (i done : ℕ) → HasNoMissAfter set t done → AreBefore t done (get_or rows i no_row).gst → (m : Miss) → ¬ Stands set t rows (DeltaFails (i + 1) m)
 delta_stands_none set t rows i done none below m s =
     let same = ap (λ (r : Row). r.gst) (row_at_same rows i s.0.row no_row s.0.here) in

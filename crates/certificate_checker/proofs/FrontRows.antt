@@ -128,8 +128,8 @@ follows : (set : ℕ) (trace : Recorded) (rows : List Row) (k : ℕ) (a : HasTwo
 follows set trace rows zero a are = absurd (none-some a.row a.here)
 follows set trace rows (suc k) a are = let e : suc k - 1 ≡ k = omega arith in later_above rows k (suc k) a.before a.row are.rising (rw e at a.there) a.here (omega arith)
 
--- no reason stands against the rows of the front whose witnesses show, all over each stretch, that no smaller positive
--- bounds hold
+-- no reason holds against the rows of the front if their witnesses show, all over each stretch, that no smaller
+-- positive bounds hold
 pub IsUnopposed-front : (set : ℕ) (trace : Recorded) (rows : List Row) → AreTheFront set trace rows
     → ((k : ℕ) (r : Row) → row_at rows k ≡ Some r → ShowsDelta set trace (after_stretch rows trace.last k) r.delta r.miss)
     → ((k : ℕ) (r : Row) → row_at rows k ≡ Some r → ShowsPhi set trace (after_stretch rows trace.last k) r.phi r.gap)

@@ -18,7 +18,8 @@ use Rattle.certificate_checker.proofs.LongestOrNone.{IsLongestMiss-unique, IsLon
 one_row : (rows : List Row) (j k : ℕ) (a : HasRow rows j) (b : HasRow rows k) → j ≡ k → a.row ≡ b.row
 one_row rows j k a b e = same_Some a.row b.row (sym a.here ∙ ap (row_at rows) e ∙ b.here)
 
--- reasons that stand against the same rows, in the same place of the list of reasons and of the same row, are one
+-- two reasons that hold against the same rows, with the same place in the list of reasons and the same row, are
+-- one
 one_reason : (set : ℕ) (trace : Recorded) (rows : List Row) (w v : Reason) → IsTimed trace → Stands set trace rows w → Stands set trace rows v → place_of w ≡ place_of v → row_of w ≡ row_of v → w ≡ v
 one_reason set trace rows NoRows NoRows time a b p k = refl
 one_reason set trace rows FirstNotOne FirstNotOne time a b p k = refl

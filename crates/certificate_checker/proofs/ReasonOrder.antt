@@ -1,4 +1,4 @@
--- The first reason that stands, put together from the searches for each kind of reason.
+-- The first reason that holds, put together from the searches for each kind of reason.
 use Rattle.std.proofs.Common.{ℕ, Bool, true, false, ◌==◌, ◌≡◌, ◌+◌, ◌<◌, ◌≤◌, inl, inr, List, length, get_or, ◌-◌, Option, Some, None, refl, ap, subst, ◌∙◌, suc, zero, arith}
 use Rattle.std.proofs.lemmas.Bool.{cases_lt, cases_eq}
 use Rattle.step_trace.specs.declared.rows.Miss.{Miss}
@@ -13,7 +13,7 @@ use Rattle.certificate_checker.specs.Verdicts.{Stands, place_of, row_of, IsVerdi
 use Rattle.certificate_checker.specs.Searches.{IsFirstReason, AreInOrder}
 use Rattle.certificate_checker.proofs.RowSearches.{no_row, row_at_within, row_at_next, row_at_same}
 
--- where none of the first kinds stands, the first of the next kinds is the first of all
+-- if none of the first kinds holds, the first of the next kinds is the first of all
 pub first_after : (set : ℕ) (t : Recorded) (rows : List Row) (low middle next high : ℕ) (o : Option Reason) → next ≡ middle + 1 → IsFirstReason set t rows low middle None → IsFirstReason set t rows next high o
     → IsFirstReason set t rows low high o
 first_after set t rows low middle next high None e none later = λ w a b s. elim (cases_lt middle (place_of w)) [
@@ -75,7 +75,7 @@ at_place P (BadGap k) h = h k
 at_place P (DeltaFails k x) h = h k x
 at_place P (PhiFails k x) h = h k x
 
--- no reason with this place stands
+-- no reason with this place holds
 pub none_in : (set : ℕ) (t : Recorded) (rows : List Row) (i : ℕ) → AtPlace (λ o. ¬ Stands set t rows o) i → IsFirstReason set t rows i i None
 none_in set t rows i none o low high s =
     let e : i ≡ place_of o = omega (arith, low, high) in
@@ -92,7 +92,7 @@ first_in set t rows w s least = (
   ],
 )
 
--- where none of the first six kinds stands the rows are in order
+-- if none of the first six kinds holds, the rows are in order
 rising_next : (set : ℕ) (t : Recorded) (rows : List Row) → IsFirstReason set t rows 1 6 None → (k : ℕ) (a b : Row) → row_at rows k ≡ Some a → row_at rows (k + 1) ≡ Some b → a.gst < b.gst
 rising_next set t rows none k a b p q = elim (cases_lt a.gst b.gst) [
   | inl l ↦ l

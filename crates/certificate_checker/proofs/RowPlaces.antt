@@ -18,7 +18,7 @@ Contains-row_at rows (suc k) r e = Contains-slice_get rows k r e
 pub row_at-from_Contains : (rows : List Row) (r : Row) → Contains rows r → (k : ℕ) × (row_at rows k ≡ Some r)
 row_at-from_Contains rows r c = (suc c.0, slice_get-get_or rows c.0 r c.1 ∙ ap (λ (x : Row). Some x) c.2)
 
--- before a row with a number above 1 stands another
+-- another row comes before a row with a number above 1
 pub row_before : (rows : List Row) (k : ℕ) (r : Row) → row_at rows (suc (suc k)) ≡ Some r → (b : Row) × (row_at rows (suc k) ≡ Some b)
 row_before rows k r e =
     let within = slice_get_within rows (suc k) r e in

@@ -1,4 +1,4 @@
--- What stands beside a bound: whether it shows that no smaller positive bound holds is decided, and it does show it.
+-- Whether the witness beside a bound shows that no smaller positive bound holds: this is decided, and it does.
 use Rattle.std.proofs.Common.{ℕ, ◌≡◌, ◌+◌, ◌<◌, ◌≤◌, ◌⊎◌, inl, inr, Option, Some, None, refl, arith}
 use Rattle.std.proofs.lemmas.Bool.{cases_lt, cases_eq}
 use Rattle.step_trace.specs.declared.rows.Miss.{Miss}

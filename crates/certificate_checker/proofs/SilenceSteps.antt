@@ -1,4 +1,4 @@
--- The ticks of the steps of a processor, as the steps are gone over.
+-- The ticks of the steps of a processor, as the steps are scanned.
 use Rattle.std.proofs.Common.{ℕ, ◌≡◌, ◌≢◌, ◌+◌, ◌-◌, ◌<◌, ◌≤◌, inl, inr, List, [], ◌∷◌, ◌++◌, IsTrue, length, get_or, set, refl, ap, sym, subst, ◌∙◌, arith, get_or-set_same, get_or-set_other}
 use Rattle.std.specs.Prelude.{All, Contains}
 use Rattle.std.specs.List.Sorted.{IsNonDecreasing}
@@ -58,7 +58,7 @@ KnowsSilence-own t p number tick old new time own at more k = record {
 step_unique : (steps : List Step) (x p q : ℕ) → IsStepOf steps x p → IsStepOf steps x q → p ≡ q
 step_unique steps x p q g h = ap (λ (z : Step). z.proc) (same_step steps x _ _ g.1 h.1)
 
--- over a step of q another silence stands in its place, and the others are as before
+-- over a step of q another silence takes its place, and the others are unchanged
 pub KnowsSilences-note : (members : ℕ) (t : Recorded) (number q : ℕ) (old : List Silence) (now : Silence) → IsStepOf t.steps number q → KnowsSilence t q (number + 1) now → KnowsSilences members t number old
     → KnowsSilences members t (number + 1) (set old q now)
 KnowsSilences-note members t number q old now own known k = record {

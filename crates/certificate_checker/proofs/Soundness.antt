@@ -1,4 +1,4 @@
--- Rows against which no reason stands certify themselves.
+-- Rows against which no reason holds certify themselves.
 use Rattle.std.proofs.Common.{ℕ, ◌≡◌, ◌-◌, ◌<◌, ◌≤◌, inl, inr, List, [], ◌∷◌, map, Contains, Some, refl, subst, suc, zero, arith}
 use Rattle.std.proofs.lemmas.Bool.{cases_lt, cases_eq}
 use Rattle.std.proofs.lemmas.Option.{none-some}
@@ -18,7 +18,7 @@ use Rattle.certificate_checker.proofs.RowPlaces.{Contains-row_at, row_at-from_Co
 use Rattle.certificate_checker.proofs.Stretches.{AreInOrder, begins_within, serving_row, serves_before}
 use Rattle.certificate_checker.proofs.ShownBounds.{ShowsDelta-or_not, ShowsPhi-or_not, ShowsDelta-positive, ShowsPhi-positive, ShowsDelta-refutes, ShowsPhi-refutes, IsDelta-shown, IsPhi-shown}
 
--- nothing stands against the rows
+-- no reason holds against the rows
 abbrev IsUnopposed : ℕ → Recorded → List Row → Type 0
 IsUnopposed set trace rows = (w : Reason) → ¬ Stands set trace rows w
 
@@ -78,7 +78,7 @@ IsSupported-unopposed set trace rows k r nothing here = record {
   gap : ShowsPhi set trace (after_stretch rows trace.last k) r.phi r.gap
   gap = elim (ShowsPhi-or_not set trace (after_stretch rows trace.last k) r.phi r.gap) [ inl s ↦ s | inr n ↦ absurd (nothing (BadGap k) (row, n)) ]
 
--- from each tick that a row serves its bounds are the least
+-- from each tick that a row applies to, its bounds are the least
 delta_served : (set : ℕ) (trace : Recorded) (rows : List Row) (k : ℕ) (r : Row) (g : ℕ) → IsUnopposed set trace rows → Serves rows trace.last k r g → IsDelta set trace g r.delta
 delta_served set trace rows k r g nothing serves =
     let s = IsSupported-unopposed set trace rows k r nothing serves.row in
@@ -133,7 +133,7 @@ front_in_rows set trace rows t nothing front = find (serving_row rows trace.last
             (subst (IsPhi set trace r.gst) phi (phi_served set trace rows k r r.gst nothing own)))
       ]
 
--- rows against which nothing stands certify themselves
+-- rows against which no reason holds certify themselves
 pub Certifies-unopposed : (set : ℕ) (trace : Recorded) (rows : List Row) → IsUnopposed set trace rows → Certifies set trace rows
 Certifies-unopposed set trace rows nothing = record {
   rising = (AreInOrder-unopposed set trace rows nothing).rising;

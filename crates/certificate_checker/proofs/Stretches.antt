@@ -40,7 +40,7 @@ served_within rows last k r g order serves = elim (after_cases rows last k) [
   | inr (none, e) ↦ (let u = serves.until in omega (arith, u, e))
 ]
 
--- each tick of the trace has a row that serves it
+-- for each tick of the trace there is a row that applies
 pub serving_row : (rows : List Row) (last g : ℕ) → AreInOrder last rows → 1 ≤ g → g ≤ last → (k : ℕ) × (r : Row) × Serves rows last k r g
 serving_row rows last zero order start end = absurd (omega (arith, start))
 serving_row rows last (suc zero) order start end =

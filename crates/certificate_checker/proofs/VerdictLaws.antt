@@ -1,4 +1,4 @@
--- What a verdict says of rows, and of the report.
+-- What a verdict means for rows, and for the report.
 use Rattle.std.proofs.Common.{ℕ, ◌≡◌, List, refl, subst}
 use Rattle.step_trace.specs.declared.rows.Row.{Row}
 use Rattle.step_trace.specs.Traces.{Recorded}

@@ -19,21 +19,21 @@ row_at rows (suc k) = slice_get rows k
 abbrev pub after_stretch : List Row → ℕ → ℕ → ℕ
 after_stretch rows last k = option_map_or (λ r. r.gst) (row_at rows (suc k)) (last + 1)
 
--- row k, which is r, serves tick g: g lies in its stretch
+-- row k, which is r, applies to tick g: g is in its stretch
 pub record Serves (rows : List Row) (last k : ℕ) (r : Row) (g : ℕ) : Type 0 where
   pub row : row_at rows k ≡ Some r
   pub from : r.gst ≤ g
   pub until : g < after_stretch rows last k
 
--- What stands beside the communication bound d shows, from each tick before `after`, that no smaller positive
--- bound holds: nothing beside 1; else a miss that is one tick shorter than d, of a message sent in the tick before
+-- The witness beside the communication bound d shows, from each tick before `after`, that no smaller positive bound
+-- holds: nothing beside 1; else a miss that is one tick shorter than d, of a message sent in the tick before
 -- `after` or later.
 abbrev pub ShowsDelta : ℕ → Recorded → ℕ → ℕ → Option Miss → Type 0
 ShowsDelta set trace after d None = d ≡ 1
 ShowsDelta set trace after d (Some m) =
     (1 < d) × IsMiss set trace m × (tick_of trace m.sent + d ≡ tick_of trace m.missed + 1) × (after ≤ tick_of trace m.sent + 1)
 
--- what stands beside the processor bound f shows the same of it: a gap that is one tick shorter
+-- the witness beside the processor bound f shows the same of it: a gap that is one tick shorter
 abbrev pub ShowsPhi : ℕ → Recorded → ℕ → ℕ → Option Gap → Type 0
 ShowsPhi set trace after f None = f ≡ 1
 ShowsPhi set trace after f (Some w) =
@@ -57,7 +57,7 @@ pub record IsLongestGap (set : ℕ) (trace : Recorded) (g : ℕ) (w : Gap) : Typ
   pub least : (o : Gap) → IsGap set trace o → o.from ≡ w.from → o.to ≡ w.to → w.proc ≤ o.proc
 
 -- The rows certify themselves: their triples are the front, in rising stabilization time, and the witnesses of each
--- refute every smaller positive bound from every tick that it serves.
+-- refute every smaller positive bound from every tick that it applies to.
 pub record Certifies (set : ℕ) (trace : Recorded) (rows : List Row) : Type 0 where
   pub rising : IsStrictlyIncreasing (map (λ r. r.gst) rows)
   pub sound : (r : Row) → Contains rows r → IsOnFront set trace (triple_of r)

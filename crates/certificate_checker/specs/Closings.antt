@@ -39,7 +39,7 @@ pub record IsReached (trace : Recorded) (p : ℕ) (ends : List ℕ) (x : ℕ) : 
   pub low : start ≤ x
   pub far : x < next → next ≤ slice_index ends start
 
--- The ends of the silences of p that begin before tick `until` are put down where they begin, unless later ones stand
+-- The ends of the silences of p that begin before tick `until` are put down where they begin, unless later ones are
 -- there.
 pub record PutsEnds (trace : Recorded) (p until : ℕ) (old new : List ℕ) : Type 0 where
   pub long : length new ≡ length old
@@ -54,7 +54,7 @@ pub record KnowsEnds (set : ℕ) (trace : Recorded) (number : ℕ) (ends : List 
   pub silent : (x : ℕ) → x < slice_index ends x → HasSilent set trace x (slice_index ends x) × (slice_index ends x ≤ trace.last + 1)
   pub reach : (p : ℕ) → IsTrue (has_proc set p) → p < number → (x : ℕ) → x ≤ trace.last → IsReached trace p ends x
 
--- the tick stands in a place unless a later one stood there, and elsewhere what stood there before
+-- the place has the tick unless it had a later one, and all else is unchanged
 pub record IsRaised (place tick : ℕ) (old new : List ℕ) : Type 0 where
   pub long : length new ≡ length old
   pub here : place < length old → tick ≤ slice_index new place

@@ -1,4 +1,4 @@
--- Which Receives come before others, by the numbers of steps; 0 stands for none (own).
+-- Which Receives come before others, by the numbers of steps; 0 denotes none (own).
 use Rattle.std.specs.Prelude.{ℕ, ◌≡◌, ◌≢◌, ◌+◌, ◌<◌, ◌≤◌, ◌==◌, List, length, slice_index, if◌then◌else◌}
 use Rattle.std.specs.List.{list_any}
 use Rattle.step_trace.specs.declared.steps.Step.{Step}

@@ -21,7 +21,7 @@ pub record HasTwoRows (rows : List Row) (k : ℕ) : Type 0 where
   pub there : row_at rows (k - 1) ≡ Some before
   pub here : row_at rows k ≡ Some row
 
--- the reason stands against the rows
+-- the reason holds against the rows
 abbrev pub Stands : ℕ → Recorded → List Row → Reason → Type 0
 Stands set trace rows NoRows = (rows ≡ []) × (1 ≤ trace.last)
 Stands set trace rows FirstNotOne = (a : HasRow rows 1) × ¬ (a.row.gst ≡ 1)
@@ -64,7 +64,7 @@ row_of (PhiFails k w) = k
 abbrev pub IsNotAfter : Reason → Reason → Type 0
 IsNotAfter a b = (place_of a < place_of b) ⊎ ((place_of a ≡ place_of b) × (row_of a ≤ row_of b))
 
--- the verdict on rows: Yes where no reason stands against them, else the first that stands
+-- the verdict on rows: Yes if no reason holds against them, else the first that does
 abbrev pub IsVerdict : ℕ → Recorded → List Row → Verdict → Type 0
 IsVerdict set trace rows Yes = (w : Reason) → ¬ Stands set trace rows w
 IsVerdict set trace rows (No w) = Stands set trace rows w × ((o : Reason) → Stands set trace rows o → IsNotAfter w o)

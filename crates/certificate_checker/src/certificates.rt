@@ -16,15 +16,15 @@ use crate::verdicts::Verdict;
 use std::alloc::{AllocError, Global};
 use step_trace::{ProcSet, Row, Trace};
 
-/// Whether rows are a certificate of a trace where the members of a set count as correct, or the first reason
-/// against them, in the order of `Reason` and then by row. Asks that the set is within the processors.
+/// Whether rows are a certificate of a trace if the members of a set count as correct, or the first reason against
+/// them, in the order of `Reason` and then by row. Asks that the set is within the processors.
 ///
-/// Yes is said only of rows that certify themselves: they are the front, and their witnesses refute every smaller
-/// positive bound from every tick that they serve. It is said of the report.
+/// The answer is Yes only for rows that certify themselves: they are the front, and their witnesses refute every
+/// smaller positive bound from every tick that they apply to. It is Yes for the report.
 ///
-/// It takes time that grows with the steps, the ids, the ticks and the rows, and for each row with the logarithm of
-/// the number of steps; and memory that grows with the steps and the ticks. It fails only for want of memory, and
-/// only where there are rows against which none of the first six reasons stands.
+/// Time grows with the steps, the ids, the ticks and the rows, and for each row with the logarithm of the number of
+/// steps; memory grows with the steps and the ticks. Fails only if out of memory, and only if there are rows
+/// against which none of the first six reasons holds.
 pub fn check(
     alloc: Global,
     trace: &Trace,

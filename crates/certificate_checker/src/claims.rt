@@ -1,4 +1,4 @@
-//! The rows of a certificate as they are claimed one after the other: kept while they are in order.
+//! The rows of a certificate as they are claimed one by one: kept while they are in order.
 
 ghost use Rattle.std.specs.Prelude.{◌≡◌, ◌≤◌, ◌+◌, ◌^◌, ◌<◌, ◌⊎◌, [], true, ℕ, List, IfOk, OnErr, length};
 ghost use Rattle.step_trace.specs.declared.rows.Row.{Row};
@@ -144,8 +144,8 @@ fn beyond_with(first: u64, count: u64, gst: u64, row: Row) -> ClaimedRows
     ClaimedRows::Refuted { why, count }
 }
 
-/// What `check` says of all rows that were claimed of this trace. It fails only for want of memory, and only where
-/// the rows are in order and none of the first six reasons stands against them.
+/// What `check` answers for all rows that were claimed of this trace. Fails only if out of memory, and only if the
+/// rows are in order and none of the first six reasons holds against them.
 pub fn check_claimed(
     alloc: Global,
     trace: &Trace,

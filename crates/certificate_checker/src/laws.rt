@@ -10,12 +10,12 @@ ghost use Rattle.certificate_checker.specs.declared.verdicts.Verdict.TheVariants
 ghost use Rattle.certificate_checker.specs.Certificates.{Certifies, NamesNothingBesideOne};
 ghost use Rattle.certificate_checker.specs.Verdicts.{IsVerdict};
 
-/// The laws of the verdict. It is Yes only of rows that certify themselves: their triples are the front, and their
-/// witnesses show, from each tick that a row serves, that no smaller positive bound holds. It is Yes of the report,
-/// and of every other certificate that names nothing beside the bound 1. And rows have one verdict.
+/// The laws of the verdict. It is Yes only for rows that certify themselves: their triples are the front, and their
+/// witnesses show, from each tick that a row applies to, that no smaller positive bound holds. It is Yes for the
+/// report, and for every other certificate that names nothing beside the bound 1. And rows have one verdict.
 ///
-/// Theorems over the definitions: they stand in the contract and quantify over every set of processors, whatever
-/// steps were recorded (but for `one`, which is of traces) and every list of rows. Calling it does nothing.
+/// These are theorems over the definitions. The contract quantifies over every set of processors, all recorded
+/// steps (but `one` is about traces) and every list of rows. Calling it does nothing.
 pub fn certificate_laws()
     ensures sound { (set : ℕ) (trace : Recorded) (rows : List Row) → IsVerdict set trace rows Yes → Certifies set trace rows }
     ensures complete { (set : ℕ) (trace : Recorded) (rows : List Row) → IsReport set trace rows → IsVerdict set trace rows Yes }

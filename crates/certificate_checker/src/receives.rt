@@ -1,6 +1,6 @@
 //! The misses of a trace, by one pass over its Receives.
 //!
-//! Steps and processors are numbered from 1, and 0 stands for none.
+//! Steps and processors are numbered from 1, and 0 denotes none.
 
 ghost use Rattle.std.specs.Prelude.{◌≡◌, ◌-◌, ◌<◌, ◌≤◌, ◌↔◌, length, slice_index, All, IfOk, IsTrue, MatchOption};
 ghost use Rattle.step_trace.specs.declared.traces.TheConstants.{MAX_STEPS};
@@ -13,7 +13,7 @@ use crate::step_facts::step_of;
 use std::alloc::{AllocError, Global};
 use step_trace::{Act, Miss, ProcSet, Trace, is_receive_of, receiver};
 
-/// What stands for a message that no Receive takes: no step has this number.
+/// Denotes a message that no Receive takes: no step has this number.
 const UNTAKEN: u32 = 4_294_967_295;
 
 /// The last Receive that each message waits through.

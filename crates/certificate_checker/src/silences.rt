@@ -42,7 +42,7 @@ impl Silence {
         }
     }
 
-    /// Puts the end of each silence down in the tick in which it begins, unless a later one stands there.
+    /// Puts the end of each silence down in the tick in which it begins, unless a later one is there.
     pub(crate) fn put_ends(&self, trace: &Trace, ends: &mut Vec<u32>)
         requires { length ends.old.items ≡ trace.now.last + 1 }
         ensures { (p : ℕ) → IsSilence trace.now p self.now
@@ -58,7 +58,7 @@ impl Silence {
     }
 }
 
-/// Puts a tick down in a place, if it is one, unless a later one stands there.
+/// Puts a tick down in a place, if it is one, unless a later one is there.
 fn raise(ends: &mut Vec<u32>, place: u64, tick: u32)
     ensures { IsRaised place tick ends.old.items ends.new.items }
 {

@@ -1,4 +1,4 @@
-//! What is said of a list of rows.
+//! What is concluded about a list of rows.
 
 use step_trace::{Gap, Miss};
 
@@ -31,7 +31,7 @@ pub enum Reason {
     PhiFails(u64, Gap),
 }
 
-/// What a check says of rows: they are a certificate, or the first reason against them.
+/// The result of a check of rows: they are a certificate, or the first reason against them.
 #[derive(Clone, Copy, Debug, PartialEq, Eq)]
 pub enum Verdict {
     Yes,

@@ -136,7 +136,7 @@ last_kept t p i k (Some r) none h = record {
   ];
 }
 
--- a Receive of a member stands for it
+-- a Receive of a member is in the list for it
 pub last_more : (set : ℕ) (t : Recorded) (i k q : ℕ) (last : List (Option Place)) → IsTrue (has_proc set q) → IsReceiveOf t.steps (k + 1) q → i < tick_of t (k + 1) → AreLastBy set t i k last
     → AreLastBy set t i (k + 1) (set_at last q (Some (record { no = k + 1; tick = tick_of t (k + 1) })))
 last_more set t i k q last m r low a = record {

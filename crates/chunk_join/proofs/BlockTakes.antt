@@ -85,7 +85,7 @@ module _ (set : ℕ) (t : Recorded) (time : IsTimed t) (i k p : ℕ) (b : Option
         ]
       ])
 
--- once all its ids were gone over, the step counts as gone over
+-- once all its ids are scanned, the step counts as scanned
 any_takes_done : (set : ℕ) (t : Recorded) (i k p : ℕ) (ends : Bool) (all : List ℕ) (taken : List Take) → step_at t.steps (k + 1) ≡ Some (record { proc = p; act = Receive ends all }) → AreTakesBy set t i k all taken
     → AreTakesBy set t i (k + 1) [] taken
 any_takes_done set t i k p ends all taken step l = IsListing-same TakenBefore (IsAnyTakeBy set t i k all) (IsAnyTakeBy set t i (k + 1) []) taken

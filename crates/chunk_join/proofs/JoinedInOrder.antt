@@ -4,7 +4,7 @@ use Rattle.chunk_join.specs.declared.joins.Why.{Why}
 use Rattle.chunk_join.specs.declared.joins.Why.TheVariants.{NotAdjacent, OtherSet, Memory}
 use Rattle.chunk_join.specs.Joins.{JoinedLaws, AreParts, join_after, FitAfter, RefusesAfter, IsRefusal}
 
--- of fitting values no other reason is answered than want of memory
+-- values that fit are refused only if out of memory
 memory_only : (why : Why) (first : Option Why) → first ≡ None → IsRefusal why first → why ≡ Memory
 memory_only Memory first e h = refl
 memory_only NotAdjacent first e h = absurd (let d = sym e ∙ h in cc)
@@ -31,7 +31,7 @@ module _ {M W : Type 0} (IsPart : W → ℕ → ℕ → M → Type 0) (empty : M
   Memory-after why whole h i k all (x ∷ xs) p a (inl here) = memory_only why (refusal all x) (laws.fit whole h i a.0 all x p a.1) here
   Memory-after why whole h i k all (x ∷ xs) p a (inr later) = Memory-after why whole h a.0 k (joined all x) xs (laws.part whole h i a.0 all x p a.1) a.2 later.1
 
-  -- parts of one whole are refused for want of memory alone
+  -- parts of one whole are refused only if out of memory
   pub Memory-all : (why : Why) (whole : W) (i k : ℕ) (xs : List M) → Parts whole i xs k → Refuses why empty xs → why ≡ Memory
   Memory-all why whole i k [] a r = absurd r
   Memory-all why whole i k (x ∷ xs) a (inl here) = memory_only why (refusal empty x) (laws.left_fits x) here

@@ -1,4 +1,4 @@
--- The messages of a part that is a whole trace, gone over from the last one back: the misses of those so far.
+-- The messages of a part that is a whole trace, scanned from the last one back: the misses of those so far.
 use Rattle.std.proofs.Common.{ℕ, ◌≡◌, ◌+◌, ◌-◌, ◌<◌, ◌≤◌, inl, inr, List, length, get_or, Bool, true, false, Option, Some, None, Contains, zero, suc, refl, sym, ap, subst, ◌∙◌, arith, true≢false}
 use Rattle.std.specs.Prelude.{slice_get}
 use Rattle.std.proofs.lemmas.Bool.{cases_lt}
@@ -44,7 +44,7 @@ pub last_at-Contains : {X : Type 0} (xs : List X) (n : ℕ) (x : X) → last_at 
 last_at-Contains xs zero x h = absurd (none-some x h)
 last_at-Contains xs (suc n) x h = Contains-slice_get xs n x h
 
--- Whatever the miss, the level with it may stand before the one without.
+-- For any miss, the level with it may come before the one without.
 
 pub StandsBefore-with_miss : (level : Level) (m : Miss) (long : ℕ) → StandsBefore (with_miss level m long) level
 StandsBefore-with_miss level m long = record { delta = grind arith; phi = grind arith; miss = λ same. grind (arith, same); gap = λ same. grind arith }
@@ -191,7 +191,7 @@ fate_exists set t sound s q = go (is_taken t.steps s.no) refl where
       (Taken last.0, (taken.0, taken.1, (sound.time.inside taken.0 taken.1.0 taken.1.1).1, last.1))
   go false e = (Open, λ x takes. absurd (true≢false (sym (taken_from_at t.steps x s.no takes) ∙ e)))
 
--- where a message stands in the list
+-- where a message is in the list
 pub record IsListed (t : Recorded) (sent : List Message) (s : ℕ) : Type 0 where
   pub place : ℕ
   pub message : Message
@@ -289,7 +289,7 @@ HasMissesFrom-back part j m level at h = λ set t sound a.
             c.long,
           )
 
--- Before any message is gone over there is no miss.
+-- Before any message is scanned there is no miss.
 pub HasMissesFrom-all : (part : Summary) (level : Level) → level.delta ≡ 1 → level.miss ≡ None → HasMissesFrom part (length part.sent) level
 HasMissesFrom-all part level d o set t sound a = rw (d, o) (record {
   shorter = λ m i l. absurd (let c = a.missed m i in

@@ -11,7 +11,7 @@ use Rattle.chunk_join.specs.Laws.Listings.{Rises-map}
 use Rattle.chunk_join.specs.Laws.SentMessages.{settle_keeps_order}
 use Rattle.chunk_join.proofs.Places.{Rises-at, map_kept, map_at}
 
--- the order of places, as a test and as it is said
+-- the order of places, as a test and as a statement
 abbrev Earlier : Place → Place → Type 0
 Earlier a b = (a.tick < b.tick) ⊎ ((a.tick ≡ b.tick) × (a.no < b.no))
 
@@ -31,7 +31,7 @@ parted_by_place sent at r i j d l h e = elim (cases_eq i j) [
   | inr other ↦ comes_before-true _ at (earlier_trans _ _ at (Rises-at SentBefore sent i j d r (omega (arith, l, other)) h) (comes_before-says _ at e))
 ]
 
--- a message that isn't the one of a take is as it was
+-- a message that isn't the one of a take is unchanged
 kept : (last : List (Option Place)) (t : Take) (m : Message) → ((t.sent.no ≡ m.sent.no) × (t.sent.tick ≡ m.sent.tick) → ⊥) → settle_with last t m ≡ m
 kept last t m other = grind (arith, other)
 
@@ -41,7 +41,7 @@ earlier_other a b p e = grind (arith, p, e.0, e.1)
 later_other : (a b c : Place) → comes_before a b ≡ false → Earlier a c → (b.no ≡ c.no) × (b.tick ≡ c.tick) → ⊥
 later_other a b c n l e = grind (arith, n, l, e.0, e.1)
 
--- what stands before the place is another message
+-- what comes before the place is another message
 module _ (last : List (Option Place)) (t : Take) (sent : List Message) (at : ℕ) (rises : Rises SentBefore sent)
     (point : IsPartitionPoint (λ m. comes_before m.sent t.sent ≡ true) (λ m. comes_before m.sent t.sent ≡ false) sent at) where
   before_kept : (i : ℕ) (d : Message) → i < at → settle_with last t (get_or sent i d) ≡ get_or sent i d

@@ -34,7 +34,7 @@ pub record ShareTicks (t p : Recorded) (k : ℕ) : Type 0 where
 back : (t p : Recorded) (k : ℕ) → ShareTicks t p k → ShareTicks p t k
 back t p k a = record { forth = a.back; back = a.forth }
 
--- What is said of the steps of one is true of the other.
+-- What holds for the steps of one holds for the other.
 
 takes : (t p : Recorded) (k : ℕ) → ShareTicks t p k → (x s : ℕ) → TakesAt t.steps x s → tick_of t x ≤ k → TakesAt p.steps x s × (tick_of p x ≡ tick_of t x)
 takes t p k a x s h l = let f = a.forth x h.0 h.1 l in ((h.0, f.0, h.2), f.1)

@@ -1,4 +1,4 @@
--- The silences of a part that is a whole trace, gone over from the last one back: the longest gap from a tick on.
+-- The silences of a part that is a whole trace, scanned from the last one back: the longest gap from a tick on.
 use Rattle.std.proofs.Common.{ℕ, ◌≡◌, ◌+◌, ◌-◌, ◌<◌, ◌≤◌, ◌⊎◌, inl, inr, length, Option, Some, None, zero, suc, refl, sym, ap, subst, ◌∙◌, arith}
 use Rattle.std.specs.Prelude.{slice_get}
 use Rattle.std.proofs.lemmas.Bool.{cases_lt}
@@ -18,7 +18,7 @@ use Rattle.chunk_join.specs.Laws.SilencesJoined.{first_silent, last_silent}
 use Rattle.chunk_join.specs.Finishes.{last_at, with_silence, BeginAfter}
 use Rattle.chunk_join.proofs.MessagesBack.{slice-Contains, Rises-slices, last_at-Contains}
 
--- Whatever the silence, the level with it may stand before the one without.
+-- For any silence, the level with it may come before the one without.
 
 StandsBefore-with_gap : (level : Level) (p g until : ℕ) → StandsBefore (with_gap level p g until) level
 StandsBefore-with_gap level p g until = record { delta = grind arith; phi = grind arith; miss = λ same. grind arith; gap = λ same. grind (arith, same) }

@@ -16,7 +16,7 @@ use Rattle.chunk_join.specs.Finishes.{last_at, with_silence, SentFrom, BeginAfte
 use Rattle.chunk_join.proofs.MessagesBack.{StandsBefore-through, HasMissesFrom-all, KnowsMisses-from_left}
 use Rattle.chunk_join.proofs.SilencesBack.{StandsBefore-with_silence, GapsLowered-with_silence}
 
--- Before any tick is gone over there is no level.
+-- Before any tick is scanned there is no level.
 pub IsGoneOver-none : (part : Summary) (level : Level) → level.delta ≡ 1 → level.miss ≡ None → level.phi ≡ 1 → level.gap ≡ None → IsGoneOver part (part.to + 1) (length part.sent) (length part.silent) level []
 IsGoneOver-none part level d m f w = record {
   count = let e : 0 + (part.to + 1) ≡ part.to + 1 = omega arith in e;
@@ -33,8 +33,8 @@ IsGoneOver-none part level d m f w = record {
   };
 }
 
--- What is known once the messages and silences of tick g were gone over, but for the longest gap from g on: `old` is
--- the level of the next tick, and `mid` has the misses of the messages of g.
+-- What is known once the messages and silences of tick g are scanned, except the longest gap from g on: `old` is the
+-- level of the next tick, and `mid` has the misses of the messages of g.
 pub record IsTickRead (part : Summary) (g messages silences : ℕ) (old mid : Level) : Type 0 where
   pub start : 1 ≤ g
   pub messages_within : messages ≤ length part.sent
@@ -48,7 +48,7 @@ pub record IsTickRead (part : Summary) (g messages silences : ℕ) (old mid : Le
   pub silent : BeginAfter part.silent g silences
   pub begun : (w : Gap) → last_at part.silent silences ≡ Some w → w.from ≤ g
 
--- the level with the longest gap from the tick on may stand before those so far, and is the tick's
+-- the level with the longest gap from the tick on may come before those so far, and is the tick's
 pub record IsTickBack (part : Summary) (g messages silences : ℕ) (new : Level) (levels : List Level) : Type 0 where
   pub falling : CanStandBefore new levels
   pub known : IsGoneOver part g messages silences new (new ∷ levels)
@@ -91,7 +91,7 @@ IsTickBack-read part g m s n o old mid levels known read = record {
       let gaps : KnowsGaps set t (g + 1) mid.phi mid.gap = (let p = read.phi in let q = read.gap in rw (p, q) (known.ticks.gaps set t sound a)) in
       GapsLowered-with_silence set t part a o g mid read.start positive read.silences_within read.silent read.begun gaps
 
--- a silence that gives no longer gap leaves the level as it is
+-- a silence that gives no longer gap leaves the level unchanged
 with_silence-short : (level : Level) (g : ℕ) (o : Option Gap) → 1 ≤ level.phi → ((w : Gap) → o ≡ Some w → w.to + 1 < g + level.phi) → with_silence level g o ≡ level
 with_silence-short level g None positive h = refl
 with_silence-short level g (Some w) positive h = let short = h w refl in grind (arith, short, positive)

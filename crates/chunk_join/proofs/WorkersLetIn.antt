@@ -16,7 +16,7 @@ held_is_no_memory e = cc
 held_is_no_start : stopped.Held ≡ stopped.Start → ⊥
 held_is_no_start e = cc
 
--- what stands at a place
+-- what is at a place
 some_at : {X : Type 0} (xs : List X) (k : ℕ) → k < length xs → (x : X) × (slice_get xs k ≡ Some x)
 some_at [] k h = absurd (let no : ⊥ = omega (arith, h) in no)
 some_at (x ∷ xs) zero h = (x, refl)

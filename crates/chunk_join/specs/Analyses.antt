@@ -41,7 +41,7 @@ pub record IsHeldBack (lets : ℕ → Bool → Type 0) (workers : ℕ) : Type 0 
   pub high : worker ≤ workers
   pub held : lets worker false
 
--- whether the gate let a worker in that gave this: only one that was held back, it did not
+-- whether the gate let in a worker that gave this: all but one that was held back
 abbrev pub was_let_in : {T : Type 0} → Result T Stop → Bool
 was_let_in (Ok _) = true
 was_let_in (Err stopped.Held) = false
@@ -75,13 +75,13 @@ pub record IsOneHeld {T G : Type 0} (lets : G → ℕ → Bool → Type 0) (thre
   pub at : slice_get threads place ≡ Some thread
   pub held : IsAnswered lets thread false
 
--- how grave a cause is: of several the gravest is told
+-- how grave a cause is: of several the gravest is reported
 abbrev pub gravity : Stop → ℕ
 gravity stopped.Held = 3
 gravity stopped.Start = 2
 gravity stopped.Memory = 1
 
--- the error that tells of a cause
+-- the error that reports a cause
 abbrev pub error_of : Stop → AnalyseError
 error_of stopped.Held = unanalysed.Held
 error_of stopped.Start = unanalysed.Start

@@ -1,5 +1,5 @@
 -- What passes over the steps of a block of ticks have found so far (own). The block begins after cut i; a pass by
--- rising numbers has gone over the steps up to number k.
+-- rising numbers has scanned the steps up to number k.
 use Rattle.std.specs.Prelude.{ℕ, ◌≡◌, ◌+◌, ◌-◌, ◌<◌, ◌≤◌, ◌⊎◌, List, [], Option, Some, None, Contains, length, slice_index_or, IsTrue, false, Bool, find, map, ◌==◌, if◌then◌else◌}
 use Rattle.step_trace.specs.declared.processors.TheConstants.{MAX_MEMBER}
 use Rattle.step_trace.specs.declared.rows.Gap.{Gap}
@@ -101,7 +101,7 @@ abbrev pub IsMemberAt : ℕ → List Step → ℕ → Option ℕ → Type 0
 IsMemberAt set steps k None = (p : ℕ) → IsTrue (has_proc set p) → IsStepOf steps k p → ⊥
 IsMemberAt set steps k (Some p) = IsTrue (has_proc set p) × IsStepOf steps k p
 
--- Silences are gone over tick by tick, and within a tick from its last step back: done are the steps before tick x, and
+-- Silences are scanned tick by tick, and within a tick from its last step back: done are the steps before tick x, and
 -- of tick x those after number n.
 abbrev pub IsDone : Recorded → ℕ → ℕ → ℕ → Type 0
 IsDone trace x n k = (tick_of trace k < x) ⊎ ((tick_of trace k ≡ x) × (n < k))

@@ -63,8 +63,8 @@ IsDigestOf = IsPartBy IsDigest
 abbrev pub joined_digests : Option Summary → Option Summary → Option Summary
 joined_digests = joined_by (λ l r. digest (joined_parts l r))
 
--- What a digest keeps, said of the trace: of the messages that are sent in the part and of its longest silences those
--- that are undominated, and no others.
+-- What a digest keeps of the trace: of the messages sent in the part and of its longest silences, exactly the
+-- undominated ones.
 pub record HasUndominated (set : ℕ) (trace : Recorded) (i j : ℕ) (d : Summary) : Type 0 where
   pub sent : IsListing SentBefore (IsUndominated SentBefore is_open miss_long (IsSent set trace i j)) d.sent
   pub silent : IsListing EndsBefore (IsUndominated EndsBefore (reaches_edge (i + 1) j) gap_long (IsLongest set trace i j)) d.silent

@@ -1,5 +1,5 @@
--- The level of a tick from that of the next one, by what a summary keeps (own). A part's lists are gone over from the
--- back, so that there is a number of entries that are left.
+-- The level of a tick from that of the next one, by what a summary keeps (own). A part's lists are scanned from the
+-- back, with a number of entries left.
 use Rattle.std.specs.Prelude.{ℕ, ◌≡◌, ◌+◌, ◌-◌, ◌<◌, ◌≤◌, List, length, Option, Some, None, slice_get, suc, zero, if◌then◌else◌, nat_le}
 use Rattle.step_trace.specs.declared.rows.Gap.{Gap}
 use Rattle.step_trace.specs.Ticks.{IsTrace}
@@ -88,7 +88,7 @@ pub record IsQuietFrom (part : Summary) (g messages silences phi : ℕ) : Type 0
   pub begun : (w : Gap) → last_at part.silent silences ≡ Some w → w.from ≤ g
   pub short : (w : Gap) → last_at part.silent silences ≡ Some w → w.to + 1 < g + phi
 
--- what is known of a part whose ticks from g on were gone over, with so many messages and silences left
+-- what is known of a part whose ticks from g on are scanned, with so many messages and silences left
 pub record IsGoneOver (part : Summary) (g messages silences : ℕ) (level : Level) (levels : List Level) : Type 0 where
   pub count : length levels + g ≡ part.to + 1
   pub messages_within : messages ≤ length part.sent

@@ -1,5 +1,5 @@
--- Parts of a whole between two cuts, and what joining them keeps (own). Cut i stands after the first i places of the
--- whole; the part from i to j has those after i up to j, so that the part from j on comes right after it.
+-- Parts of a whole between two cuts, and what joining them keeps (own). Cut i is right after the first i places of
+-- the whole; the part from i to j has those after i up to j, so that the part from j on comes right after it.
 use Rattle.std.specs.Prelude.{ℕ, ◌≡◌, ◌⊎◌, List, [], ◌∷◌, Option, Some, None}
 use Rattle.chunk_join.specs.declared.joins.Why.{Why}
 use Rattle.chunk_join.specs.declared.joins.Why.TheVariants.{NotAdjacent, OtherSet, Memory}
@@ -29,12 +29,12 @@ abbrev pub join_after : {M : Type 0} → (M → M → M) → M → List M → M
 join_after joined all [] = all
 join_after joined all (x ∷ xs) = join_after joined (joined all x) xs
 
--- nothing stands against joining them so
+-- no reason holds against joining them so
 abbrev pub FitAfter : {M : Type 0} → (M → M → Option Why) → (M → M → M) → M → List M → Type 0
 FitAfter refusal joined all [] = Unit {0}
 FitAfter refusal joined all (x ∷ xs) = (refusal all x ≡ None) × FitAfter refusal joined (joined all x) xs
 
--- an answer gives the first reason, or want of memory where there is none
+-- an answer gives the first reason, or is out of memory if there is none
 abbrev pub IsRefusal : Why → Option Why → Type 0
 IsRefusal Memory first = first ≡ None
 IsRefusal NotAdjacent first = first ≡ Some NotAdjacent

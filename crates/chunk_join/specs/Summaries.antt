@@ -16,7 +16,7 @@ use Rattle.chunk_join.specs.declared.summaries.Fate.TheVariants.{Open, Taken}
 use Rattle.chunk_join.specs.declared.summaries.Message.{Message}
 use Rattle.chunk_join.specs.declared.summaries.Take.{Take}
 
--- a step's number stands with its tick
+-- a step's number is paired with its tick
 abbrev pub IsPlace : Recorded → Place → Type 0
 IsPlace trace p = tick_of trace p.no ≡ p.tick
 
@@ -125,7 +125,7 @@ pub record IsSummary (set : ℕ) (trace : Recorded) (i j : ℕ) (s : Summary) : 
   pub last : AreLastReceives set trace i j s.last
   pub silent : IsListing EndsBefore (IsLongest set trace i j) s.silent
 
--- what holds of the lists of every summary, whatever it is of
+-- what holds of the lists of every summary
 pub record IsConsistent (s : Summary) : Type 0 where
   pub start : 1 ≤ s.from
   pub order : s.from ≤ s.to
@@ -142,7 +142,7 @@ pub record Whole : Type 0 where
   pub trace : Recorded
   pub sound : IsTrace trace
 
--- the part of a trace from cut i to cut j: what stands for it so, or none where the cuts are one
+-- the part of a trace from cut i to cut j: its value, or none if the cuts are one
 abbrev pub IsPartBy : (ℕ → Recorded → ℕ → ℕ → Summary → Type 0) → Whole → ℕ → ℕ → Option Summary → Type 0
 IsPartBy Is whole i j None = i ≡ j
 IsPartBy Is whole i j (Some s) = (i < j) × (j ≤ whole.trace.last) × Is whole.set whole.trace i j s

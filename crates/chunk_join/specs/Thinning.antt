@@ -21,7 +21,7 @@ thinned pending weight [] = []
 thinned pending weight (x ∷ xs) =
     if stays pending weight (heaviest pending weight xs) x then x ∷ thinned pending weight xs else thinned pending weight xs
 
--- what stands after an element is looked at, with what is kept of the later ones
+-- what is left after an element is looked at, with what is kept of the later ones
 abbrev pub kept_with : {X : Type 0} → (X → Bool) → (X → ℕ) → ℕ → X → List X → List X
 kept_with pending weight top x rest = if stays pending weight top x then x ∷ rest else rest
 

@@ -25,7 +25,7 @@ use suffix_staircase::Stairs;
 /// The greatest number of workers.
 pub const MAX_WORKERS: u64 = 64;
 
-/// Why a trace was not analysed. Of several causes the one that stands first here is told.
+/// Why a trace was not analysed. Of several causes the first in this order is reported.
 #[derive(Clone, Copy, Debug, PartialEq, Eq)]
 pub enum AnalyseError {
     /// The number of workers isn't from 1 to `MAX_WORKERS`.
@@ -34,7 +34,7 @@ pub enum AnalyseError {
     Held,
     /// A thread couldn't be started.
     Start,
-    /// There was no memory.
+    /// Out of memory.
     Memory,
 }
 
@@ -71,9 +71,9 @@ impl<G: Gate> Promise<Result<Digest, Stop>> for DigestOf<G> {
         × G.lets promise.gate.value promise.worker (was_let_in result) };
 }
 
-/// The level of each tick of a trace, where the members of a set count as correct, found by so many workers. Each
-/// has a thread of its own, enters the gate before its work, and summarises its share of the ticks; all shares
-/// are as long, or one tick longer than others. One worker alone makes no summary: it goes over the trace backward.
+/// The level of each tick of a trace if the members of a set count as correct, found by so many workers. Each has a
+/// thread of its own, enters the gate before its work, and summarises its share of the ticks; all shares are as
+/// long, or one tick longer than others. One worker alone makes no summary: it scans the trace backward.
 ///
 /// Waits for all workers that were started. Refuses in the order of `AnalyseError`.
 pub fn analyse<R: Threads + Wait + Sync, G: Gate>(
@@ -265,7 +265,7 @@ fn both(left: Result<Digest, Stop>, right: Result<Digest, Stop>) -> Result<Diges
     }
 }
 
-/// What is told where a thread couldn't be started, beside what the others ended with.
+/// The cause that is reported if a thread couldn't be started, given what the others ended with.
 fn unstarted(others: Result<Digest, Stop>) -> Stop
     ensures start { gravity Stop.Start ≤ gravity result }
     ensures others { IfErr others (λ stop. gravity stop ≤ gravity result) }
@@ -277,7 +277,7 @@ fn unstarted(others: Result<Digest, Stop>) -> Stop
     }
 }
 
-/// The one that is told of two.
+/// The one of two causes that is reported.
 fn graver(one: Stop, other: Stop) -> Stop
     ensures one { gravity one ≤ gravity result }
     ensures other { gravity other ≤ gravity result }

@@ -105,7 +105,7 @@ impl Digest {
     /// keeps exactly the undominated messages and silences of these ticks: those that a later part may still change, and
     /// of the others those that are longer than each that comes later.
     ///
-    /// Fails only for want of memory; the unit takes none.
+    /// Fails only if out of memory; the unit takes none.
     pub(crate) fn of(
         alloc: Global,
         trace: &Trace,

@@ -13,7 +13,7 @@ pub enum FeedError {
     /// a step with its tick before it; where it has all steps of that one, `at` is the number after them. At 0 it is
     /// of another configuration.
     NotAnExtension { at: u64, found: Option<(u64, Step)> },
-    /// There was no memory.
+    /// Out of memory.
     Memory,
 }
 

@@ -25,7 +25,7 @@ use suffix_staircase::{Level, StairBuilder, Stairs, note_gap, note_miss};
 pub enum FinishError {
     /// It doesn't begin in tick 1.
     NotWhole,
-    /// There was no memory for the stairs.
+    /// Out of memory for the stairs.
     Memory,
 }
 
@@ -57,8 +57,8 @@ impl Piece {
     }
 }
 
-/// The stairs of a part that has what the levels of a whole trace need: its messages and its silences are gone over
-/// from the last ones back.
+/// The stairs of a part that has what the levels of a whole trace need: its messages and its silences are scanned from
+/// the last ones back.
 pub(crate) fn stairs_of(alloc: Global, part: &Part) -> Result<Stairs, AllocError>
     ensures { IfOk result (λ stairs. (set : ℕ) (trace : Recorded) → IsTrace trace → Suffices set trace part.now → AreLevels set trace stairs) }
 {

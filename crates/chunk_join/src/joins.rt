@@ -10,11 +10,11 @@ pub enum Why {
     NotAdjacent,
     /// The parts are of different sets of processors.
     OtherSet,
-    /// There was no memory for what they make up together.
+    /// Out of memory for what they make up together.
     Memory,
 }
 
-/// Two values that didn't join, as they were.
+/// Two values that didn't join, unchanged.
 #[derive(Drop)]
 pub struct JoinRefused<J> {
     pub why: Why,
@@ -24,9 +24,9 @@ pub struct JoinRefused<J> {
 
 /// Values that join in their order, as parts of a whole do.
 ///
-/// An implementation says what its wholes are, and which value is the part of a whole between two cuts: cut
-/// i stands after the first i places of the whole, so that the part from i to j is followed by the part from j on.
-/// It proves that joining parts of one whole gives the part that they make up together (`JoinedLaws`).
+/// An implementation says what its wholes are, and which value is the part of a whole between two cuts: cut i is
+/// right after the first i places of the whole, so that the part from i to j is followed by the part from j on. It
+/// proves that joining parts of one whole gives the part that they make up together (`JoinedLaws`).
 pub trait Joined: Drop {
     ghost use Rattle.chunk_join.specs.declared.joins.Why.{Why};
 
@@ -37,7 +37,7 @@ pub trait Joined: Drop {
 
     ghost empty: { Self };
 
-    // the first reason against joining two values, other than want of memory
+    // the first reason against joining two values, other than out of memory
     ghost refusal: { Self → Self → Option Why };
 
     ghost joined: { Self → Self → Self };
@@ -50,8 +50,8 @@ pub trait Joined: Drop {
     fn fits(&self, right: &Self) -> bool
         ensures { IsTrue result ↔ (refusal self.now right.now ≡ None) };
 
-    /// Both as one. Refuses in the order of `Why`, and hands both back as they were; `Memory` is answered only
-    /// where they fit.
+    /// Both as one. Refuses in the order of `Why`, and hands both back unchanged. `Memory` is answered only if
+    /// they fit.
     fn join(self, right: Self) -> Result<Self, JoinRefused<Self>>
         ensures ok { OnOk result (refusal self right ≡ None) }
         ensures value { IfOk result (λ whole. whole ≡ joined self right) }
@@ -64,8 +64,8 @@ pub trait Joined: Drop {
 
 /// Joins values in their order; no value gives the unit.
 ///
-/// Refuses with the reason against the first value that doesn't join with what stands before it; the values
-/// are gone then. Parts of one whole, each beginning where the one before ends, fit: their refusal is `Memory`.
+/// Refuses with the reason against the first value that doesn't join with those before it; the values are gone
+/// then. Parts of one whole, each beginning where the one before ends, fit: their refusal is `Memory`.
 pub fn join_all<J: Joined>(parts: Vec<J>) -> Result<J, Why>
     ensures ok { OnOk result (FitAfter J.refusal J.joined J.empty parts.items) }
     ensures value { IfOk result (λ whole. whole ≡ join_after J.joined J.empty parts.items) }

@@ -1,4 +1,4 @@
-//! The bounds of a trace, found by one thread: it goes over the whole trace, and makes no pieces.
+//! The bounds of a trace, found by one thread: it scans the whole trace, and makes no pieces.
 
 ghost use Rattle.std.specs.Prelude.{◌≡◌, IfOk, IfErr, OnOk, true, false};
 ghost use Rattle.chunk_join.specs.declared.analyses.Stop.{Stop};

@@ -56,7 +56,7 @@ impl Part {
         })
     }
 
-    /// The first reason against joining the part that follows, other than want of memory.
+    /// The first reason against joining the part that follows, other than out of memory.
     pub(crate) fn refusal(&self, right: &Part) -> Option<Why>
         ensures { result ≡ parts_refusal self.now right.now }
     {
@@ -70,7 +70,7 @@ impl Part {
     }
 }
 
-/// Joins two parts, or hands them back as they were.
+/// Joins two parts, or hands them back unchanged.
 pub(crate) fn join_parts(mut left: Part, right: Part) -> Result<Part, JoinRefused<Part>>
     ensures ok { OnOk result (parts_refusal left right ≡ None) }
     ensures value { IfOk result (λ whole. whole ≡ joined_parts left right) }

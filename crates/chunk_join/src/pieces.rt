@@ -84,7 +84,7 @@ impl Piece {
     /// The piece of the ticks `from` to `to`, from 1 to the last tick; where `from` is one after `to`, the unit. It
     /// takes time that grows with these ticks and their steps, and with the logarithm of the number of all steps.
     ///
-    /// Fails only for want of memory; the unit takes none.
+    /// Fails only if out of memory; the unit takes none.
     pub fn of(
         alloc: Global,
         trace: &Trace,

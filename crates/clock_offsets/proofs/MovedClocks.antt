@@ -10,7 +10,7 @@ use Rattle.clock_offsets.specs.MovedClocks.{moved_event, IsTooLate}
 abbrev pub changed_to : (Event → Event) → List Event → ℕ → List Event
 changed_to f ys k = map f (take k ys) ++ drop k ys
 
--- the next one is as it was
+-- the next one is unchanged
 pub next-is : (f : Event → Event) (ys : List Event) (k : ℕ) (d : Event) → slice_index_or (changed_to f ys k) k d ≡ slice_index_or ys k d
 next-is f [] zero d = refl
 next-is f [] (suc k) d = refl

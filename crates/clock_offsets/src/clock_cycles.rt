@@ -32,8 +32,8 @@ pub struct ClockCycle {
     pub total: i128,
 }
 
-/// A cycle of clocks whose messages no offsets bring into order, begun at the first of its events; it tells why
-/// `clock_offsets` refuses. That it is found wherever there is one isn't promised.
+/// A cycle of clocks whose messages no offsets bring into order, begun at the first of its events: why `clock_offsets`
+/// refuses. It isn't promised that an existing cycle is found.
 ///
 /// Refuses TooFar for sums of times that no 128 bits hold, and Memory.
 pub fn clock_cycle(alloc: Global, events: &[Event]) -> Result<Option<ClockCycle>, OffsetError>

@@ -9,7 +9,7 @@ pub enum OffsetError {
     Cycle { clock: usize },
     /// A need is beyond the numbers that are held.
     TooFar,
-    /// There was no memory.
+    /// Out of memory.
     Memory,
 }
 

@@ -62,7 +62,7 @@ status_of (fault.Log e) = status_of_log e
 status_of (fault.Import option) = 2
 status_of (fault.Length option given) = 2
 
--- the fault that a refusal of a text is: want of memory and a failed read are faults of their own
+-- the fault that a refusal of a text is: out of memory and a failed read are faults of their own
 abbrev pub fault_of_text : TextError → Fault
 fault_of_text why.Read = fault.Read
 fault_of_text why.Memory = fault.Memory

@@ -15,7 +15,7 @@ opening_trouble PermissionDenied = trouble.PermissionDenied
 opening_trouble IsADirectory = trouble.IsADirectory
 opening_trouble kind = trouble.Unopened
 
--- the fault of a file that can't be opened; want of memory is a fault of its own
+-- the fault of a file that can't be opened; out of memory is a fault of its own
 abbrev pub fault_of_opening : String Global → ErrorKind → Fault
 fault_of_opening file OutOfMemory = fault.Memory
 fault_of_opening file kind = fault.Unread file (opening_trouble kind)

@@ -14,7 +14,7 @@ abbrev pub IsUnprinted : Fault → List ℕ → Option (List ℕ) → Option (Li
 IsUnprinted (fault.Write n) text before after = (n ≤ length text) × Appends before after (take n text)
 IsUnprinted _ text before after = ⊥
 
--- the same, or want of memory for the text
+-- the same, or out of memory for the text
 abbrev pub IsUntold : Fault → List ℕ → Option (List ℕ) → Option (List ℕ) → Type 0
 IsUntold fault.Memory text before after = ⊤
 IsUntold why text before after = IsUnprinted why text before after

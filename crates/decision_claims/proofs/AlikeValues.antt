@@ -179,7 +179,7 @@ pub value_near : (words : Words) (cap : ℕ) (parts : List Part) (s t : Tally) �
 value_near words cap parts s t h = value_alike (λ cap x y. min x cap ≡ min y cap) near words words (λ cap o. refl) cap parts s t
     (record { most = h.here.most; sum = h.here.sum; product = h.here.product }) (near_frames words (cap * divisors parts) s.around t.around h.around)
 
--- what stands at a place, and what follows it
+-- what is at a place, and what follows it
 pub drop_part : (rest : List Part) (k : ℕ) (d part : Part) → k < length rest → get_or rest k d ≡ part → drop k rest ≡ part ∷ drop (k + 1) rest
 drop_part rest k d part l e = drop-cons rest k d l ∙ ap (λ (p : Part). p ∷ drop (suc k) rest) e ∙ (let n : suc k ≡ k + 1 = omega arith in ap (λ i. part ∷ drop i rest) n)
 

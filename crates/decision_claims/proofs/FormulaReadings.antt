@@ -34,11 +34,11 @@ second_part r l m p e at some = record {
   two = rw at (two_parts r.parts p some);
 }
 
--- the lexemes of a text: those of its first piece, and what stands from its end on
+-- the lexemes of a text: those of its first piece, and of the text from its end on
 pub first_lexemes : (text : List ℕ) (end : ℕ) → IsPieceEnd text 0 end → lexemes text ≡ word_between (take end text) ++ lexemes_of (pieces (drop end text)).rest
 first_lexemes text end e = let here = first_here text end e in rw (here.0, here.1) refl
 
--- and those from a sign on: the sign, the piece behind it, and what stands from its end on
+-- and those from a sign on: the sign, the piece behind it, and those from its end on
 pub next_lexemes : (text : List ℕ) (end next : ℕ) → end < length text → is_sign (slice_index text end) ≡ true → IsPieceEnd text (end + 1) next
     → lexemes_of (pieces (drop end text)).rest ≡ sign_lexeme (get_or text end 0) ∷ (word_between (slice_range text (end + 1) next) ++ lexemes_of (pieces (drop next text)).rest)
 next_lexemes text end next l s e =
@@ -85,7 +85,7 @@ sign_counts x = go (x == 43) (x == 42) (x == 47) (x == 40) (x == 44) where
   go false false false false true = refl
   go false false false false false = refl
 
--- an error is the same beside another value
+-- an error is the same with another value
 abbrev error_or : {A E : Type 0} → E → Result A E → E
 error_or d (Ok a) = d
 error_or d (Err e) = e

@@ -1,4 +1,4 @@
--- Words of formulas: which number they write, and where white space stands around them.
+-- Words of formulas: which number they write, and where they have white space around them.
 use Rattle.std.proofs.Common.{ℕ, ◌≡◌, ◌≢◌, ◌^◌, ◌<◌, List, [], ◌∷◌, length, Bool, true, false, ◌&&◌, refl, sym, ap, ◌∙◌, arith}
 use Rattle.std.specs.Prelude.{Some, None, decimal, nat_lt, bytes_eq, if◌then◌else◌}
 use Rattle.std.specs.Str.{IsTrimAscii}
@@ -36,7 +36,7 @@ worded-none : (word : List ℕ) → length word ≡ 0 → worded word ≡ []
 worded-none [] none = refl
 worded-none (x ∷ word) none = absurd (omega (arith, none))
 
--- what stands between two signs, by its word without white space
+-- what is between two signs, by its word without white space
 pub word_there : (piece word : List ℕ) → IsTrimAscii piece word → (length word ≡ 0 → ⊥) → word_between piece ≡ word_lexeme word ∷ []
 unfolding word_between
 word_there piece word is some = ap worded (sym (trim_ascii_is piece word _ refl is)) ∙ worded-some word some

@@ -22,7 +22,7 @@ use Rattle.decision_claims.specs.FormulaTrees.{ArePositive, IsBound, IsFormulaTe
 use Rattle.decision_claims.proofs.FormulaLimits.{read_limits}
 use Rattle.decision_claims.proofs.FormulaReadings.{read_on-refused}
 
--- what stands before a formula that comes next
+-- what comes before a formula
 abbrev before_comma : Option Tree → List Part
 before_comma None = []
 before_comma (Some r) = parts_of r ++ Comma ∷ []
@@ -47,7 +47,7 @@ waiting w = before_comma w.row ++ (before_plus w.sum ++ before_times w.product)
 abbrev complete : Option Tree → Option Tree → Tree → List Part
 complete row sum p = before_comma row ++ (before_plus sum ++ parts_of p)
 
--- the parentheses that are open, true for those of max, with what stands before each
+-- the parentheses that are open, true for those of max, with what comes before each
 data Around : Type 0 where
   Outside : Around
   Within : Around → Waiting → Bool → Around
@@ -206,7 +206,7 @@ star-came g parts s = record {
   parts_are = ap (λ (x : List Part). x ++ Times ∷ []) s.parts_are ∙ behind (parts_before s.around) (before_comma s.row) (before_plus s.sum) (parts_of s.product) (Times ∷ []);
 }
 
--- the sum that stands, behind its row
+-- the sum that is there, behind its row
 sum-stands : (g : ℕ) (parts : List Part) (s : Stands g parts) (e : List Part) → parts ++ e ≡ parts_before s.around ++ (before_comma s.row ++ (parts_of (plus s.sum s.product) ++ e))
 sum-stands g parts s e =
     ap (λ (x : List Part). x ++ e) s.parts_are ∙ behind (parts_before s.around) (before_comma s.row) (before_plus s.sum) (parts_of s.product) e

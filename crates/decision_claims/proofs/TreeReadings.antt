@@ -112,7 +112,7 @@ comma-here g d k acc l o =
     let u : ((g % 2) == 1) ≡ true = grind (arith, nat_tests) in
     rw (t, u) refl
 
--- a row stands in a max alone
+-- a row is in a max alone
 abbrev MayStand : Tree → ℕ → Type 0
 MayStand f g = (1 ≤ binding f) ⊎ ((1 < g) × (g % 2 ≡ 1))
 

@@ -10,8 +10,8 @@ use Rattle.decision_claims.specs.declared.lexemes.Lexeme.TheVariants as lexeme
 use Rattle.decision_claims.specs.Formulas.{IsWithinLimits, Terms, operand_value, quotient}
 use Rattle.decision_claims.specs.FormulaTexts.{lexemes}
 
--- A formula: an operand; a formula in parentheses; max with the formulas of a row; a product, a quotient, a sum; and a row
--- of formulas between commas, which stands in a max alone.
+-- A formula: an operand; a formula in parentheses; max with the formulas of a row; a product, a quotient, a sum; and a
+-- row of formulas between commas, which is in a max alone.
 pub data Tree : Type 0 where
   Leaf : Operand → Tree
   Group : Tree → Tree

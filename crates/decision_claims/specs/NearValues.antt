@@ -21,6 +21,6 @@ pub record IsNear (cap : ℕ) (s t : Tally) : Type 0 where
   pub here : IsNearFrame cap s.here t.here
   pub around : AreNearFrames cap s.around t.around
 
--- what was read, where the frames around stand from the outside in
+-- what was read, with the frames around from the outside in
 abbrev pub tally : Frame → List Frame → Tally
 tally here around = record { here = here; around = reverse around }

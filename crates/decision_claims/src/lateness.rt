@@ -21,7 +21,7 @@ pub struct Late {
 }
 
 /// The first row that refutes the claim that each member decides by the deadline of a formula, in an instance of
-/// agreement that started in this tick; None where each row keeps it.
+/// agreement that started in this tick; None if each row keeps it.
 ///
 /// Takes time that grows with the rows and, for each member, with the decisions; no memory.
 pub fn first_late(

@@ -70,7 +70,7 @@ impl Frame {
     }
 }
 
-/// What was read, after one part more: what stands within the innermost open parentheses, and around them.
+/// What was read, after one part more: what is within the innermost open parentheses, and around them.
 fn with_part(words: Words, here: Frame, around: &mut ArrayVec<Frame, MAX_OPEN>, part: Part) -> Frame
     requires { Fits (length around.now.items) (part ∷ []) }
     ensures near { (cap : ℕ) → cap ≤ 2 ^ 64 - 1 → IsNear cap (tally result around.new.items) (with_part words (tally here around.old.items) part) }

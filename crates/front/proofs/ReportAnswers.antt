@@ -1,4 +1,4 @@
--- What the answer for the records of a text says of the text.
+-- What the answer for the records of a text means for the text.
 use Rattle.std.proofs.Common.{ℕ, ◌≡◌, ◌+◌, ◌≤◌, ◌==◌, ◌∙◌, inl, inr, List, [], ◌∷◌, length, map, Option, Some, None, Result, Ok, Err, Bool, true, false, cond, All, IfOk, IfErr, IfSome, MatchResult, MatchBool, refl, sym, ap, subst, arith}
 use Rattle.std.specs.Prelude.{⊤, nat_le}
 use Rattle.std.proofs.lemmas.Bool.Decides.{nat_tests}
@@ -63,7 +63,7 @@ stands-from items (Err e) known text h k = tt
 stands-from items (Ok v) None text h k = tt
 stands-from items (Ok v) (Some t) text h k = subst (λ t. StandsFor t (items v)) k (rows_of_records-ok (records_of_text text) (items v) h)
 
--- for a text that stands for rows they are answered, but for want of memory
+-- for a text that encodes rows they are answered, unless out of memory
 pub complete-from : {A : Type 0} (items : A → List Row) (r : Result A ReportError) (known : Option (List ℕ)) (text : List ℕ)
     → Gives items r (rows_of_records (records_of_text text)) → IfSome known (λ xs. text ≡ xs)
     → IfSome known (λ t. (rows : List Row) → All IsRow64 rows → StandsFor t rows → MatchResult r (λ v. items v ≡ rows) IsDeviceRefusal)
@@ -91,7 +91,7 @@ complete-from {A = A} items r (Some t) text h k = λ rows small stands.
 small-rows : (text : List ℕ) → length text ≤ MAX_TEXT_BYTES → rows_of_text text ≡ rows_of_records (records_of_text text)
 small-rows text l = let small : nat_le (length text) MAX_TEXT_BYTES ≡ true = grind (arith, nat_tests) in rw small refl
 
--- a refusal is the first of the text, or want of memory
+-- a refusal is the first of the text, or out of memory
 pub refused-from : {A : Type 0} (items : A → List Row) (r : Result A ReportError) (known : Option (List ℕ)) (text : List ℕ) (old new : ℕ)
     → length text ≤ MAX_TEXT_BYTES → Gives items r (rows_of_records (records_of_text text)) → IfSome known (λ xs. text ≡ xs) → IfErr r (λ e. RefusedFor e old new known)
 unfolding IsRecordRefusal
@@ -125,6 +125,6 @@ faultless-from items (Err (why.BadFields at)) text n h = refl
 faultless-from items (Err (why.BadNumber at)) text n h = refl
 faultless-from items (Err (why.HalfWitness at)) text n h = refl
 
--- a text stands for at most one list of rows
+-- a text encodes at most one list of rows
 pub stands-one : (text : List ℕ) (xs ys : List Row) → All IsRow64 xs → All IsRow64 ys → StandsFor text xs → StandsFor text ys → xs ≡ ys
 stands-one text xs ys h k s r = report_records-injective xs ys h k (sym s ∙ r)

@@ -1,4 +1,4 @@
--- The rows of a report serve every tick of the trace.
+-- The rows of a report apply to every tick of the trace.
 use Rattle.std.proofs.Common.{ℕ, ◌≡◌, ◌+◌, ◌<◌, ◌≤◌, inl, inr, List, [], ◌∷◌, map, Contains, Option, Some, None, Bool, true, false, refl, sym, subst, ap, suc, zero, arith}
 use Rattle.std.specs.Prelude.{IsSomeAnd, nat_le, cond}
 use Rattle.std.specs.List.Sorted.{IsStrictlyIncreasing}
@@ -43,7 +43,7 @@ IsFeasible-greatest set trace g time start end = record {
   phi = PhiHolds-past_end set trace g (trace.last + 1) start (omega arith);
 }
 
--- a row of the report that begins at g or before, after which none does, serves g
+-- a row of the report that begins at g or before, after which none does, applies to g
 pub Serves-from_row : (set : ℕ) (trace : Recorded) (rows : List Row) (g : ℕ) (r : Row) → IsReport set trace rows → Contains rows r
     → r.gst ≤ g → g ≤ trace.last → ((o : Row) → Contains rows o → o.gst ≤ g → o.gst ≤ r.gst) → Serves set trace g r
 Serves-from_row set trace rows g r report member begun end latest =
@@ -137,7 +137,7 @@ last_begun-some (x ∷ rest) g r rising some = go (last_begun rest g) refl (nat_
   })
   go None e false t more f = absurd (none-some r f)
 
--- the row at each tick of the trace serves it
+-- the row at each tick of the trace applies to it
 pub row_at-serves : (report : Reported) (g set : ℕ) (trace : Recorded) → IsTimed trace → IsReport set trace report.rows → report.len ≡ trace.last → 1 ≤ g → g ≤ report.len
     → IsSomeAnd (row_at report g) (Serves set trace g)
 row_at-serves report g set trace time is_report len start end =

@@ -27,7 +27,7 @@ no-mark : (rows : List Row) → strip_bom (report_text rows) ≡ report_text row
 unfolding strip_bom
 no-mark rows = refl
 
--- the text of rows stands for them
+-- the text of rows encodes them
 pub StandsFor-report_text : (rows : List Row) → All IsRow64 rows → StandsFor (report_text rows) rows
 StandsFor-report_text rows h = lines-read (report_records rows) (lines-report rows h) (no-mark rows)
 

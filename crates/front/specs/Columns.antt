@@ -1,4 +1,4 @@
--- The columns of a report: the name of each, what of a row stands in it, and the row that its entries make.
+-- The columns of a report: the name of each, its entry for a row, and the row that entries make.
 use Rattle.std.specs.Prelude.{ℕ, ◌<◌, List, [], ◌∷◌, Option, Some, None, IfSome, Result, Err, codes, decimal, option_map}
 use Rattle.std.specs.Option.{ok_or}
 use Rattle.step_trace.specs.declared.rows.Miss.{Miss}
@@ -11,7 +11,7 @@ use Rattle.front.specs.declared.refusals.ReportError.TheVariants.{BadNumber, Hal
 abbrev pub report_header : List (List ℕ)
 report_header = codes "gst" ∷ codes "delta" ∷ codes "phi" ∷ codes "sent" ∷ codes "missed" ∷ codes "proc" ∷ codes "from" ∷ codes "to" ∷ []
 
--- what of a row stands in each: a number, or nothing where the row has no such witness
+-- the entry of a row for each: a number, or nothing if the row has no such witness
 abbrev pub entries_of : Row → List (Option ℕ)
 entries_of r =
     Some r.gst ∷ Some r.delta ∷ Some r.phi ∷ option_map (λ m. m.sent) r.miss ∷ option_map (λ m. m.missed) r.miss
@@ -39,13 +39,13 @@ with_witnesses gst delta phi (Some miss) (Some gap) = Some (record { gst = gst; 
 with_witnesses gst delta phi (Some miss) None = None
 with_witnesses gst delta phi None gap = None
 
--- the row of entries, which is to have this number; None stands for a field that is neither empty nor a number
+-- the row of entries, which is to have this number; None denotes a field that is neither empty nor a number
 abbrev pub row_of_entries : ℕ → List (Option (Option ℕ)) → Result Row ReportError
 row_of_entries at (Some (Some gst) ∷ Some (Some delta) ∷ Some (Some phi) ∷ Some sent ∷ Some missed ∷ Some proc ∷ Some from ∷ Some to ∷ []) =
     ok_or (with_witnesses gst delta phi (miss_of sent missed) (gap_of proc from to)) (HalfWitness at)
 row_of_entries at _ = Err (BadNumber at)
 
--- what stands in a field
+-- the text of a field
 abbrev pub entry_text : Option ℕ → List ℕ
 entry_text None = []
 entry_text (Some n) = decimal n

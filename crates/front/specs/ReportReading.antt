@@ -5,13 +5,13 @@ use Rattle.front.specs.declared.refusals.ReportError.{ReportError}
 use Rattle.front.specs.declared.refusals.ReportError.TheVariants as why
 use Rattle.front.specs.ReportRefusals.{rows_of_text}
 
--- a fault of the reader that was counted, want of memory, or the first refusal of the text
+-- a fault of the reader that was counted, out of memory, or the first refusal of the text
 abbrev pub RefusedFor : ReportError → ℕ → ℕ → Option (List ℕ) → Type 0
 RefusedFor why.Read old new known = Rose old new
 RefusedFor why.Memory old new known = ⊤
 RefusedFor e old new known = IfSome known (λ text. rows_of_text text ≡ Err e)
 
--- the refusals that may come of a text that stands for rows: its size, a fault, and want of memory
+-- the possible refusals of a text that encodes rows: its size, a fault, and out of memory
 abbrev pub IsDeviceRefusal : ReportError → Type 0
 IsDeviceRefusal why.TooLarge = ⊤
 IsDeviceRefusal why.Read = ⊤

@@ -20,6 +20,6 @@ report_text rows = text_of_records (report_records rows)
 pub record IsRow64 (r : Row) : Type 0 where
   pub numbers : AreBelow (2 ^ 64) (entries_of r)
 
--- a text stands for the rows whose records csv reads from it
+-- a text encodes the rows whose records csv reads from it
 abbrev pub StandsFor : List ℕ → List Row → Type 0
 StandsFor text rows = records_of_text text ≡ report_records rows

@@ -1,4 +1,4 @@
--- What a report is to its readers, and what a row says of the ticks that it serves.
+-- What a report is to its readers, and what a row means for the ticks that it applies to.
 use Rattle.std.specs.Prelude.{ℕ, ◌<◌, ◌≤◌, List, [], ◌∷◌, Option, Some, None, IsSomeAnd, nat_le, ◌&&◌, if◌then◌else◌}
 use Rattle.step_trace.specs.Traces.{Recorded}
 use Rattle.step_trace.specs.declared.rows.Row.{Row}
@@ -20,7 +20,7 @@ abbrev pub last_begun : List Row → ℕ → Option Row
 last_begun [] g = None
 last_begun (r ∷ rest) g = first_of (last_begun rest g) (if nat_le r.gst g then Some r else None)
 
--- the row that serves g: the last one that begins at g or before; none outside the trace
+-- the row that applies to g: the last one that begins at g or before; none outside the trace
 abbrev pub row_at : Reported → ℕ → Option Row
 row_at report g = if nat_le 1 g && nat_le g report.len then last_begun report.rows g else None
 

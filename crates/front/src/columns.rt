@@ -1,4 +1,4 @@
-//! The columns of a report: the name of each, what of a row stands in it, and the row that its entries make.
+//! The columns of a report: the name of each, its entry for a row, and the row that entries make.
 
 ghost use Rattle.std.specs.Prelude.{◌≡◌, ◌<◌, [], slice_index_or};
 ghost use Rattle.front.specs.Columns.{entries_of, report_header, miss_of, gap_of, row_of_entries};
@@ -22,7 +22,7 @@ pub(crate) fn name<'a>(place: usize) -> &'a [u8]
     NAMES[place]
 }
 
-/// What of a row stands in each: a number, or nothing where the row has no such witness.
+/// The entry of a row for each: a number, or nothing if the row has no such witness.
 pub(crate) fn entries_of(row: &Row) -> [Option<u64>; COLUMNS]
     ensures { result ≡ entries_of row.now }
 {
@@ -38,10 +38,10 @@ pub(crate) fn entries_of(row: &Row) -> [Option<u64>; COLUMNS]
     ]
 }
 
-/// The row of these entries, which is to have this number. None stands for a field that is neither empty nor a number.
+/// The row of these entries, which is to have this number. None denotes a field that is neither empty nor a number.
 ///
-/// Refuses BadNumber where there is such a field, or a bound or the stabilization time is empty, and HalfWitness where
-/// some entries of a witness are empty and some aren't, in this order.
+/// Refuses, in this order: BadNumber if there is such a field, or a bound or the stabilization time is empty;
+/// HalfWitness if some entries of a witness are empty and some aren't.
 pub(crate) fn row_of_entries(
     no: u64,
     entries: [Option<Option<u64>>; COLUMNS],

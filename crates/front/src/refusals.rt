@@ -19,6 +19,6 @@ pub enum ReportError {
     BadNumber(u64),
     /// Some fields of a witness are empty and some aren't.
     HalfWitness(u64),
-    /// There was no memory.
+    /// Out of memory.
     Memory,
 }

@@ -82,7 +82,7 @@ fn write_row(alloc: Global, writer: &mut Writer<Vec<u8>>, row: &Row) -> Result<(
     write_byte_record(writer, &fields)
 }
 
-/// One more field: a number, or none. Refuses only for want of memory.
+/// One more field: a number, or none. Fails only if out of memory.
 pub fn push_entry(
     alloc: Global,
     fields: &mut ByteRecord,

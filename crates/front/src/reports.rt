@@ -1,4 +1,4 @@
-//! Reports: the rows of the front, and the row that serves each tick.
+//! Reports: the rows of the front, and the row that applies to each tick.
 
 ghost use Rattle.std.specs.Prelude.{◌≡◌, ◌≤◌, length, map, IfOk, IsSomeAnd, ℕ, List};
 ghost use Rattle.std.specs.List.Sorted.{IsStrictlyIncreasing};
@@ -54,8 +54,8 @@ impl Report {
         &self.rows
     }
 
-    /// The row that serves the tick `g`: the last one that begins at `g` or before, or none where `g`
-    /// is no tick of the trace.
+    /// The row that applies to tick `g`: the last one that begins at `g` or before, or none if `g` is
+    /// no tick of the trace.
     ///
     /// In a report its bounds are the least ones that hold from `g`, and its evidence refutes each
     /// smaller positive bound from `g`.

@@ -31,7 +31,7 @@ no-mark : (all : List FollowerTimeouts) → strip_bom (timeouts_text all) ≡ ti
 unfolding strip_bom
 no-mark all = refl
 
--- the text of timeouts stands for them
+-- the text of timeouts encodes them
 pub StandsFor-timeouts_text : (all : List FollowerTimeouts) → All AreOf64 all → StandsFor (timeouts_text all) all
 StandsFor-timeouts_text all h = lines-read (timeouts_records all) (omega arith, (refl, (refl, (refl, (refl, (refl, (refl, (refl, (refl, (refl, (refl, (refl, tt))))))))))), lines-followers all h) (no-mark all)
 

@@ -29,7 +29,7 @@ timeouts_records all = timeouts_header ∷ flat_map follower_records all
 abbrev pub timeouts_text : List FollowerTimeouts → List ℕ
 timeouts_text all = text_of_records (timeouts_records all)
 
--- a text stands for the timeouts whose records csv reads from it
+-- a text encodes the timeouts whose records csv reads from it
 abbrev pub StandsFor : List ℕ → List FollowerTimeouts → Type 0
 StandsFor text all = records_of_text text ≡ timeouts_records all
 

@@ -23,7 +23,7 @@ decided n last at proc tick value =
     if proc == 0 || nat_lt n proc then Err (BadProcessor at)
     else (if tick == 0 || nat_lt last tick then Err (BadTick at) else Ok (record { proc = proc; tick = tick; value = value }))
 
--- the same, where None stands for a field that is no number
+-- the same; None denotes a field that is no number
 abbrev pub of_numbers : ℕ → ℕ → ℕ → Option ℕ → Option ℕ → Option ℕ → Result Decision DecisionsError
 of_numbers n last at (Some proc) (Some tick) (Some value) = decided n last at proc tick value
 of_numbers n last at None tick value = Err (BadNumber at)
@@ -69,7 +69,7 @@ abbrev pub is_memory : DecisionsError → Bool
 is_memory Memory = true
 is_memory e = false
 
--- the answer, seen by view, is what the table gives, or want of memory
+-- the answer, seen by view, is what the table gives, or out of memory
 abbrev pub Gives : {X Y : Type 0} → (X → Y) → Result X DecisionsError → Result Y DecisionsError → Type 0
 Gives view result table = GivesUnless is_memory view result table
 

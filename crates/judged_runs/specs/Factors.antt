@@ -13,7 +13,7 @@ pub record IsMeasuredUntil (set : ℕ) (trace : Recorded) (decisions : List Deci
   pub later : x < m.next
   pub least : IsFrom (λ c. KeepsBefore set trace decisions (due c) m.next) (Some m.factor)
 
--- what the prefix that ends in tick x needs beside those before it; None where no factor is enough
+-- what the prefix that ends in tick x needs besides those before it; None if no factor is enough
 abbrev pub IsMeasured : ℕ → Recorded → List Decision → (ℕ → Triple → ℕ) → ℕ → Option Measured → Type 0
 IsMeasured set trace decisions due x None = (c : ℕ) → ¬ KeepsClaimInTime set trace decisions (due c)
 IsMeasured set trace decisions due x (Some m) = IsMeasuredUntil set trace decisions due x m

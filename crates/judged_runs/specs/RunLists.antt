@@ -60,7 +60,7 @@ abbrev pub is_memory : RunListError → Bool
 is_memory Memory = true
 is_memory e = false
 
--- the answer, seen by view, is what the table gives, or want of memory
+-- the answer, seen by view, is what the table gives, or out of memory
 abbrev pub Gives : {X Y : Type 0} → (X → Y) → Result X RunListError → Result Y RunListError → Type 0
 Gives view result table = GivesUnless is_memory view result table
 

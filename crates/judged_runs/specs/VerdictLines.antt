@@ -1,4 +1,4 @@
--- The line in which a verdict on decisions is told (docs/FORMATS.md), without its line feed, and its exit status.
+-- The line of a verdict on decisions (docs/FORMATS.md), without its line feed, and its exit status.
 use Rattle.std.specs.Prelude.{ℕ, List, [], ◌∷◌, ◌++◌, Option, Some, None, codes, decimal}
 use Rattle.decision_claims.specs.declared.decisions.Decision.{Decision}
 use Rattle.decision_claims.specs.declared.lateness.Late.{Late}

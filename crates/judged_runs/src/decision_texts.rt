@@ -164,7 +164,7 @@ fn decision_of(n: u64, last: u64, no: u64, fields: &ByteRecord) -> Result<Decisi
     )
 }
 
-/// The decision of these numbers, of which None stands for a field that is no number.
+/// The decision of these numbers; None denotes a field that is no number.
 fn of_numbers(
     n: u64,
     last: u64,

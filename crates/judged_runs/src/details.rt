@@ -17,7 +17,7 @@ use std::fmt;
 use step_trace::{ProcSet, Trace};
 use suffix_staircase::Stairs;
 
-/// What is asked for beside the verdict.
+/// What is asked for besides the verdict.
 #[derive(Clone, Copy, Debug, PartialEq, Eq)]
 pub struct Details {
     /// The least factor with which the claim would be kept.

@@ -98,7 +98,7 @@ pub fn least_factor_in_time(
     Ok(Some(factor))
 }
 
-/// What the prefix that ends in this tick needs beside those before it, which need this factor. None where no factor is
+/// What the prefix that ends in this tick needs besides those before it, which need this factor. None if no factor is
 /// enough.
 fn measure_at(
     alloc: Global,

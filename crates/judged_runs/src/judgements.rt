@@ -16,7 +16,7 @@ use std::alloc::{AllocError, Global};
 use step_trace::{ProcSet, Row, Trace};
 use suffix_staircase::Stairs;
 
-/// What is demanded of the decisions of a run, beside agreement and a formula for their deadlines.
+/// What is demanded of the decisions of a run, besides agreement and a formula for their deadlines.
 #[derive(Clone, Copy, Debug, PartialEq, Eq)]
 pub struct Demands {
     /// The tick in which the instance of agreement started.

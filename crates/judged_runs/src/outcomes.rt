@@ -160,7 +160,7 @@ fn nearer(margin: Option<u64>, run: u64, later: Option<LeastMargin>) -> Option<L
     }
 }
 
-/// What is told of the runs of a list.
+/// What is printed about the runs of a list.
 #[derive(Clone, Copy)]
 struct Summary {
     runs: u64,

@@ -20,7 +20,7 @@ pub enum DecisionsError {
     BadProcessor(u64),
     /// The tick is 0, or above the last tick.
     BadTick(u64),
-    /// There was no memory.
+    /// Out of memory.
     Memory,
 }
 
@@ -36,6 +36,6 @@ pub enum RunListError {
     TooMany,
     /// The record hasn't four fields.
     BadFields(u64),
-    /// There was no memory.
+    /// Out of memory.
     Memory,
 }

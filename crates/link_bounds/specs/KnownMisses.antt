@@ -24,7 +24,7 @@ abbrev pub KnowsLink : ℕ → Recorded → ℕ → ℕ → ℕ → Option (Leas
 KnowsLink set trace p q done None = (s : ℕ) → done < s → ¬ IsMessageOn set trace.steps p q s
 KnowsLink set trace p q done (Some bound) = ((s : ℕ) × (done < s) × IsMessageOn set trace.steps p q s) × KnowsMissesOf set trace p q done bound
 
--- where the bound of a link stands
+-- where the bound of a link is
 abbrev pub place_of : ℕ → ℕ → ℕ
 place_of p q = p * RECEIVERS + q
 

@@ -48,12 +48,12 @@ pub record KnowsLinksFrom (set : ℕ) (trace : Recorded) (g : ℕ) (links : Link
   pub known : KnowsLinks set trace done links
   pub before : AreBefore trace g done
 
--- where a row stands among all that may be
+-- the place of a row among all that may be
 abbrev pub rank_of : BoundRow → ℕ
 rank_of (Phi p bound) = p
 rank_of (Delta p q bound) = RECEIVERS + place_of p q
 
--- the rows from tick g that stand before place k
+-- the rows from tick g before place k
 pub record ListsBefore (set : ℕ) (trace : Recorded) (g k : ℕ) (rows : List BoundRow) : Type 0 where
   pub right : (r : BoundRow) → Contains rows r → IsRow set trace g r × (rank_of r < k)
   pub processors : (p : ℕ) → IsTrue (has_proc set p) → p < k → (bound : LeastBound Gap) × Contains rows (Phi p bound)

@@ -14,7 +14,7 @@ abbrev pub bound_name : BoundRow → List ℕ
 bound_name (Phi p bound) = codes "phi"
 bound_name (Delta p q bound) = codes "delta"
 
--- what stands in each column after that: a number, or nothing where the row has none. First and last are the ticks of a gap,
+-- the entry in each column after that: a number, or nothing if the row has none. First and last are the ticks of a gap,
 -- or the numbers of the steps of a miss.
 abbrev pub entries_of : BoundRow → List (Option ℕ)
 entries_of (Phi p bound) = Some p ∷ None ∷ Some bound.least ∷ option_map (λ w. w.from) bound.witness ∷ option_map (λ w. w.to) bound.witness ∷ []

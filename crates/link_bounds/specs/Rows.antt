@@ -1,4 +1,4 @@
--- The rows in which the bounds of processors and of links from a tick on are told.
+-- The rows for the bounds of processors and of links from a tick on.
 use Rattle.std.specs.Prelude.{ℕ, ◌≡◌, ◌<◌, ◌≤◌, ◌⊎◌, List, [], ◌∷◌, Contains, AllPairs, IsTrue, max, ⊤}
 use Rattle.step_trace.specs.declared.rows.Miss.{Miss}
 use Rattle.step_trace.specs.declared.rows.Gap.{Gap}

@@ -76,7 +76,7 @@ impl Links {
     }
 }
 
-/// The row of the link whose bound stands at this place.
+/// The row of the link whose bound is at this place.
 fn row_at(place: u64, bound: LeastBound<Miss>) -> BoundRow
     ensures { result ≡ BoundRow.Delta (place / RECEIVERS) (place % RECEIVERS) bound }
 {
@@ -87,7 +87,7 @@ fn row_at(place: u64, bound: LeastBound<Miss>) -> BoundRow
     }
 }
 
-/// Where the bound of a link stands.
+/// Where the bound of a link is.
 fn place_of(from: u64, to: u64) -> usize
     requires from { from ≤ MAX_PROCESSORS }
     requires to { to ≤ MAX_MEMBER }

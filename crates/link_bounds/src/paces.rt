@@ -70,7 +70,7 @@ impl Paces {
         bound
     }
 
-    /// Pushes the row of each member, from the tick on to which the steps were gone over.
+    /// Pushes the row of each member, from the tick back to which the steps are scanned.
     pub(crate) fn push_rows(
         &self,
         trace: &Trace,

@@ -13,7 +13,7 @@ use std::alloc::{AllocError, Global};
 use step_trace::{ProcSet, Trace};
 use suffix_staircase::Receives;
 
-/// What is known of the steps of a trace that were gone over, from the last one back.
+/// What is known of the scanned steps of a trace, from the last one back.
 #[derive(Debug, Drop)]
 pub(crate) struct Pass {
     set: ProcSet,
@@ -23,7 +23,7 @@ pub(crate) struct Pass {
 }
 
 impl Pass {
-    /// A pass that has gone over no step.
+    /// A pass that has scanned no step.
     fn after_all(alloc: Global, trace: &Trace, set: ProcSet) -> Result<Self, AllocError>
         ensures { IfOk result (λ pass. KnowsAfter set trace.now (length trace.now.steps) pass) }
     {
@@ -66,8 +66,8 @@ impl Pass {
 /// The rows from a tick on: of each member of the set its processor bound, and of each link between members with a message
 /// sent in that tick or later its communication bound, in ticks, each with its named witness.
 ///
-/// One pass from the last step back to the tick, in time that grows with the steps, the ids in them, and the square of the
-/// number of processors. Refuses only for want of memory.
+/// One pass from the last step back to the tick, in time that grows with the steps, the ids in them, and the square of
+/// the number of processors. Fails only if out of memory.
 pub fn bound_rows(
     alloc: Global,
     trace: &Trace,

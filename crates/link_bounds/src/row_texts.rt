@@ -11,7 +11,7 @@ use front::push_entry;
 use std::alloc::{AllocError, Global};
 use trace_text::record_writing::{record_writer, text_written, write_byte_record, write_record};
 
-/// How many columns there are beside the name of the bound.
+/// How many columns there are besides the name of the bound.
 const ENTRIES: usize = 5;
 
 /// The names of all columns, in their order.
@@ -55,7 +55,7 @@ fn name_of<'a>(row: &BoundRow) -> &'a [u8]
     }
 }
 
-/// What of a row stands in each column after that: a number, or nothing where the row has none.
+/// The entry of a row in each column after that: a number, or nothing if the row has none.
 fn entries_of(row: &BoundRow) -> [Option<u64>; ENTRIES]
     ensures { result ≡ entries_of row.now }
 {

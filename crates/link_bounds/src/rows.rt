@@ -1,4 +1,4 @@
-//! The rows in which the bounds of processors and links are told.
+//! The rows for the bounds of processors and links.
 
 use crate::bounds::LeastBound;
 use step_trace::{Gap, Miss};

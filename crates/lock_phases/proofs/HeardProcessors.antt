@@ -1,4 +1,4 @@
--- How many messages that are heard pass a test, told of the processors that send them.
+-- How many heard messages pass a test, by the processors that send them.
 use Rattle.std.proofs.Common.{ℕ, ◌≡◌, ◌+◌, ◌<◌, ◌≤◌, Bool, true, Option, sym, ◌∙◌, arith}
 use Rattle.std.specs.Prelude.{Contains, count_by}
 use Rattle.std.specs.List.{range_with_len}

@@ -1,4 +1,4 @@
--- Which locks a node has after one is put or some are released, and which values are acceptable beside them.
+-- Which locks a node has after one is put or some are released, and which values are acceptable with them.
 use Rattle.std.proofs.Common.{ℕ, ◌≡◌, ◌<◌, ◌≤◌, ◌⊎◌, inl, inr, Bool, true, false, cond, not, ltb, eqb, leb, ◌&&◌, List, [], ◌∷◌, map, refl, sym, ap, ◌∙◌, zero, arith, Some, eq-eqb}
 use Rattle.std.specs.Prelude.{Contains}
 use Rattle.std.specs.List.{list_any}
@@ -59,7 +59,7 @@ Contains-put_lock_old v p (x ∷ xs) z c n = go (ltb v (value_of x)) (eqb v (val
     go false false e (inl h) f = (zero, omega arith, sym h)
     go false false e (inr h) f = Contains-rest x z (put_lock v p xs) (f h)
 
--- beside an acceptable value no other is locked
+-- no value but an acceptable one is locked
 pub is_acceptable-locked : (locks : List LockPair) (v : ℕ) (z : LockPair) → is_acceptable locks v ≡ true
     → Contains locks z → value_of z ≡ v
 is_acceptable-locked [] v z a c = absurd (Contains-nil z c)
@@ -135,7 +135,7 @@ pub Contains-kept_locks : (heard : List Message) (locks : List LockPair) (z : Lo
     → is_released heard z ≡ false → Contains (kept_locks heard locks) z
 Contains-kept_locks heard locks z c e = Contains-filter (λ lock. not (is_released heard lock)) locks z c (ap not e)
 
--- what is released is released by a lock that is told
+-- what is released is released by a heard lock
 pub is_released-by : (heard : List Message) (z : LockPair) → is_released heard z ≡ true → IsReleasedByTold heard z
 is_released-by heard z e =
     let m = list_any-found (λ n. list_any (λ told. releases told z) (told_locks (body_of n).kind)) heard e in
@@ -152,7 +152,7 @@ is_released-by heard z e =
     not_false true e f = cc
     not_false false e f = cc
 
--- a lock that is told releases each lock on another value of no higher phase
+-- a heard lock releases each lock on another value of no higher phase
 pub is_released-told : (heard : List Message) (z told : LockPair) → IsTold heard told → (value_of told ≡ value_of z → ⊥)
     → phase_of_lock z ≤ phase_of_lock told → is_released heard z ≡ true
 is_released-told heard z told t n l =

@@ -1,4 +1,4 @@
--- Where the lock on a value stands, or belongs, among locks that rise by value.
+-- Where the lock on a value is, or belongs, among locks that rise by value.
 use Rattle.std.proofs.Common.{ℕ, ◌≡◌, ◌<◌, ◌≤◌, List, [], ◌∷◌, length, get_or, set, refl, ap, zero, suc, arith, eq-eqb}
 use Rattle.std.specs.Prelude.{insert}
 use Rattle.std.proofs.lemmas.Bool.{lt-ltb, le-ltb, ne_eqb}
@@ -21,7 +21,7 @@ put_lock-above v p x xs h = rw (le-ltb v (value_of x) (omega arith), ne_eqb v (v
 abbrev pub AreBelow : ℕ → List LockPair → ℕ → Type 0
 AreBelow v xs i = (k : ℕ) (d : LockPair) → k < i → value_of (get_or xs k d) < v
 
--- the lock on v stands at place i
+-- the lock on v is at place i
 pub put_lock-held : (v p : ℕ) (xs : List LockPair) (i : ℕ) (d : LockPair) → i < length xs → AreBelow v xs i → v ≡ value_of (get_or xs i d)
     → put_lock v p xs ≡ set xs i (v, p)
 put_lock-held v p [] i d l b e = absurd (omega arith)

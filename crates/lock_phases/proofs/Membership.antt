@@ -22,7 +22,7 @@ count_by-found {X} p xs l = go (filter p xs) refl (rw (length-filter p xs) l)
     go [] e h = absurd (omega arith)
     go (y ∷ ys) e h = let r = Contains-from_filter p xs y (subst (λ zs. Contains zs y) (sym e) (Contains-head y ys)) in (y, r.0, r.1)
 
--- what stands in the list of an element stands in the joined lists
+-- what is in the list of an element is in the joined lists
 pub Contains-flat_map : {X A : Type 0} (f : X → List A) (xs : List X) (x : X) (a : A) → Contains xs x → Contains (f x) a → Contains (flat_map f xs) a
 Contains-flat_map f [] x a c d = absurd (Contains-nil x c)
 Contains-flat_map f (y ∷ ys) x a c d = elim (Contains-cons_cases y x ys c) [
@@ -57,7 +57,7 @@ Contains-filter_map {X} {Y} h (z ∷ xs) x y c e = go (h z) refl (Contains-cons_
     go (Some w) s (inl d) f = let g : Some w ≡ Some y = sym s ∙ ap h (sym d) ∙ e in let same : w ≡ y = cc in (zero, omega arith, same)
     go (Some w) s (inr d) f = Contains-rest w y (filter_map h xs) (f d)
 
--- what stands in the joined lists stands in the list of an element
+-- what is in the joined lists is in the list of an element
 pub Contains-from_flat_map : {X A : Type 0} (f : X → List A) (xs : List X) (a : A) → Contains (flat_map f xs) a → (x : X) × Contains xs x × Contains (f x) a
 Contains-from_flat_map f [] a c = absurd (Contains-nil a c)
 Contains-from_flat_map f (x ∷ xs) a c = elim (Contains-append_cases (f x) (flat_map f xs) a c) [

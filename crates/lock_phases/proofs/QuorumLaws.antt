@@ -10,7 +10,7 @@ use Rattle.lock_phases.specs.Quorums.{lists, has_quorum, lesser, least, least_li
 use Rattle.lock_phases.specs.NodeLaws.{IsLeastListed}
 use Rattle.lock_phases.proofs.Membership.{Contains-cons_cases, count_by-found, Contains-flat_map, Contains-from_flat_map}
 
--- a message lists v where v stands in its list
+-- a message lists v if v is in its list
 pub Contains-from_lists : (m : Message) (v : ℕ) → lists m v ≡ true → Contains (listed_values (body_of m).kind) v
 Contains-from_lists m v e =
     let f = list_any-found (λ x. x == v) (listed_values (body_of m).kind) e in

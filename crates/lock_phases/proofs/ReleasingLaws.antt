@@ -1,4 +1,4 @@
--- A lock-release round: a lock goes exactly where a lock on another value, of no lower phase, is told.
+-- A lock-release round: a lock goes exactly if a lock on another value, of no lower phase, is heard.
 use Rattle.std.proofs.Common.{ℕ, ◌≡◌, ◌∙◌, List, refl, sym, subst}
 use Rattle.step_trace.specs.Configurations.{Setup}
 use Rattle.lock_phases.specs.Rounds.{phase_of, part_of, Releasing}
@@ -11,7 +11,7 @@ use Rattle.lock_phases.proofs.RoundLaws.{part_at-releasing, next-in, with_proper
 use Rattle.lock_phases.proofs.LockLaws.{Contains-from_kept_locks, Contains-kept_locks, is_released-by, is_released-told}
 use Rattle.std.proofs.lemmas.Bool.{false_from_ne_true}
 
--- A lock-release round changes nothing but the locks, of which it keeps exactly those that no lock told releases.
+-- A lock-release round changes nothing but the locks. It keeps exactly those that no heard lock releases.
 pub releasing-keeps : (c : Setup) (s : State) (me round : ℕ) (heard : List Message) → part_of round ≡ 4 → ReleasingKeeps s (next c s me round heard) heard
 releasing-keeps c s me round heard e = subst (λ x. ReleasingKeeps s x heard) (sym n) (record {
   proposal = refl;

@@ -16,7 +16,7 @@ use Rattle.lock_phases.specs.NodeLaws.{IsListOf}
 use Rattle.lock_phases.proofs.LockLaws.{is_acceptable-locked, is_acceptable-from_locks}
 use Rattle.lock_phases.proofs.RoundLaws.{part_of-cases, part_at-listing, part_at-locking, part_at-acknowledging, part_at-releasing, out-in}
 
--- in a listing round the owner is told the list
+-- in a listing round the owner is sent the list
 pub list-sent : (c : Setup) (s : State) (me round : ℕ) → part_of round ≡ 1 → out c s me round (owner c.n (phase_of round)) ≡ Some (with_proper s (Listed (values_to_list s)))
 list-sent c s me round e =
     let o = owner c.n (phase_of round) in
@@ -35,13 +35,13 @@ lock-sent c s round to v e p =
     let o = owner c.n (phase_of round) in
     out-in Locking c s o round to (part_at-locking round e) ∙ rw (eq-eqb o o refl, p) refl
 
--- in an acknowledging round the owner is told an acknowledgement that is owed
+-- in an acknowledging round the owner is sent an acknowledgement that is owed
 pub acknowledgement-sent : (c : Setup) (s : State) (me round : ℕ) → part_of round ≡ 3 → s.owes_ack ≡ true → out c s me round (owner c.n (phase_of round)) ≡ Some (with_proper s Ack)
 acknowledgement-sent c s me round e owes =
     let o = owner c.n (phase_of round) in
     out-in Acknowledging c s me round o (part_at-acknowledging round e) ∙ rw (owes, eq-eqb o o refl) refl
 
--- in a lock-release round everybody is told the locks
+-- in a lock-release round everybody is sent the locks
 pub locks-sent : (c : Setup) (s : State) (me round to : ℕ) → part_of round ≡ 4 → out c s me round to ≡ Some (with_proper s (Locks s.locks))
 locks-sent c s me round to e = out-in Releasing c s me round to (part_at-releasing round e)
 

@@ -9,8 +9,8 @@ use Rattle.lock_phases.specs.Rounds.{phase_of, part_of, owner, Part, Listing, Lo
 use Rattle.lock_phases.specs.Nodes.{State}
 use Rattle.lock_phases.specs.NodeFunctions.{kind_in, kind_sent, kind_out, out, values_to_list}
 
--- whether a node says anything in each part of a phase: lists and acknowledgements go to the owner, who
--- alone tells to lock; locks go to everybody
+-- whether a node sends anything in each part of a phase: lists and acknowledgements go to the owner,
+-- who alone sends Lock messages; locks go to everybody
 abbrev pub says_to : Part → State → ℕ → ℕ → ℕ → Bool
 says_to Listing s o me to = eqb to o
 says_to Locking s o me to = eqb me o && is_some s.proposal
@@ -37,7 +37,7 @@ kind_sent-says_to Acknowledging s o me to = go (s.owes_ack && eqb to o)
     go false = refl
 kind_sent-says_to Releasing s o me to = refl
 
--- so it is told by the part of the round whether anything is sent
+-- so the part of the round decides whether anything is sent
 pub sends_by_part : (c : Setup) (s : State) (me round to : ℕ)
     → is_some (out c s me round to) ≡ says_to (part_at (part_of round)) s (owner c.n (phase_of round)) me to
 unfolding out
@@ -62,7 +62,7 @@ kind_sent-kind_in Locking s o me to h = go (eqb me o) h
 kind_sent-kind_in Acknowledging s o me to h = ap (λ b. cond b (Some Ack) None) h
 kind_sent-kind_in Releasing s o me to h = refl
 
--- so what is sent is told by the part of the round
+-- so the part of the round decides what is sent
 pub out_by_part : (c : Setup) (s : State) (me round to : ℕ) → is_some (out c s me round to) ≡ true
     → out c s me round to ≡ option_map (λ kind. record { kind = kind; proper = s.proper }) (kind_in (part_at (part_of round)) s)
 unfolding out

@@ -1,4 +1,4 @@
--- What a body says of the node that sends it (section 3).
+-- What a body says about the node that sends it (section 3).
 use Rattle.std.proofs.Common.{ℕ, ◌≡◌, Bool, true, false, cond, eqb, ◌&&◌, Option, Some, None, refl, subst}
 use Rattle.std.specs.Prelude.{Contains, option_map}
 use Rattle.step_trace.specs.Configurations.{Setup}
@@ -79,7 +79,7 @@ ack-said_by s body said e = go body.kind said.says e
     go Ack e h = e
     go (Locks pairs) e h = cc
 
--- a lock that is told is held
+-- a lock that is sent is held
 pub told-said_by : (s : State) (body : Body) (lock : LockPair) → IsSaidBy s body → Contains (told_locks body.kind) lock → Contains s.locks lock
 told-said_by s body lock said d = go body.kind said.says d
   where

@@ -1,4 +1,4 @@
--- What is heard and said in a round, in the words in which the laws of the node functions are told (section 3).
+-- What is heard and sent in a round, in the words of the laws of the node functions (section 3).
 use Rattle.std.specs.Prelude.{ℕ, ◌≡◌, ◌≢◌, ◌≤◌, List, Option, Some, Bool, true, Contains, count_by, filter_map}
 use Rattle.std.specs.List.{range_with_len}
 use Rattle.lock_phases.specs.declared.bodies.Kind.{Kind}
@@ -28,13 +28,13 @@ pub record IsToldToLock (owner : ℕ) (heard : List Message) (v : ℕ) : Type 0 
   pub sender : sender_of message ≡ owner
   pub kind : (body_of message).kind ≡ Lock v
 
--- this lock is told in what is heard
+-- this lock is in a heard message
 pub record IsTold (heard : List Message) (told : LockPair) : Type 0 where
   pub message : Message
   pub is_heard : Contains heard message
   pub tells : Contains (told_locks (body_of message).kind) told
 
--- a lock that is told releases this one: it is on another value, and of no lower phase
+-- a heard lock releases this one: it is on another value, and of no lower phase
 pub record IsReleasedByTold (heard : List Message) (lock : LockPair) : Type 0 where
   pub releasing : LockPair
   pub told : IsTold heard releasing
@@ -67,15 +67,15 @@ number_of n is = count_by is (range_with_len 1 n)
 abbrev pub with_proper : State → Kind → Body
 with_proper s kind = record { kind = kind; proper = s.proper }
 
--- who says what to whom, and in which part of a phase: the owner is told lists and acknowledgements, and alone
--- says Locks
+-- who sends what to whom, and in which part of a phase: lists and acknowledgements go to the owner, who alone
+-- sends Lock messages
 abbrev pub IsAddressed : ℕ → ℕ → ℕ → ℕ → Kind → Type 0
 IsAddressed part owner me to (Listed values) = (part ≡ 1) × (to ≡ owner)
 IsAddressed part owner me to (Lock v) = (part ≡ 2) × (me ≡ owner)
 IsAddressed part owner me to Ack = (part ≡ 3) × (to ≡ owner)
 IsAddressed part owner me to (Locks pairs) = part ≡ 4
 
--- what a kind says of the node that sends it
+-- what a kind says about the node that sends it
 abbrev pub Says : State → Kind → Type 0
 Says s (Listed values) = values ≡ values_to_list s
 Says s (Lock v) = s.proposal ≡ Some v

@@ -21,7 +21,7 @@ put_lock v phase (lock ∷ rest) =
     else if v == value_of lock then (v, phase) ∷ rest
     else lock ∷ put_lock v phase rest
 
--- the release rule: a told lock (w, h') releases (v, h) where w isn't v and h' is at least h
+-- the release rule: a heard lock (w, h') releases (v, h) if w isn't v and h' is at least h
 abbrev pub releases : LockPair → LockPair → Bool
 releases told lock = not (value_of told == value_of lock) && nat_le (phase_of_lock lock) (phase_of_lock told)
 
@@ -29,6 +29,6 @@ releases told lock = not (value_of told == value_of lock) && nat_le (phase_of_lo
 abbrev pub is_released : List Message → LockPair → Bool
 is_released heard lock = list_any (λ m. list_any (λ told. releases told lock) (told_locks (body_of m).kind)) heard
 
--- the locks that stay, each judged as it was before any was released
+-- the locks that stay, each judged before any is released
 abbrev pub kept_locks : List Message → List LockPair → List LockPair
 kept_locks heard locks = filter (λ lock. not (is_released heard lock)) locks

@@ -1,11 +1,11 @@
--- Messages (section 3: what a body says, beside the PROPER set that is attached to each).
+-- Messages (section 3: what a body says, besides the PROPER set that is attached to each).
 use Rattle.std.specs.Prelude.{ℕ, List, [], Option, Some, None, Bool, true, false}
 use Rattle.lock_phases.specs.declared.bodies.Kind.{Kind}
 use Rattle.lock_phases.specs.declared.bodies.Kind.TheVariants.{List as Listed, Lock, Ack, Locks}
 use Rattle.lock_phases.specs.declared.bodies.Body.{Body}
 use Rattle.lock_phases.specs.Nodes.{LockPair}
 
--- a message as it is heard: its sender with its body
+-- a message when it is heard: its sender with its body
 abbrev pub Message : Type 0
 Message = ℕ × Body
 
@@ -36,7 +36,7 @@ is_ack (Lock value) = false
 is_ack Ack = true
 is_ack (Locks pairs) = false
 
--- the locks that a message of a lock-release round tells
+-- the locks in a message of a lock-release round
 abbrev pub told_locks : Kind → List LockPair
 told_locks (Listed values) = []
 told_locks (Lock value) = []

@@ -15,9 +15,9 @@ use Rattle.lock_phases.specs.Quorums.{least_listed, acks}
 abbrev pub values_to_list : State → List ℕ
 values_to_list s = filter (is_acceptable s.locks) s.proper
 
--- What a node says in each part of a phase, of this owner: each processor tells the owner its acceptable
--- proper values; the owner tells everybody to lock its proposal, if it has one; each processor that owes an
--- acknowledgement gives it to the owner; everybody tells everybody its locks, possibly none.
+-- What a node says in each part of a phase, of this owner. Each processor sends the owner its acceptable
+-- proper values. The owner tells everybody to lock its proposal, if it has one. Each processor that owes an
+-- acknowledgement sends it to the owner. Everybody sends everybody its locks, possibly none.
 abbrev pub kind_sent : Part → State → ℕ → ℕ → ℕ → Option Kind
 kind_sent Listing s owner me to = if to == owner then Some (Listed (values_to_list s)) else None
 kind_sent Locking s owner me to = if me == owner then option_map Lock s.proposal else None

@@ -1,5 +1,5 @@
--- The laws of the node functions of Algorithm 1 (section 3), by the part of the phase: what holds of a node
--- before and after a round, whatever it heard in it.
+-- The laws of the node functions of Algorithm 1 (section 3), by the part of the phase: what holds of a node before
+-- and after a round, for any messages heard.
 use Rattle.std.specs.Prelude.{ℕ, ◌≡◌, ◌↔◌, ◌⊎◌, ◌+◌, ◌-◌, ◌<◌, ◌≤◌, List, Option, Some, None, Bool, true, false, IsSome, unwrap_or, Contains}
 use Rattle.step_trace.specs.Configurations.{Setup, IsProc}
 use Rattle.lock_phases.specs.Nodes.{State, LockPair, value_of, phase_of_lock}
@@ -112,7 +112,7 @@ IsDecidedByQuorum c s after heard_of = (v : ℕ) (acknowledges : ℕ → Bool) �
 
 -- Lock-release rounds
 
--- A lock-release round changes nothing but the locks. It adds none, keeps each that no lock told releases, and
+-- A lock-release round changes nothing but the locks. It adds none, keeps each that no heard lock releases, and
 -- keeps none that one does.
 pub record ReleasingKeeps (s after : State) (heard : List Message) : Type 0 where
   pub proposal : after.proposal ≡ s.proposal

@@ -161,7 +161,7 @@ impl Body {
         }
     }
 
-    /// The locks that a message of a lock-release round tells, and none of another kind.
+    /// The locks in a message of a lock-release round, and none for another kind.
     pub(crate) fn told_locks(&self) -> &[(u64, u64)]
         ensures { result.now ≡ told_locks self.now.kind }
     {

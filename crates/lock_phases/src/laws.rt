@@ -1,9 +1,9 @@
 //! The laws of the node functions (section 3 of the 1988 paper), from which agreement and the bounded decision
 //! follow.
 //!
-//! They are theorems: each stands in a contract and quantifies over every configuration, every state of a node,
-//! every round and all that may be heard in it. Calling one of them does nothing. `out` is what a node sends to a
-//! processor in a round, and `next` the node after the round (`specs/NodeFunctions.antt`).
+//! They are theorems: each contract quantifies over every configuration, every state of a node, every round and all
+//! that may be heard in it. Calling one of them does nothing. `out` is what a node sends to a processor in a round,
+//! and `next` the node after the round (`specs/NodeFunctions.antt`).
 
 ghost use Rattle.std.specs.Prelude.{ℕ, ◌≡◌, ◌≢◌, ◌⊎◌, ◌+◌, ◌-◌, ◌≤◌, List, Option, Some, true, unwrap_or, map, Contains};
 ghost use Rattle.std.specs.List.Sorted.{IsStrictlyIncreasing};
@@ -99,7 +99,7 @@ pub fn acknowledging_laws()
         IsAcknowledgedByQuorum c s (next c s me round (heard_from c.n heard_of)) me (owner c.n (phase_of round)) heard_of }
 {}
 
-/// In a lock-release round a lock goes exactly where a lock on another value, of no lower phase, is told.
+/// In a lock-release round a lock goes exactly if a lock on another value, of no lower phase, is heard.
 pub fn releasing_laws()
     ensures keeps { (c : Setup) (s : State) (me round : ℕ) (heard : List Message) → part_of round ≡ 4 →
         ReleasingKeeps s (next c s me round heard) heard }

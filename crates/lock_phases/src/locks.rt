@@ -1,4 +1,4 @@
-//! Locks: which values are acceptable beside them, and how they are put and released.
+//! Locks: which values are acceptable with them, and how they are put and released.
 
 ghost use Rattle.std.specs.Prelude.{◌≡◌, ◌≤◌, ◌<◌, ℕ, OnOk, OnErr, IfOk, IfErr, filter, length, insert, slice_set};
 ghost use Rattle.std.specs.List.{list_any};
@@ -14,7 +14,7 @@ pub(crate) fn is_acceptable(locks: &[(u64, u64)], v: u64) -> bool
     locks.iter().all(|(locked, _)| *locked == v)
 }
 
-/// Keeps those of these values that are acceptable beside these locks.
+/// Keeps those of these values that are acceptable with these locks.
 pub(crate) fn keep_acceptable(values: &mut Vec<u64>, locks: &[(u64, u64)])
     ensures { values.new.items ≡ filter (is_acceptable locks.now) values.old.items }
 {
@@ -66,7 +66,7 @@ fn find_lock(locks: &[(u64, u64)], v: u64) -> Result<usize, usize>
     Err(locks.len())
 }
 
-/// Releases each lock that a lock heard releases, judged on the locks as they are at the call.
+/// Releases each lock that a heard lock releases, judged on the locks at the call.
 pub(crate) fn release(locks: &mut Vec<(u64, u64)>, heard: &[(u64, Body)])
     ensures { locks.new.items ≡ kept_locks heard.now locks.old.items }
 {

@@ -136,7 +136,7 @@ impl Node {
     }
 
     /// What processor `me` with this node sends to processor `to` in a round, if anything; PROPER is
-    /// attached to whatever it sends (section 3 of the 1988 paper).
+    /// attached to all that it sends (section 3 of the 1988 paper).
     #[tactic(auto, using(crate::proofs::Sendings::out_by_part))]
     pub fn out(
         &self,
@@ -178,7 +178,7 @@ impl Node {
     fn values_to_list(&self, alloc: Global) -> Result<Values, AllocError>
         ensures { IfOk result (λ values. values ≡ values_to_list self.now) }
     {
-        // (`collect` would ask again for less where its growth is refused)
+        // (`collect` would ask again for less if its allocation fails)
         let mut values = Vec::from_slice(alloc, self.proper.as_slice())?;
         keep_acceptable(&mut values, &self.locks);
         Ok(Values::new(alloc, values)?)
@@ -191,12 +191,12 @@ impl Node {
         Ok(LockPairs::new(alloc, pairs)?)
     }
 
-    /// Takes processor `me` with this node through a round in which it heard these messages, each with
-    /// its sender, in the order of the senders (section 3 of the 1988 paper).
+    /// Takes processor `me` with this node through a round in which it heard these messages, each with its
+    /// sender, in the order of the senders (section 3 of the 1988 paper).
     ///
     /// Each PROPER heard is taken in first. A body of another part of the phase, a Lock that isn't the
-    /// owner's, and a List or Ack heard by another than the owner do no more than that. Takes no memory
-    /// but for a value or a lock that is new to the node; without that memory the node stays as it was.
+    /// owner's, and a List or Ack heard by another than the owner do no more than that. Takes memory only
+    /// for a value or a lock that is new to the node; out of memory leaves the node unchanged.
     #[tactic(auto, unfolding(crate::specs::NodeFunctions::next))]
     pub fn compute(
         &mut self,

@@ -7,7 +7,7 @@ use std::sync::Arc;
 /// A list that its clones share.
 #[derive(Debug, Drop)]
 pub(crate) struct SharedList<T> {
-    // (none where the list is empty, so that an empty list takes no memory)
+    // (none if the list is empty, so that an empty list takes no memory)
     items: Option<Arc<Vec<T>>>,
 }
 

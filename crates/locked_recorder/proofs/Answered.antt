@@ -1,4 +1,4 @@
--- What a World answers to a move, from what `World::step` says of it.
+-- What a World answers to a move, by the contract of `World::step`.
 use Rattle.std.proofs.Common.{ℕ, ◌≡◌, ◌+◌, ◌≤◌, [], ◌∷◌, ◌++◌, length, Some, None, refl, sym, ap, subst, ◌∙◌}
 use Rattle.std.proofs.lemmas.List.{length_push}
 use Rattle.step_trace.specs.Configurations.{Setup}

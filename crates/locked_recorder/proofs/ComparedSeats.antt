@@ -13,7 +13,7 @@ use Rattle.locked_recorder.proofs.DoneOf.{done_of-all_done, done_of-next, done_o
 use Rattle.locked_recorder.proofs.DoneSteps.{length-all_done, done_last-at}
 use Rattle.locked_recorder.proofs.SeatOrder.{place-in_order}
 
--- the seat of another processor is as it was
+-- the seat of another processor is unchanged
 other : (c : Setup) (steps : List Step) (n : ℕ) (x : Step) (s : Turns) (m : Option ℕ) → step_at steps (suc n) ≡ Some x → (x.proc ≡ s.proc → ⊥)
     → IsCompared c steps n s m → IsCompared c steps (n + 1) s m
 other c steps n x s (Some k) at off so =

@@ -42,14 +42,14 @@ done_of-other all p i x inside is other =
     let test : (x.step.proc == p) ≡ false = grind (arith, nat_tests) in
     rw test at (one_more all p i x inside is) ∙ append-nil (done_of (take i all) p)
 
--- what stands next in a list that has been the same so far
+-- what comes next in a list that has been the same so far
 pub done_of-next : (all own : List Done) (p i next : ℕ) (x : Done) → i < length all → x ≡ get_or all i x → x.step.proc ≡ p
     → done_of (take i all) p ≡ take next own → slice_get own next ≡ Some x → done_of (take (i + 1) all) p ≡ take (next + 1) own
 done_of-next all own p i next x inside is mine same at =
     done_of-more all p i x inside is mine ∙ ap (λ ds. ds ++ x ∷ []) same
     ∙ sym (take_more own next x (slice_get_within own next x at) ∙ ap (λ y. take next own ++ y ∷ []) (get_or_from_slice_get own next x x at))
 
--- must stand there, if the list is all that p does
+-- must be there, if the list is all that p does
 pub next-of_done_of : (all own : List Done) (p i next : ℕ) (x : Done) → i < length all → x ≡ get_or all i x → x.step.proc ≡ p
     → done_of (take i all) p ≡ take next own → next ≤ length own → own ≡ done_of all p → slice_get own next ≡ Some x
 next-of_done_of all own p i next x inside is mine same short whole =

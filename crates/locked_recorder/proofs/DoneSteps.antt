@@ -31,7 +31,7 @@ step_at-there (x ∷ steps) (suc (suc k)) low high e = step_at-there steps (suc 
 pub length-all_done : (c : Setup) (steps : List Step) → length (all_done c steps) ≡ length steps
 length-all_done c steps = length-map (enumerate_from 1 steps) (λ x. done_at c steps x) ∙ length-enumerate_from 1 steps
 
--- what was done last in the first n + 1 steps stands at n of all that is done
+-- what was done last in the first n + 1 steps is at n of all that is done
 pub done_last-at : (c : Setup) (steps : List Step) (n : ℕ) (x : Step) (d : Done) → step_at steps (suc n) ≡ Some x → get_or (all_done c steps) n d ≡ done_last c (take (n + 1) steps) x
 done_last-at c steps n x d at =
     let within : n < length steps = slice_get_within steps n x at in

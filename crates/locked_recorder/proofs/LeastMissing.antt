@@ -15,7 +15,7 @@ Contains-only x y (suc k, l, e) = absurd (omega arith)
 Contains-push : {X : Type 0} (xs : List X) (x y : X) → Contains (xs ++ x ∷ []) y → Contains xs y ⊎ (x ≡ y)
 Contains-push xs x y h = elim (Contains-append_cases xs (x ∷ []) y h) [ inl old ↦ inl old | inr new ↦ inr (Contains-only x y new) ]
 
--- the least missing one stays so where one more is no lesser, or stands
+-- the least missing one stays so if one more is no lesser, or is there
 least_stays : (steps : List Step) (done : List Done) (d : Done) (n : ℕ) → IsLeastMissing steps done n → (d.no < n → Stands steps d)
     → IsLeastMissing steps (done ++ d ∷ []) n
 least_stays steps done d n least new = record {
@@ -26,7 +26,7 @@ least_stays steps done d n least new = record {
   ];
 }
 
--- one more that stands
+-- one more that is there
 pub Misses-standing : (steps : List Step) (done : List Done) (d : Done) (least : Option ℕ) → Misses steps done least → Stands steps d
     → Misses steps (done ++ d ∷ []) least
 Misses-standing steps done d None all stands = All-push (λ x. Stands steps x) done d all stands

@@ -97,7 +97,7 @@ WerePaced-push : (r : Identity) (p : ℕ) (pace : Paced) (more : List Done) (mid
 WerePaced-push r p pace [] mid after done were answer = (after, subst (λ x. IsPacedAnswer r p x after done) were answer, refl)
 WerePaced-push r p pace (d ∷ more) mid after done were answer = (were.0, were.1, WerePaced-push r p were.0 more mid after done were.2 answer)
 
--- a seat after so many steps, with the pace as it is then
+-- a seat after so many steps, with its pace at that time
 pub record IsPacedUnderWay (r : Identity) (patience steps : ℕ) (pace : Paced) (old new : Turns) : Type 0 where
   pub driven : IsPacedDrive r patience steps old new
   pub now : pace ≡ driven.after

@@ -1,4 +1,4 @@
--- The rounds of the processors of seats, as a trace is gone through step by step.
+-- The rounds of the processors of seats, as a trace is scanned step by step.
 use Rattle.std.proofs.Common.{ℕ, suc, Some, ◌≡◌, ◌≢◌, ◌==◌, ◌+◌, ◌-◌, ◌<◌, ◌≤◌, List, length, take, get_or, set, cond, Bool, true, false, refl, sym, ap, ◌∙◌, arith}
 use Rattle.std.proofs.lemmas.Bool.{ne_eqb}
 use Rattle.std.proofs.lemmas.Bool.Decides.{nat_tests}

@@ -41,7 +41,7 @@ nothing_to_send c limit steps p = go (nat_lt (length steps) limit) (is_proc c p)
     go true false to h = cc
     go false b to h = cc
 
--- the same of a World that is as it was before it refused the Send
+-- the same of a World that is unchanged since before it refused the Send
 pub nothing_to_send_after : (r : Identity) (old w : Progress) (p : ℕ) (why : StepError) → w ≡ old → IsShown r w → why ≡ NothingToSend
     → IsStepRefusal why (step_refusal old.trace.config old.limit old.trace.steps p Send) → next_send r.config w.trace.steps p ≡ None
 nothing_to_send_after r old w p why same shown is refused =
@@ -51,7 +51,7 @@ nothing_to_send_after r old w p why same shown is refused =
     subst (λ (v : Progress). step_refusal v.trace.config v.limit v.trace.steps p Send ≡ Some NothingToSend) (sym same) there in
     subst (λ (m : Setup). next_send m w.trace.steps p ≡ None) shown.config (nothing_to_send w.trace.config w.limit w.trace.steps p here)
 
--- another reason than NothingToSend stands against each move of p, if it stands against a Send
+-- if another reason than NothingToSend holds against a Send of p, it holds against each move of p
 any_move : (c : Setup) (limit : ℕ) (steps : List Step) (p : ℕ) (move : Move) (why : StepError) → (why ≡ NothingToSend → ⊥)
     → step_refusal c limit steps p Send ≡ Some why → step_refusal c limit steps p move ≡ Some why
 any_move c limit steps p move why other = go (nat_lt (length steps) limit) (is_proc c p) (next_send c steps p) (move_refusal c steps p move)
@@ -62,7 +62,7 @@ any_move c limit steps p move why other = go (nat_lt (length steps) limit) (is_p
     go true false to own h = h
     go false b to own h = h
 
--- what stands against the first move that is tried, unless that is a Send where there is nothing to send
+-- the reason against the first move that is tried, unless that is a Send with nothing to send
 pub IsChosenStepReason-first : (r : Identity) (w : Progress) (p : ℕ) (sends : Bool) (step : Move) (why : StepError) → IsShown r w
     → (sends ≡ true → why ≡ NothingToSend → ⊥) → IsStepRefusal why (step_refusal w.trace.config w.limit w.trace.steps p (if sends then Send else step))
     → IsChosenStepReason r p (chosen sends step) why

@@ -16,8 +16,7 @@ use Rattle.locked_recorder.specs.Recordings.{IsAnswer, IsAgainst}
 abbrev pub chosen : Bool → Move → Option ℕ → Move
 chosen sends step to = if sends && is_some to then Send else step
 
--- This was done on a World of a recorder, in which p sends next to `to`, that p was told to move as the choice
--- says.
+-- This was done on a World of a recorder, in which p sends next to `to`, and p's move was the choice.
 pub record IsChosenAnswer (r : Identity) (p : ℕ) (choice : Option ℕ → Move) (done : Done) : Type 0 where
   pub to : Option ℕ
   pub answer : IsAnswer r p (choice to) done
@@ -29,7 +28,7 @@ pub record IsChosenAgainst (r : Identity) (p : ℕ) (choice : Option ℕ → Mov
   pub against : IsAgainst r p (choice to) why
   pub next : next_send r.config against.before p ≡ to
 
--- why a World refuses; want of memory shows nothing
+-- why a World refuses; out of memory shows nothing
 abbrev pub IsChosenStepReason : Identity → ℕ → (Option ℕ → Move) → StepError → Type 0
 IsChosenStepReason r p choice Memory = Unit {0}
 IsChosenStepReason r p choice why = IsChosenAgainst r p choice why

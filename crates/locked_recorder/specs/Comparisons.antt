@@ -17,7 +17,7 @@ pub record AreCompared (c : Setup) (steps : List Step) (n : ℕ) (seats : List T
   pub count : length agreed ≡ length seats
   pub each : (i : ℕ) (s : Turns) (m : Option ℕ) → i < length seats → IsCompared c steps n (slice_index_or seats i s) (slice_index_or agreed i m)
 
--- how many agree once the processor did one thing more: one more, where that stands next in the list; none where
+-- how many agree once the processor did one thing more: one more, if that comes next in the list; none if
 -- anything differs
 abbrev pub IsNextAgreed : List Done → Done → Option ℕ → Option ℕ → Type 0
 IsNextAgreed own d (Some k) (Some m) = (slice_get own k ≡ Some d) × (m ≡ k + 1)

@@ -51,7 +51,7 @@ abbrev pub IsStop : Identity → ℕ → ℕ → ℕ → ℕ → Turns → Drive
 IsStop r patience steps made before s Held = made ≡ 0
 IsStop r patience steps made before s (Record why) = (made < steps) × IsChoiceRefusal r s (drive_move patience before) why
 
--- what a gate answered, where a drive stopped for this reason
+-- what a gate answered, if a drive stopped for this reason
 abbrev pub was_let_in : DriveStop → Bool
 was_let_in Held = false
 was_let_in (Record why) = true

@@ -27,7 +27,7 @@ pub record IsPacedAgainst (r : Identity) (p : ℕ) (pace : Paced) (why : StepErr
   pub against : IsAgainst r p move why
   pub moved : move ≡ paced_move r.config against.before p pace
 
--- why a World refuses; want of memory shows nothing
+-- why a World refuses; out of memory shows nothing
 abbrev pub IsPacedStepReason : Identity → ℕ → Paced → StepError → Type 0
 IsPacedStepReason r p pace Memory = Unit {0}
 IsPacedStepReason r p pace why = IsPacedAgainst r p pace why
@@ -53,9 +53,9 @@ abbrev pub WerePaced : Identity → ℕ → Paced → List Done → Paced → Ty
 WerePaced r p pace [] after = after ≡ pace
 WerePaced r p pace (done ∷ more) after = (next : Paced) × IsPacedAnswer r p pace next done × WerePaced r p next more after
 
--- A seat after so many steps by the pace that begins with this patience: as many things more are done, each of which a
--- World of the recorder answers to the move of the pace as it is then. Steps are made from a seat of the recorder's tag
--- alone.
+-- A seat after so many steps by the pace that begins with this patience. As many things more are done, each of which a
+-- World of the recorder answers to the pace's move at that time. Steps are made only from a seat with the recorder's
+-- tag.
 pub record IsPacedDrive (r : Identity) (patience steps : ℕ) (old new : Turns) : Type 0 where
   pub more : List Done
   pub count : length more ≡ steps

@@ -32,12 +32,12 @@ IsNotAnExtension c seen zero found = found ≡ None
 IsNotAnExtension c None (suc k) found = ⊥
 IsNotAnExtension c (Some seen) (suc k) found = IsOtherRun c seen (suc k) found
 
--- why a recorder of the configuration shows no prefix to a view; want of memory shows nothing
+-- why a recorder of the configuration shows no prefix to a view; out of memory shows nothing
 abbrev pub IsPrefixRefusal : Setup → Option Recorded → PrefixError → Type 0
 IsPrefixRefusal c seen (prefix_error.NotAnExtension place found) = IsNotAnExtension c seen place found
 IsPrefixRefusal c seen prefix_error.Memory = Unit {0}
 
--- a step that was done stands in a trace at its number
+-- a step that was done is in a trace at its number
 abbrev pub Stands : List Step → Done → Type 0
 Stands steps done = step_at steps done.no ≡ Some done.step
 

@@ -21,8 +21,8 @@ pub record IsWorldOf (r : Identity) (steps : List Step) : Type 0 where
   pub within : length steps ≤ r.limit
   pub bounded : r.limit ≤ MAX_STEPS
 
--- This was done on a World of a recorder that p was told to move so: the move isn't refused, and what was done is its
--- step, with its number, and the round and decision of p after it.
+-- This was done on a World of a recorder by this move of p: the move isn't refused, and what was done is its step,
+-- with its number, and the round and decision of p after it.
 pub record IsAnswer (r : Identity) (p : ℕ) (move : Move) (done : Done) : Type 0 where
   pub before : List Step
   pub world : IsWorldOf r before
@@ -38,7 +38,7 @@ pub record IsAgainst (r : Identity) (p : ℕ) (move : Move) (why : StepError) : 
   pub world : IsWorldOf r before
   pub reason : step_refusal r.config r.limit before p move ≡ Some why
 
--- why a World refuses; want of memory shows nothing
+-- why a World refuses; out of memory shows nothing
 abbrev pub IsStepReason : Identity → ℕ → Move → StepError → Type 0
 IsStepReason r p move Memory = Unit {0}
 IsStepReason r p move why = IsAgainst r p move why

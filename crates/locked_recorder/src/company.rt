@@ -5,8 +5,8 @@ use crate::undecided::Undecided;
 use std::alloc::{AllocError, Global};
 use std::sync::Wait;
 
-/// What the threads of a run know of one another, beside the World that they move: who sleeps until a message comes, and
-/// how many processors have yet to decide.
+/// What the threads of a run know of one another, besides the World that they move: who sleeps until a message comes,
+/// and how many processors have yet to decide.
 #[derive(Drop)]
 pub struct Company {
     pub(crate) sleepers: Sleepers,

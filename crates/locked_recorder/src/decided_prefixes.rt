@@ -14,7 +14,7 @@ use std::alloc::{AllocError, Global};
 use std::sync::Wait;
 use step_trace::Trace;
 
-/// A recorder's trace as it was at one moment, and the decisions of the run so far, in the order of their steps.
+/// A recorder's trace at one moment, and the decisions of the run so far, in the order of their steps.
 #[derive(Debug, Drop)]
 pub struct DecidedPrefix {
     pub trace: Trace,
@@ -22,10 +22,11 @@ pub struct DecidedPrefix {
 }
 
 impl Recorder {
-    /// The trace as it is now, shown to a view as `prefix` does, with the decisions in it. A refusal leaves the view as it was.
+    /// The current trace, shown to a view as `prefix` does, with the decisions in it. A refusal leaves the view
+    /// unchanged.
     ///
-    /// Refuses in the order of `PrefixError`. Waits for the lock, and goes over the steps once under it. Takes memory for two
-    /// copies, the decisions, and a number of each processor.
+    /// Refuses in the order of `PrefixError`. Waits for the lock, and scans the steps once under it. Takes memory for
+    /// two copies, the decisions, and a number of each processor.
     pub fn decided_prefix<R: Wait>(
         &self,
         rt: &R,

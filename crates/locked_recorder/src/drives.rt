@@ -12,7 +12,7 @@ use std::sync::Wait;
 use step_buffers::{Move, Take};
 use step_trace::{Act, Gate};
 
-/// How a drive stands in the round of its processor.
+/// Where a drive is in the round of its processor.
 #[derive(Debug, Drop)]
 struct Pace {
     // How many Receives end a round, and how many it made in this one.

@@ -8,7 +8,7 @@ use step_trace::Step;
 pub enum RecordError {
     /// The seat is of a recorder with another tag; or the World isn't of the recorder's configuration and limit.
     ForeignSeat,
-    /// The World refused the step; or there was no memory for it.
+    /// The World refused the step, or was out of memory for it.
     Step(StepError),
 }
 
@@ -19,7 +19,7 @@ pub enum PrefixError {
     /// with its tick, which isn't the view's; where it has all steps of the view, `at` is the number after
     /// them. At 0 it is of another configuration, or the World isn't of the recorder's configuration and limit.
     NotAnExtension { at: u64, found: Option<(u64, Step)> },
-    /// There was no memory for the copies.
+    /// Out of memory for the copies.
     Memory,
 }
 
@@ -30,7 +30,7 @@ pub enum MineError {
     ForeignSeat,
     /// The trace hasn't the step of this number that the seat did. It is the least such number.
     NotMine(u64),
-    /// There was no memory for the copy.
+    /// Out of memory for the copy.
     Memory,
 }
 
@@ -45,7 +45,7 @@ pub enum AuditError {
     SeatDiffers(u64),
     /// The trace doesn't extend the view of this index, which counts from 0 and is the least such.
     ViewDiffers(u64),
-    /// There was no memory for the copy of the World, or for comparing the seats with it.
+    /// Out of memory for the copy of the World, or for comparing the seats with it.
     Memory,
 }
 

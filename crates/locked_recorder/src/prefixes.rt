@@ -14,8 +14,8 @@ use std::sync::Wait;
 use step_trace::Trace;
 
 impl Recorder {
-    /// The trace as it is now, shown to a view: it extends what the view had seen, and the view has then seen
-    /// it. A refusal leaves the view as it was.
+    /// The current trace, shown to a view: it extends what the view had seen, and the view has then seen it. A refusal
+    /// leaves the view unchanged.
     ///
     /// Refuses in the order of `PrefixError`. Waits for the lock. Takes memory for two copies.
     pub fn prefix<R: Wait>(
@@ -39,7 +39,7 @@ impl Recorder {
         Ok(trace)
     }
 
-    /// The trace as it is now, with all that a seat did.
+    /// The current trace, with all that a seat did.
     ///
     /// Refuses in the order of `MineError`. Waits for the lock. Takes memory for the copy.
     pub fn prefix_mine<R: Wait>(
@@ -79,7 +79,8 @@ impl Recorder {
     }
 }
 
-/// Shows a trace to a view, if it extends what that had seen. A refusal leaves the view as it was. Takes memory for a copy.
+/// Shows a trace to a view, if it extends what that had seen. A refusal leaves the view unchanged. Takes memory for a
+/// copy.
 pub(crate) fn show(alloc: Global, trace: &Trace, view: &mut View) -> Result<(), PrefixError>
     requires { IsRunOf trace.now.config trace.now }
     ensures extends { OnOk result (IfSome view.old (λ seen. Extends trace.now seen)) }

@@ -33,8 +33,8 @@ impl Model for Recorder {
 }
 
 impl Recorder {
-    /// A recorder over the World of a configuration in which no step was made and at most so many may be; and
-    /// a seat for each processor, in order. Recorders of one tag can't be told apart by their seats.
+    /// A recorder over the World of a configuration in which no step was made and at most so many may be; and a
+    /// seat for each processor, in order. Seats don't distinguish recorders of one tag.
     ///
     /// Asks for at most 1,000,000 steps. Takes memory for each processor.
     pub fn new(
@@ -83,7 +83,7 @@ pub(crate) fn is_world_of(world: &World, config: &Config, limit: u64) -> bool
 fn opening_seats(alloc: Global, tag: u64, config: &Config) -> Result<Vec<Seat>, AllocError>
     ensures { IfOk result (λ seats. seats.items ≡ opening_seats tag config.now.n) }
 {
-    // (`collect` would ask again for less where its growth is refused)
+    // (`collect` would ask again for less if its allocation fails)
     let mut seats = Vec::with_capacity(alloc, config.n() as usize)?;
     for p in 1..config.n() + 1 {
         seats.push(Seat::new(alloc, tag, p))?;

@@ -67,8 +67,8 @@ impl Recorder {
 }
 
 impl Seat {
-    /// Makes one step from this seat, under the recorder's lock, and lends what was done from the seat's list,
-    /// which grows by it. A refusal leaves the seat as it was.
+    /// Makes one step from this seat, under the recorder's lock, and lends what was done from the seat's list, which
+    /// grows by it. A refusal leaves the seat unchanged.
     ///
     /// Refuses in the order of `RecordError`. Waits for the lock. Takes memory for the list, before it waits,
     /// and for the step.

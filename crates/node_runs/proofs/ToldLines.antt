@@ -25,7 +25,7 @@ use Rattle.node_runs.specs.Followers.{AreParts, HasBegun, HasFollowed, HasTold, 
 pub begun_nothing : (Line : List ℕ → Type 0) (line : List ℕ) (x : Option (List ℕ)) → Line line → HasBegun Line x x
 begun_nothing Line line x h = record { line = line; line_is = h; count = 0; out = Appends-nil x }
 
--- a line that was told, or of which a part went out
+-- a printed line, or one of which a part went out
 pub begun : {T A : Type 0} (Line : List ℕ → Type 0) (line : List ℕ) (contents : T → Option (List ℕ)) (old new : Counting T) (r : Result A Fault) → Line line
     → OnOk r (Appends (contents (inner_of old)) (contents (inner_of new)) line)
     → IfErr r (λ why. IsUntold why line (contents (inner_of old)) (contents (inner_of new)))
@@ -36,7 +36,7 @@ begun Line line contents old new (Err (fault.Write n)) h told part cause = recor
 begun Line line contents old new (Err w) h told part cause =
     subst (λ x. HasBegun Line (contents (inner_of old)) (contents (inner_of x))) (sym cause) (begun_nothing Line line (contents (inner_of old)) h)
 
--- the line of how a trace stands, told whole with its news
+-- the line of how synchronous a trace is, printed whole with its news
 pub told_whole : {T A : Type 0} (set : ℕ) (trace : Recorded) (standing : Option Standing) (news : List ℕ) (contents : T → Option (List ℕ)) (old new : Counting T) (r : Result A Fault) → IsStanding set trace standing
     → OnOk r (Appends (contents (inner_of old)) (contents (inner_of new)) (told_standing standing ++ news))
     → OnOk r (HasToldOne (TellsOf set trace news) (contents (inner_of old)) (contents (inner_of new)))
@@ -44,7 +44,7 @@ told_whole set trace standing news contents old new (Ok _) stands told =
     record { line = told_standing standing ++ news; line_is = record { standing = standing; stands = stands; told = refl }; out = told }
 told_whole set trace standing news contents old new (Err _) stands told = tt
 
--- a text that wasn't printed is one that wasn't told
+-- a text that wasn't printed is no line that went out
 pub untold : {A : Type 0} (line : List ℕ) (a b : Option (List ℕ)) (r : Result A Fault) → IfErr r (λ why. IsUnprinted why line a b) → IfErr r (λ why. IsUntold why line a b)
 untold line a b (Ok _) h = tt
 untold line a b (Err (fault.Write n)) h = h
@@ -73,11 +73,12 @@ next_line set trace ds since until news line less is said (inr stop) = inr ((ome
 pub begun_as : (Line Other : List ℕ → Type 0) (a b : Option (List ℕ)) → ((line : List ℕ) → Line line → Other line) → HasBegun Line a b → HasBegun Other a b
 begun_as Line Other a b h p = record { line = p.line; line_is = h p.line p.line_is; count = p.count; out = p.out }
 
--- where a line is due there are more steps than were told of
+-- if a line is due, there are more steps than were reported
 pub due_later : (all told count : ℕ) → IsDue all told count → told < count
 due_later all told count due = let few = due.0 in let most = due.1 in omega (arith, few, most)
 
--- what a follower tells of a trace is its next line, where there are more steps than were told of; one that is over tells nothing
+-- what a follower prints of a trace is its next line, if there are more steps than were reported; one that is over
+-- prints nothing
 pub next_told : (set : ℕ) (trace : Recorded) (ds : List Decision) (since until : ℕ) (news : List ℕ) (over : Bool) (a b : Option (List ℕ)) → since < length trace.steps
     → news ≡ told_later trace.config.n since ds → (over ≡ true → (until ≡ since) × (b ≡ a)) → (over ≡ false → until ≡ length trace.steps) → HasBegun (IsLineOf set trace news) a b
     → HasBegun (IsNextLineOf set trace ds since until) a b
@@ -116,7 +117,7 @@ told_more Line since next until a b c p q = record {
 pub told_on : (c : Setup) (set other since next until : ℕ) (x y z : Option (List ℕ)) → other ≡ set → HasTold (IsLine c set) since next x y → HasTold (IsLine c other) next until y z → HasTold (IsLine c set) since until x z
 told_on c set other since next until x y z same p q = told_more (IsLine c set) since next until x y z p (subst (λ s. HasTold (IsLine c s) next until y z) same q)
 
--- a follower that has told a line of the end of a run
+-- a follower that has printed a line at the end of a run
 pub told_end : {T : Type 0} (contents : T → Option (List ℕ)) (c : Setup) (trace : Recorded) (old new : Follower T) → IsRunOf c trace → new.analyst.set ≡ old.analyst.set
     → HasBegun (IsLineOf old.analyst.set trace []) (contents (inner_of old.writer)) (contents (inner_of new.writer)) → HasToldEnd contents c (Some old) (Some new)
 told_end contents c trace old new run same p = (same, begun_as _ _ _ _ (end_line_of_run c old.analyst.set trace run) p)

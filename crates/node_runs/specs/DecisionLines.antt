@@ -1,4 +1,4 @@
--- The lines that tell who decided in a run (docs/FORMATS.md).
+-- The lines that report who decided in a run (docs/FORMATS.md).
 use Rattle.std.specs.Prelude.{ℕ, List, [], ◌∷◌, ◌++◌, Bool, nat_lt, length, filter, flat_map, codes, decimal}
 use Rattle.step_trace.specs.declared.steps.Step.{Step}
 use Rattle.step_trace.specs.Configurations.{Setup}

@@ -1,4 +1,4 @@
--- What one who follows a run tells of it.
+-- What a follower of a run prints.
 use Rattle.std.specs.Prelude.{ℕ, ◌≡◌, ◌⊎◌, ◌*◌, ◌-◌, ◌<◌, ◌≤◌, List, [], ◌∷◌, ◌++◌, length, Option, Some, None, flat_map, take, ⊤}
 use Rattle.std.specs.Io.KnownBytes.{Appends}
 use Rattle.step_trace.specs.Configurations.{Setup}
@@ -20,48 +20,48 @@ use Rattle.trace_text.specs.Faults.{inner_of}
 use Rattle.node_runs.specs.declared.followers.Follower.{Follower}
 use Rattle.node_runs.specs.declared.followers.TheConstants.{PORTIONS}
 
--- The line tells how the trace stands for the set, by its least bounds, and then this news.
+-- The line reports the least bounds of the trace for the set, and then this news.
 pub record TellsOf (set : ℕ) (trace : Recorded) (news line : List ℕ) : Type 0 where
   pub standing : Option Standing
   pub stands : IsStanding set trace standing
   pub told : line ≡ told_standing standing ++ news
 
--- it does, or tells that no more is told
+-- it does, or reports that the follower stops
 abbrev pub IsLineOf : ℕ → Recorded → List ℕ → List ℕ → Type 0
 IsLineOf set trace news line = TellsOf set trace news line ⊎ (line ≡ told_stop)
 
--- The line tells how a trace of `until` steps stands, and which of these decisions came after `since` steps.
+-- The line reports the bounds of a trace of `until` steps, and which of these decisions came after `since` steps.
 pub record TellsSince (set : ℕ) (trace : Recorded) (ds : List Decision) (since until : ℕ) (line : List ℕ) : Type 0 where
   pub later : since < until
   pub steps : until ≡ length trace.steps
   pub tells : TellsOf set trace (told_later trace.config.n since ds) line
 
--- it does, or tells that no more is told
+-- it does, or reports that the follower stops
 abbrev pub IsNextLineOf : ℕ → Recorded → List Decision → ℕ → ℕ → List ℕ → Type 0
 IsNextLineOf set trace ds since until line = TellsSince set trace ds since until line ⊎ ((since ≤ until) × (line ≡ told_stop))
 
--- The line tells how a trace stands that a run of the configuration has at its step `until`, and what was decided in it
--- after its step `since`.
+-- The line reports the bounds of the trace that a run of the configuration has at its step `until`, and what was
+-- decided in it after its step `since`.
 pub record TellsOfRun (c : Setup) (set since until : ℕ) (line : List ℕ) : Type 0 where
   pub trace : Recorded
   pub run : IsRunOf c trace
   pub tells : TellsSince set trace (decisions c trace.steps) since until line
 
--- The line tells how the trace of a run of the configuration stands, and nothing of its decisions.
+-- The line reports the bounds of the trace of a run of the configuration, and none of its decisions.
 pub record TellsOfEnd (c : Setup) (set : ℕ) (line : List ℕ) : Type 0 where
   pub trace : Recorded
   pub run : IsRunOf c trace
   pub tells : TellsOf set trace [] line
 
--- it does, or tells that no more is told
+-- it does, or reports that the follower stops
 abbrev pub IsEndLine : Setup → ℕ → List ℕ → Type 0
 IsEndLine c set line = TellsOfEnd c set line ⊎ (line ≡ told_stop)
 
--- a line after those of the decisions up to step `since`; it tells of those up to step `until`, or of none
+-- a line after those of the decisions up to step `since`; it reports those up to step `until`, or none
 abbrev pub IsLine : Setup → ℕ → ℕ → ℕ → List ℕ → Type 0
 IsLine c set since until line = TellsOfRun c set since until line ⊎ ((since ≤ until) × IsEndLine c set line)
 
--- So many first bytes of one such line went out: all of them, unless the writer failed; none where nothing was told.
+-- So many first bytes of one such line went out: all of them, unless the writer failed; none if nothing was printed.
 pub record HasBegun (Line : List ℕ → Type 0) (before after : Option (List ℕ)) : Type 0 where
   pub line : List ℕ
   pub line_is : Line line
@@ -81,7 +81,7 @@ pub record IsPartOf (Line : List ℕ → Type 0) (part : List ℕ) : Type 0 wher
   pub count : ℕ
   pub part_is : part ≡ take count line
 
--- parts of lines, each of which tells of the decisions after those of the one before; so each decision is in one line at most
+-- parts of lines, each with the decisions after those of the one before; so each decision is in one line at most
 unfoldable pub AreParts : (ℕ → ℕ → List ℕ → Type 0) → ℕ → ℕ → List (List ℕ) → Type 0
 AreParts Line since until [] = since ≡ until
 AreParts Line since until (part ∷ parts) = (next : ℕ) × IsPartOf (Line since next) part × AreParts Line next until parts
@@ -92,20 +92,20 @@ pub record HasTold (Line : ℕ → ℕ → List ℕ → Type 0) (since until : �
   pub each : AreParts Line since until parts
   pub out : Appends before after (flat_map (λ part. part) parts)
 
--- A line is due as before, and no more is told if it was so before.
+-- A line is due as before, and a follower that was over stays over.
 pub record GoesOnAlike {T : Type 0} (old new : Follower T) : Type 0 where
   pub all : new.all ≡ old.all
   pub told : new.told ≡ old.told
   pub is_over : new.is_over ≡ old.is_over
 
--- whatever the follower told meanwhile, if there is one, are such lines of runs of the configuration, for its set
+-- all that the follower, if there is one, printed meanwhile are such lines of runs of the configuration, for its set
 abbrev pub HasFollowed : {T : Type 0} → (T → Option (List ℕ)) → Setup → Option (Follower T) → Option (Follower T) → Type 0
 HasFollowed contents c None new = new ≡ None
 HasFollowed contents c (Some old) None = ⊥
 HasFollowed contents c (Some old) (Some new) = (new.analyst.set ≡ old.analyst.set)
     × ((until : ℕ) × HasTold (IsLine c old.analyst.set) old.told until (contents (inner_of old.writer)) (contents (inner_of new.writer)))
 
--- whatever it told at the end is one such line, and nothing of decisions
+-- all that it printed at the end is one such line, without decisions
 abbrev pub HasToldEnd : {T : Type 0} → (T → Option (List ℕ)) → Setup → Option (Follower T) → Option (Follower T) → Type 0
 HasToldEnd contents c None new = new ≡ None
 HasToldEnd contents c (Some old) None = ⊥

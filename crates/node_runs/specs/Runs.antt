@@ -76,15 +76,14 @@ gravity ending.Refused = 1
 gravity ending.NoMemory = 2
 gravity ending.Held = 3
 
--- the fault that is told of an ending, if any
+-- the fault that reports an ending, if any
 abbrev pub fault_of_ending : Ending → Option Fault
 fault_of_ending ending.Made = None
 fault_of_ending ending.Refused = Some (fault.NotARun 0 None)
 fault_of_ending ending.NoMemory = Some fault.Memory
 fault_of_ending ending.Held = Some fault.Threads
 
--- the faults for which there is no run: of threads, want of memory, and steps that make no run, which is told of
--- no step
+-- the faults without a run: of threads, out of memory, and steps that make no run, which names no step
 abbrev pub IsFaultOfThreads : Fault → Type 0
 IsFaultOfThreads fault.Threads = ⊤
 IsFaultOfThreads fault.Memory = ⊤

@@ -1,4 +1,4 @@
--- How a trace stands at its last tick.
+-- The least bounds of a trace at its last tick.
 use Rattle.std.specs.Prelude.{ℕ, ◌≡◌, ◌-◌, ◌≤◌, Option, Some, None, nat_le, if◌then◌else◌}
 use Rattle.step_trace.specs.Bounds.{IsDelta, IsPhi}
 use Rattle.step_trace.specs.Witnesses.{IsGap}
@@ -36,7 +36,7 @@ pub record StandsSo (set : ℕ) (trace : Recorded) (s : Standing) : Type 0 where
   pub recent : AreLeastBounds set trace s.recent
   pub silent : NamesSilent set trace (recent_tick trace.last) s.silent
 
--- how a trace stands, which is none where it has no tick
+-- the bounds of a trace at its last tick, or none if it has no tick
 abbrev pub IsStanding : ℕ → Recorded → Option Standing → Type 0
 IsStanding set trace None = trace.last ≡ 0
 IsStanding set trace (Some s) = StandsSo set trace s

@@ -1,4 +1,4 @@
-//! The lines that tell who decided in a run: all of them at its end, and meanwhile those that aren't told yet.
+//! The lines that report who decided in a run: all of them at its end, and meanwhile those that aren't reported yet.
 
 ghost use Rattle.std.specs.Prelude.{◌≡◌, IfOk, filter, length, string_bytes};
 ghost use Rattle.node_runs.specs.DecisionLines.{all_decided, count_words, decided_line, decision_words, is_later, line_of_any, told_decisions, told_later};
@@ -8,7 +8,7 @@ use std::alloc::{AllocError, Global};
 use std::fmt;
 use step_buffers::World;
 
-/// The line that tells who decided what in the run of a World, and in which tick, with its line feed.
+/// The line that reports who decided what in the run of a World, and in which tick, with its line feed.
 pub fn decisions_text(alloc: Global, world: &World) -> Result<String, AllocError>
     ensures { IfOk result (λ text. string_bytes text
         ≡ told_decisions world.now.trace.config world.now.trace.steps) }
@@ -24,8 +24,8 @@ fn all_decided(alloc: Global, all: u64, decisions: &[Decision]) -> Result<String
     decided_line(alloc, decisions.len() as u64, all, decisions)
 }
 
-/// The line, with its line feed, of those among the decisions of so many processors that were made after `since` steps, if
-/// there are any. It tells how many decided until now, too.
+/// The line, with its line feed, of those among the decisions of so many processors that were made after `since` steps,
+/// if there are any. It also has how many decided until now.
 pub(crate) fn later_text(
     alloc: Global,
     all: u64,

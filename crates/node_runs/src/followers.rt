@@ -1,4 +1,4 @@
-//! Who follows a run while its threads step, and tells how synchronous they are so far, and who decided.
+//! A follower of a run: while its threads step, it reports how synchronous they are so far, and who decided.
 
 ghost use Rattle.std.specs.Prelude.{◌≡◌, ◌⊎◌, ◌↔◌, ◌-◌, ◌*◌, ◌<◌, length, IfOk, IfErr, IfSome, OnOk, IsTrue, Some, None, true, false, option_map};
 ghost use Rattle.std.specs.Io.KnownBytes.{Appends};
@@ -31,28 +31,28 @@ use trace_text::Counting;
 /// Of a run whose steps are cut into so many equal portions, a line is due where one portion is new.
 const PORTIONS: u64 = 20;
 
-/// An analysis from scratch goes over so many steps while the analyst summarises one.
+/// An analysis from scratch scans so many steps while the analyst summarises one.
 const SUMMARISED: u64 = 40;
 
 /// How many milliseconds a follower sleeps before it asks again how many steps were made.
 const PAUSE: u64 = 1;
 
-/// One who follows a run, and tells how synchronous it is so far for the processors that count as correct.
+/// A follower of a run, which reports how synchronous it is so far for the processors that count as correct.
 #[derive(Drop)]
 pub struct Follower<W> {
     analyst: Analyst,
-    // How many steps the run is to have, and how many it had when it was told of last.
+    // How many steps the run is to have, and how many it had at the last line.
     all: u64,
     told: u64,
     // How many steps the trace had that the analyst was fed last.
     fed: u64,
-    // No more is told: there was no memory, or the writer failed.
+    // No more is printed: out of memory, or the writer failed.
     is_over: bool,
     writer: Counting<W>,
 }
 
-/// Who follows the run of a configuration for these correct processors, in which so many steps are to be made; nobody if
-/// there are none to follow. Where there is no memory for a follower it tells that, and nobody follows.
+/// The follower of the run of a configuration for these correct processors, in which so many steps are to be made; none
+/// if there are none to follow. If it is out of memory it reports that, and there is no follower.
 ///
 /// Refuses only Set, if a correct processor is above the configuration's number of processors.
 pub fn follower_for<W: Write + Drop>(
@@ -73,7 +73,7 @@ pub fn follower_for<W: Write + Drop>(
     Ok(started(alloc, config, set, all, writer))
 }
 
-/// A follower who was shown nothing yet; none where there is no memory for it, which is told.
+/// A follower that has seen nothing yet; none if out of memory, which is reported.
 fn started<W: Write + Drop>(
     alloc: Global,
     config: &Config,
@@ -84,7 +84,7 @@ fn started<W: Write + Drop>(
     ensures { IfSome result (λ follower. follower.analyst.set ≡ set) }
 {
     let Ok(config) = config.copy(alloc) else {
-        // Where that can't be told either, there is nobody left to tell.
+        // If that fails too, there is nowhere left to report it.
         let _ = tell_stop(&mut writer);
         return None;
     };
@@ -99,8 +99,8 @@ fn started<W: Write + Drop>(
 }
 
 impl<W: Write> Follower<W> {
-    /// Follows a recorder to which threads make steps, until `ended` says that all have ended, or no more is told. Each
-    /// decision is told once, with the first standing that is told after it.
+    /// Follows a recorder to which threads make steps, until `ended` says that all have ended, or no more is printed.
+    /// Each decision is reported once, with the first bounds that are printed after it.
     pub(crate) fn follow<R: Wait + Clock>(
         &mut self,
         rt: &R,
@@ -121,8 +121,8 @@ impl<W: Write> Follower<W> {
         }
     }
 
-    /// Tells how a recorder's trace stands, where a line is due. The trace with all steps isn't told of: it is when the
-    /// run has ended.
+    /// Reports the bounds of a recorder's trace, if a line is due. The trace with all steps is left out: it is reported
+    /// when the run has ended.
     fn look<R: Wait>(&mut self, rt: &R, alloc: Global, recorder: &Recorder, view: &mut View)
         ensures set { self.new.analyst.set ≡ self.old.analyst.set }
         ensures told { HasTold (IsLine recorder.now.config self.old.analyst.set) self.old.told self.new.told (W.contents (inner_of self.old.writer)) (W.contents (inner_of self.new.writer)) }
@@ -136,7 +136,7 @@ impl<W: Write> Follower<W> {
         match recorder.decided_prefix(rt, alloc, view) {
             Ok(prefix) => self.tell_due(alloc, &prefix),
             Err(PrefixError::Memory) => self.stop(),
-            // What no prefix extends is no run, which the run's own end tells.
+            // What extends no prefix is no run, which the end of the run reports.
             Err(PrefixError::NotAnExtension { .. }) => self.is_over = true,
         }
     }
@@ -148,8 +148,8 @@ impl<W: Write> Follower<W> {
         count < self.all && count.saturating_sub(self.told).saturating_mul(PORTIONS) >= self.all
     }
 
-    /// Tells how a trace stands, as `tell` does, and who decided since it was told of last, if a line is due of it: it may
-    /// have got its last steps since they were counted.
+    /// Prints the bounds of a trace, as `tell` does, and who decided since the last line, if a line is due: the trace
+    /// may have got its last steps since they were counted.
     fn tell_due(&mut self, alloc: Global, prefix: &DecidedPrefix)
         ensures set { self.new.analyst.set ≡ self.old.analyst.set }
         ensures told { HasBegun (IsNextLineOf self.old.analyst.set prefix.now.trace prefix.now.decisions.items self.old.told self.new.told) (W.contents (inner_of self.old.writer)) (W.contents (inner_of self.new.writer)) }
@@ -167,8 +167,8 @@ impl<W: Write> Follower<W> {
         }
     }
 
-    /// Tells how a trace stands that extends those that were told of, and then this news, unless no more is told. Want of
-    /// memory is told on a line of its own, and then no more; nor is there more where the writer fails.
+    /// Prints the bounds of a trace that extends the traces of earlier lines, and then this news, unless the follower
+    /// is over. It is over after a line on out of memory, or if the writer fails.
     pub(crate) fn tell(&mut self, alloc: Global, trace: &Trace, news: &str)
         ensures set { self.new.analyst.set ≡ self.old.analyst.set }
         ensures told { HasBegun (IsLineOf self.old.analyst.set trace.now news.now) (W.contents (inner_of self.old.writer)) (W.contents (inner_of self.new.writer)) }
@@ -188,9 +188,9 @@ impl<W: Write> Follower<W> {
         }
     }
 
-    /// Tells how a trace stands that extends those that were told of, and then this news.
+    /// Prints the bounds of a trace that extends the traces of earlier lines, and then this news.
     ///
-    /// Refuses, in this order: NotARun(0) where it doesn't extend them; Write with the number of bytes that went out
+    /// Refuses, in this order: NotARun(0) if it doesn't extend them; Write with the number of bytes that went out
     /// before. Memory may come instead before the first write.
     fn tell_next(&mut self, alloc: Global, trace: &Trace, news: &str) -> Result<(), Fault>
         ensures set { self.new.analyst.set ≡ self.old.analyst.set }
@@ -237,7 +237,7 @@ impl<W: Write> Follower<W> {
         count < count.saturating_sub(self.fed).saturating_mul(SUMMARISED)
     }
 
-    /// Tells that there is no memory, and then no more.
+    /// Reports that it is out of memory, and then no more.
     fn stop(&mut self)
         ensures set { self.new.analyst.set ≡ self.old.analyst.set }
         ensures told { HasBegun (λ line. line ≡ told_stop) (W.contents (inner_of self.old.writer)) (W.contents (inner_of self.new.writer)) }
@@ -245,7 +245,7 @@ impl<W: Write> Follower<W> {
         ensures count { self.new.told ≡ self.old.told }
     {
         self.is_over = true;
-        // Where the writer fails there is nobody left to tell.
+        // If the writer fails, there is nowhere left to report it.
         let _ = tell_stop(&mut self.writer);
     }
 }

@@ -1,5 +1,6 @@
-//! Runs of the agreement algorithm: on threads, one for each processor, with the lines that tell meanwhile how such a run
-//! stands; and simulated ones. Of both: the trace of what was done, and the line that tells who decided. `specs/` has the definitions that the contracts cite.
+//! Runs of the agreement algorithm: on threads, one for each processor, with lines meanwhile on how synchronous such a
+//! run is; and simulated ones. Of both: the trace of what was done, and the line of who decided. `specs/` has the
+//! definitions that the contracts cite.
 #![tactic(auto)]
 
 mod decision_lines;

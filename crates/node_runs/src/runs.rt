@@ -36,22 +36,24 @@ enum Ending {
     Made,
     /// It wasn't started, or was held back.
     Held,
-    /// There was no memory for a step.
+    /// Out of memory for a step.
     NoMemory,
     /// A step was refused.
     Refused,
 }
 
-/// Runs the nodes of a configuration, a thread for each; and writes the trace of all their steps. The pace says when a
-/// Receive ends a round, and `end` when the run ends: each thread makes so many steps at most. Each thread enters the
-/// gate before its first step. Nothing is written before all threads have ended. A follower, if there is one, tells of the
-/// run and of each decision meanwhile, and of the whole of the run at its end. When the trace is written, the notes get a line that says who decided
-/// what, and in which tick. Whatever becomes of what is told, the run is the same.
+/// Runs the nodes of a configuration, a thread for each; and writes the trace of all their steps. The pace decides when
+/// a Receive ends a round, and `end` when the run ends: each thread makes so many steps at most. Each thread enters the
+/// gate before its first step. Nothing is written before all threads have ended.
+///
+/// A follower, if there is one, reports the run and each decision meanwhile, and the whole run at its end. When the
+/// trace is written, the notes get a line on who decided what, and in which tick. The run is the same if these reports
+/// fail.
 ///
 /// Asks for a pace of a patience of at least 1, and for at most `MAX_STEPS` steps of all processors together. Waits for
-/// the threads. Refuses, in this order: Threads where a thread wasn't started or the gate held it back; Memory;
-/// NotARun(0) where a step is refused, or where what was done doesn't make up one run that has ended; Write with the
-/// number of bytes that went out before.
+/// the threads. Refuses, in this order: Threads if a thread wasn't started or the gate held it back; Memory; NotARun(0)
+/// if a step is refused, or if what was done doesn't make up one run that has ended; Write with the number of bytes
+/// that went out before.
 pub fn run_nodes<R: Threads + Wait + Clock + Sync, W: Write, G: Gate, E: Write + Send, N: Write>(
     rt: &R,
     alloc: Global,
@@ -85,7 +87,7 @@ pub fn run_nodes<R: Threads + Wait + Clock + Sync, W: Write, G: Gate, E: Write +
     Ok(())
 }
 
-/// Tells of the whole of a run, where there is a follower. What was decided the run's own line says.
+/// Reports the whole run, if there is a follower. The run's own line has the decisions.
 fn tell_whole<E: Write>(alloc: Global, world: &World, follower: &mut Option<Follower<E>>)
     ensures { (c : Setup) → IsRunOf c world.now.trace → HasToldEnd E.contents c follower.old follower.new }
 {
@@ -126,8 +128,8 @@ fn world_made<R: Threads + Wait + Clock + Sync, G: Gate, E: Write + Send>(
     audited(alloc, recorder, &seats, end, steps)
 }
 
-/// Drives each seat in a thread of its own, while another thread follows; and tells the gravest ending of all.
-/// Where there is no thread for the follower, it has its turn when all have ended.
+/// Drives each seat in a thread of its own, while another thread follows; and answers the gravest ending of all. If
+/// there is no thread for the follower, it follows when all have ended.
 fn drive_followed<R: Threads + Wait + Clock + Sync, G: Gate, E: Write + Send>(
     rt: &R,
     alloc: Global,
@@ -162,7 +164,7 @@ fn drive_followed<R: Threads + Wait + Clock + Sync, G: Gate, E: Write + Send>(
     ending
 }
 
-/// Drives each seat in a thread of its own, says when all have ended, and tells the gravest ending of all.
+/// Drives each seat in a thread of its own, says when all have ended, and answers the gravest ending of all.
 fn drive_to_end<R: Threads + Wait + Sync, G: Gate>(
     rt: &R,
     alloc: Global,
@@ -182,7 +184,7 @@ fn drive_to_end<R: Threads + Wait + Sync, G: Gate>(
     ending
 }
 
-/// Drives each seat in a thread of its own, and tells the gravest ending of all.
+/// Drives each seat in a thread of its own, and answers the gravest ending of all.
 fn drive_all<R: Threads + Wait + Sync, G: Gate>(
     rt: &R,
     alloc: Global,
@@ -246,7 +248,7 @@ fn how_ended(driven: Result<u64, DriveError>) -> Ending
     }
 }
 
-/// The one that is told of two: the graver one.
+/// The graver one of two endings.
 fn graver(one: Ending, other: Ending) -> Ending
     ensures one { gravity one ≤ gravity result }
     ensures other { gravity other ≤ gravity result }

@@ -1,4 +1,4 @@
-//! Simulated runs: the trace that is printed, and the line that tells who decided.
+//! Simulated runs: the trace that is printed, and the line of who decided.
 
 ghost use Rattle.std.specs.Prelude.{ℕ, List, IfOk, OnOk, OnErr, ◌≡◌, IsTrue};
 ghost use Rattle.std.specs.Io.KnownBytes.{Appends};

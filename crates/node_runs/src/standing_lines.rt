@@ -1,4 +1,4 @@
-//! The lines in which one who follows a run tells how it stands.
+//! The lines in which a follower reports how synchronous a run is.
 
 ghost use Rattle.std.specs.Prelude.{◌≡◌, ◌++◌, IfOk, OnOk, IfErr, IsTrue, string_bytes};
 ghost use Rattle.std.specs.Io.KnownBytes.{Appends};
@@ -14,7 +14,7 @@ use std::fmt;
 use std::io::Write;
 use trace_text::Counting;
 
-/// Tells how a trace stands, on a line of its own, and then this news.
+/// Prints the bounds of a trace on a line of its own, and then this news.
 ///
 /// Refuses Memory, and then nothing is written; and Write with the number of bytes that went out before.
 pub fn tell_standing<W: Write>(
@@ -34,7 +34,7 @@ pub fn tell_standing<W: Write>(
     print(text.as_str(), writer)
 }
 
-/// Tells that no more is told of a run, since there is no memory for it. Takes no memory itself.
+/// Reports that no more is printed for a run, since it is out of memory. Takes no memory itself.
 ///
 /// Refuses only Write, with the number of bytes that went out before.
 pub fn tell_stop<W: Write>(writer: &mut Counting<W>) -> Result<(), Fault>
@@ -47,7 +47,7 @@ pub fn tell_stop<W: Write>(writer: &mut Counting<W>) -> Result<(), Fault>
     print("synchrony: no longer followed: out of memory\n", writer)
 }
 
-/// The line of how a trace stands, with its line feed.
+/// The line of a trace's bounds, with its line feed.
 fn standing_text(alloc: Global, standing: Option<Standing>) -> Result<String, AllocError>
     ensures { IfOk result (λ text. string_bytes text ≡ told_standing standing) }
 {
@@ -56,7 +56,7 @@ fn standing_text(alloc: Global, standing: Option<Standing>) -> Result<String, Al
     Ok(line)
 }
 
-/// What is told of how a trace stands.
+/// What is printed of a trace's bounds.
 #[derive(Clone, Copy)]
 struct StandingLine(Option<Standing>);
 

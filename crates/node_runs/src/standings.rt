@@ -1,4 +1,4 @@
-//! How a trace stands at its last tick: the least bounds from its first tick on, and from a recent one on.
+//! The bounds of a trace at its last tick: the least ones from its first tick on, and from a recent one on.
 
 ghost use Rattle.std.specs.Prelude.{◌≡◌, ◌≤◌, ℕ, length};
 ghost use Rattle.step_trace.specs.Traces.{Recorded};
@@ -20,7 +20,7 @@ pub struct LeastBounds {
     pub from: u64,
 }
 
-/// How a trace stands at its last tick.
+/// The least bounds of a trace at its last tick.
 #[derive(Clone, Copy, Debug, PartialEq, Eq)]
 pub struct Standing {
     /// The last tick.
@@ -34,7 +34,7 @@ pub struct Standing {
     pub silent: Option<u64>,
 }
 
-/// How the trace stands of which these are the levels; none where it has no tick.
+/// The bounds of the trace that has these levels; none if it has no tick.
 pub fn standing_of(stairs: &Stairs) -> Option<Standing>
     ensures { (set : ℕ) (trace : Recorded) → AreLevels set trace stairs.now → IsStanding set trace result }
 {

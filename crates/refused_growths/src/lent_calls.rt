@@ -5,14 +5,14 @@ use std::alloc::{AllocError, Global};
 
 /// A call that changes nothing that it is lent, so that it can be made again and again. It needs some memory.
 pub trait LentCall: Drop {
-    /// Makes the call, and says whether its answer is the right one. Fails where the answer is want of memory.
+    /// Makes the call, and says whether its answer is the right one. Fails if the answer is out of memory.
     fn is_right(&self, alloc: Global) -> Result<bool, AllocError>;
 
-    /// Whether what it is lent is as it was before any call.
+    /// Whether what it is lent is unchanged since before any call.
     fn is_as_before(&self) -> bool;
 }
 
-/// A call that is swept, and how many of its growths were refused.
+/// A call that is swept, and how many of its allocations were refused.
 #[derive(Drop)]
 struct Swept<'a, C> {
     call: &'a C,
@@ -31,8 +31,8 @@ impl<C: LentCall> Call for Swept<'_, C> {
     }
 }
 
-/// Makes the call with each growth refused in turn, until none is. Gives the number of the first growth of which the
-/// outcome was wrong, if there was one; 0 where growths are refused, and none of the call was.
+/// Makes the call with each allocation refused, one at a time, until none is. Gives the number of the first
+/// allocation with a wrong outcome, if there was one; 0 if allocations are refused, and none of the call was.
 pub fn first_wrong_lent<C: LentCall>(alloc: Global, call: &C) -> Option<usize> {
     let mut swept = Swept { call, refused: 0 };
     let wrong = first_wrong(alloc, &mut swept);
@@ -40,7 +40,7 @@ pub fn first_wrong_lent<C: LentCall>(alloc: Global, call: &C) -> Option<usize> {
     if is_swept { wrong } else { wrong.or(Some(0)) }
 }
 
-/// Whether the refusing library is loaded: it refuses the message that the next growth is to be refused.
+/// Whether the refusing library is loaded: it refuses the message that the next allocation is to be refused.
 fn is_refusing(alloc: Global) -> bool {
     let refuses = is_refused(alloc, 1);
     let _ = is_refused(alloc, 0);

@@ -1,11 +1,11 @@
-//! One growth that is refused, and the sweep over all of a call.
+//! One refused allocation, and the sweep over all of a call.
 
 use std::alloc::{AllocError, Global};
 
 /// The size that begins the messages to the refusing library, in bytes. `tests/refusing.c` has the same number.
 const MESSAGE: usize = 7_700_000;
 
-/// The most growths of one call. `tests/refusing.c` has the same number.
+/// The most allocations of one call. `tests/refusing.c` has the same number.
 const MOST: usize = 100_000;
 
 /// What came of a call.
@@ -13,21 +13,21 @@ const MOST: usize = 100_000;
 pub enum Outcome {
     /// Nothing was refused, and it answered what it answers with ample memory.
     Right,
-    /// A growth was refused, and it answered want of memory and nothing else; all that it was lent is as before, and
-    /// made again it answers right.
+    /// An allocation was refused; the call answered out of memory, all that it was lent is unchanged, and made again
+    /// it answers right.
     Refused,
     /// It did anything else.
     Wrong,
 }
 
-/// A call that is made with each of its growths refused in turn.
+/// A call that is made with each of its allocations refused, one at a time.
 pub trait Call {
     /// Makes what the call is lent, lets `refusal` begin, makes the call, lets the refusal end, and judges the answer.
     /// What it is lent is made anew each time: a call that was refused may keep the room that it got.
     fn attempt(&mut self, alloc: Global, refusal: Refusal) -> Outcome;
 }
 
-/// Whose growths are counted.
+/// Whose allocations are counted.
 #[derive(Clone, Copy, Debug)]
 pub enum Whose {
     /// Those of all threads.
@@ -38,7 +38,7 @@ pub enum Whose {
     Others,
 }
 
-/// One growth that is to be refused, by its number from 1 among those that are counted.
+/// One allocation to refuse, by its number from 1 among those that are counted.
 #[derive(Clone, Copy)]
 pub struct Refusal {
     growth: usize,
@@ -46,17 +46,17 @@ pub struct Refusal {
 }
 
 impl Refusal {
-    /// The refusal of the growth of this number among those of all threads.
+    /// The refusal of the allocation of this number among those of all threads.
     pub fn of(growth: usize) -> Self {
         Refusal::among(growth, Whose::All)
     }
 
-    /// The refusal of the growth of this number among these.
+    /// The refusal of the allocation of this number among these.
     pub fn among(growth: usize, whose: Whose) -> Self {
         Refusal { growth, whose }
     }
 
-    /// From here on growths are counted, and the one of this number is refused.
+    /// From here on allocations are counted, and the one of this number is refused.
     pub fn begin(self, alloc: Global) {
         let first: usize = match self.whose {
             Whose::All => 0,
@@ -81,8 +81,8 @@ pub(crate) fn is_refused(alloc: Global, message: usize) -> bool {
     asked.is_err()
 }
 
-/// Judges an answer: `right` says that it is the one that ample memory gives, `refused` that it is want of memory,
-/// that nothing has changed, and that the call made again is right.
+/// Judges an answer: `right` says that it is the one that ample memory gives; `refused` that it is out of memory, that
+/// nothing has changed, and that the call made again is right.
 pub fn judged(was_refused: bool, right: bool, refused: bool) -> Outcome {
     if was_refused && refused && !right {
         Outcome::Refused
@@ -93,8 +93,8 @@ pub fn judged(was_refused: bool, right: bool, refused: bool) -> Outcome {
     }
 }
 
-/// Makes the call with each growth refused in turn, until none is. Gives the number of the first growth of which the
-/// outcome was wrong, if there was one.
+/// Makes the call with each allocation refused, one at a time, until none is. Gives the number of the first allocation
+/// with a wrong outcome, if there was one.
 pub fn first_wrong<C: Call>(alloc: Global, call: &mut C) -> Option<usize> {
     for growth in 1..MOST {
         match call.attempt(alloc, Refusal::of(growth)) {

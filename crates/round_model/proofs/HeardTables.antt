@@ -44,7 +44,7 @@ pub heard_set-at : (h : HeardTable) (p round : ℕ) → 1 ≤ p → 1 ≤ round 
 heard_set-at h p round low first =
     numbered-at {X = ℕ} 0 (numbered [] h.sets p) round first ∙ ap (λ sets. get_or sets (round - 1) 0) (numbered-at [] h.sets p low)
 
--- the set that was put in a place stands there
+-- the set that was put in a place is there
 pub heard_set-set : (h : HeardTable) (p round senders : ℕ) → IsHeardTable h → 1 ≤ p → p ≤ h.n → 1 ≤ round → round ≤ h.rounds →
     heard_set (record h { sets = set h.sets (p - 1) (set (get_or h.sets (p - 1) []) (round - 1) senders) }) p round ≡ senders
 heard_set-set h p round senders is low high first last =

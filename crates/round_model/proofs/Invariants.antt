@@ -1,5 +1,5 @@
 -- The invariants of the rounds from which agreement follows. The coming round is a part, from 1 to 4, of a
--- phase; each invariant holds of the nodes before it, whatever messages were lost.
+-- phase; each invariant holds of the nodes before it, for any loss of messages.
 use Rattle.std.proofs.Common.{ℕ, ◌≡◌, ◌+◌, ◌≤◌, ◌<◌, inl, inr, Bool, true, List, Some, nat_le, ◌&&◌, refl, sym, ◌∙◌, eq-eqb, arith}
 use Rattle.std.specs.Prelude.{Contains, count_by, ◌==◌}
 use Rattle.std.specs.List.{list_any}

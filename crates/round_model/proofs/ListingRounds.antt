@@ -1,4 +1,4 @@
--- A listing round keeps the invariants: no value is proposed beside one that is anchored.
+-- A listing round keeps the invariants: no value besides an anchored one is proposed.
 use Rattle.std.proofs.Common.{inl, inr, ℕ, ◌≡◌, true, Some, sym, ap, subst, ◌∙◌, arith}
 use Rattle.std.specs.Prelude.{Contains}
 use Rattle.std.proofs.lemmas.Bool.{cases_eq}

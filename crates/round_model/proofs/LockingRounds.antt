@@ -13,7 +13,7 @@ use Rattle.round_model.proofs.HeardMessages.{nodes_after, messages_heard-said}
 use Rattle.round_model.proofs.Invariants.{is_locked_since, IsLockSince-from_test, is_locked_since-lock, IsAnchored, holders-kept, IsSafe}
 use Rattle.lock_phases.specs.Messages.{sender_of, body_of}
 
--- who is told to lock a value is told the owner's proposal
+-- a processor that hears a Lock on a value hears the owner's proposal
 told-proposed : (c : Setup) (table : Table) (nodes : ℕ → State) (round p o v : ℕ) → IsToldToLock o (messages_heard c table nodes p round) v
     → (nodes o).proposal ≡ Some v
 told-proposed c table nodes round p o v told =

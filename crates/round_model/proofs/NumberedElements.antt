@@ -4,7 +4,7 @@ use Rattle.std.proofs.lemmas.Bool.{cases_lt}
 use Rattle.std.proofs.lemmas.List.{get_or_past}
 use Rattle.round_model.specs.HeardSets.{numbered}
 
--- a number stands for the index below it
+-- a number denotes the index below it
 pub numbered-at : {X : Type 0} (d : X) (xs : List X) (k : ℕ) → 1 ≤ k → numbered d xs k ≡ get_or xs (k - 1) d
 numbered-at d xs zero h = absurd (omega arith)
 numbered-at d xs (suc k) h = let e : suc k - 1 ≡ k = omega arith in rw e refl

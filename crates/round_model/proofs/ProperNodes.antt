@@ -1,4 +1,4 @@
--- What a node has locked or proposes is in its own PROPER, and so is its initial value, whatever messages are lost.
+-- What a node has locked or proposes is in its own PROPER, and so is its initial value, for any loss of messages.
 use Rattle.std.proofs.Common.{ℕ, ◌≡◌, ◌⊎◌, inl, inr, zero, suc, Some, List, [], sym, subst}
 use Rattle.std.specs.Prelude.{Contains}
 use Rattle.step_trace.specs.Configurations.{Setup}

@@ -34,7 +34,7 @@ IsSafe-releasing c table nodes round e safe = record {
     unflagged : (j : ℕ) → (after j).owes_ack ≡ true → ⊥
     unflagged j f = let p = safe.flags.acknowledging j (sym (keeps j).owes_ack ∙ f) in omega arith
 
-    -- what is told since the anchor is the anchored value
+    -- what is heard since the anchor is the anchored value
     told : (v : ℕ) (a : IsAnchored c nodes (phase_of round) 4 v) (j : ℕ) (lock : LockPair) → IsTold (messages_heard c table nodes j round) lock
         → a.anchor ≤ phase_of_lock lock → value_of lock ≡ v
     told v a j lock t l =

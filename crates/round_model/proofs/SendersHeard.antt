@@ -14,11 +14,11 @@ use Rattle.round_model.specs.RoundStates.{Table, processors, messages_heard}
 use Rattle.round_model.proofs.HeardMessages.{heard_of}
 use Rattle.round_model.proofs.ProcessorRanges.{filter_map-range_with_len-agree, IsStrictlyIncreasing-range_with_len, All-range_with_len, All-from_map}
 
--- what is told by the table not to be heard isn't
+-- what the table says is not heard isn't
 pub heard_of-lost : (c : Setup) (table : Table) (nodes : ℕ → State) (p round sender : ℕ) → table p round sender ≡ false → heard_of c table nodes p round sender ≡ None
 heard_of-lost c table nodes p round sender e = rw e refl
 
--- what is told by the table to be heard is, if it is sent
+-- what the table says is heard is, if it is sent
 pub heard_of-heard : (c : Setup) (table : Table) (nodes : ℕ → State) (p round sender : ℕ) → table p round sender ≡ true
     → heard_of c table nodes p round sender ≡ option_map (λ body. (sender, body)) (out c (nodes sender) sender round p)
 heard_of-heard c table nodes p round sender e = rw e refl

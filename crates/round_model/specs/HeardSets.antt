@@ -1,4 +1,4 @@
--- Tables of who heard whom as they are kept: for each processor and each round the set of the senders heard.
+-- Tables of who heard whom: for each processor and each round the set of the senders heard.
 use Rattle.std.specs.Prelude.{ℕ, zero, suc, ◌≡◌, ◌≤◌, List, [], length, map, All, Vec, slice_index_or}
 use Rattle.step_trace.specs.declared.configurations.TheConstants.{MIN_PROCESSORS, MAX_PROCESSORS}
 use Rattle.step_trace.specs.Processors.{has_proc, IsWithin}

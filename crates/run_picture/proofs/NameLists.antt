@@ -32,7 +32,7 @@ pub other_names : (names : List (Bor (List ℕ))) (j i : ℕ) → j < length nam
     → name_at (map (λ x. x.now) names) j ≢ name_at (map (λ x. x.now) names) i
 other_names names j i p q e = λ same. other_text (text_at names j) (text_at names i) e (sym (name_at-text names j p) ∙ same ∙ name_at-text names i q)
 
--- what a test that decides P has told
+-- what a test that decides P shows
 pub confirmed : (b : Bool) (P : Type 0) → IsTrue b ↔ P → b ≡ true → P
 confirmed true P e h = e.0 refl
 confirmed false P e h = cc

@@ -1,4 +1,4 @@
--- What the marks of a picture are, said of the trace (own).
+-- What the marks of a picture mean in the trace (own).
 use Rattle.std.specs.Prelude.{◌≡◌, ℕ, ◌≤◌, ◌↔◌, List, length, Option, Some, None, Contains}
 use Rattle.step_trace.specs.declared.rows.Gap.{Gap}
 use Rattle.step_trace.specs.declared.rows.Miss.{Miss}

@@ -17,8 +17,8 @@ name_at names i = slice_index_or names i []
 abbrev pub byte_at : List ℕ → ℕ → ℕ
 byte_at bytes i = slice_index_or bytes i 0
 
--- whether a control character stands at this place, or U+FFFE or U+FFFF begins there, whose UTF-8 is EF BF BE and
--- EF BF BF
+-- whether a control character is at this place, or U+FFFE or U+FFFF begins there, whose UTF-8 is EF BF BE and EF
+-- BF BF
 abbrev pub is_refused_at : List ℕ → ℕ → Bool
 is_refused_at bytes i =
     (nat_lt (byte_at bytes i) 32 || byte_at bytes i == 127)

@@ -16,7 +16,7 @@ abbrev pub last_drawn : ℕ → ℕ → Option ℕ → ℕ
 last_drawn last first (Some to) = min to last
 last_drawn last first None = min last (first + (USUAL_TICKS - 1))
 
--- the ticks from the one to the other, which are at least one and at most MAX_WINDOW; a refusal has the last tick as it
+-- the ticks from the one to the other, which are at least one and at most MAX_WINDOW; a refusal has the last tick that
 -- is asked for
 abbrev pub window_between : ℕ → ℕ → Option ℕ → Result Window WindowError
 window_between first drawn to =

@@ -1,4 +1,4 @@
-//! What a picture tells readers that don't show it.
+//! What a picture says to readers that don't show it.
 
 use crate::labels::put_processor;
 use crate::pictures::Picture;

@@ -11,7 +11,7 @@ use crate::short_names::{MOST_CHARACTERS, SHOWN_CHARACTERS, characters, push_sho
 use crate::svg::put;
 use std::alloc::{AllocError, Global};
 
-/// How wide a name is that fits beside the lanes.
+/// How wide a name is that fits next to the lanes.
 const ROOM: u64 = 740;
 
 /// How wide the ellipsis of a shortened name is taken to be.
@@ -66,7 +66,7 @@ pub(crate) fn push_label(
     Ok(true)
 }
 
-/// How far the widest name beside a lane reaches beyond the usual left edge.
+/// How far the widest name next to a lane reaches beyond the usual left edge.
 pub(crate) fn overhang(names: &[&str]) -> u64
     ensures { result ≤ MOST_OVERHANG }
 {

@@ -18,7 +18,7 @@ pub enum NamesError {
     BadName(u64),
     /// The name at this place, from 1, is the same as an earlier one.
     SameName(u64),
-    /// There was no memory for them.
+    /// Out of memory for them.
     Memory,
 }
 
@@ -61,7 +61,7 @@ fn is_new(names: &[&str], i: usize) -> bool
     true
 }
 
-/// Whether a name has 1 to `MAX_NAME_BYTES` bytes, and each of them may stand in it.
+/// Whether a name has 1 to `MAX_NAME_BYTES` bytes, and each of them may be in it.
 fn is_name(name: &[u8]) -> bool
     ensures { IsTrue result ↔ IsName name.now }
 {
@@ -76,7 +76,7 @@ fn is_name(name: &[u8]) -> bool
     true
 }
 
-/// Whether a control character stands at this place, or one of those that XML doesn't hold begins there.
+/// Whether a control character is at this place, or one of those that XML doesn't hold begins there.
 fn is_refused_at(name: &[u8], i: usize) -> bool
     requires { i < length name.now }
     ensures { result ≡ is_refused_at name.now i }

@@ -30,7 +30,7 @@ pub struct Picture {
 /// The picture of these ticks of a trace, with the rows of a report of it, in time that grows with the
 /// trace and the rows.
 ///
-/// Refuses only for want of memory, and only where there is a step or a row.
+/// Fails only if out of memory, and only if there is a step or a row.
 pub fn picture_of(
     alloc: Global,
     trace: &Trace,

@@ -220,7 +220,7 @@ fn put_line(
     out.extend_from_slice(b"H10900\"/>\n")
 }
 
-/// What the bounds are from each corner on, for whoever points there.
+/// The bounds from each corner on, shown to a reader who points there.
 fn put_titles(
     alloc: Global,
     out: &mut Vec<u8>,

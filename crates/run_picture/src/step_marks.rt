@@ -145,7 +145,7 @@ fn put_ids(alloc: Global, out: &mut Vec<u8>, ids: &[u64]) -> Result<(), AllocErr
     Ok(())
 }
 
-/// The end of the words and of the mark, with a bar beside it where the round ends.
+/// The end of the words and of the mark, with a bar next to it if the round ends.
 fn put_end(
     alloc: Global,
     out: &mut Vec<u8>,

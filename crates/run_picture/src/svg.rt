@@ -26,7 +26,7 @@ pub const MAX_WITNESSES: usize = 1_000;
 /// witnesses. The lanes of the set are in ink; `names` labels the lanes in their order, and numbers those that it
 /// has no name for.
 ///
-/// Refuses only for want of memory.
+/// Fails only if out of memory.
 pub fn svg_text(
     alloc: Global,
     trace: &Trace,

@@ -150,7 +150,7 @@ module _ (members : ℕ) (trace : Recorded) (rows : List Row) (time : IsTimed tr
         let none : row_at (record { len = trace.last; rows = rows }) h ≡ None = rw e (either (nat_le 1 h && nat_le h trace.last) None) in
         absurd (subst (λ (o : Option Row). IsSomeAnd o (Serves members trace h)) none some)
 
-  -- the row before another serves the tick before it
+  -- the row before another applies to the tick before it
   serving-before : (k : ℕ) (r : Row) → slice_get rows k ≡ Some r → 1 < r.gst → (j : ℕ) × (q : Row) × (k ≡ j + 1) × (slice_get rows j ≡ Some q) × Serves members trace (r.gst - 1) q
   serving-before k r is low =
       let row = report.sound r (Contains-slice_get rows k r is) in
@@ -191,7 +191,8 @@ module _ (members : ℕ) (trace : Recorded) (rows : List Row) (time : IsTimed tr
         ]
       ]
 
-  -- a row that serves the tick before the one from which a gap is named, and from which its processor takes no step either, names the same silence
+  -- a row names the same silence if it applies to the tick before the one from which a gap is named, and its processor
+  -- takes no step from there either
   same_silence : (r q : Row) (w : Gap) → PhiHolds members trace r.gst r.phi → (1 < r.phi) × IsNamedGap members trace r.gst r.phi w → w.from ≡ r.gst
       → IsGap members trace (record { proc = w.proc; from = r.gst - 1; to = w.to }) → Serves members trace (r.gst - 1) q → Contains rows q
       → IsSomeAnd q.gap (λ v. (v.proc ≡ w.proc) × (v.to ≡ w.to))

@@ -56,7 +56,7 @@ all_evidence trace stalls delays =
     let evidence = stall_evidence trace stalls delays in
     evidence ++ other_evidence evidence delays
 
--- the length of its gap or of its miss, whichever is longer, in ticks; none in a trace is above MAX_TICKS
+-- the length of its gap or of its miss, the longer of the two, in ticks; none in a trace is above MAX_TICKS
 abbrev pub ticks_of : Evidence → ℕ
 ticks_of e = min MAX_TICKS (max (option_map_or (λ s. s.gap.to - (s.gap.from - 1)) e.stall 0) (option_map_or (λ d. d.ticks) e.delay 0))
 

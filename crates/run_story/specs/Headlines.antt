@@ -1,4 +1,4 @@
--- What is said of a run first (own).
+-- What a page says first about a run (own).
 use Rattle.std.specs.Prelude.{ℕ, ◌-◌, ◌&&◌, ◌||◌, ◌==◌, Bool, false, not, nat_le, nat_lt, List, length, Option, Some, None, slice_index_or, suc, zero, if◌then◌else◌}
 use Rattle.std.specs.Option.{option_map_or}
 use Rattle.step_trace.specs.declared.rows.Row.{Row}

@@ -32,11 +32,11 @@ pub record IsNamedBelow (list : List Evidence) (n k : ℕ) (named : Named) : Typ
 abbrev pub named_at : List Named → ℕ → Named
 named_at named k = slice_index_or named k (record { miss = None; gap = None })
 
--- what is named at place k, with evidence of this place beside the gap if its stall has row k
+-- what is named at place k, with evidence of this place for the gap if its stall has row k
 abbrev pub with_gap : Named → Option Stall → ℕ → ℕ → Named
 with_gap x stall k place = if option_map_or (λ s. is_from_to s.first s.last k) stall false then record { miss = x.miss; gap = Some place } else x
 
--- and beside the miss if its delay has
+-- and for the miss if its delay has
 abbrev pub with_miss : Named → Option Delay → ℕ → ℕ → Named
 with_miss x delay k place = if option_map_or (λ d. is_from_to d.first d.last k) delay false then record { miss = Some place; gap = x.gap } else x
 

@@ -34,7 +34,7 @@ pub struct Delay {
 /// Two misses are alike if none of their messages is ever taken. Or both are: then the later one is sent no later than the
 /// Receive that misses the first one, and all of a delay's messages have one receiver, or all have one sender.
 ///
-/// Time grows with the trace and the rows. Refuses only for want of memory.
+/// Time grows with the trace and the rows. Fails only if out of memory.
 pub fn delays_of(alloc: Global, trace: &Trace, rows: &[Row]) -> Result<Vec<Delay>, AllocError>
     ensures { IfOk result (λ delays. AreDelays trace.now rows.now delays.items) }
 {

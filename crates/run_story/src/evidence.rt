@@ -27,7 +27,7 @@ impl Evidence {
     ghost use Rattle.step_trace.specs.declared.traces.TheConstants.{MAX_TICKS};
     ghost use Rattle.run_story.specs.Evidence.{ticks_of};
 
-    /// The length of its gap or of its miss, whichever is longer, in ticks: at most `MAX_TICKS`.
+    /// The length of its gap or of its miss, the longer of the two, in ticks: at most `MAX_TICKS`.
     pub fn ticks(&self) -> u64
         ensures value { result ≡ ticks_of self.now }
         ensures limit { result ≤ MAX_TICKS }
@@ -52,7 +52,7 @@ impl Evidence {
 /// A stall explains a delay if some row names both, the silent processor is the receiver, and half of the miss at least lies in
 /// the silence. Evidence with an earlier first row comes first, and of one first row the longer evidence.
 ///
-/// Time grows with the trace and the rows, apart from the sorting of the evidence. Refuses only for want of memory.
+/// Time grows with the trace and the rows, apart from the sorting of the evidence. Fails only if out of memory.
 pub fn evidence_of(alloc: Global, trace: &Trace, rows: &[Row]) -> Result<Vec<Evidence>, AllocError>
     ensures { IfOk result (λ list. AreEvidence trace.now rows.now list.items) }
 {

@@ -1,4 +1,4 @@
-//! What is said of a run first.
+//! What a page says first about a run.
 
 ghost use Rattle.std.specs.Prelude.{◌≡◌, ◌==◌, ◌<◌, false, length};
 ghost use Rattle.std.specs.List.{list_any};
@@ -14,10 +14,10 @@ use crate::calm::is_poor;
 use crate::messages::{receiver_of, sender_of, tick_at};
 use step_trace::{ProcSet, Row, Trace};
 
-/// A run of fewer ticks whose calm row is poor is too short to tell much.
+/// A run of fewer ticks whose calm row is poor is too short to show much.
 pub const SHORT_RUN: u64 = 20;
 
-/// What is said of a run first: the first case that applies. Lengths are in ticks.
+/// What a page says first about a run: the first case that applies. Lengths are in ticks.
 #[derive(Clone, Copy, Debug, PartialEq, Eq)]
 pub enum Headline {
     /// The set has no member.

@@ -25,7 +25,7 @@ pub struct MessageCounts {
 
 /// The counts of the messages between members of a set.
 ///
-/// Time grows with the steps and the ids that they take. Refuses only for want of memory.
+/// Time grows with the steps and the ids that they take. Fails only if out of memory.
 pub fn count_messages(
     alloc: Global,
     trace: &Trace,

@@ -17,7 +17,7 @@ pub struct Named {
 
 /// For each of so many rows the evidence that it names.
 ///
-/// Time grows with the rows if each is in one stall and in one delay at most. Refuses only for want of memory.
+/// Time grows with the rows if each is in one stall and in one delay at most. Fails only if out of memory.
 pub fn named_evidence(
     alloc: Global,
     rows: usize,
@@ -47,7 +47,7 @@ fn mark(named: &mut Vec<Named>, list: &[Evidence], place: usize)
     mark_miss(named, evidence.delay, place);
 }
 
-/// Notes evidence beside the gap of each row of its stall, if it has one.
+/// Notes evidence for the gap of each row of its stall, if it has one.
 fn mark_gap(named: &mut Vec<Named>, stall: Option<Stall>, place: usize)
     ensures len { length named.new.items ≡ length named.old.items }
     ensures each { (k : ℕ) → k < length named.old.items → named_at named.new.items k ≡ with_gap (named_at named.old.items k) stall k place }
@@ -57,7 +57,7 @@ fn mark_gap(named: &mut Vec<Named>, stall: Option<Stall>, place: usize)
     }
 }
 
-/// Notes evidence beside the miss of each row of its delay, if it has one.
+/// Notes evidence for the miss of each row of its delay, if it has one.
 fn mark_miss(named: &mut Vec<Named>, delay: Option<Delay>, place: usize)
     ensures len { length named.new.items ≡ length named.old.items }
     ensures each { (k : ℕ) → k < length named.old.items → named_at named.new.items k ≡ with_miss (named_at named.old.items k) delay k place }
@@ -67,7 +67,7 @@ fn mark_miss(named: &mut Vec<Named>, delay: Option<Delay>, place: usize)
     }
 }
 
-/// Notes evidence beside the gap of each row of its stall.
+/// Notes evidence for the gap of each row of its stall.
 fn mark_gaps(named: &mut Vec<Named>, stall: Stall, place: usize)
     ensures len { length named.new.items ≡ length named.old.items }
     ensures each { (k : ℕ) → k < length named.old.items → named_at named.new.items k
@@ -81,7 +81,7 @@ fn mark_gaps(named: &mut Vec<Named>, stall: Stall, place: usize)
     }
 }
 
-/// Notes evidence beside the miss of each row of its delay.
+/// Notes evidence for the miss of each row of its delay.
 fn mark_misses(named: &mut Vec<Named>, delay: Delay, place: usize)
     ensures len { length named.new.items ≡ length named.old.items }
     ensures each { (k : ℕ) → k < length named.old.items → named_at named.new.items k
@@ -97,7 +97,7 @@ fn mark_misses(named: &mut Vec<Named>, delay: Delay, place: usize)
 
 /// The places of the first row, and of each row that names other evidence than the row before.
 ///
-/// Refuses only for want of memory, and only if there is a row.
+/// Fails only if out of memory, and only if there is a row.
 pub fn brief_rows(alloc: Global, named: &[Named]) -> Result<Vec<usize>, AllocError>
     ensures rows { IfOk result (λ rows. rows.items ≡ brief_to named.now (length named.now)) }
     ensures more { OnErr result (0 < length named.now) }

@@ -20,7 +20,7 @@ pub struct Stall {
 
 /// The stalls of rows, in their order: each row with a gap is in one. In a report the gap of each is a whole silence.
 ///
-/// Time grows with the rows. Refuses only for want of memory, and only if there is a row.
+/// Time grows with the rows. Fails only if out of memory, and only if there is a row.
 pub fn stalls_of(alloc: Global, rows: &[Row]) -> Result<Vec<Stall>, AllocError>
     ensures stalls { IfOk result (λ stalls. AreStalls rows.now stalls.items) }
     ensures whole { IfOk result (λ stalls. (set : ℕ) (trace : Recorded) → IsTimed trace → IsReport set trace rows.now

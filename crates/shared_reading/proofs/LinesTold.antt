@@ -1,4 +1,4 @@
--- The steps that records tell lead a trace where the records lead it.
+-- The steps that records encode lead a trace where the records lead it.
 use Rattle.std.proofs.Common.{◌≡◌, ◌<◌, ◌≤◌, ◌+◌, ◌∙◌, ℕ, List, [], ◌∷◌, ◌++◌, length, Option, Some, None, Result, Ok, Err, Bool, true, false, cond, refl, sym, ap, subst, arith, codes, decimal, append_assoc, length-append, ◌==◌}
 use Rattle.std.specs.Prelude.{nat_lt, ◌^◌}
 use Rattle.std.specs.Str.{bytes_eq}
@@ -38,7 +38,7 @@ passed false r e x h = cc h
 narrow : (n : ℕ) (x : ℕ × Step) (l : Line) → narrow_line n x ≡ Ok l → ◌≡◌ {A = Result Line TextError} (Ok (record { no = n; tick = x.0; step = x.1 })) (Ok l)
 narrow n x l h = (passed (nat_lt x.0 (2 ^ 32)) _ (WrongNumber 0) l h).1
 
--- what a record that tells a step says
+-- what a record that encodes a step says
 pub record Tells (v : Version) (fields : List (List ℕ)) (l : Line) : Type 0 where
   pub not_end : bytes_eq (field_of fields 0) (codes "end") ≡ false
   pub count : (length fields == step_fields v) ≡ true
@@ -62,7 +62,7 @@ tells v fields l h =
     let p = parts v fields n.0 s.0 l n.1 s.1 (narrow n.0 s.0 l s.2) in
     record { not_end = a.0; count = b.0; number = p.0; step = p.1 }
 
--- a record that tells a step leads a trace where the step leads it, also to the same refusal
+-- a record that encodes a step leads a trace where the step leads it, also to the same refusal
 pub told-next : (v : Version) (t : Recorded) (fields : List (List ℕ)) (l : Line) → line_of v fields ≡ Ok l → length t.steps ≤ MAX_STEPS
     → next_stage (Recording v t) fields ≡ line_stage v t l
 told-next v t fields l h short =
@@ -89,7 +89,7 @@ first_test false o h = cc h
 room : (t : Recorded) (tick : ℕ) (x : Step) → refusal_in t tick x ≡ None → length t.steps < MAX_STEPS
 room t tick x h = let b = first_test (nat_lt (length t.steps) MAX_STEPS) _ h in grind (arith, nat_tests)
 
--- The records lead the trace where the steps lead it that they tell, also to the same refusal.
+-- The records lead the trace where the steps that they encode lead it, also to the same refusal.
 pub told-all : (v : Version) (rs : List (List (List ℕ))) (ls : List Line) (t : Recorded) → TellLines v rs ls → length t.steps ≤ MAX_STEPS
     → after_records next_stage (Recording v t) rs ≡ after_lines v t ls
 unfolding TellLines after_lines
@@ -106,7 +106,7 @@ told-all v (r ∷ rs) (l ∷ ls) t h short =
       go more true (Some why) e = refl
       go more true None e = let less = room t l.tick l.step e in let sum = length-append t.steps (l.step ∷ []) in more (omega (arith, less, sum))
 
--- what was read of records are the steps that they tell
+-- what was read of records are the steps that they encode
 read-from : (r s : Read) (rs : List (List (List ℕ))) → after_records next_read r rs ≡ Ok s → (new : List Line) × (s ≡ record { version = r.version; lines = r.lines ++ new }) × TellLines r.version rs new
 unfolding TellLines
 read-from r s [] h = ([], (let same : r ≡ s = cc h in rw (← same, append-nil r.lines) refl), tt)

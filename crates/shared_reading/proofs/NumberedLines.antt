@@ -109,7 +109,7 @@ numbered-refused v t n xs ts e at h refused = go e.why (λ other. numbered-led v
   go Memory k = tt
   go why k = k (λ same. cc same)
 
--- where there is no step, the trace stays as it is
+-- if there is no step, the trace is unchanged
 pub numbered-none : (v : Version) (t : Recorded) (n : ℕ) (xs : List Step) (ts : List ℕ) → length xs ≡ 0 → after_lines v t (numbered n xs ts) ≡ Ok (Recording v t)
 unfolding after_lines
 numbered-none v t n [] ts h = refl

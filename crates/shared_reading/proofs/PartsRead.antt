@@ -141,7 +141,7 @@ unread-after before total old mid new bytes why.TooLarge t h k = record {
 }
 unread-after before total old mid new bytes e t h k = absurd k
 
--- records never tell of a failed read
+-- records never report a failed read
 pub no-fault : (s t : Stage) (rest : List ℕ) (e : TextError) → IsTaken s t rest (Err e) → e ≢ why.Read
 no-fault s t rest e front = never-reached s (records_of_text (rest ++ [])) e why.Read refl refl (unless (is_memory e) _ _ (λ refuses. refuses []) front)
 

@@ -81,7 +81,7 @@ part-rest text from end order =
     let e : from + (end - from) ≡ end = omega (arith, order) in
     sym (take-append-drop (end - from) (drop from text)) ∙ ap (λ (xs : List ℕ). part text from end ++ xs) (drop-drop (end - from) from text ∙ ap (λ k. drop k text) e)
 
--- what follows from a refusal follows unless it is for memory
+-- what follows from a refusal follows unless it is out of memory
 pub unless : (b : Bool) (P Q : Type 0) → (P → Q) → MatchBool b ⊤ P → MatchBool b ⊤ Q
 unless true P Q f h = h
 unless false P Q f h = f h

@@ -1,4 +1,4 @@
--- A line that tells a step as it is written is read by csv's reader as its fields.
+-- A line that encodes a step in canonical form is read by csv's reader as its fields.
 use Rattle.std.proofs.Common.{◌≡◌, ◌≤◌, ◌<◌, ◌+◌, ◌∙◌, ℕ, suc, List, [], ◌∷◌, ◌++◌, length, drop, Option, Some, None, Result, Ok, Err, Bool, true, false, cond, refl, sym, ap, subst, arith, codes, length-append}
 use Rattle.std.specs.Prelude.{IfOk}
 use Rattle.std.specs.Option.{ok_or}
@@ -54,11 +54,11 @@ all-told : (end count : Bool) (number : Option ℕ) (n : ℕ) (step : ℕ → Re
     → cond end (Err (BadFields 0)) (cond count (ok_or number (WrongNumber 0) >>= λ m. step m >>= λ y. narrow_line m y) (Err (BadFields 0))) ≡ narrow_line n x
 all-told end count number n step x e c m h = rw (e, c, m, h) refl
 
--- the step that fields tell, if its tick is this one
+-- the step that fields encode, if its tick is this one
 abbrev step_told : StepFields → ℕ → Option ℕ → Result (ℕ × Step) TextError
 step_told f n tick = judged_of n tick f.operation.bytes.now f.proc.field.bytes.now f.arg.field.bytes.now
 
--- the step that fields tell is that of their record
+-- the step that fields encode is that of their record
 line-told : (v : Version) (f : StepFields) (n : ℕ) (x : ℕ × Step) → number_of f.no.field.bytes.now ≡ Some n → step_told f n (told_tick v n f.tick.field.bytes.now) ≡ Ok x
     → line_of v (record_of v f) ≡ narrow_line n x
 unfolding field_at
@@ -93,7 +93,7 @@ step-done at tick operation proc arg p n act is_proc is_arg h = go (bytes_eq ope
   go false false true s r e h = let same : Receive true (n ∷ []) ≡ act = cc h in rw (s, r, e, is_proc, ids, same) refl
   go false false false s r e h = cc h
 
--- fields that tell a step need no quotes
+-- fields that encode a step need no quotes
 plain-record : (v : Version) (f : StepFields) (l : Line) → line_of v (record_of v f) ≡ Ok l → ArePlain (record_of v f)
 unfolding field_at
 plain-record One f l h =
@@ -109,7 +109,7 @@ two-fields : (v : Version) (f : StepFields) → 2 ≤ length (record_of v f)
 two-fields One f = omega arith
 two-fields Two f = omega arith
 
--- the line at a place tells a step, and no byte order mark may stand there or behind it
+-- the line at a place encodes a step, and no byte order mark may be there or behind it
 pub step-told : (v : Version) (text : List ℕ) (at : ℕ) (f : StepFields) (line : Line) → at < f.arg.field.end → f.arg.field.end ≤ length text
     → drop at text ≡ record_line (record_of v f) ++ drop f.arg.field.end text → strip_bom (drop at text) ≡ drop at text → strip_bom (drop f.arg.field.end text) ≡ drop f.arg.field.end text
     → line_of v (record_of v f) ≡ Ok line → IsStepLine v text at (record { line = line; end = f.arg.field.end })

@@ -17,7 +17,7 @@ use Rattle.shared_reading.specs.UnderWay.{IsMoved, bytes_in, bytes_of}
 use Rattle.shared_reading.proofs.PieceLemmas.{unless, read_on-ok, read_on-err}
 use Rattle.shared_reading.proofs.QuoteFree.{seam}
 
--- what begins with no mark begins with none whatever is put behind it
+-- what begins with no mark begins with none, with any text behind it
 unmarked-front : (a b : List ℕ) → IsUnmarked a → IsUnmarked (a ++ b)
 unmarked-front a b u = λ more. subst (λ xs. strip_bom xs ≡ xs) (sym (append_assoc a b more)) (u (b ++ more))
 

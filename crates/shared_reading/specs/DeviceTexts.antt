@@ -21,7 +21,7 @@ pub record IsTraceRead (known : Option (List ℕ)) (t : Recorded) : Type 0 where
   pub stands : StandsFor text t
   pub size : length text ≤ MAX_TEXT_BYTES
 
--- the refusal is the first of the table; a failed read and want of memory may come anywhere
+-- the refusal is the first of the table; a failed read and out of memory may come anywhere
 abbrev pub IsRefusalOf : TextError → List ℕ → Type 0
 IsRefusalOf why.Read text = ⊤
 IsRefusalOf why.Memory text = ⊤
@@ -34,15 +34,15 @@ pub record IsGiven (known : Option (List ℕ)) (r : Result Recorded TextError) :
   pub size : length text ≤ MAX_TEXT_BYTES
   pub gives : Gives r (trace_of_records (records_of_text text))
 
--- a refusal: for the reader, for memory, for more bytes than the limit, or for the records
+-- a refusal: of the reader, out of memory, of more bytes than the limit, or of the records
 abbrev pub IsRefused : Option (List ℕ) → TextError → Type 0
 IsRefused known why.Read = ⊤
 IsRefused known why.Memory = ⊤
 IsRefused known why.TooLarge = IfSome known (λ bytes. MAX_TEXT_BYTES < length bytes)
 IsRefused known e = IsGiven known (Err e)
 
--- Of the bytes that the reader had at first some were let go of, then come those before the rest, and the rest, and the
--- others are left; and whatever comes after the rest, the records of all lead where those after the first lead from the
+-- Of the bytes that the reader had at first some were dropped, then come those before the rest, and the rest, and the
+-- others are left. For any bytes after the rest, the records of all lead where those after the first lead from the
 -- stage.
 pub record IsReadTo (known left : Option (List ℕ)) (before : List ℕ) (p : Progress) : Type 0 where
   pub gone : List ℕ
@@ -50,7 +50,7 @@ pub record IsReadTo (known left : Option (List ℕ)) (before : List ℕ) (p : Pr
   pub read : Consumes known left (gone ++ (before ++ p.rest.items))
   pub leads : (more : List ℕ) → read_on Opening (gone ++ (before ++ (p.rest.items ++ more))) ≡ read_on p.stage (before ++ (p.rest.items ++ more))
 
--- the front of the rest was taken: whatever comes behind, the records lead where those behind the front lead
+-- the front of the rest was taken: for any bytes behind, the records lead where those behind the front lead
 abbrev pub IsTaken : Stage → Stage → List ℕ → Result ℕ TextError → Type 0
 IsTaken old new rest (Ok cut) = (cut ≤ length rest) × ((more : List ℕ) → read_on old (rest ++ more) ≡ read_on new (drop cut rest ++ more))
 IsTaken old new rest (Err e) = MatchBool (is_memory e) ⊤ ((more : List ℕ) → read_on old (rest ++ more) ≡ Err e)

@@ -33,8 +33,8 @@ numbered n (x ∷ xs) (tick ∷ ticks) = record { no = n; tick = tick; step = x 
 abbrev pub narrow_line : ℕ → ℕ × Step → Result Line TextError
 narrow_line n x = if nat_lt x.0 (2 ^ 32) then Ok (record { no = n; tick = x.0; step = x.1 }) else Err (WrongNumber 0)
 
--- the step that a record tells, with its number and its tick, and with the ids by which it is judged; any refusal stands
--- for: read it with the trace
+-- the step that a record encodes, with its number and its tick, and with the ids by which it is judged; any refusal
+-- means: read it with the trace
 abbrev pub line_of : Version → List (List ℕ) → Result Line TextError
 line_of v fields =
     if bytes_eq (field_of fields 0) (codes "end") then Err (BadFields 0)
@@ -76,7 +76,7 @@ after_lines v t (l ∷ ls) =
     if l.no == length t.steps + 1 then accepted (refusal_in t l.tick l.step) (length t.steps + 1) (after_lines v (with_step t l.tick l.step) ls)
     else Err (WrongNumber (length t.steps + 1))
 
--- these records tell these steps
+-- these records encode these steps
 unfoldable pub TellLines : Version → List (List (List ℕ)) → List Line → Type 0
 TellLines v [] [] = ⊤
 TellLines v [] (l ∷ ls) = ⊥

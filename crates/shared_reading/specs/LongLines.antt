@@ -1,4 +1,4 @@
--- A record of too many fields tells no step.
+-- A record of too many fields encodes no step.
 use Rattle.std.specs.Prelude.{ℕ, ◌≡◌, ◌<◌, List, ◌++◌, length, Result, Err, Bool, true, false, ◌==◌, codes}
 use Rattle.std.proofs.Common.{cond, refl, arith}
 use Rattle.std.specs.Str.{bytes_eq}

@@ -1,4 +1,4 @@
--- A trace text of which some pieces are read without what stands before them.
+-- A trace text of which some pieces are read without what comes before them.
 use Rattle.std.specs.Prelude.{ℕ, ◌≡◌, ◌≤◌, ◌-◌, ◌++◌, List, length, take, drop, Result, Ok, Err, Bool, false, true, MatchBool, ⊤}
 use Rattle.csv.specs.Reading.{strip_bom}
 use Rattle.step_trace.specs.declared.traces.TheConstants.{MAX_STEPS}
@@ -35,7 +35,7 @@ IsFound v bytes (Steps read) = IsReadAlone v bytes read.lines
 IsFound v bytes Unusual = ⊤
 IsFound v bytes NoMemory = ⊤
 
--- whatever comes behind these bytes, no byte order mark begins with them
+-- for any bytes behind these, no byte order mark begins with them
 abbrev pub IsUnmarked : List ℕ → Type 0
 IsUnmarked bytes = (more : List ℕ) → strip_bom (bytes ++ more) ≡ bytes ++ more
 
@@ -45,7 +45,8 @@ pub record LeadsAlone (s : Stage) (bytes : List ℕ) (r : Result Stage TextError
   pub line : ends_line bytes ≡ true
   pub leads : read_on s bytes ≡ r
 
--- a stage that takes what was found in a piece leads where the bytes lead, or is as it was, or one of its steps is refused
+-- a stage that takes what was found in a piece leads where the bytes lead, or is unchanged, or one of its steps is
+-- refused
 abbrev pub TakesFound : Version → Found → Stage → Stage → Result Bool TextError → Type 0
 TakesFound v found old new (Ok took) = MatchBool took ((bytes : List ℕ) → IsFound v bytes found → LeadsAlone old bytes (Ok new)) (new ≡ old)
 TakesFound v found old new (Err e) = MatchBool (is_memory e) ⊤ ((bytes : List ℕ) → IsFound v bytes found → LeadsAlone old bytes (Err e))

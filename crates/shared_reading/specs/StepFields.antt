@@ -1,4 +1,4 @@
--- The fields of lines that tell a step as it is written.
+-- The fields of lines that encode a step in canonical form.
 use Rattle.std.specs.Prelude.{ℕ, ◌≡◌, ◌<◌, ◌≤◌, ◌++◌, List, [], ◌∷◌, length, drop, take, Option, Some, IfSome}
 use Rattle.trace_text.specs.declared.versions.Version.{Version}
 use Rattle.trace_text.specs.declared.versions.Version.TheVariants.{One, Two}
@@ -14,7 +14,7 @@ pub record IsFirstNumber (bytes : List ℕ) (f : FirstNumber) : Type 0 where
   pub digits : f.digits ≤ length bytes
   pub number : number_of (take f.digits bytes) ≡ Some f.number
 
--- a field stands at a place of a text, with this byte behind it, and its end is behind that
+-- a field is at a place of a text, with this byte behind it, and its end is behind that
 pub record IsFieldAt (text : List ℕ) (at last : ℕ) (f : Field) : Type 0 where
   pub end : f.end ≤ length text
   pub some : at < f.end
@@ -25,12 +25,12 @@ pub record IsNumberAt (text : List ℕ) (at last : ℕ) (f : NumberField) : Type
   pub field : IsFieldAt text at last f.field
   pub number : number_of f.field.bytes.now ≡ Some f.number
 
--- the tick's field stands behind the number, or is that in version 1, which has none
+-- the tick's field is behind the number, or is that in version 1, which has none
 abbrev pub IsTickAt : Version → List ℕ → NumberField → NumberField → Type 0
 IsTickAt One text number f = f ≡ number
 IsTickAt Two text number f = IsNumberAt text number.field.end 44 f
 
--- a field up to the end of the line stands at a place, and its number is known if there is one
+-- a field up to the end of the line is at a place, and its number is known if there is one
 pub record IsArgumentAt (text : List ℕ) (at : ℕ) (f : Argument) : Type 0 where
   pub field : IsFieldAt text at 10 f.field
   pub number : IfSome f.number (λ n. number_of f.field.bytes.now ≡ Some n)

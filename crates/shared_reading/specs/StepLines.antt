@@ -1,4 +1,4 @@
--- Lines of a text that tell a step as it is written.
+-- Lines of a text that encode a step in canonical form.
 use Rattle.std.specs.Prelude.{ℕ, ◌≡◌, ◌<◌, ◌≤◌, List, [], ◌∷◌, length, drop, Option, Some, None, Ok, false, true, if◌then◌else◌, codes}
 use Rattle.std.specs.Str.{bytes_eq}
 use Rattle.step_trace.specs.declared.steps.Act.{Act}
@@ -16,7 +16,7 @@ act_with operation n =
     else if bytes_eq operation (codes "E") then Some (Receive true (n ∷ []))
     else None
 
--- the first record from a place on tells this step, and the others are those from its end on
+-- the first record from a place on encodes this step, and the others are those from its end on
 pub record IsStepLine (v : Version) (text : List ℕ) (at : ℕ) (l : StepLine) : Type 0 where
   pub end : l.end ≤ length text
   pub some : at < l.end

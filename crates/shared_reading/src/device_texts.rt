@@ -1,5 +1,5 @@
-//! A trace text that is read from a device part by part. What the trace has taken is let go of, so that no long text stands
-//! beside its trace.
+//! A trace text that is read from a device part by part. What the trace has taken is dropped, so that memory never
+//! holds a long text and its trace.
 
 ghost use Rattle.std.specs.Prelude.{◌≡◌, ◌≤◌, ◌<◌, ◌+◌, ℕ, List, [], Option, drop, length, vec_len, IfOk, OnOk, IfErr, IfSome};
 ghost use Rattle.std.specs.Io.KnownBytes.{IsAtEnd};
@@ -25,8 +25,9 @@ const READ_BYTES: usize = 65_536;
 /// How many bytes one thread takes at once.
 const PART_BYTES: usize = 1_048_576;
 
-/// Reads a trace text to its end, and gives the trace that it stands for. With two workers and more, other threads read
-/// pieces of the text; of a long text only a part is held at once, unless it has quotes or lines that are longer than that.
+/// Reads a trace text to its end, and gives the trace that it encodes. With two workers and more, other threads read
+/// pieces of the text. Of a long text only a part is held at once, unless it has quotes or lines that are longer than
+/// that.
 ///
 /// Refuses Read at the first fault, TooLarge once more than `MAX_TEXT_BYTES` were read, and then, with the whole text
 /// read, what `read_trace` refuses. Memory may come at any step.
@@ -118,8 +119,8 @@ fn read_parts<R: Read>(
     Ok(())
 }
 
-/// Takes the lines of what was read, and lets go of them; tells whether there were any. Where one is refused, the rest of
-/// the text is still read, since it may be too large.
+/// Takes the lines of what was read, and drops them; answers whether there were any. If one is refused, the rest of the
+/// text is still read, since it may be too large.
 pub(crate) fn take_part<R: Read>(
     alloc: Global,
     reader: &mut Counting<R>,
@@ -146,8 +147,8 @@ pub(crate) fn take_part<R: Read>(
     }
 }
 
-/// Takes the front of the rest of a text, up to the end of a line, if the text may be cut off there; tells how many bytes
-/// it has.
+/// Takes the front of the rest of a text, up to the end of a line, if the text may be cut off there; answers how many
+/// bytes it has.
 fn take_front(alloc: Global, rest: &[u8], stage: &mut Stage) -> Result<usize, TextError>
     ensures { IsTaken stage.old stage.new rest.now result }
 {

@@ -1,5 +1,5 @@
-//! A trace text that is read by pieces, from memory or from a device part by part, by one thread or several. One thread goes
-//! over the text from front to back; what is read of it without what stands before only shortens its way.
+//! A trace text that is read by pieces, from memory or from a device part by part, by one thread or several. One thread
+//! scans the text from front to back; pieces read out of order only shorten its way.
 #![tactic(auto)]
 
 mod cuts;

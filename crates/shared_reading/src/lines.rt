@@ -62,7 +62,7 @@ impl Lines {
         })
     }
 
-    /// Adds the steps of the lines at the front of a text, as far as each is one that needs no reader of csv's. Tells
+    /// Adds the steps of the lines at the front of a text, as far as each is one that needs no reader of csv's. Answers
     /// where the first other line begins.
     pub(crate) fn read_front(&mut self, alloc: Global, text: &[u8]) -> Result<usize, TextError>
         ensures { FrontIsRead self.old self.new text.now result }
@@ -88,7 +88,7 @@ impl Lines {
         let Ok(()) = self.steps.push(alloc, line.no, line.tick, line.step) else {
             return Err(TextError::Memory);
         };
-        // (as it was, unless this is the first step)
+        // (unchanged, unless this is the first step)
         self.first = line.no - self.count;
         self.count = count;
         Ok(())
@@ -129,7 +129,7 @@ impl TakeRecords for Lines {
     ghost long = { tells_none };
 }
 
-/// The step that a record tells.
+/// The step that a record encodes.
 fn line_of(alloc: Global, version: Version, fields: &ByteRecord) -> Result<Line, TextError>
     ensures { Gives result (line_of version (fields_of fields.now)) }
 {

@@ -9,7 +9,7 @@ use std::marker::Model;
 use std::mem;
 use step_trace::{LooseSteps, PAGE_STEPS, Step, StepRefused, Trace};
 
-/// Steps, each with its tick, that are cut where the pages of a trace are: so the trace takes a full page as it is.
+/// Steps, each with its tick, that are cut at the pages of a trace: so the trace takes a full page unchanged.
 #[derive(Drop)]
 pub(crate) struct PagedSteps {
     // (the first may begin within a page of the trace)
@@ -40,7 +40,7 @@ impl PagedSteps {
         })
     }
 
-    /// Adds the step of this number, in this tick. Refuses only for want of memory, and then the step is gone.
+    /// Adds the step of this number, in this tick. Fails only if out of memory, and then the step is gone.
     pub(crate) fn push(
         &mut self,
         alloc: Global,

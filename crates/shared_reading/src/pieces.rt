@@ -1,4 +1,4 @@
-//! Pieces of a trace text that are read without what stands before them.
+//! Pieces of a trace text that are read without what comes before them.
 
 ghost use Rattle.std.specs.Prelude.{◌≡◌, ◌≤◌, length, drop, true, false};
 ghost use Rattle.csv.specs.Reading.{strip_bom};
@@ -17,18 +17,18 @@ use trace_text::reading::Stage;
 use trace_text::records::read_records;
 use trace_text::versions::Version;
 
-/// What a piece of a text tells by itself.
+/// What a piece of a text encodes by itself.
 #[derive(Drop)]
 pub(crate) enum Found {
     /// Its records are these steps.
     Steps(Lines),
-    /// It isn't steps alone, or its records can't be told without what stands before or after it.
+    /// It isn't steps alone, or its records depend on what comes before or after it.
     Unusual,
-    /// There was no memory.
+    /// Out of memory.
     NoMemory,
 }
 
-/// What these bytes tell by themselves.
+/// What these bytes encode by themselves.
 pub(crate) fn found_in(alloc: Global, version: Version, bytes: &[u8]) -> Found
     ensures { IsFound version bytes.now result }
 {
@@ -81,7 +81,7 @@ pub(crate) fn may_be_marked(bytes: &[u8]) -> bool
     bytes[0] == 0xEF
 }
 
-/// Whether there are bytes, and no byte order mark begins with them, whatever comes behind.
+/// Whether there are bytes, and no byte order mark begins with them, for any bytes behind.
 pub(crate) fn begins_unmarked(bytes: &[u8]) -> bool
     ensures { result ≡ true → IsUnmarked bytes.now }
 {
@@ -99,8 +99,8 @@ pub(crate) fn tail(text: &[u8], at: usize) -> &[u8]
     &text[at..]
 }
 
-/// The trace that is being recorded takes the steps that were found in a piece, if they are known and were read in its
-/// version; tells whether it has them. Where one is refused, the stage is of no more use.
+/// The trace under way takes the steps that were found in a piece, if they are known and were read in its version.
+/// Answers whether it has them. After a refusal the stage is of no more use.
 pub(crate) fn take_found(
     version: Version,
     found: Found,

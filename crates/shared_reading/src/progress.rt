@@ -21,7 +21,7 @@ pub(crate) struct Progress {
     pub(crate) rest: Vec<u8>,
 }
 
-/// Reads so many bytes more, or to the end, and tells whether that was reached.
+/// Reads so many bytes more, or to the end, and answers whether that was reached.
 pub(crate) fn fill<R: Read>(
     reader: &mut Counting<R>,
     piece: &mut [u8],

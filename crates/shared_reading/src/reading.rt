@@ -22,7 +22,7 @@ const HEAD_BYTES: usize = 4096;
 /// The number of bytes of a piece, but for the rest of its last line.
 const PIECE_BYTES: usize = 1_048_576;
 
-/// The trace that a text stands for. Answers as `trace_text::read_trace` does, and sooner: its plain lines are read
+/// The trace that a text encodes. Answers as `trace_text::read_trace` does, and sooner: its plain lines are read
 /// without csv's reader.
 pub fn read_trace(alloc: Global, text: &[u8]) -> Result<Trace, TextError>
     ensures stands { IfOk result (λ t. StandsFor text.now t) }
@@ -60,7 +60,7 @@ pub(crate) fn read_alone(alloc: Global, text: &[u8], stage: &mut Stage) -> Resul
     read_records(alloc, tail(text, at), stage)
 }
 
-/// Reads the steps piece by piece, and tells the place up to which the text was read.
+/// Reads the steps piece by piece, and answers the place up to which the text was read.
 fn read_pieces(alloc: Global, text: &[u8], stage: &mut Stage) -> Result<usize, TextError>
     ensures within { IfOk result (λ at. at ≤ length text.now) }
     ensures goes_on { GoesOn stage.old stage.new text.now 0 result }
@@ -72,8 +72,8 @@ fn read_pieces(alloc: Global, text: &[u8], stage: &mut Stage) -> Result<usize, T
     }
 }
 
-/// Reads the header, the initial values and some steps, where these are due, and tells the place up to which the text was
-/// read.
+/// Reads the header, the initial values and some steps, if these are due, and answers the place up to which the text
+/// was read.
 fn read_head(alloc: Global, text: &[u8], stage: &mut Stage) -> Result<usize, TextError>
     ensures within { IfOk result (λ at. at ≤ length text.now) }
     ensures goes_on { GoesOn stage.old stage.new text.now 0 result }
@@ -111,7 +111,8 @@ fn read_part(
     Ok(end)
 }
 
-/// Reads on from a place piece by piece, as far as they are steps alone, and tells the place up to which the text was read.
+/// Reads on from a place piece by piece, as far as they are steps alone, and answers the place up to which the text was
+/// read.
 fn read_pieces_from(
     alloc: Global,
     text: &[u8],
@@ -133,7 +134,7 @@ fn read_pieces_from(
     }
 }
 
-/// Reads the steps from one place to another as a piece, without the trace, which then takes them; and tells the place up
+/// Reads the steps from one place to another as a piece, without the trace, which then takes them. Answers the place up
 /// to which the text was read.
 fn read_piece(
     alloc: Global,

@@ -1,7 +1,8 @@
 //! A trace text that is read from a device, of which other threads read pieces.
 //!
-//! One thread reads the bytes, cuts them behind the ends of lines, and gives each piece to a thread of its own. Beside the
-//! oldest piece, whose steps it takes once they are read, as many are under way as there are workers.
+//! One thread reads the bytes, cuts them behind the ends of lines, and gives each piece to a thread of its own. It
+//! takes the steps of the oldest piece once they are read; besides that one, as many pieces are under way as there are
+//! workers.
 
 ghost use Rattle.std.specs.Prelude.{◌≡◌, ◌≤◌, ◌<◌, ◌++◌, ℕ, List, [], Option, take, drop, length, vec_len, true, IfOk, OnOk, IfErr};
 ghost use Rattle.std.specs.VecDeque.{deque_len};
@@ -38,7 +39,7 @@ const GREATEST_PIECE_BYTES: usize = 1_048_576;
 /// How many bytes the pieces under way have together at most, but for one.
 const UNDER_WAY_BYTES: usize = 8_388_608;
 
-/// Reads on by pieces that other threads read, and tells whether the end was reached. What can't be read so is left.
+/// Reads on by pieces that other threads read, and answers whether the end was reached. What can't be read so is left.
 pub(crate) fn read_shared<T: Threads, R: Read>(
     rt: &T,
     alloc: Global,
@@ -137,8 +138,8 @@ fn start_and_take<T: Threads, R: Read>(
     Ok(ended)
 }
 
-/// Gives pieces to threads up to the end of the text, or to where it can't be cut, and takes the oldest one where enough
-/// are under way. Tells whether the end was reached.
+/// Gives pieces to threads up to the end of the text, or to where it can't be cut, and takes the oldest one if enough
+/// are under way. Answers whether the end was reached.
 fn start_all<T: Threads, R: Read>(
     rt: &T,
     alloc: Global,
@@ -185,7 +186,7 @@ fn piece_bytes(workers: u64, total: usize) -> usize
     (total / 2).max(LEAST_PIECE_BYTES).min(most)
 }
 
-/// A thread reads the front of the rest, up to the end of a line, where it can be cut; tells whether one does.
+/// A thread reads the front of the rest, up to the end of a line, if it can be cut; answers whether one does.
 fn start_piece<T: Threads>(
     rt: &T,
     alloc: Global,
@@ -279,9 +280,9 @@ fn take_all<T: Threads, R: Read>(
     Ok(())
 }
 
-/// Takes the steps of the oldest piece under way, once they are read; tells whether it did. Where they can't be read without
-/// what stands before or behind, all pieces are put back before the rest. Where one is refused, the rest of the text is
-/// still read, since it may be too large.
+/// Takes the steps of the oldest piece under way, once they are read; answers whether it did. If they depend on what
+/// comes before or behind, all pieces are put back before the rest. If one is refused, the rest of the text is still
+/// read, since it may be too large.
 fn take_oldest<T: Threads, R: Read>(
     rt: &T,
     reader: &mut Counting<R>,

@@ -1,5 +1,5 @@
-//! The fields of lines that tell a step as it is written, cut at commas and without quotes. Each number is read where its
-//! digits are gone over.
+//! The fields of lines that encode a step in canonical form, cut at commas and without quotes. Each number is read
+//! while its digits are scanned.
 
 ghost use Rattle.std.specs.Prelude.{◌≡◌, ◌<◌, ◌≤◌, ◌++◌, length, drop, take, IfSome};
 ghost use Rattle.trace_text.specs.Records.{record_line};
@@ -69,7 +69,7 @@ pub(crate) fn step_fields(version: Version, text: &[u8], at: usize) -> Option<St
     })
 }
 
-/// The tick of the step of this number: in version 2 it stands behind that.
+/// The tick of the step of this number: in version 2 it is behind that.
 fn tick_at<'a>(version: Version, text: &'a [u8], no: NumberField<'a>) -> Option<NumberField<'a>>
     requires { no.field.end ≤ length text.now }
     ensures { IfSome result (IsTickAt version text.now no.entry) }
@@ -80,7 +80,7 @@ fn tick_at<'a>(version: Version, text: &'a [u8], no: NumberField<'a>) -> Option<
     }
 }
 
-/// The number at a place, if this byte stands behind it.
+/// The number at a place, if this byte is behind it.
 fn number_at(text: &[u8], at: usize, last: u8) -> Option<NumberField<'_>>
     requires { at ≤ length text.now }
     ensures { IfSome result (IsNumberAt text.now at last) }
@@ -111,7 +111,7 @@ fn argument_at(text: &[u8], at: usize) -> Option<Argument<'_>>
     })
 }
 
-/// So many bytes from a place on, if this one stands behind them.
+/// So many bytes from a place on, if this one is behind them.
 fn field_at(text: &[u8], at: usize, len: usize, last: u8) -> Option<Field<'_>>
     requires { at ≤ length text.now }
     ensures bytes { IfSome result (λ field. field.bytes.now ≡ take len (drop at text.now)) }

@@ -1,5 +1,5 @@
-//! Lines of a text that tell a step as it is written. They need no reader of csv's, which looks up what to do at each byte,
-//! and copies each field.
+//! Lines of a text that encode a step in canonical form. They need no reader of csv's, which looks up what to do at
+//! each byte, and copies each field.
 
 ghost use Rattle.std.specs.Prelude.{◌≡◌, ◌≤◌, length, Ok, Some, IfOk, IfErr, IfSome, IsTrue};
 ghost use Rattle.trace_text.specs.TextRefusals.{is_memory};
@@ -18,16 +18,16 @@ use trace_text::TextError;
 use trace_text::reading::step_of_fields;
 use trace_text::versions::Version;
 
-/// A step that a line tells, and the place behind the line.
+/// A step that a line encodes, and the place behind the line.
 #[derive(Drop)]
 pub(crate) struct StepLine {
     pub(crate) line: Line,
     pub(crate) end: usize,
 }
 
-/// The step that the line at a place tells, unless it has to be read by csv's reader, or not at all.
+/// The step that the line at a place encodes, unless it has to be read by csv's reader, or not at all.
 ///
-/// Refuses only for want of memory.
+/// Fails only if out of memory.
 pub(crate) fn step_line(
     alloc: Global,
     version: Version,
@@ -52,7 +52,7 @@ pub(crate) fn step_line(
     }
 }
 
-/// The step that these fields tell.
+/// The step that these fields encode.
 fn told_line(alloc: Global, version: Version, fields: StepFields<'_>) -> Result<Line, TextError>
     requires { AreNumbersOf version fields }
     ensures { IfOk result (λ line. line_of version (record_of version fields.entry) ≡ Ok line) }

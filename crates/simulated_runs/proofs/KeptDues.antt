@@ -56,7 +56,7 @@ taken-or-waits c steps s p w h = of (is_taken steps s) refl
     of false e = inr (Contains-filter (waits_for steps p) (numbers steps) s (Contains-numbers steps s (let l = within.0 in omega arith) within.1)
         (and_from (is_sent_to steps s p) (not (is_taken steps s)) sent (ap not e)))
 
--- the bound as it was kept, for Receives before the last step
+-- the bound is still kept for Receives before the last step
 kept-old : (gst delta : ℕ) (steps : List Step) (x : Step) (s p r : ℕ) → 1 ≤ delta → ((s p r : ℕ) → gst < s → IsSentTo steps s p → IsReceiveOf steps r p → s + delta ≤ r → IsTakenBy steps s r)
     → gst < s → IsSentTo (steps ++ x ∷ []) s p → s + delta ≤ r → IsReceiveOf steps r p → IsTakenBy (steps ++ x ∷ []) s r
 kept-old gst delta steps x s p r some kept late sent by received =

@@ -7,7 +7,7 @@ use Rattle.step_trace.proofs.StepPositions.{slice_get-push_cases, slice_get-push
 use Rattle.simulated_runs.specs.declared.turns.Turn.{Turn}
 use Rattle.simulated_runs.specs.Turns.{AreInTime, ArePassed, HasTurn, IsFirstTurn, IsTurnIn, MayStep, next_turn}
 
--- what is left of a list stood before the place that was taken out, or behind it
+-- what is left of a list was before the place that was taken out, or behind it
 pub removed-place : {X : Type 0} (xs : List X) (j k : ℕ) (x : X) → slice_get (remove xs j) k ≡ Some x
     → ((k < j) × (slice_get xs k ≡ Some x)) ⊎ ((j ≤ k) × (slice_get xs (suc k) ≡ Some x))
 removed-place [] zero k x h = cc

@@ -32,7 +32,7 @@ tray-other trays p q tray low low2 other = get_or-set_other trays (p - 1) (q - 1
 waits-old : (steps : List Step) (p s : ℕ) → Contains (buffer steps p) s → s ≤ length steps
 waits-old steps p s c = let w = IsWaiting-from_buffer steps p s c in (step_at_within steps s _ w.sent).1
 
--- whoever a message is sent to, what waits goes on waiting
+-- for any receiver of a message, what waits goes on waiting
 buffer-grows : (c : Setup) (steps : List Step) (p to q s : ℕ) → IsWellFormed c steps → Contains (buffer steps q) s
     → Contains (buffer (steps ++ sending p to ∷ []) q) s
 buffer-grows c steps p to q s w waits = go (cases_eq to q)

@@ -41,7 +41,7 @@ AreOpeningTurns n crashes None turns = (turns.queue.items ≡ []) × (turns.gst 
 AreOpeningTurns n crashes (Some b) turns =
     (turns.queue.items ≡ map (λ p. record { proc = p; deadline = b.gst + b.phi }) (live n crashes)) × (turns.gst ≡ b.gst) × (turns.phi ≡ b.phi)
 
--- A run as it was asked for, after so many ticks.
+-- A run with these options, after so many ticks.
 pub record HasRun (c : Setup) (crashes : List Crash) (bounds : Option StatedBounds) (s : Simulation) (ticks : ℕ) : Type 0 where
   pub ready : IsReady s
   pub config : s.world.trace.config ≡ c

@@ -165,7 +165,7 @@ body_of-prefix c steps more q to s w l =
       state_after-prefix c steps more (passed (before steps s) q) q w (passed-before steps q s),
     ) refl
 
--- before the next step stand all steps
+-- all steps are before the next step
 pub before-now : (steps : List Step) → before steps (length steps + 1) ≡ steps
 before-now steps =
     let e : length steps + 1 - 1 ≡ length steps = omega arith in

@@ -115,7 +115,7 @@ IsProcessor-alike c steps p x y like is = record {
   inbox = rw like.round (IsInbox-moved steps p x.round x.inbox _ _ like.inbox is.inbox);
 }
 
--- each of the copies stands in the place of what it serves for
+-- each of the copies replaces the one that it is a copy of
 abbrev pub AreCopied : List Processor → List Processor → Type 0
 AreCopied kept copies = (k : ℕ) (y : Processor) → slice_get copies k ≡ Some y → (x : Processor) × (slice_get kept k ≡ Some x) × Serves x y
 
@@ -132,7 +132,7 @@ AreProcessors-copied c steps kept copies count are is = record {
   each = λ k y h. (let m = are k y h in m.2 c steps (suc k) (is.each k m.0 m.1));
 }
 
--- where p stands after a step that is no Send of p and doesn't end its round
+-- where p is after a step that is no Send of p and doesn't end its round
 pub IsStanding-stays : (c : Setup) (steps : List Step) (x : Step) (p r : ℕ) (state : State) (since to : ℕ) (letter : Option Letter) → IsWellFormed c steps
     → (x.proc == p && act_ends x.act) ≡ false → (x.proc == p && act_sends x.act) ≡ false
     → IsStanding c steps p r state since to letter → IsStanding c (steps ++ x ∷ []) p r state since to letter
@@ -214,7 +214,7 @@ AreEach-set P Q kept p y low new old are k z h = elim (slice_get-set_cases kept 
 AreEach-at : (P : ℕ → Processor → Type 0) (kept : List Processor) (p : ℕ) (z : Processor) → 1 ≤ p → slice_get kept (p - 1) ≡ Some z → AreEach P kept → P p z
 AreEach-at P kept p z low at are = let place : suc (p - 1) ≡ p = omega arith in subst (λ n. P n z) place (are (p - 1) z at)
 
--- what is kept of a processor stands in its place
+-- what is kept of a processor is in its place
 pub IsProcessor-at : (c : Setup) (steps : List Step) (kept : List Processor) (p : ℕ) (z : Processor) → AreProcessors c steps kept → IsProc c p → z ≡ get_or kept (p - 1) z
     → IsProcessor c steps p z
 IsProcessor-at c steps kept p z are is at =
@@ -238,7 +238,7 @@ AreProcessors-room c steps kept p z room low are at same =
     let is = AreEach-at (IsProcessor c steps) kept p z low at are.each in
     AreProcessors-set c steps kept p (record z { buffer = room }) low are (record { stands = is.stands; buffer = same ∙ is.buffer; inbox = is.inbox })
 
--- what is kept of a processor q once a Send of p is in the buffers, where it stands as before
+-- what is kept of a processor q once a Send of p is in the buffers; its round and node are unchanged
 record IsPosted (c : Setup) (steps : List Step) (p to q : ℕ) (x : Processor) : Type 0 where
   pub stands : IsStanding c steps q x.round x.node x.since x.last x.said
   pub buffer : x.buffer.items ≡ buffer (steps ++ sending p to ∷ []) q

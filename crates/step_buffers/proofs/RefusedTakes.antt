@@ -82,7 +82,7 @@ refusal-taken c steps p ends chosen room is h =
       fresh = λ s d. (IsWaiting-from_buffer steps p s (may.waits s d)).fresh;
     })
 
--- a reason against taking them is answered as it is, since want of memory is none
+-- a reason against taking them is answered unchanged, since out of memory is none
 pub IsStepRefusal-take : (chosen : Take) (waiting : List ℕ) (why : StepError) → take_refusal chosen waiting ≡ Some why
     → IsStepRefusal why (Some why)
 IsStepRefusal-take All waiting why h = absurd (none-some why h)

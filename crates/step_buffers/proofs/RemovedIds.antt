@@ -205,7 +205,7 @@ without-gap old part start n m r within long short =
     ∙ append_assoc (take n (drop start old)) (take r part) rest
     ∙ ap (λ ys. take n (drop start old) ++ (take r part ++ drop m ys)) (sym (drop-drop n start old))
 
--- what stands before a gap, moved on to its end
+-- what is before a gap, moved on to its end
 pub moved-on : (old : List ℕ) (start kept until : ℕ) → start ≤ kept → kept ≤ until → until ≤ length old
     → drop (start + (until - kept)) (paste old (start + (until - kept)) (drop start old) (kept - start))
     ≡ drop start (take kept old) ++ drop until old

@@ -1,4 +1,5 @@
--- Steps of a trace that are made again: what a run says of its last step, and as many as were made are the first ones.
+-- Steps of a trace that are made again: what a run implies for its last step, and as many as were made are the first
+-- ones.
 use Rattle.std.proofs.Common.{ℕ, suc, Result, Ok, Err, ◌≡◌, ◌+◌, ◌-◌, ◌<◌, List, [], ◌∷◌, ◌++◌, length, Option, Some, None, Bool, true, false, cond, not, ◌&&◌, refl, sym, ap, subst, arith, eq-eqb, inl, inr, take, drop, ◌∙◌}
 use Rattle.step_buffers.proofs.HeardSenders.{Contains-numbers}
 use Rattle.std.specs.Prelude.{Contains, find, is_some, option_map, IfOk, OnOk, slice_get, IfErr}
@@ -64,7 +65,7 @@ takes-from_run c steps p ends ids run =
     let waits = find-none (λ s. not (is_in (buffer steps p) s)) ids (λ s d. not_from_true _ (is_in-member (buffer steps p) s (Contains-buffer steps p s (fits.sent s d) (fits.fresh s d)))) in
     rw (is_rising-from_increasing ids fits.rising, waits) refl
 
--- with room no reason stands against it
+-- with room no reason holds against it
 is_proc-from_run : (c : Setup) (steps : List Step) (x : Step) → IsRun c (steps ++ x ∷ []) → is_proc c x.proc ≡ true
 is_proc-from_run c steps x run = is_proc-true c x.proc (Fits-from_well_formed c steps x run.well_formed).proc
 
@@ -81,7 +82,7 @@ step_refusal-receive c limit steps p taken ends ids room run none =
     let x : Step = record { proc = p; act = Receive ends ids } in
     rw (lt-ltb (length steps) limit room, is_proc-from_run c steps x run, not_early-from_run c steps p ends ids run) none
 
--- so where a reason stands against a step the steps with it are no run
+-- so if a reason holds against a step, the steps with it are no run
 pub off-from_refusal : (made : Result Bool AllocError) (why : StepError) (refusal : Option StepError) (Run : Type 0) → OnOk made (¬ IsStepRefusal why None)
     → IsStepRefusal why refusal → (Run → refusal ≡ None) → IfOk made (λ is. is ≡ false → ¬ Run)
 off-from_refusal (Ok is) why refusal Run h r none = λ off run. h (subst (IsStepRefusal why) (none run) r)
@@ -108,7 +109,7 @@ made-all steps made first h = elim (slice_get_cases steps (length made)).1 [
     none : slice_get steps (length made) ≡ None
     none = let e : length made + 1 ≡ suc (length made) = omega arith in subst (λ k. step_at steps k ≡ None) e h
 
--- a step that isn't due is refused, and what was due is told
+-- a step that isn't due is refused, and the refusal names what was due
 pub IsReplayRefusal-off : (c : Setup) (steps : List Step) (x : Step) (n : ℕ) (due : Due) → IsRun c steps → n ≡ length steps + 1 → ¬ IsRun c (steps ++ x ∷ [])
     → due.proc ≡ x.proc → due.what ≡ due_for (next_send c steps x.proc) x.act → IsReplayRefusal c (steps ++ x ∷ []) (NotARun n due)
 IsReplayRefusal-off c steps x n due run last off proc what = (
@@ -165,7 +166,7 @@ IsReplayRefusal-next c steps made x e first h refused =
     let all : (made ++ x ∷ []) ++ drop n steps ≡ steps = ap (λ front. front ++ drop n steps) (made-next steps made x first h) ∙ take-append-drop n steps in
     subst (λ xs. IsReplayRefusal c xs e) all (IsReplayRefusal-longer c (made ++ x ∷ []) (drop n steps) e refused)
 
--- a run is refused for want of memory alone
+-- a run is refused only if out of memory
 memory-from_refusal : (c : Setup) (steps : List Step) (e : ReplayError) → IsReplayRefusal c steps e → IsRun c steps → e ≡ Memory
 memory-from_refusal c steps Memory h run = refl
 memory-from_refusal c steps (NotARun n due) h run = absurd (h.0.off (IsRun-prefix c (take n steps) (drop n steps) (rw (take-append-drop n steps) run)))

@@ -1,4 +1,4 @@
--- Messages as they are kept: a place for each step, which has the message of a Send until nobody can hear it.
+-- Kept messages: a place for each step, which has the message of a Send until nobody can hear it.
 use Rattle.std.specs.Prelude.{ℕ, zero, suc, List, [], ◌∷◌, ◌++◌, Option, Some, None, ◌==◌, ◌&&◌, nat_lt, filter, slice_index_or, option_map, if◌then◌else◌}
 use Rattle.std.specs.Option.{option_map_or, option_or}
 use Rattle.std.specs.List.{filter_map, range_with_len}

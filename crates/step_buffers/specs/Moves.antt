@@ -61,14 +61,14 @@ abbrev pub move_refusal : Setup → List Step → ℕ → Move → Option StepEr
 move_refusal c steps p Send = if is_none (next_send c steps p) then Some NothingToSend else None
 move_refusal c steps p (Receive taken ends) = receive_refusal c steps p taken ends
 
--- the first reason against a move, where so many steps may be made, want of memory aside
+-- the first reason against a move, if so many steps may be made; out of memory aside
 abbrev pub step_refusal : Setup → ℕ → List Step → ℕ → Move → Option StepError
 step_refusal c limit steps p move =
     if nat_lt (length steps) limit then
     (if is_proc c p then move_refusal c steps p move else Some BadProc)
     else Some Full
 
--- the answer is this reason, or want of memory where there is none
+-- the answer is this reason, or out of memory if there is none
 abbrev pub IsStepRefusal : StepError → Option StepError → Type 0
 IsStepRefusal Memory why = why ≡ None
 IsStepRefusal e why = why ≡ Some e

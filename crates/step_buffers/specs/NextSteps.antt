@@ -17,7 +17,7 @@ sending p to = record { proc = p; act = Send to }
 abbrev pub receiving : ℕ → Bool → List ℕ → Step
 receiving p ends ids = record { proc = p; act = Receive ends ids }
 
--- a step may come next: nothing stands against it, and it is due
+-- a step may come next: no reason holds against it, and it is due
 pub record IsNext (trace : Recorded) (x : Step) : Type 0 where
   pub proc : IsProc trace.config x.proc
   pub fits : refusal trace.config trace.steps x ≡ None

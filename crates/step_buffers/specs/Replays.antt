@@ -16,15 +16,15 @@ pub record IsFirstOff (c : Setup) (steps : List Step) (no : ℕ) : Type 0 where
   pub before : IsRun c (take (no - 1) steps)
   pub off : ¬ IsRun c (take no steps)
 
--- where it is told that a step was made, it stands at the end of the trace
+-- if the answer is that a step was made, it is at the end of the trace
 abbrev pub IsMade : Recorded → Recorded → Step → Bool → Type 0
 IsMade old new x is = is ≡ true → new.steps ≡ old.steps ++ x ∷ []
 
--- where it is told that it wasn't, the steps with it are no run
+-- if the answer is that it wasn't, the steps with it are no run
 abbrev pub IsOff : Recorded → Step → Bool → Type 0
 IsOff old x is = is ≡ false → ¬ IsRun old.config (old.steps ++ x ∷ [])
 
--- what a refusal says of the steps; want of memory says nothing
+-- what a refusal says about the steps; out of memory says nothing
 abbrev pub IsReplayRefusal : Setup → List Step → ReplayError → Type 0
 IsReplayRefusal c steps (NotARun n due) = IsFirstOff c steps n × IsDueInstead c steps n due
 IsReplayRefusal c steps Memory = Unit {0}

@@ -1,4 +1,4 @@
--- What a World keeps beside its trace, and what it must be for the trace.
+-- What a World keeps besides its trace, and what it must be for the trace.
 use Rattle.std.specs.Prelude.{ℕ, suc, ◌≡◌, ◌+◌, ◌-◌, ◌<◌, ◌≤◌, ◌↔◌, ◌⊎◌, List, length, Option, Some, None, Contains, Bool, true, false, All, slice_get, IfSome}
 use Rattle.step_trace.specs.declared.steps.Step.{Step}
 use Rattle.step_trace.specs.Configurations.{Setup, IsSetup}
@@ -56,8 +56,8 @@ pub record IsDecidedSince (c : Setup) (steps : List Step) (p : ℕ) (decision : 
   pub before : (r : ℕ) → r ≤ passed steps p → r + 1 < since → (state_after c (heard_table steps) r p).decision ≡ None
   pub after : (r : ℕ) → r ≤ passed steps p → since ≤ r + 1 → (state_after c (heard_table steps) r p).decision ≡ decision
 
--- where p stands: its round, its node, since which round it has its decision, its last destination, which tells where
--- it sends next, and what it said in its round
+-- the state of p: its round, its node, since which round it has its decision, its last destination, which gives the
+-- next one, and what it said in its round
 pub record IsStanding (c : Setup) (steps : List Step) (p r : ℕ) (state : State) (since to : ℕ) (letter : Option Letter) : Type 0 where
   pub round : r ≡ passed steps p + 1
   pub node : state ≡ node_at c steps p
@@ -66,8 +66,8 @@ pub record IsStanding (c : Setup) (steps : List Step) (p r : ℕ) (state : State
   pub next : next_destination c steps p (length steps + 1) ≡ destination_after c state p r to
   pub said : IsSaid c p state r letter
 
--- What is kept of a processor: where it stands, the messages that wait for it, and those that it took and may hear in
--- its round or a later one.
+-- What is kept of a processor: its state, the messages that wait for it, and those that it took and may hear in its
+-- round or a later one.
 pub record IsProcessor (c : Setup) (steps : List Step) (p : ℕ) (x : Processor) : Type 0 where
   pub stands : IsStanding c steps p x.round x.node x.since x.last x.said
   pub buffer : x.buffer.items ≡ buffer steps p
@@ -104,11 +104,11 @@ pub record AreProcessors (c : Setup) (steps : List Step) (kept : List Processor)
   pub count : length kept ≡ c.n
   pub each : AreEach (IsProcessor c steps) kept
 
--- the second serves for the traces and processors that the first serves for
+-- the second is right for the traces and processors that the first is right for
 abbrev pub Serves : Processor → Processor → Type 0
 Serves x y = (c : Setup) (steps : List Step) (p : ℕ) → IsProcessor c steps p x → IsProcessor c steps p y
 
--- and the second ones for the traces that the first ones serve for
+-- and the second ones for the traces that the first ones are right for
 abbrev pub Serve : List Processor → List Processor → Type 0
 Serve kept new = (c : Setup) (steps : List Step) → AreProcessors c steps kept → AreProcessors c steps new
 

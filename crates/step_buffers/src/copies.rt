@@ -18,7 +18,7 @@ pub(crate) fn copied_letters(alloc: Global, letters: &[Place]) -> Result<Vec<Pla
     Ok(copy)
 }
 
-/// What serves for the same processors of the same traces.
+/// Copies that are right for the same processors of the same traces.
 pub(crate) fn copied_processors(
     alloc: Global,
     processors: &[Processor],

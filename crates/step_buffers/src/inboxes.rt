@@ -67,7 +67,7 @@ impl Inbox {
         &self.near
     }
 
-    /// Makes room for this many more messages, of whatever rounds.
+    /// Makes room for this many more messages, of any rounds.
     pub(crate) fn reserve(&mut self, additional: usize) -> Result<(), AllocError>
         ensures near { self.new.near ≡ self.old.near }
         ensures later { self.new.later ≡ self.old.later }

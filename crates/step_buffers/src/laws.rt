@@ -14,12 +14,11 @@ ghost use Rattle.step_buffers.specs.declared.moves.Move.{Move as TraceMove};
 ghost use Rattle.step_buffers.specs.declared.moves.StepError.TheVariants.{NotInBuffer};
 ghost use Rattle.step_buffers.specs.Moves.{is_in, named_ids, step_refusal};
 
-/// Whatever the trace, no two of its nodes decide differently, and what they decide is somebody's initial
-/// value. Later steps take no decision back, and change no node of a round that its processor has passed;
-/// and each prefix of a run is a run (section 3 of the 1988 paper).
+/// In every trace, no two of its nodes decide differently, and what they decide is somebody's initial value.
+/// Later steps take no decision back, and change no node of a round that its processor has passed; and each
+/// prefix of a run is a run (section 3 of the 1988 paper).
 ///
-/// A theorem: it stands in the contract and quantifies over every configuration and every list of steps.
-/// Calling it does nothing.
+/// A theorem: its contract quantifies over every configuration and every list of steps. Calling it does nothing.
 pub fn run_laws()
     ensures agreement { (c : Setup) (steps : List TraceStep) (p q : ℕ) → IsSetup c
         → Agree (node_at c steps p) (node_at c steps q) }
@@ -36,10 +35,10 @@ pub fn run_laws()
         → IsRun c (steps ++ more) → IsRun c steps }
 {}
 
-/// Where a move is refused for a message, that message doesn't wait for the processor, and its id is the least
-/// such of the ids that the move names.
+/// If a move is refused for a message, that message doesn't wait for the processor, and its id is the least such
+/// of the ids that the move names.
 ///
-/// A theorem: it stands in the contract and quantifies over every World and every move. Calling it does nothing.
+/// A theorem: its contract quantifies over every World and every move. Calling it does nothing.
 pub fn refusal_laws()
     ensures least { (c : Setup) (limit : ℕ) (steps : List TraceStep) (p : ℕ)
         (move : TraceMove) (s : ℕ)

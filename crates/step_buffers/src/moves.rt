@@ -1,4 +1,4 @@
-//! What a processor is told to do in a step, and what came of it.
+//! What a processor is to do in a step, and what came of it.
 
 use step_trace::Step;
 
@@ -52,6 +52,6 @@ pub enum StepError {
     IdsNotRising,
     /// The message of this id doesn't wait for the processor. It is the least such id.
     NotInBuffer(u64),
-    /// There was no memory for the step.
+    /// Out of memory for the step.
     Memory,
 }

@@ -36,7 +36,7 @@ pub(crate) struct Processor {
     pub said: Place,
 }
 
-/// The next destination of a processor. None where all messages of its round are out. Takes no memory.
+/// The next destination of a processor. None if all messages of its round are out. Takes no memory.
 fn next_destination(config: &Config, p: u64, round: u64, last: u64, node: &Node) -> Option<u64>
     requires positive { 1 ≤ round }
     requires within { last ≤ config.now.n }

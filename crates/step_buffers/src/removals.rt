@@ -65,7 +65,7 @@ fn shared_back(waiting: &[u64], ids: &[u64]) -> usize
 }
 
 /// Takes ids out of those that a list has from `start` on, where something else waits before the ids and after
-/// them. Goes over what is between the first of them and the last, and moves what is on its shorter side.
+/// them. Scans what is between the first of them and the last, and moves what is on its shorter side.
 fn take_out_between(list: &mut Vec<u64>, start: usize, ids: &[u64]) -> usize
     requires rising { IsStrictlyIncreasing ids.now }
     requires waiting { IsStrictlyIncreasing (drop start list.old.items) }
@@ -100,7 +100,7 @@ fn count_up_to(ids: &[u64], bound: u64) -> usize
     ids.partition_point(|s| *s <= bound)
 }
 
-/// Moves what a part of a list has beside these ids to the front of the part, and gives how many there are.
+/// Moves what a part of a list has besides these ids to the front of the part, and gives how many there are.
 fn keep_others(part: &mut [u64], ids: &[u64]) -> usize
     requires { IsStrictlyIncreasing ids.now }
     ensures within { result ≤ length part.new }

@@ -25,7 +25,7 @@ pub enum ReplayError {
     /// The step of this number is the first that isn't one of a run: the steps before it are a run, and with
     /// it they are none. The second says what its processor had to do.
     NotARun(u64, Due),
-    /// There was no memory for the World or for one of its steps.
+    /// Out of memory for the World or for one of its steps.
     Memory,
 }
 
@@ -145,7 +145,7 @@ fn follow_receive(
     not_made(why)
 }
 
-/// Says that a step wasn't made, for a reason that stands against it; want of memory is none.
+/// Says that a step wasn't made, for a reason that holds against it; out of memory is none.
 fn not_made(why: StepError) -> Result<bool, AllocError>
     ensures no { IfOk result (λ made. made ≡ false) }
     ensures reason { OnOk result (¬ IsStepRefusal why None) }

@@ -8,7 +8,7 @@ use crate::moves::{StepError, Take};
 use std::alloc::{AllocError, Global};
 use step_trace::{MessageIds, is_rising};
 
-/// The first reason against taking these messages of a buffer, want of memory aside.
+/// The first reason against taking these messages of a buffer; out of memory aside.
 pub(crate) fn take_refusal(buffer: &[u64], take: Take) -> Option<StepError>
     requires { IsStrictlyIncreasing buffer.now }
     ensures { result ≡ take_refusal take.entry buffer.now }

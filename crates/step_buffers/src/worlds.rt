@@ -181,12 +181,14 @@ impl World {
     /// (section 3 of the 1988 paper).
     ///
     /// Refuses in the order of `StepError`: Full, BadProc, NothingToSend, StillSending, IdsNotRising,
-    /// NotInBuffer, Memory. Then everything is as it was. Takes memory for the step, for the message that it
-    /// sends or the ids that it takes, and for the node where its round ends. Takes time in these, and
-    /// in the messages of its round that it took where its round ends; not in the length of the trace, nor in
-    /// what waits or was taken for later rounds, but for the logarithm of their number for each message that goes
-    /// among them or leaves them. Where some of the messages that it takes are neither among the first that wait
-    /// nor among the last, it goes over what lies between these, and moves what waits on their shorter side.
+    /// NotInBuffer, Memory. Then everything is unchanged.
+    ///
+    /// Takes memory for the step, for the message that it sends or the ids that it takes, and for the node if its
+    /// round ends. Takes time in these, and in the messages of its round that it took if its round ends. Time
+    /// doesn't grow with the length of the trace, nor with what waits or was taken for later rounds, except with
+    /// the logarithm of their number for each message that joins or leaves them. If some of the messages that it
+    /// takes are neither among the first that wait nor among the last, it scans what is between these, and moves
+    /// what waits on their shorter side.
     pub fn step(&mut self, alloc: Global, p: u64, step: Move) -> Result<Done, StepError>
         ensures step { IfOk result (λ done. Some done.step
             ≡ step_of self.old.trace.config self.old.trace.steps p step.entry) }
@@ -219,11 +221,11 @@ impl World {
         })
     }
 
-    /// Makes one step of processor `p` as `step` does, and doesn't tell what it was: it stands at the end of the
+    /// Makes one step of processor `p` as `step` does, and doesn't answer what it was: it is at the end of the
     /// trace.
     ///
-    /// Refuses what `step` refuses, in the same order. Then everything is as it was. Takes the time and memory
-    /// of `step`, but for one copy of the ids that it takes in place of two.
+    /// Refuses what `step` refuses, in the same order. Then everything is unchanged. Takes the time and memory of
+    /// `step`, but for one copy of the ids that it takes, not two.
     pub fn advance(&mut self, alloc: Global, p: u64, step: Move) -> Result<(), StepError>
         ensures made { OnOk result (option_map (λ made. self.old.trace.steps ++ made ∷ [])
             (step_of self.old.trace.config self.old.trace.steps p step.entry)

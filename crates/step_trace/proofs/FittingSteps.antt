@@ -1,4 +1,4 @@
--- Steps with which a list stays well formed: no reason stands against them.
+-- Steps with which a list stays well formed: no reason holds against them.
 use Rattle.std.proofs.Common.{ℕ, ◌≡◌, ◌+◌, ◌<◌, inl, inr, List, [], ◌∷◌, ◌++◌, length, None, Bool, true, false, not, refl, suc, arith, eq-eqb}
 use Rattle.std.specs.Prelude.{Contains, nat_lt, nat_le, IfSome, find}
 use Rattle.std.specs.List.Sorted.{IsStrictlyIncreasing}
@@ -83,7 +83,7 @@ Fits-from_well_formed c steps x w =
           let same = w.once m.0 (suc (length steps)) s (m.1.0, step_at-push_old steps x m.1.0 m.0 m.1.1, m.1.2) (x, step_at_last steps x, d) in
           omega (arith, same, within.1)
 
--- no reason stands against the act of a step that fits, where no message that it takes was sent in its tick
+-- no reason holds against the act of a step that fits, if no message that it takes was sent in its tick
 pub act_refusal-none : (c : Setup) (steps : List Step) (now : ℕ → Bool) (p : ℕ) (a : Act) → Fits c steps (record { proc = p; act = a })
     → ((s : ℕ) → Contains (act_ids a) s → now s ≡ false) → act_refusal c steps now p a ≡ None
 act_refusal-none c steps now p (Send to) f earlier = rw (is_proc-true c to f.dest) refl
@@ -94,6 +94,6 @@ act_refusal-none c steps now p (Receive ends ids) f earlier =
     let untaken = find-none (is_taken steps) ids f.fresh in
     rw (is_rising-from_increasing ids f.rising, known, addressed, before, untaken) refl
 
--- no reason stands against a step that fits
+-- no reason holds against a step that fits
 pub none_from_Fits : (c : Setup) (steps : List Step) (x : Step) → Fits c steps x → refusal c steps x ≡ None
 none_from_Fits c steps x f = rw (true_if (length steps) MAX_STEPS f.room, is_proc-true c x.proc f.proc) (act_refusal-none c steps (λ s. false) x.proc x.act f (λ s d. refl))

@@ -1,4 +1,4 @@
--- Steps with which a trace stays well formed in a tick: no reason stands against them.
+-- Steps with which a trace stays well formed in a tick: no reason holds against them.
 use Rattle.std.proofs.Common.{ℕ, ◌≡◌, ◌+◌, ◌<◌, ◌≤◌, ◌⊎◌, inl, inr, List, [], ◌∷◌, ◌++◌, length, Some, sym, ap, ◌∙◌, subst, suc, get_or, arith}
 use Rattle.std.specs.Prelude.{Contains}
 use Rattle.std.proofs.lemmas.Bool.{cases_eq}

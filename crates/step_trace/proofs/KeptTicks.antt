@@ -1,4 +1,4 @@
--- Ticks as they are kept: first the numbers of the steps, then the other ticks.
+-- Kept ticks: first the numbers of the steps, then the other ticks.
 use Rattle.std.proofs.Common.{ℕ, ◌≡◌, ◌+◌, ◌-◌, ◌<◌, ◌≤◌, List, [], ◌∷◌, ◌++◌, length, Some, refl, sym, ap, ◌∙◌, suc, zero, arith, length-append, Bool, true, false, nat_lt}
 use Rattle.std.specs.Prelude.{slice_get, unwrap_or}
 use Rattle.std.proofs.lemmas.Option.{get_or_from_slice_get, unwrap_or-slice_get}

@@ -25,7 +25,7 @@ Contains-cons_cases x y xs c = go c.0 c.1 c.2 where
 pub Contains-nil : {X : Type 0} (y : X) → Contains [] y → ⊥
 Contains-nil y c = let l = c.1 in omega arith
 
--- what stands at a place is an element
+-- what is at a place is an element
 pub Contains-slice_get : {X : Type 0} (xs : List X) (k : ℕ) (x : X) → slice_get xs k ≡ Some x → Contains xs x
 Contains-slice_get xs k x e = (k, slice_get_within xs k x e, get_or_from_slice_get xs k x x e)
 

@@ -50,12 +50,12 @@ failing test ids s f = record { member = f.member; fails = not-true _ f.passes; 
 pub passing : (test : ℕ → Bool) (ids : List ℕ) (s : ℕ) → IsFound test ids s → IsLeastFailing (λ i. not (test i)) ids s
 passing test ids s f = record { member = f.member; fails = not_from_true _ f.passes; least = λ i d l. not_from_false _ (f.least i d l) }
 
--- a reason is never want of memory, and the id that it names is the least of its kind
+-- a reason is never out of memory, and the id that it names is the least of its kind
 pub record IsNamedIn (trace : Recorded) (tick : ℕ) (x : Step) (e : PushError) : Type 0 where
   pub reason : e ≢ Memory
   pub least : NamesLeastIn trace tick x e
 
--- a refusal that is none for want of memory: it is the answer just where it stands as the reason
+-- a refusal other than out of memory: it is the answer exactly if it holds as the reason
 pub record IsReason (e : PushError) : Type 0 where
   pub answer : (why : Option PushError) → why ≡ Some e → IsRefusal e why
   pub stands : (why : Option PushError) → IsRefusal e why → why ≡ Some e
@@ -74,7 +74,7 @@ IsReason-or_memory (NotAddressed s) = inr (record { answer = λ why h. h; stands
 IsReason-or_memory (SameTick s) = inr (record { answer = λ why h. h; stands = λ why h. h; justified = λ t k x n. n })
 IsReason-or_memory (Redelivered s) = inr (record { answer = λ why h. h; stands = λ why h. h; justified = λ t k x n. n })
 
--- where no reason stands, a refusal is for want of memory
+-- if no reason holds, a refusal is out of memory
 pub only_memory : (e : PushError) (why : Option PushError) → why ≡ None → IsRefusal e why → e ≡ Memory
 only_memory e why h r = elim (IsReason-or_memory e) [ inl m ↦ m | inr is ↦ absurd (none-some e (sym h ∙ is.stands why r)) ]
 

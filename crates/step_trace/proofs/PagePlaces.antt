@@ -23,7 +23,7 @@ slice_get-right [] ys n k e = let z : n + k ≡ k = omega (arith, e) in ap (slic
 slice_get-right (x ∷ xs) ys zero k e = absurd (let f : 0 ≡ suc (length xs) = e in omega (arith, f))
 slice_get-right (x ∷ xs) ys (suc n) k e = let z : suc n + k ≡ suc (n + k) = omega arith in rw z (slice_get-right xs ys n k (let f : suc n ≡ suc (length xs) = e in omega (arith, f)))
 
--- where nothing stands, the list has ended
+-- if nothing is there, the list has ended
 past : {X : Type 0} (xs : List X) (i : ℕ) → slice_get xs i ≡ None → length xs ≤ i
 past [] i h = omega arith
 past (x ∷ xs) zero h = absurd (none-some x (sym h))

@@ -7,7 +7,7 @@ use Rattle.step_trace.specs.Traces.{step_at}
 use Rattle.step_trace.specs.Pages.{BeginAlike}
 use Rattle.step_trace.proofs.TickPositions.{step_exists}
 
--- the step of number i + 1 stands at place i
+-- the step of number i + 1 is at place i
 pub at_place : (steps : List Step) (i : ℕ) (x : Step) → Some x ≡ step_at steps (i + 1) → (i < length steps) × (x ≡ get_or steps i x)
 at_place steps i x h =
     let next : i + 1 ≡ suc i = omega arith in

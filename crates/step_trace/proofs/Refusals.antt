@@ -1,4 +1,4 @@
--- What a step has where no reason stands against it.
+-- What a step has if no reason holds against it.
 use Rattle.std.proofs.Common.{ℕ, ◌≡◌, ◌+◌, ◌<◌, inl, inr, List, [], ◌∷◌, length, Option, Some, None, Bool, true, false, not, refl, ap, subst, suc, zero, arith}
 use Rattle.std.specs.Prelude.{Contains, nat_lt, ◌&&◌, find, cond}
 use Rattle.std.specs.Option.{option_map_or}
@@ -17,7 +17,7 @@ use Rattle.step_trace.specs.PushRefusals.{is_taken, is_message, is_sent_to, is_r
 use Rattle.step_trace.proofs.ListMembers.{Contains-nil, Contains-cons_cases}
 use Rattle.step_trace.proofs.FittingSteps.{Fits}
 
--- a reason that doesn't stand was passed
+-- a reason that doesn't hold was passed
 pub cond_none : {E : Type 0} (b : Bool) (o : Option E) (e : E) → cond b o (Some e) ≡ None → (b ≡ true) × (o ≡ None)
 cond_none true o e h = (refl, h)
 cond_none false o e h = cc

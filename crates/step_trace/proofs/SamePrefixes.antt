@@ -1,4 +1,4 @@
--- Prefixes of traces, by what stands at each number.
+-- Prefixes of traces, by what is at each number.
 use Rattle.std.proofs.Common.{ℕ, ◌≡◌, ◌<◌, ◌≤◌, List, [], ◌∷◌, length, Option, Some, None, refl, sym, ap, ◌∙◌, suc, zero, arith}
 use Rattle.std.specs.Prelude.{slice_get, option_map}
 use Rattle.std.proofs.lemmas.Option.{slice_get-get_or, none-some, same_Some}
@@ -51,7 +51,7 @@ module _ (trace seen : Recorded) (each : length trace.ticks ≡ length trace.ste
       let x = step_exists seen.steps n (omega (arith, e)) in
       (step_at_within trace.steps (suc n) x.0 (step_same same (suc n) (omega (arith, e)) ∙ x.1)).1
 
-  -- where all that stands before a number after them is the same, what was seen is a prefix
+  -- if all before a number after them is the same, what was seen is a prefix
   pub begins_from_same : (n : ℕ) → length seen.steps < n → ((k : ℕ) → k < n → placed_at trace k ≡ placed_at seen k) → BeginsWith trace.steps seen.steps × BeginsWith trace.ticks seen.ticks
   begins_from_same n after before =
       let same : IsSame = λ k l. before k (omega (arith, l, after)) in

@@ -49,7 +49,7 @@ pub taken_from_at : (steps : List Step) (m s : ℕ) → TakesAt steps m s → is
 taken_from_at steps zero s h = absurd (none-some h.0 h.1)
 taken_from_at steps (suc m) s h = any_passes_from_place (λ x. act_takes x.act s) steps m h.0 h.1 (act_takes-from_Contains h.0.act s h.2)
 
--- the step that was pushed stands at the next number
+-- the step that was pushed is at the next number
 pub slice_get-last : {X : Type 0} (xs : List X) (x : X) → slice_get (xs ++ x ∷ []) (length xs) ≡ Some x
 slice_get-last [] x = refl
 slice_get-last (y ∷ xs) x = slice_get-last xs x

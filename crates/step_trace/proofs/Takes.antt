@@ -31,7 +31,7 @@ each_of true true false h = cc h
 each_of true false c h = cc h
 each_of false b c h = cc h
 
--- where each message can be taken, no reason stands against rising ids
+-- if each message can be taken, no reason holds against rising ids
 pub no_refusal : (placed : Ticked) (taken : ℕ → Bool) (tick p : ℕ) (ids : List ℕ) → is_rising ids ≡ true → find (λ s. not (can_take placed taken tick p s)) ids ≡ None
     → ids_refusal placed.steps (is_sent_in placed.ticks tick) taken p ids ≡ None
 no_refusal placed taken tick p ids rising none =

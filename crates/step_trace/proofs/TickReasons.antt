@@ -1,4 +1,4 @@
--- What a reason against a step in a tick says, and what a step has where none stands against it.
+-- What a reason against a step in a tick says, and what a step has if none holds against it.
 use Rattle.std.proofs.Common.{ℕ, ◌≡◌, ◌+◌, ◌<◌, ◌≤◌, ◌⊎◌, inl, inr, List, [], ◌∷◌, ◌++◌, length, Option, Some, None, Bool, true, false, not, refl, sym, ap, ◌∙◌, subst, suc, arith, eq-eqb}
 use Rattle.std.specs.Prelude.{Contains, All, Result, Ok, Err, OnOk, nat_lt, nat_le, ◌&&◌, ◌==◌, cond}
 use Rattle.std.specs.Option.{option_map_or}
@@ -64,7 +64,7 @@ CanAppend-from_none trace tick x t h = CanAppend-from_fits trace tick x t (FitsI
 differs : (a b : ℕ) → a < b → (a == b) ≡ false
 differs a b l = grind (arith, nat_tests)
 
--- no reason stands in a tick against a step that fits
+-- no reason holds in a tick against a step that fits
 pub none_from_FitsIn : (trace : Recorded) (tick : ℕ) (x : Step) → FitsIn trace tick x → refusal_in trace tick x ≡ None
 none_from_FitsIn trace tick x f =
     let room = true_if (length trace.steps) MAX_STEPS f.fits.room in
@@ -83,7 +83,7 @@ none_from_FitsIn trace tick x f =
       | inr e ↦ (let same : (tick_at trace.ticks (length trace.steps) == tick) ≡ true = eq-eqb _ _ e.0 in let above : nat_le x.proc y.proc ≡ false = let l = e.1 in grind (arith, nat_tests) in rw (same, above) refl)
     ]
 
--- a reason that stands is the answer, names the least id of its kind, and stands only where the step may not be appended
+-- a reason that holds is the answer, names the least id of its kind, and holds only if the step may not be appended
 pub record IsAnswered (trace : Recorded) (tick : ℕ) (x : Step) (e : PushError) : Type 0 where
   pub refused : IsRefusal e (refusal_in trace tick x)
   pub justified : IsJustifiedIn trace tick x e
@@ -101,7 +101,7 @@ IsAnswered-from_some trace tick x e t h =
       }
     ]
 
--- the refusal of a Receive, by any test that tells the taken messages
+-- the refusal of a Receive, by any test that knows the taken messages
 pub refusal_in_receive : (trace : Recorded) (tick : ℕ) (x : Step) (ids : List ℕ) (ends : Bool) (taken : ℕ → Bool) → length trace.steps < MAX_STEPS → 1 ≤ tick → trace.last ≤ tick → tick ≤ MAX_TICKS
     → is_proc trace.config x.proc ≡ true → comes_after_last trace.steps trace.ticks tick x.proc ≡ true → x.act ≡ Receive ends ids → ((s : ℕ) → taken s ≡ is_taken trace.steps s)
     → ids_refusal trace.steps (is_sent_in trace.ticks tick) taken x.proc ids ≡ refusal_in trace tick x

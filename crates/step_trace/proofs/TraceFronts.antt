@@ -28,7 +28,7 @@ tick_at-take : (ts : List ℕ) (n k : ℕ) → k ≤ n → tick_at (take n ts) k
 tick_at-take ts n zero l = refl
 tick_at-take ts n (suc k) l = get_or-take n ts k 0 (omega (arith, l))
 
--- what stands in the first steps stands in all
+-- what is in the first steps is in all
 step_at-taken : (steps : List Step) (n k : ℕ) (x : Step) → n ≤ length steps → step_at (take n steps) k ≡ Some x → step_at steps k ≡ Some x
 step_at-taken steps n zero x l h = h
 step_at-taken steps n (suc k) x l h =
@@ -36,7 +36,7 @@ step_at-taken steps n (suc k) x l h =
     let long = length-take-le n steps l in
     sym (slice_get-take steps n k x l (let m = w.1 in omega (arith, m, long))) ∙ h
 
--- and what stands in all at one of their numbers stands in them
+-- and what is in all at one of their numbers is in them
 step_at-take : (steps : List Step) (n k : ℕ) (x : Step) → n ≤ length steps → k ≤ n → step_at steps k ≡ Some x → step_at (take n steps) k ≡ Some x
 step_at-take steps n zero x l m h = h
 step_at-take steps n (suc k) x l m h = slice_get-take steps n k x l (omega (arith, m)) ∙ h
@@ -151,7 +151,7 @@ pub no_missing : (steps : List Step) (no : ℕ) → 1 ≤ no → no ≤ length s
 no_missing steps zero l m h = omega (arith, l)
 no_missing steps (suc k) l m h = let x = step_exists steps k (omega (arith, m)) in none-some x.0 (h ∙ x.1)
 
--- no reason stands against the step that a trace has next
+-- no reason holds against the step that a trace has next
 pub next_fits : (trace front : Recorded) (no tick : ℕ) (x : Step) → IsTrace trace → 1 ≤ no → Some x ≡ step_at trace.steps no → front ≡ first_steps trace (no - 1) → tick ≡ tick_of trace no
     → (refusal_in front tick x ≡ None) × (first_steps trace no ≡ with_step front tick x)
 next_fits trace front zero tick x sound l h same at = absurd (omega (arith, l))

@@ -19,6 +19,6 @@ appended trace [] ticks = Ok trace
 appended trace (x ∷ xs) [] = Ok trace
 appended trace (x ∷ xs) (tick ∷ ticks) = unless_refused (refusal_in trace tick x) (length trace.steps + 1) (appended (with_step trace tick x) xs ticks)
 
--- the answer is this refusal, or want of memory
+-- the answer is this refusal, or out of memory
 abbrev pub IsStepRefusal : Result Recorded StepRefused → StepRefused → Type 0
 IsStepRefusal result e = (e.why ≡ Memory → ⊥) → result ≡ Err e

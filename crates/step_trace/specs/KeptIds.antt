@@ -1,4 +1,4 @@
--- The ids that a Receive takes, as they are kept.
+-- The kept ids of a Receive.
 use Rattle.std.specs.Prelude.{ℕ, List, []}
 use Rattle.step_trace.specs.declared.message_ids.Ids.{Ids}
 use Rattle.step_trace.specs.declared.message_ids.Ids.TheVariants.{Nothing, One, Two, Several}

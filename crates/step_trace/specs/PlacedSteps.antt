@@ -1,4 +1,4 @@
--- Steps, each with its tick, as they are kept (own).
+-- Kept steps, each with its tick (own).
 use Rattle.std.specs.Prelude.{ℕ, List, Option, option_map}
 use Rattle.step_trace.specs.declared.steps.Step.{Step}
 use Rattle.step_trace.specs.Traces.{step_at}

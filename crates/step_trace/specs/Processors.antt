@@ -1,4 +1,4 @@
--- Sets of processors, as bit masks (own: bit p - 1 stands for processor p).
+-- Sets of processors, as bit masks (own: bit p - 1 denotes processor p).
 use Rattle.std.specs.Prelude.{ℕ, ◌-◌, ◌≤◌, Bool, IsTrue, ◌==◌, ◌&&◌, nat_lt, nat_le}
 use Rattle.std.specs.Int.{bit_at}
 use Rattle.step_trace.specs.declared.processors.TheConstants.{MAX_MEMBER}

@@ -54,14 +54,14 @@ abbrev pub act_refusal : Setup → List Step → (ℕ → Bool) → ℕ → Act 
 act_refusal c steps now p (Send to) = if is_proc c to then None else Some BadDest
 act_refusal c steps now p (Receive ends ids) = ids_refusal steps now (is_taken steps) p ids
 
--- the first reason against one more step in a tick of its own, in which no message was sent, want of memory aside
+-- the first reason against one more step in a tick of its own, in which no message was sent; out of memory aside
 abbrev pub refusal : Setup → List Step → Step → Option PushError
 refusal c steps x =
     if nat_lt (length steps) MAX_STEPS then
     (if is_proc c x.proc then act_refusal c steps (λ s. false) x.proc x.act else Some BadProc)
     else Some Full
 
--- the answer is this reason, or want of memory where there is none
+-- the answer is this reason, or out of memory if there is none
 abbrev pub IsRefusal : PushError → Option PushError → Type 0
 IsRefusal Memory why = why ≡ None
 IsRefusal e why = why ≡ Some e

@@ -1,4 +1,4 @@
--- The ticks of steps, as they are kept (own).
+-- The kept ticks of steps (own).
 use Rattle.std.specs.Prelude.{ℕ, ◌≡◌, ◌<◌, ◌+◌, ◌++◌, ◌∷◌, [], List, suc, zero, vec_len, vec_capacity}
 use Rattle.step_trace.specs.declared.tick_lists.TickList.{TickList}
 

@@ -24,7 +24,7 @@ comes_after_last steps ticks tick p =
 abbrev pub is_sent_in : List ℕ → ℕ → ℕ → Bool
 is_sent_in ticks tick s = tick_at ticks s == tick
 
--- the first reason against one more step in this tick, want of memory aside
+-- the first reason against one more step in this tick; out of memory aside
 abbrev pub refusal_in : Recorded → ℕ → Step → Option PushError
 refusal_in trace tick x =
     if nat_lt (length trace.steps) MAX_STEPS then

@@ -1,4 +1,4 @@
--- Steps that a trace has taken as they are, and that are checked after that (own).
+-- Steps that a trace has taken unchanged, and that are checked after that (own).
 use Rattle.std.specs.Prelude.{ℕ, ◌≡◌, ◌≤◌, length, take, drop, Result}
 use Rattle.step_trace.specs.Configurations.{Setup}
 use Rattle.step_trace.specs.declared.loose_steps.StepRefused.{StepRefused}

@@ -32,7 +32,7 @@ impl Correct {
         }
     }
 
-    /// The set of the correct processors, if there are `n`. A set stays as it is, also with members above `n`.
+    /// The set of the correct processors, if there are `n`. A set is unchanged, also with members above `n`.
     pub fn named(self, n: u64) -> ProcSet
         requires { n ≤ MAX_MEMBER }
         ensures { result ≡ named self n }

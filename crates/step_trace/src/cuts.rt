@@ -13,7 +13,7 @@ impl Trace {
     /// The trace up to this tick, as if it ended there: its steps of the ticks 1 to `tick`, with `tick` as its last.
     /// Asks for a tick that isn't above the last one; at tick 0 it has no steps.
     ///
-    /// Takes time that grows with the steps that it keeps. Refuses only for want of memory.
+    /// Takes time that grows with the steps that it keeps. Fails only if out of memory.
     pub fn until(&self, alloc: Global, tick: u64) -> Result<Self, AllocError>
         requires { tick ≤ self.now.last }
         ensures cut { IfOk result (IsCutAt self.now tick) }
@@ -83,7 +83,7 @@ fn copy_of(step: &Step) -> Result<Step, AllocError>
     step.clone()
 }
 
-/// The refusal of a step that is for want of memory.
+/// The refusal of a step that is out of memory.
 fn want_of_memory(_why: PushError) -> AllocError
     requires { _why ≡ PushError.Memory }
 {

@@ -10,7 +10,7 @@ use std::alloc::AllocError;
 impl Trace {
     /// A copy of the step of this number, with its tick before it, if there is one.
     ///
-    /// Refuses only for want of memory, and only where there is a step.
+    /// Fails only if out of memory, and only if there is a step.
     pub fn placed(&self, no: u64) -> Result<Option<(u64, Step)>, AllocError>
         ensures placed { IfOk result (λ there. there ≡ placed_at self.now no) }
         ensures more { OnErr result (placed_at self.now no ≢ None) }
@@ -21,8 +21,8 @@ impl Trace {
         }
     }
 
-    /// The least number of a step that was seen at which this trace has none, another one, or one in another
-    /// tick; or else the number after all of these. It looks at steps and their ticks alone. Takes no memory.
+    /// The least number of a step that was seen and that this trace doesn't have, or has with another value
+    /// or tick; else the number after all of these. It compares only steps and their ticks. Takes no memory.
     pub fn first_difference(&self, seen: &Trace) -> u64
         ensures first { 1 ≤ result }
         ensures last { result ≤ length seen.now.steps + 1 }

@@ -56,7 +56,7 @@ impl LooseSteps {
         self.steps.len()
     }
 
-    /// Adds a step, in this tick. Refuses only for want of memory, and then the step is gone.
+    /// Adds a step, in this tick. Fails only if out of memory, and then the step is gone.
     pub fn push(&mut self, tick: u32, step: Step) -> Result<(), AllocError>
         ensures ok { OnOk result (self.new ≡ record { steps = self.old.steps ++ step ∷ []; ticks = self.old.ticks ++ tick ∷ [] }) }
         ensures err { OnErr result (self.new ≡ self.old) }
@@ -70,10 +70,10 @@ impl LooseSteps {
 }
 
 impl Trace {
-    /// The trace with these steps behind its own, each in its tick, as `push_at` appends one after the other. So many as
-    /// a page of the trace has, which begin where one begins, are taken as they are.
+    /// The trace with these steps behind its own, each in its tick, as `push_at` appends one after the other. So many
+    /// as a page of the trace has, which begin where one begins, are taken unchanged.
     ///
-    /// Refuses the first step that `push_at` refuses, for the same reason, and want of memory at any step. The trace is
+    /// Refuses the first step that `push_at` refuses, for the same reason, and out of memory at any step. The trace is
     /// then gone.
     pub fn with_steps(self, steps: LooseSteps) -> Result<Self, StepRefused>
         ensures appended { IfOk result (λ longer. appended self steps.steps steps.ticks ≡ Ok longer) }

@@ -72,9 +72,9 @@ impl<T: Drop> PagedList<T> {
         }
     }
 
-    /// Appends an item, where the list has fewer than `MAX_STEPS`. A page that is full with it is shared from then on.
+    /// Appends an item, if the list has fewer than `MAX_STEPS`. A page that is full with it is shared from then on.
     ///
-    /// Refuses only for want of memory, and then the item is gone.
+    /// Fails only if out of memory, and then the item is gone.
     pub(crate) fn push(&mut self, item: T) -> Result<(), AllocError>
         requires { length self.old < MAX_STEPS }
         ensures ok { OnOk result (self.new ≡ self.old ++ item ∷ []) }
@@ -104,7 +104,7 @@ impl<T: Drop> PagedList<T> {
 
     /// Appends a full page where a page of the list ends. It is shared from then on.
     ///
-    /// Refuses only for want of memory, and then the items are gone.
+    /// Fails only if out of memory, and then the items are gone.
     pub(crate) fn push_page(&mut self, page: Vec<T>) -> Result<(), AllocError>
         requires full { vec_len page ≡ PAGE_LEN }
         requires ends { length self.old % PAGE_LEN ≡ 0 }

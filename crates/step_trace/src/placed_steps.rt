@@ -98,7 +98,7 @@ impl PlacedSteps {
 
     /// Appends a step, for which there is room, in this tick.
     ///
-    /// Refuses only for want of memory, and then the step is gone.
+    /// Fails only if out of memory, and then the step is gone.
     pub(crate) fn push(&mut self, step: Step, tick: u32) -> Result<(), AllocError>
         requires { length self.old.steps < MAX_STEPS }
         ensures ok { OnOk result (self.new ≡ record { steps = self.old.steps ++ step ∷ []; ticks = self.old.ticks ++ tick ∷ [] }) }
@@ -110,9 +110,10 @@ impl PlacedSteps {
         Ok(())
     }
 
-    /// These steps and a page of further ones, each in its tick, where a page of these ends. The page is taken as it is.
+    /// These steps and a page of further ones, each in its tick, where a page of these ends. The page is taken
+    /// unchanged.
     ///
-    /// Refuses only for want of memory.
+    /// Fails only if out of memory.
     pub(crate) fn with_page(self, steps: Vec<Step>, ticks: &[u32]) -> Result<Self, AllocError>
         requires full { vec_len steps ≡ PAGE_LEN }
         requires each { length ticks.now ≡ PAGE_LEN }

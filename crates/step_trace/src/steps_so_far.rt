@@ -1,4 +1,4 @@
-//! The first steps of a list, as if no further ones stood behind them.
+//! The first steps of a list, as if no further ones were behind them.
 
 ghost use Rattle.std.specs.Prelude.{◌≡◌, ◌≤◌, length, option_copied};
 ghost use Rattle.step_trace.specs.Traces.{step_at};

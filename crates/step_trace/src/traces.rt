@@ -48,7 +48,7 @@ pub enum PushError {
     SameTick(u64),
     /// The message of this number was taken before.
     Redelivered(u64),
-    /// There was no memory for one more step.
+    /// Out of memory for one more step.
     Memory,
 }
 
@@ -194,9 +194,9 @@ impl Trace {
             || other.last <= self.placed.tick(other.placed.len() as u64 + 1)
     }
 
-    /// The steps of a processor with their numbers, in order: none where there is no such processor.
+    /// The steps of a processor with their numbers, in order: none if there is no such processor.
     ///
-    /// Refuses only for want of memory, and only where there is a step to list.
+    /// Fails only if out of memory, and only if there is a step to list.
     pub fn restrict(&self, alloc: Global, proc: u64) -> Result<Vec<(u64, Step)>, AllocError>
         ensures own { IfOk result (λ own. own.items ≡ own_steps self.now.steps proc) }
         ensures more { OnErr result (0 < length (own_steps self.now.steps proc)) }
@@ -247,9 +247,9 @@ impl Trace {
 
     /// Appends a step in this tick, in time that grows with the ids that it takes.
     ///
-    /// Refuses in the order of `PushError`, and names the least id of the kind that is refused. No
-    /// refusal but want of memory is answered exactly where the tick isn't before the last and the trace
-    /// stays well formed with the step.
+    /// Refuses in the order of `PushError`, and names the least id of the kind that is refused. The answer is no
+    /// refusal other than out of memory exactly if the tick isn't before the last and the trace stays well formed with
+    /// the step.
     pub fn push_at(&mut self, tick: u64, step: Step) -> Result<(), PushError>
         ensures appended { OnOk result (self.new ≡ with_step self.old tick step) }
         ensures well_formed { OnOk result (IsTrace self.new) }
@@ -273,8 +273,8 @@ impl Trace {
         Ok(())
     }
 
-    /// The trace with a page of further steps, each in its tick, where a page of its own ends: as `push_at` appends one
-    /// after the other, but the page is taken as it is, and then checked.
+    /// The trace with a page of further steps, each in its tick, where a page of its own ends. It appends as `push_at`
+    /// does one after the other, but takes the page unchanged, and checks it after that.
     pub(crate) fn with_page(self, page: LooseSteps) -> Result<Self, StepRefused>
         requires full { length page.steps ≡ PAGE_LEN }
         requires ends { length self.steps % PAGE_LEN ≡ 0 }

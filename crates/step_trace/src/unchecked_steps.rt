@@ -1,4 +1,4 @@
-//! Steps that a trace has taken as they are, and that are checked after that, one after the other.
+//! Steps that a trace has taken unchanged, and that are checked after that, one after the other.
 
 ghost use Rattle.std.specs.Prelude.{◌≡◌, ◌<◌, ◌+◌, length, OnOk, IfErr};
 ghost use Rattle.step_trace.specs.AppendedSteps.{IsStepRefusal};

@@ -1,4 +1,4 @@
--- Stretches in the order of their levels, and as they are kept, the other way round.
+-- Stretches in the order of their levels, and as they are kept: in the opposite order.
 use Rattle.std.proofs.Common.{ℕ, ◌≡◌, ◌+◌, ◌-◌, ◌<◌, ◌≤◌, ◌∙◌, List, [], ◌∷◌, ◌++◌, length, replicate, reverse, get_or, set, Some, true, false, not, ◌==◌, Option, refl, sym, ap, suc, zero, inl, inr, arith, length-append}
 use Rattle.std.specs.Option.{option_map_or}
 use Rattle.std.specs.Prelude.{slice_get, nat_lt}
@@ -56,7 +56,7 @@ pub record IsRaised (old : List Stretch) (level : Level) (raised : List Stretch)
   pub levels : levels_in raised ≡ level ∷ levels_in old
   pub stretches : AreInOrder raised
 
--- a level that begins a stretch stands in one of its own
+-- a level that begins a stretch is in one of its own
 pub IsRaised-new : (kept : List Stretch) (level : Level) (reach : ℕ) (raised : List Stretch) → AreStretches kept
     → reach ≡ length (levels_of kept) + 1 → true ≡ begins level (levels_of kept)
     → raised ≡ kept ++ record { level = level; reach = reach } ∷ [] → IsRaised (reverse kept) level (reverse raised)
@@ -71,7 +71,7 @@ same_bounds-parts a b h =
     let parts = and_parts (a.delta == b.delta) (a.phi == b.phi) h in
     (eqb-true a.delta b.delta parts.0, eqb-true a.phi b.phi parts.1)
 
--- a level with the bounds of the first of those that it stands before is equal to it
+-- a level with the bounds of the first of those that it comes before is equal to it
 same_level : (level first : Level) → StandsBefore level first → same_bounds first level ≡ true → level ≡ first
 same_level level first b h =
     let parts = same_bounds-parts first level h in
@@ -159,7 +159,7 @@ kept_within kept i d a h =
     rw (← get_or-reverse kept i d h, length-levels_in (reverse kept) a)
     (reach_within (reverse kept) i d a (omega arith))
 
--- as they are kept, they reach further and further
+-- in the kept order, they reach further and further
 reaches-rise : (stretches : List Stretch) → AreInOrder stretches → IsNonDecreasingBy (λ s. s.reach) (reverse stretches)
 reaches-rise [] a = λ i j d l m. absurd (omega arith)
 reaches-rise (s ∷ rest) a =

@@ -44,7 +44,7 @@ IsLastMissByNumber-from_last set steps x b high r m undelivered below l = record
   last = λ y i. l.last y (subst (λ (q : ℕ). IsReceiveOf steps y q) (message_unique set steps x _ b _ m.sent i.message) i.receive) i.late (below y i);
 }
 
--- the last miss of a message stands in the notes
+-- the last miss of a message is in the notes
 pub IsLastMissByNumber-from_known : (set : ℕ) (t : Recorded) (x b : ℕ) (r : Receives) → IsWellFormed t.config t.steps → b ≤ t.config.n → IsMessage set t.steps x b → KnowsReceives t x r
     → IsLastMissByNumber set t.steps x (last_missed r x b)
 IsLastMissByNumber-from_known set t x b r w within m k = go (get_or r.links.items x 0 == 0) refl where

@@ -61,11 +61,11 @@ AreLevels-from_first set t levels a = record {
   each = λ g level start h. (let e : 1 + (g - 1) ≡ g = omega arith in rw e at (a.each (g - 1) level h));
 }
 
--- a level may stand before itself
+-- a level may come before itself
 pub StandsBefore-itself : (level : Level) → StandsBefore level level
 StandsBefore-itself level = record { delta = omega arith; phi = omega arith; miss = λ e. refl; gap = λ e. refl }
 
--- a level that may stand before one that may stand before others may stand before them
+-- a level that may come before one that may come before others may come before them
 pub CanStandBefore-through : (a b : Level) (levels : List Level) → StandsBefore a b → CanStandBefore b levels → CanStandBefore a levels
 CanStandBefore-through a b [] h k = tt
 CanStandBefore-through a b (c ∷ rest) h k =
@@ -80,7 +80,7 @@ CanStandBefore-through a b (c ∷ rest) h k =
       gap = λ e. h.gap (omega (arith, e)) ∙ k.gap (omega (arith, e));
     }
 
--- the level of a tick may stand before that of the next
+-- the level of a tick may come before that of the next
 lowered_stands : (set : ℕ) (t : Recorded) (g : ℕ) (old new : Level) → GapsLowered set t g old new → StandsBefore new old
 lowered_stands set t g old new l = record {
   delta = let e = l.delta in omega arith;
@@ -89,7 +89,7 @@ lowered_stands set t g old new l = record {
   gap = l.gap;
 }
 
--- One tick back: the level that a pass has then may stand before those so far, and is the tick's.
+-- One tick back: the level that a pass has then may come before those so far, and is the tick's.
 pub record TickLowered (set : ℕ) (trace : Recorded) (done g : ℕ) (pass : Pass) (levels : List Level) : Type 0 where
   pub falling : CanStandBefore pass.level levels
   pub known : KnowsTicksFrom set trace done g pass (pass.level ∷ levels)

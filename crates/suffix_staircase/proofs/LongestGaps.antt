@@ -23,7 +23,7 @@ gap_until set t x next w within k gap e = elim (cases_lt w.to (get_or next w.pro
       absurd (gap.silent (get_or next w.proc 0) (omega (arith, own.from, e)) h (own.step (omega (arith, h, gap.inside)))))
 ]
 
--- what the latest next step of a member says of the gaps that begin at x
+-- what the latest next step of a member implies for the gaps that begin at x
 pub record IsLongest (set : ℕ) (trace : Recorded) (x q until : ℕ) : Type 0 where
   pub gap : x < until → IsGap set trace (record { proc = q; from = x; to = until - 1 })
   pub longest : (w : Gap) → IsGap set trace w → w.from ≡ x → w.to < until

@@ -38,7 +38,7 @@ IsDelta-from_misses set t g d o k =
       least = delta_least set t g d o k.named;
     }
 
--- so is one beside the witness among the messages after a step
+-- so is one with the witness among the messages after a step
 pub after_positive : (set : ℕ) (t : Recorded) (done d : ℕ) (o : Option Miss) → NamesAfter set t done d o → 1 ≤ d
 after_positive set t done d None h = omega arith
 after_positive set t done d (Some m) h = let l = h.0 in omega arith

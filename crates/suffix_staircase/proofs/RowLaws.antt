@@ -10,12 +10,12 @@ use Rattle.step_trace.specs.declared.rows.Row.{Row}
 use Rattle.suffix_staircase.specs.declared.levels.Level.{Level}
 use Rattle.suffix_staircase.specs.Levels.{same_bounds, is_other, row_from, level_of, rows_after, rows_of, starts, IsStart, AreStarts}
 
--- what stands before a place of levels, where this stands before all
+-- what is before a place of levels, if this is before all
 abbrev pub before : Option Level → List Level → ℕ → Option Level
 before last levels zero = last
 before last levels (suc k) = slice_get levels k
 
--- the row of a place of levels, the first of which has the number g, that has another bound than what stands before it
+-- the row of a place of levels, the first of which has the number g, that has another bound than what is before it
 record IsRowAfter (last : Option Level) (g : ℕ) (levels : List Level) (r : Row) : Type 0 where
   pub place : ℕ
   pub gst : r.gst ≡ g + place

@@ -4,20 +4,20 @@ use Rattle.std.specs.List.Sorted.{IsStrictlyIncreasing}
 use Rattle.step_trace.specs.declared.rows.Row.{Row}
 use Rattle.suffix_staircase.specs.declared.levels.Level.{Level}
 
--- a level may stand right before the next: neither bound is below the next one's, and an equal bound
--- has the same witness
+-- a level may come right before the next: neither bound is below the next one's, and an equal bound has the same
+-- witness
 pub record StandsBefore (level next : Level) : Type 0 where
   pub delta : next.delta ≤ level.delta
   pub phi : next.phi ≤ level.phi
   pub miss : level.delta ≡ next.delta → level.miss ≡ next.miss
   pub gap : level.phi ≡ next.phi → level.gap ≡ next.gap
 
--- a level may stand before these
+-- a level may come before these
 abbrev pub CanStandBefore : Level → List Level → Type 0
 CanStandBefore level [] = Unit {0}
 CanStandBefore level (next ∷ rest) = StandsBefore level next
 
--- each level may stand before those after it
+-- each level may come before those after it
 abbrev pub IsStaircase : List Level → Type 0
 IsStaircase [] = Unit {0}
 IsStaircase (level ∷ rest) = CanStandBefore level rest × IsStaircase rest

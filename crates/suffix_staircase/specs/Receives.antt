@@ -58,7 +58,7 @@ pub record KnowsReceives (trace : Recorded) (x : ℕ) (r : Receives) : Type 0 wh
 abbrev pub NotesAt : ℕ → List ℕ → List ℕ → List ℕ → Type 0
 NotesAt x places old new = (s : ℕ) → slice_index new s ≡ (if list_any (λ i. i == s) places then x else slice_index old s)
 
--- what changes where the Receive x of p, which takes these messages, is gone over: it is linked from them, and from the
+-- what changes if the Receive x of p, which takes these messages, is scanned: it is linked from them, and from the
 -- Receive of p that follows
 pub record NotesReceive (x p : ℕ) (ids : List ℕ) (old new : Receives) : Type 0 where
   pub long : length new.links.items ≡ length old.links.items

@@ -15,12 +15,12 @@ abbrev pub levels_in : List Stretch → List Level
 levels_in [] = []
 levels_in (s ∷ rest) = replicate (s.reach - height rest) s.level ++ levels_in rest
 
--- each stretch has a level, and another bound than what stands after it
+-- each stretch has a level, and another bound than the one after it
 abbrev pub AreInOrder : List Stretch → Type 0
 AreInOrder [] = Unit {0}
 AreInOrder (s ∷ rest) = (height rest < s.reach) × IsTrue (begins s.level (levels_in rest)) × AreInOrder rest
 
--- the levels of stretches as they are kept, from the last to the first
+-- the levels of stretches in their kept order, from the last to the first
 abbrev pub levels_of : List Stretch → List Level
 levels_of stretches = levels_in (reverse stretches)
 

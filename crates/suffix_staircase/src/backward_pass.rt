@@ -1,8 +1,8 @@
 //! The backward pass: from the last tick to the first, the level of each tick from that of the next.
 //!
-//! Steps are gone over by falling number. Going back over a Send adds at most one miss that counts, the
-//! last one of its message; going back over a tick adds one gap, the longest that begins there. An equal
-//! length keeps the witness that comes later.
+//! Steps are scanned by falling number. A scanned Send adds at most one miss that counts, the last one of its
+//! message; a scanned tick adds one gap, the longest that begins there. An equal length keeps the witness that
+//! comes later.
 
 ghost use Rattle.std.specs.Prelude.{◌≡◌, ◌+◌, ◌-◌, ◌<◌, ◌≤◌, length, slice_index, IfOk, OnOk};
 ghost use Rattle.step_trace.specs.declared.traces.TheConstants.{MAX_TICKS};
@@ -18,18 +18,18 @@ use crate::staircases::StairBuilder;
 use std::alloc::{AllocError, Global};
 use step_trace::{Gap, Miss, ProcSet, Trace};
 
-/// What is known of the steps of a trace that were gone over, from the last one back, and of the ticks.
+/// What is known of the scanned steps of a trace, from the last one back, and of the ticks.
 #[derive(Debug, Drop)]
 pub(crate) struct Pass {
     set: ProcSet,
     receives: Receives,
     next_steps: NextSteps,
-    // The level of the tick that was gone over last, with the misses of the steps since.
+    // The level of the tick that was scanned last, with the misses of the steps since.
     level: Level,
 }
 
 impl Pass {
-    /// A pass that has gone over no step.
+    /// A pass that has scanned no step.
     pub(crate) fn after_all(alloc: Global, trace: &Trace, set: ProcSet) -> Result<Self, AllocError>
         ensures steps { IfOk result (λ p. KnowsStepsAfter set trace.now (length trace.now.steps) p) }
         ensures gaps { IfOk result (λ p. KnowsGaps set trace.now (trace.now.last + 1) p.level.phi p.level.gap) }
@@ -109,7 +109,7 @@ impl Pass {
         Ok(tick)
     }
 
-    /// The level of a tick whose steps were gone over.
+    /// The level of a tick whose steps are scanned.
     fn tick_back(&mut self, g: u64) -> Level
         requires low { 1 ≤ g }
         requires positive { 1 ≤ self.old.level.phi }

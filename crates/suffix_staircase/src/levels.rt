@@ -5,9 +5,8 @@ ghost use Rattle.suffix_staircase.specs.Levels.{same_bounds};
 
 use step_trace::{Gap, Miss};
 
-/// The least communication bound and the least processor bound (section 2 of the 1988 paper) that
-/// hold from one tick to the end, counted in ticks, each with its named witness:
-/// none beside a bound of 1.
+/// The least communication bound and the least processor bound (section 2 of the 1988 paper) that hold
+/// from one tick to the end, counted in ticks, each with its named witness: none for a bound of 1.
 #[derive(Clone, Copy, Debug, PartialEq, Eq)]
 pub struct Level {
     pub delta: u64,

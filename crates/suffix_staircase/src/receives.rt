@@ -1,6 +1,6 @@
 //! The Receives after a step, as far as the misses of earlier messages depend on them.
 //!
-//! Steps and processors are numbered from 1, and 0 stands for none.
+//! Steps and processors are numbered from 1, and 0 denotes none.
 
 ghost use Rattle.std.specs.Prelude.{◌≡◌, ◌-◌, ◌<◌, ◌≤◌, length, Some, All, IfOk, slice_index, replicate};
 ghost use Rattle.step_trace.specs.declared.traces.TheConstants.{MAX_STEPS};
@@ -98,8 +98,8 @@ impl Receives {
         }
     }
 
-    /// Notes a Receive that comes before those so far. Where there is none yet, the link is written at
-    /// number 0, which stands for no step.
+    /// Notes a Receive that comes before those so far. If there is none yet, the link is written at number 0, which
+    /// denotes no step.
     fn note(&mut self, no: u64, proc: u64, ids: &[u64])
         requires limit { no ≤ MAX_STEPS }
         requires ids { All (λ s. s < length self.old.links.items) ids.now }

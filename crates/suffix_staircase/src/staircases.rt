@@ -36,11 +36,11 @@ impl Model for Stairs {
 }
 
 impl Stairs {
-    /// The level of each tick of a trace, where the members of a set count as correct: the least bounds
-    /// of section 2 of the 1988 paper from that tick on, and their named witnesses.
+    /// The level of each tick of a traceif the members of a set count as correct: the least bounds of section 2 of
+    /// the 1988 paper from that tick on, and their named witnesses.
     ///
-    /// One pass from the last tick to the first, in time that grows with the ticks, the steps, the ids in
-    /// them and, for some steps, the processors. Fails only for want of memory.
+    /// One pass from the last tick to the first, in time that grows with the ticks, the steps, the ids in them
+    /// and, for some steps, the processors. Fails only if out of memory.
     pub fn of_trace(alloc: Global, trace: &Trace, set: ProcSet) -> Result<Stairs, AllocError>
         requires { IsWithin set trace.now.config.n }
         ensures { IfOk result (λ stairs. AreLevels set trace.now stairs) }
@@ -113,9 +113,9 @@ impl StairBuilder {
         }
     }
 
-    /// Puts a level before those so far, which it may not be below: neither bound is below that of
-    /// the level that stands first, and a bound equal to it has the same witness. Takes memory only
-    /// where one of the bounds is another than that of the level that stands first.
+    /// Puts a level before those so far, which it may not be below: neither bound is below that of the current
+    /// first level, and an equal bound has the same witness. Takes memory only if one of the bounds differs from
+    /// that of the current first level.
     pub fn lower(&mut self, level: Level) -> Result<(), AllocError>
         requires room { length self.old < MAX_TICKS }
         requires falling { CanStandBefore level self.old }
@@ -126,8 +126,8 @@ impl StairBuilder {
         put_before(&mut self.stairs.stretches, level)
     }
 
-    /// Puts the level that stands first before the others so many times more, in time that doesn't grow with their
-    /// number; where no level stands first, it changes nothing. Takes no memory.
+    /// Puts the current first level before the others so many times more, in time that doesn't grow with their
+    /// number; without a first level, it changes nothing. Takes no memory.
     pub fn repeat(&mut self, count: u64)
         requires room { length self.old + count ≤ MAX_TICKS }
         ensures { self.new ≡ repeated count self.old }

@@ -34,7 +34,7 @@ fn main(rt: HostRuntime) -> ExitCode {
     match run(&rt, &rt) {
         Ok(code) => ExitCode::from(code),
         Err(fault) => {
-            // Where it can't be told, the status is all that is left to say.
+            // If it can't be printed, only the status is left.
             let _ = tell(rt.alloc(), &fault, &mut Counting::new(rt.stderr()));
             ExitCode::from(status(&fault))
         }
@@ -78,7 +78,7 @@ fn words(rt: &HostRuntime) -> Result<Vec<String>, Fault> {
         Ok(given) => given,
         Err(error) => return Err(refused_line(refuse_words(rt.alloc(), error.kind())?)),
     };
-    // (`collect` would ask again for less where its growth is refused)
+    // (`collect` would ask again for less if its allocation fails)
     let mut words = Vec::new(rt.alloc());
     for word in given {
         if words.push(word).is_err() {
@@ -88,8 +88,8 @@ fn words(rt: &HostRuntime) -> Result<Vec<String>, Fault> {
     Ok(words)
 }
 
-/// Prints the trace of a run of the nodes, and says on standard error who decided. Where it is to be followed, tells of the
-/// run meanwhile.
+/// Prints the trace of a run of the nodes, and reports on standard error who decided. If it is followed, the run is
+/// reported meanwhile.
 fn run_of<T: Threads + Wait + Clock + Sync>(
     rt: &HostRuntime,
     threads: &T,
@@ -121,7 +121,7 @@ fn run_of<T: Threads + Wait + Clock + Sync>(
     output.ended(made)
 }
 
-/// Prints the trace of a simulated run, and tells on standard error what was decided.
+/// Prints the trace of a simulated run, and reports on standard error what was decided.
 fn simulation_of(rt: &HostRuntime, options: SimulationOptions) -> Result<u8, Fault> {
     let mut output = Output::new(rt.stdout());
     let mut notes = Counting::new(rt.stderr());
@@ -217,8 +217,8 @@ fn text_in(text: &Option<String>) -> Option<&str> {
     }
 }
 
-/// Prints the trace of the log in a file, or the table of its steps, and tells on standard error how it was read. The options
-/// are looked at first.
+/// Prints the trace of the log in a file, or the table of its steps, and reports on standard error how it was read. The
+/// options are read first.
 fn import(rt: &HostRuntime, job: ImportJob) -> Result<u8, Fault> {
     let options = import_options(
         rt.alloc(),
@@ -260,7 +260,7 @@ fn check(rt: &HostRuntime, job: CheckJob) -> Result<u8, Fault> {
     );
     match judged {
         Ok(verdict) => Ok(verdict_status(verdict)),
-        // (a fault that isn't a failed read of the one stays as it is, and is then looked at for the other)
+        // (a fault that isn't a failed read of the one is unchanged, and is then looked at for the other)
         Err(fault) => stopped(output.is_closed(), claimed.named(trace.named(fault))),
     }
 }

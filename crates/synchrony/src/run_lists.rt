@@ -14,10 +14,10 @@ use text_commands::{
 };
 use trace_text::{Counting, write_text};
 
-/// Prints a line for each run of a list, and then the summary, and gives the exit status. The list is read first; the files of a
-/// run are opened when it is judged, and what is wrong with them stands in its line.
+/// Prints a line for each run of a list, and then the summary, and gives the exit status. The list is read first. The
+/// files of a run are opened when it is judged, and faults in them are in its line.
 ///
-/// Stops where the formula or the list is refused, where the output can't be written, and where there is no memory.
+/// Stops if the formula or the list is refused, if the output can't be written, and if it is out of memory.
 pub(crate) fn judge_runs(rt: &HostRuntime, job: RunsJob) -> Result<u8, Fault> {
     test_formula(rt.alloc(), job.judging.within.as_str())?;
     let mut list = Input::open(rt, job.list)?;

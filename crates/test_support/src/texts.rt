@@ -1,6 +1,6 @@
 //! Worked texts that tests of several crates share: traces, and what is made of them, found from the definitions.
 
-/// The text of a report, of a literal that has its rows. The header line of reports stands here alone.
+/// The text of a report, of a literal that has its rows. The header line of reports is only here.
 #[macro_export]
 macro_rules! report_text {
     ($rows:literal) => {

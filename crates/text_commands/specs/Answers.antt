@@ -13,7 +13,7 @@ use Rattle.text_verdicts.specs.Texts.{IsRefusedFor, OfTrace}
 abbrev pub IsAnswerTo : (Recorded → List ℕ → Type 0) → List ℕ → List ℕ → Type 0
 IsAnswerTo Gives text out = OfTrace (λ t. Gives t out) text
 
--- The fault is one that the trace is declined for, or want of memory. Refused texts and failing devices are no faults of a
+-- The fault is one that the trace is declined for, or out of memory. Refused texts and failing devices are no faults of a
 -- trace.
 abbrev pub IsDeclined : (Fault → Type 0) → Fault → Type 0
 IsDeclined Declines fault.Memory = ⊤
@@ -22,13 +22,13 @@ IsDeclined Declines (fault.Write n) = ⊥
 IsDeclined Declines (fault.Trace reason) = ⊥
 IsDeclined Declines w = Declines w
 
--- the fault is the first refusal of the text, or want of memory
+-- the fault is the first refusal of the text, or out of memory
 abbrev pub IsUnread : List ℕ → Fault → Type 0
 IsUnread text (fault.Trace reason) = IsRefusedFor text reason
 IsUnread text fault.Memory = ⊤
 IsUnread text _ = ⊥
 
--- Why a text has no answer: its first refusal; or it stands for a trace that is declined for this; or want of memory.
+-- Why a text has no answer: its first refusal; or it stands for a trace that is declined for this; or out of memory.
 abbrev pub IsUnanswered : (Recorded → Fault → Type 0) → List ℕ → Fault → Type 0
 IsUnanswered Declines text fault.Memory = ⊤
 IsUnanswered Declines text fault.Read = ⊥

@@ -24,11 +24,11 @@ pub record IsLineOn (claim : Claim) (certificate : List ℕ) (t : Recorded) (lin
   pub exact : IsVerdictOn claim.correct claim.until certificate verdict t
   pub told : line ≡ told_verdict verdict
 
--- the reason is a refusal of the text; want of memory and a failed read are none
+-- the reason is a refusal of the text; out of memory and a failed read are none
 abbrev pub IsRefusalOfText : ReportError → Type 0
 IsRefusalOfText reason = (reason ≢ why.Read) × (reason ≢ why.Memory)
 
--- the fault is the first refusal of the certificate, or want of memory
+-- the fault is the first refusal of the certificate, or out of memory
 abbrev pub IsBadCertificate : List ℕ → Fault → Type 0
 IsBadCertificate certificate (fault.Certificate reason) = (rows_of_text certificate ≡ Err reason) × IsRefusalOfText reason
 IsBadCertificate certificate fault.Memory = ⊤

@@ -91,7 +91,7 @@ names_fault count no_names.Memory = fault.Memory
 abbrev pub IsWindowFault : Drawing → ℕ → Fault → Type 0
 IsWindowFault d last w = (e : WindowError) × (window_for d last ≡ Err e) × (w ≡ fault.Picture (option_of e))
 
--- why there are no marks: the window, or want of memory
+-- why there are no marks: the window, or out of memory
 abbrev pub IsMarksFault : Drawing → ℕ → Fault → Type 0
 IsMarksFault d last (fault.Picture (option.From from end)) = window_for d last ≡ Err (no_window.BadFrom from end)
 IsMarksFault d last (fault.Picture (option.To to from)) = window_for d last ≡ Err (no_window.BadTo to from)

@@ -21,13 +21,13 @@ use Rattle.command_faults.specs.declared.faults.ImportOption.TheVariants as opti
 use Rattle.text_commands.specs.ImportLines.{notes_of}
 use Rattle.text_commands.specs.Upgrades.{IsUpgradeOf}
 
--- the fault that what an option says, which is this text, is no length of time; or want of memory
+-- the fault that what an option says, which is this text, is no length of time; or out of memory
 abbrev pub IsNoLength : ImportOption → List ℕ → Fault → Type 0
 IsNoLength o text (fault.Length named given) = (named ≡ o) × (string_bytes given ≡ text)
 IsNoLength o text fault.Memory = ⊤
 IsNoLength o text _ = ⊥
 
--- why five texts tell no options: the first of them that is bad; or want of memory
+-- why five texts tell no options: the first of them that is bad; or out of memory
 abbrev pub IsImportOptionFault : Option (List ℕ) → Option (List ℕ) → Option (List ℕ) → Option (List ℕ) → Option (List ℕ) → Fault → Type 0
 IsImportOptionFault nodes unit tick until idle (fault.Import option.Nodes) = IsOptionFault nodes unit tick until idle no_options.Nodes
 IsImportOptionFault nodes unit tick until idle (fault.Import option.Unit) = IsOptionFault nodes unit tick until idle no_options.Unit
@@ -51,7 +51,7 @@ pub record IsImportTold (form : ImportForm) (o : Options) (Told : List ℕ → T
   pub written : IsImportText form o text import out
   pub told : Told (notes_of o import)
 
--- The fault has its cause in the log: its first refusal; or it is want of memory, which is a fault of its own.
+-- The fault has its cause in the log: its first refusal; or it is out of memory, which is a fault of its own.
 abbrev pub IsUnimported : Options → List ℕ → Fault → Type 0
 IsUnimported o text (fault.Log reason) = IsLogRefusal o text reason × (reason ≢ no_log.Memory)
 IsUnimported o text fault.Memory = ⊤

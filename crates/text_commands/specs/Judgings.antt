@@ -46,7 +46,7 @@ IsUndecided replay text t _ = ⊥
 abbrev pub IsFormulaText : List ℕ → Type 0
 IsFormulaText text = (formula : Terms) × (read_formula text ≡ Ok formula)
 
--- why it is none; or want of memory
+-- why it is none; or out of memory
 abbrev pub IsFormulaFault : List ℕ → Fault → Type 0
 IsFormulaFault text fault.Memory = Unit {0}
 IsFormulaFault text (fault.Within why) = read_formula text ≡ Err why

@@ -26,7 +26,7 @@ IsFaultOf May fault.Read = ⊤
 IsFaultOf May (fault.Write n) = ⊤
 IsFaultOf May w = May w
 
--- What a command may tell that makes a text of a trace: a refusal of a trace text, of which want of memory and a failed read
+-- What a command may tell that makes a text of a trace: a refusal of a trace text, of which out of memory and a failed read
 -- are none, or what some trace is declined for.
 abbrev pub MayTell : (Recorded → Fault → Type 0) → Fault → Type 0
 MayTell Declines (fault.Trace reason) = (reason ≢ why.Read) × (reason ≢ why.Memory)

@@ -1,4 +1,4 @@
--- What is kept of the rows of a certificate's text is kept of the rows that the text stands for.
+-- What is kept of the rows of a certificate's text is kept of the rows that the text encodes.
 use Rattle.std.proofs.Common.{ℕ, ◌≡◌, ◌+◌, ◌≤◌, ◌∙◌, List, [], ◌∷◌, length, Option, Some, None, Result, Ok, Err, Bool, true, false, cond, IfOk, IfErr, IfSome, MatchResult, MatchBool, option_map, refl, sym, ap, subst, inl, inr, arith}
 use Rattle.std.specs.Prelude.{⊤}
 use Rattle.step_trace.specs.declared.rows.Row.{Row}
@@ -84,7 +84,7 @@ rows_under last (Err e) t h = (Err e, refused (is_memory e) t h, refl) where
   refused false (Ok rows) h = cc h
   refused false (Err f) h = let same : f ≡ e = cc h in rw same refl
 
--- so what is said of the rows is said of it
+-- so what holds of the rows holds of it
 pub kept-stands : (last : ℕ) (r : Result ClaimedRows ReportError) (under : Result (List Row) ReportError) (text : List ℕ) → kept_of last under ≡ r
     → IfOk under (StandsFor text) → length text ≤ MAX_TEXT_BYTES → IfOk r (IsKeptOf last text)
 kept-stands last r (Err e) text same h short = subst (λ (x : Result ClaimedRows ReportError). IfOk x (IsKeptOf last text)) same tt

@@ -56,13 +56,13 @@ abbrev pub kept_of : ℕ → Result (List Row) ReportError → Result ClaimedRow
 kept_of last (Ok rows) = Ok (claimed last rows)
 kept_of last (Err e) = Err e
 
--- the first refusal of the certificate's text, or want of memory
+-- the first refusal of the certificate's text, or out of memory
 abbrev pub IsRefusalOf : List ℕ → ReportError → Type 0
 IsRefusalOf text why.Read = ⊥
 IsRefusalOf text why.Memory = ⊤
 IsRefusalOf text e = rows_of_text text ≡ Err e
 
--- The text of a certificate stands for rows, of which this is kept.
+-- The text of a certificate encodes rows, of which this is kept.
 pub record IsKeptOf (last : ℕ) (text : List ℕ) (kept : ClaimedRows) : Type 0 where
   pub rows : List Row
   pub claimed : kept ≡ claimed last rows

@@ -20,7 +20,7 @@ pub record IsCutFor (correct : Correct) (until : Option ℕ) (Holds : Recorded �
   pub until_is : IsReportedTo until t reported
   pub holds : Holds reported
 
--- The certificate's text stands for rows, on which this is the verdict by the trace.
+-- The certificate's text encodes rows, on which this is the verdict by the trace.
 pub record IsJudged (set : ℕ) (certificate : List ℕ) (v : Verdict) (t : Recorded) : Type 0 where
   pub rows : List Row
   pub stands : StandsFor certificate rows

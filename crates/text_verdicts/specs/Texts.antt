@@ -1,4 +1,4 @@
--- What a trace text stands for, and why it stands for nothing.
+-- What a trace text encodes, and why it encodes nothing.
 use Rattle.std.specs.Prelude.{ℕ, ◌≢◌, ◌≤◌, List, length}
 use Rattle.step_trace.specs.declared.correct_sets.Correct.{Correct}
 use Rattle.step_trace.specs.CorrectSets.{named}
@@ -10,19 +10,19 @@ use Rattle.trace_text.specs.declared.refusals.TextError.TheVariants as why
 use Rattle.trace_text.specs.TraceTexts.{IsTextTrace, StandsFor}
 use Rattle.trace_text.specs.TextRefusals.{IsFirstRefusal}
 
--- The text stands for this trace, and isn't too large.
+-- The text encodes this trace, and isn't too large.
 pub record IsTextOf (text : List ℕ) (t : Recorded) : Type 0 where
   pub trace : IsTextTrace t
   pub stands : StandsFor text t
   pub size : length text ≤ MAX_TEXT_BYTES
 
--- The text stands for a trace of which this holds.
+-- The text encodes a trace of which this holds.
 pub record OfTrace (Holds : Recorded → Type 0) (text : List ℕ) : Type 0 where
   pub trace : Recorded
   pub read : IsTextOf text trace
   pub holds : Holds trace
 
--- the first refusal of the text; want of memory and a failed read are none
+-- the first refusal of the text; out of memory and a failed read are none
 abbrev pub IsRefusedFor : List ℕ → TextError → Type 0
 IsRefusedFor text reason = IsFirstRefusal text reason × (reason ≢ why.Read) × (reason ≢ why.Memory)
 

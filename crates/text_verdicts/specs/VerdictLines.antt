@@ -1,4 +1,4 @@
--- The line in which a verdict is told (docs/FORMATS.md), without its line feed, and its exit status.
+-- The line of a verdict (docs/FORMATS.md), without its line feed, and its exit status.
 use Rattle.std.specs.Prelude.{ℕ, List, [], ◌∷◌, ◌++◌, codes, decimal}
 use Rattle.step_trace.specs.declared.rows.Gap.{Gap}
 use Rattle.step_trace.specs.declared.rows.Miss.{Miss}

@@ -1,6 +1,5 @@
-//! What a trace text and a certificate's text stand for: the report of the one, the verdict on both, what is kept of a
-//! certificate, and the line in which a verdict is told. `specs/` has the definitions that the program and the library
-//! cite.
+//! What a trace text and a certificate's text encode: the report of the one, the verdict on both, what is kept of a
+//! certificate, and the line of a verdict. `specs/` has the definitions that the program and the library cite.
 #![tactic(auto)]
 
 mod certificate_texts;

@@ -1,4 +1,4 @@
-//! The lines in which verdicts are told, and their exit statuses.
+//! The lines of verdicts, and their exit statuses.
 
 ghost use Rattle.std.specs.Prelude.{◌≡◌, IfOk, string_bytes};
 ghost use Rattle.text_verdicts.specs.VerdictLines.{status_of_verdict, told_verdict};
@@ -26,7 +26,7 @@ pub fn verdict_text(alloc: Global, verdict: Verdict) -> Result<String, AllocErro
     Ok(line)
 }
 
-/// What is told of a verdict.
+/// What is printed about a verdict.
 #[derive(Clone, Copy)]
 struct VerdictLine(Verdict);
 

@@ -59,7 +59,7 @@ text_grows a b c text grown buf old whole n len taken h k e w t g =
     let more : grown ≡ text ++ take n buf = rw (t, same) at g in
     rw more (read_more a b c text (take n buf) h k)
 
--- a count that went up by one rose, or stood at its end
+-- a count that went up by one rose, or was at its end
 pub rose_by_one : (old kept new : ℕ) → kept ≡ old → new ≡ one_more kept → Rose old new
 rose_by_one old kept new same up = grind arith
 

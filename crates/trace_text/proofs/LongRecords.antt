@@ -1,5 +1,5 @@
 -- The records that csv reads from the front of a text up to a record of too many fields lead where those of the whole
--- text lead, where such a record is refused whatever comes after them.
+-- text lead, if such a record is refused for any text after it.
 use Rattle.std.proofs.Common.{◌≡◌, ◌≤◌, ◌<◌, ◌+◌, ℕ, zero, suc, List, [], ◌∷◌, ◌++◌, length, Option, Some, None, Bool, true, false, cond, Result, Ok, Err, refl, sym, ap, ◌∙◌, inl, inr, ◌⊎◌, ◌==◌, ◌||◌, arith, append_assoc, length-append, take, take_all}
 use Rattle.std.specs.Prelude.{⊤, nat_lt}
 use native.Mathlib.Decide.{dec_lt}
@@ -15,7 +15,7 @@ use Rattle.trace_text.specs.Records.{after_records, records_of_text, ◌>>=◌}
 use Rattle.trace_text.specs.RecordLimits.{RefusesLong, count_after, front_from}
 use Rattle.trace_text.proofs.ReachedRecords.{IsStart, next-begins, next-less, some-begins}
 
--- whether csv's machine stands inside a record, with its default settings
+-- whether csv's machine is inside a record, with its default settings
 abbrev in_record : State → Bool
 in_record st.StartRecord = false
 in_record st.StartField = true
@@ -26,7 +26,7 @@ in_record st.InEscape = true
 in_record st.InComment = false
 in_record st.AfterCr = false
 
--- What one step says of where the machine stands after it.
+-- What one step implies for the machine's state after it.
 record GoodStep (s : State) (p : State × Action) : Type 0 where
   field_ended : p.1 ≡ act.EndField → in_record p.0 ≡ true
   goes_on : in_record s ≡ true → is_end p.1 ≡ false → in_record p.0 ≡ true

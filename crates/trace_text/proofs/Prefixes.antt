@@ -26,7 +26,7 @@ front : (xs ys : List Step) (x : Step) (k : ℕ) → step_at xs k ≡ Some x →
 front xs ys x zero h = absurd (none-some x h)
 front xs ys x (suc k) h = slice_get-front xs ys x k h
 
--- a step of the whole list stands in the front if its number does
+-- a step of the whole list is in the front if its number is
 back : (xs ys : List Step) (x : Step) (k : ℕ) → k ≤ length xs → step_at (xs ++ ys) k ≡ Some x → step_at xs k ≡ Some x
 back xs ys x zero l h = absurd (none-some x h)
 back xs ys x (suc k) l h = slice_get-back xs ys x k (omega (arith, l)) h

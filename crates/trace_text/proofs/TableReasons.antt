@@ -1,4 +1,4 @@
--- The reasons that records give: never the size of the text, a fault of the reader or want of memory.
+-- The reasons that records give: never the size of the text, a fault of the reader or out of memory.
 use Rattle.std.proofs.Common.{ℕ, ◌≡◌, ◌≢◌, ◌+◌, ◌==◌, ◌&&◌, List, [], ◌∷◌, length, drop, codes, decimal, Option, Some, None, Result, Ok, Err, Bool, true, false, cond, refl}
 use Rattle.std.specs.Prelude.{MatchBool, ⊤, is_none}
 use Rattle.std.specs.Str.{bytes_eq}

@@ -1,4 +1,4 @@
--- The ids that a trace's steps take are no more than its steps: none stands there twice, and each is the number of a step.
+-- The ids that a trace's steps take are no more than its steps: none occurs twice, and each is the number of a step.
 use Rattle.std.proofs.Common.{ℕ, zero, suc, ◌≡◌, ◌≤◌, List, [], ◌∷◌, ◌++◌, length, Some, Bool, true, false, ◌||◌, inl, inr, refl, sym, arith}
 use Rattle.std.specs.Prelude.{slice_get, Contains}
 use Rattle.std.specs.List.{AllByRecursion, IsDistinct, flat_map, list_any}

@@ -1,4 +1,4 @@
--- What the table says of a text: what it accepts stands for the trace, and what stands for a trace is accepted.
+-- What the table gives for a text: what it accepts encodes the trace, and what encodes a trace is accepted.
 use Rattle.std.proofs.Common.{ℕ, ◌≡◌, ◌≢◌, ◌≤◌, ◌∙◌, List, length, Result, Ok, Err, Bool, true, false, refl, ap, arith}
 use Rattle.std.specs.Prelude.{IfOk, IfErr, MatchResult, MatchBool, ⊤, nat_le}
 use Rattle.std.proofs.lemmas.Bool.Decides.{nat_tests}
@@ -13,7 +13,7 @@ use Rattle.trace_text.proofs.AcceptedRecords.{accepted-records}
 use Rattle.trace_text.proofs.TableReasons.{is_of_records, never-answered}
 use Rattle.trace_text.proofs.TraceRecords.{reads-trace}
 
--- an accepted text stands for its trace
+-- an accepted text encodes its trace
 pub gives-stands : (text : List ℕ) (r : Result Recorded TextError) → Gives r (trace_of_records (records_of_text text)) → IfOk r (λ t. StandsFor text t)
 gives-stands text (Ok t) h = (accepted-records (records_of_text text) t h).1
 gives-stands text (Err e) h = tt
@@ -22,7 +22,7 @@ pub gives-sound : (text : List ℕ) (r : Result Recorded TextError) → Gives r 
 gives-sound text (Ok t) h = (accepted-records (records_of_text text) t h).0
 gives-sound text (Err e) h = tt
 
--- what stands for a trace gives it
+-- what encodes a trace gives it
 stands-gives : (text : List ℕ) (t : Recorded) → IsTextTrace t → StandsFor text t → trace_of_records (records_of_text text) ≡ Ok t
 stands-gives text t h s = ap trace_of_records s.2 ∙ reads-trace s.0 t h s.1
 
@@ -48,7 +48,7 @@ pub gives-complete : (text : List ℕ) (r : Result Recorded TextError) (t : Reco
 gives-complete text (Ok u) t h i s = let k = stands-gives text t i s in cc
 gives-complete text (Err e) t h i s = only_memory e t (trace_of_records (records_of_text text)) (stands-gives text t i s) h
 
--- a text stands for at most one trace
+-- a text encodes at most one trace
 pub stands-one : (text : List ℕ) (t u : Recorded) → IsTextTrace t → IsTextTrace u → StandsFor text t → StandsFor text u → t ≡ u
 stands-one text t u h k s r = let a = stands-gives text t h s in let b = stands-gives text u k r in cc
 

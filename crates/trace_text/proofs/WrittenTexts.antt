@@ -1,4 +1,4 @@
--- The text of a trace stands for it, and is shorter than a text may be.
+-- The text of a trace encodes it, and is shorter than a text may be.
 use Rattle.std.proofs.Common.{ℕ, suc, ◌≡◌, ◌+◌, ◌*◌, ◌<◌, ◌≤◌, ◌^◌, List, [], ◌∷◌, ◌++◌, length, Option, Some, None, true, false, decimal, refl, arith, length-append}
 use Rattle.std.specs.Prelude.{All, Contains, IfSome, slice_get}
 use Rattle.std.proofs.lemmas.List.{length-map}
@@ -137,7 +137,7 @@ no-mark : (v : Version) (t : Recorded) → strip_bom (version_text v t) ≡ vers
 unfolding strip_bom
 no-mark v t = refl
 
--- the text of a trace stands for it
+-- the text of a trace encodes it
 pub StandsFor-version_text : (v : Version) (t : Recorded) → IsTextTrace t → HasTextsOf v t → StandsFor (version_text v t) t
 StandsFor-version_text v t h has = (v, has, lines-read (trace_records v t) (lines-trace v t h) (no-mark v t))
 

@@ -21,7 +21,7 @@ abbrev pub bytes_read : Option (List ℕ) → Option (List ℕ) → Option ℕ
 bytes_read (Some before) (Some after) = Some (length before - length after)
 bytes_read _ _ = None
 
--- `read_all` refuses for a cause: too many bytes, a fault that was counted, or want of memory
+-- `read_all` refuses for a cause: too many bytes, a fault that was counted, or out of memory
 abbrev pub ReadRefusedFor : TextError → ℕ → ℕ → Option (List ℕ) → Type 0
 ReadRefusedFor why.TooLarge old new known = IfSome known (λ xs. MAX_TEXT_BYTES < length xs)
 ReadRefusedFor why.Read old new known = Rose old new

@@ -26,7 +26,7 @@ left_in r = known_bytes r.bytes.now r.after
 abbrev pub after_of : FailingReader → AfterBytes
 after_of r = r.after
 
--- the most bytes that one read gives, where 0 stands for 1
+-- the most bytes that one read gives; 0 denotes 1
 abbrev pub read_piece_of : FailingReader → ℕ
 read_piece_of r = r.piece
 
@@ -59,7 +59,7 @@ read_fault held after = None
 abbrev pub taken_by : FailingWriter → List ℕ
 taken_by w = w.taken.items
 
--- the most bytes that one write takes, where 0 stands for 1
+-- the most bytes that one write takes; 0 denotes 1
 abbrev pub piece_of : FailingWriter → ℕ
 piece_of w = w.piece
 
@@ -89,7 +89,7 @@ room_in w = write_limit w.failure - vec_len w.taken
 abbrev pub write_count : FailingWriter → ℕ → ℕ
 write_count w offered = min (min (max w.piece 1) (room_in w)) offered
 
--- the kind of the faults of writes without room, but for those of want of memory
+-- the kind of the faults of writes without room, except out of memory
 abbrev pub fault_without_room : WriteFailure → Option ErrorKind
 fault_without_room (failure.FailAfter _ kind) = Some kind
 fault_without_room _ = None

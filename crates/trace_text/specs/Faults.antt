@@ -36,6 +36,6 @@ abbrev pub idle_writes_after : {E : Type 0} → Result ℕ E → List ℕ → �
 idle_writes_after (Ok count) buf n = if nat_eq count 0 && nat_lt 0 (length buf) then one_more n else n
 idle_writes_after (Err _) buf n = n
 
--- the count rose, or stood at its end before
+-- the count rose, or was at its end before
 abbrev pub Rose : ℕ → ℕ → Type 0
 Rose old new = (old < new) ⊎ (2 ^ 64 - 1 ≤ old)

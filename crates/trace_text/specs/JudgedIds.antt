@@ -33,7 +33,7 @@ is_above_last [] id = true
 is_above_last (x ∷ []) id = nat_lt x id
 is_above_last (x ∷ y ∷ ys) id = is_above_last (y ∷ ys) id
 
--- the ids so far are kept as they are judged, beside whether they rise
+-- the ids so far are kept as judged, with whether they rise
 pub record AreKept (all kept : List ℕ) (rises : Bool) : Type 0 where
   pub ids : kept ≡ judged all
   pub rising : rises ≡ is_rising all

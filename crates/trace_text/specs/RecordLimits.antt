@@ -10,7 +10,7 @@ use Rattle.trace_text.specs.declared.record_limits.Place.{Place}
 use Rattle.trace_text.specs.declared.record_limits.Place.TheVariants as place
 use Rattle.trace_text.specs.declared.record_limits.TheConstants.{MAX_FIELDS}
 
--- a record that begins with more fields than there may be is refused alike, whatever comes after them
+-- a record that begins with more fields than there may be is refused alike, for any fields after them
 abbrev pub RefusesLong : {S E : Type 0} → (S → List (List ℕ) → Result S E) → Type 0
 RefusesLong {S} {E} next = (s : S) (front : List (List ℕ)) → MAX_FIELDS < length front → (e : E) × ((more : List (List ℕ)) → next s (front ++ more) ≡ Err e)
 

@@ -10,7 +10,7 @@ use Rattle.csv.specs.declared.writer.WriterBuilder.{WriterBuilder}
 abbrev pub our_writer : WriterBuilder
 our_writer = record default_writer { flexible = true }
 
--- the writer stands between two records
+-- the writer is between two records
 abbrev pub IsReady : {W : Type 0} → Writer W → Type 0
 IsReady w = (fields_written w ≡ 0) × (has_written w ≡ false) × (writer_setup w ≡ our_writer)
 

@@ -42,7 +42,7 @@ abbrev pub GivesUnless : {X Y E : Type 0} → (E → Bool) → (X → Y) → Res
 GivesUnless may view (Ok x) table = table ≡ Ok (view x)
 GivesUnless may view (Err e) table = MatchBool (may e) ⊤ (table ≡ Err e)
 
--- the same of an answer beside which stands the state that was reached
+-- the same of an answer that is paired with the state that was reached
 abbrev pub ReachesUnless : {S E : Type 0} → (E → Bool) → Result ⊤ E → S → Result S E → Type 0
 ReachesUnless may (Ok x) state table = table ≡ Ok state
 ReachesUnless may (Err e) state table = MatchBool (may e) ⊤ (table ≡ Err e)

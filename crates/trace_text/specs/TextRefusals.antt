@@ -145,7 +145,7 @@ next_stage (Sized v n t) fields = init_stage v n t fields
 next_stage (Recording v t) fields = if bytes_eq (field_of fields 0) (codes "end") then end_stage v t fields else step_stage v t fields
 next_stage (Ended t) fields = Err AfterEnd
 
--- what the end of the text says of a stage
+-- the answer for a stage at the end of the text
 abbrev pub trace_at_end : Stage → Result Recorded TextError
 trace_at_end Opening = Err BadHeader
 trace_at_end (Sized v n t) = Err BadInit
@@ -164,11 +164,11 @@ abbrev pub is_memory : TextError → Bool
 is_memory Memory = true
 is_memory e = false
 
--- the answer is what the table gives, or want of memory
+-- the answer is what the table gives, or out of memory
 abbrev pub Gives : {A : Type 0} → Result A TextError → Result A TextError → Type 0
 Gives result table = GivesUnless is_memory (λ x. x) result table
 
--- the same of an answer beside which stands the stage that was reached
+-- the same of an answer that is paired with the stage that was reached
 abbrev pub LeadsTo : Result ⊤ TextError → Stage → Result Stage TextError → Type 0
 LeadsTo result stage table = ReachesUnless is_memory result stage table
 
@@ -207,6 +207,6 @@ record_keeps (Sized v n t) fields = init_keeps fields
 record_keeps (Recording v t) fields = if bytes_eq (field_of fields 0) (codes "end") then false else step_record_keeps v t fields
 record_keeps (Ended t) fields = false
 
--- the refusal is the first of the table, or want of memory in a text that isn't too large
+-- the refusal is the first of the table, or out of memory in a text that isn't too large
 abbrev pub IsFirstRefusal : List ℕ → TextError → Type 0
 IsFirstRefusal text e = MatchBool (is_memory e) (length text ≤ MAX_TEXT_BYTES) (trace_of_text text ≡ Err e)

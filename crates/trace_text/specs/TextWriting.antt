@@ -7,11 +7,11 @@ use Rattle.trace_text.specs.declared.refusals.WriteError.TheVariants as fault
 use Rattle.trace_text.specs.ByteLoops.{MetOneFault}
 use Rattle.trace_text.specs.Faults.{inner_of}
 
--- the text went out, and nothing else (`taken` tells what a writer has taken)
+-- the text went out, and nothing else (`taken` is what a writer has taken)
 abbrev pub Wrote : {W : Type 0} → (W → Option (List ℕ)) → Counting W → Counting W → List ℕ → Type 0
 Wrote taken old new text = Appends (taken (inner_of old)) (taken (inner_of new)) text
 
--- what went out before a refusal: the text's first bytes, and nothing for want of memory
+-- what went out before a refusal: the text's first bytes, and nothing if out of memory
 abbrev pub WroteBefore : WriteError → List ℕ → Option (List ℕ) → Option (List ℕ) → Type 0
 WroteBefore (fault.Write n) text old new = (n ≤ length text) × Appends old new (take n text)
 WroteBefore fault.Memory text old new = new ≡ old
@@ -20,7 +20,7 @@ WroteBefore fault.Memory text old new = new ≡ old
 abbrev pub WrotePart : {W : Type 0} → (W → Option (List ℕ)) → Counting W → Counting W → List ℕ → WriteError → Type 0
 WrotePart taken old new text e = WroteBefore e text (taken (inner_of old)) (taken (inner_of new))
 
--- a write is refused for a fault or for a write that took no byte; want of memory leaves the writer as it was
+-- a write is refused for a fault or for a write that took no byte; out of memory leaves the writer unchanged
 abbrev pub IsWriteCause : {T : Type 0} → WriteError → Counting T → Counting T → Type 0
 IsWriteCause (fault.Write n) old new = MetOneFault old new
 IsWriteCause fault.Memory old new = new ≡ old

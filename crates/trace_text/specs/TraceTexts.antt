@@ -1,4 +1,4 @@
--- Trace text: the records of a trace in each version, and the texts that stand for it.
+-- Trace text: the records of a trace in each version, and the texts that encode it.
 use Rattle.std.specs.Prelude.{ℕ, ◌≡◌, ◌+◌, ◌<◌, ◌^◌, List, [], ◌∷◌, ◌++◌, length, map, All, Bool, true, false, ◌&&◌, ◌==◌, if◌then◌else◌, ⊤, codes, decimal}
 use Rattle.std.specs.List.{join_with_byte}
 use Rattle.step_trace.specs.declared.steps.Act.{Act}
@@ -58,11 +58,11 @@ abbrev pub HasTextsOf : Version → Recorded → Type 0
 HasTextsOf One t = IsOnePerTick t
 HasTextsOf Two t = ⊤
 
--- a text stands for the trace whose records csv reads from it
+-- a text encodes the trace whose records csv reads from it
 abbrev pub StandsFor : List ℕ → Recorded → Type 0
 StandsFor text t = (v : Version) × HasTextsOf v t × (records_of_text text ≡ trace_records v t)
 
--- the text of a trace in a version, as it is written
+-- the text of a trace in a version, in canonical form
 abbrev pub version_text : Version → Recorded → List ℕ
 version_text v t = text_of_records (trace_records v t)
 

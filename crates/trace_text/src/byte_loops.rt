@@ -19,11 +19,11 @@ const PIECE_BYTES: usize = 65_536;
 /// All bytes that the reader has left, if they are at most `MAX_TEXT_BYTES`.
 ///
 /// Each read before the last brings at least one byte, so at most `MAX_TEXT_BYTES + 2` reads are made.
-/// How much was read before a refusal isn't said.
+/// A refusal doesn't say how much was read before it.
 ///
 /// Refusals, as they are met: TooLarge once more than `MAX_TEXT_BYTES` bytes were read; Read at the
-/// first fault, of whatever kind; Memory, in the place of neither: no more than `MAX_TEXT_BYTES` bytes
-/// were read then, no read failed, and none found the end.
+/// first fault, of any kind; Memory, which comes before both: no more than `MAX_TEXT_BYTES` bytes were
+/// read then, no read failed, and none found the end.
 pub fn read_all<R: Read>(alloc: Global, reader: &mut Counting<R>) -> Result<Vec<u8>, TextError>
     ensures text { IfOk result (λ text.
         IfSome (R.remaining (inner_of reader.old)) (λ xs. text.items ≡ xs)) }
@@ -62,11 +62,11 @@ pub fn read_all<R: Read>(alloc: Global, reader: &mut Counting<R>) -> Result<Vec<
     unreachable!()
 }
 
-/// Writes the whole text, and flushes. It stops at the first fault, of whatever kind, and at the first
-/// write that takes no byte.
+/// Writes the whole text, and flushes. It stops at the first fault, of any kind, and at the first write
+/// that takes no byte.
 ///
 /// Refusal: Write with the number of bytes that went out before, the text's first; it is the length of
-/// the text where the flush failed. Memory isn't answered.
+/// the text if the flush failed. Memory isn't answered.
 pub fn write_text<W: Write>(text: &[u8], writer: &mut Counting<W>) -> Result<(), WriteError>
     ensures whole { OnOk result
         (Appends (W.contents (inner_of writer.old)) (W.contents (inner_of writer.new)) text.now) }

@@ -9,14 +9,13 @@ use std::io;
 use std::io::{Read, Write};
 
 /// A reader or a writer, with a count of its calls to `read`, `write` and `flush` that answered a
-/// fault, of whatever kind. The count stays at `u64::MAX` once it is there, and a later call is then
-/// taken to have raised it.
+/// fault, of any kind. At `u64::MAX` the count stays, and a later call counts as having raised it.
 ///
-/// For contracts it keeps as well how many reads were made, how often a write took no byte of a
-/// buffer that had some, and whether the last write or flush was a flush without a fault.
+/// For contracts it also keeps how many reads were made, how often a write took no byte of a buffer
+/// that had some, and whether the last write or flush was a flush without a fault.
 ///
-/// Each call is passed on once, as it is. The contracts see the bytes of a device and not its calls, so
-/// that is tested, over `failing_devices`, which count the calls that reach them.
+/// Each call is passed on once, unchanged. The contracts see the bytes of a device and not its calls,
+/// so that is tested, over `failing_devices`, which count the calls that reach them.
 #[derive(Drop)]
 pub struct Counting<T> {
     inner: T,

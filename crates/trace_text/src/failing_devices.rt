@@ -1,5 +1,4 @@
-//! A reader and a writer that fail where they are told to, and count the calls that reach them, for
-//! tests.
+//! A reader and a writer for tests that fail at a chosen place, and count the calls that reach them.
 
 ghost use Rattle.std.specs.Prelude.{◌≡◌, ◌<◌, [], length, take, drop, None, Some, unwrap_or, IfOk, IfErr, OnOk, OnErr, MatchResult};
 ghost use Rattle.std.specs.Io.{ReadsAtMost, WritesAtMost};

@@ -34,7 +34,7 @@ pub enum Stage {
     Ended(Trace),
 }
 
-/// The trace that a text stands for.
+/// The trace that a text encodes.
 ///
 /// Refuses in the order of `TextError`; `Read` is never answered. The first record that is refused
 /// decides, and within a record the first refusal.
@@ -217,8 +217,8 @@ pub fn step_of(
     )
 }
 
-/// The step of this number that these fields tell: its tick, unless it isn't a number, its operation, its processor and
-/// its argument.
+/// The step of this number that these fields encode: its tick, unless it isn't a number, its operation, its processor
+/// and its argument.
 ///
 /// Refuses, in this order: BadOp; BadNumber, for the tick, the processor or the argument. Memory may come for the ids.
 pub fn step_of_fields(
@@ -302,7 +302,7 @@ fn read_end(version: Version, trace: &mut Trace, fields: &ByteRecord) -> Result<
     }
 }
 
-/// The end of version 1 tells the number of steps.
+/// The end of version 1 has the number of steps.
 fn check_count(fields: &ByteRecord, steps: u64) -> Result<(), TextError>
     ensures { MatchResult result
         (λ _. IsTrue (bytes_eq (field_of (fields_of fields.now) 1) (decimal steps)))
@@ -315,7 +315,7 @@ fn check_count(fields: &ByteRecord, steps: u64) -> Result<(), TextError>
     Ok(())
 }
 
-/// The end of version 2 tells the last tick.
+/// The end of version 2 has the last tick.
 fn end_in(trace: &mut Trace, last: &[u8]) -> Result<(), TextError>
     ensures { MatchResult result
         (λ _. ended Version.Two trace.old last.now ≡ Ok (Stage.Ended trace.new))

@@ -19,7 +19,7 @@ const PAGE_BYTES: usize = 65_536;
 /// csv's reader goes past it at the start of a text.
 const BYTE_ORDER_MARK: [u8; 3] = [0xEF, 0xBB, 0xBF];
 
-/// Where csv's reader stands in a text.
+/// Where csv's reader is in a text.
 #[derive(Clone, Copy)]
 enum Place {
     StartRecord,

@@ -20,7 +20,7 @@ pub trait TakeRecords {
     // what one more record makes of it, or why the record is refused
     ghost next: { Self → List (List ℕ) → Result Self Self.Error };
 
-    // whether a refusal is want of memory
+    // whether a refusal is out of memory
     ghost is_memory: { Self.Error → Bool };
 
     // whether something has to be kept for a record
@@ -32,7 +32,7 @@ pub trait TakeRecords {
             (next self.old (fields_of fields.now)) }
         ensures more { WantsOnlyWhere is_memory result (keeps self.old (fields_of fields.now)) };
 
-    /// The refusal for want of memory.
+    /// The refusal if out of memory.
     fn out_of_memory() -> Self::Error
         ensures { IsTrue (is_memory result) };
 
@@ -40,10 +40,10 @@ pub trait TakeRecords {
     ghost long: { RefusesLong next };
 }
 
-/// Takes in all records that csv reads from a text: those of its default reader, without a header
-/// row, of any length. The first record that is refused decides. Where a record may have far more fields
-/// than `MAX_FIELDS`, the text is read no further than one field above these: so the fields of a record
-/// take some megabytes at most, beside their text.
+/// Takes in all records that csv reads from a text: those of its default reader, without a header row,
+/// of any length. The first record that is refused decides. If a record may have far more fields than
+/// `MAX_FIELDS`, the text is read no further than one field above these. So the fields of a record take
+/// some megabytes at most, besides their text.
 pub fn read_records<T: TakeRecords>(
     alloc: Global,
     text: &[u8],

@@ -34,9 +34,9 @@ pub enum TextError {
     /// The field of the `end` record isn't the text of the number of steps; in version 2, it isn't a number,
     /// or the trace can't end in that tick.
     WrongEnd,
-    /// A record stands after the `end` record.
+    /// A record comes after the `end` record.
     AfterEnd,
-    /// There was no memory.
+    /// Out of memory.
     Memory,
 }
 
@@ -46,7 +46,7 @@ pub enum WriteError {
     /// The writer failed or took nothing; so many bytes of the text went out before.
     #[error("cannot write")]
     Write(u64),
-    /// There was no memory, and nothing was written.
+    /// Out of memory, and nothing was written.
     #[error("out of memory")]
     Memory,
 }

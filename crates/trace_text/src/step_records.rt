@@ -57,7 +57,7 @@ pub(crate) fn judged_ids(alloc: Global, field: &[u8]) -> Result<Option<Vec<u64>>
     Ok(Some(ids))
 }
 
-/// Keeps one more id where those before it rise, and tells whether they rise with it.
+/// Keeps one more id if those before it rise, and answers whether they rise with it.
 fn keep_id(ids: &mut Vec<u64>, rising: bool, id: u64) -> Result<bool, AllocError>
     ensures { IfOk result
         (λ rises. (all : List ℕ) → AreKept all ids.old.items rising → AreKept (all ++ id ∷ []) ids.new.items rises) }

@@ -10,7 +10,7 @@ use crate::records::{field, number};
 use csv::ByteRecord;
 use step_trace::Trace;
 
-/// How a trace text tells the ticks of the steps.
+/// How a trace text encodes the ticks of the steps.
 #[derive(Clone, Copy)]
 pub enum Version {
     /// Not at all: each step is in the tick of its number.

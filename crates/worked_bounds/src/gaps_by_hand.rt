@@ -33,7 +33,7 @@ fn are_gaps(listed: &[Gap], want: &[(u64, u64, u64)]) -> bool {
     listed.len() == want.len()
 }
 
-/// Whether the last miss of the message is at this Receive; None stands for no miss.
+/// Whether the last miss of the message is at this Receive; None denotes no miss.
 pub(crate) fn misses_at(trace: &Trace, set: ProcSet, sent: u64, missed: Option<u64>) -> bool {
     let want = missed.map(|missed| Miss { sent, missed });
     set.within(trace.config().n()) && last_miss(trace, set, sent) == want

@@ -1,12 +1,12 @@
-//! Traces whose steps fill pages, or don't quite, or go over: of these copies share what is full, and it mustn't show.
-//! A page has 256 steps.
+//! Traces whose steps fill pages exactly, almost, or with some left over. Copies share full pages, and no call may
+//! show it. A page has 256 steps.
 
 use std::alloc::{AllocError, Global};
 use std::test::Fail;
 use step_trace::{PushError, Trace};
 use test_support::traces::{are_equal, empty_trace, silent_alternation, step_of, trace_of};
 
-/// Goes on to so many steps with Receives that take nothing, of 1 and 2 in turns.
+/// Goes on to so many steps with Receives that take nothing, of 1 and 2 alternately.
 fn go_on(alloc: Global, trace: &mut Trace, count: u64) -> Result<(), Fail> {
     for before in trace.len() as u64..count {
         trace.push(step_of(alloc, before % 2 + 1, 0, &[])?)?;
@@ -111,7 +111,7 @@ fn copy_of_delivered(alloc: Global, count: u64) -> Result<Trace, Fail> {
     Ok(trace.copy(alloc)?)
 }
 
-/// Whether a copy refuses the message that was taken before it was made, and stays as it was.
+/// Whether a copy refuses the message that was taken before it was made, and is unchanged.
 fn knows_what_was_taken(alloc: Global, count: u64) -> Result<bool, Fail> {
     let mut copy = copy_of_delivered(alloc, count)?;
     Ok(refuses_again(alloc, &mut copy)? && is_delivered(alloc, &copy)?)
@@ -131,7 +131,7 @@ fn goes_on_delivered(alloc: Global, trace: &mut Trace, after: u64) -> Result<boo
     is_delivered(alloc, trace)
 }
 
-/// Whether a copy of a trace is as it was, with so many steps, where the trace goes on.
+/// Whether a copy of a trace is unchanged, with so many steps, when the trace goes on.
 fn its_copy_stays(alloc: Global, trace: &mut Trace, count: u64, after: u64) -> Result<bool, Fail> {
     let copy = trace.copy(alloc)?;
     let goes_on = goes_on_delivered(alloc, trace, after)?;

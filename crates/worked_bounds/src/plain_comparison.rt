@@ -1,4 +1,4 @@
-//! The backward pass beside the plain searches, on small traces of a fixed seed.
+//! The backward pass compared with the plain searches, on small traces of a fixed seed.
 
 ghost use Rattle.std.specs.Prelude.{◌≤◌};
 ghost use Rattle.step_trace.specs.Processors.{IsWithin};

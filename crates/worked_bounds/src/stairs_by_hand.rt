@@ -74,7 +74,7 @@ fn silent_alternation(rt: HostRuntime) -> Result<(), Fail> {
 /// The stairs of never-delivered, built from the last level to the first.
 fn built(alloc: Global) -> Result<Stairs, AllocError> {
     let mut builder = StairBuilder::new(alloc);
-    // No level stands first yet.
+    // There is no first level yet.
     builder.repeat(7);
     builder.lower(LAST)?;
     builder.lower(MIDDLE)?;

@@ -1,5 +1,5 @@
-//! The stairs of a million idle ticks, and the backward pass beside the plain searches on small traces in which
-//! ticks are idle or hold several steps.
+//! The stairs of a million idle ticks, and the backward pass compared with the plain searches, on small traces
+//! in which ticks are idle or hold several steps.
 
 use crate::plain_comparison::stairs_agree;
 use std::alloc::Global;

@@ -11,7 +11,7 @@ use text_commands::{Upgrade, run_check, run_replay, run_report, serve, verdict_s
 use trace_text::Counting;
 use trace_text::failing_devices::{AfterBytes, FailingReader, FailingWriter};
 
-/// A command, and what it is given beside its trace text: the list of the correct processors, and the certificate.
+/// A command, and its inputs besides its trace text: the list of the correct processors, and the certificate.
 #[derive(Clone, Copy, Debug)]
 pub(crate) enum Command<'a> {
     Report(&'a str),
@@ -49,7 +49,7 @@ pub(crate) struct Input<'a> {
     pub(crate) cut_rows: Cut,
 }
 
-/// A text that is read to its end, beside a certificate that is too.
+/// A text that is read to its end, with a certificate that is too.
 pub(crate) fn whole(text: &str) -> Input<'_> {
     Input {
         text,

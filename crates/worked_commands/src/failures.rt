@@ -25,7 +25,7 @@ enum Text {
     Certificate,
 }
 
-/// A trace text beside a certificate, of which one is cut.
+/// A trace text and a certificate, one of which is cut.
 fn cut_in(which: Text, text: &str, cut: Cut) -> Input<'_> {
     let (cut, cut_rows) = match which {
         Text::Trace => (cut, WHOLE),
@@ -87,7 +87,7 @@ fn nothing_is_written_after_a_failed_read(rt: HostRuntime) -> Result<(), Fail> {
     Ok(())
 }
 
-/// Commands, which of their texts never ends, their status, and what their line tells of it.
+/// Commands, which of their texts never ends, their status, and their line.
 const ENDLESS: &[(Command, Text, u8, &str)] = &[
     (Report("1,2"), Text::Trace, 3, "trace: text too large"),
     (

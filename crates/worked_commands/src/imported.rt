@@ -1,4 +1,4 @@
-//! What an import of a log writes and tells, on worked logs.
+//! What an import of a log writes and prints as notes, on worked logs.
 
 use command_faults::{Fault, fault_text, status};
 use command_options::ImportForm;
@@ -10,7 +10,7 @@ use text_commands::{import_options, run_import};
 use trace_text::Counting;
 use trace_text::failing_devices::{AfterBytes, FailingReader, FailingWriter, WriteFailure};
 
-/// A log, and the options that are told with it.
+/// A log, and the options given with it.
 #[derive(Clone, Copy, Debug)]
 struct Given {
     log: &'static str,

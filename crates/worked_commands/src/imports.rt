@@ -13,7 +13,8 @@ use trace_text::failing_devices::{AfterBytes, FailingReader, FailingWriter, Writ
 
 const LOG: &str = "time,node,event,to,message\n10,b,send,a,m2\n10,a,send,b,m1\n13,a,receive,,m2\n";
 
-/// Whether an import of a log that is cut is refused with this status and this line, and nothing is written or told.
+/// Whether an import of a log that is cut is refused with this status and this line, and nothing is written or
+/// noted.
 fn refuses(
     alloc: Global,
     cut: Cut,

@@ -188,7 +188,7 @@ const REFUSED: &[(Reason, u8, &str)] = &[
     ),
 ];
 
-/// Whether a fault has this status and this text, which is told with one line feed at its end.
+/// Whether a fault has this status and this text, which is printed with one line feed at its end.
 fn is_told(alloc: Global, fault: &Fault, code: u8, wanted: &str) -> Result<bool, AllocError> {
     let text = fault_text(alloc, fault)?;
     let line = told_line(alloc, fault)?;
@@ -209,7 +209,7 @@ fn refused_logs_are_told(rt: HostRuntime) -> Result<(), Fail> {
     Ok(())
 }
 
-/// Why no options are told, and the line.
+/// Why there are no options, and the line.
 const NO_OPTIONS: &[(OptionError, ImportOption, &str)] = &[
     (
         OptionError::Nodes,

@@ -112,7 +112,7 @@ fn replay_in_round_2(alloc: Global) -> Result<String, AllocError> {
 }
 
 /// In round 1 each node has one message to send, its list to the owner; after that its first Receive ends the
-/// round. So two steps of each lead to round 2 in whatever order the threads run.
+/// round. So two steps of each lead to round 2 in any order of the threads.
 #[test]
 fn a_full_row_of_nodes_runs(rt: HostRuntime) -> Result<(), Fail> {
     let alloc = rt.alloc();
@@ -124,7 +124,7 @@ fn a_full_row_of_nodes_runs(rt: HostRuntime) -> Result<(), Fail> {
     Ok(())
 }
 
-/// Whichever thread is held, the first or the last, the run tells of it.
+/// The run reports the thread that is held, the first or the last.
 #[test]
 fn a_thread_is_held(rt: HostRuntime) -> Result<(), Fail> {
     for held in [1, 2] {
@@ -155,7 +155,7 @@ fn two_nodes(alloc: Global) -> Option<Config>
     Config::new(2, 0, init).ok()
 }
 
-/// Runs two nodes of so many steps each, followed for both, whose follower tells to `errors`.
+/// Runs two nodes of so many steps each, followed for both, whose follower prints to `errors`.
 fn run_followed<R: Threads + Wait + Clock + Sync>(
     rt: &R,
     alloc: Global,
@@ -182,7 +182,7 @@ fn run_followed<R: Threads + Wait + Clock + Sync>(
     )
 }
 
-/// How many steps each node makes, and how the line begins that is told at the end.
+/// How many steps each node makes, and how the last line begins.
 const FOLLOWED: &[(u64, &str)] = &[
     (0, "synchrony: tick 0: no steps"),
     (4, "synchrony: tick 8: delta "),

@@ -1,4 +1,4 @@
-//! How traces stand, and the lines that tell it.
+//! The bounds of traces, and their lines.
 
 use node_runs::{standing_of, tell_standing};
 use std::alloc::Global;
@@ -9,7 +9,7 @@ use test_support::traces::ticked;
 use trace_text::Counting;
 use trace_text::failing_devices::{FailingWriter, WriteFailure};
 
-/// What is told behind each of the lines.
+/// What is printed behind each of the lines.
 const NEWS: &str = "news\n";
 
 /// The ticks in which processor 2 steps, the last tick, and the line for processor 2.
@@ -36,7 +36,7 @@ const LINES: &[(&[(u64, u64, u64, &[u64])], u64, &str)] = &[
     ),
 ];
 
-/// Whether this line is told of the trace of these steps.
+/// Whether this line is printed for the trace of these steps.
 fn is_told(
     alloc: Global,
     steps: &[(u64, u64, u64, &[u64])],

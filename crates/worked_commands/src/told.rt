@@ -164,7 +164,7 @@ const NOT_TWICE: &str =
 
 const HALF_WITNESS: &str = "certificate: row 1: half a witness";
 
-/// A command, its trace text, its status, and what its line tells of the fault.
+/// A command, its trace text, its status, and its line for the fault.
 const REFUSED: &[(Command, &str, u8, &str)] = &[
     (Report("3"), REDELIVERED, 3, RECEIVED),
     (Report("3"), ONE_MISS, 2, NO_PROCESSOR),

@@ -244,7 +244,7 @@ fn told(why: &LogError) -> Option<(u64, Option<Hint>)> {
     }
 }
 
-/// What is told of a log that may be spread or not, if it is refused.
+/// The refusal of a log that may be spread or not, if it is refused.
 fn refusal(alloc: Global, text: &str, spread: bool) -> Option<(u64, Option<Hint>)> {
     match import(alloc, text, &(None, None, None, spread, false)) {
         Ok(_) => None,

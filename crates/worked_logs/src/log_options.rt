@@ -1,4 +1,4 @@
-//! Options as texts tell them.
+//! Options given as texts.
 
 use event_log::{LogEnd, OptionError, Options, TimeUnit, Width, read_options};
 use std::alloc::{AllocError, Global};
@@ -164,7 +164,7 @@ fn is_stamp(until: Option<LogEnd>, due: i128) -> bool {
     }
 }
 
-/// Whether all options are as they are given below.
+/// Whether all options have the values given below.
 fn are_all_given(options: &Options) -> bool {
     let is_wait = match options.idle {
         Some(idle) => is_in_nanoseconds(idle, 20_000_000),

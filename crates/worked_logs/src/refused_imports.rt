@@ -13,7 +13,7 @@ type Refused = (
     Option<Hint>,
 );
 
-/// Logs that are refused for their times. Where two reasons stand, the first decides.
+/// Logs that are refused for their times. If two reasons hold, the first decides.
 const TIMES: &[Refused] = &[
     (
         "10,a,send,b,m\n",

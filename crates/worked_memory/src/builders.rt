@@ -10,7 +10,7 @@ use std::alloc::{AllocError, Global};
 use step_trace::Miss;
 use suffix_staircase::{Level, StairBuilder};
 
-/// Puts a level before those so far, and puts it again where there was no memory for it; says whether there was none.
+/// Puts a level before those so far, and puts it again if out of memory; answers whether it was.
 fn put(builder: &mut StairBuilder, level: Level) -> Result<bool, AllocError>
     requires room { length builder.old < MAX_TICKS }
     requires falling { CanStandBefore level builder.old }

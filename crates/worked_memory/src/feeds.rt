@@ -116,7 +116,7 @@ const FEEDS: &[(&str, Next)] = &[
     (OTHER, Next::Differs),
 ];
 
-/// The first growth of which the outcome was wrong, if there was one.
+/// The first allocation with a wrong outcome, if there was one.
 fn first_wrong_feed(alloc: Global, text: &str, comes: Next) -> Option<usize> {
     match (trace_of(alloc, FIRST_TWO), trace_of(alloc, text)) {
         (Ok(two), Ok(next)) => first_wrong(alloc, &mut Feed { two, next, comes }),
@@ -144,7 +144,7 @@ fn are_stairs_of(alloc: Global, stairs: &Stairs, trace: &Trace) -> bool {
     }
 }
 
-/// Whether the analyst follows this trace, and tells its stairs.
+/// Whether the analyst follows this trace, and answers its stairs.
 fn stands(alloc: Global, analyst: &mut Analyst, trace: &Trace) -> bool {
     match analyst.stairs(alloc) {
         Ok(stairs) => are_equal(analyst.seen(), trace) && are_stairs_of(alloc, &stairs, trace),

@@ -22,7 +22,7 @@ pub(crate) fn piece_of(
     Piece::of(alloc, trace, both(), from, to)
 }
 
-/// Whether two pieces that were handed back for want of memory join to the whole one.
+/// Whether two pieces that were handed back because out of memory join to the whole one.
 fn is_handed_back(alloc: Global, refused: JoinRefused<Piece>) -> bool {
     let is_memory = refused.why == Why::Memory;
     match refused.left.join(refused.right) {
@@ -60,7 +60,7 @@ impl Call for JoinAt {
     }
 }
 
-/// The first growth of which the outcome was wrong, if there was one.
+/// The first allocation with a wrong outcome, if there was one.
 fn first_wrong_cut(alloc: Global, cut: u64) -> Option<usize> {
     match trace_of(alloc, NEVER_DELIVERED) {
         Ok(trace) => first_wrong(alloc, &mut JoinAt { trace, cut }),
@@ -126,7 +126,7 @@ impl Call for JoinEach {
     }
 }
 
-/// The first growth of which the outcome was wrong, if there was one.
+/// The first allocation with a wrong outcome, if there was one.
 fn first_wrong_of_five(alloc: Global) -> Option<usize> {
     match trace_of(alloc, NEVER_DELIVERED) {
         Ok(trace) => first_wrong(alloc, &mut JoinEach { trace }),

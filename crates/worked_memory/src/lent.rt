@@ -8,7 +8,7 @@ use test_support::traces::are_equal;
 
 /// A call that is lent a trace.
 pub(crate) trait TraceCall: Copy {
-    /// Whether its answer is the right one. Fails where the answer is want of memory.
+    /// Whether its answer is the right one. Fails if the answer is out of memory.
     fn is_right(self, alloc: Global, trace: &Trace) -> Result<bool, AllocError>;
 }
 
@@ -30,7 +30,7 @@ impl<C: TraceCall> LentCall for Lent<'_, C> {
     }
 }
 
-/// The first of these calls and of its growths of which the outcome was wrong, if there was one.
+/// The first of these calls and of its allocations with a wrong outcome, if there was one.
 pub(crate) fn first_wrong_of<C: TraceCall>(
     alloc: Global,
     trace: &Trace,

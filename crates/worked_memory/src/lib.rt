@@ -1,6 +1,6 @@
-//! Want of memory in traces, their texts and the analyser: each call is made again and again, with its first growth of
-//! memory refused, then its second, and so on. `tests/memory` runs these tests with a library that refuses; without it
-//! each call is made once, with ample memory.
+//! Out of memory in traces, their texts and the analyser: each call is made again and again, with its first allocation
+//! refused, then its second, and so on. `tests/memory` runs these tests with a library that refuses; without it each
+//! call is made once, with ample memory.
 #![tactic(auto)]
 
 #[cfg(test)]

@@ -76,7 +76,7 @@ pub(crate) const PUSHES: &[(u64, u64)] = &[
     (256, 257),
 ];
 
-/// The first growth of which the outcome was wrong, if there was one.
+/// The first allocation with a wrong outcome, if there was one.
 fn first_wrong_push(alloc: Global, count: u64, tick: u64) -> Option<usize> {
     match silence(alloc, count) {
         Some(trace) => first_wrong(alloc, &mut Push { trace, tick }),

@@ -12,7 +12,7 @@ use trace_text::{Counting, TextError};
 /// So many that the trace has several pages of them.
 const STEPS: u64 = 900;
 
-/// More growths than they make.
+/// More allocations than they make.
 const MOST_GROWTHS: usize = 10_000;
 
 /// So many blank lines that the text is longer than a part.
@@ -76,7 +76,7 @@ fn answer<R: Threads + Sync>(
     }
 }
 
-/// Whether the trace of the text is read. Fails where the answer is want of memory.
+/// Whether the trace of the text is read. Fails if the answer is out of memory.
 fn is_read<R: Threads + Sync>(
     rt: &R,
     alloc: Global,
@@ -90,12 +90,12 @@ fn is_read<R: Threads + Sync>(
     }
 }
 
-/// What became of a reading in which a growth was to be refused.
+/// What became of a reading in which an allocation was to be refused.
 #[derive(Clone, Copy)]
 enum Outcome {
-    /// It ended without that growth.
+    /// It ended without that allocation.
     Read,
-    /// It answered want of memory, and the text was read afterwards.
+    /// It answered out of memory, and the text was read afterwards.
     Refused,
     /// The text was read without it: a thread wasn't started, and from its piece on the text was read by this one.
     ReadAlone,
@@ -121,7 +121,7 @@ fn read_with<R: Threads + Sync>(
     }
 }
 
-/// The first growth among these of which the outcome was wrong, if there was one. If growths are refused, the text is
+/// The first allocation among these with a wrong outcome, if there was one. If allocations are refused, the text is
 /// read all the same without exactly so many of them, each alone.
 fn first_wrong<R: Threads + Sync>(
     rt: &R,
@@ -144,9 +144,9 @@ fn first_wrong<R: Threads + Sync>(
     Some(MOST_GROWTHS)
 }
 
-/// How many blank lines the text has that other threads read, whose growths are refused, and without how many of them the
-/// text is read all the same: one for each thread that is started. This thread makes the same growths in each turn. What
-/// the others do between two of them differs, so their growths are counted apart.
+/// How many blank lines the text has; which threads' allocations are refused; without how many of them the text is read
+/// all the same: one for each thread that is started. This thread makes the same allocations in each reading. The
+/// number that the others make varies, so they are counted apart.
 const READ_BY_THREADS: &[(usize, Whose, usize)] = &[
     (BLANK_LINES_OF_A_PIECE, Whose::Own, 1),
     (BLANK_LINES_OF_A_PIECE, Whose::Others, 0),

@@ -38,7 +38,7 @@ pub(crate) fn is_part(alloc: Global, trace: &Trace) -> Result<bool, AllocError> 
     }
 }
 
-/// Whether the stairs of never-delivered are found, and then its report, for which they stay as they are.
+/// Whether the stairs of never-delivered are found, and then its report, for which they are unchanged.
 pub(crate) fn is_reported(alloc: Global, trace: &Trace) -> Result<bool, AllocError> {
     let stairs = stairs_of(alloc, trace)?;
     let answer = is_report(alloc, &stairs);

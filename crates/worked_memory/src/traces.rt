@@ -163,7 +163,7 @@ fn looks_at_a_step(rt: HostRuntime) {
 
 const COPY: &[(&str, Look)] = &[("Trace::copy", Look::Copy)];
 
-/// The first growth of a copy of so many steps of which the outcome was wrong, if there was one.
+/// The first allocation of a copy of so many steps with a wrong outcome, if there was one.
 fn first_wrong_copy(alloc: Global, count: u64) -> Option<(&'static str, usize)> {
     match silence(alloc, count) {
         Some(trace) => first_wrong_of(alloc, &trace, COPY),

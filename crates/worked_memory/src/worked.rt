@@ -8,7 +8,7 @@ use trace_text::{TextError, read_trace};
 pub(crate) const TAKEN_TOGETHER: &str =
     "dls-trace,1,2,0\ninit,5,7\n1,1,S,2\n2,1,S,2\n3,2,R,1 2\nend,3\n";
 
-/// The trace that a text stands for.
+/// The trace that a text encodes.
 pub(crate) fn trace_of(alloc: Global, text: &str) -> Result<Trace, TextError> {
     read_trace(alloc, text.as_bytes())
 }

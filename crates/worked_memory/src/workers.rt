@@ -57,10 +57,10 @@ fn found<R: Threads + Wait + Sync>(
     )
 }
 
-/// More growths than so many workers make.
+/// More allocations than so many workers make.
 const MOST_GROWTHS: usize = 1_000;
 
-/// The first growth of which the outcome was wrong, if there was one.
+/// The first allocation with a wrong outcome, if there was one.
 fn first_wrong<R: Threads + Wait + Sync>(rt: &R, alloc: Global, workers: u64) -> Option<usize> {
     let Ok(trace) = trace_of(alloc, NEVER_DELIVERED) else {
         return Some(0);
@@ -83,7 +83,8 @@ fn workers_find_stairs(rt: HostRuntime) {
     }
 }
 
-/// The first growth of the other threads that changes what is told, if there is one, where worker 1 of three is held.
+/// The first allocation of the other threads that changes the reported cause, if there is one, with worker 1 of three
+/// held.
 fn first_untold<R: Threads + Wait + Sync>(rt: &R, alloc: Global) -> Option<usize> {
     let Ok(trace) = trace_of(alloc, NEVER_DELIVERED) else {
         return Some(0);
@@ -103,7 +104,7 @@ fn first_untold<R: Threads + Wait + Sync>(rt: &R, alloc: Global) -> Option<usize
     Some(MOST_GROWTHS)
 }
 
-/// Of a worker that is held and one that is out of memory, the first is told.
+/// Of a worker that is held and one that is out of memory, the first is reported.
 #[test]
 fn a_held_worker_is_told_before_one_out_of_memory(rt: HostRuntime) {
     let wrong = first_untold(&rt, rt.alloc());

@@ -8,7 +8,7 @@ use std::alloc::Global;
 pub enum Answer {
     /// What it answers with ample memory.
     Right,
-    /// Want of memory.
+    /// Out of memory.
     Memory,
     /// Anything else.
     Wrong,
@@ -19,7 +19,7 @@ pub trait Lent: Drop {
     /// Makes the call.
     fn make(&mut self, alloc: Global) -> Answer;
 
-    /// Whether all is as it was before the call.
+    /// Whether all is unchanged since before the call.
     fn is_as_before(&self, alloc: Global) -> bool;
 
     /// Whether all is as the call makes it.
@@ -63,8 +63,8 @@ fn outcome<L: Lent>(alloc: Global, refusal: Refusal, lent: &mut L) -> Outcome {
     }
 }
 
-/// Makes the call with each growth refused in turn, until none is. Gives the number of the first growth of which the
-/// outcome was wrong, if there was one.
+/// Makes the call with each allocation refused, one at a time, until none is. Gives the number of the first
+/// allocation with a wrong outcome, if there was one.
 pub fn first_wrong_change<C: Change>(alloc: Global, change: &C) -> Option<usize> {
     first_wrong(alloc, &mut Swept { change })
 }

@@ -19,8 +19,8 @@ enum Given {
     Text(&'static str),
     /// A refusal in words that begin so.
     Refused(&'static str),
-    /// A refusal in these words, by a reader that looks for names like an unknown one. Where a growth is refused while
-    /// it looks, it may do with less, and has the same words.
+    /// A refusal in these words, by a reader that looks for names like an unknown one. If an allocation fails while it
+    /// looks, it may do with less, and has the same words.
     Unknown(&'static str),
 }
 
@@ -61,7 +61,7 @@ fn is_refusal(words: &str, given: Given) -> bool {
     }
 }
 
-/// Whether these words give that. Fails where the answer is want of memory.
+/// Whether these words give that. Fails if the answer is out of memory.
 fn gives(alloc: Global, words: Vec<String>, given: Given) -> Result<bool, AllocError> {
     match read_command(alloc, words) {
         Ok(job) => Ok(is_job(&job, given)),

@@ -43,10 +43,10 @@ const NEVER_SENT: &str = "time,node,event,to,message\n10,a,send,b,m1\n13,b,recei
 /// Room for more than any command writes here, so that an output never grows.
 const ROOM: usize = 40_000;
 
-/// More growths than any command makes here.
+/// More allocations than any command makes here.
 const MOST_GROWTHS: usize = 1_000;
 
-/// A command, and what it is given beside its trace text. Processors 1 and 2 are correct.
+/// A command, and its inputs besides its trace text. Processors 1 and 2 are correct.
 #[derive(Clone, Copy)]
 enum Command {
     /// By so many workers.
@@ -60,7 +60,7 @@ enum Command {
     Check(&'static str),
     Draw,
     Page,
-    /// Of a log, whose nodes are listed so, or which tells its nodes; with events that may be spread, or without; and
+    /// Of a log, whose nodes are listed so, or which names its nodes; with events that may be spread, or without; and
     /// what is written of it.
     Import(Option<&'static str>, bool, ImportForm),
 }
@@ -160,8 +160,8 @@ fn ended<T: Threads + Wait + Sync>(
     }
 }
 
-/// Whether a command writes what it should. Fails where it ends with want of memory, or where it starts threads with
-/// one that wasn't started, which takes memory too.
+/// Whether a command writes what it should. Fails if it ends out of memory, or if it starts threads and one wasn't
+/// started, which takes memory too.
 fn writes<T: Threads + Wait + Sync>(
     rt: &T,
     alloc: Global,
@@ -196,7 +196,7 @@ fn attempt<T: Threads + Wait + Sync>(
     judged(was_refused, answer == Ok(true), again)
 }
 
-/// The first growth of which the outcome was wrong, if there was one. It is no `Call`, whose implementors can't start
+/// The first allocation with a wrong outcome, if there was one. It is no `Call`, whose implementors can't start
 /// threads.
 fn first_wrong<T: Threads + Wait + Sync>(rt: &T, alloc: Global, served: Served) -> Option<usize> {
     for growth in 1..MOST_GROWTHS {

@@ -1,7 +1,8 @@
-//! Want of memory in the commands, and in runs of Algorithm 1 (section 3 of Dwork, Lynch and Stockmeyer, "Consensus in the
-//! Presence of Partial Synchrony", 1988): each command, each call of nodes, tables, Worlds and recorders, and each run of
-//! all of them on threads is made again and again, with its first growth of memory refused, then its second, and so on.
-//! The refusals come from a library that `tests/memory` loads; without it each call is made once, with ample memory.
+//! Out of memory in the commands, and in runs of Algorithm 1 (section 3 of Dwork, Lynch and Stockmeyer, "Consensus in
+//! the Presence of Partial Synchrony", 1988). Each command, each call of nodes, tables, Worlds and recorders, and each
+//! run of all of them on threads is made again and again: with its first allocation refused, then its second, and so
+//! on. The refusals come from a library that `tests/memory` loads; without it each call is made once, with ample
+//! memory.
 #![tactic(auto)]
 
 #[cfg(test)]

@@ -86,7 +86,7 @@ impl<R: Wait> Lent for Records<'_, R> {
     }
 }
 
-/// The first row of a script and the growth of its step at which something goes wrong.
+/// The first row of a script and the allocation of its step at which something goes wrong.
 fn first_wrong_row<R: Wait>(
     rt: &R,
     alloc: Global,

@@ -1,5 +1,5 @@
-//! Runs on threads, followed and not. Which growth is the n-th isn't fixed where threads race, so the judge is right for
-//! each order.
+//! Runs on threads, followed and not. Which allocation is the n-th isn't fixed when threads race, so the judge is right
+//! for each order.
 
 ghost use Rattle.std.specs.Prelude.{◌≡◌, IfSome};
 
@@ -17,7 +17,7 @@ use trace_text::Counting;
 /// Room for more than a run or its follower writes here, so that an output never grows.
 const ROOM: usize = 10_000;
 
-/// More growths than a run makes here.
+/// More allocations than a run makes here.
 const MOST_GROWTHS: usize = 10_000;
 
 /// How a run ended.
@@ -25,7 +25,7 @@ const MOST_GROWTHS: usize = 10_000;
 enum Ending {
     /// It wrote its trace.
     Made,
-    /// Memory was wanting, or a thread wasn't started, which takes memory too.
+    /// Out of memory, or a thread wasn't started, which takes memory too.
     Wanting,
     /// By any other fault.
     Faulty,
@@ -92,8 +92,7 @@ fn is_whole(alloc: Global, output: &[u8]) -> bool {
     steps_of(alloc, output) == Some(60)
 }
 
-/// Whether the last line that a follower told is of the whole run, or where a growth was refused that there was no
-/// memory for it.
+/// Whether the last line of a follower is on the whole run, or, if an allocation was refused, on out of memory.
 fn has_told(errors: &[u8], was_refused: bool) -> bool {
     match last_line(errors) {
         Some("synchrony: no longer followed: out of memory") => was_refused,
@@ -144,12 +143,12 @@ fn attempt<R: Threads + Wait + Clock + Sync>(
     if !is_followed {
         return judged(was_refused, right && errors.is_empty(), false);
     }
-    // A growth of the follower's may be refused, and then the run is as it would have been.
+    // An allocation of the follower's may be refused, and then the run is the same.
     let told = right && has_told(&errors, was_refused);
     judged(was_refused, told && !was_refused, told && was_refused)
 }
 
-/// The first growth of which the outcome was wrong, if there was one. It is no `Call`, whose implementors can't start
+/// The first allocation with a wrong outcome, if there was one. It is no `Call`, whose implementors can't start
 /// threads.
 fn first_wrong<R: Threads + Wait + Clock + Sync>(
     rt: &R,

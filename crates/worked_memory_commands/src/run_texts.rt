@@ -1,4 +1,4 @@
-//! What is written of a run: the text of its trace, and the lines that tell of it.
+//! What is written of a run: the text of its trace, and the lines about it.
 
 use std::alloc::Global;
 use step_buffers::replay;

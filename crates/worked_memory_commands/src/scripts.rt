@@ -160,7 +160,7 @@ pub enum Name {
 
 pub const NAMES: &[Name] = &[Name::Decides, Name::Buffers, Name::Pages];
 
-/// The script of this name. (Its tables stand in this function alone: one that names them takes longer to prove.)
+/// The script of this name. (Its tables are in this function alone: one that names them takes longer to prove.)
 pub fn script_of(name: Name) -> &'static Script {
     match name {
         Name::Decides => &DECIDES,

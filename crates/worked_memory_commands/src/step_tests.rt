@@ -14,7 +14,7 @@ struct WorldStep {
     row: Row,
     /// Whether the World is a copy, in which no list has room to spare.
     is_copy: bool,
-    /// Whether what was done is told.
+    /// Whether the answer includes what was done.
     is_told: bool,
 }
 
@@ -75,7 +75,7 @@ impl Lent for StepsOn {
     }
 }
 
-/// The first row of a script and the growth of its step at which something goes wrong.
+/// The first row of a script and the allocation of its step at which something goes wrong.
 fn first_wrong_row(
     alloc: Global,
     script: &'static Script,

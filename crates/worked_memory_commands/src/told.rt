@@ -1,4 +1,4 @@
-//! The lines in which faults are told, and the texts that they have.
+//! The lines of faults, and their texts.
 
 use command_faults::{
     Fault, FileTrouble, ImportOption, MemberOutside, PictureOption, SetOption, told_line,
@@ -18,7 +18,7 @@ struct Told {
 }
 
 impl Told {
-    /// Whether it is told so, on a line of its own. Fails where there is no memory for the line.
+    /// Whether it is printed so, on a line of its own. Fails if out of memory for the line.
     fn is_right(&self, alloc: Global) -> Result<bool, AllocError> {
         let line = told_line(alloc, &self.fault)?;
         Ok(line.as_str().strip_suffix('\n') == Some(self.wanted))

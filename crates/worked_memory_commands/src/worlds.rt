@@ -1,4 +1,4 @@
-//! Worlds after worked steps, and what they tell.
+//! Worlds after worked steps, and what their getters answer.
 
 use crate::scripts::{MakeSteps, Row, Script, Step, goes_to};
 use lock_phases::Node;
@@ -45,7 +45,7 @@ pub fn is_same_node(one: &Node, other: &Node) -> bool {
         && one.decision() == other.decision()
 }
 
-/// Whether two Worlds tell the same of a processor.
+/// Whether two Worlds answer the same for a processor.
 fn is_same_processor(one: &World, other: &World, p: u64) -> bool {
     if !one.trace().config().is_processor(p) || !other.trace().config().is_processor(p) {
         return false;
@@ -56,7 +56,7 @@ fn is_same_processor(one: &World, other: &World, p: u64) -> bool {
         && is_same_node(one.node(p), other.node(p))
 }
 
-/// Whether two Worlds tell the same.
+/// Whether two Worlds answer the same.
 pub fn is_same_world(one: &World, other: &World) -> bool {
     if one.limit() != other.limit() || !is_same_trace(one.trace(), other.trace()) {
         return false;

@@ -101,7 +101,7 @@ enum Answer {
     Levels(&'static [[u64; 7]]),
     // Stairs of one level.
     Level([u64; 7]),
-    // The first difference, and what stands there.
+    // The first difference, and what is there.
     Differs(u64, Found),
 }
 
@@ -184,7 +184,7 @@ fn prefixes_are_followed(rt: HostRuntime) -> Result<(), Fail> {
 /// Processor 1 steps in tick 1, and there are three ticks.
 const SEEN: Fed = Fed::Steps(2, &[(1, 1, 0, &[])], 3);
 
-/// What differs from that, where, and what stands there.
+/// What differs from that, where, and what is there.
 const DIFFERENCES: &[(Fed, Answer)] = &[
     (SEEN, Answer::Stairs),
     // Another configuration.
@@ -304,7 +304,7 @@ fn pushed_into_open_tick(alloc: Global, analyst: &mut Analyst) -> Result<bool, F
     Ok(fresh && first && passed && before && last && after)
 }
 
-/// What such an analyst refuses, after which it stands as before.
+/// What such an analyst refuses, after which it is unchanged.
 fn are_refused(alloc: Global, analyst: &mut Analyst) -> Result<bool, Fail> {
     let early = analyst.push_at(2, step_of(alloc, 1, 0, &[])?);
     let lower = analyst.push_at(3, step_of(alloc, 1, 0, &[])?);

@@ -43,7 +43,7 @@ fn two_meet(rt: HostRuntime) -> Result<(), Fail> {
     Ok(())
 }
 
-/// How many workers there are, whom the gate holds back, and what is told.
+/// How many workers there are, whom the gate holds back, and what is reported.
 const HELD: &[(u64, u64, Option<AnalyseError>)] = &[
     (1, 1, Some(AnalyseError::Held)),
     (3, 1, Some(AnalyseError::Held)),

@@ -1,4 +1,5 @@
-//! Random traces cut into random parts, whose pieces are joined in random order, beside the stairs of the whole.
+//! Random traces cut into random parts, whose pieces are joined in random order, compared with the stairs of the
+//! whole.
 
 use crate::cut_pieces::{are_stairs_of, join_at, piece_of};
 use chunk_join::{Piece, join_all};

@@ -1,4 +1,4 @@
-//! Traces analysed by several workers, beside the stairs of the whole.
+//! Traces analysed by several workers, compared with the stairs of the whole.
 
 ghost use Rattle.step_trace.specs.Processors.{IsWithin};
 

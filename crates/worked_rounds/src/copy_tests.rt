@@ -28,7 +28,7 @@ fn is_same_node(one: &Node, other: &Node) -> bool {
         && one.decision() == other.decision()
 }
 
-/// Whether two Worlds tell the same of a processor.
+/// Whether two Worlds answer the same for a processor.
 fn is_same_processor(rt: &impl Abort, one: &World, other: &World, p: u64) -> bool {
     assert!(rt; one.trace().config().is_processor(p));
     assert!(rt; other.trace().config().is_processor(p));
@@ -38,7 +38,7 @@ fn is_same_processor(rt: &impl Abort, one: &World, other: &World, p: u64) -> boo
         && is_same_node(one.node(p), other.node(p))
 }
 
-/// Whether two Worlds tell the same decision of a processor in each round that it has reached.
+/// Whether two Worlds answer the same decision of a processor in each round that it has reached.
 fn has_same_decisions(rt: &impl Abort, one: &World, other: &World, p: u64) -> bool {
     assert!(rt; one.trace().config().is_processor(p));
     assert!(rt; other.trace().config().is_processor(p));
@@ -54,7 +54,7 @@ fn has_same_decisions(rt: &impl Abort, one: &World, other: &World, p: u64) -> bo
     true
 }
 
-/// Whether the copy of a World of three processors is equal in all that a World tells.
+/// Whether the copy of a World of three processors is equal in all that a World answers.
 fn is_world_copied(rt: &impl Abort, alloc: Global, world: &World) -> Result<bool, AllocError> {
     let copy = world.copy(alloc)?;
     if copy.limit() != world.limit() || !is_same_trace(copy.trace(), world.trace()) {

@@ -43,7 +43,7 @@ fn shows_last<R: Wait>(rt: &R, alloc: Global, recorder: &Recorder, seat: &Seat) 
     }
 }
 
-/// Passes three rounds. All have sent before any ends a round; each comes to the barrier whatever happened.
+/// Passes three rounds. All have sent before any ends a round; each comes to the barrier in every case.
 fn passes<R: Wait>(
     rt: &R,
     alloc: Global,

@@ -1,4 +1,4 @@
-//! Recorders of the greatest size: no clause refuses a body that gives up past a size for want of memory.
+//! Recorders of the greatest size: no clause refuses a function that always fails out of memory past a size.
 
 use crate::seats::{is_audited, opened, waits};
 use locked_recorder::{Recorder, Seat};

@@ -8,7 +8,7 @@ use std::test::Fail;
 use step_buffers::{Due, DueStep, Move, ReplayError, StepError, replay};
 use step_trace::{Act, MAX_STEPS, MessageIds, Step, Trace};
 
-/// Whether a World makes all steps of a trace, and its processors then stand so.
+/// Whether a World makes all steps of a trace, and its processors then have these states.
 fn replays(rt: &impl Abort, alloc: Global, trace: &Trace, rows: &[Stand]) -> bool {
     match replay(alloc, trace) {
         Ok(world) => world.trace().len() == trace.len() && all_stand(rt, &world, rows),
@@ -41,7 +41,7 @@ fn is_off_after(
     Ok(is_off_at(alloc, &trace, steps as u64 + 1, due))
 }
 
-/// A run: how many may be faulty and the initial values, its steps, and how its processors then stand.
+/// A run: how many may be faulty and the initial values, its steps, and the states of its processors after it.
 type Run = (
     u64,
     &'static [u64],
@@ -161,7 +161,7 @@ fn is_full(alloc: Global, trace: &Trace) -> bool {
     }
 }
 
-/// No clause refuses a replay or a copy that gives up past a size for want of memory: these are of the greatest.
+/// No clause refuses a replay or a copy that always fails out of memory past a size: these are of the greatest.
 #[test]
 fn the_longest_trace_is_made_again(rt: HostRuntime) -> Result<(), Fail> {
     let alloc = rt.alloc();

@@ -31,8 +31,8 @@ const EARLY: [Row; 13] = [
 
 const EARLY_HEARD: [Row; 1] = [(1, E, 0, [0; 3])];
 
-/// A run: how many may be faulty and the initial values, its steps, how its processors then stand, and what the nodes
-/// of some of them then hold: the proper values, and of each its locks.
+/// A run: how many may be faulty and the initial values, its steps, the states of its processors after it, and what
+/// the nodes of some of them then hold: the proper values, and of each its locks.
 type Run = (
     u64,
     &'static [u64],

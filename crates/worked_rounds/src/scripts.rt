@@ -1,4 +1,5 @@
-//! Lists of steps, how a World makes them or a trace records them, and how a World's processors stand afterwards.
+//! Lists of steps, how a World makes them or a trace records them, and the states of a World's processors
+//! afterwards.
 
 use std::alloc::{AllocError, Global};
 use std::process::Abort;
@@ -17,7 +18,7 @@ pub const E: u64 = 2;
 /// recorded has its destination in their place.
 pub type Row = (u64, u64, usize, [u64; 3]);
 
-/// How a processor stands: in this round, with this decision.
+/// The state of a processor: its round and its decision.
 pub type Stand = (u64, u64, Option<u64>);
 
 /// The World of this configuration, which may make a hundred steps.
@@ -27,7 +28,7 @@ pub fn world(alloc: Global, t: u64, init: &[u64]) -> Result<World, Fail> {
     Ok(World::new(alloc, config, 100)?)
 }
 
-/// What a row tells its processor to do.
+/// The move of a row's processor.
 fn move_of<'a>(rt: &impl Abort, row: &'a Row) -> Move<'a> {
     let (_, does, count, ids) = row;
     assert!(rt; *count <= 3);
@@ -128,7 +129,7 @@ pub fn copy_holds(
     Ok(makes(rt, alloc, &mut copy, rows) && holds(rt, &copy, p, proper, &[]))
 }
 
-/// Whether each of these processors stands so.
+/// Whether each of these processors has this state.
 pub fn all_stand(rt: &impl Abort, world: &World, rows: &[Stand]) -> bool {
     for (p, round, decision) in rows {
         assert!(rt; world.trace().config().is_processor(*p));

@@ -64,7 +64,7 @@ fn recorder_makes<R: Wait>(rt: &R, alloc: Global, recorder: &Recorder, seat: &mu
     true
 }
 
-/// No clause says of `Recorder::step` what the seat is afterwards: this refuses one that steps twice and lends the
+/// No clause says what the seat of `Recorder::step` is afterwards: this refuses one that steps twice and lends the
 /// second answer, and one that forgets what the seat did before.
 #[test]
 fn each_step_is_made_once(rt: HostRuntime) -> Result<(), Fail> {

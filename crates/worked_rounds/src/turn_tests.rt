@@ -55,7 +55,7 @@ fn common_decision(rt: &impl Abort, world: &World, live: &[u64]) -> Option<u64> 
     common
 }
 
-/// After how many steps in turns all of these have decided, and what.
+/// After how many alternating steps all of these have decided, and what.
 fn decided(
     rt: &impl Abort,
     alloc: Global,

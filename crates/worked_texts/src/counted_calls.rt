@@ -1,5 +1,5 @@
-//! That `Counting`, `read_all` and `write_text` pass each call on to the device once, as it is. A
-//! contract over any `Read` or `Write` sees the bytes and not the calls, so the devices count them.
+//! `Counting`, `read_all` and `write_text` pass each call on to the device once, unchanged. A contract
+//! over any `Read` or `Write` sees the bytes and not the calls, so the devices count them.
 
 use std::alloc::Global;
 use std::io::{ErrorKind, Read, Write};

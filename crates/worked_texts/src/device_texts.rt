@@ -1,4 +1,4 @@
-//! Texts that are read from a device part by part: each is told of as a text that is read whole.
+//! Texts that are read from a device part by part: each has the answer of a text that is read whole.
 
 use crate::shared_texts::{LONG, Row, text_of, told};
 use shared_reading::read_trace_from;
@@ -131,7 +131,7 @@ fn is_told<R: Threads + Sync>(
     Ok(found.as_str() == wanted)
 }
 
-/// The first number of workers and size of pieces with which a text is told of otherwise, if there are some.
+/// The first number of workers and size of pieces with which a text has another answer, if there are some.
 fn first_wrong<R: Threads + Sync>(
     rt: &R,
     alloc: Global,

@@ -1,4 +1,4 @@
-//! Worked examples of trace texts, of reports, of the loops over bytes, and of what is told of runs: their stories, their
+//! Worked examples of trace texts, of reports, of the loops over bytes, and of reports about runs: their stories, their
 //! pictures, and verdicts on claims about them. These are tests of the crates below, by their public items.
 #![tactic(auto)]
 

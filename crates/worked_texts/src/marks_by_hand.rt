@@ -192,7 +192,7 @@ fn begin_at(rows: &[Row], wanted: &[u64]) -> bool {
     rows.len() == wanted.len() && rows.iter().zip(wanted).all(|(row, w)| row.gst == *w)
 }
 
-/// The first kind of marks that a picture doesn't show as it is wanted.
+/// The first kind of marks in which a picture differs from what is wanted.
 fn difference(picture: &Picture, wanted: &Case) -> Option<&'static str> {
     if picture.steps.as_slice() != wanted.steps {
         return Some("steps");

@@ -1,4 +1,4 @@
-//! Texts of which several threads read pieces: each is told of as one thread that reads alone tells of it.
+//! Texts of which several threads read pieces: each has the answer of one thread that reads alone.
 
 use shared_reading::read_trace_from;
 use std::alloc::{AllocError, Global};
@@ -10,23 +10,23 @@ use trace_text::{Counting, TextError, read_trace};
 
 const WORKERS: [u64; 6] = [0, 1, 2, 3, 7, 64];
 
-/// A text in which 1 sends a message and 2 takes it, in turns.
+/// A text in which 1 sends a message and 2 takes it, alternately.
 #[derive(Clone, Copy)]
 pub(crate) struct Row {
     /// In version 2 the tick of each step is its number.
     pub(crate) version: u64,
     pub(crate) steps: u64,
-    /// What stands before it all.
+    /// What comes before it all.
     pub(crate) start: &'static str,
-    /// What stands in the place of the record of one step, by its number.
+    /// What replaces the record of one step, by its number.
     pub(crate) odd: (u64, &'static str),
-    /// What stands after the steps.
+    /// What comes after the steps.
     pub(crate) end: &'static str,
     pub(crate) told: &'static str,
 }
 
-/// With which all is told. The first 5,000 steps, about, are read before any piece, and the others as two pieces, of which
-/// the second begins with step 14,000, about.
+/// A text in the usual form. About the first 5,000 steps are read before any piece, and the others as two pieces, of
+/// which the second begins at about step 14,000.
 const USUAL: Row = Row {
     version: 1,
     steps: 20_000,
@@ -117,7 +117,7 @@ const ROWS: &[Row] = &[
     },
 ];
 
-/// The record of a step, by its number, and what is told.
+/// The record of a step, by its number, and the answer.
 const ODD: &[(u64, &str, &str)] = &[
     (15_001, "15001,1,S,2\r\n\n\n", "20000 steps"),
     (15_001, "\"15001\",1,S,2\n", "20000 steps"),
@@ -162,7 +162,7 @@ const ODD: &[(u64, &str, &str)] = &[
     // (the last step of a page, and the first of the next)
     (15_104, "15104,4,S,2\n", "BadStep(15104, BadProc)"),
     (15_105, "15105,4,S,2\n", "BadStep(15105, BadProc)"),
-    // (numbers that are left out, or told again)
+    // (numbers that are left out, or repeated)
     (15_001, "", "WrongNumber(15001)"),
     (15_105, "", "WrongNumber(15105)"),
     (15_105, "15106,1,S,2\n", "WrongNumber(15105)"),
@@ -241,7 +241,7 @@ fn is_told<R: Threads + Sync>(
     Ok(found.as_str() == wanted)
 }
 
-/// The first number of workers that tells of a text otherwise, if there is one.
+/// The first number of workers with another answer for a text, if there is one.
 fn first_wrong<R: Threads + Sync>(
     rt: &R,
     alloc: Global,

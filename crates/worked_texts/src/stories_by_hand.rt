@@ -1,4 +1,4 @@
-//! What is told of small traces, worked out by hand.
+//! The stories of small traces, worked out by hand.
 
 ghost use Rattle.step_trace.specs.Fronts.{IsReport};
 ghost use Rattle.step_trace.specs.Processors.{IsWithin};
@@ -54,7 +54,7 @@ type StallCase = (u64, u64, u64, usize, usize);
 /// last one.
 type DelayCase = ((u64, u64), u64, (usize, usize), usize, u64);
 
-/// What is told of a trace.
+/// The story of a trace.
 struct Case {
     text: &'static str,
     list: &'static str,
@@ -317,7 +317,7 @@ fn same_lists(alloc: Global, trace: &Trace, rows: &[Row], case: &Case) -> Result
     Ok(same_evidence(&list, case) && same_rows(alloc, rows.len(), &list, case)?)
 }
 
-/// The first kind of thing that a case tells otherwise, of the rows of its report.
+/// The first kind of thing that differs in a case, for the rows of its report.
 fn difference(
     alloc: Global,
     trace: &Trace,

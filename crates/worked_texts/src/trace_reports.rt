@@ -106,7 +106,7 @@ fn reports_of_traces(rt: HostRuntime) -> Result<(), Fail> {
     Ok(())
 }
 
-/// The stabilization time of the row that serves g, or 0 if none does.
+/// The stabilization time of the row that applies to g, or 0 if none does.
 fn served_from(report: &Report, g: u64) -> u64 {
     match report.at(g) {
         Some(row) => row.gst,
@@ -141,7 +141,7 @@ fn steps_of_one(alloc: Global, steps: u64) -> Result<String, AllocError> {
     Ok(text)
 }
 
-/// Whether the row that serves g begins there and tells of the silence of processor 2 up to 100,000.
+/// Whether the row that applies to g begins there and names the silence of processor 2 up to 100,000.
 fn tells_of_silence(report: &Report, g: u64, phi: u64) -> bool {
     let gap = Gap {
         proc: 2,

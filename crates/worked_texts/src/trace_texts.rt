@@ -1,4 +1,4 @@
-//! Trace texts: those that stand for a trace, and the refusals of others.
+//! Trace texts: those that encode a trace, and the refusals of others.
 
 use std::alloc::{AllocError, Global};
 use std::test::Fail;
@@ -40,7 +40,7 @@ fn is_receive(trace: &Trace, no: u64, proc: u64, ids: &[u64]) -> bool {
     }
 }
 
-/// Whether the text stands for one-miss: its configuration and its three steps.
+/// Whether the text encodes one-miss: its configuration and its three steps.
 fn is_one_miss(alloc: Global, text: &[u8]) -> Result<bool, Fail> {
     let trace = read_trace(alloc, text)?;
     let config = trace.config();
@@ -62,7 +62,7 @@ pub(crate) fn empty_receives(alloc: Global, steps: u64) -> Result<String, AllocE
     Ok(text)
 }
 
-/// Texts that stand for one-miss.
+/// Texts that encode one-miss.
 pub(crate) const FORMS_OF_ONE_MISS: &[&str] = &[
     ONE_MISS,
     "dls-trace,1,2,0\r\ninit,5,7\r\n1,1,S,2\r\n2,2,R,\r\n3,2,R,1\r\nend,3\r\n",

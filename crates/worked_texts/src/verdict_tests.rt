@@ -18,8 +18,8 @@ const STEPS: &[(u64, u64, u64, &[u64])] = &[
     (4, 2, 0, &[]),
 ];
 
-/// What a row of the table asks for beside its formula: the tick of the start, whether the bounds of the whole run alone
-/// count, and how many rows have to be due.
+/// What a row of the table asks for besides its formula: the tick of the start, whether the bounds of the whole run
+/// alone count, and how many rows have to be due.
 type Asked = (u64, bool, u64);
 
 /// Up to tick 4 both bounds are 1. Of the whole run the processor bound is 7 from tick 1 on, and then from the ticks 6 to 10

@@ -9,7 +9,7 @@ use test_support::texts::ONE_MISS;
 use trace_text::failing_devices::{FailingWriter, WriteFailure};
 use trace_text::{Counting, TextError, WriteError, read_trace, write_trace};
 
-/// Whether what is written of the trace that a text stands for is this.
+/// Whether this is written for the trace that a text encodes.
 fn is_written_as(alloc: Global, text: &str, wanted: &str) -> Result<bool, Fail> {
     let trace = read_trace(alloc, text.as_bytes())?;
     let mut written = Vec::new(alloc);
@@ -40,7 +40,7 @@ fn forms_of_one_miss(rt: HostRuntime) -> Result<(), Fail> {
     Ok(())
 }
 
-/// Texts that are written as they are.
+/// Texts that are written unchanged.
 const PLAIN_TEXTS: &[&str] = &[
     "dls-trace,1,2,0\ninit,5,18446744073709551615\nend,0\n",
     "dls-trace,1,64,31\ninit,1,2,3,4,5,6,7,8,9,0,1,2,3,4,5,6,7,8,9,0,1,2,3,4,5,6,7,8,9,0,\

@@ -62,7 +62,7 @@ IsLastReceive-one t time q low high (Some r) (Some s) a b = ap₂ (λ (n m : ℕ
   number : r.no ≡ s.no
   number = one_in_tick t time r.no s.no _ _ a.receive.step b.receive.step refl (a.place ∙ tick ∙ sym b.place)
 
--- whether a step is a Receive of q can be told
+-- whether a step is a Receive of q is decidable
 receive_or_not : (steps : List Step) (k q : ℕ) → IsReceiveOf steps k q ⊎ (IsReceiveOf steps k q → ⊥)
 receive_or_not steps k q = look (step_at steps k) refl where
   act : (x : Step) → step_at steps k ≡ Some x → x.proc ≡ q → (a : Act) → x.act ≡ a → IsReceiveOf steps k q ⊎ (IsReceiveOf steps k q → ⊥)

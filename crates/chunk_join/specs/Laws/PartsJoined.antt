@@ -1,12 +1,12 @@
--- What stands for the parts of a trace, with none for the empty part, joins as parts do.
+-- What encodes the parts of a trace, with none for the empty part, joins as parts do.
 use Rattle.std.proofs.Common.{ℕ, ◌≡◌, ◌+◌, ◌<◌, ◌≤◌, Option, Some, None, refl, sym, ap, subst, ◌∙◌, arith, eq-eqb}
 use Rattle.step_trace.specs.Traces.{Recorded}
 use Rattle.chunk_join.specs.Joins.{JoinedLaws}
 use Rattle.chunk_join.specs.Summaries.{Summary, Whole, IsPartBy}
 use Rattle.chunk_join.specs.Parts.{joined_by, refusal}
 
--- Of a part that isn't empty it is one value, which tells its set and its ticks, and two that follow one another give
--- by `both` that of both together.
+-- A part that isn't empty is encoded by one value, which gives its set and its ticks; two adjacent ones give by
+-- `both` the value of both together.
 pub record StandsForParts (Is : ℕ → Recorded → ℕ → ℕ → Summary → Type 0) (both : Summary → Summary → Summary) : Type 0 where
   pub members : (set : ℕ) (t : Recorded) (i j : ℕ) (x : Summary) → Is set t i j x → x.set ≡ set
   pub from : (set : ℕ) (t : Recorded) (i j : ℕ) (x : Summary) → Is set t i j x → x.from ≡ i + 1

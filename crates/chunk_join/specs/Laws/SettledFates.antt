@@ -1,4 +1,4 @@
--- What becomes of a message, after what a list of takes says of it.
+-- What becomes of a message, by a list of takes.
 use Rattle.std.proofs.Common.{ℕ, ◌≡◌, ◌<◌, ◌≤◌, inl, inr, List, true, Option, Some, None, find, Contains, refl, sym, ap, subst, ◌∙◌, arith, ◌==◌, true≢false}
 use Rattle.std.proofs.lemmas.Bool.{cases_lt, eqb-true, and_parts}
 use Rattle.step_trace.specs.declared.steps.Step.{Step}
@@ -55,7 +55,7 @@ pub takes_of-same : (m : Message) (x : Take) → takes_of m x ≡ true → x.sen
 takes_of-same m x e = eqb-true x.sent.no m.sent.no (and_parts (x.sent.no == m.sent.no) (x.sent.tick == m.sent.tick) e).0
 
 -- Of what members take after cut s up to tick j the list has all that was sent as this message is, and with these last
--- Receives each take tells the last miss before it.
+-- Receives each take gives the last miss before it.
 pub record KnowsTakes (set : ℕ) (t : Recorded) (s j : ℕ) (taken : List Take) (last : List (Option Place)) (m : Message) : Type 0 where
   pub sound : (y : Take) → Contains taken y → IsAnyTake set t s y × (y.at.tick ≤ j)
   pub complete : (y : Take) → IsAnyTake set t s y → y.at.tick ≤ j → y.sent.tick ≡ m.sent.tick → Contains taken y
@@ -89,7 +89,7 @@ module _ (set : ℕ) (t : Recorded) (sound : IsTrace t) (i s j : ℕ) (taken : L
       } in
       (y, k.complete y own until refl, takes_of-true m y refl refl)
 
-  -- a take in the list tells its last miss
+  -- a take in the list gives its last miss
   taken_so : (y : Take) → Contains taken y → takes_of m y ≡ true → IsFate t m.sent m.to j (Taken (after m.sent (later_of (last_of last y.by) y.before)))
   taken_so y c e =
       let own = (k.sound y c).0 in

@@ -7,7 +7,7 @@ use Rattle.step_trace.proofs.ListMembers.{Contains-head, Contains-rest, Contains
 use Rattle.chunk_join.specs.Summaries.{Rises}
 use Rattle.chunk_join.specs.Thinning.{weight_of, heaviest, stays, thinned}
 
--- two lists of which as much is kept, also behind whatever
+-- two lists of which as much is kept, with any elements behind them
 pub record AreAlike {X : Type 0} (pending : X → Bool) (weight : X → ℕ) (xs ys : List X) : Type 0 where
   pub top : heaviest pending weight xs ≡ heaviest pending weight ys
   pub kept : thinned pending weight xs ≡ thinned pending weight ys
@@ -147,7 +147,7 @@ heaviest-becomes {X} {Y} pending weight waits heavy becomes (x ∷ xs) keeps =
         let own : heaviest waits heavy (becomes x) ≡ weight x = ap (heaviest waits heavy) s.one ∙ ap (λ (b : Bool). max (cond b 0 (heavy s.is)) 0) s.still ∙ (omega (arith, s.as_heavy)) in
         omega (arith, rest, more, front, own)
 
--- THE LEMMA: what is kept of xs is as good as xs, whatever becomes of its elements and whatever follows.
+-- THE LEMMA: what is kept of xs is as good as xs, for any fate of its elements and any list behind it.
 pub thinned-alike : {X Y : Type 0} (pending : X → Bool) (weight : X → ℕ) (waits : Y → Bool) (heavy : Y → ℕ) (becomes : X → List Y) (xs : List X) (ys : List Y)
     → KeepsSettled pending weight waits heavy becomes xs
     → AreAlike waits heavy (flat_map becomes (thinned pending weight xs) ++ ys) (flat_map becomes xs ++ ys)

@@ -5,7 +5,7 @@ use Rattle.certificate_checker.specs.LongestSilences.{IsLongestSilence, IsTooSho
 use Rattle.certificate_checker.proofs.FailingRows.{FoundAfter}
 use Rattle.certificate_checker.proofs.bounds.first_too_short.Given as goal
 
--- the rows after number k were gone over
+-- the rows after number k are scanned
 abbrev pub invariant-loop-k : goal.invariant-loop-k
 invariant-loop-k l = record {
   end : l.k ≤ length l.rows;

@@ -2,7 +2,7 @@ use Rattle.std.proofs.Common.{◌+◌, ◌-◌, ◌≤◌}
 use Rattle.certificate_checker.specs.LongestWitnesses.{KnowsMissesAfter, AreFrom}
 use Rattle.certificate_checker.proofs.bounds.misses_from.Given as goal
 
--- the messages from number s on were gone over
+-- the messages from number s on are scanned
 abbrev pub invariant-loop-s : goal.invariant-loop-s
 invariant-loop-s l = record {
   low : 1 ≤ l.s;

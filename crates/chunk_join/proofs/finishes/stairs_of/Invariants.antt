@@ -2,7 +2,7 @@ use Rattle.std.proofs.Common.{◌≤◌}
 use Rattle.chunk_join.specs.Finishes.{IsGoneOver}
 use Rattle.chunk_join.proofs.finishes.stairs_of.Given as goal
 
--- the ticks from `next` on were gone over
+-- the ticks from `next` on are scanned
 abbrev pub invariant-loop-next : goal.invariant-loop-next
 invariant-loop-next l = record {
   low : 1 ≤ l.next;

@@ -2,7 +2,7 @@ use Rattle.std.proofs.Common.{ℕ, ◌≡◌, ◌+◌, ◌≤◌, drop, get_or, 
 use Rattle.step_buffers.specs.Letters.{letter_at, said_by, body_from}
 use Rattle.step_buffers.proofs.letters.first_by_sender.Given as goal
 
--- the ids from k on were gone over
+-- the ids from k on are scanned
 abbrev pub invariant-loop-k : goal.invariant-loop-k
 invariant-loop-k l = record {
   long : length l.first.items ≡ l.n + 1;

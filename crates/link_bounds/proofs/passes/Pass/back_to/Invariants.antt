@@ -5,7 +5,7 @@ use Rattle.step_trace.specs.Traces.{step_at}
 use Rattle.link_bounds.specs.Passes.{KnowsAfter}
 use Rattle.link_bounds.proofs.passes.Pass.back_to.Given as goal
 
--- the steps from `no` on were gone over, and are in tick `at` or later
+-- the steps from `no` on are scanned, and are in tick `at` or later
 abbrev pub invariant-loop-no : goal.invariant-loop-no
 invariant-loop-no l = record {
   start : 1 ≤ l.no;

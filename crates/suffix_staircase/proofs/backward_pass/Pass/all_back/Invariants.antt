@@ -3,7 +3,7 @@ use Rattle.step_trace.specs.Ticks.{tick_of}
 use Rattle.suffix_staircase.specs.Analysis.{KnowsTicksFrom}
 use Rattle.suffix_staircase.proofs.backward_pass.Pass.all_back.Given as goal
 
--- the steps from `no` on were gone over, and the ticks after that of the step before, which is `tick`
+-- the steps from `no` on are scanned, and the ticks after that of the step before, which is `tick`
 abbrev pub invariant-loop-no : goal.invariant-loop-no
 invariant-loop-no l = record {
   start : 1 ≤ l.no;

@@ -3,7 +3,7 @@ use Rattle.step_trace.specs.Ticks.{tick_of}
 use Rattle.suffix_staircase.specs.Analysis.{KnowsTicksFrom}
 use Rattle.suffix_staircase.proofs.backward_pass.Pass.ticks_back.Given as goal
 
--- the ticks from `g` on were gone over
+-- the ticks from `g` on are scanned
 abbrev pub invariant-loop-g : goal.invariant-loop-g
 invariant-loop-g l = record {
   low : tick_of l.trace l.done < l.g;
