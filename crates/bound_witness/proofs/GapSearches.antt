@@ -47,7 +47,7 @@ IsNamedGap-found set trace g span p k x start positive from inside next first b 
   ];
 }
 
--- beside a least bound above 1 there is a gap one step shorter
+-- for a least bound above 1 there is a gap one step shorter
 pub NamesGap-found : (set : ℕ) (trace : Recorded) (g f : ℕ) (found : Option Gap) → IsPhi set trace g f → f ≢ 1
     → MatchOption found (PhiHolds set trace g (f - 1)) (IsNamedGap set trace g (f - 1 + 1))
     → NamesGap set trace g f found

@@ -17,7 +17,7 @@ use Rattle.bound_witness.specs.WitnessSearches.{IsMissOf, HasNoMissOf, SentHasNo
 pub record NoMissFrom (set : ℕ) (trace : Recorded) (g span s : ℕ) : Type 0 where
   pub none : (o : Miss) → IsMissOf set trace g span o → s ≤ o.sent → ⊥
 
--- before these messages, a miss of message k is the named one: since ticks don't fall, the greatest number of a Send is in
+-- before these messages, a miss of message k is the named one: ticks don't fall, so the greatest number of a Send is in
 -- the greatest tick
 pub IsNamedMiss-found : (set : ℕ) (trace : Recorded) (g span k s : ℕ) (m : Miss) → IsTimed trace → s ≤ k + 1
     → IsMissOfSent set trace g span k m → NoMissFrom set trace g span s → IsNamedMiss set trace g (span + 1) m
@@ -66,7 +66,7 @@ NoMissUntil-end set trace g span s until u b = record {
       (subst (λ k. tick_of trace k + span ≡ tick_of trace m.missed) q i.long);
 }
 
--- beside a least bound above 1 there is a witness one tick shorter
+-- for a least bound above 1 there is a witness one tick shorter
 pub NamesMiss-found : (set : ℕ) (trace : Recorded) (g d : ℕ) (found : Option Miss) → IsDelta set trace g d → d ≢ 1
     → MatchOption found (HasNoMissOf set trace g (d - 1)) (IsNamedMiss set trace g (d - 1 + 1))
     → NamesMiss set trace g d found

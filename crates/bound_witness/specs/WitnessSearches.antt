@@ -37,12 +37,12 @@ pub record IsFirstSilent (set : ℕ) (trace : Recorded) (x f p : ℕ) : Type 0 w
   pub silent : ¬ StepsWithin trace p x f
   pub least : (q : ℕ) → IsTrue (has_proc set q) → q < p → StepsWithin trace q x f
 
--- where d is Δ(g + 1) too, the witness beside it is the same there
+-- if d is Δ(g + 1) too, its witness is the same there
 abbrev pub IsSteadyMiss : ℕ → Recorded → ℕ → ℕ → Option Miss → Type 0
 IsSteadyMiss set trace g d m =
     (o : Option Miss) → IsDelta set trace (g + 1) d → NamesMiss set trace (g + 1) d o → o ≡ m
 
--- where f is Φ(g + 1) too, the witness beside it is the same there
+-- if f is Φ(g + 1) too, its witness is the same there
 abbrev pub IsSteadyGap : ℕ → Recorded → ℕ → ℕ → Option Gap → Type 0
 IsSteadyGap set trace g f w =
     (o : Option Gap) → IsPhi set trace (g + 1) f → NamesGap set trace (g + 1) f o → o ≡ w

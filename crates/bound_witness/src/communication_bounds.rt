@@ -51,9 +51,9 @@ fn is_miss(trace: &Trace, set: ProcSet, miss: Miss) -> bool
     is_receive_between(trace, miss.missed, to, first, delivery(trace, miss.sent))
 }
 
-/// The last miss of message `sent`: the one with the greatest `missed`. There is none where each
-/// Receive of the receiver in a later tick than the Send's finds the message delivered, or where `sent`
-/// is no message from a member to a member. Takes no memory.
+/// The last miss of message `sent`: the one with the greatest `missed`. There is none if each Receive
+/// of the receiver in a later tick than the Send's finds the message delivered. Nor is there one if
+/// `sent` is no message from a member to a member. Takes no memory.
 pub fn last_miss(trace: &Trace, set: ProcSet, sent: u64) -> Option<Miss>
     requires { IsWithin set trace.now.config.n }
     ensures { MatchOption result (HasNoMiss set trace.now sent) (IsLastMiss set trace.now sent) }
@@ -148,9 +148,9 @@ fn last_miss_of_length(trace: &Trace, set: ProcSet, g: u64, span: u64) -> Option
 /// The least positive communication bound that holds from tick `g`, in ticks, which are the real-time
 /// steps, and its witness (section 2 of the 1988 paper).
 ///
-/// The witness of a bound above 1 refutes each smaller bound: of the misses of messages sent in `g` or
-/// later that are one tick shorter than the bound, the one whose Send is in the greatest tick, and of
-/// these the one with the greatest number. At 1 there is none. Takes no memory.
+/// The witness of a bound above 1 refutes each smaller bound. It is one of the misses of messages sent
+/// in `g` or later that are one tick shorter than the bound: the one with the greatest tick of its
+/// Send, then the greatest number. At 1 there is none. Takes no memory.
 pub fn delta_at(trace: &Trace, set: ProcSet, g: u64) -> (u64, Option<Miss>)
     requires set { IsWithin set trace.now.config.n }
     requires start { 1 ≤ g }

@@ -66,8 +66,8 @@ fn least_phi(trace: &Trace, set: ProcSet, g: u64) -> u64
     end
 }
 
-/// Of the gaps of this length that begin in tick `g` or later, the one with the greatest beginning, and
-/// of these the one of the least processor.
+/// Of the gaps of this length that begin in tick `g` or later, the one with the greatest beginning,
+/// then of the least processor.
 fn last_gap_of_length(trace: &Trace, set: ProcSet, g: u64, span: u64) -> Option<Gap>
     requires set { IsWithin set trace.now.config.n }
     requires start { 1 ≤ g }
@@ -90,9 +90,9 @@ fn last_gap_of_length(trace: &Trace, set: ProcSet, g: u64, span: u64) -> Option<
 /// The least positive processor bound that holds from tick `g` to the last tick, in ticks, which are
 /// the real-time steps, and its witness (section 2 of the 1988 paper).
 ///
-/// The witness of a bound above 1 refutes each smaller bound: of the gaps that begin in `g` or later
-/// and are one tick shorter than the bound, the one with the greatest beginning, and of these the one
-/// of the least processor. At 1 there is none. Takes no memory.
+/// The witness of a bound above 1 refutes each smaller bound. It is one of the gaps that begin in `g`
+/// or later and are one tick shorter than the bound: the one with the greatest beginning, then of the
+/// least processor. At 1 there is none. Takes no memory.
 pub fn phi_at(trace: &Trace, set: ProcSet, g: u64) -> (u64, Option<Gap>)
     requires set { IsWithin set trace.now.config.n }
     requires start { 1 ≤ g }

@@ -2,8 +2,8 @@
 use Rattle.std.proofs.Common.{ℕ, ◌≡◌, ◌≤◌, ◌⊎◌, inl, inr, sym, subst, suc, zero, arith}
 use Rattle.std.proofs.lemmas.Bool.{cases_eq, cases_order}
 
--- By what candidates are compared: first by length, of which the greatest is best, then by where they begin, of
--- which the greatest is best, then by owner, of which the least is.
+-- How candidates are compared: first by length, then by where they begin, of which the greatest is best; then by
+-- owner, of which the least is.
 pub record Rank : Type 0 where
   pub length : ℕ
   pub from : ℕ

@@ -1,4 +1,4 @@
--- Which ticks are closed by the ends of silences that are put down and carried on.
+-- Which ticks are closed by the ends of silences that are noted and carried on.
 use Rattle.std.proofs.Common.{ℕ, ◌≡◌, ◌+◌, ◌<◌, ◌≤◌, inl, inr, List, IsTrue, length, get_or, sym, subst, ◌∙◌, arith}
 use Rattle.std.proofs.lemmas.Bool.{cases_eq, cases_lt, lt-ltb, le-ltb}
 use Rattle.std.proofs.lemmas.List.{get_or_default}

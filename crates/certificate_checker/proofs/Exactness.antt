@@ -16,7 +16,7 @@ use Rattle.certificate_checker.proofs.RowPlaces.{Contains-row_at, row_at-from_Co
 use Rattle.certificate_checker.proofs.FrontRows.{AreTheFront, last_served, least_served, IsUnopposed-front}
 use Rattle.certificate_checker.proofs.Soundness.{IsSupported-unopposed}
 
--- beside the bound 1 only nothing shows anything
+-- for the bound 1 only nothing shows anything
 ShowsDelta-at_one : (set : ℕ) (trace : Recorded) (after d : ℕ) (o : Option Miss) → ShowsDelta set trace after d o → d ≡ 1 → o ≡ None
 ShowsDelta-at_one set trace after d None s e = refl
 ShowsDelta-at_one set trace after d (Some m) s e = absurd (let l = s.0 in omega (arith, l, e))

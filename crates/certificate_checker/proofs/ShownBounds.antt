@@ -22,7 +22,7 @@ ShowsPhi-or_not set trace after f None = cases_eq f 1
 ShowsPhi-or_not set trace after f (Some w) =
     all_or_not (below_or_not 1 f) (gap_or_not set trace w) (cases_eq (w.from + f) (w.to + 2)) (at_most_or_not after (w.from + 1))
 
--- a bound beside which something shows so is positive
+-- a bound for which something shows so is positive
 pub ShowsDelta-positive : (set : ℕ) (trace : Recorded) (after d : ℕ) (o : Option Miss) → ShowsDelta set trace after d o → 1 ≤ d
 ShowsDelta-positive set trace after d None s = omega (arith, s)
 ShowsDelta-positive set trace after d (Some m) s = let l = s.0 in omega (arith, l)

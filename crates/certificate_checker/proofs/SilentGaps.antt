@@ -49,8 +49,8 @@ gap_ends set t w next n g = elim (cases_lt w.to next) [
   | inr l ↦ absurd (let i = g.inside in g.silent next n.from l (n.step (omega (arith, i, l))))
 ]
 
--- of the members below p, the one whose next step from x on comes last, and of these the least; 0 where no such member
--- is silent in x
+-- of the members below p, the one whose next step from x on comes last, then the least; 0 if no such member is silent
+-- in x
 pub record KnowsLongest (set : ℕ) (t : Recorded) (x p proc end : ℕ) : Type 0 where
   pub within : x ≤ end
   pub inside : end ≤ t.last + 1

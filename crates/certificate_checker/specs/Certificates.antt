@@ -26,8 +26,8 @@ pub record Serves (rows : List Row) (last k : ℕ) (r : Row) (g : ℕ) : Type 0 
   pub until : g < after_stretch rows last k
 
 -- The witness beside the communication bound d shows, from each tick before `after`, that no smaller positive bound
--- holds: nothing beside 1; else a miss that is one tick shorter than d, of a message sent in the tick before
--- `after` or later.
+-- holds. It is nothing beside 1; else a miss one tick shorter than d, of a message sent in the tick before `after`
+-- or later.
 abbrev pub ShowsDelta : ℕ → Recorded → ℕ → ℕ → Option Miss → Type 0
 ShowsDelta set trace after d None = d ≡ 1
 ShowsDelta set trace after d (Some m) =
@@ -47,8 +47,8 @@ pub record IsLongestMiss (set : ℕ) (trace : Recorded) (g : ℕ) (m : Miss) : T
   pub longest : (o : Miss) → IsMiss set trace o → g ≤ tick_of trace o.sent → tick_of trace o.missed + tick_of trace m.sent ≤ tick_of trace m.missed + tick_of trace o.sent
   pub greatest : (o : Miss) → IsMiss set trace o → g ≤ tick_of trace o.sent → tick_of trace o.missed + tick_of trace m.sent ≡ tick_of trace m.missed + tick_of trace o.sent → o.sent ≤ m.sent
 
--- of the gaps that begin in tick g or later one of the longest, of these the one that begins last, and of these
--- that of the least processor
+-- of the gaps that begin in tick g or later one of the longest, then the one that begins last, then of the least
+-- processor
 pub record IsLongestGap (set : ℕ) (trace : Recorded) (g : ℕ) (w : Gap) : Type 0 where
   pub gap : IsGap set trace w
   pub from : g ≤ w.from
@@ -56,7 +56,7 @@ pub record IsLongestGap (set : ℕ) (trace : Recorded) (g : ℕ) (w : Gap) : Typ
   pub greatest : (o : Gap) → IsGap set trace o → g ≤ o.from → o.to + w.from ≡ w.to + o.from → o.from ≤ w.from
   pub least : (o : Gap) → IsGap set trace o → o.from ≡ w.from → o.to ≡ w.to → w.proc ≤ o.proc
 
--- The rows certify themselves: their triples are the front, in rising stabilization time, and the witnesses of each
+-- The rows certify themselves: their triples are the front, in rising stabilization time. The witnesses of each
 -- refute every smaller positive bound from every tick that it applies to.
 pub record Certifies (set : ℕ) (trace : Recorded) (rows : List Row) : Type 0 where
   pub rising : IsStrictlyIncreasing (map (λ r. r.gst) rows)

@@ -27,7 +27,7 @@ next_in_order last rows row =
     if risen rows row then (if nat_le row.gst last then InOrder (rows ++ row ∷ []) else Beyond (length rows + 1) (length rows + 1) row.gst)
     else Refuted (if length rows == 0 then FirstNotOne else NotRising (length rows + 1)) (length rows + 1)
 
--- What the row of this number makes of rows before it that rise, of which the first beyond the last tick has the
+-- What the row of this number makes of rows before it that rise. The first of them beyond the last tick has the
 -- number `first`, and the last begins at `gst`.
 abbrev pub next_beyond : ℕ → ℕ → ℕ → Row → ClaimedRows
 next_beyond first number gst row = if nat_lt gst row.gst then Beyond first number row.gst else Refuted (NotRising number) number

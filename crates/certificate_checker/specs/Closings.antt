@@ -19,7 +19,7 @@ pub record HasSilent (set : ℕ) (trace : Recorded) (x y : ℕ) : Type 0 where
   pub silent : (z : ℕ) → x ≤ z → z < y → ¬ StepsIn trace z proc
 
 -- Tick y is the first by which every member of the set has taken a step from tick x on, or the tick after the last
--- where there is none.
+-- if there is none.
 pub record IsClosedBy (set : ℕ) (trace : Recorded) (x y : ℕ) : Type 0 where
   pub from : x ≤ y
   pub until : y ≤ trace.last + 1
@@ -31,7 +31,7 @@ pub record AreClosings (set : ℕ) (trace : Recorded) (closings : List ℕ) : Ty
   pub long : length closings ≡ trace.last + 1
   pub each : (x : ℕ) → x ≤ trace.last → IsClosedBy set trace x (slice_index closings x)
 
--- an end is put down at or before tick x that isn't before the next step of p from x on
+-- an end is noted at or before tick x that isn't before the next step of p from x on
 pub record IsReached (trace : Recorded) (p : ℕ) (ends : List ℕ) (x : ℕ) : Type 0 where
   pub next : ℕ
   pub is : IsNextStep trace p x next
@@ -39,7 +39,7 @@ pub record IsReached (trace : Recorded) (p : ℕ) (ends : List ℕ) (x : ℕ) : 
   pub low : start ≤ x
   pub far : x < next → next ≤ slice_index ends start
 
--- The ends of the silences of p that begin before tick `until` are put down where they begin, unless later ones are
+-- The ends of the silences of p that begin before tick `until` are noted where they begin, unless later ones are
 -- there.
 pub record PutsEnds (trace : Recorded) (p until : ℕ) (old new : List ℕ) : Type 0 where
   pub long : length new ≡ length old
@@ -48,7 +48,7 @@ pub record PutsEnds (trace : Recorded) (p until : ℕ) (old new : List ℕ) : Ty
       ⊎ (((z : ℕ) → x ≤ z → z < slice_index new x → ¬ StepsIn trace z p) × (slice_index new x ≤ trace.last + 1))
   pub reach : (x : ℕ) → x < until → x ≤ trace.last → IsReached trace p new x
 
--- The ends of the silences of the members below `number` are put down.
+-- The ends of the silences of the members below `number` are noted.
 pub record KnowsEnds (set : ℕ) (trace : Recorded) (number : ℕ) (ends : List ℕ) : Type 0 where
   pub long : length ends ≡ trace.last + 1
   pub silent : (x : ℕ) → x < slice_index ends x → HasSilent set trace x (slice_index ends x) × (slice_index ends x ≤ trace.last + 1)

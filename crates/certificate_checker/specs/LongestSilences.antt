@@ -8,9 +8,9 @@ use Rattle.certificate_checker.specs.Verdicts.{HasRow}
 abbrev pub IsAhead : List ℕ → Type 0
 IsAhead closings = (x : ℕ) → x < length closings → x ≤ slice_index closings x
 
--- The longest silence from tick g on is from `start` to before `end`: `end` closes `start`, no tick is further from
--- the one that closes it, and none that is as far comes later. Where each tick closes itself `start` and `end` are one.
--- (Two lengths are compared by sums, so that nothing is taken away.)
+-- The longest silence from tick g on is from `start` to before `end`: `end` closes `start`, no tick is further from the
+-- one that closes it, and none that is as far comes later. If each tick closes itself, `start` and `end` are one. (Two
+-- lengths are compared by sums, so that nothing is taken away.)
 pub record IsLongestSilence (closings : List ℕ) (g : ℕ) (s : LongestSilence) : Type 0 where
   pub order : s.start ≤ s.end
   pub from : g ≤ s.start

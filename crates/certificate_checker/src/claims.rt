@@ -38,9 +38,9 @@ impl RowList {
     }
 }
 
-/// What is kept of the rows of a certificate while they are read. Stabilization times that rise from tick 1 and
-/// end by the last tick are no more than there are ticks, so only rows in that order are kept: of others the
-/// verdict is known without them.
+/// What is kept of the rows of a certificate while they are read. Only rows whose stabilization times rise from tick
+/// 1 and end by the last tick are kept, and so no more than there are ticks. Of others the verdict is known without
+/// them.
 #[derive(Debug, Drop)]
 pub enum ClaimedRows {
     /// All rows: their stabilization times rise from 1 to the last tick at most.

@@ -10,7 +10,7 @@ use std::alloc::{AllocError, Global};
 use step_trace::{ProcSet, Trace};
 
 /// For each tick, the first tick by which every member of a set has taken a step from that tick on, or the tick
-/// after the last where there is none.
+/// after the last if there is none.
 pub(crate) fn closings(
     alloc: Global,
     trace: &Trace,

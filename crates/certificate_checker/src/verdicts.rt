@@ -4,7 +4,7 @@ use step_trace::{Gap, Miss};
 
 /// Why rows are no certificate of a trace and a set of correct processors (own). Rows count from 1; bounds and
 /// stabilization times are in real-time steps, which are ticks. The stretch of a row goes from its stabilization
-/// time to the tick before the next row's, that of the last row to the last tick.
+/// time to the tick before the next row's. That of the last row goes to the last tick.
 #[derive(Clone, Copy, Debug, PartialEq, Eq)]
 pub enum Reason {
     /// There are no rows, though there are ticks.

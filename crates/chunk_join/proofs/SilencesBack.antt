@@ -79,8 +79,8 @@ around set t w gap =
       },
     )
 
--- Of a gap from tick g on and the last silence that begins by then: the gap doesn't end later, and where it ends as
--- late its processor isn't less.
+-- Of a gap from tick g on and the last silence that begins by then: the gap doesn't end later. If it ends as late,
+-- its processor isn't less.
 record IsTopped (w u : Gap) : Type 0 where
   until : u.to ≤ w.to
   proc : u.to ≡ w.to → w.proc ≤ u.proc

@@ -33,7 +33,7 @@ IsGoneOver-none part level d m f w = record {
   };
 }
 
--- What is known once the messages and silences of tick g are scanned, except the longest gap from g on: `old` is the
+-- What is known once the messages and silences of tick g are scanned, except the longest gap from g on. `old` is the
 -- level of the next tick, and `mid` has the misses of the messages of g.
 pub record IsTickRead (part : Summary) (g messages silences : ℕ) (old mid : Level) : Type 0 where
   pub start : 1 ≤ g

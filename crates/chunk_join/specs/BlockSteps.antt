@@ -101,7 +101,7 @@ abbrev pub IsMemberAt : ℕ → List Step → ℕ → Option ℕ → Type 0
 IsMemberAt set steps k None = (p : ℕ) → IsTrue (has_proc set p) → IsStepOf steps k p → ⊥
 IsMemberAt set steps k (Some p) = IsTrue (has_proc set p) × IsStepOf steps k p
 
--- Silences are scanned tick by tick, and within a tick from its last step back: done are the steps before tick x, and
+-- Silences are scanned tick by tick, and within a tick from its last step back. Done are the steps before tick x, and
 -- of tick x those after number n.
 abbrev pub IsDone : Recorded → ℕ → ℕ → ℕ → Type 0
 IsDone trace x n k = (tick_of trace k < x) ⊎ ((tick_of trace k ≡ x) × (n < k))

@@ -1,6 +1,6 @@
 -- The digest of a part of a trace: its summary without what later messages and silences make needless (own). A message
--- that no Receive of the part takes stays, for its fate is open; so does a silence that reaches the part's first or last
--- tick, for it may go on beyond. Of the others only those stay that are longer than all that come later.
+-- that no Receive of the part takes stays, since its fate is open. A silence that reaches the part's first or last tick
+-- stays, since it may go on beyond. Of the others only those stay that are longer than all that come later.
 use Rattle.std.specs.Prelude.{ℕ, ◌≡◌, ◌+◌, ◌-◌, ◌||◌, Bool, true, false, Option, Some, None, nat_le}
 use Rattle.step_trace.specs.declared.rows.Gap.{Gap}
 use Rattle.step_trace.specs.Traces.{Recorded}

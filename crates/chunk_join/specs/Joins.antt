@@ -1,5 +1,5 @@
 -- Parts of a whole between two cuts, and what joining them keeps (own). Cut i is right after the first i places of
--- the whole; the part from i to j has those after i up to j, so that the part from j on comes right after it.
+-- the whole. The part from i to j has those after i up to j, and the part from j on comes right after it.
 use Rattle.std.specs.Prelude.{ℕ, ◌≡◌, ◌⊎◌, List, [], ◌∷◌, Option, Some, None}
 use Rattle.chunk_join.specs.declared.joins.Why.{Why}
 use Rattle.chunk_join.specs.declared.joins.Why.TheVariants.{NotAdjacent, OtherSet, Memory}

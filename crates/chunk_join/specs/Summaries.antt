@@ -1,6 +1,6 @@
 -- The summary of a part of a trace, for a set of processors that count as correct (own). The part from cut i to cut j
--- has the ticks x with i < x ≤ j. What it keeps is enough to find, from the summaries of parts that follow one another,
--- the summary of the part that they make up together.
+-- has the ticks x with i < x ≤ j. The summaries of adjacent parts are enough to find the summary of the part that they
+-- make up together.
 use Rattle.std.specs.Prelude.{ℕ, ◌≡◌, ◌+◌, ◌-◌, ◌<◌, ◌≤◌, ◌⊎◌, List, [], ◌∷◌, Option, Some, None, Contains, length, slice_index_or, IsTrue, false}
 use Rattle.step_trace.specs.declared.processors.TheConstants.{MAX_MEMBER}
 use Rattle.step_trace.specs.declared.traces.TheConstants.{MAX_TICKS}
@@ -47,8 +47,8 @@ pub record IsSent (set : ℕ) (trace : Recorded) (i j : ℕ) (m : Message) : Typ
   pub until : m.sent.tick ≤ j
   pub fate : IsFate trace m.sent m.to j m.fate
 
--- a message, sent whenever and by whomever, that a member takes after cut i, with the last Receive of that member before,
--- if that is after cut i
+-- a message of any time and sender that a member takes after cut i, with the last Receive of that member before, if
+-- that is after cut i
 pub record IsAnyTake (set : ℕ) (trace : Recorded) (i : ℕ) (t : Take) : Type 0 where
   pub member : IsTrue (has_proc set t.by)
   pub receive : IsReceiveOf trace.steps t.at.no t.by

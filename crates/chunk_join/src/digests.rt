@@ -20,8 +20,7 @@ use suffix_staircase::{StairBuilder, Stairs};
 const BLOCK: u64 = 4096;
 
 /// The digest of the ticks of a part of a trace, for a set of processors that count as correct; the empty part has one
-/// for all sets. It is small: its messages are open, or are missed for longer than all later ones, and its silences
-/// likewise.
+/// for all sets. It is small: its messages are open, or missed for longer than all later ones; its silences likewise.
 #[derive(Debug, Drop)]
 pub(crate) struct Digest {
     pub(crate) part: Option<Part>,
@@ -101,9 +100,9 @@ impl Digest {
     ghost use Rattle.chunk_join.specs.Digests.{IsDigestOf, KeepsUndominated};
     ghost use Rattle.chunk_join.specs.Finishes.{BeginsWithFirst};
 
-    /// The digest of the ticks `from` to `to`, from 1 to the last tick; where `from` is one after `to`, the unit. It
-    /// keeps exactly the undominated messages and silences of these ticks: those that a later part may still change, and
-    /// of the others those that are longer than each that comes later.
+    /// The digest of the ticks `from` to `to`, from 1 to the last tick; if `from` is one after `to`, the unit. It keeps
+    /// exactly the undominated messages and silences of these ticks. These are the ones that a later part may still
+    /// change, and of the others those that are longer than each that comes later.
     ///
     /// Fails only if out of memory; the unit takes none.
     pub(crate) fn of(

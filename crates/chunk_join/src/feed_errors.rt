@@ -10,8 +10,8 @@ use step_trace::{Step, Trace};
 #[derive(Debug, Drop)]
 pub enum FeedError {
     /// The trace doesn't extend the one that is followed. At number `at` it differs from it first, and has `found`,
-    /// a step with its tick before it; where it has all steps of that one, `at` is the number after them. At 0 it is
-    /// of another configuration.
+    /// a step with its tick before it. If it has all steps of that one, `at` is the number after them. At 0 it is of
+    /// another configuration.
     NotAnExtension { at: u64, found: Option<(u64, Step)> },
     /// Out of memory.
     Memory,

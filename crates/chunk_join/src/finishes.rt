@@ -84,8 +84,8 @@ pub(crate) fn stairs_of(alloc: Global, part: &Part) -> Result<Stairs, AllocError
     Ok(builder.build())
 }
 
-/// The least tick from which on to tick `g` neither the messages nor the silences that are left give another level than
-/// that of `g`, which has this processor bound.
+/// The least tick from which on to tick `g`, with this processor bound, no message or silence that is left changes the
+/// level.
 fn quiet_from(part: &Part, messages: usize, silences: usize, phi: u64, g: u64) -> u64
     requires messages { messages ≤ length part.now.sent }
     requires silences { silences ≤ length part.now.silent }
@@ -120,8 +120,8 @@ fn after_last(sent: &[Message], count: usize, g: u64) -> u64
     }
 }
 
-/// Takes the misses of the messages of tick `g`, which are the last of the first `count`, into the level, and gives how
-/// many messages come before them.
+/// Takes the misses of the messages of tick `g`, the last of the first `count`, into the level. Gives how many messages
+/// come before them.
 fn note_messages(level: &mut Level, part: &Part, count: usize, g: u64) -> usize
     requires { count ≤ length part.now.sent }
     ensures within { result ≤ count }

@@ -24,8 +24,8 @@ pub struct JoinRefused<J> {
 
 /// Values that join in their order, as parts of a whole do.
 ///
-/// An implementation says what its wholes are, and which value is the part of a whole between two cuts: cut i is
-/// right after the first i places of the whole, so that the part from i to j is followed by the part from j on. It
+/// An implementation says what its wholes are, and which value is the part of a whole between two cuts. Cut i is
+/// right after the first i places of the whole, so the part from i to j is followed by the part from j on. It
 /// proves that joining parts of one whole gives the part that they make up together (`JoinedLaws`).
 pub trait Joined: Drop {
     ghost use Rattle.chunk_join.specs.declared.joins.Why.{Why};

@@ -139,7 +139,7 @@ fn append_older(taken: &mut Vec<Take>, from: u64, more: &[Take], last: &[Option<
     }
 }
 
-/// The last Receives of the right part stand in for those of the left one.
+/// The last Receives of the right part replace those of the left one.
 fn replace_last(left: &mut Vec<Option<Place>>, right: &[Option<Place>])
     requires { length left.old.items ≡ length right.now }
     ensures { left.new.items ≡ later_each left.old.items right.now }

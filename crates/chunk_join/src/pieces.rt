@@ -7,7 +7,7 @@ use std::alloc::{AllocError, Global};
 use std::marker::Model;
 use step_trace::{ProcSet, Trace};
 
-/// The summary of the ticks of a part of a trace, for a set of processors that count as correct; the empty part has
+/// The summary of the ticks of a part of a trace, for a set of processors that count as correct. The empty part has
 /// one for all sets.
 #[derive(Debug, Drop)]
 pub struct Piece {

@@ -14,7 +14,7 @@ use Rattle.clock_offsets.specs.declared.refusals.OffsetError.TheVariants.{Cycle,
 abbrev pub clock_at : List Event → ℕ → ℕ
 clock_at events i = processor_at events i - 1
 
--- by how much the clock of its receiver has to be ahead of that of its sender, so that it is received later than it is sent
+-- by how much the receiver's clock has to be ahead of the sender's, so that it is received later than it is sent
 abbrev pub need_of : List Event → Hop → ℤ
 need_of events hop = (time_at events hop.message -ℤ time_at events hop.event) +ℤ pos 1
 

@@ -47,10 +47,10 @@ impl Offsets {
     }
 }
 
-/// The least offsets of the clocks of `n` processors: once each clock is moved forward by its offset, each message that the
-/// events received is received later than it is sent.
+/// The least offsets of the clocks of `n` processors. Once each clock is moved forward by its offset, each message that
+/// the events received is received later than it is sent.
 ///
-/// Asks for events of these processors. Refuses Cycle where no offsets do so, TooFar for sums of times that no 128 bits
+/// Asks for events of these processors. Refuses Cycle if no offsets do so, TooFar for sums of times that no 128 bits
 /// hold, and Memory.
 pub fn clock_offsets(alloc: Global, n: usize, events: &[Event]) -> Result<Offsets, OffsetError>
     requires most { n ≤ CLOCKS }

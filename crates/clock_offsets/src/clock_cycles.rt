@@ -46,8 +46,8 @@ pub fn clock_cycle(alloc: Global, events: &[Event]) -> Result<Option<ClockCycle>
     Ok(tested_cycle(alloc, events, &round)?)
 }
 
-/// Messages that lead from a clock back to it, by the greatest needs that follow by way of other clocks; none where none is
-/// to be ahead of itself. What it gives is tested elsewhere.
+/// Messages that lead from a clock back to it, by the greatest needs that follow by way of other clocks. None if none
+/// is to be ahead of itself. What it gives is tested elsewhere.
 fn short_round(alloc: Global, events: &[Event], hops: &[Hop]) -> Result<Vec<Hop>, OffsetError> {
     let mut through = needs_among(alloc, events, hops)?;
     let mut firsts = first_hops(alloc, events, hops)?;

@@ -108,7 +108,7 @@ module _ (R : ℕ → ℕ → ℕ → Type 0) (kept : IsKeptByFormulas R) (a b :
       let l : cap ≤ max k 1 * cap = more_times cap k in
       record { most = kept.less cap (max k 1 * cap) f.most g.most l h.most; sum = kept.less cap (max k 1 * cap) f.sum g.sum l h.sum; product = kept.over cap k f.product g.product h.product }
 
-  -- the value between two parentheses, beside what is around them
+  -- the value between two parentheses, with what is around them
   closed_alike : (cap : ℕ) (f g : Frame) (fs gs : List Frame) → AreAlike cap f g → AreAllAlike cap fs gs
       → AreAlike cap (closed f fs).here (closed g gs).here × AreAllAlike cap (closed f fs).around (closed g gs).around
   closed_alike cap f g [] [] h l = (h, l)

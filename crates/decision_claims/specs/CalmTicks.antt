@@ -5,7 +5,7 @@ use Rattle.step_trace.specs.Traces.{Recorded, IsReceiveOf}
 use Rattle.step_trace.specs.Ticks.{tick_of, StepsIn}
 use Rattle.step_trace.specs.Bounds.{IsMessage, IsDelivered}
 
--- Each tick after tick x is calm: each member takes a step in it, and each of its Receives there leaves no message of a
+-- Each tick after tick x is calm: each member takes a step in it. Each of its Receives there leaves no message of a
 -- member that was sent before.
 pub record IsCalmAfter (set : ℕ) (trace : Recorded) (x : ℕ) : Type 0 where
   pub steps : (y : ℕ) → x < y → y ≤ trace.last → (p : ℕ) → IsTrue (has_proc set p) → StepsIn trace y p

@@ -47,8 +47,7 @@ pub fn has_decided_by(decisions: &[Decision], p: u64, y: u64) -> bool
     }
 }
 
-/// The tick by which all members have decided, if they have: that of the first decision of the member that was the
-/// last to make one.
+/// The tick by which all members have decided, if they have: the latest of the members' first decisions.
 pub fn latest_decision(set: ProcSet, decisions: &[Decision]) -> Option<u64>
     ensures { IsFrom (HaveDecidedBy set decisions.now) result }
 {

@@ -1,5 +1,5 @@
-//! Claims about when the processors of a run decide: "from a stabilization time on, each correct processor decides
-//! within so many ticks, by a formula of the bounds that hold from then on". `specs/` has the definitions.
+//! Claims about when the processors of a run decide: each correct one decides within so many ticks from a
+//! stabilization time on, by a formula of the bounds that hold from then on. `specs/` has the definitions.
 #![tactic(auto)]
 
 mod agreement;

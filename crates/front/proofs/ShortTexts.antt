@@ -1,4 +1,4 @@
--- The text of a report is shorter than a text may be: its rows are no more than the ticks, and their
+-- The text of a report is shorter than a text may be. Its rows are no more than the ticks, and their
 -- numbers have at most seven digits.
 use Rattle.std.proofs.Common.{ℕ, ◌≡◌, ◌+◌, ◌*◌, ◌<◌, ◌≤◌, ◌^◌, List, [], ◌∷◌, length, map, get_or, Option, Some, None, IsTrue, ◌&&◌, Contains, option_map, refl, subst, suc, zero, arith, length-append}
 use Rattle.std.specs.Prelude.{nat_le, nat_lt}
@@ -31,7 +31,7 @@ member_high members p m =
     let range = (and_parts (nat_lt 0 p && nat_le p 64) _ m).0 in
     leb-true p 64 (and_parts (nat_lt 0 p) _ range).1
 
--- the numbers of a witness, and the bound beside it
+-- the numbers of a witness, and its bound
 record IsShortBeside (d : ℕ) (entries : List (Option ℕ)) : Type 0 where
   bound : d < 10 ^ 7
   short : AreBelow (10 ^ 7) entries

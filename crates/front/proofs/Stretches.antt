@@ -54,7 +54,7 @@ named_gap-reaches set trace h g f w start later more least named = elim (cases_l
       absurd (omega arith))
 ]
 
--- the miss beside the bound refutes each smaller one up to there
+-- the miss of the bound refutes each smaller one up to there
 pub miss-refutes : (set : ℕ) (trace : Recorded) (h g d : ℕ) (miss : Option Miss) → h ≤ g
     → DeltaHolds set trace h d → IsDelta set trace g d → NamesMiss set trace h d miss
     → (e : ℕ) → 1 ≤ e → e < d → IsSomeAnd miss (λ m. MissRefutes set trace g e m)

@@ -1,5 +1,5 @@
 //! Reports: the front of the triples of a stabilization time, a communication bound and a processor
-//! bound that a trace leaves possible, and the text in which reports are kept.
+//! bound that a trace leaves possible. And the text of reports.
 #![tactic(auto)]
 
 mod columns;

@@ -39,8 +39,8 @@ impl Model for ReportRows {
 
 /// The rows of the report text that the reader has left.
 ///
-/// Refuses in the order of `ReportError`; the first record that is refused decides. How much was read
-/// before a refusal isn't said.
+/// Refuses in the order of `ReportError`; the first record that is refused decides. A refusal doesn't
+/// say how much was read before it.
 pub fn read_report<R: Read>(
     alloc: Global,
     reader: &mut Counting<R>,

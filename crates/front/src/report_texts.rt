@@ -25,8 +25,8 @@ use trace_text::{Counting, MAX_TEXT_BYTES, WriteError, write_text};
 
 /// Writes the text of a report of these rows, and flushes.
 ///
-/// Refusals: Write with the number of bytes that went out before, the text's first, only where the
-/// writer answered a fault or took no byte; Memory, and nothing was written.
+/// Refusals: Write with the number of bytes that went out before, the text's first, only if the writer
+/// answered a fault or took no byte. Memory, and then nothing was written.
 pub fn write_report<W: Write>(
     alloc: Global,
     rows: &[Row],

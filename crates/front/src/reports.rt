@@ -14,9 +14,9 @@ use std::marker::Model;
 use step_trace::Row;
 use suffix_staircase::Stairs;
 
-/// The report of a trace and of a set of processors that are named as correct: the triples of a
-/// stabilization time, a communication bound and a processor bound that no other triple betters,
-/// each with the evidence against smaller bounds.
+/// The report of a trace and of a set of processors that are named as correct. It has the triples of a
+/// stabilization time, a communication bound and a processor bound that no other triple betters. Each
+/// has the evidence against smaller bounds.
 #[derive(Debug, Drop)]
 pub struct Report {
     len: usize,

@@ -1,5 +1,5 @@
-//! The table of timeouts: for each follower of a leader, and for each row of the report of the two, how long the follower
-//! has to wait; and its text.
+//! The table of timeouts, and its text: for each follower of a leader, and each row of the report of the two, how long
+//! the follower has to wait.
 #![tactic(auto)]
 
 mod followers;

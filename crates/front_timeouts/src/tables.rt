@@ -20,8 +20,8 @@ pub struct FollowerTimeouts {
     pub timeouts: Vec<Timeout>,
 }
 
-/// The timeouts of the follower `q` of `p`: for each row of the report whose set is the two, or for the one row that applies
-/// to the tick `at`.
+/// The timeouts of the follower `q` of `p`: for each row of the report whose set is the two, or for the one row that
+/// applies to tick `at`.
 ///
 /// Two passes over the trace. Fails only if an allocation fails.
 pub(crate) fn follower_timeouts(

@@ -38,10 +38,10 @@ const NAMES: [&[u8]; COLUMNS] = [
     b"tried",
 ];
 
-/// The text of the timeouts of these followers of `p`, in rising order: for each a line for each row of the report of the
-/// two, or for the one row that applies to the tick `at`.
+/// The text of the timeouts of these followers of `p`, in rising order. For each there is a line for each row of the
+/// report of the two, or for the one row that applies to tick `at`.
 ///
-/// A follower's timeouts are let go once they are written. Two passes over the trace for each follower. Fails only if an
+/// A follower's timeouts are freed once they are written. Two passes over the trace for each follower. Fails only if an
 /// allocation fails.
 pub fn timeouts_text_of(
     alloc: Global,

@@ -56,8 +56,8 @@ pub record AreTooFew (set : ℕ) (trace : Recorded) (deadline : Triple → ℕ) 
 abbrev pub AreKept : ℕ → Recorded → List Decision → Terms → Demands → Type 0
 AreKept set trace decisions terms d = AreSound set trace.config.init decisions d.valid × Keeps d.whole set trace decisions (deadline trace.config d.start terms)
 
--- The verdict names the first thing that is wrong: of agreement, of validity where it was asked, of the claim, and of how much
--- was tested.
+-- The verdict names the first thing that is wrong: of agreement, of validity if it was asked, of the claim, and of how
+-- much was tested.
 abbrev pub IsVerdict : ℕ → Recorded → List Decision → Terms → Demands → Verdict → Type 0
 IsVerdict set trace decisions terms d (Yes tested) = AreKept set trace decisions terms d × IsEnough set trace decisions (deadline trace.config d.start terms) d.due tested
 IsVerdict set trace decisions terms d (Differ a b) = AreFirstToDiffer set decisions a b

@@ -16,8 +16,8 @@ use Rattle.judged_runs.specs.declared.prefixes.Looked.TheVariants.{LateBy, GoOn}
 pub record KeepsBefore (set : ℕ) (trace : Recorded) (decisions : List Decision) (deadline : Triple → ℕ) (x : ℕ) : Type 0 where
   pub each : (t : Triple) (cut : Recorded) → deadline t < x → IsTrace cut → IsCutAt trace (deadline t) cut → IsFeasible set cut t → HaveDecidedBy set decisions (deadline t)
 
--- The bounds of the row hold from its stabilization time up to the deadline, a tick of the trace, by which the
--- processor is the least member that had not decided. Each earlier deadline was kept.
+-- The bounds of the row hold from its stabilization time up to the deadline, a tick of the trace. The processor is the
+-- least member that had not decided by it. Each earlier deadline was kept.
 pub record IsLateInTime (set : ℕ) (trace : Recorded) (decisions : List Decision) (deadline : Triple → ℕ) (w : Late) : Type 0 where
   pub by : w.deadline ≡ deadline (triple_of w.row)
   pub due : w.deadline ≤ trace.last

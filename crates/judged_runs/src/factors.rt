@@ -23,8 +23,8 @@ struct Measured {
     next: u64,
 }
 
-/// The least factor c such that each member decides within c times a formula, in an instance of agreement that started in
-/// this tick: by the bounds of the whole run, or in time. None where no factor is enough.
+/// The least factor c such that each member decides within c times a formula, in an instance of agreement that started
+/// in this tick: by the bounds of the whole run, or in time. None if no factor is enough.
 pub fn factor_for(
     alloc: Global,
     trace: &Trace,
@@ -61,11 +61,11 @@ fn least_factor_in_whole(
     Ok(least_factor(trace, set, report.rows(), decisions, start, formula))
 }
 
-/// The least factor c such that each member decides in time within c times a formula, in an instance of agreement that started
-/// in this tick: the greatest of those of all prefixes of the run. None where no factor is enough.
+/// The least factor c such that each member decides in time within c times a formula, in an instance of agreement that
+/// started in this tick. It is the greatest of those of all prefixes of the run. None if no factor is enough.
 ///
-/// Looks at the prefixes at which `first_late_in_time` would look for the formula times the factor so far. Memory may come only
-/// if there is such a prefix.
+/// Looks at the prefixes at which `first_late_in_time` would look for the formula times the factor so far. Memory may
+/// come only if there is such a prefix.
 pub fn least_factor_in_time(
     alloc: Global,
     trace: &Trace,

@@ -44,9 +44,9 @@ pub enum Verdict {
     Untested(u64),
 }
 
-/// Judges the decisions of a run: agreement of the members of a set, validity where it is asked, and the claim that each of
-/// them decides by the deadline of a formula. In time, the bounds of each prefix count; else those of the whole run alone.
-/// Memory may come only if nothing is wrong with agreement and validity, so that bounds have to be found.
+/// Judges the decisions of a run: agreement of the members of a set, validity if it is asked, and the claim that each
+/// of them decides by the deadline of a formula. In time, the bounds of each prefix count; else those of the whole run
+/// alone. Memory may come only if nothing is wrong with agreement and validity, so that bounds have to be found.
 pub fn judge(
     alloc: Global,
     trace: &Trace,

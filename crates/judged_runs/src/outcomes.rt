@@ -36,8 +36,8 @@ pub fn outcomes_status(outcomes: &[Outcome]) -> u8
     0
 }
 
-/// The summary of the runs of a list, with its line feed: how many there are, on how many the verdict is yes with a deadline that
-/// was due, no, or yes with none, how many weren't judged, and the least margin with the first run that has it.
+/// The summary of the runs of a list, with its line feed. It counts all runs, those with the verdict yes and a deadline
+/// that was due, no, yes with none due, and those not judged. Then come the least margin and the first run that has it.
 pub fn summary_text(alloc: Global, outcomes: &[Outcome]) -> Result<String, AllocError>
     ensures { IfOk result (λ text. string_bytes text ≡ told_summary outcomes.now) }
 {

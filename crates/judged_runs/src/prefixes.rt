@@ -25,13 +25,13 @@ enum Looked {
     GoOn(u64),
 }
 
-/// The least deadline that wasn't kept in time: of the shortest prefix of the run that refutes the claim that each member
-/// decides by the deadline of a formula, the first row, in an instance of agreement that started in this tick. None where the
-/// claim is kept in time.
+/// The least deadline that wasn't kept in time. It is of the shortest prefix of the run that refutes the claim that
+/// each member decides by the deadline of a formula, in an instance of agreement that started in this tick: the first
+/// row of that prefix. None if the claim is kept in time.
 ///
-/// Finds the bounds of some of the prefixes that end before all members have decided: after one that ends in tick x, it goes
-/// on at the least deadline of its rows, or of bounds of 1 from the next tick on if that is less. No prefix between has a
-/// deadline that is due. Memory may come only if there is such a prefix.
+/// Finds the bounds of some of the prefixes that end before all members have decided. After one that ends in tick x, it
+/// goes on at the least deadline of its rows, or of bounds of 1 from the next tick on if that is less. No prefix
+/// between has a deadline that is due. Memory may come only if there is such a prefix.
 pub fn first_late_in_time(
     alloc: Global,
     trace: &Trace,

@@ -25,8 +25,8 @@ module _ (E : Type 0) (place start end : E → ℕ) where
     go None n = n
     go (Some v) n = let named = n.1 in (n.0, record { counts = still v named.counts; long = named.long; latest = λ o c l. named.latest o (back o c) l })
 
-  -- What counts grows by pieces that are no longer than this one; those of its length are at its place or before, and this
-  -- is before all that counted, where it has a length at all.
+  -- What counts grows by pieces that are no longer than this one. Those of its length are at its place or before, and
+  -- this is before all that counted, if it has a length at all.
   pub record GrowsBy (Old New : E → Type 0) (e : E) (long : ℕ) : Type 0 where
     pub still : (o : E) → Old o → New o
     pub before : (o : E) → Old o → 0 < long → place e < place o

@@ -9,12 +9,12 @@ pub record IsLatest (E : Type 0) (Counts : E → Type 0) (place start end : E �
   pub long : start e + d ≡ end e + 1
   pub latest : (o : E) → Counts o → start o + d ≡ end o + 1 → place o ≤ place e
 
--- the witness beside a bound: none at 1
+-- the witness of a bound: none at 1
 abbrev pub NamesLatest : (E : Type 0) → (E → Type 0) → (E → ℕ) → (E → ℕ) → (E → ℕ) → ℕ → Option E → Type 0
 NamesLatest E Counts place start end d None = d ≡ 1
 NamesLatest E Counts place start end d (Some e) = (1 < d) × IsLatest E Counts place start end d e
 
--- each piece that counts is shorter than the bound, and this is the witness beside it
+-- each piece that counts is shorter than the bound, and this is its witness
 pub record AllowsAll (E : Type 0) (Counts : E → Type 0) (place start end : E → ℕ) (bound : LeastBound E) : Type 0 where
   pub shorter : (e : E) → Counts e → end e < start e + bound.least
   pub named : NamesLatest E Counts place start end bound.least bound.witness

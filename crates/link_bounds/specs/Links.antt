@@ -1,5 +1,5 @@
--- The bounds of one processor and of one link (own): those of section 2 of the 1988 paper over the set of one processor, and
--- over the messages of one processor to another, or to itself.
+-- The bounds of one processor and of one link (own). They are those of section 2 of the 1988 paper over the set of one
+-- processor, and over the messages of one processor to another, or to itself.
 use Rattle.std.specs.Prelude.{ℕ, ◌≡◌, ◌+◌, ◌-◌, ◌^◌, ◌<◌, ◌≤◌, List, Option, Some, None, IsTrue}
 use Rattle.step_trace.specs.declared.rows.Miss.{Miss}
 use Rattle.step_trace.specs.declared.steps.Act.TheVariants.{Send}
@@ -29,15 +29,15 @@ pub record IsLinkMiss (set : ℕ) (trace : Recorded) (p q : ℕ) (m : Miss) : Ty
   pub miss : IsMiss set trace m
   pub link : IsMessageOn set trace.steps p q m.sent
 
--- The named miss for the bound d from tick g on a link: of its misses of length d - 1 of messages sent in g or later, the one
--- whose Send is in the greatest tick. There is one, since p makes at most one step in a tick.
+-- The named miss for the bound d from tick g on a link: of its misses of length d - 1 of messages sent in g or later,
+-- the one with the greatest tick of its Send. There is one, since p makes at most one step in a tick.
 pub record IsNamedLinkMiss (set : ℕ) (trace : Recorded) (p q g d : ℕ) (m : Miss) : Type 0 where
   pub miss : IsLinkMiss set trace p q m
   pub from : g ≤ tick_of trace m.sent
   pub long : tick_of trace m.sent + d ≡ tick_of trace m.missed + 1
   pub latest : (o : Miss) → IsLinkMiss set trace p q o → g ≤ tick_of trace o.sent → tick_of trace o.sent + d ≡ tick_of trace o.missed + 1 → tick_of trace o.sent ≤ tick_of trace m.sent
 
--- the witness beside a communication bound of a link: none at 1, else the named miss
+-- the witness of a communication bound of a link: none at 1, else the named miss
 abbrev pub NamesLinkMiss : ℕ → Recorded → ℕ → ℕ → ℕ → ℕ → Option Miss → Type 0
 NamesLinkMiss set trace p q g d None = d ≡ 1
 NamesLinkMiss set trace p q g d (Some m) = (1 < d) × IsNamedLinkMiss set trace p q g d m

@@ -41,8 +41,8 @@ Precedes (Phi p b) (Delta q r c) = ⊤
 Precedes (Delta p q b) (Phi r c) = ⊥
 Precedes (Delta p q b) (Delta r s c) = (p < r) ⊎ ((p ≡ r) × (q < s))
 
--- These are the rows from tick g: each is right, each member has one, and so has each link with a message sent in g or later;
--- they are in order, and none comes twice.
+-- These are the rows from tick g. Each is right, each member has one, and so has each link with a message sent in g or
+-- later. They are in order, and none comes twice.
 pub record AreRows (set : ℕ) (trace : Recorded) (g : ℕ) (rows : List BoundRow) : Type 0 where
   pub right : (r : BoundRow) → Contains rows r → IsRow set trace g r
   pub processors : (p : ℕ) → IsTrue (has_proc set p) → (bound : LeastBound Gap) × Contains rows (Phi p bound)

@@ -1,5 +1,5 @@
-//! Who is to blame for the bounds of a trace: the least bounds of each processor and of each link from one tick on, found by
-//! one backward pass, and their text.
+//! Which processors and links cause the bounds of a trace: the least bounds of each from one tick on, found by one
+//! backward pass, and their text.
 #![tactic(auto)]
 
 mod bounds;

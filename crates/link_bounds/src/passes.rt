@@ -63,8 +63,8 @@ impl Pass {
     }
 }
 
-/// The rows from a tick on: of each member of the set its processor bound, and of each link between members with a message
-/// sent in that tick or later its communication bound, in ticks, each with its named witness.
+/// The rows from a tick on, in ticks, each with its named witness. Each member of the set has its processor bound. Each
+/// link between members with a message sent in that tick or later has its communication bound.
 ///
 /// One pass from the last step back to the tick, in time that grows with the steps, the ids in them, and the square of
 /// the number of processors. Fails only if out of memory.

@@ -34,8 +34,8 @@ count_by-disjoint p q (x ∷ xs) f =
     go false true g l = omega arith
     go false false g l = omega arith
 
--- What is given by elements, at most one by each, passes no more often than a test on those elements
--- that passes wherever what they give does.
+-- What elements give, at most one each, passes a test no more often than the elements pass another test
+-- that holds whenever this one does.
 pub count_by-filter_map : {X Y : Type 0} (p : Y → Bool) (q : X → Bool) (h : X → Option Y) (xs : List X)
     → ((x : X) (y : Y) → h x ≡ Some y → p y ≡ true → q x ≡ true) → count_by p (filter_map h xs) ≤ count_by q xs
 count_by-filter_map p q h [] f = omega arith

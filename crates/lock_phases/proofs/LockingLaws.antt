@@ -36,8 +36,8 @@ locking-keeps c s me round heard e =
       decision = ap (λ (x : State). x.decision) n ∙ k.decision;
     }
 
--- A locking round puts a lock of this phase where the owner's Lock is heard, and with it the node owes an acknowledgement; a
--- lock that it replaces was on the same value.
+-- A locking round puts a lock of this phase if the owner's Lock is heard, and with it the node owes an acknowledgement.
+-- A lock that it replaces was on the same value.
 pub locking-locks : (c : Setup) (s : State) (me round : ℕ) (heard : List Message) → part_of round ≡ 2
     → LockingLocks s (next c s me round heard) (owner c.n (phase_of round)) (phase_of round) heard
 locking-locks c s me round heard e = subst (λ x. LockingLocks s x o k heard) (sym n) (go (heard_lock o heard) refl)

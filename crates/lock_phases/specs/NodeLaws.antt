@@ -68,7 +68,7 @@ pub record LockingLocks (s after : State) (owner phase : ℕ) (heard : List Mess
   pub held : (lock : LockPair) → Contains s.locks lock → Contains after.locks lock ⊎ Contains after.locks (value_of lock, phase)
   pub owes : after.owes_ack ≡ true → (s.owes_ack ≡ true) ⊎ ((v : ℕ) × Contains after.locks (v, phase))
 
--- Who wasn't told to lock a value has the locks that it had, and owes what it owed.
+-- A node that heard no Lock keeps its locks, and owes what it owed.
 pub record IsUntold (s after : State) : Type 0 where
   pub locks : after.locks ≡ s.locks
   pub owes_ack : after.owes_ack ≡ s.owes_ack
@@ -97,7 +97,7 @@ pub record IsAcknowledged (c : Setup) (s : State) (me owner : ℕ) (acknowledges
   pub acks : c.t + 1 ≤ number_of c.n acknowledges
 
 -- the decision step of agreement: a decision was there, or it is the proposal, acknowledged by more than t
--- processors, where each that is heard to acknowledge does so
+-- processors, if each that is heard to acknowledge does so
 abbrev pub IsAcknowledgedByQuorum : Setup → State → State → ℕ → ℕ → (ℕ → Option Message) → Type 0
 IsAcknowledgedByQuorum c s after me owner heard_of = (v : ℕ) (acknowledges : ℕ → Bool) → after.decision ≡ Some v
     → ((j : ℕ) → IsHeardToSay heard_of acknowledging j → acknowledges j ≡ true)

@@ -167,7 +167,7 @@ fn take_front(alloc: Global, rest: &[u8], stage: &mut Stage) -> Result<usize, Te
     Ok(cut)
 }
 
-/// Lets go of the first bytes, and moves the others to the front.
+/// Drops the first bytes, and moves the others to the front.
 fn remove_front(bytes: &mut Vec<u8>, count: usize)
     requires { count ≤ vec_len bytes.old }
     ensures items { bytes.new.items ≡ drop count bytes.old.items }

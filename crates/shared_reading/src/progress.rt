@@ -13,7 +13,7 @@ use trace_text::{Counting, MAX_TEXT_BYTES, TextError};
 /// How far a text was read from a device.
 #[derive(Drop)]
 pub(crate) struct Progress {
-    /// Where the records of the bytes that were let go of lead.
+    /// Where the records of the dropped bytes lead.
     pub(crate) stage: Stage,
     /// How many bytes were read.
     pub(crate) total: usize,

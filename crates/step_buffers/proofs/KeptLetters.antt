@@ -130,7 +130,7 @@ letter_left-more old mid new a b round e f = go a b (nat_lt (round_in old) round
         off false = refl
     go false b t h e f = f ∙ rw (e, h) refl
 
--- messages of the receiver's past rounds may be let go
+-- messages of the receiver's past rounds may be dropped
 pub AreLetters-released : (c : Setup) (steps : List Step) (p round : ℕ) (ids : List ℕ) (letters after : List (Option Letter)) → AreLetters c steps letters
     → round ≤ passed steps p + 1 → ((s : ℕ) → Contains ids s → (q : ℕ) × IsSend steps q p s)
     → length after ≡ length letters → ((s : ℕ) → letter_at after s ≡ letter_left letters ids round s) → AreLetters c steps after

@@ -16,7 +16,8 @@ letter_at letters (suc k) = slice_index_or letters k None
 abbrev pub round_of : List (Option Letter) → ℕ → ℕ
 round_of letters s = option_map_or (λ x. x.round) (letter_at letters s) 0
 
--- the message of an id, after those of these ids were let go that were sent in an earlier round than this one
+-- the message of an id, after those of these ids were dropped that were sent in an earlier round than this
+-- one
 abbrev pub letter_left : List (Option Letter) → List ℕ → ℕ → ℕ → Option Letter
 letter_left letters ids round s = if is_in ids s && nat_lt (round_of letters s) round then None else letter_at letters s
 

@@ -1,4 +1,4 @@
-//! Letting go of messages that nobody can hear any more.
+//! Drops messages that nobody can hear any more.
 
 ghost use Rattle.std.specs.Prelude.{ℕ, ◌∷◌, [], ◌<◌, IsTrue, false, ◌≡◌, ◌≤◌, length};
 ghost use Rattle.step_buffers.specs.Letters.{letter_at, letter_left, round_of};
@@ -6,7 +6,7 @@ ghost use Rattle.step_buffers.specs.Inboxes.{ahead};
 
 use crate::letters::{Place, letter_at, round_of};
 
-/// Lets go of those of these messages that were sent in an earlier round than this one.
+/// Drops those of these messages that were sent in an earlier round than this one.
 pub(crate) fn release(letters: &mut Vec<Place>, ids: &[u64], round: u64)
     ensures places { length letters.new.items ≡ length letters.old.items }
     ensures left { (s : ℕ) → letter_at letters.new.items s

@@ -68,12 +68,12 @@ IsNamedMiss-refutes set trace g d e m l n = let q = n.long in record { miss = n.
 pub IsNamedGap-refutes : (set : ℕ) (trace : Recorded) (g f e : ℕ) (w : Gap) → e < f → IsNamedGap set trace g f w → GapRefutes set trace g e w
 IsNamedGap-refutes set trace g f e w l n = let q = n.long in record { gap = n.gap; from = n.from; long = omega arith }
 
--- so the witness beside a bound refutes each smaller one, if there is a witness
+-- so the witness of a bound refutes each smaller one, if there is a witness
 pub NamesMiss-refutes : (set : ℕ) (trace : Recorded) (g d : ℕ) (o : Option Miss) → NamesMiss set trace g d o → IfSome o (λ m. (e : ℕ) → e < d → MissRefutes set trace g e m)
 NamesMiss-refutes set trace g d None n = tt
 NamesMiss-refutes set trace g d (Some m) n = λ e l. IsNamedMiss-refutes set trace g d e m l n.1
 
--- and so does the gap beside a processor bound
+-- and so does the gap of a processor bound
 pub NamesGap-refutes : (set : ℕ) (trace : Recorded) (g f : ℕ) (o : Option Gap) → NamesGap set trace g f o → IfSome o (λ w. (e : ℕ) → e < f → GapRefutes set trace g e w)
 NamesGap-refutes set trace g f None n = tt
 NamesGap-refutes set trace g f (Some w) n = λ e l. IsNamedGap-refutes set trace g f e w l n.1
@@ -122,7 +122,7 @@ IsNamedGap-steady set trace g h f v w l a b =
     let more : w.proc ≤ v.proc = b.least v a.gap (omega arith) a.long in
     Gap-same w v (omega arith) (omega arith) (omega arith)
 
--- if the bound from g is the bound from a later h too, so is the witness beside it
+-- if the bound from g is the bound from a later h too, so is its witness
 pub NamesMiss-steady : (set : ℕ) (trace : Recorded) (g h d : ℕ) (m o : Option Miss) → IsTimed trace → g ≤ h → NamesMiss set trace g d m → NamesMiss set trace h d o → o ≡ m
 NamesMiss-steady set trace g h d None None time l a b = refl
 NamesMiss-steady set trace g h d None (Some o) time l a b = absurd (let q : 1 < d = b.0 in omega arith)

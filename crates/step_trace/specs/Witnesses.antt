@@ -55,12 +55,12 @@ pub record IsNamedGap (set : ℕ) (trace : Recorded) (g f : ℕ) (w : Gap) : Typ
   pub greatest : (o : Gap) → IsGap set trace o → g ≤ o.from → o.from + f ≡ o.to + 2 → o.from ≤ w.from
   pub least : (o : Gap) → IsGap set trace o → o.from ≡ w.from → o.from + f ≡ o.to + 2 → w.proc ≤ o.proc
 
--- the witness beside a communication bound: none at 1, else the named miss
+-- the witness of a communication bound: none at 1, else the named miss
 abbrev pub NamesMiss : ℕ → Recorded → ℕ → ℕ → Option Miss → Type 0
 NamesMiss set trace g d None = d ≡ 1
 NamesMiss set trace g d (Some m) = (1 < d) × IsNamedMiss set trace g d m
 
--- the witness beside a processor bound: none at 1, else the named gap
+-- the witness of a processor bound: none at 1, else the named gap
 abbrev pub NamesGap : ℕ → Recorded → ℕ → ℕ → Option Gap → Type 0
 NamesGap set trace g f None = f ≡ 1
 NamesGap set trace g f (Some w) = (1 < f) × IsNamedGap set trace g f w

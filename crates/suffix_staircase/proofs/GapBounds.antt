@@ -19,7 +19,7 @@ pub phi_positive : (set : ℕ) (trace : Recorded) (g f : ℕ) (o : Option Gap) �
 phi_positive set trace g f None h = omega arith
 phi_positive set trace g f (Some w) h = let l = h.0 in omega arith
 
--- no smaller bound holds than the one beside its named gap
+-- no smaller bound holds than the one with its named gap
 phi_least : (set : ℕ) (trace : Recorded) (g f : ℕ) (o : Option Gap) → NamesGap set trace g f o → (e : ℕ) → 1 ≤ e → PhiHolds set trace g e → f ≤ e
 phi_least set trace g f None h e p holds = omega arith
 phi_least set trace g f (Some w) h e p holds = elim (cases_lt e f) [

@@ -19,7 +19,7 @@ delta_positive : (set : ℕ) (t : Recorded) (g d : ℕ) (o : Option Miss) → Na
 delta_positive set t g d None h = omega arith
 delta_positive set t g d (Some m) h = let l = h.0 in omega arith
 
--- no smaller bound holds than the one beside its named miss
+-- no smaller bound holds than the one with its named miss
 delta_least : (set : ℕ) (t : Recorded) (g d : ℕ) (o : Option Miss) → NamesMiss set t g d o → (e : ℕ) → 1 ≤ e → DeltaHolds set t g e → d ≤ e
 delta_least set t g d None h e p holds = omega arith
 delta_least set t g d (Some m) h e p holds = elim (cases_lt e d) [

@@ -30,7 +30,7 @@ pub record AreLevelsFrom (set : ℕ) (trace : Recorded) (x : ℕ) (levels : List
   pub count : length levels + x ≡ trace.last + 1
   pub each : (k : ℕ) (level : Level) → slice_get levels k ≡ Some level → IsLevelAt set trace (x + k) level
 
--- each miss of a message sent in tick g or later is shorter than d, and this is the witness beside d
+-- each miss of a message sent in tick g or later is shorter than d, and this is the witness of d
 pub record KnowsMisses (set : ℕ) (trace : Recorded) (g d : ℕ) (witness : Option Miss) : Type 0 where
   pub shorter : (m : Miss) → IsMiss set trace m → g ≤ tick_of trace m.sent → tick_of trace m.missed < tick_of trace m.sent + d
   pub named : NamesMiss set trace g d witness
@@ -42,17 +42,17 @@ pub record IsNamedAfter (set : ℕ) (trace : Recorded) (done d : ℕ) (m : Miss)
   pub long : tick_of trace m.sent + d ≡ tick_of trace m.missed + 1
   pub greatest : (o : Miss) → IsMiss set trace o → done < o.sent → tick_of trace o.sent + d ≡ tick_of trace o.missed + 1 → o.sent ≤ m.sent
 
--- the witness beside a communication bound for messages after number done: none at 1
+-- the witness of a communication bound for messages after number done: none at 1
 abbrev pub NamesAfter : ℕ → Recorded → ℕ → ℕ → Option Miss → Type 0
 NamesAfter set trace done d None = d ≡ 1
 NamesAfter set trace done d (Some m) = (1 < d) × IsNamedAfter set trace done d m
 
--- each miss of a message after number done is shorter than d, and this is the witness beside d
+-- each miss of a message after number done is shorter than d, and this is the witness of d
 pub record KnowsMissesAfter (set : ℕ) (trace : Recorded) (done d : ℕ) (witness : Option Miss) : Type 0 where
   pub shorter : (m : Miss) → IsMiss set trace m → done < m.sent → tick_of trace m.missed < tick_of trace m.sent + d
   pub named : NamesAfter set trace done d witness
 
--- each gap from tick g on is shorter than f, and this is the witness beside f
+-- each gap from tick g on is shorter than f, and this is the witness of f
 pub record KnowsGaps (set : ℕ) (trace : Recorded) (g f : ℕ) (witness : Option Gap) : Type 0 where
   pub shorter : (w : Gap) → IsGap set trace w → g ≤ w.from → w.to + 1 < w.from + f
   pub named : NamesGap set trace g f witness

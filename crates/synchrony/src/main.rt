@@ -45,7 +45,7 @@ fn main(rt: HostRuntime) -> ExitCode {
 /// run and of the workers of a report.
 fn run<R: Threads + Wait + Clock + Sync>(rt: &HostRuntime, threads: &R) -> Result<u8, Fault> {
     let job = read_command(rt.alloc(), words(rt)?).map_err(refused_line)?;
-    // (each function takes what the job holds, and lets go of it)
+    // (each function takes what the job holds, and drops it)
     match job {
         Job::Report(job) => report(rt, threads, job),
         Job::Brief(job) => answer(rt, job.file, &job.brief),

@@ -48,7 +48,7 @@ impl<W> Output<W> {
     }
 }
 
-/// How a job ends that stopped for a fault: without a word where it is a failed write to a pipe that nobody reads any
+/// How a job ends that stopped for a fault: without a word if it is a failed write to a pipe that nobody reads any
 /// more.
 pub fn stopped(is_closed: bool, fault: Fault) -> Result<u8, Fault>
     ensures { result ≡ stopped is_closed fault }

@@ -5,8 +5,8 @@ use Rattle.chunk_join.specs.Joins.{JoinedLaws}
 use Rattle.chunk_join.specs.Summaries.{Summary, Whole, IsPartBy}
 use Rattle.chunk_join.specs.Parts.{joined_by, refusal}
 
--- A part that isn't empty is encoded by one value, which gives its set and its ticks; two adjacent ones give by
--- `both` the value of both together.
+-- A part that isn't empty is encoded by one value, which gives its set and its ticks. For two adjacent ones
+-- `both` gives the value of both together.
 pub record StandsForParts (Is : ℕ → Recorded → ℕ → ℕ → Summary → Type 0) (both : Summary → Summary → Summary) : Type 0 where
   pub members : (set : ℕ) (t : Recorded) (i j : ℕ) (x : Summary) → Is set t i j x → x.set ≡ set
   pub from : (set : ℕ) (t : Recorded) (i j : ℕ) (x : Summary) → Is set t i j x → x.from ≡ i + 1

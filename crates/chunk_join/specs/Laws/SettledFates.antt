@@ -54,8 +54,8 @@ takes_of-true m x e f = grind (arith, e, f)
 pub takes_of-same : (m : Message) (x : Take) → takes_of m x ≡ true → x.sent.no ≡ m.sent.no
 takes_of-same m x e = eqb-true x.sent.no m.sent.no (and_parts (x.sent.no == m.sent.no) (x.sent.tick == m.sent.tick) e).0
 
--- Of what members take after cut s up to tick j the list has all that was sent as this message is, and with these last
--- Receives each take gives the last miss before it.
+-- The list has all messages like this one that members take after cut s up to tick j. With these last Receives each
+-- take gives the last miss before it.
 pub record KnowsTakes (set : ℕ) (t : Recorded) (s j : ℕ) (taken : List Take) (last : List (Option Place)) (m : Message) : Type 0 where
   pub sound : (y : Take) → Contains taken y → IsAnyTake set t s y × (y.at.tick ≤ j)
   pub complete : (y : Take) → IsAnyTake set t s y → y.at.tick ≤ j → y.sent.tick ≡ m.sent.tick → Contains taken y

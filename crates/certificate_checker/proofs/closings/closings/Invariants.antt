@@ -2,7 +2,7 @@ use Rattle.std.proofs.Common.{◌+◌, ◌≤◌}
 use Rattle.certificate_checker.specs.Closings.{KnowsEnds}
 use Rattle.certificate_checker.proofs.closings.closings.Given as goal
 
--- the ends of the members below p are put down
+-- the ends of the members below p are noted
 abbrev pub invariant-loop-p : goal.invariant-loop-p
 invariant-loop-p l = record {
   end : l.p ≤ l.trace.config.n + 1;

@@ -4,7 +4,7 @@ use Rattle.certificate_checker.specs.declared.silences.Silence.{Silence}
 use Rattle.certificate_checker.specs.Silences.{KnowsSilence}
 use Rattle.certificate_checker.proofs.silences.before_all.Given as goal
 
--- this many silences were put down
+-- this many silences were added
 abbrev pub invariant-loop : goal.invariant-loop
 invariant-loop l = record {
   end : l.counter ≤ l.trace.config.n + 1;

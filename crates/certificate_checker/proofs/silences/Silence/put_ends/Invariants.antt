@@ -4,7 +4,7 @@ use Rattle.certificate_checker.specs.Silences.{IsSilence}
 use Rattle.certificate_checker.proofs.ClosedTicks.{AreBefore}
 use Rattle.certificate_checker.proofs.silences.Silence.put_ends.Given as goal
 
--- the ends of the silences before `from` are put down, and so many ticks are before it
+-- the ends of the silences before `from` are noted, and so many ticks are before it
 abbrev pub invariant-loop-tick : goal.invariant-loop-tick
 invariant-loop-tick l = record {
   long : length l.ends.items ≡ l.trace.last + 1;
