@@ -84,8 +84,8 @@ pub(crate) fn stairs_of(alloc: Global, part: &Part) -> Result<Stairs, AllocError
     Ok(builder.build())
 }
 
-/// The least tick from which on to tick `g`, with this processor bound, no message or silence that is left changes the
-/// level.
+/// The least tick such that, from there to tick `g`, no message or silence that is left changes the level of `g`, which
+/// has this processor bound.
 fn quiet_from(part: &Part, messages: usize, silences: usize, phi: u64, g: u64) -> u64
     requires messages { messages ≤ length part.now.sent }
     requires silences { silences ≤ length part.now.silent }

@@ -1,5 +1,5 @@
--- Rounds (section 3: phase k is the trying rounds 4k-3, 4k-2, 4k-1 and the lock-release round 4k;
--- it belongs to processor i where k is congruent to i modulo N).
+-- Rounds (section 3): phase k is the trying rounds 4k-3, 4k-2, 4k-1 and the lock-release round 4k. It
+-- belongs to processor i if k is congruent to i modulo N.
 use Rattle.std.specs.Prelude.{ℕ, ◌+◌, ◌-◌, ◌/◌, ◌%◌, ◌==◌, if◌then◌else◌}
 
 -- the phase of a round; both count from 1
@@ -14,7 +14,7 @@ part_of round = (round - 1) % 4 + 1
 abbrev pub owner : ℕ → ℕ → ℕ
 owner n phase = (phase - 1) % n + 1
 
--- The four rounds of a phase: lists go to the owner; the owner's lock goes to everybody;
+-- The four rounds of a phase. Lists go to the owner; the owner's lock goes to everybody;
 -- acknowledgements go to the owner; everybody's locks go to everybody.
 pub data Part : Type 0 where
   Listing : Part

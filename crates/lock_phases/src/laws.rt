@@ -19,8 +19,8 @@ ghost use Rattle.lock_phases.specs.NodeLaws.{TakesIn, IsListOf, ListingKeeps, Is
 
 use crate::bodies::Kind;
 
-/// In every round: where PROPER, a proposal and a decision come from, that a decision stays, and that PROPER and
-/// the locks go on rising by value.
+/// In every round: where PROPER, a proposal and a decision come from, and that a decision stays. PROPER and the
+/// locks go on rising by value.
 pub fn origin_laws()
     ensures proper { (c : Setup) (s : State) (me round : ℕ) (heard : List Message) →
         TakesIn heard s.proper (next c s me round heard).proper }
@@ -34,8 +34,8 @@ pub fn origin_laws()
         IsRising s → IsRising (next c s me round heard) }
 {}
 
-/// What a node says, with its PROPER: to the owner the list of its values that are proper and acceptable; as the
-/// owner its proposal, for everybody to lock; to the owner the acknowledgement that it owes; to everybody its
+/// What a node says, with its PROPER: to the owner the list of its values that are proper and acceptable, and the
+/// acknowledgement that it owes. As the owner it sends everybody its proposal to lock. To everybody it sends its
 /// locks. It says nothing else, and what it says is so.
 pub fn sending_laws()
     ensures list { (c : Setup) (s : State) (me round : ℕ) → part_of round ≡ 1 →
@@ -68,8 +68,8 @@ pub fn listing_laws()
         IsRefusedByFew c heard_of (next c s (owner c.n (phase_of round)) round (heard_from c.n heard_of)).proposal }
 {}
 
-/// In a locking round a node that hears the owner's Lock locks its value in this phase, in place of an older lock
-/// on it, and owes an acknowledgement; nothing else is locked, and no other lock goes.
+/// In a locking round a node that hears the owner's Lock locks its value in this phase, in place of an older lock on
+/// it, and owes an acknowledgement. Nothing else is locked, and no other lock goes.
 pub fn locking_laws()
     ensures keeps { (c : Setup) (s : State) (me round : ℕ) (heard : List Message) → part_of round ≡ 2 →
         LockingKeeps s (next c s me round heard) }
@@ -86,7 +86,7 @@ pub fn locking_laws()
 {}
 
 /// In an acknowledging round an owner that has a proposal and hears at least t + 1 acknowledgements has decided: its
-/// decision of before, or else its proposal. Nobody else decides.
+/// earlier decision, or else its proposal. Nobody else decides.
 pub fn acknowledging_laws()
     ensures keeps { (c : Setup) (s : State) (me round : ℕ) (heard : List Message) → part_of round ≡ 3 →
         AcknowledgingKeeps s (next c s me round heard) }

@@ -1,6 +1,6 @@
 //! One node of Algorithm 1 (section 3 of Dwork, Lynch and Stockmeyer, "Consensus in the Presence of
-//! Partial Synchrony", 1988): what it sends in a round, and its state after the round. `specs/` has both
-//! as functions over plain data, and `laws` says what holds of them.
+//! Partial Synchrony", 1988): what it sends in a round, and its state after it. `specs/` has both as
+//! functions over plain data, and `laws` says what holds of them.
 #![tactic(auto)]
 
 mod bodies;

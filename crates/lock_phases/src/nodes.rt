@@ -135,8 +135,8 @@ impl Node {
         }
     }
 
-    /// What processor `me` with this node sends to processor `to` in a round, if anything; PROPER is
-    /// attached to all that it sends (section 3 of the 1988 paper).
+    /// What processor `me` with this node sends to processor `to` in a round, if anything (section 3 of the
+    /// 1988 paper). PROPER is attached to all that it sends.
     #[tactic(auto, using(crate::proofs::Sendings::out_by_part))]
     pub fn out(
         &self,

@@ -3,8 +3,8 @@
 ghost use Rattle.std.specs.Prelude.{◌≡◌, ◌≤◌};
 ghost use Rattle.lock_phases.specs.Rounds.{phase_of, part_of, owner};
 
-/// The phase of a round, both counted from 1: phase k is the trying rounds 4k-3, 4k-2 and 4k-1 and the
-/// lock-release round 4k (section 3 of the 1988 paper).
+/// The phase of a round, both counted from 1 (section 3 of the 1988 paper). Phase k is the trying
+/// rounds 4k-3, 4k-2 and 4k-1 and the lock-release round 4k.
 pub fn phase_of(round: u64) -> u64
     requires { 1 ≤ round }
     ensures { result ≡ phase_of round }

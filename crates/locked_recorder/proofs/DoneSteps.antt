@@ -62,8 +62,8 @@ passed-own steps n x at = ap (λ (xs : List Step). passed xs x.proc) (take_next 
 pub passed-other : (steps : List Step) (n p : ℕ) (x : Step) → step_at steps (suc n) ≡ Some x → (x.proc == p) ≡ false → passed (take (n + 1) steps) p ≡ passed (take n steps) p
 passed-other steps n p x at off = ap (λ (xs : List Step). passed xs p) (take_next steps n x at) ∙ passed-stays (take n steps) x p (rw off refl)
 
--- What was done last in the first steps, by the round of its processor then, and by the decision that it has in that
--- round in the whole trace.
+-- What was done last in the first steps: by the round of its processor then, and by its decision in that round in
+-- the whole trace.
 pub done_last-by_round : (c : Setup) (steps : List Step) (n : ℕ) (x : Step) (round : ℕ) (decision : Option ℕ) → IsWellFormed c steps → n ≤ length steps
     → round ≡ passed (take n steps) x.proc + 1 → decision ≡ (state_after c (heard_table steps) (round - 1) x.proc).decision
     → record { no = n; step = x; round = round; decision = decision } ≡ done_last c (take n steps) x

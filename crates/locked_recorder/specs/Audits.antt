@@ -63,8 +63,8 @@ pub record IsFirstWithout {X : Type 0} (P : X → Type 0) (xs : List X) (k : ℕ
   pub before : All P (take k xs)
   pub without : (d : X) → ¬ P (slice_index_or xs k d)
 
--- how the seats or the views are off a trace: the seat of p is the first that doesn't agree with it; or all seats
--- agree, and the view of index k is the first that isn't extended
+-- how the seats or the views are off a trace: the seat of p is the first that doesn't agree with it. Or all seats
+-- agree, and the view of index k is the first that isn't extended.
 abbrev pub IsOff : Recorded → List Turns → List (Option Recorded) → AuditError → Type 0
 IsOff trace seats views (audit_error.SeatDiffers p) = (k : ℕ) × (p ≡ k + 1) × IsFirstWithout (λ s. Agrees trace.config trace.steps s) seats k
 IsOff trace seats views (audit_error.ViewDiffers k) = AgreeWith trace.config trace.steps seats × IsFirstWithout (λ v. IsExtended trace v) views k

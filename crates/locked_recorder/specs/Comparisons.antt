@@ -6,7 +6,7 @@ use Rattle.step_buffers.specs.declared.moves.Done.{Done}
 use Rattle.locked_recorder.specs.Seats.{Turns}
 use Rattle.locked_recorder.specs.Audits.{all_done, done_of, Agrees}
 
--- After n steps of a trace: the first k things that the seat did are what its processor did in these steps; or
+-- After n steps of a trace, the first k things that the seat did are what its processor did in these steps. Or
 -- what it did isn't what its processor does in the trace.
 abbrev pub IsCompared : Setup → List Step → ℕ → Turns → Option ℕ → Type 0
 IsCompared c steps n s (Some k) = (done_of (take n (all_done c steps)) s.proc ≡ take k s.done) × (k ≤ length s.done)

@@ -26,8 +26,8 @@ received done = fold (λ n d. received_with n d.step.act) 0 done
 abbrev pub drive_receive : ℕ → ℕ → Move
 drive_receive patience before = Receive All (before + 1 == patience)
 
--- The move of a drive that made so many Receives in the round: before the first of them it sends where there is something
--- to send, and else it receives.
+-- The move of a drive that made so many Receives in the round. Before the first of them it sends if there is something
+-- to send; else it receives.
 abbrev pub drive_move : ℕ → ℕ → Option ℕ → Move
 drive_move patience before = chosen (before == 0) (drive_receive patience before)
 
@@ -36,8 +36,8 @@ pub record IsMoved (r : Identity) (patience before after : ℕ) (old new : Turns
   pub chosen : IsChosen r (drive_move patience before) old new
   pub counted : after ≡ received_with before chosen.done.step.act
 
--- A seat after so many steps: as many things more are done, each of which a World of the recorder answers to the move
--- of the drive after the things before it. Steps are made from a seat of the recorder's tag alone.
+-- A seat after so many steps. As many things more are done, each of which a World of the recorder answers to the move
+-- of the drive after the things before it. Steps are made only from a seat with the recorder's tag.
 pub record IsDriven (r : Identity) (patience steps : ℕ) (old new : Turns) : Type 0 where
   pub more : List Done
   pub count : length more ≡ steps

@@ -14,14 +14,14 @@ use Rattle.locked_recorder.specs.declared.errors.RecordError.TheVariants as reco
 use Rattle.locked_recorder.specs.Seats.{Turns}
 use Rattle.locked_recorder.specs.Recorders.{Identity}
 
--- The steps of a World of a recorder: a run of its configuration, of no more steps than may be made in it, of which
--- there are at most as many as a trace may have.
+-- The steps of a World of a recorder: a run of its configuration, of no more steps than may be made in it. These
+-- are at most as many as a trace may have.
 pub record IsWorldOf (r : Identity) (steps : List Step) : Type 0 where
   pub run : IsRun r.config steps
   pub within : length steps ≤ r.limit
   pub bounded : r.limit ≤ MAX_STEPS
 
--- This was done on a World of a recorder by this move of p: the move isn't refused, and what was done is its step,
+-- This was done on a World of a recorder by this move of p. The move isn't refused, and what was done is its step,
 -- with its number, and the round and decision of p after it.
 pub record IsAnswer (r : Identity) (p : ℕ) (move : Move) (done : Done) : Type 0 where
   pub before : List Step

@@ -17,9 +17,9 @@ use step_buffers::World;
 use step_trace::Config;
 
 impl Recorder {
-    /// A copy of the recorder's World, if all seats and views fit its trace: each seat did exactly what its processor
-    /// does in the trace, with the rounds and decisions that it was answered, and the trace extends all that was
-    /// shown to the views. So each step of the trace is in exactly one seat.
+    /// A copy of the recorder's World, if all seats and views fit its trace. Each seat did exactly what its processor
+    /// does in the trace, with the rounds and decisions that it was answered. The trace extends all that was shown to
+    /// the views. So each step of the trace is in exactly one seat.
     ///
     /// Refuses in the order of `AuditError`. Waits for the lock, and copies the World under it; compares without it.
     /// Takes memory for the copy, and for two numbers for each seat.

@@ -22,12 +22,12 @@ struct Pace {
 }
 
 impl Recorder {
-    /// Makes so many steps from a seat, as a thread of its own does: it enters the gate once, and then sends
-    /// while there is something to send, and otherwise receives all that waits. The `patience`-th Receive in
-    /// a round ends the round; Receives before this call don't count.
+    /// Makes so many steps from a seat, as a thread of its own does. It enters the gate once, and then sends while
+    /// there is something to send, and otherwise receives all that waits. The `patience`-th Receive in a round ends
+    /// the round; Receives before this call don't count.
     ///
-    /// Asks for a patience of at least 1. Refuses in the order of `DriveStop`; the steps made stay. Waits for
-    /// the lock. Takes memory as `Seat::step` does.
+    /// Asks for a patience of at least 1. Refuses in the order of `DriveStop`; the steps made stay. Waits for the
+    /// lock. Takes memory as `Seat::step` does.
     pub fn drive<R: Wait, G: Gate>(
         &self,
         rt: &R,

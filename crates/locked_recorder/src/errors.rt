@@ -16,8 +16,8 @@ pub enum RecordError {
 #[derive(Debug, Drop)]
 pub enum PrefixError {
     /// The trace doesn't extend what the view has seen. At number `at`, the least such, it has `found`, a step
-    /// with its tick, which isn't the view's; where it has all steps of the view, `at` is the number after
-    /// them. At 0 it is of another configuration, or the World isn't of the recorder's configuration and limit.
+    /// with its tick, which isn't the view's. If it has all steps of the view, `at` is the number after them. At
+    /// 0 it is of another configuration, or the World isn't of the recorder's configuration and limit.
     NotAnExtension { at: u64, found: Option<(u64, Step)> },
     /// Out of memory for the copies.
     Memory,

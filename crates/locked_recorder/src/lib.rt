@@ -1,5 +1,5 @@
-//! A World that many threads move: the lock, the seats from which they make their steps, and the views of the
-//! trace that they were shown. `specs/` says what each call answers.
+//! A World that many threads move: the lock, the seats from which they make their steps, and the views of its
+//! trace. `specs/` says what each call answers.
 #![tactic(auto)]
 
 mod audits;

@@ -18,10 +18,10 @@ use step_buffers::{Done, Move, StepError, World};
 use step_trace::{Act, Gate};
 
 impl Recorder {
-    /// Makes so many steps from a seat as `drive` does, by the pace "heard out": it enters the gate once, and then sends
-    /// while there is something to send, and otherwise receives all that waits. A Receive ends the round if all has been
-    /// heard that the round can bring, if something of a round more than a phase later was taken, or if it is the
-    /// `patience`-th in the round (`Pace` of `deciding_runs`). What was heard before this call doesn't count.
+    /// Makes so many steps from a seat as `drive` does, by the pace "heard out". It enters the gate once, and then
+    /// sends while there is something to send, and otherwise receives all that waits. A Receive ends the round if all
+    /// has been heard that the round can bring, if something of a round more than a phase later was taken, or if it is
+    /// the `patience`-th in the round (`Pace` of `deciding_runs`). What was heard before this call doesn't count.
     ///
     /// Before an idle Receive, which would take nothing and not end the round, it sleeps until a message comes, as long
     /// as another thread of this company is awake. At its end it wakes them.
@@ -48,9 +48,9 @@ impl Recorder {
         driven
     }
 
-    /// Makes steps from a seat as `drive_heard_out` does, until all processors of this company have decided, but no more
-    /// than `steps`; and says how many it made. A processor counts as decided from the first step on that its thread makes
-    /// with a decision.
+    /// Makes steps from a seat as `drive_heard_out` does, until all processors of this company have decided, but no
+    /// more than `steps`. Answers how many it made. A processor counts as decided from the first step on that its
+    /// thread makes with a decision.
     ///
     /// Refuses, waits and takes memory as `drive_heard_out` does.
     pub fn drive_until_decided<R: Wait, G: Gate>(

@@ -33,7 +33,7 @@ impl Model for Recorder {
 }
 
 impl Recorder {
-    /// A recorder over the World of a configuration in which no step was made and at most so many may be; and a
+    /// A recorder over the World of a configuration, in which no step was made and at most so many may be. And a
     /// seat for each processor, in order. Seats don't distinguish recorders of one tag.
     ///
     /// Asks for at most 1,000,000 steps. Takes memory for each processor.

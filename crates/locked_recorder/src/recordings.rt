@@ -30,8 +30,8 @@ impl Recorder {
         seat.step(rt, alloc, self, step)
     }
 
-    /// Makes one step of processor `p` under the lock: a Send, where sends come first and there is something to send;
-    /// and else by this move.
+    /// Makes one step of processor `p` under the lock: a Send, if sends come first and there is something to send; else
+    /// this move.
     fn make<R: Wait>(
         &self,
         rt: &R,

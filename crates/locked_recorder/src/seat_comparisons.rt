@@ -50,8 +50,8 @@ fn round_after(step: &Step, round: u64) -> u64
     }
 }
 
-/// How many of the first things that a seat did are what its processor did, with one step more, where so many were
-/// it before; none from the first difference on.
+/// How many of the first things that a seat did are what its processor did, with one step more, if so many were
+/// before it. None from the first difference on.
 fn next_agreed(
     own: &[Done],
     agreed: Option<usize>,

@@ -33,8 +33,8 @@ HaveMadeAtMost c n steps = All (λ p. length (own_steps steps p) ≤ n) (process
 abbrev pub AllDecided : Setup → List Step → Type 0
 AllDecided c steps = (p : ℕ) → IsProc c p → IsTrue (is_some (node_at c steps p).decision)
 
--- When a run has ended: when each processor has made so many steps; or, if it ends with the decisions, when each made at
--- most so many, and all have decided or made them all.
+-- When a run has ended: when each processor has made so many steps. Or, if it ends with the decisions, when each made
+-- at most so many, and all have decided or made them all.
 abbrev pub HasEnded : RunEnd → Setup → ℕ → List Step → Type 0
 HasEnded end.Steps c n steps = HaveMade c n steps
 HasEnded end.Decided c n steps = HaveMadeAtMost c n steps × (AllDecided c steps ⊎ HaveMade c n steps)

@@ -9,8 +9,8 @@ use Rattle.simulated_runs.specs.Crashes.{StepBeforeCrashes}
 use Rattle.simulated_runs.specs.KeptBounds.{AreLive}
 use Rattle.node_runs.specs.DecisionLines.{told_decisions}
 
--- A run of the configuration with so many steps, in which no processor steps after it crashed. Where bounds are stated,
--- from the tick after the stabilization time on the processor bound holds for each set of live processors, and the
+-- A run of the configuration with so many steps, in which no processor steps after it crashed. If bounds are stated,
+-- they hold from the tick after the stabilization time on: the processor bound for each set of live processors, the
 -- communication bound for each set.
 pub record IsSimulated (o : SimulationOptions) (trace : Recorded) : Type 0 where
   pub config : trace.config ≡ o.config

@@ -51,7 +51,7 @@ pub struct Follower<W> {
     writer: Counting<W>,
 }
 
-/// The follower of the run of a configuration for these correct processors, in which so many steps are to be made; none
+/// The follower of the run of a configuration for these correct processors, in which so many steps are to be made. None
 /// if there are none to follow. If it is out of memory it reports that, and there is no follower.
 ///
 /// Refuses only Set, if a correct processor is above the configuration's number of processors.
@@ -148,7 +148,7 @@ impl<W: Write> Follower<W> {
         count < self.all && count.saturating_sub(self.told).saturating_mul(PORTIONS) >= self.all
     }
 
-    /// Prints the bounds of a trace, as `tell` does, and who decided since the last line, if a line is due: the trace
+    /// Prints the bounds of a trace, as `tell` does, and who decided since the last line, if a line is due. The trace
     /// may have got its last steps since they were counted.
     fn tell_due(&mut self, alloc: Global, prefix: &DecidedPrefix)
         ensures set { self.new.analyst.set ≡ self.old.analyst.set }

@@ -29,8 +29,8 @@ pub struct Standing {
     pub whole: LeastBounds,
     /// The bounds from `RECENT_TICKS` before the last tick on, or from tick 1 where there are no more.
     pub recent: LeastBounds,
-    /// The least processor of the set that makes no step from the recent tick on, if there is one: then Φ there only says
-    /// how long it is silent.
+    /// The least processor of the set that makes no step from the recent tick on, if there is one. Φ there then only
+    /// says how long it is silent.
     pub silent: Option<u64>,
 }
 
@@ -79,7 +79,7 @@ fn bounds_from(stairs: &Stairs, from: u64) -> LeastBounds
     }
 }
 
-/// The least member that makes no step from a tick on, if there is one: the named gap then goes from there to the end,
+/// The least member that makes no step from a tick on, if there is one. The named gap then goes from there to the end,
 /// since none is longer.
 fn silent_since(stairs: &Stairs, from: u64) -> Option<u64>
     requires low { 1 ≤ from }

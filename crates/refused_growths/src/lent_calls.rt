@@ -32,7 +32,7 @@ impl<C: LentCall> Call for Swept<'_, C> {
 }
 
 /// Makes the call with each allocation refused, one at a time, until none is. Gives the number of the first
-/// allocation with a wrong outcome, if there was one; 0 if allocations are refused, and none of the call was.
+/// allocation with a wrong outcome, if there was one. 0 if allocations are refused, and none of the call was.
 pub fn first_wrong_lent<C: LentCall>(alloc: Global, call: &C) -> Option<usize> {
     let mut swept = Swept { call, refused: 0 };
     let wrong = first_wrong(alloc, &mut swept);

@@ -1,4 +1,4 @@
-//! Sweeps of refused allocations: a call is made again and again, with its first allocation refused, then its second,
+//! Sweeps of refused allocations. A call is made again and again, with its first allocation refused, then its second,
 //! and so on, until it ends without a refusal. The call and the judge of its answer are a [`Call`]; [`first_wrong`]
 //! makes the sweep. If a call changes nothing that it is lent, a [`LentCall`] is simpler.
 //!

@@ -46,8 +46,8 @@ own-phase n p from low high = go (cases_lt (p - 1) (from % n))
         let k = from / n * n + (p - 1) in
         (k + 1, record { later = omega (arith, split, below); soon = omega (arith, split, below); owns = owned (from / n) k refl })
 
--- A phase after the first decides, from the nodes before the last round of the phase before it: in that round the members hear one
--- another, and so they all list one value when the phase begins.
+-- A phase after the first decides, from the nodes before the last round of the phase before it. In that round the
+-- members hear one another, and so they all list one value when the phase begins.
 phase_after-decides : (c : Setup) (member : ℕ → Bool) (table : Table) (rounds o : ℕ) → IsSetup c → part_of (suc rounds) ≡ 4
     → o ≡ owner c.n (phase_of (suc (suc rounds))) → member o ≡ true → c.n - c.t ≤ number_of c.n member
     → ((more : ℕ) → more ≤ 3 → HearOneAnother c member table (suc rounds + more))

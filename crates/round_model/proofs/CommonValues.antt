@@ -1,5 +1,5 @@
--- After a lock-release round in which the members of a set hear one another, there is a value that each of them lists: the one that
--- is locked in the set, or any proper one where none is.
+-- After a lock-release round in which the members of a set hear one another, there is a value that each of them lists.
+-- It is the one that is locked in the set, or any proper one if none is.
 use Rattle.std.proofs.Common.{ℕ, ◌≡◌, Bool, true, false, ◌&&◌, List, [], ◌∷◌, refl, sym, ◌∙◌}
 use Rattle.std.specs.Prelude.{Contains}
 use Rattle.std.specs.List.{list_any}

@@ -1,5 +1,5 @@
--- A phase decides whose owner is in a set of at least N - t processors that hear one another in its first three rounds, and that
--- all list one value when it begins.
+-- A phase decides if its owner is in a set of at least N - t processors that hear one another in its first three
+-- rounds, and that all list one value when it begins.
 use Rattle.std.proofs.Common.{ℕ, suc, ◌≡◌, ◌-◌, ◌≤◌, Bool, true, Option, Some, None, is_some, refl, sym, ap, subst, ◌∙◌, arith}
 use Rattle.std.specs.Prelude.{Contains, option_map}
 use Rattle.step_trace.specs.Configurations.{Setup, IsSetup}

@@ -36,7 +36,7 @@ FlagsMeanFreshLocks-unset nodes phase part unset =
 abbrev pub is_locked_since : ℕ → ℕ → List LockPair → Bool
 is_locked_since phase v locks = list_any (λ lock. value_of lock == v && nat_le phase (phase_of_lock lock)) locks
 
--- A value is anchored at a phase whose acknowledging round is over: more than t processors hold it locked
+-- A value is anchored at a phase whose acknowledging round is over. More than t processors hold it locked
 -- since that phase, nobody holds another value so, and no other value is proposed.
 pub record IsAnchored (c : Setup) (nodes : ℕ → State) (phase part v : ℕ) : Type 0 where
   pub anchor : ℕ

@@ -1,5 +1,5 @@
--- After a lock-release round in which the members of a set hear one another they hold locks on at most one value, which is in the
--- PROPER of each of them; and what one of them had in its PROPER, all have.
+-- After a lock-release round in which the members of a set hear one another, they hold locks on at most one value,
+-- which is in the PROPER of each of them. What one of them had in its PROPER, all have.
 use Rattle.std.proofs.Common.{ℕ, ◌≡◌, ◌≤◌, inl, inr, Bool, true, List, sym, arith}
 use Rattle.std.specs.Prelude.{Contains}
 use Rattle.std.proofs.lemmas.Bool.{cases_lt, cases_eq}

@@ -1,5 +1,5 @@
--- The bounded decision (section 3): where the processors of a large enough set hear one another from some round on, each of them
--- has decided by a round that is known beforehand.
+-- The bounded decision (section 3). If the processors of a large enough set hear one another from some round on, each
+-- of them has decided by a round that is known beforehand.
 use Rattle.std.specs.Prelude.{ℕ, ◌≡◌, ◌+◌, ◌-◌, ◌*◌, ◌/◌, ◌≤◌, IsTrue, is_some, Contains}
 use Rattle.step_trace.specs.Configurations.{Setup}
 use Rattle.step_trace.specs.Processors.{has_proc, IsWithin}

@@ -28,8 +28,8 @@ heard_set h p round = numbered 0 (numbered [] h.sets p) round
 abbrev pub table_of : HeardTable → Table
 table_of h p round sender = has_proc (heard_set h p round) sender
 
--- A table within the limits (own) of processors and rounds that has a set for each processor and each
--- round, and no sender that is no processor.
+-- A table within the limits (own) of processors and rounds. It has a set for each processor and each
+-- round, and all senders are processors.
 pub record IsHeardTable (h : HeardTable) : Type 0 where
   pub least : MIN_PROCESSORS ≤ h.n
   pub most : h.n ≤ MAX_PROCESSORS

@@ -21,7 +21,7 @@ abbrev pub initial_value : Setup → ℕ → ℕ
 initial_value c p = get_or c.init (p - 1) 0
 
 -- the messages that p hears in a round in which the processors have these nodes, in the order of their
--- senders; a sender that has nothing to send to p gives nothing
+-- senders. A sender that has nothing to send to p gives nothing.
 abbrev pub messages_heard : Setup → Table → (ℕ → State) → ℕ → ℕ → List Message
 messages_heard c table nodes p round =
     filter_map

@@ -11,9 +11,9 @@ use step_trace::{MAX_PROCESSORS, MIN_PROCESSORS, ProcSet};
 /// How many rounds a table may have.
 pub const MAX_ROUNDS: u64 = 1_000_000;
 
-/// Who heard whom: for each processor and each round the set of the senders that it hears in that round
-/// (section 3 of the 1988 paper: of the messages of a round that were sent to it, a processor hears some
-/// subset). Processors and rounds count from 1.
+/// Who heard whom: for each processor and each round the set of the senders that it hears in that round.
+/// (Section 3 of the 1988 paper: of the messages of a round that were sent to it, a processor hears some
+/// subset.) Processors and rounds count from 1.
 ///
 /// A set says which senders are heard if they send: a sender in a set that sends nothing gives nothing.
 #[derive(Debug, Drop)]

@@ -19,8 +19,8 @@ use step_trace::Config;
 /// The nodes of all processors, in their order, after all rounds of the table (section 3 of the 1988
 /// paper).
 ///
-/// In a round each processor sends what its node has to send, hears what was sent to it by the senders in its
-/// set of the round, and computes. For every table, no two of the nodes decide differently, and what they
+/// In a round each processor sends what its node has to send, and hears what the senders in its set of the
+/// round sent to it. Then it computes. For every table, no two of the nodes decide differently, and what they
 /// decide is somebody's initial value. If the processors of a set of at least N - t hear one another from
 /// some round on, and the table has rounds enough, each of them has decided (`decided_by`). Asks that the
 /// table has the configuration's number of processors.

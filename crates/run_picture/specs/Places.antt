@@ -34,8 +34,8 @@ height_at a b part whole =
     if nat_le a b then a + (b - a) * min part (max whole 1) / max whole 1
     else a - (a - b) * min part (max whole 1) / max whole 1
 
--- The line of a message from the middle of tick s in lane p to the middle of tick e in lane q, counted in half ticks: its
--- height at the left edge of the window, or at its beginning, if it begins in the window.
+-- The line of a message from the middle of tick s in lane p to the middle of tick e in lane q, counted in half ticks.
+-- This is its height at the left edge of the window, or at its beginning, if it begins in the window.
 abbrev pub left_height : Frame → ℕ → ℕ → ℕ → ℕ → ℕ
 left_height f s p e q = height_at (lane_middle f p) (lane_middle f q) ((f.first - s) * 2 - 1) ((e - s) * 2)
 

@@ -10,14 +10,14 @@ use Rattle.run_picture.specs.declared.windows.WindowError.TheVariants.{BadFrom, 
 abbrev pub touches : Window → ℕ → ℕ → Bool
 touches w a b = nat_le a w.to && nat_le w.first b
 
--- the last tick that is drawn: the one that is asked for, or that of so many as are usual, but none after the
--- last one of the trace
+-- the last tick in the picture: the one that is asked for, or that of so many as are usual, but none after the last one
+-- of the trace
 abbrev pub last_drawn : ℕ → ℕ → Option ℕ → ℕ
 last_drawn last first (Some to) = min to last
 last_drawn last first None = min last (first + (USUAL_TICKS - 1))
 
--- the ticks from the one to the other, which are at least one and at most MAX_WINDOW; a refusal has the last tick that
--- is asked for
+-- the ticks from the one to the other, at least one and at most MAX_WINDOW. A refusal has the last tick that is asked
+-- for.
 abbrev pub window_between : ℕ → ℕ → Option ℕ → Result Window WindowError
 window_between first drawn to =
     if nat_lt drawn first || nat_le MAX_WINDOW (drawn - first) then Err (BadTo (unwrap_or to drawn) first)
@@ -34,7 +34,8 @@ window_from last first to =
 abbrev pub window_of : ℕ → Option ℕ → Option ℕ → Result Window WindowError
 window_of last from to = window_from last (unwrap_or from 1) to
 
--- What a refusal says: the tick that is asked for is none of the trace; or it is before the first one, or too far after it.
+-- What a refusal says: the tick that is asked for is none of the trace. Or it is before the first one, or too far after
+-- it.
 abbrev pub IsUnfitWindow : ℕ → Option ℕ → Option ℕ → WindowError → Type 0
 IsUnfitWindow last from to (BadFrom given end) = (from ≡ Some given) × (end ≡ last) × (1 ≤ given → max last 1 < given)
 IsUnfitWindow last from to (BadTo given first) = (to ≡ Some given) × (first ≡ unwrap_or from 1) × (first ≤ given → first + MAX_WINDOW ≤ given)

@@ -50,8 +50,8 @@ impl BoundScale {
         self.measure(bound).min(all) * whole / all
     }
 
-    /// The bound of the line of this number from 0 on, if the scale reaches it: a power of ten, or, if the scale isn't
-    /// logarithmic, a round number such that there are at most `lines` above 0.
+    /// The bound of the line of this number from 0 on, if the scale reaches it: a power of ten. If the scale isn't
+    /// logarithmic, it is a round number such that there are at most `lines` above 0.
     pub fn line(self, number: u64, lines: u64) -> Option<u64>
         ensures { result ≡ line self number lines }
     {

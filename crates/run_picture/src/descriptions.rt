@@ -6,8 +6,8 @@ use crate::svg::put;
 use std::alloc::{AllocError, Global};
 use step_trace::{ProcSet, Row};
 
-/// Writes the title of a picture, and its description: which of the processors 1 to `count` are correct, and the bounds at the
-/// first tick and at the last.
+/// Writes the title of a picture, and its description: which of the processors 1 to `count` are correct, and the bounds
+/// at the first and the last tick.
 pub(crate) fn put_description(
     alloc: Global,
     out: &mut Vec<u8>,

@@ -16,7 +16,7 @@ use std::alloc::{AllocError, Global};
 use step_trace::{Row, Trace};
 
 /// What a picture shows: the numbers of the steps in its window, the messages that touch it, the rows
-/// whose misses and gaps do, and the rows at which the staircase has its corners.
+/// whose misses and gaps do, and the corners of the staircase.
 #[derive(Debug, Drop)]
 pub struct Picture {
     pub window: Window,

@@ -35,9 +35,9 @@ impl Window {
     }
 }
 
-/// The ticks that are asked for, of a trace with this last tick: from tick 1 if no first one is given, and
-/// `USUAL_TICKS` of them if no last one is. A last tick after that of the trace counts as that one. For a trace with
-/// no tick there is the empty window before tick 1, for any last tick.
+/// The ticks that are asked for, of a trace with this last tick. They begin at tick 1 if no first one is given, and
+/// are `USUAL_TICKS` if no last one is. A last tick after that of the trace counts as that one. For a trace with no
+/// tick there is the empty window before tick 1, for any last tick.
 pub fn window_of(last: u64, from: Option<u64>, to: Option<u64>) -> Result<Window, WindowError>
     ensures exact { result ≡ window_of last from to }
     ensures refused { IfErr result (IsUnfitWindow last from to) }

@@ -18,8 +18,8 @@ miss_at rows k = option_and_then (λ r. r.miss) (slice_get rows k)
 abbrev pub message_at : List Row → ℕ → ℕ
 message_at rows k = option_map_or (λ m. m.sent) (miss_at rows k) 0
 
--- whether a miss is alike an earlier one: none of the two messages is ever taken; or both are, and the later one was sent no later than
--- the Receive that misses the earlier one
+-- whether a miss is alike an earlier one: none of the two messages is ever taken. Or both are, and the later one was
+-- sent no later than the Receive that misses the earlier one.
 abbrev pub are_alike : Recorded → Miss → Miss → Bool
 are_alike trace m o =
     if is_taken trace.steps m.sent then is_taken trace.steps o.sent && nat_le (tick_of trace o.sent) (tick_of trace m.missed)

@@ -36,7 +36,8 @@ AreStallsTo rows n stalls = AreStretches Stall (λ s. s.first) (λ s. s.last) (I
 abbrev pub AreStalls : List Row → List Stall → Type 0
 AreStalls rows stalls = AreStallsTo rows (length rows) stalls
 
--- a gap that is a whole silence: right before it and right after it its processor takes a step, unless the trace begins or ends there
+-- a gap that is a whole silence: right before it and right after it its processor takes a step, unless the trace begins
+-- or ends there
 pub record IsWholeSilence (trace : Recorded) (w : Gap) : Type 0 where
   pub before : 1 < w.from → StepsIn trace (w.from - 1) w.proc
   pub after : w.to < trace.last → StepsIn trace (w.to + 1) w.proc

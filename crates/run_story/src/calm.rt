@@ -10,8 +10,8 @@ use step_trace::{MAX_TICKS, ProcSet, Row, Trace};
 /// For how often the greater bound the rest of a run has room, if it isn't poor.
 const ROOMS: u128 = 3;
 
-/// The place of the calm row of a report, from 0: the row with the greatest (L - gst + 1)² / (Δ · Φ), where L is the last tick,
-/// and of several the first. None if there is no row.
+/// The place of the calm row of a report, from 0: the row with the greatest (L - gst + 1)² / (Δ · Φ), where L is the
+/// last tick. The first of several. None if there is no row.
 pub fn calm_row(trace: &Trace, set: ProcSet, rows: &[Row]) -> Option<usize>
     requires { IsReport set trace.now rows.now }
     ensures { MatchOption result (rows.now ≡ []) (IsCalmRow trace.now.last rows.now) }

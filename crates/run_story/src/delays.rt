@@ -31,8 +31,8 @@ pub struct Delay {
 
 /// The delays of rows of a trace, in their order: each row with a miss is in one.
 ///
-/// Two misses are alike if none of their messages is ever taken. Or both are: then the later one is sent no later than the
-/// Receive that misses the first one, and all of a delay's messages have one receiver, or all have one sender.
+/// Two misses are alike if none of their messages is ever taken. Or both are: then the later one is sent no later than
+/// the Receive that misses the first one. And all of a delay's messages have one receiver, or all have one sender.
 ///
 /// Time grows with the trace and the rows. Fails only if out of memory.
 pub fn delays_of(alloc: Global, trace: &Trace, rows: &[Row]) -> Result<Vec<Delay>, AllocError>

@@ -49,8 +49,8 @@ impl Evidence {
 
 /// The evidence of rows of a trace: each stall, with the first delay that it explains, and each other delay.
 ///
-/// A stall explains a delay if some row names both, the silent processor is the receiver, and half of the miss at least lies in
-/// the silence. Evidence with an earlier first row comes first, and of one first row the longer evidence.
+/// A stall explains a delay if some row names both, the silent processor is the receiver, and at least half of the miss
+/// is in the silence. Evidence with an earlier first row comes first, then the longer evidence.
 ///
 /// Time grows with the trace and the rows, apart from the sorting of the evidence. Fails only if out of memory.
 pub fn evidence_of(alloc: Global, trace: &Trace, rows: &[Row]) -> Result<Vec<Evidence>, AllocError>

@@ -1,5 +1,5 @@
 //! What a page about a run reports: in which row the run is calm, which silences and late messages rule out smaller
-//! bounds before that, and what to say first. Plain data, with no words.
+//! bounds before that, and its headline. Plain data, with no words.
 #![tactic(auto)]
 
 mod calm;

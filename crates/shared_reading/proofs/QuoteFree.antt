@@ -135,7 +135,7 @@ strip-closed (x ∷ y ∷ z ∷ w ∷ r) q e =
       go without all true = without
       go without all false = all
 
--- A first part without a quote that ends in a line feed, and a second part that begins with no mark: the records of the
--- whole are those of the parts.
+-- If a first part without a quote ends in a line feed, and a second part begins with no mark, the records of the whole
+-- are those of the parts.
 pub seam : (a b : List ℕ) → has_quote a ≡ false → ends_line a ≡ true → strip_bom b ≡ b → IsSeam a b
 seam a b q e n = rw (strip-append a b e, n) (records-split (strip_bom a) b (strip-closed a q e))

@@ -1,5 +1,5 @@
--- What a schedule keeps: each live processor steps by its deadline, which is its last step, or the stabilization time,
--- and the processor bound later; and each message is taken once it is due.
+-- What a schedule keeps. Each live processor steps by its deadline: its last step, or the stabilization time, plus the
+-- processor bound. Each message is taken once it is due.
 use Rattle.std.specs.Prelude.{ℕ, ◌≡◌, ◌+◌, ◌<◌, ◌≤◌, ◌⊎◌, List, Option, Contains, IfSome, IsTrue, true, length}
 use Rattle.step_trace.specs.declared.steps.Step.{Step}
 use Rattle.step_trace.specs.Configurations.{Setup, IsProc}

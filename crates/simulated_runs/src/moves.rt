@@ -17,7 +17,7 @@ use deciding_runs::Pace;
 use std::alloc::Global;
 use step_buffers::{Move, StepError, Take, World};
 
-/// Processor `p` makes its step in this tick: it sends, if it has something to send, and else it receives what is due,
+/// Processor `p` makes its step in this tick: it sends, if it has something to send. Else it receives what is due,
 /// which ends its round by its pace.
 pub(crate) fn move_on(
     alloc: Global,

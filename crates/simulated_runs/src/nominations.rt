@@ -34,11 +34,11 @@ impl Nominator {
         }
     }
 
-    /// Names a processor for the step of this tick, where `lasts` has for each the last tick in which it may step.
+    /// Names a processor for the step of this tick; `lasts` has for each the last tick in which it may step.
     ///
-    /// By `Turns` it is the one after the one that was named last; by `Random` one that is drawn; by `Bursts` the one
-    /// that was named last while its burst goes on, and then one that is drawn, with the length of its burst. Where that
-    /// one has crashed, it is the next one that hasn't.
+    /// By `Turns` it is the one after the one that was named last; by `Random` one that is drawn. By `Bursts` it is the
+    /// one that was named last while its burst goes on, and then one that is drawn, with the length of its burst. If
+    /// that one has crashed, it is the next one that hasn't.
     pub(crate) fn name(&mut self, generator: &mut Generator, lasts: &[u64], tick: u64) -> u64
         requires some { 1 ≤ length lasts.now }
         requires few { length lasts.now ≤ MAX_PROCESSORS }

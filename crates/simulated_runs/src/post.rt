@@ -109,7 +109,7 @@ impl Post {
         }
     }
 
-    /// When a message is due that is sent in this tick: where bounds are stated, in a tick that is drawn of those that
+    /// When a message is due that is sent in this tick. If bounds are stated, it is a tick that is drawn of those that
     /// the communication bound allows, and not before a message that was sent before it.
     fn due(&mut self, generator: &mut Generator, from: u64, to: u64, tick: u64) -> u64
         requires from_low { 1 ≤ from }

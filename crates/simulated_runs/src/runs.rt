@@ -27,8 +27,8 @@ use step_trace::Config;
 /// A World that made the run that is asked for: one step in each tick. All that is drawn follows from the seed, so the
 /// same options give the same run.
 ///
-/// No processor steps after it crashed. Where bounds are stated, from the first tick after the stabilization time on the
-/// processor bound holds for each set of live processors, and the communication bound for any set.
+/// No processor steps after it crashed. If bounds are stated, they hold from the first tick after the stabilization
+/// time on: the processor bound for each set of live processors, the communication bound for any set.
 pub fn simulate(alloc: Global, options: SimulationOptions) -> Result<World, StepError>
     ensures config { IfOk result (λ world. world.trace.config ≡ options.config) }
     ensures steps { IfOk result (λ world. length world.trace.steps ≡ options.steps) }

@@ -35,8 +35,8 @@ pub(crate) struct Simulation {
 }
 
 impl Simulation {
-    /// Makes the next step: the one that the schedule names makes it, or if that would keep another one from stepping in
-    /// time, the one that is to step first.
+    /// Makes the next step. The processor that the schedule names makes it; if that would keep another one from
+    /// stepping in time, the one that is to step first does.
     pub(crate) fn step(&mut self, alloc: Global) -> Result<(), StepError>
         requires ready { IsReady self.old }
         requires some { IsSomeUp self.old.lasts.items (length self.old.world.trace.steps + 1) }

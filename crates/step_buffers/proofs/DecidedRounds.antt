@@ -1,4 +1,4 @@
--- Agreement and validity in a trace, whose processors are in different rounds; decisions that stay, and since which
+-- Agreement and validity in a trace, whose processors are in different rounds. Decisions that stay, and since which
 -- round a processor has its own, as the trace grows by a step.
 use Rattle.std.proofs.Common.{ℕ, ◌≡◌, ◌+◌, ◌-◌, List, ◌++◌, Some, subst, arith, zero, suc, ◌≢◌, ◌<◌, ◌≤◌, ◌⊎◌, inl, inr, Option, None, [], ◌∷◌, true, false, ◌==◌, ◌&&◌, refl, sym, ap, ◌∙◌}
 use Rattle.step_trace.specs.declared.steps.Step.{Step}

@@ -1,6 +1,6 @@
--- Runs and nodes as a trace grows: how many messages a processor sent in a round, and where it sends next, are the same in
--- each longer trace; a prefix of a run is a run, and a run goes on with each step that is due. Nodes stay, but for that of
--- the processor whose round ends.
+-- Runs and nodes as a trace grows. How many messages a processor sent in a round, and where it sends next, are the same
+-- in each longer trace. A prefix of a run is a run, and a run goes on with each step that is due. Nodes stay, except
+-- that of the processor whose round ends.
 use Rattle.std.proofs.Common.{ℕ, zero, suc, ◌≡◌, ◌+◌, ◌-◌, ◌≤◌, List, [], ◌∷◌, ◌++◌, length, Bool, cond, refl, sym, ap, ◌∙◌, arith, ◌⊎◌, inl, inr, Some, subst, take, true, false, ◌==◌, ◌&&◌, eq-eqb}
 use Rattle.std.specs.Prelude.{count_by, slice_get}
 use Rattle.std.specs.List.{range_with_len}
@@ -137,8 +137,8 @@ sender-passed c steps x p rounds q w h =
     let grown = passed-before steps q is.message in
     omega arith
 
--- The node of a processor whose round ends: it computes from its node and from what it heard, of the nodes
--- that the others had after so many rounds. No row of the longer trace but the new one is spoken of.
+-- The node of a processor whose round ends: it computes from its node and from what it heard, of the nodes that the
+-- others had after so many rounds. It depends on no row of the longer trace but the new one.
 pub node_at-ends : (c : Setup) (steps : List Step) (x : Step) → IsWellFormed c (steps ++ x ∷ []) → act_ends x.act ≡ true
     → node_at c (steps ++ x ∷ []) x.proc
     ≡ next c (node_at c steps x.proc) x.proc (suc (passed steps x.proc))

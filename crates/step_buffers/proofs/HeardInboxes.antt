@@ -1,5 +1,5 @@
--- What a processor hears at the end of its round: of the messages that it kept and those that it takes with the end, the
--- ones of the round, each with its body. Its node computes from these.
+-- What a processor hears at the end of its round: the messages of the round, each with its body, among those that it
+-- kept and those that it takes with the end. Its node computes from these.
 use Rattle.std.proofs.Common.{ℕ, ◌≡◌, ◌+◌, ◌-◌, ◌≤◌, ◌⊎◌, inl, inr, List, [], ◌∷◌, ◌++◌, filter, map, Option, Some, None, Bool, true, false, cond, ◌==◌, refl, sym, ap, ◌∙◌, arith, eq-eqb, suc, ◌<◌, length, subst, subst₂}
 use Rattle.std.specs.Prelude.{Contains, option_map, is_some, All}
 use Rattle.std.specs.Option.{option_or, option_to_list}

@@ -1,6 +1,6 @@
--- Where a processor sends next: the least destination above the last one to which there is something to send, found by
--- trying one processor, since of those above the last one none before it is sent anything, nor any after it where it isn't;
--- and as the trace grows by a step.
+-- Where a processor sends next: the least destination above the last one to which there is something to send. It is
+-- found by trying one processor: of those above the last one, none before it is sent anything, nor any after it if it
+-- isn't. And the same as the trace grows by a step.
 use Rattle.std.proofs.Common.{ℕ, zero, suc, ◌≡◌, ◌+◌, ◌<◌, ◌≤◌, List, [], ◌∷◌, Some, Bool, true, false, cond, ltb, ◌&&◌, refl, sym, ap, ◌∙◌, subst, arith, ◌⊎◌, inl, inr, Option, None, ◌≢◌, eq-eqb, ◌-◌, ◌++◌, length, ◌==◌}
 use Rattle.std.specs.Prelude.{slice_get, filter, find, nat_lt, is_some, Contains, IsSome, option_map, count_by}
 use Rattle.std.specs.List.Sorted.{IsStrictlyIncreasing}

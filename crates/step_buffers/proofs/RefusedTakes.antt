@@ -1,4 +1,4 @@
--- What a Receive takes out of a buffer, where nothing is against it: ids that rise, of messages that wait; and the
+-- What a Receive takes out of a buffer, if nothing is against it: ids that rise, of messages that wait. And the
 -- message that it is refused for.
 use Rattle.std.proofs.Common.{ℕ, zero, suc, ◌≡◌, ◌<◌, List, [], ◌∷◌, length, take, Option, Some, None, Bool, true, false, not, cond, ◌&&◌, inl, inr, refl, subst, arith}
 use Rattle.step_trace.proofs.Refusals.{find_all, is_rising-true}

@@ -1,5 +1,5 @@
--- Rising ids: their parts, and searches of them; ids that are taken out of a rising list, from its front, from its back, or
--- from between others.
+-- Rising ids: their parts, and searches of them. Ids that are taken out of a rising list: from its front, its back, or
+-- between others.
 use Rattle.std.proofs.Common.{ℕ, ◌≡◌, ◌≢◌, ◌+◌, ◌-◌, ◌<◌, ◌≤◌, inl, inr, suc, List, length, get_or, take, drop, Bool, true, ◌==◌, Result, Ok, Err, refl, sym, ◌∙◌, subst, arith, eq-eqb, [], ◌∷◌, ◌++◌, filter, min, not, ◌||◌, ap}
 use Rattle.std.specs.Prelude.{MatchResult, Contains}
 use Rattle.std.specs.Result.{is_ok}

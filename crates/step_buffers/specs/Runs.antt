@@ -49,15 +49,15 @@ next_destination c steps p k =
 abbrev pub destination_after : Setup → State → ℕ → ℕ → ℕ → Option ℕ
 destination_after c node p round last = find (λ to. nat_lt last to && is_some (out c node p round to)) (processors c)
 
--- What a processor may do that sends next to this destination: send to it; or, where all messages of its
--- round are out, end its round. It may always take messages without ending its round.
+-- What a processor may do that sends next to this destination: send to it. Or end its round, if all messages
+-- of its round are out. It may always take messages without ending its round.
 abbrev pub IsDue : Option ℕ → Act → Type 0
 IsDue next (Send to) = next ≡ Some to
 IsDue next (Receive true ids) = next ≡ None
 IsDue next (Receive false ids) = Unit {0}
 
 -- A run: a well-formed trace in which each Send goes to the next destination, in rising order, to which its
--- processor has something to send in its round; and a step ends a round only after all these are out.
+-- processor has something to send in its round. A step ends a round only after all these are out.
 pub record IsRun (c : Setup) (steps : List Step) : Type 0 where
   pub well_formed : IsWellFormed c steps
   pub each : (k : ℕ) (x : Step) → step_at steps k ≡ Some x → IsDue (next_destination c steps x.proc k) x.act

@@ -91,8 +91,8 @@ impl Inbox {
         }
     }
 
-    /// Keeps those of these messages that are of this round or a later one, where there is room: those of this
-    /// round at hand, the others for later.
+    /// Keeps those of these messages that are of this round or a later one, if there is room: those of this round
+    /// at hand, the others for later.
     pub(crate) fn keep_ahead(&mut self, letters: &[Place], ids: &[u64], round: u64)
         requires room { length ids.now ≤ self.old.room }
         ensures kept { IsPermutation (kept_ids self.old ++ ahead letters.now round ids.now)

@@ -31,8 +31,8 @@ pub(crate) struct Processor {
     pub buffer: Waiting,
     /// The messages of its round and of later ones that it took.
     pub inbox: Inbox,
-    /// What it said in its round, which it says to everybody to whom it sends in it; the place of no message where
-    /// it sent nothing in it.
+    /// What it said in its round, which it says to everybody to whom it sends in it. The place of no message if it
+    /// sent nothing in it.
     pub said: Place,
 }
 

@@ -29,12 +29,12 @@ pub enum ReplayError {
     Memory,
 }
 
-/// The World that made exactly the steps of this trace, one in each tick, and may make up to 1,000,000 in all.
-/// There is one where the steps are those of a run (section 3 of the 1988 paper); their ticks are not looked at.
+/// The World that made exactly the steps of this trace, one in each tick, and may make up to 1,000,000 in all. There is
+/// one if the steps are those of a run (section 3 of the 1988 paper); their ticks are not looked at.
 ///
-/// Refuses: `NotARun`, with the number of the first step that isn't a run's, and what was due; `Memory`, where it lacks for the
-/// World, or for a step before that one or in place of it. Makes each step once, in the time and memory of
-/// `World::advance`.
+/// Refuses: `NotARun`, with the number of the first step that isn't a run's, and what was due. `Memory`, if out of
+/// memory for the World, or for a step before that one or in place of it. Makes each step once, in the time and memory
+/// of `World::advance`.
 pub fn replay(alloc: Global, trace: &Trace) -> Result<World, ReplayError>
     ensures config { IfOk result (λ world. world.trace.config ≡ trace.now.config) }
     ensures steps { IfOk result (λ world. world.trace.steps ≡ trace.now.steps) }

@@ -81,8 +81,8 @@ impl Waiting {
         self.ids.push_reserved(id);
     }
 
-    /// Takes out those of these ids that wait. Takes time in the ids, and where neither the first nor the last of
-    /// what waits is among them, in what lies between them and on their shorter side.
+    /// Takes out those of these ids that wait. Takes time in the ids. If neither the first nor the last of what
+    /// waits is among them, it also takes time in what is between them, and on their shorter side.
     pub(crate) fn take_out(&mut self, ids: &[u64])
         requires rising { IsStrictlyIncreasing ids.now }
         requires waiting { IsStrictlyIncreasing self.old.items }

@@ -153,8 +153,8 @@ impl World {
         self.processors[(p - 1) as usize].buffer.as_slice()
     }
 
-    /// Who sent a message that waits for processor `p`, and in which round; 0 for a round that `p` has passed, of
-    /// which it can hear nothing any more. Asks for a processor, and for the id of a message that waits for it.
+    /// Who sent a message that waits for processor `p`, and in which round. The round is 0 if `p` has passed it,
+    /// and can hear nothing of it any more. Asks for a processor, and for the id of a message that waits for it.
     pub fn origin(&self, p: u64, id: u64) -> (u64, u64)
         requires processor { IsProc self.now.trace.config p }
         requires waiting { Contains (buffer self.now.trace.steps p) id }

@@ -1,5 +1,5 @@
--- Which triples are on the front: those of a real-time step and its least bounds, where the step is
--- the first one or one of these bounds isn't the least one from the step before.
+-- Which triples are on the front: those of a real-time step and its least bounds. The step is the first
+-- one, or one of these bounds isn't the least one from the step before.
 use Rattle.std.proofs.Common.{ℕ, ◌≡◌, ◌-◌, ◌<◌, ◌≤◌, inl, inr, subst, arith}
 use Rattle.std.proofs.lemmas.Bool.{cases_lt}
 use Rattle.step_trace.specs.Traces.{Recorded}

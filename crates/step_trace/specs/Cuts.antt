@@ -5,7 +5,7 @@ use Rattle.step_trace.specs.Traces.{Recorded, step_at}
 use Rattle.step_trace.specs.Ticks.{tick_of}
 use Rattle.step_trace.specs.Extensions.{Extends}
 
--- A trace cut at a tick is the trace as if it ended there: the trace goes on from it, its last tick is that tick, and
+-- A trace cut at a tick is the trace as if it ended there. The trace goes on from it, its last tick is that tick, and
 -- each step of the trace that it hasn't is in a later tick.
 pub record IsCutAt (trace : Recorded) (tick : ℕ) (cut : Recorded) : Type 0 where
   pub extends : Extends trace cut

@@ -9,9 +9,9 @@ use Rattle.step_trace.specs.Extensions.{Extends}
 abbrev pub placed_at : Recorded → ℕ → Option (ℕ × Step)
 placed_at trace k = option_map (λ x. (tick_of trace k, x)) (step_at trace.steps k)
 
--- The first difference of a trace from one that was seen, of the same configuration, and that it doesn't extend:
--- the least number of a step that was seen at which there is none, another one, or one in another tick; where
--- there is no such number, the one after all of these; and what there is.
+-- The first difference of a trace from one that was seen, of the same configuration, and that it doesn't extend.
+-- It is the least number of a step that was seen at which there is none, another one, or one in another tick. If
+-- there is no such number, it is the one after all of these. And what there is.
 pub record IsFirstDifference (trace seen : Recorded) (place : ℕ) (there : Option (ℕ × Step)) : Type 0 where
   pub config : trace.config ≡ seen.config
   pub first : 1 ≤ place

@@ -9,7 +9,7 @@ pub record BeginsWith {X : Type 0} (list first : List X) : Type 0 where
   pub more : List X
   pub whole : list ≡ first ++ more
 
--- One trace extends another: they have one configuration; the other's steps with their ticks are a prefix of
+-- One trace extends another. They have one configuration; the other's steps with their ticks are a prefix of
 -- its own; its last tick isn't below the other's, and neither is the tick of a further step.
 pub record Extends (longer shorter : Recorded) : Type 0 where
   pub config : longer.config ≡ shorter.config

@@ -1,5 +1,5 @@
--- Triples of a stabilization time, a communication bound and a processor bound, and their front (own;
--- section 2 has the bounds, and the global stabilization time from which they hold).
+-- Triples of a stabilization time, a communication bound and a processor bound, and their front. (Own;
+-- section 2 has the bounds, and the global stabilization time from which they hold.)
 use Rattle.std.specs.Prelude.{ℕ, ◌<◌, ◌≤◌, List, map, Contains, ◌⊎◌}
 use Rattle.std.specs.List.Sorted.{IsStrictlyIncreasing}
 use Rattle.step_trace.specs.declared.rows.Row.{Row}

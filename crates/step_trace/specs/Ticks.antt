@@ -25,8 +25,8 @@ pub record StepsIn (trace : Recorded) (x p : ℕ) : Type 0 where
 abbrev pub ComesBefore : Recorded → ℕ → Step → ℕ → Step → Type 0
 ComesBefore trace j a k b = (tick_of trace j < tick_of trace k) ⊎ ((tick_of trace j ≡ tick_of trace k) × (a.proc < b.proc))
 
--- The steps are in time: each is in a tick from 1 to the last, which is at most MAX_TICKS; ticks don't fall, and
--- within a tick the processors rise, so that each takes at most one step in it; a message is taken in a later
+-- The steps are in time. Each is in a tick from 1 to the last, which is at most MAX_TICKS. Ticks don't fall, and
+-- within a tick the processors rise, so that each takes at most one step in it. A message is taken in a later
 -- tick than its Send's.
 pub record IsTimed (trace : Recorded) : Type 0 where
   pub each : length trace.ticks ≡ length trace.steps

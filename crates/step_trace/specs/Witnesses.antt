@@ -38,7 +38,7 @@ pub record GapRefutes (set : ℕ) (trace : Recorded) (g f : ℕ) (w : Gap) : Typ
   pub long : w.from + f ≤ w.to + 1
 
 -- The named miss for the bound d from tick g: of the misses of length d - 1 of messages sent in g or
--- later, the one whose Send is in the greatest tick, and of these the one with the greatest number.
+-- later, the one with the greatest tick of its Send, then the greatest number.
 pub record IsNamedMiss (set : ℕ) (trace : Recorded) (g d : ℕ) (m : Miss) : Type 0 where
   pub miss : IsMiss set trace m
   pub from : g ≤ tick_of trace m.sent
@@ -47,7 +47,7 @@ pub record IsNamedMiss (set : ℕ) (trace : Recorded) (g d : ℕ) (m : Miss) : T
   pub greatest : (o : Miss) → IsMiss set trace o → tick_of trace o.sent ≡ tick_of trace m.sent → tick_of trace o.sent + d ≡ tick_of trace o.missed + 1 → o.sent ≤ m.sent
 
 -- The named gap for the bound f from tick g: of the gaps of length f - 1 that begin in g or later, the one
--- with the greatest beginning, and of these the one of the least processor.
+-- with the greatest beginning, then of the least processor.
 pub record IsNamedGap (set : ℕ) (trace : Recorded) (g f : ℕ) (w : Gap) : Type 0 where
   pub gap : IsGap set trace w
   pub from : g ≤ w.from

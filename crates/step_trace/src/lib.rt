@@ -1,6 +1,6 @@
 //! Traces of Send and Receive steps: sets of processors, configurations, well-formed lists of steps,
-//! the plain data in which bounds are reported, and the gate that workers enter before their work.
-//! `specs/` has the definitions of all of it.
+//! the plain data of reported bounds, and the gate that workers enter before their work. `specs/` has
+//! the definitions of all of it.
 #![tactic(auto)]
 
 mod configurations;

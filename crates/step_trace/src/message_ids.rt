@@ -9,8 +9,8 @@ pub struct MessageIds {
     ids: Ids,
 }
 
-/// Most Receives of a long trace take one message or none, and so no memory of their own; what others take is boxed: so
-/// a step is small, and two ids need no head of a list.
+/// Most Receives of a long trace take one message or none, and so no memory of their own. What others take is boxed, so
+/// that a step is small; two ids need no head of a list.
 #[derive(Debug, Drop)]
 enum Ids {
     Nothing,

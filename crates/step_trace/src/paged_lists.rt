@@ -14,7 +14,7 @@ use std::sync::Arc;
 pub(crate) const PAGE_LEN: usize = 256;
 
 /// A list of at most `MAX_STEPS` items: full pages, which copies share and nobody changes, and the page that is
-/// being filled, of fewer than `PAGE_LEN` items, which each copy has for itself.
+/// being filled. That has fewer than `PAGE_LEN` items, and each copy has its own.
 #[derive(Debug, Drop)]
 pub(crate) struct PagedList<T> {
     pages: Vec<Arc<Vec<T>, Global>>,
@@ -136,8 +136,8 @@ impl<T: Clone + Drop> PagedList<T> {
     }
 }
 
-/// Makes room for one page more and for one item in the last, which gets room for a whole page at once where there
-/// are full ones before it. Refuses only where one of them has none.
+/// Makes room for one page more and for one item in the last, which gets room for a whole page at once if there are
+/// full ones before it. Refuses only if one of them has none.
 fn make_room<P, T>(pages: &mut Vec<P>, last: &mut Vec<T>) -> Result<(), AllocError>
     ensures pages { pages.new.items ≡ pages.old.items }
     ensures last { last.new.items ≡ last.old.items }

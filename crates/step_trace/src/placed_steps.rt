@@ -86,7 +86,7 @@ impl PlacedSteps {
     }
 
     /// How many steps, from the first on, another list has too, in the same ticks: at most those of the full pages
-    /// before the first page that is another one.
+    /// before the first different page.
     pub(crate) fn same_pages(&self, other: &PlacedSteps) -> usize
         ensures inside { result ≤ length other.now.steps }
         ensures steps { (k : ℕ) → k ≤ result → step_at self.now.steps k ≡ step_at other.now.steps k }

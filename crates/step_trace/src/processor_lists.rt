@@ -8,8 +8,8 @@ use crate::processors::{MAX_MEMBER, ProcSet};
 
 impl ProcSet {
     /// The set that a text lists: the word `none`, or numbers from 1 to `MAX_MEMBER` as `read_number`
-    /// reads them, with one comma between each two, in any order, repeats allowed. None where the text
-    /// is anything else.
+    /// reads them, with one comma between each two, in any order, repeats allowed. None if the text is
+    /// anything else.
     pub fn parse_list(text: &str) -> Option<ProcSet>
         ensures members { IfSome result (λ set. IsSetIn text.now set) }
         ensures refused { IfNone result ((text.now ≢ codes "none") × ((numbers : List ℕ) → ¬ IsListOf text.now numbers)) }

@@ -1,8 +1,8 @@
 //! The plain data in which bounds and their evidence are reported.
 
-/// A message whose Send has the number `sent`, and a Receive of its receiver, of number `missed`,
-/// by which it wasn't delivered: evidence against each communication bound up to the ticks from the one
-/// to the other, which are `missed - sent` where each tick holds one step.
+/// A message whose Send has the number `sent`, and a Receive of its receiver, of number `missed`, by
+/// which it wasn't delivered. It is evidence against each communication bound up to the ticks from the
+/// one to the other, which are `missed - sent` if each tick holds one step.
 #[derive(Clone, Copy, Debug, PartialEq, Eq)]
 pub struct Miss {
     pub sent: u64,
@@ -18,7 +18,7 @@ pub struct Gap {
     pub to: u64,
 }
 
-/// A triple of a report with its witnesses: from the real-time step `gst` on, `delta` is the least
+/// A triple of a report with its witnesses. From the real-time step `gst` on, `delta` is the least
 /// communication bound and `phi` the least processor bound, all in real-time steps.
 #[derive(Clone, Copy, Debug, PartialEq, Eq)]
 pub struct Row {

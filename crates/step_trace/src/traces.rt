@@ -52,9 +52,9 @@ pub enum PushError {
     Memory,
 }
 
-/// A configuration and a well-formed list of steps, numbered from 1 in the order of real time. Each step
-/// is in a tick, which is its moment of real time; a tick holds at most one step of each processor, and
-/// possibly none, and the trace goes on to its last tick.
+/// A configuration and a well-formed list of steps, numbered from 1 in the order of real time. Each step is in a tick,
+/// which is its moment of real time. A tick holds at most one step of each processor, and possibly none. The trace
+/// goes on to its last tick.
 #[derive(Debug, Drop)]
 pub struct Trace {
     config: Config,
@@ -173,9 +173,9 @@ impl Trace {
         self.placed.same_pages(&other.placed) as u64
     }
 
-    /// Whether it extends another trace: they have one configuration, the other's steps with their ticks
-    /// are a prefix of its own, and neither its last tick nor that of a further step is below the other's
-    /// last tick. Takes no memory.
+    /// Whether it extends another trace. They have one configuration, the other's steps with their ticks are a prefix
+    /// of its own, and neither its last tick nor that of a further step is below the other's last tick. Takes no
+    /// memory.
     pub fn begins(&self, other: &Trace) -> bool
         ensures { IsTrue result ↔ Extends self.now other.now }
     {
@@ -247,9 +247,9 @@ impl Trace {
 
     /// Appends a step in this tick, in time that grows with the ids that it takes.
     ///
-    /// Refuses in the order of `PushError`, and names the least id of the kind that is refused. The answer is no
-    /// refusal other than out of memory exactly if the tick isn't before the last and the trace stays well formed with
-    /// the step.
+    /// Refuses in the order of `PushError`, and names the least id of the kind that is refused. Unless it is out of
+    /// memory, it accepts the step exactly if the tick isn't before the last and the trace stays well formed with the
+    /// step.
     pub fn push_at(&mut self, tick: u64, step: Step) -> Result<(), PushError>
         ensures appended { OnOk result (self.new ≡ with_step self.old tick step) }
         ensures well_formed { OnOk result (IsTrace self.new) }

@@ -38,8 +38,8 @@ IsPhi-from_gaps set trace g f o start k =
       least = phi_least set trace g f o k.named;
     }
 
--- Of the gaps that begin at x, this one is the longest and of the least processor, where it refutes the bound f; where
--- it doesn't, none does.
+-- If this gap refutes the bound f, it is the longest of the gaps that begin at x and of the least processor. If it
+-- doesn't, none does.
 pub record IsLongestOver (set : ℕ) (trace : Recorded) (x f q until : ℕ) : Type 0 where
   pub gap : x < until → IsGap set trace (record { proc = q; from = x; to = until - 1 })
   pub longest : (u : Gap) → IsGap set trace u → u.from ≡ x → (u.to < until) ⊎ (u.to + 1 < x + f)

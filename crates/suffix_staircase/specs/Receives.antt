@@ -1,5 +1,5 @@
--- What is known of the Receives after a step, in numbers from 1 with 0 for none. Numbers rise with ticks, so a miss
--- is one by the numbers of its steps too, as long as its Receive is in a later tick than its Send.
+-- What is known of the Receives after a step, in numbers from 1 with 0 for none. Numbers rise with ticks. So a miss
+-- is also one by the numbers of its steps, as long as its Receive is in a later tick than its Send.
 use Rattle.std.specs.Prelude.{ℕ, ◌≡◌, ◌+◌, ◌<◌, ◌≤◌, ◌==◌, List, ◌∷◌, length, slice_index, slice_set, if◌then◌else◌}
 use Rattle.std.specs.List.{list_any}
 use Rattle.step_trace.specs.declared.rows.Miss.{Miss}

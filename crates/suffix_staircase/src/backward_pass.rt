@@ -85,8 +85,8 @@ impl Pass {
         note_miss(&mut self.level, Miss { sent: no, missed }, long);
     }
 
-    /// Goes back over the ticks from `high` to the one after that of step `done`, between which there is no
-    /// step, and puts their levels before those so far. Gives the tick of that step.
+    /// Scans the ticks back from `high` to the one after that of step `done`, between which there is no step, and
+    /// puts their levels before those so far. Gives the tick of that step.
     fn ticks_back(
         &mut self,
         trace: &Trace,

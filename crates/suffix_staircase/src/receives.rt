@@ -14,7 +14,7 @@ use step_trace::{Act, ProcSet, Step, Trace};
 /// number of a step needs.
 #[derive(Debug, Drop)]
 pub struct Receives {
-    // For each message, the Receive after the step that takes it; and for each Receive after the step, the one of the
+    // For each message, the Receive after the step that takes it. And for each Receive after the step, the one of the
     // same processor right before it, if that comes after the step too.
     links: Vec<u32>,
     // For each processor, its first Receive after the step.
@@ -57,8 +57,8 @@ impl Receives {
         })
     }
 
-    /// Goes back over a step, and gives the last Receive that misses its message: 0 if none does, or
-    /// if it is no message between members.
+    /// Scans a step backward, and gives the last Receive that misses its message: 0 if none does, or if it is no
+    /// message between members.
     pub fn step_back(&mut self, trace: &Trace, set: ProcSet, no: u64) -> u64
         requires low { 1 ≤ no }
         requires high { no ≤ length trace.now.steps }

@@ -36,8 +36,8 @@ impl Model for Stairs {
 }
 
 impl Stairs {
-    /// The level of each tick of a traceif the members of a set count as correct: the least bounds of section 2 of
-    /// the 1988 paper from that tick on, and their named witnesses.
+    /// The level of each tick of a trace, if the members of a set count as correct: the least bounds of section 2
+    /// of the 1988 paper from that tick on, and their named witnesses.
     ///
     /// One pass from the last tick to the first, in time that grows with the ticks, the steps, the ids in them
     /// and, for some steps, the processors. Fails only if out of memory.

@@ -1,7 +1,6 @@
-//! The program: reads a trace of Send and Receive steps, and prints the report of its bounds, for the
-//! processors that are named as correct, replays it as a run of the agreement algorithm, upgrades its text, draws
-//! it, makes a page about it, checks a report by it, or judges by it when its processors decided; reads a log as
-//! such a trace; or makes such a run in threads, or simulates one, and prints its trace.
+//! The program. It reads a trace of Send and Receive steps, or a log, or makes a run on threads or a simulated one. Of
+//! a trace it prints the report for the processors that are named as correct, or what another command asks for: each is
+//! a case of `Job`.
 #![tactic(auto)]
 
 mod inputs;

@@ -7,8 +7,8 @@ use command_faults::Fault;
 use std::io;
 use std::io::Write;
 
-/// The exit status after a write to a pipe that nobody reads any more: the one that a shell shows of a program which
-/// the signal SIGPIPE ends.
+/// The exit status after a write to a pipe that nobody reads any more. A shell shows the same for a program that the
+/// signal SIGPIPE ends.
 pub const CLOSED_PIPE: u8 = 141;
 
 /// Standard output or standard error.

@@ -59,8 +59,8 @@ pub fn some_act(alloc: Global, draws: &mut Draws, trace: &Trace, proc: u64) -> R
     Ok(Act::Receive { ids, ends: false })
 }
 
-/// Appends a step in the last tick or up to two ticks after it, or where it is refused an empty Receive in
-/// the next one.
+/// Appends a step in the last tick or up to two ticks after it. If it is refused, appends an empty Receive
+/// in the next one.
 pub fn push_near(alloc: Global, draws: &mut Draws, trace: &mut Trace) -> Result<(), Fail> {
     let proc = 1 + draws.below(3);
     let tick = trace.last_tick() + draws.below(3);

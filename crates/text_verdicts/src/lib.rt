@@ -1,5 +1,5 @@
 //! What a trace text and a certificate's text encode: the report of the one, the verdict on both, what is kept of a
-//! certificate, and the line of a verdict. `specs/` has the definitions that the program and the library cite.
+//! certificate, and the line of a verdict. `specs/` has the definitions for the program and the library.
 #![tactic(auto)]
 
 mod certificate_texts;

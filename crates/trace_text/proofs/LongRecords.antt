@@ -1,5 +1,5 @@
 -- The records that csv reads from the front of a text up to a record of too many fields lead where those of the whole
--- text lead, if such a record is refused for any text after it.
+-- text lead. This holds if such a record is refused for any text after it.
 use Rattle.std.proofs.Common.{◌≡◌, ◌≤◌, ◌<◌, ◌+◌, ℕ, zero, suc, List, [], ◌∷◌, ◌++◌, length, Option, Some, None, Bool, true, false, cond, Result, Ok, Err, refl, sym, ap, ◌∙◌, inl, inr, ◌⊎◌, ◌==◌, ◌||◌, arith, append_assoc, length-append, take, take_all}
 use Rattle.std.specs.Prelude.{⊤, nat_lt}
 use native.Mathlib.Decide.{dec_lt}

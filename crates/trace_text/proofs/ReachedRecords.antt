@@ -1,5 +1,5 @@
--- The records that csv reads one after the other are a front of all the records of the text, and at
--- the end of the text they are all of them.
+-- The records that csv reads one after the other are a prefix of all the records of the text. At the
+-- end of the text they are all of them.
 use Rattle.std.proofs.Common.{◌≡◌, ◌≤◌, ◌<◌, ◌+◌, ℕ, zero, suc, List, [], ◌∷◌, ◌++◌, length, Option, Some, None, Bool, true, false, cond, refl, subst, ◌==◌, ◌||◌, arith}
 use Rattle.csv.specs.Machine.{Read, next_record, step, is_end, in_field, start_field, start_record, fields_after, field_after, ends_at_end, after_end}
 use Rattle.csv.specs.Reading.{AreRecords, Reached, default_config, records, records_from, records_next}

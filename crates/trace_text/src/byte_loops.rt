@@ -21,9 +21,9 @@ const PIECE_BYTES: usize = 65_536;
 /// Each read before the last brings at least one byte, so at most `MAX_TEXT_BYTES + 2` reads are made.
 /// A refusal doesn't say how much was read before it.
 ///
-/// Refusals, as they are met: TooLarge once more than `MAX_TEXT_BYTES` bytes were read; Read at the
-/// first fault, of any kind; Memory, which comes before both: no more than `MAX_TEXT_BYTES` bytes were
-/// read then, no read failed, and none found the end.
+/// Refusals, in the order in which they occur: TooLarge once more than `MAX_TEXT_BYTES` bytes were
+/// read; Read at the first fault, of any kind; Memory, which comes before both: no more than
+/// `MAX_TEXT_BYTES` bytes were read then, no read failed, and none found the end.
 pub fn read_all<R: Read>(alloc: Global, reader: &mut Counting<R>) -> Result<Vec<u8>, TextError>
     ensures text { IfOk result (λ text.
         IfSome (R.remaining (inner_of reader.old)) (λ xs. text.items ≡ xs)) }

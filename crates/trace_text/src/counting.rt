@@ -11,11 +11,11 @@ use std::io::{Read, Write};
 /// A reader or a writer, with a count of its calls to `read`, `write` and `flush` that answered a
 /// fault, of any kind. At `u64::MAX` the count stays, and a later call counts as having raised it.
 ///
-/// For contracts it also keeps how many reads were made, how often a write took no byte of a buffer
-/// that had some, and whether the last write or flush was a flush without a fault.
+/// For contracts it also keeps how many reads were made, and how often a write took no byte of a buffer
+/// that had some. And whether the last write or flush was a flush without a fault.
 ///
 /// Each call is passed on once, unchanged. The contracts see the bytes of a device and not its calls,
-/// so that is tested, over `failing_devices`, which count the calls that reach them.
+/// so `failing_devices` count the calls that reach them, and tests compare.
 #[derive(Drop)]
 pub struct Counting<T> {
     inner: T,

@@ -1,5 +1,5 @@
-//! Trace text: the records of a trace as comma-separated text, written, and read or refused by name,
-//! and the byte loops by which texts are read and written. `specs/` has the definitions that the
+//! Trace text: the records of a trace as comma-separated text, written, and read or refused by name.
+//! And the byte loops by which texts are read and written. `specs/` has the definitions that the
 //! contracts cite.
 #![tactic(auto)]
 

@@ -1,5 +1,5 @@
-//! How much of a text is read: no further than a record of far too many fields, which is refused as soon as it has
-//! too many. csv keeps the end of each field of a record, so a longer one would take memory for nothing.
+//! How much of a text is read: no further than a record of far too many fields, which is refused as soon as it has too
+//! many. csv keeps the end of each field of a record, so a longer one would take memory in vain.
 
 ghost use Rattle.std.specs.Prelude.{◌≡◌, ◌≤◌, ◌⊎◌, take, drop, length};
 ghost use Rattle.csv.specs.Machine.{step};
@@ -48,7 +48,7 @@ impl Progress {
 }
 
 /// How many bytes of a text have to be read: all, or those up to the end of the first field that is one too many in its
-/// record. Most texts are seen at a glance to have no long record, and then it is all.
+/// record. Most texts show at a glance that they have no long record, and then it is all.
 pub(crate) fn readable_len(text: &[u8]) -> usize
     ensures within { result ≤ length text.now }
     ensures front { (result ≡ length text.now) ⊎ (strip_bom (take result text.now) ≡ front_from 0 st.StartRecord (strip_bom text.now)) }
@@ -60,7 +60,7 @@ pub(crate) fn readable_len(text: &[u8]) -> usize
     }
 }
 
-/// Whether a record may have far more fields than are accepted: each ends at a line feed, unless there are quotes, and
+/// Whether a record may have far more fields than are accepted. Each ends at a line feed, unless there are quotes, and
 /// a page without one may be part of a longer record.
 fn may_have_long_records(text: &[u8]) -> bool {
     memchr(b'"', text).is_some() || text.chunks_exact(PAGE_BYTES).any(has_no_line_feed)

@@ -61,7 +61,7 @@ pub(crate) fn step_tick(version: Version, no: u64, fields: &ByteRecord) -> Optio
     }
 }
 
-/// The version in which a trace is written: the first where each step's tick is its number and the last
+/// The version in which a trace is written: the first if each step's tick is its number and the last
 /// tick is the number of steps, else the second. In time that grows with the steps.
 pub(crate) fn version_of(trace: &Trace) -> Version
     ensures version { result ≡ version_of trace.now }

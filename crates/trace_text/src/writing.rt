@@ -24,11 +24,11 @@ use std::alloc::{AllocError, Global};
 use std::io::Write;
 use step_trace::{Act, Step, Trace};
 
-/// Writes the text of a trace, and flushes: in version 1 where each step's tick is its number and the last
+/// Writes the text of a trace, and flushes: in version 1 if each step's tick is its number and the last
 /// tick is the number of steps, else in version 2.
 ///
-/// Refusals: Write with the number of bytes that went out before, the text's first, only where the
-/// writer answered a fault or took no byte; Memory, and nothing was written.
+/// Refusals: Write with the number of bytes that went out before, the text's first, only if the writer
+/// answered a fault or took no byte. Memory, and then nothing was written.
 pub fn write_trace<W: Write>(
     alloc: Global,
     trace: &Trace,

@@ -6,8 +6,8 @@ use std::test::Fail;
 use step_trace::{ProcSet, Row, Trace};
 use test_support::stair_levels::row_of;
 
-/// Whether the check of these rows, at once and where they are claimed one after the other, gives this verdict where
-/// the processors of a list are correct.
+/// Whether the check of these rows gives this verdict if the processors of a list are correct, both at once and if
+/// they are claimed one after the other.
 pub(crate) fn says(
     alloc: Global,
     trace: &Trace,

@@ -5,8 +5,8 @@ use std::test::Fail;
 use step_trace::{Step, Trace};
 use test_support::traces::{TickedSteps, step_of, ticked};
 
-/// A trace of two processors, one of them that was seen, each with its last tick, the first number at which
-/// the trace differs from what was seen, and what it has there.
+/// A trace of two processors, and one of them that was seen, each with its last tick. The first number at
+/// which the trace differs from what was seen, and what it has there.
 struct Difference<'a> {
     name: &'a str,
     steps: &'a [(u64, u64, u64, &'a [u64])],

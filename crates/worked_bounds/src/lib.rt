@@ -1,5 +1,5 @@
-//! Worked examples of traces, of gates, of bounds, of stairs and of checks of reports, and the backward pass compared
-//! with the plain searches: tests of the crates below, by their public items.
+//! Worked examples of traces, of gates, of bounds, of stairs and of checks of reports; the backward pass compared
+//! with the plain searches. These are tests of the crates below, by their public items.
 #![tactic(auto)]
 
 #[cfg(test)]

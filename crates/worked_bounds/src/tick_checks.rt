@@ -75,8 +75,8 @@ const CHECKS: &[(TickedSteps, u64, &str, &[[u64; 8]], Verdict)] = &[
         &[[1, 1, 3, 0, 0, 1, 7, 8], [8, 1, 2, 0, 0, 1, 8, 8]],
         Verdict::Yes,
     ),
-    // The gap named of a row that fails is the longest from there on: of several the one that begins last, and then
-    // that of the least processor.
+    // The gap named of a row that fails is the longest from there on: the one that begins last, then that of the
+    // least processor.
     (
         SILENT_IN_TURN,
         8,

@@ -1,6 +1,6 @@
-//! Worked examples of the commands that make text of text, of the lines of their faults, and of runs on threads: tests of
-//! `text_commands`, `command_faults` and `node_runs`, by their public items, with gates that hold a thread back, outputs
-//! that fail, and followers.
+//! Worked examples of the commands that make text of text, of the lines of their faults, and of runs on threads. These
+//! are tests of `text_commands`, `command_faults` and `node_runs`, by their public items, with gates that hold a thread
+//! back, outputs that fail, and followers.
 #![tactic(auto)]
 
 #[cfg(test)]

@@ -86,7 +86,7 @@ fn a_worker_is_held(rt: HostRuntime) -> Result<(), Fail> {
     Ok(())
 }
 
-/// A trace of 100,000 steps: processors 1 and 2 take turns, each message is taken at once, but for the
+/// A trace of 100,000 steps: processors 1 and 2 alternate. Each message is taken at once, except the
 /// first one, which is taken at the last step.
 fn long_trace(alloc: Global) -> Result<String, AllocError> {
     let mut text = String::from_str(alloc, "dls-trace,1,2,0\ninit,5,7\n1,1,S,2\n2,2,R,\n")?;

@@ -28,8 +28,8 @@ pub(crate) fn is_whole(alloc: Global, piece: &Piece) -> Result<bool, AllocError>
     }
 }
 
-/// Whether a piece of never-delivered is made, and its stairs are found; where memory is refused to find them, the piece
-/// is as before, for they are found once more.
+/// Whether a piece of never-delivered is made, and its stairs are found. If memory is refused to find them, the piece
+/// is unchanged, for they are found once more.
 pub(crate) fn is_part(alloc: Global, trace: &Trace) -> Result<bool, AllocError> {
     let piece = piece_of(alloc, trace, 1, 5)?;
     match is_whole(alloc, &piece) {

@@ -65,7 +65,8 @@ enum Command {
     Import(Option<&'static str>, bool, ImportForm),
 }
 
-/// A command with its text, and what it writes where memory is ample: of a picture or a page the end, of a refused log nothing.
+/// A command with its text, and what it writes if memory is ample: of a picture or a page the end, of a refused log
+/// nothing.
 #[derive(Clone, Copy)]
 struct Served {
     command: Command,

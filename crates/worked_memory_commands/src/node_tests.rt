@@ -80,8 +80,8 @@ fn nodes_are_asked(rt: HostRuntime) {
     }
 }
 
-/// A node that hears one message in a round: its processor, the sender, and the proper values and locks that it
-/// then has, and whether it then owes an acknowledgement.
+/// A node that hears one message in a round: its processor, the sender, and what it then has: its proper
+/// values, its locks, and whether it owes an acknowledgement.
 type Hearing = (u64, u64, u64, &'static [u64], &'static [(u64, u64)], bool);
 
 /// A World with a copy of the node that hears this body in it.

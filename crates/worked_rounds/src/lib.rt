@@ -1,6 +1,7 @@
 //! Worked rounds and runs of Algorithm 1 (section 3 of Dwork, Lynch and Stockmeyer, "Consensus in the Presence of
-//! Partial Synchrony", 1988): tests alone, of one node, of all nodes over tables of who heard whom, of a World moved step
-//! by step, of Worlds whose processors take turns by the pace "heard out", and of a recorder with its seats and views.
+//! Partial Synchrony", 1988). These are tests alone: of one node, of all nodes over tables of who heard whom, of a
+//! World moved step by step, of Worlds whose processors take turns by the pace "heard out", and of a recorder with its
+//! seats and views.
 #![tactic(auto)]
 
 #[cfg(test)]

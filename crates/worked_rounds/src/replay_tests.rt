@@ -94,8 +94,8 @@ fn one_miss_is_no_run(rt: HostRuntime) -> Result<(), Fail> {
     Ok(())
 }
 
-/// After so many steps of the script: a destination passed over, a Send of who has nothing to send, and an end while
-/// messages are still to be sent; each with what was due.
+/// After so many steps of the script: a destination passed over, a Send of one that has nothing to send, and an end
+/// while messages are still to be sent. Each comes with what was due.
 const OFF: &[(usize, Row, DueStep)] = &[
     (7, (1, S, 1, [3, 0, 0]), DueStep::SendTo(2)),
     (8, (2, S, 1, [1, 0, 0]), DueStep::Receive),

@@ -111,12 +111,12 @@ fn sixteen_decide_by_the_bound(rt: HostRuntime) -> Result<(), Fail> {
     Ok(())
 }
 
-/// Of 64 processors: how many may be faulty, the initial value of the last one, where that of the others is 7, and
-/// for how many rounds they all hear one another; then what the first has decided, each of the others, and the last.
+/// Of 64 processors: how many may be faulty, the initial value of the last one, if that of the others is 7, and for
+/// how many rounds they all hear one another. Then what the first has decided, each of the others, and the last.
 type Outcome = (u64, u64, u64, Option<u64>, Option<u64>, Option<u64>);
 
 const SIXTY_FOUR: &[Outcome] = &[
-    // In phase 1 its owner 1 hears no value in all 64 lists, and all learn all values at its end; then each owner
+    // In phase 1 its owner 1 hears no value in all 64 lists, and all learn all values at its end. Then each owner
     // decides in its phase, 64 in round 255 and 1 last, in phase 65: by round 259, which is 4 (1 + 64) - 1.
     (0, 1, 254, None, Some(1), None),
     (0, 1, 255, None, Some(1), Some(1)),

@@ -8,8 +8,8 @@ use std::alloc::Global;
 use std::process::Abort;
 use std::test::Fail;
 
-/// Initial values; a table of so many rounds, in these of which the processors 1, 2 and 3 hear these senders, and
-/// nobody hears anything in the others; what each has decided after them; and its PROPER values and locks.
+/// Initial values. A table of so many rounds, in these of which the processors 1, 2 and 3 hear these senders, and
+/// nobody hears anything in the others. What each has decided after them, its PROPER values, and its locks.
 struct Worked<'a> {
     name: &'a str,
     init: &'a [u64],

@@ -6,8 +6,8 @@ use std::alloc::Global;
 use std::test::Fail;
 use step_trace::Config;
 
-/// The node of processor `me` of `n`, of which `t` may be faulty, with this initial value: its rounds, and what it
-/// sends after them, by round and receiver, None where it is silent.
+/// The node of processor `me` of `n`, of which `t` may be faulty, with this initial value. Its rounds, and what it
+/// sends after them, by round and receiver, None if it is silent.
 pub struct Worked<'a> {
     pub name: &'a str,
     pub n: u64,

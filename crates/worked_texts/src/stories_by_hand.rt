@@ -50,8 +50,8 @@ const CALM: &str =
 /// The gap of a stall, and its first and its last row.
 type StallCase = (u64, u64, u64, usize, usize);
 
-/// The miss of a delay of messages from processor 1 to processor 2, its length, its rows, how many messages there are, and the
-/// last one.
+/// A delay of messages from processor 1 to processor 2: its miss, its length, its rows, how many messages there are, and
+/// the last one.
 type DelayCase = ((u64, u64), u64, (usize, usize), usize, u64);
 
 /// The story of a trace.

@@ -1,5 +1,5 @@
-//! Verdicts on a run whose bounds break down after a deadline: two processors step in each of the ticks 1 to 4, and in none of
-//! the ticks 5 to 10.
+//! Verdicts on a run whose bounds break down after a deadline: two processors step in each of the ticks 1 to 4, and in
+//! none of the ticks 5 to 10.
 
 use decision_claims::{Formula, Operand, parse_formula};
 use judged_runs::{Demands, decisions_of_text, judge, verdict_text};
