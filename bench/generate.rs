@@ -64,7 +64,7 @@ impl Network {
         }
     }
 
-    /// How many of the processors, which are the first, are meant as correct.
+    /// How many processors, the first ones, are meant as correct.
     fn correct(&self) -> usize {
         self.processors.len() * 3 / 4
     }
@@ -182,7 +182,7 @@ impl Network {
     }
 
     /// Writes a trace whose steps are spread over the ticks, as many as are asked for if they have room: in each tick
-    /// each processor is asked in turn, and steps as often as makes up the number.
+    /// each processor is asked, one after the other, and steps as often as makes up the number.
     fn write_ticks(&mut self, out: &mut impl Write) -> io::Result<()> {
         self.write_head(out, 2)?;
         let mut left = self.steps;

@@ -4,9 +4,9 @@
 //!     generate_run STEPS SEED [PROCESSORS [BURST]]
 //!
 //! There are 16 processors or as many as are named, of which as many may be faulty as Algorithm 1 bears. Who steps
-//! makes one step, or BURST steps in a row, as threads do that seldom give way to one another. Whoever steps sends
-//! what it has to send in its round, and then receives; it takes most of what waits for it, some messages later and a
-//! few never. Who is ahead of others ends its rounds seldom, so that most messages come in time, and processors
+//! makes one step, or BURST steps in a row, as threads do that seldom give way to one another. A processor that steps
+//! sends what it has to send in its round, and then receives; it takes most of what waits for it, some messages later
+//! and a few never. One that is ahead of others ends its rounds seldom, so that most messages come in time, and processors
 //! decide.
 
 #[allow(dead_code)]

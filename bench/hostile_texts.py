@@ -101,8 +101,8 @@ def true_rows(file, rows):
 
 
 def far_gaps(file, ticks):
-    """Rows whose gaps are true, and by turns near the beginning and the end of a trace of so many ticks: they are
-    refuted only when all have been gone over."""
+    """Rows whose gaps are true, and alternately near the beginning and the end of a trace of so many ticks: they are
+    refuted only when all have been scanned."""
     file.write(HEADER)
     middle = ticks // 2
     for gst in range(1, middle + 1):
@@ -165,7 +165,7 @@ BYTES = {
     "commas after the end": filled(OPENING + b"end,0\n", b","),
 }
 
-# Of certificates, beside those.
+# Of certificates, besides those.
 CERTIFICATE_BYTES = {
     "rows": filled(HEADER, b"1,2,3,1,2,1,2,3\n"),
     "rows without witnesses": filled(HEADER, b"1,1,1,,,,,\n"),

@@ -1,5 +1,6 @@
 #!/usr/bin/env python3
-"""What `synchrony import` says of a log, straight from the words of its format: slow, and sharing no line with the program.
+"""What `synchrony import` prints of a log, straight from the words of its format: slow, and sharing no line with the
+program.
 
     bench/import_oracle.py import LOG [--nodes A,B,..] [--unit U] [--tick W] [--until X] [--idle Y] [--spread] [--align] [--drop-lost] [--table]
     bench/import_oracle.py --self-test
@@ -51,8 +52,7 @@ NO_CLOCKS = b"no clocks make this right: the records of a node are out of order,
 
 
 class Refused(Exception):
-    """A log, or a command line, that is refused: the status, and the lines that are told of it, in which names stand as
-    their bytes do."""
+    """A log, or a command line, that is refused: the status, and its lines, with the bytes of names unchanged."""
 
     def __init__(self, status, *lines):
         super().__init__(lines)
@@ -158,8 +158,8 @@ def is_message(text):
 
 
 def read_options(options):
-    """The list of the nodes, the kind of the times as far as it is told, the tick's length with whether it is a duration,
-    the end with what it is, and the longest silence that is filled, as the tick's length."""
+    """The list of the nodes, the kind of the times if it is given, the tick's length with whether it is a duration, the
+    end with its kind, and the longest silence that is filled, in the form of the tick's length."""
     nodes = None
     if options.nodes is not None:
         nodes = options.nodes.split(b",")
@@ -266,7 +266,7 @@ def places_of(records):
 
 
 def events_of(records, places, listed, kind):
-    """The events, and the kind of their times: the one that is told, or else that of the first event."""
+    """The events, and the kind of their times: the one that is given, or else that of the first event."""
     events = []
     for no, record in enumerate(records[1:], 2):
         if no == EVENT_LIMIT + 2:
@@ -383,7 +383,7 @@ def clock_line(receive, send):
 
 def align(events, nodes, sends, latest):
     """Moves the clocks of nodes forward, each by the least that lets every message be received later than it is sent; returns
-    by how much. Goes over the messages until nothing is left to do: where clocks go on and on, they go in a circle."""
+    by how much. Scans the messages until nothing is left to do. If clocks move on and on, there is a cycle."""
     test_messages(events, sends)
     offset = dict.fromkeys(nodes, 0)
     for _ in range(len(nodes) + 1):
@@ -434,7 +434,7 @@ def test_messages(events, sends):
 
 
 def late_lines(events, sends):
-    """What is told of the messages that are received no later than they are sent."""
+    """What is printed about the messages that are received no later than they are sent."""
     late = [(send.time - receive.time, receive, send) for receive, send in receipts(events, sends) if receive.time <= send.time]
     if not late:
         return []
@@ -446,7 +446,7 @@ def late_lines(events, sends):
 
 
 def test_steps(events, sends, spread):
-    """Refuses the first event that can't be a step, where it stands or, with spread, anywhere."""
+    """Refuses the first event that can't be a step, at its time or, with spread, anywhere."""
     received, filled = set(), {}
     for it in events:
         for name in it.messages if it.to is None else []:
@@ -597,7 +597,7 @@ def table_of(events, nodes, width):
 
 
 def quoted(field):
-    """A field as it is written: in quotes if it has a comma or a quote, which is then doubled."""
+    """A field in canonical form: in quotes if it has a comma or a quote, which is then doubled."""
     return b'"' + field.replace(b'"', b'""') + b'"' if b"," in field or b'"' in field else field
 
 

@@ -1,7 +1,7 @@
 """Times for the oracle of `import`: what a text is worth as a number, as decimal seconds, as a time stamp with an offset or
 without one, or as a duration, or None.
 
-A time stamp is worth its nanosecond since 1970 began, and a duration its nanoseconds. Beside RFC 3339 a stamp may have a
+A time stamp is worth its nanosecond since 1970 began, and a duration its nanoseconds. Besides RFC 3339 a stamp may have a
 lower-case `t` or `z`, a space for the `T`, a comma for the point, no separators in its date or in its time, hours or
 minutes alone, an offset with seconds, a year of six digits with its sign, and suffixes in brackets, which change nothing.
 A second of 60 is read as 59. A duration is of ISO 8601 without days (`PT0.5S`), or words (`1h 30m`, `5 milliseconds`,
@@ -157,7 +157,7 @@ def duration(text):
     return value if value is None or sign != b"-" else -value
 
 
-# Chosen texts: the second of a stamp as `date -u -d TEXT +%s` tells it, or worked out by hand, and its fraction.
+# Chosen texts: the second of a stamp by `date -u -d TEXT +%s`, or worked out by hand, and its fraction.
 STAMPS_READ = {
     "1970-01-01T00:00:00Z": (0, 0),
     "1969-12-31T23:59:59.5Z": (-1, 500_000_000),

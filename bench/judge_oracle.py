@@ -153,7 +153,7 @@ def is_number(word):
 
 
 def formula(text):
-    """The value of the formula that a text writes, as a function of what its words stand for."""
+    """The value of the formula that a text writes, as a function of what its words denote."""
     return Reader(text).formula()
 
 
@@ -259,7 +259,7 @@ def refusal_of_decisions(records, run):
 
 
 def answer(run, members, text, records, start=None, valid=False, whole=False, due=None, factor=False, rows=False):
-    """The status, and what is printed or told. The members are numbers, of which some may be above n."""
+    """The status, and what is printed. The members are numbers, of which some may be above n."""
     above = sorted(it for it in members if it > run.n)
     if above:
         return 2, f"no such processor in --correct\nsynchrony: --correct names processor {above[0]}, and the trace has processors 1 to {run.n}"

@@ -5,7 +5,7 @@ is received, some of it late.
     bench/long_log.py EVENTS [--stamps] [--coarse] [--long-names] [--shuffled] [--seed N] >FILE
 
 Times are numbers, in which each node acts at most once at a time; with --stamps time stamps, a millisecond apart, which want
-`--tick 1ms`. With --coarse five times are one, so that it wants `--spread`. With --shuffled the records stand in any order.
+`--tick 1ms`. With --coarse five times are one, so that it wants `--spread`. With --shuffled the records are in any order.
 """
 import argparse
 import random

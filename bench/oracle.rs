@@ -7,8 +7,8 @@
 //!     oracle [--limit N] replay FILE
 //!     oracle [--limit N] upgrade FILE
 //!
-//! N is the most processors that a trace may be of, 64 where it isn't named. A trace of more ticks than the oracle
-//! has patience for is told by status 90.
+//! N is the most processors that a trace may have, 64 by default. Status 90 reports a trace of more ticks than the
+//! oracle has patience for.
 
 mod oracle_bounds;
 mod oracle_runs;
@@ -80,7 +80,7 @@ fn main() {
     }
 }
 
-/// What of a report is asked for: the report of the trace up to a tick, and the row that serves a tick.
+/// What of a report is asked for: the report of the trace up to a tick, and the row that applies to a tick.
 struct Part {
     until: Option<u64>,
     at: Option<u64>,
@@ -112,7 +112,7 @@ fn cut(trace: &mut Trace, tick: u64) {
     trace.last_tick = tick;
 }
 
-/// Tells which tick is none of the trace.
+/// Prints which tick is none of the trace.
 fn bad_tick(option: &str, tick: u64, trace: &Trace) -> ! {
     let ticks = match trace.last_tick {
         0 => "no ticks".to_string(),

@@ -107,7 +107,7 @@ pub fn read_rows(text: &[u8]) -> Result<Vec<Row>, String> {
     records[1..].iter().zip(1..).map(row).collect()
 }
 
-/// The trace that a text stands for, of at most so many processors; or the first refusal.
+/// The trace that a text encodes, of at most so many processors; or the first refusal.
 pub fn read_trace(text: &[u8], processor_limit: u64) -> Result<Trace, String> {
     if text.len() as u64 > TEXT_LIMIT {
         return Err("text too large".into());
@@ -176,7 +176,7 @@ fn read_end(trace: &Trace, field: &[u8], has_ticks: bool) -> Option<u64> {
     }
 }
 
-/// The step of a record, whatever the trace; in version 1 its tick is its number.
+/// The step of a record, for any trace; in version 1 its tick is its number.
 fn read_step(record: &[Vec<u8>], no: Number, has_ticks: bool) -> Result<Step, &'static str> {
     let (first, tick, processor, operation, argument) = match (record, has_ticks) {
         ([first, tick, processor, operation, argument], true) => {

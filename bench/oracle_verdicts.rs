@@ -1,5 +1,5 @@
 //! The verdict on the rows of a certificate, for the oracle: of the reasons against rows, in their order, the first
-//! that stands against some row, each tried as it is written down.
+//! that holds against some row, each tried by its definition.
 
 use crate::oracle_bounds::{Definitions, Gap, Miss, Ticks};
 use crate::Number;
@@ -72,7 +72,7 @@ impl Verdicts<'_> {
             .map_or(self.last_tick(), |next| next.gst - 1)
     }
 
-    /// No miss beside 1; beside a greater bound a true one, shorter by one, that is sent at the stretch's end or later.
+    /// No miss for 1; for a greater bound a true one, shorter by one, that is sent at the stretch's end or later.
     fn shows_delta(&self, number: usize) -> bool {
         let row = self.row(number);
         match row.miss {
@@ -99,7 +99,7 @@ impl Verdicts<'_> {
         }
     }
 
-    /// Told with the longest miss from the row's stabilization time on, and then the greatest `sent`.
+    /// Reported with the longest miss from the row's stabilization time on, and then the greatest `sent`.
     fn delta_fails(&self, number: usize) -> Option<String> {
         let (row, it) = (self.row(number), &self.definitions);
         if it.delta_holds(row.delta, row.gst) {
@@ -113,7 +113,7 @@ impl Verdicts<'_> {
         Some(format!("DeltaFails {number} {sent} {missed}"))
     }
 
-    /// Told with the longest gap from the row's stabilization time on, then the greatest `from`, then the least
+    /// Reported with the longest gap from the row's stabilization time on, then the greatest `from`, then the least
     /// processor.
     fn phi_fails(&self, number: usize) -> Option<String> {
         let (row, it) = (self.row(number), &self.definitions);

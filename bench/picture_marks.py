@@ -37,7 +37,7 @@ MOST_NAME_BYTES = 64
 
 
 class Refused(Exception):
-    """What a fault line says of the options."""
+    """What a fault line says about the options."""
 
 
 @dataclass
@@ -176,7 +176,7 @@ def picture_of(trace, rows, window):
 
 
 def written(picture):
-    """How many messages, misses and gaps are written; the others are told by their number."""
+    """How many messages, misses and gaps are written; for the others there is their number."""
     return min(len(picture.messages), MOST_MESSAGES), min(len(picture.misses), MOST_WITNESSES), min(len(picture.gaps), MOST_WITNESSES)
 
 
@@ -228,7 +228,7 @@ CHOSEN = [
 ]
 # How many of the two long ones' messages, misses and gaps are written.
 WRITTEN = {16: (100, 1000, 1), 17: (10_000, 0, 1)}
-# What their pictures say of the others.
+# What their pictures say about the others.
 LEFT_OUT = {16: ["249099 later misses are not drawn."], 17: ["240099 earlier messages are not drawn."]}
 # L, --from and --to, and the window or the fault.
 WINDOWS = [

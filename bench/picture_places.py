@@ -20,7 +20,7 @@ TOP, HEIGHT = 500, 1_700
 LANES_TOP = 2_900
 LABEL_ROOM = 740
 MOST_LINEAR = 20
-# Of a name with more than 15 characters the first 7 and the last 7 are shown beside its lane.
+# Of a name with more than 15 characters the first 7 and the last 7 are shown next to its lane.
 LABEL_CHARS, LABEL_ENDS = 15, 7
 IDS_NAMED = 8
 KINDS = ("words", "page", "headings", "shade", "bound_labels", "tick_labels", "bounds", "corners", "lanes", "axis", "gaps", "messages", "misses", "steps", "left_out")
@@ -213,7 +213,7 @@ class Places:
         yield f"Steps of the ticks {self.first} to {self.to}", [(900, LANES_TOP - 160)]
 
     def words(self):
-        """What is told to a reader that doesn't show pictures."""
+        """The text for a reader that doesn't show pictures."""
         yield "title", f"Least bounds from each tick to the end, and steps of the ticks {self.first} to {self.to}"
         every = range(1, self.trace.processors + 1)
         told = f"Taken as correct: {', '.join(self.name(it) for it in every if it in self.members)}."

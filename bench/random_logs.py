@@ -15,7 +15,7 @@ TEXT_LIMIT = 67_108_864
 
 @dataclass
 class Log:
-    """The rows have their times in units; a text in their place stands as it is."""
+    """The rows have their times in units; a text in their place is unchanged."""
 
     rows: list
     nodes: list
@@ -26,7 +26,7 @@ class Log:
     unit: int
     width: int
     spread: bool
-    # How times are written: number, whole (of the unit that --unit tells), decimal, stamp or local.
+    # How times are written: number, whole (in the unit of --unit), decimal, stamp or local.
     form: str = "number"
     columns: list = field(default_factory=lambda: [*COLUMNS])
     options: dict = field(default_factory=dict)
@@ -227,7 +227,7 @@ def bad_unit(chance, log):
 
 
 def unit_of_another_kind(chance, log):
-    """A unit is told, and the times may be anything."""
+    """A unit is given, and the times may be anything."""
     log.options["unit"] = chance.choice([*UNITS])
 
 
@@ -506,7 +506,7 @@ def words_of(chance, log):
     return words
 
 
-# One event too many, alone and beside its neighbours in the table; and as many as there may be.
+# One event too many, alone and next to its neighbours in the table; and as many as there may be.
 PLAIN = b"time,node,event,to,message"
 MANY_EVENTS = {
     4: (PLAIN, 1_000_001, b""),

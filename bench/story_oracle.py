@@ -1,5 +1,5 @@
 #!/usr/bin/env python3
-"""What a page about a run tells, straight from the definitions: slow, and by plain loops.
+"""What a page about a run reports, straight from the definitions: slow, and by plain loops.
 
     bench/story_oracle.py FILE --correct LIST|all
 

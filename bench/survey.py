@@ -1,5 +1,5 @@
 #!/usr/bin/env python3
-"""How long a survey takes beside C processes that make the same calls of the library.
+"""How long a survey takes, compared with C processes that make the same calls of the library.
 
     bench/survey.py [--traces N] [--steps N] [--workers W] [--rounds N]
 

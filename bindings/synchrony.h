@@ -11,12 +11,12 @@ extern "C" {
 
 /* What a call answers: the exit status that the program has in the same case, and SYNCHRONY_NO_ROOM. */
 enum {
-    SYNCHRONY_DONE = 0,            /* the report stands in out */
+    SYNCHRONY_DONE = 0,            /* the report is in out */
     SYNCHRONY_YES = 0,             /* of a check: the rows are the report of the trace */
     SYNCHRONY_NO = 1,              /* of a check: they aren't */
     SYNCHRONY_BAD_SET = 2,         /* `correct` has a processor that the trace hasn't */
-    SYNCHRONY_BAD_TRACE = 3,       /* the text stands for no trace; why stands in out */
-    SYNCHRONY_BAD_CERTIFICATE = 4, /* the certificate stands for no rows; why stands in out */
+    SYNCHRONY_BAD_TRACE = 3,       /* the text encodes no trace; the reason is in out */
+    SYNCHRONY_BAD_CERTIFICATE = 4, /* the certificate encodes no rows; the reason is in out */
     SYNCHRONY_NO_MEMORY = 5,
     SYNCHRONY_NOT_A_RUN = 7,       /* of `replay`: the steps aren't those of the algorithm */
     SYNCHRONY_NO_ROOM = 9          /* the answer has *size bytes, more than room */
@@ -35,7 +35,7 @@ enum {
    correct if bit p - 1 of `correct` is set; with SYNCHRONY_ALL all of the trace do. */
 uint32_t synchrony_report(uint64_t correct, const uint8_t *text, size_t length, uint8_t *out, size_t room, size_t *size);
 
-/* Checks whether the rows of a certificate are the report of a trace text. Writes the line that tells of it over the
+/* Checks whether the rows of a certificate are the report of a trace text. Writes the line of the verdict over the
    first bytes of out, as "yes\n" or "no DeltaFails 1 1 2\n", and its length into *size. */
 uint32_t synchrony_check(uint64_t correct, const uint8_t *text, size_t length, const uint8_t *certificate,
                          size_t certificate_length, uint8_t *out, size_t room, size_t *size);

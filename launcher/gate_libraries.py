@@ -2,7 +2,7 @@
 libraries: what ./library and tests/mutants share.
 
 Such a library holds what the crates above can cite, and its code, without proofs and without the stamp by which `rt`
-would know it again; so `rt` would prove it once more, and whoever may take it calls rattle itself.
+would know it again; so `rt` would prove it once more, and a script that may take it calls rattle itself.
 """
 
 import subprocess
@@ -39,7 +39,7 @@ def are_of_gate(top, crates, names):
 
 
 def words_over(top, crates, name, root, toolchain):
-    """The words that name a crate, the file of its root, and the libraries in this checkout that it stands on."""
+    """The words that name a crate, the file of its root, and the libraries in this checkout that it depends on."""
     line = next(it for it in (top / "crates.txt").read_text().splitlines() if tree.name_in(it) == name)
     named = line.partition("#")[0].partition(":")[2].replace(",", " ").split()
     words = ["--crate-name", name, root, "-L", f"dependency={toolchain}/rlibs"]

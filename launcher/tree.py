@@ -13,7 +13,7 @@ MEMORY = 7 << 29
 
 
 def name_in(line):
-    """The crate that a line of crates.txt is about, which may say beside the name that it is a static library; or None."""
+    """The crate that a line of crates.txt is about, which may say besides the name that it is a static library; or None."""
     return next(iter(line.partition("#")[0].partition(":")[0].split()), None)
 
 
@@ -23,14 +23,14 @@ def is_static(line):
 
 
 def read_crates(top):
-    """The crates of crates.txt, each with those of them that it stands on. The toolchain's libraries are left out."""
+    """The crates of crates.txt, each with those of them that it depends on. The toolchain's libraries are left out."""
     lines = (top / "crates.txt").read_text().splitlines()
     listed = {name_in(it): re.split(r"[\s,]+", it.partition("#")[0].partition(":")[2]) for it in lines if name_in(it)}
     return {name: [it for it in below if it in listed] for name, below in listed.items()}
 
 
 def with_those_below(crates, names):
-    """These crates with all that they stand on, the lowest first."""
+    """These crates with all that they depend on, the lowest first."""
     found = []
     for name in names:
         found += [it for it in [*with_those_below(crates, crates[name]), name] if it not in found]
@@ -43,7 +43,7 @@ def files_of(crate):
 
 
 def copy_sources(crate, to):
-    """Copies what a crate is proved from, in place of what stands there."""
+    """Copies what a crate is proved from, in place of what is there."""
     for part in PARTS:
         shutil.rmtree(to / part, ignore_errors=True)
         if (crate / part).is_dir():
@@ -51,7 +51,8 @@ def copy_sources(crate, to):
 
 
 def link(file, to):
-    """Makes a file be in another place too: rt replaces files and writes into none, so a link serves where one can be had."""
+    """Makes a file be in another place too: rt replaces files and writes into none, so a link is enough where one can
+    be had."""
     try:
         os.link(file, to)
     except OSError:

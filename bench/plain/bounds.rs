@@ -64,7 +64,7 @@ pub struct Row {
     gap: Option<Gap>,
 }
 
-/// What the ticks from the one at hand to the trace's end say of the silence of the correct processors.
+/// What the ticks from the current one to the trace's end show about the silence of the correct processors.
 pub struct Silence {
     /// The correct processors, rising.
     members: Vec<u8>,

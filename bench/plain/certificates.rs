@@ -46,7 +46,7 @@ impl fmt::Display for RowsFault {
 }
 
 impl Rows {
-    /// The rows for which a report text stands, or the first refusal.
+    /// The rows that a report text encodes, or the first refusal.
     pub fn from_text(text: &[u8]) -> Result<Rows, RowsFault> {
         let mut records = Records::new(text);
         let mut fields = Vec::new();
@@ -143,7 +143,7 @@ pub fn check(trace: &Trace, correct: ProcessorSet, rows: &Rows) -> Result<(), Re
     checks.bounds()
 }
 
-/// What rows must be whatever the steps of the trace.
+/// What rows must be for any steps of the trace.
 fn check_order(rows: &[Row], last_tick: u64) -> Result<(), Reason> {
     let Some(first) = rows.first() else {
         return match last_tick {

@@ -4,7 +4,7 @@
 use std::ops::Range;
 use std::sync::Arc;
 
-/// What a message says beside its PROPER values.
+/// What a message says besides its PROPER values.
 pub enum Kind {
     List(Vec<u64>),
     Lock(u64),
@@ -137,7 +137,7 @@ fn acks(heard: &[Message]) -> usize {
     heard.iter().filter(is_ack).count()
 }
 
-/// Whether some lock that was told releases this one.
+/// Whether some heard lock releases this one.
 fn is_released((value, phase): (u64, u64), heard: &[Message]) -> bool {
     heard.iter().any(|message| match &message.body.kind {
         Kind::Locks(told) => told.iter().any(|it| it.0 != value && it.1 >= phase),

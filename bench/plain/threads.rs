@@ -6,7 +6,7 @@ use std::io::{self, Write};
 use std::sync::Mutex;
 use std::thread;
 
-/// A step as a trace text tells it.
+/// A step as a trace text encodes it.
 enum Act {
     Send { to: u8 },
     Receive { ids: Vec<u32>, ends: bool },

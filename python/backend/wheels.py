@@ -23,7 +23,7 @@ TIME = (1980, 1, 1, 0, 0, 0)
 
 
 def project():
-    """What pyproject.toml says of the project: the lines with one text each, and the optional dependencies."""
+    """What pyproject.toml says about the project: the lines with one text each, and the optional dependencies."""
     text = (HERE / "pyproject.toml").read_text()
     part = re.search(r"^\[project\]\n(.*?)^\[", text, re.M | re.S)[1]
     extras = re.search(r"^\[project\.optional-dependencies\]\n(.*?)^\[", text, re.M | re.S)[1]

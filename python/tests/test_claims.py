@@ -1,4 +1,4 @@
-"""Claims judged by many runs: each run has its line, whatever happens to it, and the last line adds them up."""
+"""Claims judged by many runs: each run has its line in every case, and the last line adds them up."""
 
 import math
 import os

@@ -112,7 +112,7 @@ def test_a_claim_about_a_run():
     assert not run.judge("1") and str(run.judge("1")).startswith("no deadline 1 ")
     # (in tick 1 + L - 1 all have decided, and a tick before not all)
     assert run.judge(f"{last - 1}", start=1) and not run.judge(f"{last - 2}", start=1)
-    # what was decided is told as numbers
+    # decisions are passed as numbers
     assert str(run.judge("100", valid=True, value=lambda it: it + 1)).startswith("no validity ")
     split = sy.Run(run.trace, run.decisions + [sy.Decision(1, last, 7)], run.correct, run.schedule, run.ticks, run.steps)
     assert str(split.judge("100")).startswith("no agreement ")

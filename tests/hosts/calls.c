@@ -1,8 +1,8 @@
 /* calls report CORRECT ROOM <TRACE
    calls check CORRECT ROOM CERTIFICATE <TRACE
 
-   One call with this much room. Prints its answer, its size and what stands in the room then, as far as it is written.
-   The status is the answer; or 100, where a byte was written that none should be. */
+   One call with this much room. Prints its answer, its size and the bytes of the room then, as far as they are written.
+   The status is the answer; or 100, if a byte was written that none should be. */
 #include "../../bindings/synchrony.h"
 #include <stdio.h>
 #include <stdlib.h>

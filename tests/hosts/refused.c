@@ -1,8 +1,8 @@
 /* refused CORRECT CERTIFICATE <TRACE
 
-   Refuses each growth of a report in turn, and then of a check, and prints how many growths each has. Each refused one
-   has to be answered by want of memory, with `out` and `size` as before and no block still held; the status is 0 only if
-   all are. The heap is this program's own: it defines what the library calls of one. */
+   Refuses each allocation of a report, one at a time, and then of a check, and prints how many allocations each has.
+   Each refused one has to be answered by out of memory, with `out` and `size` as before and no block still held; the
+   status is 0 only if all are. The heap is this program's own: it defines what the library calls of one. */
 #include "../../bindings/synchrony.h"
 #include <stdio.h>
 #include <stdlib.h>
@@ -42,7 +42,7 @@ static uint32_t check(uint64_t correct) {
     return synchrony_check(correct, trace, length, certificate, certificate_length, out, ROOM, &size);
 }
 
-/* Whether a refused growth has left everything as before. */
+/* Whether a refused allocation has left everything as before. */
 static int is_as_before(uint32_t answer) {
     if (answer != SYNCHRONY_NO_MEMORY || size != BEFORE || held) return 0;
     for (size_t at = 0; at < ROOM; at++)
@@ -50,7 +50,7 @@ static int is_as_before(uint32_t answer) {
     return 1;
 }
 
-/* How many growths a call has, or -1. */
+/* How many allocations a call has, or -1. */
 static long count_growths(uint32_t (*call)(uint64_t), uint64_t correct) {
     for (long growth = 0;; growth++) {
         memset(out, BEFORE, ROOM);

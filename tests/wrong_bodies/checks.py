@@ -1,4 +1,4 @@
-"""Where wrong bodies are checked: copies of a checkout's crates, the libraries below them, and checks side by side."""
+"""Where mutants are checked: copies of a checkout's crates, the libraries below them, and checks in parallel."""
 
 import fcntl
 import hashlib
@@ -49,7 +49,7 @@ class Commands:
             command = subprocess.Popen(words, cwd=folder, start_new_session=True, **how)
             self.running.add(command)
         output = command.stdout.read().decode(errors="replace")
-        # (so that the command's own time is had, whatever else runs)
+        # (so that the command's own time is had, with anything else running)
         _, status, used = os.wait4(command.pid, 0)
         with self.guard:
             command.returncode = os.waitstatus_to_exitcode(status)
@@ -105,7 +105,7 @@ class Workshop:
             clean.rename(kept)
 
     def leave(self, name):
-        """Ends the work in a crate: what the gate's checks kept is of no more use, and takes hundreds of megabytes."""
+        """Ends the work in a crate: what the full check kept is of no more use, and takes hundreds of megabytes."""
         self.put_back(name)
         if self.of_gate:
             shutil.rmtree(self.folder(name) / "out", ignore_errors=True)
@@ -127,7 +127,7 @@ class Workshop:
             os.close(held)
 
     def build_libraries(self):
-        """Builds the libraries that are to stand below: in no time where the kept work has them."""
+        """Builds the libraries that are to be below: in no time if the kept work has them."""
         highest = [it for it in self.libraries if not any(it in self.crates[above] for above in self.libraries)]
         for name in highest:
             progress(f"building the library {name} and those below it")
@@ -190,7 +190,7 @@ class Bench:
         return self.workshop.commands.run([*self.workshop.words(self.crate.name, jobs), *options], self.crate.folder)
 
     def check_unchanged(self):
-        """Checks the crate as it stands, and sets that work aside for the checks of mutants."""
+        """Checks the unchanged crate, and sets that work aside for the checks of mutants."""
         told = self.check({})
         if told.is_proved:
             self.clean.parent.mkdir(exist_ok=True)

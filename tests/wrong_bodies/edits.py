@@ -1,4 +1,4 @@
-"""Wrong bodies as edits of a crate's texts: read from files, and planted many at a time."""
+"""Mutants as edits of a crate's texts: read from files, and planted many at a time."""
 
 import os
 from contextlib import suppress
@@ -10,7 +10,7 @@ from tree import PARTS
 
 @dataclass(eq=False)
 class Mutant:
-    """A wrong body: the texts of the files that it changes, by their paths."""
+    """A mutant: the texts of the files that it changes, by their paths."""
 
     label: str
     texts: dict
@@ -53,7 +53,7 @@ def pairs_of(edit):
 
 
 def place_of(path, text, after, old):
-    """Where an old text stands: it stands in the text once, or is the first after another that does."""
+    """Where an old text is: it occurs in the text once, or is the first after another that does."""
     for it in [after] if after else [old]:
         if text.count(it) != 1:
             raise Bad(f"an `{'after' if after else 'old'}:` text stands in {path} {text.count(it)} times, and not once")
@@ -72,7 +72,7 @@ def change_of(old, new):
 
 def functions_at(label, path, text, begins, ends, crate):
     """The units of the function whose contract a change turns, and of the one whose body it changes ("": none, and None:
-    not one alone): in a source by where it stands, and in specs/ or proofs/ by the label FUNCTION-.. of the edit."""
+    not one alone): in a source by its place, and in specs/ or proofs/ by the label FUNCTION-.. of the edit."""
     if not path.startswith("src/"):
         named = label.rpartition("/")[2].partition("-")[0]
         found = [it for functions in crate.functions.values() for it in functions if it.name == named]

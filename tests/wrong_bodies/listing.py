@@ -1,4 +1,4 @@
-"""Which wrong bodies there are, where each lies, and which public function has none."""
+"""Which mutants there are, where each is, and which public function has none."""
 
 import sys
 from contextlib import suppress
@@ -29,7 +29,7 @@ def chosen(checkout, words, parts):
 
 
 def list_edits(checkout, edits):
-    """Says of each edit where it would be tried, or why it cannot be applied, and returns how many cannot."""
+    """Prints where each edit would be tried, or why it cannot be applied, and returns how many cannot."""
     broken = 0
     for name, labelled in edits.items():
         crate = Crate(name, checkout / "crates" / name)
@@ -51,7 +51,7 @@ def only_bodies(crate):
 
 
 def lacking(checkout, words):
-    """The public functions of these crates (none: of all) that have no wrong body in must-fail/ or mutants/public/."""
+    """The public functions of these crates (none: of all) that have no mutant in must-fail/ or mutants/public/."""
     crates = {name: Crate(name, checkout / "crates" / name) for name in tree.read_crates(checkout)}
     contracts, found = {it for crate in crates.values() for it in crate.trait_contracts()}, []
     for name in [it for it in crates if not words or it in words]:

@@ -139,10 +139,10 @@ PLANTED = {
     "stands-nowhere": ("lib", ["if b > a", "if b < a"], BROKEN),
 }
 
-# Those of its public functions that have no wrong body in must-fail/ or mutants/public/.
+# Those of its public functions that have no mutant in must-fail/ or mutants/public/.
 LACKING = {"lib::is_small", "lib::least", "lib::least_of_three", "ranges::Range::has", "ranges::RangeFromU64::from", "ranges::is_among"}
 
-# Wrong bodies of public functions, planted in the crate above it once `rt ci` has passed both.
+# Mutants of public functions, planted in the crate above it once `rt ci` has passed both.
 PLANTED_ABOVE = {
     "are_small-by-the-first": ("lib", ["is_small(a) && is_small(b)", "is_small(a)"], REFUSED),
     "are_small-in-another-order": ("lib", ["is_small(a) && is_small(b)", "is_small(b) && is_small(a)"], PROVED),
@@ -153,12 +153,13 @@ PLANTED_ABOVE = {
     "below-twice": ("lib", ["    lowered(p)", "    lowered(lowered(p))"], PROVED),
     "below-promises-zero": ("lib", ["most { result ≤ p }", "most { result ≤ 0 }"], REFUSED),
     "below-by-a-type-error": ("lib", ["most { result ≤ p }", "most { result ≤ 0 }", "p / 2", "is_small(p)"], BROKEN),
-    # A half is in no contract, so nobody who calls it is told of another number.
+    # A half is in no contract, so no caller sees another number.
     "lowered-to-a-third": ("lib", ["p / 2", "p / 3"], PROVED),
     # Only a caller shows that this is too little.
     "lowered-promises-nothing": ("lib", ["lower { result ≤ p }", "lower { 0 ≤ result }"], REFUSED),
 }
-# A crate that isn't proved as it stands: a function that its others call, which is no stub, for a const fn never is one.
+# A crate that isn't proved without a mutant: a function that its others call, which is no stub, for a const fn never is
+# one.
 UNPROVED = """\
 //! A function that isn't what it says.
 #![tactic(auto)]
@@ -191,7 +192,7 @@ PLANTED_UNPROVED = {
     "same-is-zero": "file: src/lib.rt\nafter: pub fn same\nold:     p\nnew:     p / 4\n",
 }
 
-# A text that stands twice, after one that stands once.
+# A text that occurs twice, after one that occurs once.
 AFTER = "file: src/lib.rt\nafter: pub fn lesser\nold: (a, b)\nnew: (b, b)\n"
 
 

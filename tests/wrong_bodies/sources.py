@@ -1,4 +1,4 @@
-"""The functions of a crate's source files: where their bodies stand, what names them, and which are public."""
+"""The functions of a crate's source files: where their bodies are, what names them, and which are public."""
 
 import re
 import sys
@@ -24,7 +24,7 @@ class Impl:
 
 @dataclass(frozen=True)
 class Function:
-    """A function as it stands in a file, with the places where its text begins and its body begins and ends."""
+    """A function in a file, with the places where its text begins and its body begins and ends."""
 
     # `step_trace::traces`, and `push` in it, of the impl of Trace.
     module: str
@@ -81,7 +81,7 @@ def lines_of(text):
 
 
 def end_of_header(lines, first):
-    """The line that ends the header which this line begins: it stands as far left, and opens a body or needs none; or it
+    """The line that ends the header which this line begins: it begins as far left, and opens a body or needs none; or it
     is a last clause, with the semicolon of a method that a trait only declares."""
     depth = 0
     for number in range(first, len(lines)):
@@ -111,7 +111,7 @@ def impl_of(header):
 
 
 def functions_of(crate, path, text):
-    """The functions of a formatted file: a body ends at the first brace that stands as far left as its head."""
+    """The functions of a formatted file: a body ends at the first brace as far left as its head."""
     lines, number = lines_of(text), 0
     functions, above = [], []
     # The modules and impls that the line lies in: (indent, the module's name or the impl).
@@ -171,8 +171,8 @@ class Crate:
                 self.homes.setdefault(it, []).append("::".join(module_of(path)))
 
     def place(self, function):
-        """The path below the crate at which the prover has a function: a method stands with its type, a trait's with
-        the impl; or None where it isn't clear which type that is."""
+        """The path below the crate at which the prover has a function: a method comes with its type, a trait's with the
+        impl; or None if it isn't clear which type that is."""
         module = function.module.partition("::")[2]
         if function.impl and not function.impl.trait:
             homes = self.homes.get(function.impl.type.split("::")[-1], [])

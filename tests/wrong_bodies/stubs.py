@@ -1,11 +1,11 @@
-"""Stubs: functions that are taken by their contracts, while the wrong bodies of others are tried.
+"""Stubs: functions that are taken by their contracts, while the mutants of others are tried.
 
 The body of a stub is a call of itself, and its proof is a hole, which the prover takes for the contract when it may. So
 it costs next to nothing: of a hole alone the prover would still make its record of all that the body knows (`F.Lts`),
-which is what is dear, and it would go on to all that the body calls. A stub has as many lines as the function, so what
-is told of lines stands.
+which is what is dear, and it would go on to all that the body calls. A stub has as many lines as the function, so the
+numbers of lines stay right.
 
-That loses nothing: whoever calls a function sees its contract alone, so no goal of another function is changed. Only
+That loses nothing: a caller sees a function's contract alone, so no goal of another function is changed. Only
 refusals are taken from a check over stubs. What is not refused there is tried again without any.
 """
 
@@ -79,8 +79,8 @@ class Stubs:
         return None if place in self.unknown else place
 
     def check(self, functions, changed, kept=()):
-        """What the prover says of these functions, with these texts in place of the crate's, over stubs of all others
-        but those of the kept units; or None where that doesn't reach the prover."""
+        """What the prover answers for these functions, with these texts in place of the crate's, over stubs of all others
+        but those of the kept units; or None if that doesn't reach the prover."""
         while True:
             texts, lines = self.around({*kept, *[it.unit() for it in functions]}, changed)
             places = {f"{self.crate.name}::{it}": it for it in map(self.place, functions) if it}

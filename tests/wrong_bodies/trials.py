@@ -1,4 +1,4 @@
-"""The trial of wrong bodies: which go into one check, and what is said of each."""
+"""The trial of mutants: which go into one check, and the verdict on each."""
 
 import threading
 from concurrent.futures import ThreadPoolExecutor
@@ -22,7 +22,7 @@ class Trial:
     """The trial of a crate's mutants, and the verdict on each."""
 
     def __init__(self, bench, is_proved):
-        # is_proved: whether the crate is said to be proved as it stands, so that this isn't looked at first
+        # is_proved: whether the unchanged crate is said to be proved, so that this isn't checked first
         self.bench, self.crate, self.is_proved = bench, bench.crate, is_proved
         self.mutants, self.told, self.stubs = [], {}, Stubs(bench)
 
@@ -56,7 +56,7 @@ class Trial:
             self.tell(it.label, *verdict_alone(self.bench.check(it.texts), it.texts))
 
     def proved_as_it_stands(self):
-        """What the check of the crate as it stands says, or None where it isn't proved, so that no mutant can be tried."""
+        """What the check of the unchanged crate says, or None if it isn't proved, so that no mutant can be tried."""
         told = self.bench.check_unchanged()
         if told.is_proved:
             return told
@@ -85,10 +85,10 @@ class Trial:
         return alone
 
     def of_these(self, functions, changed, kept=()):
-        """What a check of these functions alone says, or None where it doesn't reach the prover.
+        """What a check of these functions alone says, or None if it doesn't reach the prover.
 
-        All others but those of the kept units are stubs, or, where the crate has been checked as it stands, what that
-        check kept of them.
+        All others but those of the kept units are stubs, or, if the unchanged crate has been checked, what that check
+        kept of them.
         """
         if self.is_proved:
             return self.stubs.check(functions, changed, kept)
@@ -97,7 +97,7 @@ class Trial:
         return told if told and told.is_proved is not None else None
 
     def try_by_what_they_turn(self, mutants):
-        """Tries mutants that turn a contract or a law, each by that function alone, and tells of those that are refused."""
+        """Tries mutants that turn a contract or a law, each by that function alone, and prints those that are refused."""
         for number, it in enumerate(mutants, 1):
             progress(f"{self.crate.name}: {it.label} by {it.turned.own()} ({number} of {len(mutants)})")
             # (what it changes in bodies is to compile too)
@@ -109,7 +109,7 @@ class Trial:
                 self.tell(it.label, verdict, why)
 
     def is_proved_indeed(self):
-        """Whether the crate is proved as it stands, where that was said and not yet seen."""
+        """Whether the unchanged crate is proved, if that was said and not yet seen."""
         if self.is_proved and not self.proved_as_it_stands():
             return False
         self.is_proved = False
@@ -138,7 +138,7 @@ class Trial:
 def try_all(checkout, edits, are_proved, jobs=None, is_one_at_a_time=False):
     """Tries these edits, several crates at a time, and returns the verdict on each label.
 
-    Where it is known that the crates are proved as they stand (are_proved), the first check of each has wrong bodies in it.
+    If it is known that the unchanged crates are proved (are_proved), the first check of each has mutants in it.
     """
     workshop = Workshop(checkout, [*edits])
     crates = {name: Crate(name, workshop.folder(name)) for name in edits}

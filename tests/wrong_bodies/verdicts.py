@@ -1,4 +1,4 @@
-"""What a check says, and the verdict on a wrong body by that."""
+"""What a check says, and the verdict on a mutant by that."""
 
 import re
 from dataclasses import dataclass, field
@@ -13,8 +13,8 @@ class Told:
     """What a check printed."""
 
     output: str
-    # Whether the crate is proved (None: there is no verdict), and what is said of each function. A check of some functions
-    # alone tells of them, and never that the crate is proved.
+    # Whether the crate is proved (None: there is no verdict), and the answer for each function. A check of some
+    # functions alone answers for them, and never that the crate is proved.
     is_proved: bool = None
     functions: dict = field(default_factory=dict)
     # What is said of lines: (path, line, whether it is a note, text).
@@ -61,7 +61,7 @@ def is_fine(said):
 
 
 def first_goal(remarks):
-    """The first of these remarks that tells of a goal, in short: one that isn't proved, or an error in a proof."""
+    """The first of these remarks on a goal, in short: one that isn't proved, or an error in a proof."""
     goals = [it for it in remarks if it[2] and "is not proved" in it[3]]
     goals += [it for it in remarks if not it[2] and not is_of_names(it)]
     return in_short(goals[0]) if goals else None
@@ -77,7 +77,7 @@ NAMES_ALONE = "only since a proof names what it took away, which says little of 
 
 
 def verdict_alone(told, changed):
-    """The verdict on a mutant that was tried alone, and what to say of it."""
+    """The verdict on a mutant that was tried alone, and what to print."""
     unread = next((it for it in told.remarks if is_unread(it, changed)), None)
     if unread:
         return BROKEN, f"the prover cannot read the changed text: {in_short(unread)}"
@@ -94,7 +94,7 @@ def verdict_alone(told, changed):
 
 
 def verdict_among_others(mutant, own, told, lines):
-    """The verdict on one of a check's mutants, by what is said of its own functions, and what to say of it."""
+    """The verdict on one of a check's mutants, by the answers for its own functions, and what to print."""
     if not own or all(map(is_fine, own.values())):
         return ALONE, ""
     proofs = tuple(f"proofs/{name.partition('::')[2].replace('::', '/')}/" for name in own)
@@ -113,8 +113,8 @@ def verdict_among_others(mutant, own, told, lines):
 
 
 def verdict_by_one(told, own, changed):
-    """The verdict on a mutant that changes more than a body, by what is said of one function alone, over stubs of those
-    that it calls, and what to say of it: only a refusal counts."""
+    """The verdict on a mutant that changes more than a body, by the answer for one function alone, over stubs of those
+    that it calls, and what to print: only a refusal counts."""
     not_own = r"(not proved: |no proof: )?it calls `"
     has_goal = not all(is_fine(said) or re.match(not_own, said) for said in own.values())
     if has_goal and first_goal(told.remarks) and not any(is_unread(it, changed) for it in told.remarks):

@@ -46,11 +46,11 @@ unsafe extern "C" {
 pub enum Refusal {
     /// A processor is named as correct that the trace hasn't.
     Set,
-    /// The text stands for no trace; this is its first refusal.
+    /// The text encodes no trace; this is its first refusal.
     Trace(String),
-    /// The certificate stands for no rows; this is its first refusal.
+    /// The certificate encodes no rows; this is its first refusal.
     Certificate(String),
-    /// There was no memory.
+    /// Out of memory.
     Memory,
 }
 

@@ -65,7 +65,7 @@ def _numbers(word: str, option: str, parser: argparse.ArgumentParser) -> List[in
 
 
 class _File(os.PathLike[str]):
-    """A file by its name as it was given. (A Path, which has much more to do, takes four times as long.)"""
+    """A file by its unchanged name. (A Path, which has much more to do, takes four times as long.)"""
 
     def __init__(self, name: str) -> None:
         self.name = name

@@ -116,9 +116,9 @@ class Timeout(NamedTuple):
 
 @dataclass(frozen=True)
 class Verdict:
-    """What a check says of a certificate: it is true if the certificate's rows are the report of the trace. Else `reason`
-    is the first reason against them, as 'DeltaFails', and `numbers` are its numbers, as the program prints them. `str()`
-    of it is the program's verdict line."""
+    """The verdict of a check on a certificate: it is true if the certificate's rows are the report of the trace. Else
+    `reason` is the first reason against them, as 'DeltaFails', and `numbers` are its numbers, as the program prints
+    them. `str()` of it is the program's verdict line."""
 
     reason: Optional[str]
     numbers: Tuple[int, ...]
@@ -144,9 +144,9 @@ class DeadlineRow(NamedTuple):
 
 @dataclass(frozen=True)
 class Judgement:
-    """What `judge` says of the decisions of a run: it is true if they keep the claim. `str()` of it is the program's verdict
-    line. `factor` is the least factor of the formula with which they would, `math.inf` if none is enough, and `rows` has the
-    rows with their deadlines; both are None unless they were asked for."""
+    """The verdict of `judge` on the decisions of a run: it is true if they keep the claim. `str()` of it is the
+    program's verdict line. `factor` is the least factor of the formula with which they would, `math.inf` if none is
+    enough, and `rows` has the rows with their deadlines; both are None unless they were asked for."""
 
     line: str
     factor: Optional[float] = field(default=None, repr=False)

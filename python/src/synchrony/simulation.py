@@ -159,7 +159,7 @@ class Run:
     ) -> library.Judgement:
         """Whether the correct processors decided within a formula of the bounds, and agreed.
 
-        `within` and the options are those of `library.judge`. What was decided is told to it as numbers: `value` makes one
+        `within` and the options are those of `library.judge`. Decisions are passed to it as numbers: `value` makes one
         of each decision. One that was made before a step counts as made in tick 1.
         """
         decisions = self.decisions_text(value)
@@ -178,7 +178,7 @@ class Run:
         return first
 
     def values_decided(self) -> List[Any]:
-        """The different values that were decided, by whatever processor, in the order in which they were."""
+        """The different values that were decided, by any processor, in the order in which they were."""
         found: List[Any] = []
         for it in self.decisions:
             if it.value not in found:
@@ -367,7 +367,7 @@ def _by_processor(given: Union[float, Mapping[int, float]], n: int, usual: float
 
 def _crashes(schedule: Schedule, n: int, ticks: int) -> Tuple[List[int], List[int]]:
     """The first tick in which each processor takes no step more, as far as it is known, and how many Sends it has left
-    until it crashes (negative where there is no such number)."""
+    until it crashes (negative if there is no such number)."""
     crash, sends_left = [ticks + 1] * (n + 1), [-1] * (n + 1)
     for p, when in schedule.crashed.items():
         if isinstance(when, AfterSends):

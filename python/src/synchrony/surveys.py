@@ -54,8 +54,8 @@ class Bounds(NamedTuple):
 
 
 class Surveyed(NamedTuple):
-    """What a survey says of one trace: its steps and ticks, and its bounds from each tick of the survey on, which are None
-    where the trace ends before. Of a trace without an answer `error` has the words, and nothing else is said."""
+    """What a survey reports of one trace: its steps and ticks, and its bounds from each tick of the survey on, which
+    are None if the trace ends before. Of a trace without an answer `error` has the words, and nothing else is said."""
 
     name: str
     group: str
