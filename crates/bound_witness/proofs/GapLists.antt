@@ -59,7 +59,7 @@ ListsGapsBy-between set trace p last next ws k s l = go (nat_lt (last + 1) next)
     ordered = l.ordered;
   })
 
--- where each gap of p begins by tick k, the list up to tick k of p is the one of all processors up to p
+-- if each gap of p begins by tick k, the list up to tick k of p is the one of all processors up to p
 pub ListsGapsBy-next : (set : ℕ) (trace : Recorded) (p k : ℕ) (ws : List Gap) → ((w : Gap) → IsGap set trace w → w.proc ≡ p → w.from ≤ k) → ListsGapsBy set trace p k ws → ListsGapsBy set trace (p + 1) 0 ws
 ListsGapsBy-next set trace p k ws all l = record {
   listed = λ w. (
@@ -121,7 +121,7 @@ silent_at_end set trace p last k ws n m i = record {
   silent = λ z a b e. absurd (let q = e.tick in let w = (step_at_within trace.steps e.place _ e.step.1).1 in let h = i.behind e.place (omega arith) e.step in omega (arith, q, h, a));
 }
 
--- where the tick of the next step isn't right after the last one, the interval between them is a longest gap
+-- if the tick of the next step isn't right after the last one, the interval between them is a longest gap
 pub IsScanned-gap : (set : ℕ) (trace : Recorded) (p last k t : ℕ) (ws : List Gap) → IsTimed trace → IsTrue (has_proc set p) → IsStepOf trace.steps k p → t ≡ tick_of trace k → last + 1 < t → IsScanned set trace p last k ws → (w : Gap) × IsLongestGap set trace w
 IsScanned-gap set trace p last k t ws time m s h n i = let l : last + 1 < tick_of trace k = omega (arith, h, n) in (between p last (tick_of trace k), between-IsLongestGap set trace p last (tick_of trace k) l (silent_before set trace p last k ws time m s i))
 

@@ -12,7 +12,7 @@ use Rattle.bound_witness.specs.WitnessSearches.{AllStepWithin, IsFirstSilent}
 pub record AllStepFrom (set : ℕ) (trace : Recorded) (span x : ℕ) : Type 0 where
   pub each : (y : ℕ) → x ≤ y → y + span ≤ trace.last + 1 → AllStepWithin set trace y span
 
--- where these are all windows the bound holds
+-- if these are all windows the bound holds
 pub PhiHolds-from_all : (set : ℕ) (trace : Recorded) (g span x : ℕ) → x ≤ g → AllStepFrom set trace span x
     → PhiHolds set trace g span
 PhiHolds-from_all set trace g span x first b = record { each = λ y l k. (b.each y (omega arith) (omega arith)).each }
@@ -59,7 +59,7 @@ NamesGap-found set trace g f (Some w) h k n =
     let p = h.positive in
     (omega arith, subst (λ e. IsNamedGap set trace g e w) (omega arith) n)
 
--- what the first silent member says where there is one, and where there is none
+-- what the first silent member says if there is one, and if there is none
 pub all_step : (set : ℕ) (trace : Recorded) (x f : ℕ) (o : Option ℕ) → is_some o ≡ false
     → MatchOption o (AllStepWithin set trace x f) (IsFirstSilent set trace x f) → AllStepWithin set trace x f
 all_step set trace x f None e h = h

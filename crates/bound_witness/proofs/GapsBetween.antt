@@ -1,4 +1,4 @@
--- The interval between the ticks of two steps of a processor is a longest gap, where it isn't empty.
+-- The interval between the ticks of two steps of a processor is a longest gap, if it isn't empty.
 use Rattle.std.proofs.Common.{ℕ, ◌≡◌, ◌+◌, ◌-◌, ◌<◌, ◌≤◌, inl, inr, IsTrue, refl, sym, arith, subst}
 use Rattle.std.proofs.lemmas.Bool.{cases_lt}
 use Rattle.step_trace.specs.declared.rows.Gap.{Gap}
@@ -23,7 +23,7 @@ IsEdge-step set trace p k s = record {
   apart = λ o i q a b. i.silent (tick_of trace k) a b (subst (λ n. StepsIn trace (tick_of trace k) n) (sym q) (record { place = k; step = s; tick = refl }));
 }
 
--- the interval between two edges with no step between them, where it isn't empty
+-- the interval between two edges with no step between them, if it isn't empty
 pub record SilentBetween (set : ℕ) (trace : Recorded) (p last next : ℕ) : Type 0 where
   pub member : IsTrue (has_proc set p)
   pub begin : IsEdge set trace p last
@@ -35,7 +35,7 @@ pub record SilentBetween (set : ℕ) (trace : Recorded) (p last next : ℕ) : Ty
 abbrev pub between : ℕ → ℕ → ℕ → Gap
 between p last next = record { proc = p; from = last + 1; to = next - 1 }
 
--- the interval between two edges is a gap, where it isn't empty
+-- the interval between two edges is a gap, if it isn't empty
 between-IsGap : (set : ℕ) (trace : Recorded) (p last next : ℕ) → last + 1 < next → SilentBetween set trace p last next → IsGap set trace (between p last next)
 between-IsGap set trace p last next l s = let i = s.inside in record {
   member = s.member;

@@ -43,7 +43,7 @@ pub record NoMissUntil (set : ℕ) (trace : Recorded) (span s until : ℕ) : Typ
   pub none : (r : ℕ) → r < until → IsMiss set trace (record { sent = s; missed = r })
       → tick_of trace s + span ≡ tick_of trace r → ⊥
 
--- where the step `until` ends no such miss, none is ended before the next number
+-- if the step `until` ends no such miss, none is ended before the next number
 pub NoMissUntil-pass : (set : ℕ) (trace : Recorded) (span s until : ℕ)
     → (IsMiss set trace (record { sent = s; missed = until }) → tick_of trace s + span ≡ tick_of trace until → ⊥)
     → NoMissUntil set trace span s until → NoMissUntil set trace span s (until + 1)

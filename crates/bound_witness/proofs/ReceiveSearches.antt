@@ -16,7 +16,7 @@ use Rattle.bound_witness.specs.TickWindows.{IsReceiveBetween, NoReceiveBetween, 
 pub record NoReceiveFrom (trace : Recorded) (b x y k : ℕ) : Type 0 where
   pub none : (r : ℕ) → k ≤ r → IsReceiveBetween trace r b x y → ⊥
 
--- a Receive of the receiver finds the message undelivered exactly where its tick is before the delivery
+-- a Receive of the receiver finds the message undelivered exactly if its tick is before the delivery
 abbrev pub DeliveredAt : Recorded → ℕ → ℕ → Type 0
 DeliveredAt trace sent y = (z : ℕ) → z ≤ trace.last → (IsDelivered trace sent z ↔ (y ≤ z))
 
@@ -46,7 +46,7 @@ miss_at set trace sent b x y r time v d h e = record {
   undelivered = λ z. absurd (let l = (d (tick_of trace r) (tick_of-limit trace time r)).0 z in let w = e.before in omega (arith, l, w));
 }
 
--- where there is no Receive of the receiver before the delivery there is no miss
+-- if there is no Receive of the receiver before the delivery there is no miss
 pub HasNoMiss-from_receives : (set : ℕ) (trace : Recorded) (sent b x y : ℕ) → IsTimed trace
     → IsMessage set trace.steps sent b → DeliveredAt trace sent y → x ≡ tick_of trace sent + 1
     → NoReceiveBetween trace b x y → HasNoMiss set trace sent
@@ -63,7 +63,7 @@ IsLastMiss-from_receives set trace sent b x y r time v d h f = record {
   greatest = λ o i q. f.last o.missed (receive_of set trace sent b x y o time v d h q i);
 }
 
--- where no Receive of the receiver is d ticks after the Send or later and before the delivery, the bound holds
+-- if no Receive of the receiver is d ticks after the Send or later and before the delivery, the bound holds
 pub DeltaHoldsFor-none : (set : ℕ) (trace : Recorded) (sent b d x y : ℕ) → IsTimed trace
     → IsMessage set trace.steps sent b → DeliveredAt trace sent y → x ≡ tick_of trace sent + d
     → NoReceiveBetween trace b x y → DeltaHoldsFor set trace sent d

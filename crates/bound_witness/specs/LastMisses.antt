@@ -4,7 +4,7 @@ use Rattle.step_trace.specs.declared.rows.Miss.{Miss}
 use Rattle.step_trace.specs.Traces.{Recorded}
 use Rattle.step_trace.specs.Witnesses.{IsMiss}
 
--- the message has no miss; where no message between members has this number, there is none
+-- the message has no miss; if no message between members has this number, there is none
 pub record HasNoMiss (set : ℕ) (trace : Recorded) (s : ℕ) : Type 0 where
   pub none : (m : Miss) → m.sent ≡ s → ¬ IsMiss set trace m
 

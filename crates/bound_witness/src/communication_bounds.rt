@@ -12,7 +12,7 @@ ghost use Rattle.bound_witness.specs.WitnessSearches.{HasNoMissOf, SentHasNoMiss
 use crate::step_facts::{is_receive_between, takes};
 use step_trace::{Miss, ProcSet, Trace, receiver};
 
-/// The tick in which message `s` is taken; the tick after the last one where it isn't.
+/// The tick in which message `s` is taken; the tick after the last one if it isn't.
 fn delivery(trace: &Trace, s: u64) -> u64
     ensures after { tick_of trace.now s < result }
     ensures end { result ≤ trace.now.last + 1 }
@@ -111,7 +111,7 @@ fn least_delta(trace: &Trace, set: ProcSet, g: u64) -> u64
     end
 }
 
-/// The miss of message `sent` of this length, where it is sent in tick `g` or later.
+/// The miss of message `sent` of this length, if it is sent in tick `g` or later.
 fn miss_of_length(trace: &Trace, set: ProcSet, g: u64, span: u64, sent: u64) -> Option<Miss>
     requires low { 1 ≤ sent }
     requires high { sent ≤ length trace.now.steps }

@@ -9,7 +9,7 @@ use std::alloc::{AllocError, Global};
 use step_trace::{Gap, ProcSet, Trace};
 
 /// Appends the gap between the ticks of two steps of processor `proc`, if they aren't neighbours.
-/// Refuses only where they aren't.
+/// Refuses only if they aren't.
 fn push_gap_between(found: &mut Vec<Gap>, proc: u64, last: u64, next: u64) -> Result<(), AllocError>
     requires { last < next }
     ensures appended { OnOk result (found.new.items ≡ found.old.items ++ gap_between proc last next) }

@@ -4,6 +4,6 @@ use Rattle.step_trace.specs.declared.correct_sets.Correct.{Correct}
 use Rattle.step_trace.specs.declared.correct_sets.Correct.TheVariants as correct
 use Rattle.c_report.specs.declared.answers.TheConstants.{ALL}
 
--- all of the trace for the mask that has every bit, else processor p where bit p - 1 is set
+-- all of the trace for the mask that has every bit, else processor p if bit p - 1 is set
 abbrev pub correct_of : ℕ → Correct
 correct_of mask = if mask == ALL then correct.All else correct.These mask

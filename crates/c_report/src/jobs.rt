@@ -61,7 +61,7 @@ pub(crate) fn printed_for(
     }
 }
 
-/// What is printed where all went well.
+/// What is printed if all went well.
 fn well(text: Vec<u8>) -> Printed
     ensures status { result.status ≡ 0 }
     ensures text { result.text ≡ text }
@@ -190,7 +190,7 @@ fn table_text_of(alloc: Global, text: &[u8], options: &Options) -> Result<Vec<u8
     Ok(read_table(alloc, text, options)?.table)
 }
 
-/// The text, where there is one.
+/// The text, if there is one.
 fn text_in(text: &Option<String>) -> Option<&str>
     ensures { option_map (λ t. t.now) result ≡ option_map string_bytes text.now }
 {

@@ -13,7 +13,7 @@ pub(crate) fn put(bytes: &[u8], out: &mut [u8], size: &mut usize)
     *size = bytes.len();
 }
 
-/// The same where all of them fit, which is answered; else only their number.
+/// The same if all of them fit, which is answered; else only their number.
 pub(crate) fn put_whole(bytes: &[u8], out: &mut [u8], size: &mut usize) -> bool
     ensures fits { IsTrue result → length bytes.now ≤ length out.old }
     ensures written { IsTrue result → out.new ≡ over bytes.now out.old }

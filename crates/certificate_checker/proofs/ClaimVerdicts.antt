@@ -103,13 +103,13 @@ not_rising-cases rows new k h = elim (row_at-push rows new h.0.row k h.0.here) [
   ])
 ]
 
--- where there is a last row it is read
+-- if there is a last row it is read
 last_row : (rows : List Row) → 0 < length rows → row_at rows (length rows) ≡ Some (get_or rows (length rows - 1) no_row)
 last_row rows some =
     let e : length rows - 1 + 1 ≡ length rows = omega (arith, some) in
     subst (λ (i : ℕ). row_at rows i ≡ Some (get_or rows (length rows - 1) no_row)) e (row_at_next rows (length rows - 1) no_row (omega (arith, some)))
 
--- the new row doesn't rise where it isn't above the last
+-- the new row doesn't rise if it isn't above the last
 not_rising-new : (rows : List Row) (new : Row) → 0 < length rows → new.gst ≤ last_gst rows → IsNotRising (rows ++ new ∷ []) (length rows + 1)
 not_rising-new rows new some fall =
     let there = last_row rows some in
@@ -124,7 +124,7 @@ not_rising-new rows new some fall =
       omega (arith, gst, fall),
     )
 
--- the first number of which something is so stays the first, where it is so of none but it and a later one more
+-- the first number of which something is so stays the first, if it is so of none but it and a later one more
 first-kept : (P Q : ℕ → Type 0) (k n : ℕ) → k ≤ n → ((j : ℕ) → P j → Q j) → ((j : ℕ) → Q j → P j ⊎ (n ≤ j)) → IsFirst P (Some k) → IsFirst Q (Some k)
 first-kept P Q k n l kept cases h = (
   kept k h.0,

@@ -10,7 +10,7 @@ use Rattle.certificate_checker.specs.Silences.{IsNextStep, IsSilence}
 use Rattle.certificate_checker.specs.Closings.{HasSilent, AreClosings, IsReached, PutsEnds, KnowsEnds, IsRaised, IsCarried}
 use Rattle.certificate_checker.proofs.NextSteps.{ArePassed, IsNextStep-at, IsNextStep-none}
 
--- what is reached is reached where no end is taken away
+-- what is reached is reached if no end is taken away
 IsReached-kept : (t : Recorded) (p x : ℕ) (old new : List ℕ) → ((y : ℕ) → get_or old y 0 ≤ get_or new y 0) → IsReached t p old x → IsReached t p new x
 IsReached-kept t p x old new kept r = record {
   next = r.next;
@@ -114,7 +114,7 @@ KnowsEnds-other set t p ends outside k = record {
   ];
 }
 
--- where the ends of all members are carried on, they close the ticks
+-- if the ends of all members are carried on, they close the ticks
 pub AreClosings-carried : (set : ℕ) (t : Recorded) (number : ℕ) (ends new : List ℕ) → IsWithin set t.config.n → t.config.n < number → KnowsEnds set t number ends → IsCarried ends new → AreClosings set t new
 AreClosings-carried set t number ends new within all k carried = record {
   long = carried.long ∙ k.long;

@@ -61,7 +61,7 @@ from_below t rows i after order inside from j r l e = AreFrom-earlier t after r.
 pub delta_row_low : (set : ℕ) (t : Recorded) (rows : List Row) (j : ℕ) (m : Miss) → Stands set t rows (DeltaFails j m) → 0 < j
 delta_row_low set t rows j m s = let w = row_at_within rows j s.0.row s.0.here in omega (arith, w)
 
--- the bound doesn't hold where the longest miss is as long
+-- the bound doesn't hold if the longest miss is as long
 pub delta_fails : (set : ℕ) (t : Recorded) (rows : List Row) (i done : ℕ) (w : Miss) → i < length rows → IsLongestMissAfter set t done w → AreFrom t done (get_or rows i no_row).gst → AreBefore t done (get_or rows i no_row).gst
     → (get_or rows i no_row).delta ≤ span_of t w → Stands set t rows (DeltaFails (i + 1) w)
 delta_fails set t rows i done w inside l above below long =
@@ -91,7 +91,7 @@ delta_stands_none set t rows i done none below m s =
       | inr h ↦ absurd (let b = below m.sent _ s.2.miss.message.sent h in omega (arith, b, from, same))
     ])
 
--- or where the longest is shorter than the bound
+-- or if the longest is shorter than the bound
 pub delta_stands_short : (set : ℕ) (t : Recorded) (rows : List Row) (i done : ℕ) (w : Miss) → IsLongestMissAfter set t done w → AreBefore t done (get_or rows i no_row).gst → span_of t w < (get_or rows i no_row).delta
     → (m : Miss) → ¬ Stands set t rows (DeltaFails (i + 1) m)
 delta_stands_short set t rows i done w l below short m s =

@@ -35,7 +35,7 @@ row_of_front set trace rows t are front =
     let place = row_at-from_Contains rows member.0 member.1 in
     (place.0, member.0, place.1, ap (λ (x : Triple). x.gst) member.2)
 
--- where there are ticks, a row begins in the first
+-- if there are ticks, a row begins in the first
 row_of_one : (set : ℕ) (trace : Recorded) (rows : List Row) → AreTheFront set trace rows → 1 ≤ trace.last → (k : ℕ) × (r : Row) × (row_at rows k ≡ Some r) × (r.gst ≡ 1)
 row_of_one set trace rows are some =
     let delta = least_delta set trace 1 in

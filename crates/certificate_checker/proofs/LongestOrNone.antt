@@ -24,7 +24,7 @@ IsMissFrom set trace g m = IsMiss set trace m × (g ≤ tick_of trace m.sent)
 abbrev IsGapFrom : ℕ → Recorded → ℕ → Gap → Type 0
 IsGapFrom set trace g w = IsGap set trace w × (g ≤ w.from)
 
--- what passes from g on, where it may be decided what passes, may be decided
+-- what passes from g on, if it may be decided what passes, may be decided
 also_from : (P : Type 0) (g x : ℕ) → P ⊎ (¬ P) → (P × (g ≤ x)) ⊎ (¬ (P × (g ≤ x)))
 also_from P g x (inr n) = inr (λ h. n h.0)
 also_from P g x (inl p) = elim (cases_lt x g) [ inl l ↦ inr (λ h. let m = h.1 in absurd (omega (arith, l, m))) | inr m ↦ inl (p, m) ]

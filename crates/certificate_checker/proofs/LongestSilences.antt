@@ -22,7 +22,7 @@ use Rattle.certificate_checker.proofs.RowSearches.{no_row, row_at_within, row_at
 pub too_short_low : (closings : List ℕ) (rows : List Row) (k : ℕ) (s : LongestSilence) → IsTooShort closings rows k s → 0 < k
 too_short_low closings rows k s h = let w = row_at_within rows k h.row.row h.row.here in omega (arith, w)
 
--- the row after i rows is too short where its bound is no longer than the longest silence
+-- the row after i rows is too short if its bound is no longer than the longest silence
 pub too_short_here : (closings : List ℕ) (rows : List Row) (i : ℕ) (s : LongestSilence) → i < length rows → IsLongestSilence closings (get_or rows i no_row).gst s → 0 < s.end - s.start → (get_or rows i no_row).phi ≤ s.end - s.start
     → IsTooShort closings rows (i + 1) s
 too_short_here closings rows i s inside longest some short = record {
@@ -40,7 +40,7 @@ as_long closings g s v l h some =
     let order = l.order in
     omega (arith, most, closed, order, some)
 
--- no row is too short where it isn't by the longest silence
+-- no row is too short if it isn't by the longest silence
 pub too_short_not : (closings : List ℕ) (rows : List Row) (i : ℕ) (s : LongestSilence) → IsLongestSilence closings (get_or rows i no_row).gst s → (0 < s.end - s.start → s.end - s.start < (get_or rows i no_row).phi)
     → (v : LongestSilence) → ¬ IsTooShort closings rows (i + 1) v
 too_short_not closings rows i s longest not v h =
@@ -83,7 +83,7 @@ gap_closes set t closings o c g =
       | inr l ↦ absurd (let s = at.full (omega (arith, l, inside)) o.proc g.member in let until = s.until in g.silent s.tick s.from (omega (arith, until, l)) s.step)
     ]
 
--- where the longest silence begins, a gap begins
+-- if the longest silence begins, a gap begins
 pub silence_has_gap : (set : ℕ) (t : Recorded) (closings : List ℕ) (g : ℕ) (s : LongestSilence) → AreClosings set t closings → 1 ≤ g → IsLongestSilence closings g s → s.start < s.end → ¬ HasNoGapAt set t s.start
 silence_has_gap set t closings g s c low l some none =
     let from = l.from in

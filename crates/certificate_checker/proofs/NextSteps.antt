@@ -12,7 +12,7 @@ use Rattle.certificate_checker.specs.Silences.{IsNextStep, IsSilence}
 abbrev pub ArePassed : ℕ → ℕ → Silence → Type 0
 ArePassed x i s = IsPartitionPoint (λ y. ltb y x ≡ true) (λ y. ltb y x ≡ false) s.ticks.items i
 
--- where p steps from x on, its place is i or later
+-- if p steps from x on, its place is i or later
 later_place : (t : Recorded) (p x i y : ℕ) (s : Silence) → IsSilence t p s → ArePassed x i s → x ≤ y → StepsIn t y p → (k : ℕ) × (i ≤ k) × (k < length s.ticks.items) × (get_or s.ticks.items k 0 ≡ y)
 later_place t p x i y s known passed late w =
     let c = known.each y w in (

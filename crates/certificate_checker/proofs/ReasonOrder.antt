@@ -44,7 +44,7 @@ place_low (PhiFails k x) = omega arith
 pub verdict_some : (set : ℕ) (t : Recorded) (rows : List Row) (high : ℕ) (w : Reason) → IsFirstReason set t rows 1 high (Some w) → IsVerdict set t rows (No w)
 verdict_some set t rows high w h = (h.0, λ o s. h.1 o (place_low o) s)
 
--- the first where the condition holds, else the second
+-- the first if the condition holds, else the second
 abbrev pub Either : Bool → Type 0 → Type 0 → Type 0
 Either true P Q = P
 Either false P Q = Q

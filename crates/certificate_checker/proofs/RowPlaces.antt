@@ -28,7 +28,7 @@ row_before rows k r e =
 gst_at : (rows : List Row) (k : ℕ) (r : Row) → slice_get rows k ≡ Some r → get_or (map (λ x. x.gst) rows) k 0 ≡ r.gst
 gst_at rows k r e = get_or_from_slice_get (map (λ x. x.gst) rows) k r.gst 0 (slice_get-map (λ x. x.gst) rows k ∙ ap (λ o. option_map (λ (x : Row). x.gst) o) e)
 
--- where the rows rise, each stabilization time is below that of the next row
+-- if the rows rise, each stabilization time is below that of the next row
 next_above : (rows : List Row) (k : ℕ) (a b : Row) → IsStrictlyIncreasing (map (λ x. x.gst) rows) → slice_get rows k ≡ Some a → slice_get rows (k + 1) ≡ Some b → a.gst < b.gst
 next_above rows k a b rising p q =
     let within = slice_get_within rows (k + 1) b q in

@@ -8,7 +8,7 @@ use Rattle.certificate_checker.specs.Certificates.{row_at}
 use Rattle.certificate_checker.specs.Verdicts.{HasRow, HasTwoRows}
 use Rattle.certificate_checker.specs.Searches.{IsFirst}
 
--- what is read where there is no row
+-- what is read if there is no row
 abbrev pub no_row : Row
 no_row = record { gst = 0; delta = 0; phi = 0; miss = None; gap = None }
 
@@ -30,7 +30,7 @@ row_at_same rows k r d e =
     let w = row_at_within rows (k + 1) r e in
     same_Some r (get_or rows k d) (sym e ∙ row_at_next rows k d (omega (arith, w.1)))
 
--- the first row of which this is so, where it is so of none before
+-- the first row of which this is so, if it is so of none before
 pub row_found : (Q : ℕ → Row → Type 0) (rows : List Row) (k : ℕ) (d : Row) → k < length rows → Q (k + 1) (get_or rows k d)
     → ((j : ℕ) → ((a : HasRow rows j) × Q j a.row) → k < j) → IsFirst (λ j. (a : HasRow rows j) × Q j a.row) (Some (k + 1))
 row_found Q rows k d l q n = (
@@ -38,7 +38,7 @@ row_found Q rows k d l q n = (
   λ j h. (let m = n j h in omega arith),
 )
 
--- where it isn't so of the next row either, it is so of a later one
+-- if it isn't so of the next row either, it is so of a later one
 pub row_passed : (Q : ℕ → Row → Type 0) (rows : List Row) (k : ℕ) (d : Row) → (¬ Q (k + 1) (get_or rows k d))
     → ((j : ℕ) → ((a : HasRow rows j) × Q j a.row) → k < j) → (j : ℕ) → ((a : HasRow rows j) × Q j a.row) → k + 1 < j
 row_passed Q rows k d other n j h = elim (cases_eq j (k + 1)) [
@@ -46,7 +46,7 @@ row_passed Q rows k d other n j h = elim (cases_eq j (k + 1)) [
   | inr e ↦ (let m = n j h in omega (arith, e, m))
 ]
 
--- where all rows were passed it is so of none
+-- if all rows were passed it is so of none
 pub row_none : (Q : ℕ → Row → Type 0) (rows : List Row) (k : ℕ) → length rows ≤ k
     → ((j : ℕ) → ((a : HasRow rows j) × Q j a.row) → k < j) → (j : ℕ) → ¬ ((a : HasRow rows j) × Q j a.row)
 row_none Q rows k l n j h = let w = row_at_within rows j h.0.row h.0.here in let m = n j h in omega (arith, w.1, m, l)
@@ -64,7 +64,7 @@ two_rows_found Q rows k d o l q n =
       λ j h. (let m = n j h in omega arith),
     )
 
--- where it isn't so of the next
+-- if it isn't so of the next
 pub two_rows_passed : (Q : Row → Row → Type 0) (rows : List Row) (k : ℕ) (d : Row) → 1 ≤ k → (¬ Q (get_or rows (k - 1) d) (get_or rows k d))
     → ((j : ℕ) → ((a : HasTwoRows rows j) × Q a.before a.row) → k < j) → (j : ℕ) → ((a : HasTwoRows rows j) × Q a.before a.row) → k + 1 < j
 two_rows_passed Q rows k d o other n j h = elim (cases_eq j (k + 1)) [
@@ -75,7 +75,7 @@ two_rows_passed Q rows k d o other n j h = elim (cases_eq j (k + 1)) [
   | inr e ↦ (let m = n j h in omega (arith, e, m))
 ]
 
--- where all were passed
+-- if all were passed
 pub two_rows_none : (Q : Row → Row → Type 0) (rows : List Row) (k : ℕ) → length rows ≤ k
     → ((j : ℕ) → ((a : HasTwoRows rows j) × Q a.before a.row) → k < j) → (j : ℕ) → ¬ ((a : HasTwoRows rows j) × Q a.before a.row)
 two_rows_none Q rows k l n j h = let w = row_at_within rows j h.0.row h.0.here in let m = n j h in omega (arith, w.1, m, l)

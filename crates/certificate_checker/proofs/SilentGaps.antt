@@ -12,7 +12,7 @@ use Rattle.certificate_checker.specs.declared.silences.Silence.{Silence}
 use Rattle.certificate_checker.specs.Silences.{IsNextStep, IsSilence, AreSilences}
 use Rattle.step_trace.proofs.StepPositions.{slice_get-push_cases}
 
--- the silence of a member, where it is read
+-- the silence of a member, if it is read
 pub silence_of : (set : ℕ) (t : Recorded) (silences : List Silence) (p : ℕ) (s : Silence) → AreSilences set t silences → IsTrue (has_proc set p) → p ≤ t.config.n → s ≡ get_or silences p s → IsSilence t p s
 silence_of set t silences p s k member within e = let long = k.long in k.each p s member (slice_get_read silences (length silences) p s refl (omega (arith, long, within)) e)
 

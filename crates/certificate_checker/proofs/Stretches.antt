@@ -8,7 +8,7 @@ use Rattle.step_trace.specs.declared.rows.Row.{Row}
 use Rattle.certificate_checker.specs.Certificates.{row_at, after_stretch, Serves}
 use Rattle.certificate_checker.proofs.RowPlaces.{later_above}
 
--- there are rows where there are ticks; they begin in tick 1, rise, and begin in ticks of the trace
+-- there are rows if there are ticks; they begin in tick 1, rise, and begin in ticks of the trace
 pub record AreInOrder (last : ℕ) (rows : List Row) : Type 0 where
   pub some : 1 ≤ last → (r : Row) × (row_at rows 1 ≡ Some r)
   pub first : (r : Row) → row_at rows 1 ≡ Some r → r.gst ≡ 1

@@ -17,7 +17,7 @@ use Rattle.certificate_checker.specs.Receives.{IsLastBefore, WaitsAt, IsLastWait
 use Rattle.certificate_checker.specs.LongestWitnesses.{IsLastMiss}
 use Rattle.certificate_checker.proofs.StepFacts.{taker_receives, same_step}
 
--- where no note was made of a message it is never taken
+-- if no note was made of a message it is never taken
 never_taken : (t : Recorded) (s : ℕ) (r : Receives) → IsWellFormed t.config t.steps → KnowsReceives t (length t.steps) r → get_or r.before.items s 0 ≡ UNTAKEN → (k : ℕ) → ¬ TakesAt t.steps k s
 never_taken t s r w k e j takes =
     let inside = step_at_within t.steps j _ takes.1 in
@@ -100,7 +100,7 @@ own_last set t w s b r o message l i e =
     let to = IsMessage-receiver set t.steps s i.to b (subst (λ (k : ℕ). IsMessage set t.steps k i.to) e i.message) message in
     l.last o.missed (subst (λ (q : ℕ). IsReceiveOf t.steps o.missed q) to i.receive) (subst (λ (k : ℕ). WaitsAt t.steps k o.missed) e (miss_waits set t w o i))
 
--- the last Receive that the message waits through is its last miss, where it comes in a later tick
+-- the last Receive that the message waits through is its last miss, if it comes in a later tick
 pub IsLastMiss-from_waited : (set : ℕ) (t : Recorded) → IsTrace t → (s b r : ℕ) → IsMessage set t.steps s b → IsLastWaited t.steps s b r → 0 < r → tick_of t s < tick_of t r → IsLastMiss set t s (record { sent = s; missed = r })
 IsLastMiss-from_waited set t w s b r message l some late =
     let f = l.found some in
@@ -110,7 +110,7 @@ IsLastMiss-from_waited set t w s b r message l some late =
       last = λ o i e. ticks_rise t w.time o.missed r _ _ i.receive.step f.0.step (own_last set t w s b r o message l i e);
     }
 
--- where there is none, or it comes in no later tick, the message has no miss
+-- if there is none, or it comes in no later tick, the message has no miss
 pub HasNoMiss-from_waited : (set : ℕ) (t : Recorded) → IsTrace t → (s b r : ℕ) → IsMessage set t.steps s b → IsLastWaited t.steps s b r → (0 < r → tick_of t r ≤ tick_of t s) → (o : Miss) → IsMiss set t o → o.sent ≡ s → ⊥
 HasNoMiss-from_waited set t w s b r message l early o i e =
     let high = own_last set t w s b r o message l i e in

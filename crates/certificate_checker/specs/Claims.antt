@@ -13,7 +13,7 @@ count_of (InOrder rows) = length rows
 count_of (Beyond first count gst) = count
 count_of (Refuted why count) = count
 
--- the stabilization time of the last row; 0 where there is none
+-- the stabilization time of the last row; 0 if there is none
 abbrev pub last_gst : List Row → ℕ
 last_gst rows = option_map_or (λ r. r.gst) (row_at rows (length rows)) 0
 

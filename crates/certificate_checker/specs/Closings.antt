@@ -61,7 +61,7 @@ pub record IsRaised (place tick : ℕ) (old new : List ℕ) : Type 0 where
   pub kept : (x : ℕ) → slice_index old x ≤ slice_index new x
   pub own : (x : ℕ) → (slice_index new x ≡ slice_index old x) ⊎ ((x ≡ place) × (slice_index new x ≡ tick))
 
--- the latest of the ends up to tick x, or x where none is later
+-- the latest of the ends up to tick x, or x if none is later
 pub record IsLatest (ends : List ℕ) (x latest : ℕ) : Type 0 where
   pub from : x ≤ latest
   pub all : (y : ℕ) → y ≤ x → slice_index ends y ≤ latest

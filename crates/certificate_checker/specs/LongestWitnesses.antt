@@ -29,7 +29,7 @@ pub record IsLongestMissAfter (set : ℕ) (trace : Recorded) (done : ℕ) (m : M
   pub longest : (o : Miss) → IsMiss set trace o → done < o.sent → tick_of trace o.missed + tick_of trace m.sent ≤ tick_of trace m.missed + tick_of trace o.sent
   pub greatest : (o : Miss) → IsMiss set trace o → done < o.sent → tick_of trace o.missed + tick_of trace m.sent ≡ tick_of trace m.missed + tick_of trace o.sent → o.sent ≤ m.sent
 
--- that miss, or None where there is none
+-- that miss, or None if there is none
 abbrev pub KnowsMissesAfter : ℕ → Recorded → ℕ → Option Miss → Type 0
 KnowsMissesAfter set trace done found = MatchOption found (HasNoMissAfter set trace done) (IsLongestMissAfter set trace done)
 
@@ -64,7 +64,7 @@ pub record HasSpan (trace : Recorded) (m : Miss) : Type 0 where
 abbrev pub span_of : Recorded → Miss → ℕ
 span_of trace m = tick_of trace m.missed - tick_of trace m.sent
 
--- the longer of two misses: the second where they are equally long
+-- the longer of two misses: the second if they are equally long
 abbrev pub longer_miss : Recorded → Option Miss → Option Miss → Option Miss
 longer_miss trace None w = w
 longer_miss trace (Some v) None = Some v

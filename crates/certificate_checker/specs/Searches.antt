@@ -6,7 +6,7 @@ use Rattle.certificate_checker.specs.declared.verdicts.Reason.{Reason}
 use Rattle.certificate_checker.specs.Certificates.{row_at}
 use Rattle.certificate_checker.specs.Verdicts.{Stands, place_of, IsNotAfter}
 
--- the first number of which this is so; None where there is none
+-- the first number of which this is so; None if there is none
 abbrev pub IsFirst : (ℕ → Type 0) → Option ℕ → Type 0
 IsFirst P None = (k : ℕ) → ¬ P k
 IsFirst P (Some k) = P k × ((j : ℕ) → P j → k ≤ j)

@@ -6,7 +6,7 @@ use Rattle.step_trace.specs.Traces.{Recorded, IsStepOf}
 use Rattle.step_trace.specs.Ticks.{StepsIn, tick_of}
 use Rattle.certificate_checker.specs.declared.silences.Silence.{Silence}
 
--- the first tick from x on in which p takes a step, or the tick after the last where there is none
+-- the first tick from x on in which p takes a step, or the tick after the last if there is none
 pub record IsNextStep (trace : Recorded) (p x next : ℕ) : Type 0 where
   pub from : x ≤ next
   pub until : next ≤ trace.last + 1

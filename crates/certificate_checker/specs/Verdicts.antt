@@ -47,7 +47,7 @@ place_of (BadGap k) = 8
 place_of (DeltaFails k m) = 9
 place_of (PhiFails k w) = 10
 
--- the row of which a reason speaks; 0 where it speaks of none
+-- the row of which a reason speaks; 0 if it speaks of none
 abbrev pub row_of : Reason → ℕ
 row_of NoRows = 0
 row_of FirstNotOne = 0

@@ -32,7 +32,7 @@ fn span(trace: &Trace, miss: Miss) -> u64
     trace.tick(miss.missed) - trace.tick(miss.sent)
 }
 
-/// The longer of the miss of an earlier message and this one: this one where they are equally long.
+/// The longer of the miss of an earlier message and this one: this one if they are equally long.
 fn longer_miss(trace: &Trace, earlier: Option<Miss>, miss: Option<Miss>) -> Option<Miss>
     requires earlier { IfSome earlier (HasSpan trace.now) }
     requires miss { IfSome miss (HasSpan trace.now) }
@@ -107,7 +107,7 @@ pub(crate) fn first_failing_delta(
     found
 }
 
-/// The ticks of the longest silence from a tick on: a member takes no step from `start` to before `end`. Where they
+/// The ticks of the longest silence from a tick on: a member takes no step from `start` to before `end`. If they
 /// are one there is none.
 #[derive(Clone, Copy, Debug)]
 struct LongestSilence {

@@ -84,7 +84,7 @@ impl ClaimedRows {
         }
     }
 
-    /// These rows and one more, claimed of a trace with this last tick. It fails only where the row is kept, or where
+    /// These rows and one more, claimed of a trace with this last tick. It fails only if the row is kept, or if
     /// a `u64` has no number left for it.
     pub fn with(self, last: u64, row: Row) -> Result<Self, AllocError>
         ensures rows { IfOk result (λ more. more ≡ with_row last self row) }
@@ -122,7 +122,7 @@ fn in_order_with(rows: RowList, count: u64, last: u64, row: Row) -> Result<Claim
     Ok(ClaimedRows::InOrder(rows))
 }
 
-/// The stabilization time of the last row; 0 where there is none.
+/// The stabilization time of the last row; 0 if there is none.
 fn last_gst(rows: &[Row]) -> u64
     ensures { result ≡ last_gst rows.now }
 {

@@ -31,7 +31,7 @@ pub(crate) fn closings(
     Ok(ends)
 }
 
-/// Carries the latest end so far on to each tick: the tick itself where none is later.
+/// Carries the latest end so far on to each tick: the tick itself if none is later.
 fn carry(ends: &mut Vec<u32>)
     requires { length ends.old.items ≤ 2 ^ 32 }
     ensures { IsCarried ends.old.items ends.new.items }

@@ -23,7 +23,7 @@ use Rattle.suffix_staircase.proofs.LongestGaps.{member_range}
 steps_in : (t : Recorded) (x n p y : ℕ) → StepsDone t x n p y → StepsIn t y p
 steps_in t x n p y s = record { place = s.place; step = s.step; tick = s.tick }
 
--- where the same steps of members are done, the same silences ended
+-- if the same steps of members are done, the same silences ended
 module _ (set : ℕ) (t : Recorded) (i x n y m : ℕ) (forth : (k p : ℕ) → IsTrue (has_proc set p) → IsStepOf t.steps k p → IsDone t x n k → IsDone t y m k)
     (back : (k p : ℕ) → IsTrue (has_proc set p) → IsStepOf t.steps k p → IsDone t y m k → IsDone t x n k) where
   moved : (p z : ℕ) → IsTrue (has_proc set p) → StepsDone t x n p z → StepsDone t y m p z

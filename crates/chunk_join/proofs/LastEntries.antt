@@ -19,7 +19,7 @@ pub later_each-more : (xs ys : List (Option Place)) (p : ℕ) (zs : List (Option
     → set zs p v ≡ later_each xs (take (p + 1) ys)
 later_each-more xs ys p zs v d l e f g = rw (add-one, g, f) (more xs ys p d l e)
 
--- where no place has a Receive, and where one is set
+-- if no place has a Receive, and if one is set
 pub last_of-replicate : (n p : ℕ) → last_of (replicate n None) p ≡ None
 last_of-replicate zero p = refl
 last_of-replicate (suc n) zero = refl

@@ -5,11 +5,11 @@ use Rattle.step_trace.proofs.ListMembers.{Contains-nil, Contains-cons_cases}
 use Rattle.chunk_join.specs.Summaries.{IsListing}
 use Rattle.chunk_join.specs.Laws.Listings.{Rises-append}
 
--- where nothing is meant, the empty list has it all
+-- if nothing is meant, the empty list has it all
 pub IsListing-none : {X : Type 0} (Before : X → X → Type 0) (Is : X → Type 0) → ((x : X) → Is x → ⊥) → IsListing Before Is []
 IsListing-none Before Is none = record { rising = tt; sound = λ x k. absurd (Contains-nil x k); complete = λ x i. absurd (none x i) }
 
--- where the same is meant, a list stays
+-- if the same is meant, a list stays
 pub IsListing-same : {X : Type 0} (Before : X → X → Type 0) (Is Now : X → Type 0) (xs : List X) → ((x : X) → Is x → Now x) → ((x : X) → Now x → Is x) → IsListing Before Is xs → IsListing Before Now xs
 IsListing-same Before Is Now xs forth back l = record { rising = l.rising; sound = λ x k. forth x (l.sound x k); complete = λ x i. l.complete x (back x i) }
 

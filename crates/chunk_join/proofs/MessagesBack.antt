@@ -300,7 +300,7 @@ HasMissesFrom-all part level d o set t sound a = rw (d, o) (record {
   named = refl;
 })
 
--- Where the messages that are left are those before a tick, the misses are those from the tick on.
+-- If the messages that are left are those before a tick, the misses are those from the tick on.
 pub KnowsMisses-from_left : (part : Summary) (g left : ℕ) (level : Level) → left ≤ length part.sent → SentFrom part.sent g left → ((x : Message) → last_at part.sent left ≡ Some x → x.sent.tick < g) → HasMissesFrom part left level
     → (set : ℕ) (t : Recorded) → IsTrace t → Suffices set t part → KnowsMisses set t g level.delta level.miss
 KnowsMisses-from_left part g left level long sent_later earlier h set t sound a = KnowsMisses-from_number set t (number_at part.sent left) g level.delta level.miss to from

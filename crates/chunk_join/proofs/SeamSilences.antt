@@ -45,7 +45,7 @@ map_reach_past : (seam : ℕ) (first rest right : List Gap) → ((w : Gap) → C
 map_reach_past seam first rest [] h = refl
 map_reach_past seam first rest (v ∷ right) h = ap₂ (λ y ys. y ∷ ys) (ap (λ o. from_seam v o) (find_past_ended seam v first rest h)) (map_reach_past seam first rest right h)
 
--- the silences of both parts, where those up to a place ended before the seam
+-- the silences of both parts, if those up to a place ended before the seam
 pub join_from : (seam n : ℕ) (left tail right joined : List Gap) → ((w : Gap) → Contains (take n left) w → w.to < seam) → tail ≡ drop n left
     → joined ≡ (take n left ++ filter (stops seam right) tail) ++ map (reach_back seam tail) right
     → joined ≡ filter (stops seam right) left ++ map (reach_back seam left) right

@@ -163,7 +163,7 @@ IsLongestOver-top set t s a n g f o w start long later known top from = record {
   is : (u : Gap) → (v : Gap) × (last_at s.silent n ≡ Some v) × IsTopped v u → IsTopped w u
   is u h = subst (λ v. IsTopped v u) (same_Some h.0 w (sym h.1 ∙ top)) h.2
 
--- Where no silence begins by then, each gap from g on is shorter than that.
+-- If no silence begins by then, each gap from g on is shorter than that.
 IsLongestOver-none : (set : ℕ) (t : Recorded) (s : Summary) → Suffices set t s → (n g f : ℕ) (o : Option Gap) → n ≤ length s.silent → BeginAfter s.silent g n → KnowsGaps set t (g + 1) f o → last_at s.silent n ≡ None → IsLongestOver set t g f 0 g
 IsLongestOver-none set t s a n g f o long later known top = record {
   gap = λ l. absurd (omega (arith, l));

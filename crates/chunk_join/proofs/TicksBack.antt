@@ -96,7 +96,7 @@ with_silence-short : (level : Level) (g : ℕ) (o : Option Gap) → 1 ≤ level.
 with_silence-short level g None positive h = refl
 with_silence-short level g (Some w) positive h = let short = h w refl in grind (arith, short, positive)
 
--- where it is quiet, the level of the next tick is that of the tick
+-- if it is quiet, the level of the next tick is that of the tick
 pub IsGoneOver-quiet : (part : Summary) (x low m s : ℕ) (level : Level) (levels : List Level) → low ≤ x → IsGoneOver part (x + 1) m s level levels → IsQuietFrom part low m s level.phi → IsGoneOver part x m s level (level ∷ levels)
 IsGoneOver-quiet part x low m s level levels above known quiet =
     let start = quiet.start in

@@ -29,7 +29,7 @@ abbrev pub fate_long : Place → Fate → ℕ
 fate_long sent Open = 0
 fate_long sent (Taken missed) = long_from sent missed
 
--- the length of its last miss, where it is taken
+-- the length of its last miss, if it is taken
 abbrev pub miss_long : Message → ℕ
 miss_long m = fate_long m.sent m.fate
 

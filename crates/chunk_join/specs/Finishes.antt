@@ -52,7 +52,7 @@ abbrev pub with_silence : Level → ℕ → Option Gap → Level
 with_silence level g None = level
 with_silence level g (Some w) = with_gap level w.proc g (w.to + 1)
 
--- the number of the last of the first n messages, and 0 where there is none
+-- the number of the last of the first n messages, and 0 if there is none
 abbrev pub number_of : Option Message → ℕ
 number_of None = 0
 number_of (Some m) = m.sent.no
@@ -68,7 +68,7 @@ SentFrom sent g left = (k : ℕ) (m : Message) → left ≤ k → slice_get sent
 abbrev pub BeginAfter : List Gap → ℕ → ℕ → Type 0
 BeginAfter silent g left = (k : ℕ) (w : Gap) → left ≤ k → slice_get silent k ≡ Some w → g < w.from
 
--- Where the part is a whole trace, the level's misses are those of its messages from number `left` on.
+-- If the part is a whole trace, the level's misses are those of its messages from number `left` on.
 abbrev pub HasMissesFrom : Summary → ℕ → Level → Type 0
 HasMissesFrom part left level = (set : ℕ) (trace : Recorded) → IsTrace trace → Suffices set trace part → KnowsMissesAfter set trace (number_at part.sent left) level.delta level.miss
 
@@ -76,7 +76,7 @@ HasMissesFrom part left level = (set : ℕ) (trace : Recorded) → IsTrace trace
 abbrev pub KeepsMisses : Summary → ℕ → Level → ℕ → Level → Type 0
 KeepsMisses part count old left new = HasMissesFrom part count old → HasMissesFrom part left new
 
--- Where it is a whole trace, the level's gaps and the levels so far are those from tick g on.
+-- If it is a whole trace, the level's gaps and the levels so far are those from tick g on.
 pub record HasTicksFrom (part : Summary) (g : ℕ) (level : Level) (levels : List Level) : Type 0 where
   pub gaps : (set : ℕ) (trace : Recorded) → IsTrace trace → Suffices set trace part → KnowsGaps set trace g level.phi level.gap
   pub each : (set : ℕ) (trace : Recorded) → IsTrace trace → Suffices set trace part → AreLevelsFrom set trace g levels

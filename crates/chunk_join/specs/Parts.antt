@@ -10,12 +10,12 @@ use Rattle.chunk_join.specs.declared.summaries.Message.{Message}
 use Rattle.chunk_join.specs.declared.summaries.Take.{Take}
 use Rattle.chunk_join.specs.Summaries.{Summary, last_of}
 
--- the right part's last Receive, or the left part's where the right has none
+-- the right part's last Receive, or the left part's if the right has none
 abbrev pub later_of : Option Place → Option Place → Option Place
 later_of left None = left
 later_of left (Some r) = Some r
 
--- this Receive, where it comes in a later tick than the Send
+-- this Receive, if it comes in a later tick than the Send
 abbrev pub after : Place → Option Place → Option Place
 after s None = None
 after s (Some r) = if nat_lt s.tick r.tick then Some r else None
@@ -24,7 +24,7 @@ after s (Some r) = if nat_lt s.tick r.tick then Some r else None
 abbrev pub comes_before : Place → Place → Bool
 comes_before a b = if a.tick == b.tick then nat_lt a.no b.no else nat_lt a.tick b.tick
 
--- the fate of a message of the left part, where the right part takes it like this or not at all
+-- the fate of a message of the left part, if the right part takes it like this or not at all
 abbrev pub settled_by : List (Option Place) → Message → Option Take → Message
 settled_by last m None = m
 settled_by last m (Some t) = record { sent = m.sent; to = m.to; fate = Taken (after m.sent (later_of (last_of last t.by) t.before)) }
@@ -84,7 +84,7 @@ joined_parts l r = record {
   silent = filter (stops l.to r.silent) l.silent ++ map (reach_back l.to l.silent) r.silent;
 }
 
--- both made one so; where one is the empty part, the other one
+-- both made one so; if one is the empty part, the other one
 abbrev pub joined_by : (Summary → Summary → Summary) → Option Summary → Option Summary → Option Summary
 joined_by both None right = right
 joined_by both (Some l) None = Some l

@@ -28,12 +28,12 @@ pub record IsLatestReceive (trace : Recorded) (q low high : ℕ) (r : Place) : T
   pub until : r.tick < high
   pub latest : (y : ℕ) → IsReceiveOf trace.steps y q → tick_of trace y < high → tick_of trace y ≤ r.tick
 
--- that Receive, or none where there is none
+-- that Receive, or none if there is none
 abbrev pub IsLastReceive : Recorded → ℕ → ℕ → ℕ → Option Place → Type 0
 IsLastReceive trace q low high None = (y : ℕ) → IsReceiveOf trace.steps y q → low < tick_of trace y → tick_of trace y < high → ⊥
 IsLastReceive trace q low high (Some r) = IsLatestReceive trace q low high r
 
--- Up to tick j message s to q is open where no Receive up to j takes it. Where a Receive x takes it, the last miss is
+-- Up to tick j message s to q is open if no Receive up to j takes it. If a Receive x takes it, the last miss is
 -- the last Receive of q after the Send and before x.
 abbrev pub IsFate : Recorded → Place → ℕ → ℕ → Fate → Type 0
 IsFate trace s q j Open = (x : ℕ) → TakesAt trace.steps x s.no → j < tick_of trace x

@@ -11,7 +11,7 @@ abbrev pub heaviest : {X : Type 0} → (X → Bool) → (X → ℕ) → List X �
 heaviest pending weight [] = 0
 heaviest pending weight (x ∷ xs) = max (weight_of pending weight x) (heaviest pending weight xs)
 
--- whether an element stays, where the later ones have no weight above this
+-- whether an element stays, if the later ones have no weight above this
 abbrev pub stays : {X : Type 0} → (X → Bool) → (X → ℕ) → ℕ → X → Bool
 stays pending weight top x = pending x || nat_lt top (weight x)
 

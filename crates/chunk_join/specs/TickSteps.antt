@@ -17,12 +17,12 @@ pub record AreStepsOf (trace : Recorded) (x a b : ℕ) : Type 0 where
   pub first : AreStepsBefore trace x a
   pub next : AreStepsBefore trace (x + 1) b
 
--- the destination of the message between members that is this step, or none where the step isn't one
+-- the destination of the message between members that is this step, or none if the step isn't one
 abbrev pub IsMessageAt : ℕ → List Step → ℕ → Option ℕ → Type 0
 IsMessageAt set steps s None = (b : ℕ) → IsMessage set steps s b → ⊥
 IsMessageAt set steps s (Some b) = IsMessage set steps s b
 
--- the member whose Receive this step is, or none where the step isn't one
+-- the member whose Receive this step is, or none if the step isn't one
 abbrev pub IsReceiverAt : ℕ → List Step → ℕ → Option ℕ → Type 0
 IsReceiverAt set steps r None = (p : ℕ) → IsTrue (has_proc set p) → IsReceiveOf steps r p → ⊥
 IsReceiverAt set steps r (Some p) = IsTrue (has_proc set p) × IsReceiveOf steps r p

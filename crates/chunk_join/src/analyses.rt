@@ -119,7 +119,7 @@ fn stairs_of_whole(
     ensures stairs { IfOk result (λ stairs. AreLevels set trace.now stairs) }
     ensures memory { IfErr result (λ why. why ≡ AnalyseError.Memory) }
 {
-    // It begins with tick 1, so that only memory can be wanting.
+    // It begins with tick 1, so it fails only if out of memory.
     match whole.finish(alloc) {
         Ok(stairs) => Ok(stairs),
         Err(_) => Err(AnalyseError::Memory),
@@ -252,7 +252,7 @@ fn both(left: Result<Digest, Stop>, right: Result<Digest, Stop>) -> Result<Diges
     ensures left { IfErr result (λ stop. IfErr left (λ one. gravity one ≤ gravity stop)) }
     ensures right { IfErr result (λ stop. IfErr right (λ other. gravity other ≤ gravity stop)) }
 
-    // Where both are digests, only memory for their join can be wanting.
+    // If both are digests, their join fails only if out of memory.
     ensures cause { IfErr result (λ stop. (left ≡ Err stop) ⊎ (right ≡ Err stop) ⊎ (stop ≡ Stop.Memory)) }
 {
     match (left, right) {

@@ -71,7 +71,7 @@ fn end_silences(
     Ok(())
 }
 
-/// Where the step of this number is one of a member, the member.
+/// If the step of this number is one of a member, the member.
 fn member_at(trace: &Trace, set: ProcSet, no: u64) -> Option<u64>
     ensures { IsMemberAt set trace.now.steps no result }
 {

@@ -142,7 +142,7 @@ impl Digest {
         }
     }
 
-    /// The stairs of a digest that begins with tick 1: those of `Stairs::of_trace`, where it is of the whole trace. The
+    /// The stairs of a digest that begins with tick 1: those of `Stairs::of_trace`, if it is of the whole trace. The
     /// unit has no levels.
     pub(crate) fn finish(&self, alloc: Global) -> Result<Stairs, FinishError>
         ensures whole { IfOk result (λ stairs. (whole : Whole) → IsDigestOf whole 0 whole.trace.last self.now → AreLevels whole.set whole.trace stairs) }

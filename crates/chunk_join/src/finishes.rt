@@ -104,7 +104,7 @@ fn quiet_from(part: &Part, messages: usize, silences: usize, phi: u64, g: u64) -
     }
 }
 
-/// The tick after that of the last of the first `count` messages, which comes before tick `g`; 1 where there is none.
+/// The tick after that of the last of the first `count` messages, which comes before tick `g`; 1 if there is none.
 fn after_last(sent: &[Message], count: usize, g: u64) -> u64
     requires count { count ≤ length sent.now }
     requires start { 1 ≤ g }

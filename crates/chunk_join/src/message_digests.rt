@@ -53,7 +53,7 @@ fn put_message(
     start - 1
 }
 
-/// Whether the message stays, where the later ones have no longer miss than this.
+/// Whether the message stays, if the later ones have no longer miss than this.
 fn stays(longest: u64, message: &Message) -> bool
     ensures { result ≡ stays is_open miss_long longest message.now }
 {

@@ -33,7 +33,7 @@ fn settle_all(sent: &mut [Message], taken: &[Take], last: &[Option<Place>])
     }
 }
 
-/// Gives the message of this take its fate. Where there is none, its sender doesn't count.
+/// Gives the message of this take its fate. If there is none, its sender doesn't count.
 fn settle_one(sent: &mut [Message], take: &Take, last: &[Option<Place>])
     requires { Rises SentBefore sent.old }
     ensures { sent.new ≡ map (settle_with last.now take.now) sent.old }

@@ -81,7 +81,7 @@ impl Piece {
     ghost use Rattle.step_trace.specs.Ticks.{IsTrace};
     ghost use Rattle.chunk_join.specs.Summaries.{IsPiece};
 
-    /// The piece of the ticks `from` to `to`, from 1 to the last tick; where `from` is one after `to`, the unit. It
+    /// The piece of the ticks `from` to `to`, from 1 to the last tick; if `from` is one after `to`, the unit. It
     /// takes time that grows with these ticks and their steps, and with the logarithm of the number of all steps.
     ///
     /// Fails only if out of memory; the unit takes none.

@@ -55,7 +55,7 @@ fn put_silence(
     start - 1
 }
 
-/// Whether the silence stays, where the later ones inside the part are no longer than this.
+/// Whether the silence stays, if the later ones inside the part are no longer than this.
 fn stays(from: u64, to: u64, longest: u64, silence: &Gap) -> bool
     ensures { result ≡ stays (reaches_edge from to) gap_long longest silence.now }
 {

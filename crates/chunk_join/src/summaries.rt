@@ -73,7 +73,7 @@ pub(crate) fn last_of(last: &[Option<Place>], proc: u64) -> Option<Place>
     }
 }
 
-/// The right part's last Receive, or the left part's where the right has none.
+/// The right part's last Receive, or the left part's if the right has none.
 pub(crate) fn later_of(left: Option<Place>, right: Option<Place>) -> Option<Place>
     ensures { result ≡ later_of left right }
 {
@@ -83,7 +83,7 @@ pub(crate) fn later_of(left: Option<Place>, right: Option<Place>) -> Option<Plac
     }
 }
 
-/// This Receive, where it comes in a later tick than the Send.
+/// This Receive, if it comes in a later tick than the Send.
 pub(crate) fn after(sent: Place, received: Option<Place>) -> Option<Place>
     ensures { result ≡ after sent received }
 {

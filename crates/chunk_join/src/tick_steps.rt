@@ -48,7 +48,7 @@ pub(crate) fn steps_through(trace: &Trace, tick: u64, before: u64) -> u64
     trace.len() as u64
 }
 
-/// Where the step of this number is a message between members, its destination.
+/// If the step of this number is a message between members, its destination.
 pub(crate) fn destination(trace: &Trace, set: ProcSet, no: u64) -> Option<u64>
     ensures { IsMessageAt set trace.now.steps no result }
 {
@@ -64,7 +64,7 @@ pub(crate) fn destination(trace: &Trace, set: ProcSet, no: u64) -> Option<u64>
     }
 }
 
-/// Where the step of this number is a Receive of a member, the member.
+/// If the step of this number is a Receive of a member, the member.
 pub(crate) fn receiver(trace: &Trace, set: ProcSet, no: u64) -> Option<u64>
     ensures { IsReceiverAt set trace.now.steps no result }
 {

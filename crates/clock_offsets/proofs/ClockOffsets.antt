@@ -110,7 +110,7 @@ module _ (needs : Needs) (k : ℕ) (diag : (a : ℤ) → through needs k k k ≡
         let n = diag c.0 c.1 in
         reaches-less (new i j) (a +ℤ b) (p.0 +ℤ q.1) (let u = c.2 in let s = p.4 in let r = q.4 in omega (arith, ints)) (by-way i j p.0 q.1 p.2 q.3)
 
--- where no clock is to be ahead of itself, no need by way of a clock is greater
+-- if no clock is to be ahead of itself, no need by way of a clock is greater
 triangles : (n : ℕ) (needs : Needs) (k : ℕ) → HaveNoCycle n needs → k ≤ n → (m : ℕ) → m < k → IsTriangle (through needs k) m
 triangles n needs zero h l m b = absurd (omega arith)
 triangles n needs (suc k) h l m b = go (cases_lt m k) (triangles n needs k h (omega arith) m) where
@@ -141,7 +141,7 @@ through-met n needs y (suc k) i j a r l li lj h = go (greater-either (through ne
       let s = p.4 in
       omega (arith, ints)
 
--- so where a clock is to be ahead of itself, none are right
+-- so if a clock is to be ahead of itself, none are right
 pub cycle-none : (n k : ℕ) (needs : Needs) (x : ℕ → ℤ) → k < n → IsCycleAt needs k → ¬ AreRight n needs x
 cycle-none n k needs x l c r = let u = through-met n needs x k k k c.0 r (omega arith) l l c.1 in let v = c.2 in omega (arith, ints)
 

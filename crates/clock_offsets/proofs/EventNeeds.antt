@@ -1,4 +1,4 @@
--- What messages need of the clocks is met exactly where each is received later than it is sent.
+-- What messages need of the clocks is met exactly if each is received later than it is sent.
 use Rattle.std.proofs.Common.{ℕ, zero, suc, ◌≡◌, ◌+◌, ◌<◌, ◌≤◌, ◌⊎◌, inl, inr, Bool, true, false, cond, List, [], ◌∷◌, length, fold, Option, Some, None, refl, sym, ap, ap₂, ◌∙◌, subst, arith, ℤ, ◌-ℤ◌, ◌≤ℤ◌, eqb-true, eq-eqb}
 use Rattle.std.specs.Prelude.{All, ◌&&◌, ◌==◌, nat_lt}
 use Rattle.std.specs.List.{flat_map, range_with_len}

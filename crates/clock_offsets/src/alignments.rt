@@ -29,7 +29,7 @@ impl Model for Offsets {
 }
 
 impl Offsets {
-    /// The offset of a clock, counted from 0; 0 where there is none.
+    /// The offset of a clock, counted from 0; 0 if there is none.
     pub fn at(&self, clock: usize) -> i128
         ensures { result ≡ slice_index_or self.now clock (pos 0) }
     {

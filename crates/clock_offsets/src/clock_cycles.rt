@@ -20,7 +20,7 @@ pub struct ClockHop {
     pub event: u32,
     /// The place of the event that sent it.
     pub message: u32,
-    /// How long it took by the times, which is below 0 where it was received before it was sent.
+    /// How long it took by the times, which is below 0 if it was received before it was sent.
     pub took: i128,
 }
 
@@ -101,7 +101,7 @@ fn took(events: &[Event], hop: Hop) -> Option<i128>
     received.checked_sub(sent)
 }
 
-/// Where a need by way of a clock is greater, its first message is that to the clock.
+/// If a need by way of a clock is greater, its first message is that to the clock.
 fn turn_firsts(
     through: &[Option<i128>],
     next: &[Option<i128>],
@@ -154,7 +154,7 @@ fn begun_at_first(alloc: Global, round: &[Hop]) -> Result<Vec<Hop>, AllocError> 
     Ok(turned)
 }
 
-/// The cycle of clocks that these messages are; nothing where they are none.
+/// The cycle of clocks that these messages are; nothing if they are none.
 fn tested_cycle(
     alloc: Global,
     events: &[Event],
@@ -186,7 +186,7 @@ fn tested_cycle(
     Ok(Some(ClockCycle { hops, total }))
 }
 
-/// A message that was sent from a clock, with how long it took; nothing where it wasn't.
+/// A message that was sent from a clock, with how long it took; nothing if it wasn't.
 fn clock_hop(events: &[Event], hop: Hop, from: usize) -> Option<ClockHop>
     ensures hop { IfSome result (λ h. IsClockHop events.now from h) }
     ensures same { IfSome result (λ h. (h.event ≡ hop.event) × (h.message ≡ hop.message)) }

@@ -83,7 +83,7 @@ pub(crate) fn clock_at(events: &[Event], place: usize) -> usize
     }
 }
 
-/// The time of the event at a place; 0 where there is none.
+/// The time of the event at a place; 0 if there is none.
 pub(crate) fn time_at(events: &[Event], place: usize) -> i128
     ensures { result ≡ time_at events.now place }
 {

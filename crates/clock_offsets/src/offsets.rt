@@ -14,7 +14,7 @@ pub const CLOCKS: usize = 64;
 
 /// The least offsets of `n` clocks, by the needs of 64, row after row: what the second needs of the first.
 ///
-/// Refuses Cycle exactly where no offsets are right, unless a need that follows is beyond the numbers that are held.
+/// Refuses Cycle exactly if no offsets are right, unless a need that follows is beyond the numbers that are held.
 pub fn least_offsets(
     alloc: Global,
     n: usize,

@@ -50,7 +50,7 @@ quotient_rises k x y l = elim (cases_lt (quotient y k) (quotient x k)) [
       omega (arith, over, under, next, parts, l))
 ]
 
--- so quotients are the same up to a cap where the numbers are so up to the divisor times the cap
+-- so quotients are the same up to a cap if the numbers are so up to the divisor times the cap
 min_quotient : (cap k x y : ℕ) → min x (max k 1 * cap) ≡ min y (max k 1 * cap) → min (quotient x k) cap ≡ min (quotient y k) cap
 min_quotient cap k x y e = elim (cases_lt x (max k 1 * cap)) [
   | inl l ↦ (let same : x ≡ y = omega (arith, e, l) in ap (λ z. min (quotient z k) cap) same)

@@ -24,7 +24,7 @@ use Rattle.decision_claims.specs.Formulas.{Fits, IsWithinLimits, divisors}
 use Rattle.decision_claims.specs.FormulaTexts.{after_group, begun, divided, moved, next_by, next_of_max, opened, read_on, taken}
 use Rattle.decision_claims.proofs.FormulaReadings.{read_on-refused}
 
--- a parenthesis opens where there is room
+-- a parenthesis opens if there is room
 record HasOpened (s next : State) : Type 0 where
   pub room : s.groups < 2 ^ 32
   pub groups : 2 * s.groups ≤ next.groups

@@ -12,7 +12,7 @@ use Rattle.decision_claims.specs.Decisions.{HaveDecidedBy}
 use Rattle.decision_claims.specs.Claims.{IsKept}
 use Rattle.decision_claims.specs.LateRows.{IsLeastUndecided, IsFirstLate, AllKept, AreAllLater, IsLeastDue}
 
--- what is read where there is no row
+-- what is read if there is no row
 abbrev pub no_row : Row
 no_row = record { gst = 0; delta = 0; phi = 0; miss = None; gap = None }
 
@@ -133,7 +133,7 @@ due_all trace rows due k (Some y) past b = record {
   least = λ j r e. b.least j r (let l = slice_get_within rows j r e in omega (arith, l, past)) e;
 }
 
--- where the rows are kept, all had decided by the least deadline that is due
+-- if the rows are kept, all had decided by the least deadline that is due
 pub decided_by_least : (set : ℕ) (trace : Recorded) (rows : List Row) (decisions : List Decision) (due : Triple → ℕ) (y : ℕ) → AllKept set trace rows decisions due
     → IsLeastDue trace rows due y → HaveDecidedBy set decisions y
 decided_by_least set trace rows decisions due y kept least =

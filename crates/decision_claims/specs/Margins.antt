@@ -17,7 +17,7 @@ pub record IsMarginOf (set : ℕ) (trace : Recorded) (rows : List Row) (decision
   pub due : IsLeastDue trace rows deadline least
   pub between : decided + margin ≡ least
 
--- the margin; None where no deadline is due
+-- the margin; None if no deadline is due
 abbrev pub IsMargin : ℕ → Recorded → List Row → List Decision → (Triple → ℕ) → Option ℕ → Type 0
 IsMargin set trace rows decisions deadline None = AreAllLater trace rows deadline
 IsMargin set trace rows decisions deadline (Some margin) = IsMarginOf set trace rows decisions deadline margin

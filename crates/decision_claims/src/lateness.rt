@@ -51,7 +51,7 @@ pub fn first_late(
     None
 }
 
-/// The deadline of a row, where it is no later than the last tick.
+/// The deadline of a row, if it is no later than the last tick.
 pub fn due_deadline(trace: &Trace, start: u64, formula: &Formula, row: Row) -> Option<u64>
     ensures { MatchOption result
         (trace.now.last < deadline trace.now.config start formula.now (triple_of row))
@@ -71,7 +71,7 @@ pub fn due_deadline(trace: &Trace, start: u64, formula: &Formula, row: Row) -> O
     }
 }
 
-/// The least member that hadn't decided by a tick, which is looked for only where not all members had.
+/// The least member that hadn't decided by a tick, which is looked for only if not all members had.
 fn undecided_at(set: ProcSet, decisions: &[Decision], latest: Option<u64>, y: u64) -> Option<u64>
     requires { IsFrom (HaveDecidedBy set decisions.now) latest }
     ensures some { IfSome result (IsLeastUndecided set decisions.now y) }
@@ -99,7 +99,7 @@ pub fn due_rows(trace: &Trace, start: u64, formula: &Formula, rows: &[Row]) -> u
     count
 }
 
-/// The least deadline of these rows that is no later than the last tick; None where each is later.
+/// The least deadline of these rows that is no later than the last tick; None if each is later.
 pub fn least_due(trace: &Trace, start: u64, formula: &Formula, rows: &[Row]) -> Option<u64>
     ensures { MatchOption result
         (AreAllLater trace.now rows.now (deadline trace.now.config start formula.now))

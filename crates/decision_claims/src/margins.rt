@@ -17,7 +17,7 @@ pub struct Tested {
     pub due: u64,
     /// The other rows.
     pub later: u64,
-    /// How many ticks before the least deadline that is due all members had decided; None where none is due.
+    /// How many ticks before the least deadline that is due all members had decided; None if none is due.
     pub margin: Option<u64>,
 }
 

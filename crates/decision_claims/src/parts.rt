@@ -45,7 +45,7 @@ impl Parts {
         }
     }
 
-    /// The first part, and the further ones; None where there is none.
+    /// The first part, and the further ones; None if there is none.
     pub(crate) fn split(&self) -> Option<(Part, &[Part])>
         ensures { MatchOption result (self.now ≡ []) (λ parts. self.now ≡ parts.0 ∷ parts.1.now) }
     {

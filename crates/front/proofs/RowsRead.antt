@@ -75,7 +75,7 @@ row_of_entries-ok at (Some (Some gst) ∷ Some (Some delta) ∷ Some (Some phi) 
   go _ _ _ _ _ h = cc h
 row_of_entries-ok at _ r h = cc h
 
--- and where none was made a field or a witness is to blame
+-- and if none was made a field or a witness is to blame
 pub row_of_entries-refused : (at : ℕ) (entries : List (Option (Option ℕ))) (e : ReportError) → row_of_entries at entries ≡ Err e → (e ≡ BadNumber at) ⊎ (e ≡ HalfWitness at)
 row_of_entries-refused at (Some (Some gst) ∷ Some (Some delta) ∷ Some (Some phi) ∷ Some sent ∷ Some missed ∷ Some proc ∷ Some from ∷ Some to ∷ []) e h =
     go (with_witnesses gst delta phi (miss_of sent missed) (gap_of proc from to)) h

@@ -90,7 +90,7 @@ Serves-from_row set trace rows g r report member begun end latest =
       gap = λ f low high. gap-refutes set trace r.gst g r.phi r.gap start begun least_phi row.gap f low high;
     }
 
--- where no row has begun, each begins after g
+-- if no row has begun, each begins after g
 last_begun-none : (rows : List Row) (g : ℕ) → last_begun rows g ≡ None → (r : Row) → Contains rows r → g < r.gst
 last_begun-none [] g none r c = absurd (Contains-nil r c)
 last_begun-none (x ∷ rest) g none r c = go (last_begun rest g) refl (nat_le x.gst g) refl (λ e later. last_begun-none rest g e r later) none where

@@ -10,7 +10,7 @@ use Rattle.step_trace.specs.Bounds.{DeltaHolds, PhiHolds, IsDelta, IsPhi}
 use Rattle.step_trace.specs.Witnesses.{IsNamedMiss, IsNamedGap, NamesMiss, NamesGap, MissRefutes, GapRefutes}
 use Rattle.step_trace.proofs.BoundDecisions.{delivered_or_not, steps_within_or_not}
 
--- the named miss of h is of a message sent in g or later, where the bound is the least one from both
+-- the named miss of h is of a message sent in g or later, if the bound is the least one from both
 pub named_miss-reaches : (set : ℕ) (trace : Recorded) (h g d : ℕ) (m : Miss) → h ≤ g → 1 < d
     → DeltaHolds set trace h d → IsDelta set trace g d → IsNamedMiss set trace h d m → g ≤ tick_of trace m.sent
 named_miss-reaches set trace h g d m later more holds least named = elim (cases_lt (tick_of trace m.sent) g) [
@@ -34,7 +34,7 @@ named_miss-reaches set trace h g d m later more holds least named = elim (cases_
       absurd (omega arith))
 ]
 
--- the named gap of h begins at g or later, where the bound is the least one from both
+-- the named gap of h begins at g or later, if the bound is the least one from both
 pub named_gap-reaches : (set : ℕ) (trace : Recorded) (h g f : ℕ) (w : Gap) → 1 ≤ h → h ≤ g → 1 < f
     → IsPhi set trace g f → IsNamedGap set trace h f w → g ≤ w.from
 named_gap-reaches set trace h g f w start later more least named = elim (cases_lt w.from g) [

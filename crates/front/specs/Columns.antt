@@ -17,14 +17,14 @@ entries_of r =
     Some r.gst ∷ Some r.delta ∷ Some r.phi ∷ option_map (λ m. m.sent) r.miss ∷ option_map (λ m. m.missed) r.miss
     ∷ option_map (λ w. w.proc) r.gap ∷ option_map (λ w. w.from) r.gap ∷ option_map (λ w. w.to) r.gap ∷ []
 
--- a miss of both numbers, or none where both are empty
+-- a miss of both numbers, or none if both are empty
 abbrev pub miss_of : Option ℕ → Option ℕ → Option (Option Miss)
 miss_of None None = Some None
 miss_of (Some sent) (Some missed) = Some (Some (record { sent = sent; missed = missed }))
 miss_of None (Some missed) = None
 miss_of (Some sent) None = None
 
--- a gap of all three numbers, or none where all are empty
+-- a gap of all three numbers, or none if all are empty
 abbrev pub gap_of : Option ℕ → Option ℕ → Option ℕ → Option (Option Gap)
 gap_of None None None = Some None
 gap_of (Some proc) (Some from) (Some to) = Some (Some (record { proc = proc; from = from; to = to }))

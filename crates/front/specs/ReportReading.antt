@@ -18,7 +18,7 @@ IsDeviceRefusal why.Read = ⊤
 IsDeviceRefusal why.Memory = ⊤
 IsDeviceRefusal e = ⊥
 
--- the count of faults after `read_report`: one more where it answers Read
+-- the count of faults after `read_report`: one more if it answers Read
 abbrev pub faults_after_report : {A : Type 0} → Result A ReportError → ℕ → ℕ
 faults_after_report (Err why.Read) n = one_more n
 faults_after_report _ n = n

@@ -65,7 +65,7 @@ members_to-member set (suc n) q among = go (has_proc set (suc n)) refl (λ befor
   ]
   go false e earlier (inr none) = absurd (Contains-nil q none)
 
--- the members up to p, where p is one, or isn't
+-- the members up to p, if p is one, or isn't
 pub members_to-next : (set p : ℕ) → 1 ≤ p → has_proc set p ≡ true → members_to set p ≡ members_to set (p - 1) ++ p ∷ []
 unfolding members_to
 members_to-next set zero low is = absurd (omega (arith, low))

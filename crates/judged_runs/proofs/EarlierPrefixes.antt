@@ -23,7 +23,7 @@ use Rattle.judged_runs.specs.LateInTime.{IsLateInTime, IsNextLook, KeepsBefore, 
 pub before_less : (set : ℕ) (trace : Recorded) (decisions : List Decision) (due : Triple → ℕ) (x y : ℕ) → y ≤ x → KeepsBefore set trace decisions due x → KeepsBefore set trace decisions due y
 before_less set trace decisions due x y l before = record { each = λ t cut m. before.each t cut (omega (arith, l, m)) }
 
--- deadlines in x are kept where the prefix that ends there keeps the claim
+-- deadlines in x are kept if the prefix that ends there keeps the claim
 before_next : (set : ℕ) (trace cut : Recorded) (decisions : List Decision) (due : Triple → ℕ) (x : ℕ) → IsTrace cut → IsCutAt trace x cut → KeepsClaim set cut decisions due
     → KeepsBefore set trace decisions due x → KeepsBefore set trace decisions due (x + 1)
 before_next set trace cut decisions due x sound at kept before = record {
@@ -77,7 +77,7 @@ before_jump set trace cut rows decisions due x next monotone sound at report kep
   ];
 }
 
--- all are, where from x on all members have decided
+-- all are, if from x on all members have decided
 pub before_all : (set : ℕ) (trace : Recorded) (decisions : List Decision) (due : Triple → ℕ) (x : ℕ)
     → ((y : ℕ) → x ≤ y → y ≤ trace.last → HaveDecidedBy set decisions y) → KeepsBefore set trace decisions due x → KeepsClaimInTime set trace decisions due
 before_all set trace decisions due x decided before = record {
@@ -87,7 +87,7 @@ before_all set trace decisions due x decided before = record {
   ];
 }
 
--- a row that refutes the claim in a prefix is late in time, where each earlier deadline was kept
+-- a row that refutes the claim in a prefix is late in time, if each earlier deadline was kept
 pub late_in_time : (set : ℕ) (trace cut : Recorded) (rows : List Row) (decisions : List Decision) (due : Triple → ℕ) (x : ℕ) (w : Late) → IsTrace cut → IsCutAt trace x cut → IsLater due → IsReport set cut rows
     → KeepsBefore set trace decisions due x → IsFirstLate set cut rows decisions due w → IsLateInTime set trace decisions due w
 late_in_time set trace cut rows decisions due x w sound at later report before late =

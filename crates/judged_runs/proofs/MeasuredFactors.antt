@@ -23,7 +23,7 @@ deadline_times-later config start terms c = record { each = λ t. omega arith }
 deadline_times-rises : (config : Setup) (start : ℕ) (terms : Terms) (b c : ℕ) (t : Triple) → b ≤ c → deadline_times config start terms b t ≤ deadline_times config start terms c t
 deadline_times-rises config start terms b c t l = let m = mul-le-mul_right (value_of (words_of config t) terms) l in omega (arith, m)
 
--- a prefix keeps the claim where each deadline up to its end is kept
+-- a prefix keeps the claim if each deadline up to its end is kept
 prefix_keeps : (set : ℕ) (trace cut : Recorded) (decisions : List Decision) (due : Triple → ℕ) (x next : ℕ) → IsTrace cut → IsCutAt trace x cut → IsLater due → x < next
     → KeepsBefore set trace decisions due next → KeepsClaim set cut decisions due
 prefix_keeps set trace cut decisions due x next sound at later l before = record {
@@ -82,13 +82,13 @@ measured set trace cut rows decisions start terms product before own both x next
   later : (c : ℕ) → IsLater (due c)
   later = deadline_times-later trace.config start terms
 
--- where no factor is enough for a prefix, none is in time
+-- if no factor is enough for a prefix, none is in time
 pub never_in_time : (set : ℕ) (trace cut : Recorded) (decisions : List Decision) (start x : ℕ) (terms : Terms) → IsTrace cut → IsCutAt trace x cut
     → ((c : ℕ) → ¬ KeepsClaim set cut decisions (deadline_times trace.config start terms c)) → (c : ℕ) → ¬ KeepsClaimInTime set trace decisions (deadline_times trace.config start terms c)
 never_in_time set trace cut decisions start x terms sound at none c kept =
     none c (((KeepsClaimInTime-prefixes set trace decisions (deadline_times trace.config start terms c) (deadline_times-later trace.config start terms c)).0 kept).each x cut sound at)
 
--- where all members have decided from tick x on, the factor is that of the whole
+-- if all members have decided from tick x on, the factor is that of the whole
 pub factor_in_time : (set : ℕ) (trace : Recorded) (decisions : List Decision) (due : ℕ → Triple → ℕ) (x factor : ℕ) → ((y : ℕ) → x ≤ y → y ≤ trace.last → HaveDecidedBy set decisions y)
     → IsFrom (λ c. KeepsBefore set trace decisions (due c) x) (Some factor) → IsFrom (λ c. KeepsClaimInTime set trace decisions (due c)) (Some factor)
 factor_in_time set trace decisions due x factor decided least = λ c. (

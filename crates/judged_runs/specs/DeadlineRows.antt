@@ -16,7 +16,7 @@ abbrev pub entry_text : Option ℕ → List ℕ
 entry_text None = []
 entry_text (Some k) = decimal k
 
--- how many ticks before the deadline all members had decided, with a minus for ticks after it; nothing where one of the two lacks
+-- how many ticks before the deadline all members had decided, with a minus for ticks after it; nothing if one of the two lacks
 abbrev pub margin_text : Option ℕ → Option ℕ → List ℕ
 margin_text None decided = []
 margin_text (Some y) None = []

@@ -12,7 +12,7 @@ use Rattle.judged_runs.specs.DeadlineRows.{IsRowsText}
 use Rattle.judged_runs.specs.Judgements.{IsVerdict, Keeps}
 use Rattle.judged_runs.specs.VerdictLines.{more, told_verdict}
 
--- the line of a least factor, with its line feed; None where no factor is enough
+-- the line of a least factor, with its line feed; None if no factor is enough
 abbrev pub told_factor : Option ℕ → List ℕ
 told_factor None = codes "factor none" ++ 10 ∷ []
 told_factor (Some c) = codes "factor" ++ (more c ++ 10 ∷ [])

@@ -17,7 +17,7 @@ use Rattle.judged_runs.specs.declared.judgements.Verdict.{Verdict}
 use Rattle.judged_runs.specs.declared.judgements.Verdict.TheVariants.{Yes, Differ, Foreign, LateBy, Untested}
 use Rattle.judged_runs.specs.LateInTime.{IsLateInTime}
 
--- Nothing is wrong with agreement, and where it was asked with validity.
+-- Nothing is wrong with agreement, and if it was asked with validity.
 pub record AreSound (set : ℕ) (init : List ℕ) (decisions : List Decision) (valid : Bool) : Type 0 where
   pub agree : Agree set decisions
   pub initial : IsTrue valid → AreInitial set init decisions

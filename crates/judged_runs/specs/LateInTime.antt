@@ -25,7 +25,7 @@ pub record IsLateInTime (set : ℕ) (trace : Recorded) (decisions : List Decisio
   pub feasible : (cut : Recorded) → IsTrace cut → IsCutAt trace w.deadline cut → IsFeasible set cut (triple_of w.row)
   pub first : KeepsBefore set trace decisions deadline w.deadline
 
--- what a look at the prefix that ends in tick x finds, where each deadline before x was kept
+-- what a look at the prefix that ends in tick x finds, if each deadline before x was kept
 abbrev pub IsLook : ℕ → Recorded → List Decision → (Triple → ℕ) → ℕ → Looked → Type 0
 IsLook set trace decisions deadline x (LateBy w) = IsLateInTime set trace decisions deadline w
 IsLook set trace decisions deadline x (GoOn next) = (x < next) × KeepsBefore set trace decisions deadline next

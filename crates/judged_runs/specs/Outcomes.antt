@@ -48,7 +48,7 @@ margins_after run (o ∷ later) = nearer (margin_of o) run (margins_after (run +
 abbrev pub least_margin : List Outcome → Option LeastMargin
 least_margin outcomes = margins_after 1 outcomes
 
--- the least margin with its run, where there is one
+-- the least margin with its run, if there is one
 abbrev pub least_words : Option LeastMargin → List ℕ
 least_words None = []
 least_words (Some least) = codes "; least margin " ++ (decimal least.margin ++ (codes " (run " ++ (decimal least.run ++ codes ")")))

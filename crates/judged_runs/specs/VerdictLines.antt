@@ -14,7 +14,7 @@ more number = codes " " ++ decimal number
 abbrev pub decision_words : Decision → List ℕ
 decision_words d = more d.proc ++ (more d.tick ++ more d.value)
 
--- the margin, where something was due
+-- the margin, if something was due
 abbrev pub margin_words : Option ℕ → List ℕ
 margin_words None = []
 margin_words (Some margin) = codes " margin" ++ more margin

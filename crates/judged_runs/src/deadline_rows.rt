@@ -92,7 +92,7 @@ impl fmt::Display for Entry {
     }
 }
 
-/// How many ticks before a deadline all members had decided, with a minus for ticks after it; nothing where one of the two
+/// How many ticks before a deadline all members had decided, with a minus for ticks after it; nothing if one of the two
 /// lacks.
 #[derive(Clone, Copy)]
 struct Margin {

@@ -32,7 +32,7 @@ pub struct Demands {
 /// The first thing that is wrong, in the order of the cases after the first, or that nothing is.
 #[derive(Clone, Copy, Debug, PartialEq, Eq)]
 pub enum Verdict {
-    /// Members agree, their values are initial where that was asked, and the claim is kept: this was tested of it.
+    /// Members agree, their values are initial if that was asked, and the claim is kept: this was tested of it.
     Yes(Tested),
     /// The first decision of a member, and the first one of a member that differs from it.
     Differ(Decision, Decision),

@@ -209,7 +209,7 @@ impl fmt::Display for RunCount {
     }
 }
 
-/// The least margin, where there is one.
+/// The least margin, if there is one.
 #[derive(Clone, Copy)]
 struct LeastWords(Option<LeastMargin>);
 

@@ -69,7 +69,7 @@ pub(crate) fn undecided_until(set: ProcSet, decisions: &[Decision], last: u64) -
     up_to_end(latest_decision(set, decisions), last)
 }
 
-/// A tick, but at most the one after the last; that where there is none.
+/// A tick, but at most the one after the last; that if there is none.
 fn up_to_end(tick: Option<u64>, last: u64) -> u64
     requires { last ≤ MAX_TICKS }
     ensures { MatchOption tick (result ≡ last + 1) (λ y. result ≡ min y (last + 1)) }
@@ -80,7 +80,7 @@ fn up_to_end(tick: Option<u64>, last: u64) -> u64
     }
 }
 
-/// Looks at the prefix that ends in this tick, where each deadline before it was kept.
+/// Looks at the prefix that ends in this tick, if each deadline before it was kept.
 fn look_at(
     alloc: Global,
     trace: &Trace,

@@ -20,7 +20,7 @@ pub const MAX_RUNS: usize = 1_000_000;
 pub struct ListedRun {
     /// The path of the trace's file.
     pub trace: Vec<u8>,
-    /// The path of the decisions' file; nothing where the decisions are those of the replay.
+    /// The path of the decisions' file; nothing if the decisions are those of the replay.
     pub decisions: Vec<u8>,
     /// The list of the correct processors, or nothing.
     pub correct: Vec<u8>,

@@ -8,7 +8,7 @@ use decision_claims::{Decision, Late, Tested};
 use std::alloc::{AllocError, Global};
 use std::fmt;
 
-/// The exit status of a verdict: 1 where something is wrong.
+/// The exit status of a verdict: 1 if something is wrong.
 pub fn verdict_status(verdict: Verdict) -> u8
     ensures { result ≡ status_of_verdict verdict }
 {
@@ -89,7 +89,7 @@ impl fmt::Display for LateWords {
     }
 }
 
-/// How many rows were due and how many come later, and the margin where there is one.
+/// How many rows were due and how many come later, and the margin if there is one.
 #[derive(Clone, Copy)]
 struct TestedWords(Tested);
 

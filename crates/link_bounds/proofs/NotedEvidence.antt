@@ -14,11 +14,11 @@ module _ (E : Type 0) (place start end : E → ℕ) where
   pub AllowsAll-positive : (Counts : E → Type 0) (bound : LeastBound E) → AllowsAll E Counts place start end bound → 1 ≤ bound.least
   AllowsAll-positive Counts bound k = names_positive Counts bound.least bound.witness k.named
 
-  -- where nothing counts, the bound is 1
+  -- if nothing counts, the bound is 1
   pub AllowsAll-nothing : (Counts : E → Type 0) → ((e : E) → ¬ Counts e) → AllowsAll E Counts place start end without_evidence
   AllowsAll-nothing Counts nothing = record { shorter = λ e c. absurd (nothing e c); named = refl }
 
-  -- where the same counts, the bound stays
+  -- if the same counts, the bound stays
   pub AllowsAll-same : (Old New : E → Type 0) (bound : LeastBound E) → ((o : E) → Old o → New o) → ((o : E) → New o → Old o) → AllowsAll E Old place start end bound → AllowsAll E New place start end bound
   AllowsAll-same Old New bound still back k = record { shorter = λ e c. k.shorter e (back e c); named = go bound.witness k.named } where
     go : (w : Option E) → NamesLatest E Old place start end bound.least w → NamesLatest E New place start end bound.least w

@@ -19,10 +19,10 @@ pub record AllowsAll (E : Type 0) (Counts : E → Type 0) (place start end : E �
   pub shorter : (e : E) → Counts e → end e < start e + bound.least
   pub named : NamesLatest E Counts place start end bound.least bound.witness
 
--- the bound where there is no evidence
+-- the bound if there is no evidence
 abbrev pub without_evidence : {E : Type 0} → LeastBound E
 without_evidence = record { least = 1; witness = None }
 
--- the bound, with a piece of this length where it allows none so long
+-- the bound, with a piece of this length if it allows none so long
 abbrev pub noted : {E : Type 0} → LeastBound E → E → ℕ → LeastBound E
 noted bound e long = if nat_le bound.least long then record { least = long + 1; witness = Some e } else bound

@@ -14,7 +14,7 @@ pub struct LeastBound<E> {
 impl<E: Copy> LeastBound<E> {
     ghost use Rattle.link_bounds.specs.Evidence.{noted};
 
-    /// The bound where there is no evidence.
+    /// The bound if there is no evidence.
     pub(crate) fn without_evidence() -> Self
         ensures { result ≡ record { least = 1; witness = None } }
     {

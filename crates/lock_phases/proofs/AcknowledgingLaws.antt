@@ -41,7 +41,7 @@ acknowledging-decided c s round heard v e p enough =
     decided true false w d h k q = cc
     decided false f w d h k q = cc
 
--- The same where more than t processors are heard to acknowledge.
+-- The same if more than t processors are heard to acknowledge.
 pub acknowledging-quorum : (c : Setup) (s : State) (round : ℕ) (heard_of : ℕ → Option Message) → part_of round ≡ 3
     → IsDecidedByQuorum c s (next c s (owner c.n (phase_of round)) round (heard_from c.n heard_of)) heard_of
 acknowledging-quorum c s round heard_of e v acknowledges p enough heard =

@@ -52,7 +52,7 @@ count_by-filter_map {Y = Y} p q h (x ∷ xs) f =
     go None e l = omega arith
     go (Some y) e l = let c = one (p y) (q x) (f x y e) in rw (count_by-cons p y (filter_map h xs)) (omega arith)
 
--- It passes no less often where each element on which the test passes gives something that passes.
+-- It passes no less often if each element on which the test passes gives something that passes.
 pub count_by-le_filter_map : {X Y : Type 0} (p : Y → Bool) (q : X → Bool) (h : X → Option Y) (xs : List X)
     → ((x : X) → Contains xs x → q x ≡ true → (y : Y) × (h x ≡ Some y) × (p y ≡ true)) → count_by q xs ≤ count_by p (filter_map h xs)
 count_by-le_filter_map p q h [] f = omega arith

@@ -56,7 +56,7 @@ IsProposal-least_listed quorum heard l = go (least_listed quorum heard) refl
 quorum-positive : (c : Setup) → IsSetup c → 1 ≤ c.n - c.t
 quorum-positive c setup = let least = setup.least in let faults = setup.faults in omega arith
 
--- The proposal is the least value in at least N - t of the lists heard, and there is none only where no value is.
+-- The proposal is the least value in at least N - t of the lists heard, and there is none only if no value is.
 pub listing-proposal : (c : Setup) (s : State) (round : ℕ) (heard : List Message) → IsSetup c → part_of round ≡ 1
     → IsProposal (c.n - c.t) heard (next c s (owner c.n (phase_of round)) round heard).proposal
 listing-proposal c s round heard setup e =

@@ -71,7 +71,7 @@ is_acceptable-locked (x ∷ xs) v z a c = go (eqb (value_of x) v) refl a (Contai
     go true e t (inr h) f = f t h
     go false e t h f = cc
 
--- a value is acceptable where no other is locked
+-- a value is acceptable if no other is locked
 pub is_acceptable-from_locks : (locks : List LockPair) (v : ℕ) → ((z : LockPair) → Contains locks z → value_of z ≡ v)
     → is_acceptable locks v ≡ true
 is_acceptable-from_locks [] v f = refl
@@ -103,7 +103,7 @@ heard_lock-from_owner owner (m ∷ rest) v e = go (eqb (sender_of m) owner) refl
           kind = told.kind;
         }
 
--- the value of the owner's Lock that is heard was asked to be locked, where the senders rise
+-- the value of the owner's Lock that is heard was asked to be locked, if the senders rise
 pub heard_lock-told : (owner : ℕ) (heard : List Message) (v : ℕ) → IsStrictlyIncreasing (map sender_of heard)
     → IsToldToLock owner heard v → heard_lock owner heard ≡ Some v
 heard_lock-told owner [] v rise told = absurd (Contains-nil told.message told.is_heard)

@@ -14,7 +14,7 @@ Contains-cons_cases x z xs c = go c.0 c.1 c.2
     go zero l e = inl (sym e)
     go (suc k) l e = inr (k, omega arith, e)
 
--- where some elements pass, there is one
+-- if some elements pass, there is one
 pub count_by-found : {X : Type 0} (p : X → Bool) (xs : List X) → 1 ≤ count_by p xs → (x : X) × Contains xs x × (p x ≡ true)
 count_by-found {X} p xs l = go (filter p xs) refl (rw (length-filter p xs) l)
   where

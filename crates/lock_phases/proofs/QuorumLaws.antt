@@ -82,7 +82,7 @@ IsLeastListed-from_some quorum heard v l e =
       no_lesser = λ u q. least-each values v u e (candidate quorum heard u l q);
     }
 
--- where some value is in enough lists, there is a least one
+-- if some value is in enough lists, there is a least one
 pub least_listed-not_None : (quorum : ℕ) (heard : List Message) (u : ℕ) → 1 ≤ quorum → quorum ≤ count_by (λ m. lists m u) heard → least_listed quorum heard ≡ None → ⊥
 least_listed-not_None quorum heard u l q e =
     let values = filter (has_quorum quorum heard) (flat_map (λ m. listed_values (body_of m).kind) heard) in

@@ -1,4 +1,4 @@
--- Whether a node sends anything, and what it says where it does (section 3).
+-- Whether a node sends anything, and what it says if it does (section 3).
 use Rattle.std.proofs.Common.{ℕ, ◌≡◌, Bool, true, false, cond, eqb, ◌&&◌, Option, Some, None, refl, sym, ap, ◌∙◌}
 use Rattle.std.specs.Prelude.{is_some, option_map}
 use Rattle.step_trace.specs.Configurations.{Setup}
@@ -51,7 +51,7 @@ sends_by_part c s me round to =
     go None = refl
     go (Some kind) = refl
 
--- what a node says in a part of a phase is sent where anything is
+-- what a node says in a part of a phase is sent if anything is
 kind_sent-kind_in : (part : Part) (s : State) (o me to : ℕ) → says_to part s o me to ≡ true → kind_sent part s o me to ≡ kind_in part s
 kind_sent-kind_in Listing s o me to h = ap (λ b. cond b (Some (Listed (values_to_list s))) None) h
 kind_sent-kind_in Locking s o me to h = go (eqb me o) h

@@ -8,7 +8,7 @@ use Rattle.lock_phases.specs.Messages.{Message, sender_of, body_of, locked_value
 abbrev pub is_acceptable : List LockPair → ℕ → Bool
 is_acceptable locks v = list_all (λ lock. value_of lock == v) locks
 
--- the value that the owner's Lock asks to lock, where it is heard
+-- the value that the owner's Lock asks to lock, if it is heard
 abbrev pub heard_lock : ℕ → List Message → Option ℕ
 heard_lock owner [] = None
 heard_lock owner (m ∷ rest) = if sender_of m == owner then locked_value (body_of m).kind else heard_lock owner rest

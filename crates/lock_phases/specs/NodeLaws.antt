@@ -35,19 +35,19 @@ pub record IsLeastListed (quorum : ℕ) (heard : List Message) (v : ℕ) : Type 
   pub quorum_lists : quorum ≤ lists_with heard v
   pub no_lesser : (u : ℕ) → quorum ≤ lists_with heard u → v ≤ u
 
--- the least value that is in at least so many of the lists that are heard; none where there is no such value
+-- the least value that is in at least so many of the lists that are heard; none if there is no such value
 abbrev pub IsProposal : ℕ → List Message → Option ℕ → Type 0
 IsProposal quorum heard None = (u : ℕ) → lists_with heard u < quorum
 IsProposal quorum heard (Some v) = IsLeastListed quorum heard v
 
--- the quorum step of agreement: at most t processors refuse what is proposed, where none that refuses it is
+-- the quorum step of agreement: at most t processors refuse what is proposed, if none that refuses it is
 -- heard to list it
 abbrev pub IsRefusedByFew : Setup → (ℕ → Option Message) → Option ℕ → Type 0
 IsRefusedByFew c heard_of proposal = (w : ℕ) (refuses : ℕ → Bool) → proposal ≡ Some w
     → ((j : ℕ) → refuses j ≡ true → IsHeardToSay heard_of (listing w) j → ⊥)
     → number_of c.n refuses ≤ c.t
 
--- something is proposed where N - t processors are heard to list one value
+-- something is proposed if N - t processors are heard to list one value
 abbrev pub IsMadeByQuorum : Setup → (ℕ → Option Message) → Option ℕ → Type 0
 IsMadeByQuorum c heard_of proposal = (v : ℕ) (lists_it : ℕ → Bool) → c.n - c.t ≤ number_of c.n lists_it
     → ((j : ℕ) → IsProc c j → lists_it j ≡ true → IsHeardToSay heard_of (listing v) j)
@@ -60,7 +60,7 @@ pub record LockingKeeps (s after : State) : Type 0 where
   pub proposal : after.proposal ≡ s.proposal
   pub decision : after.decision ≡ s.decision
 
--- A locking round puts a lock of this phase only where the owner's Lock on its value is heard. A lock that was held
+-- A locking round puts a lock of this phase only if the owner's Lock on its value is heard. A lock that was held
 -- is held, or was replaced by one of this phase on its value. Who owes an acknowledgement owed it before, or holds
 -- a lock of this phase.
 pub record LockingLocks (s after : State) (owner phase : ℕ) (heard : List Message) : Type 0 where
@@ -103,7 +103,7 @@ IsAcknowledgedByQuorum c s after me owner heard_of = (v : ℕ) (acknowledges : �
     → ((j : ℕ) → IsHeardToSay heard_of acknowledging j → acknowledges j ≡ true)
     → (s.decision ≡ Some v) ⊎ IsAcknowledged c s me owner acknowledges v
 
--- an owner's proposal is its decision, where it had none, if more than t processors are heard to acknowledge it
+-- an owner's proposal is its decision, if it had none, if more than t processors are heard to acknowledge it
 abbrev pub IsDecidedByQuorum : Setup → State → State → (ℕ → Option Message) → Type 0
 IsDecidedByQuorum c s after heard_of = (v : ℕ) (acknowledges : ℕ → Bool) → s.proposal ≡ Some v
     → c.t + 1 ≤ number_of c.n acknowledges

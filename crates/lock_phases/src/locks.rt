@@ -21,7 +21,7 @@ pub(crate) fn keep_acceptable(values: &mut Vec<u64>, locks: &[(u64, u64)])
     values.retain(|v| is_acceptable(locks, *v));
 }
 
-/// The value that the owner's Lock asks to lock, where it is heard.
+/// The value that the owner's Lock asks to lock, if it is heard.
 pub(crate) fn heard_lock(owner: u64, heard: &[(u64, Body)]) -> Option<u64>
     ensures { result ≡ heard_lock owner heard.now }
 {

@@ -17,7 +17,7 @@ use Rattle.locked_recorder.specs.Recorders.{Identity}
 use Rattle.locked_recorder.specs.Choices.{chosen, IsChosen, IsChosenAnswer}
 use Rattle.locked_recorder.specs.Drives.{drive_move, received_with, IsMoved}
 
--- where a step by such a choice is a Receive, it ends the round where that was asked for
+-- a Receive by such a choice ends the round if that was asked for
 ends_as_asked : (r : Identity) (p : ℕ) (sends asked ends : Bool) (ids : List ℕ) (done : Done) → IsChosenAnswer r p (chosen sends (Receive All asked)) done
     → done.step.act ≡ act.Receive ends ids → ends ≡ asked
 ends_as_asked r p sends asked ends ids done answer received = go (sends && is_some answer.to) answer.answer.step
@@ -57,7 +57,7 @@ IsMoved-sent r patience before old new last to made there sent =
     let acts = last_act r (drive_move patience before) old new last made there ∙ sent in
     record { chosen = made; counted = ap (received_with before) (sym acts) }
 
--- a Receive is counted, and begins the next round with none where it ends its own
+-- a Receive is counted, and begins the next round with none if it ends its own
 pub IsMoved-received : (r : Identity) (patience before after : ℕ) (old new : Turns) (last : Done) (ends : Bool) (ids : List ℕ) → IsChosen r (drive_move patience before) old new
     → slice_get new.done (length new.done - 1) ≡ Some last → last.step.act ≡ act.Receive ends ids → after ≡ (if before + 1 == patience then 0 else before + 1)
     → IsMoved r patience before after old new

@@ -35,7 +35,7 @@ IsUnderWay-none r patience s = record {
 received-push : (more : List Done) (d : Done) → received (more ++ d ∷ []) ≡ received_with (received more) d.step.act
 received-push more d = fold-append (λ n x. received_with n x.step.act) 0 more (d ∷ [])
 
--- what holds of each thing done and of those before it holds still where it holds of one more
+-- what holds of each thing done and of those before it holds still if it holds of one more
 each-push : (P : List Done → Done → Type 0) (more : List Done) (x : Done) → ((k : ℕ) (d : Done) → slice_get more k ≡ Some d → P (take k more) d) → P more x
     → (k : ℕ) (d : Done) → slice_get (more ++ x ∷ []) k ≡ Some d → P (take k (more ++ x ∷ [])) d
 each-push P more x each last k d at = go (nat_lt k (length more)) refl

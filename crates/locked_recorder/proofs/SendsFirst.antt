@@ -1,4 +1,4 @@
--- A Send, where sends come first and there is something to send, and else a move: what a World answers.
+-- A Send, if sends come first and there is something to send, and else a move: what a World answers.
 use Rattle.std.proofs.Common.{ℕ, ◌≡◌, Bool, true, false, Option, Some, None, is_none, if◌then◌else◌, nat_lt, List, length, refl, sym, ap, subst, ◌∙◌}
 use Rattle.step_trace.specs.Configurations.{Setup, is_proc}
 use Rattle.step_trace.specs.declared.steps.Step.{Step}
@@ -17,11 +17,11 @@ use Rattle.locked_recorder.specs.Recorders.{Identity}
 use Rattle.locked_recorder.specs.Choices.{chosen, IsChosen, IsChosenAgainst, IsChosenAnswer, IsChosenStepReason, IsChoiceRefused, IsChoiceRefusal}
 use Rattle.locked_recorder.proofs.Answered.{IsShown, IsAgainst-shown}
 
--- the first reason against a move, where the reason against it alone is `own`
+-- the first reason against a move, if the reason against it alone is `own`
 abbrev reason : Bool → Bool → Option StepError → Option StepError
 reason has_room is_there own = if has_room then (if is_there then own else Some BadProc) else Some Full
 
--- where p has nothing to send, no Send is allowed
+-- if p has nothing to send, no Send is allowed
 no_send : (c : Setup) (limit : ℕ) (steps : List Step) (p : ℕ) → next_send c steps p ≡ None → step_refusal c limit steps p Send ≡ None → ⊥
 no_send c limit steps p = go (nat_lt (length steps) limit) (is_proc c p) (next_send c steps p)
   where
@@ -31,7 +31,7 @@ no_send c limit steps p = go (nat_lt (length steps) limit) (is_proc c p) (next_s
     go true false to is h = cc
     go false b to is h = cc
 
--- a Send is refused with NothingToSend only where p has nothing to send
+-- a Send is refused with NothingToSend only if p has nothing to send
 nothing_to_send : (c : Setup) (limit : ℕ) (steps : List Step) (p : ℕ) → step_refusal c limit steps p Send ≡ Some NothingToSend → next_send c steps p ≡ None
 nothing_to_send c limit steps p = go (nat_lt (length steps) limit) (is_proc c p) (next_send c steps p)
   where
@@ -83,7 +83,7 @@ IsChosenStepReason-first r w p sends step why shown other h = by_choice sends ot
           next = refl;
         }
 
--- this move, refused where there is nothing to send
+-- this move, refused if there is nothing to send
 pub IsChosenStepReason-otherwise : (r : Identity) (w : Progress) (p : ℕ) (step : Move) (why : StepError) → IsShown r w → next_send r.config w.trace.steps p ≡ None
     → IsStepRefusal why (step_refusal w.trace.config w.limit w.trace.steps p step) → IsChosenStepReason r p (chosen true step) why
 IsChosenStepReason-otherwise r w p step Memory shown nothing h = tt
@@ -105,7 +105,7 @@ IsChosenAnswer-first r p true step done answer = go (next_send r.config answer.b
     go None next = absurd (no_send r.config r.limit answer.before p next answer.allowed)
     go (Some to) next = record { to = Some to; answer = answer; next = next }
 
--- this move was made where there is nothing to send
+-- this move was made if there is nothing to send
 pub IsChosenAnswer-otherwise : (r : Identity) (p : ℕ) (step : Move) (done : Done) (steps : List Step) → next_send r.config steps p ≡ None
     → (answer : IsAnswer r p step done) × (answer.before ≡ steps) → IsChosenAnswer r p (chosen true step) done
 IsChosenAnswer-otherwise r p step done steps nothing made =

@@ -12,7 +12,7 @@ use Rattle.locked_recorder.specs.Seats.{Turns, with_done}
 use Rattle.locked_recorder.specs.Recorders.{Identity}
 use Rattle.locked_recorder.specs.Recordings.{IsAnswer, IsAgainst}
 
--- a Send, where sends come first and there is something to send; and else this move
+-- a Send, if sends come first and there is something to send; and else this move
 abbrev pub chosen : Bool → Move → Option ℕ → Move
 chosen sends step to = if sends && is_some to then Send else step
 

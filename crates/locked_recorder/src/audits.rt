@@ -81,7 +81,7 @@ impl Recorder {
         Ok(world)
     }
 
-    /// A copy of the World, made under the lock; none where it isn't the recorder's own.
+    /// A copy of the World, made under the lock; none if it isn't the recorder's own.
     fn copied<R: Wait>(&self, rt: &R, alloc: Global) -> Result<Option<World>, AllocError>
         ensures run { IfOk result (λ copied. IfSome copied (λ world. IsRunOf self.now.config world.trace)) }
         ensures limit { IfOk result (λ copied. IfSome copied (λ world. world.limit ≡ self.now.limit)) }

@@ -49,7 +49,7 @@ impl Recorder {
         Ok(prefix)
     }
 
-    /// A copy of the trace with its decisions, both made under the lock; none where the World isn't the recorder's own.
+    /// A copy of the trace with its decisions, both made under the lock; none if the World isn't the recorder's own.
     fn decided_now<R: Wait>(
         &self,
         rt: &R,

@@ -67,7 +67,7 @@ impl Recorder {
         }
     }
 
-    /// A copy of the trace, made under the lock; none where the World isn't the recorder's own.
+    /// A copy of the trace, made under the lock; none if the World isn't the recorder's own.
     pub(crate) fn shown<R: Wait>(&self, rt: &R, alloc: Global) -> Result<Option<Trace>, AllocError>
         ensures { IfOk result (λ shown. IfSome shown (λ trace. IsRunOf self.now.config trace)) }
     {

@@ -15,7 +15,7 @@ use step_buffers::{Done, Move, StepError};
 
 impl Recorder {
     /// Makes one step from a seat as `Seat::step` does, and lends what was done. No clause says here what the seat is
-    /// afterwards: use `Seat::step` where that is asked.
+    /// afterwards: use `Seat::step` if that is asked.
     pub fn step<'a, R: Wait>(
         &self,
         rt: &R,
@@ -88,7 +88,7 @@ impl Seat {
         Ok(self.last())
     }
 
-    /// Makes one step, taking the lock once: a Send, where sends come first and there is something to send; and else by
+    /// Makes one step, taking the lock once: a Send, if sends come first and there is something to send; and else by
     /// this move. Keeps what was done. The list grows before the lock is taken.
     pub(crate) fn record<R: Wait>(
         &mut self,
@@ -115,7 +115,7 @@ impl Seat {
     }
 }
 
-/// The move that is tried first: a Send, where sends come first, and else this one.
+/// The move that is tried first: a Send, if sends come first, and else this one.
 fn first_move<'a>(sends: bool, step: Move<'a>) -> Move<'a>
     ensures { result ≡ (if sends then Move.Send else step.entry) }
 {

@@ -7,7 +7,7 @@ use crate::recorders::{Recorder, is_world_of};
 use std::sync::Wait;
 
 impl Recorder {
-    /// How many steps the trace has now; none where the World isn't of the recorder's configuration and limit.
+    /// How many steps the trace has now; none if the World isn't of the recorder's configuration and limit.
     ///
     /// Waits for the lock, and copies nothing under it: so it may be asked often, to learn whether a prefix is worth
     /// its copies.

@@ -27,7 +27,7 @@ own_counts P c steps seats agree made =
     All-map (λ p. P (length (own_steps steps p))) (λ s. s.proc) seats
     (λ i d within. subst P (ap length (agree i d within) ∙ length-map (own_steps steps (get_or seats i d).proc) (λ x. done_at c steps x)) (made i d within))
 
--- so of each processor, where there is a seat for each
+-- so of each processor, if there is a seat for each
 counts : (P : ℕ → Type 0) (c : Setup) (t : Recorded) (seats : List Turns) → AreInOrder c seats → AgreeWith t.config t.steps seats → All (λ s. P (length s.done)) seats
     → All (λ p. P (length (own_steps t.steps p))) (processors c)
 counts P c t seats order agree made = subst (λ ps. All (λ p. P (length (own_steps t.steps p))) ps) order (own_counts P t.config t.steps seats agree made)

@@ -14,7 +14,7 @@ pub record AreLeastBounds (set : ℕ) (trace : Recorded) (bounds : LeastBounds) 
   pub delta : IsDelta set trace bounds.from bounds.delta
   pub phi : IsPhi set trace bounds.from bounds.phi
 
--- so many ticks before the last one, or 1 where there are no more
+-- so many ticks before the last one, or 1 if there are no more
 abbrev pub recent_tick : ℕ → ℕ
 recent_tick last = if nat_le last RECENT_TICKS then 1 else last - RECENT_TICKS
 
@@ -22,7 +22,7 @@ recent_tick last = if nat_le last RECENT_TICKS then 1 else last - RECENT_TICKS
 abbrev pub IsSilentSince : ℕ → Recorded → ℕ → ℕ → Type 0
 IsSilentSince set trace g p = IsGap set trace (record { proc = p; from = g; to = trace.last })
 
--- the least such member, or none where each member makes a step
+-- the least such member, or none if each member makes a step
 abbrev pub NamesSilent : ℕ → Recorded → ℕ → Option ℕ → Type 0
 NamesSilent set trace g None = (p : ℕ) → ¬ IsSilentSince set trace g p
 NamesSilent set trace g (Some p) = IsSilentSince set trace g p × ((o : ℕ) → IsSilentSince set trace g o → p ≤ o)

@@ -28,7 +28,7 @@ use step_trace::{Config, Correct, ProcSet, Trace};
 use suffix_staircase::Stairs;
 use trace_text::Counting;
 
-/// Of a run whose steps are cut into so many equal portions, a line is due where one portion is new.
+/// Of a run whose steps are cut into so many equal portions, a line is due if one portion is new.
 const PORTIONS: u64 = 20;
 
 /// An analysis from scratch scans so many steps while the analyst summarises one.
@@ -204,10 +204,10 @@ impl<W: Write> Follower<W> {
         tell_standing(alloc, standing_of(&stairs), news, &mut self.writer)
     }
 
-    /// The stairs of a trace: where little of it is new, from what the analyst knows, and else from scratch, which is
+    /// The stairs of a trace: if little of it is new, from what the analyst knows, and else from scratch, which is
     /// quicker then.
     ///
-    /// Refuses NotARun(0) where it doesn't extend what the analyst was fed; Memory may come instead.
+    /// Refuses NotARun(0) if it doesn't extend what the analyst was fed; Memory may come instead.
     fn stairs(&mut self, alloc: Global, trace: &Trace) -> Result<Stairs, Fault>
         ensures set { self.new.analyst.set ≡ self.old.analyst.set }
         ensures writer { self.new.writer ≡ self.old.writer }

@@ -309,7 +309,7 @@ fn audited(
     Ok(world)
 }
 
-/// Whether what was done from the seats is all of a run that has ended, where each makes so many steps at most.
+/// Whether what was done from the seats is all of a run that has ended, if each makes so many steps at most.
 fn have_ended(world: &World, seats: &[Seat], end: RunEnd, steps: u64) -> bool
     ensures { IsTrue result → HaveEnded end world.now.trace.config steps world.now.trace.steps seats.now }
 {

@@ -27,7 +27,7 @@ pub struct Standing {
     pub tick: u64,
     /// The bounds from tick 1 on.
     pub whole: LeastBounds,
-    /// The bounds from `RECENT_TICKS` before the last tick on, or from tick 1 where there are no more.
+    /// The bounds from `RECENT_TICKS` before the last tick on, or from tick 1 if there are no more.
     pub recent: LeastBounds,
     /// The least processor of the set that makes no step from the recent tick on, if there is one. Φ there then only
     /// says how long it is silent.

@@ -26,7 +26,7 @@ has_lock-found : (locks : List LockPair) → has_lock locks ≡ true → (lock :
 has_lock-found [] e = let clash : ⊥ = cc in absurd clash
 has_lock-found (lock ∷ rest) e = (lock, Contains-head lock rest)
 
--- where one is held there is one
+-- if one is held there is one
 has_lock-at : (locks : List LockPair) (lock : LockPair) → Contains locks lock → has_lock locks ≡ true
 has_lock-at [] lock d = absurd (Contains-nil lock d)
 has_lock-at (x ∷ rest) lock d = refl

@@ -30,7 +30,7 @@ IsListedByAll member nodes u = (p : ℕ) → member p ≡ true → Contains (val
 abbrev owner_in : Setup → ℕ → ℕ
 owner_in c round = owner c.n (phase_of round)
 
--- what the node of q has to say to p is heard where the table lets it
+-- what the node of q has to say to p is heard if the table lets it
 heard-to_say : (c : Setup) (table : Table) (nodes : ℕ → State) (p round q : ℕ) (kind : Kind) (says : Message → Bool) → table p round q ≡ true
     → out c (nodes q) q round p ≡ Some (with_proper (nodes q) kind) → says (q, with_proper (nodes q) kind) ≡ true → IsHeardToSay (heard_of c table nodes p round) says q
 heard-to_say c table nodes p round q kind says heard sent passes = record {

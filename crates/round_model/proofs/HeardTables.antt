@@ -33,7 +33,7 @@ pub AreWithin-empty : (n : ℕ) (rows : List (List ℕ)) → All (λ sets. All I
 AreWithin-empty n rows empty =
     All-weaker (λ sets. All IsEmpty sets) (AreWithin n) (All-weaker IsEmpty (λ set. IsWithin set n) (λ set none p has. absurd (grind (arith, none p, has)))) rows empty
 
--- where no set has a member nobody hears anybody
+-- if no set has a member nobody hears anybody
 pub table_of-empty : (h : HeardTable) → IsEmpty 0 → All (λ sets. All IsEmpty sets) h.sets → (p round sender : ℕ) → table_of h p round sender ≡ false
 table_of-empty h none empty p round =
     numbered-all IsEmpty 0 (numbered [] h.sets p) round none

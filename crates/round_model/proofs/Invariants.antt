@@ -26,7 +26,7 @@ pub record FlagsMeanFreshLocks (nodes : ℕ → State) (phase part : ℕ) : Type
   pub acknowledging : (j : ℕ) → (nodes j).owes_ack ≡ true → part ≡ 3
   pub locked : (j : ℕ) → (nodes j).owes_ack ≡ true → (v : ℕ) × Contains (nodes j).locks (v, phase)
 
--- where none is set
+-- if none is set
 pub FlagsMeanFreshLocks-unset : (nodes : ℕ → State) (phase part : ℕ) → ((j : ℕ) → (nodes j).owes_ack ≡ true → ⊥)
     → FlagsMeanFreshLocks nodes phase part
 FlagsMeanFreshLocks-unset nodes phase part unset =
@@ -64,7 +64,7 @@ pub record IsLockSince (phase v : ℕ) (locks : List LockPair) : Type 0 where
   pub value : value_of lock ≡ v
   pub since : phase ≤ phase_of_lock lock
 
--- where the test passes there is such a lock
+-- if the test passes there is such a lock
 pub IsLockSince-from_test : (phase v : ℕ) (locks : List LockPair) → is_locked_since phase v locks ≡ true → IsLockSince phase v locks
 IsLockSince-from_test phase v locks e =
     let f = list_any-found (λ lock. value_of lock == v && nat_le phase (phase_of_lock lock)) locks e in
@@ -77,7 +77,7 @@ pub is_locked_since-lock : (phase v : ℕ) (locks : List LockPair) (lock : LockP
 is_locked_since-lock phase v locks lock d e l =
     list_any-at (λ x. value_of x == v && nat_le phase (phase_of_lock x)) locks lock d (rw (eq-eqb (value_of lock) v e, le-leb phase (phase_of_lock lock) l) refl)
 
--- those who hold a value go on holding it, where each does
+-- those who hold a value go on holding it, if each does
 pub holders-kept : (c : Setup) (nodes after : ℕ → State) (phase v : ℕ)
     → ((j : ℕ) → is_locked_since phase v (nodes j).locks ≡ true → is_locked_since phase v (after j).locks ≡ true)
     → c.t + 1 ≤ count_by (λ j. is_locked_since phase v (nodes j).locks) (processors c)

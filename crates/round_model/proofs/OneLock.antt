@@ -26,7 +26,7 @@ pub record HearOneAnother (c : Setup) (member : ℕ → Bool) (table : Table) (r
 abbrev pub releasing_message : (ℕ → State) → ℕ → Message
 releasing_message nodes q = (q, with_proper (nodes q) (Locks (nodes q).locks))
 
--- it is heard where the table lets it
+-- it is heard if the table lets it
 releasing_message-heard : (c : Setup) (table : Table) (nodes : ℕ → State) (p q round : ℕ) → part_of round ≡ 4 → IsProc c q → table p round q ≡ true
     → Contains (messages_heard c table nodes p round) (releasing_message nodes q)
 releasing_message-heard c table nodes p q round e is heard =

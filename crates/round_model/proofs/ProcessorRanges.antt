@@ -24,7 +24,7 @@ pub map-range_with_len-agree : {X : Type 0} (f g : ℕ → X) (a n : ℕ) → ((
 map-range_with_len-agree f g a zero same = refl
 map-range_with_len-agree f g a (suc n) same = rw (same a (omega arith) (omega arith), map-range_with_len-agree f g (a + 1) n (λ p l h. same p (omega arith) (omega arith))) refl
 
--- functions that agree on a range give the same where they give something
+-- functions that agree on a range give the same if they give something
 pub filter_map-range_with_len-agree : {X : Type 0} (f g : ℕ → Option X) (a n : ℕ) → ((p : ℕ) → a ≤ p → p < a + n → f p ≡ g p) → filter_map f (range_with_len a n) ≡ filter_map g (range_with_len a n)
 filter_map-range_with_len-agree f g a zero same = refl
 filter_map-range_with_len-agree f g a (suc n) same = rw (same a (omega arith) (omega arith), filter_map-range_with_len-agree f g (a + 1) n (λ p l h. same p (omega arith) (omega arith))) refl

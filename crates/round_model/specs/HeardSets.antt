@@ -15,7 +15,7 @@ pub record HeardTable : Type 0 where
 abbrev pub rows_of : {X A : Type 0} → List (Vec X A) → List (List X)
 rows_of rows = map (λ row. row.items) rows
 
--- the element with this number, which counts from 1, or d where there is none
+-- the element with this number, which counts from 1, or d if there is none
 abbrev pub numbered : {X : Type 0} → X → List X → ℕ → X
 numbered d xs zero = d
 numbered d xs (suc k) = slice_index_or xs k d

@@ -30,7 +30,7 @@ window_from last first to =
     else if last == 0 then Ok (record { first = first; to = 0 })
     else window_between first (last_drawn last first to) to
 
--- the window that is asked for, of a trace with this last tick: from tick 1 where no first one is given
+-- the window that is asked for, of a trace with this last tick: from tick 1 if no first one is given
 abbrev pub window_of : ℕ → Option ℕ → Option ℕ → Result Window WindowError
 window_of last from to = window_from last (unwrap_or from 1) to
 

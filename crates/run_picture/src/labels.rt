@@ -49,8 +49,7 @@ pub(crate) fn put_processor(
     put(alloc, out, format_args!("processor {processor}"))
 }
 
-/// Appends the name of a processor where there is little room, shortened if it is long, if it has one, and answers whether it
-/// has.
+/// Appends the name of a processor, if it has one, shortened if it is long. Answers whether it has one.
 pub(crate) fn push_label(
     out: &mut Vec<u8>,
     names: &[&str],

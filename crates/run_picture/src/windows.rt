@@ -3,7 +3,7 @@
 ghost use Rattle.std.specs.Prelude.{◌≡◌, ◌<◌, ◌≤◌, ◌+◌, IfErr, IfOk};
 ghost use Rattle.run_picture.specs.Windows.{IsUnfitWindow, touches, window_of};
 
-/// How many ticks are drawn where no last one is asked for.
+/// How many ticks are drawn if no last one is asked for.
 pub const USUAL_TICKS: u64 = 100;
 
 /// How many ticks may be drawn.

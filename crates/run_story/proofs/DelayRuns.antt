@@ -13,7 +13,7 @@ use Rattle.run_story.specs.declared.delays.Delay.{Delay}
 use Rattle.run_story.specs.Messages.{sender_of, receiver_of}
 use Rattle.run_story.specs.Delays.{AllHave, IsDelayUpTo, are_alike, goes_on, longer, message_at, messages_in, miss_at}
 
--- where a row has a miss there is a row
+-- if a row has a miss there is a row
 miss_within : (rows : List Row) (k : ℕ) (m : Miss) → miss_at rows k ≡ Some m → k < length rows
 miss_within rows k m is = elim ((slice_get_cases rows k).1) [
   | inl found ↦ found.1

@@ -25,11 +25,11 @@ use Rattle.run_story.specs.Messages.{flag_at}
 use Rattle.run_story.specs.Stalls.{AreStalls}
 use Rattle.run_story.specs.Evidence.{IsBefore, all_evidence, alone, explained, explains, has_delay, other_evidence, shared_ticks, stall_evidence, ticks_of, with_delay}
 
--- nothing is found where no element passes
+-- nothing is found if no element passes
 find_nothing : {X : Type 0} (p : X → Bool) (xs : List X) → ((k : ℕ) (x : X) → slice_get xs k ≡ Some x → p x ≡ false) → find p xs ≡ None
 find_nothing p xs fails = find-none p xs (λ x c. fails c.0 x (slice_get_read xs (length xs) c.0 x refl c.1 (sym c.2)))
 
--- what passes is found where nothing before it does
+-- what passes is found if nothing before it does
 find_first : {X : Type 0} (p : X → Bool) (xs : List X) (k : ℕ) (x : X) → ((j : ℕ) (o : X) → j < k → slice_get xs j ≡ Some o → p o ≡ false)
     → slice_get xs k ≡ Some x → p x ≡ true → find p xs ≡ Some x
 find_first p [] k x before is passes = absurd (let inside : k < 0 = slice_get_within [] k x is in omega arith)

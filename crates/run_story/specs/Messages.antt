@@ -7,7 +7,7 @@ use Rattle.step_trace.specs.declared.steps.Step.{Step}
 use Rattle.step_trace.specs.Steps.{act_ids}
 use Rattle.step_trace.specs.Traces.{step_at}
 
--- the flag of this number; false where there is none
+-- the flag of this number; false if there is none
 abbrev pub flag_at : List Bool → ℕ → Bool
 flag_at flags s = slice_index_or flags s false
 

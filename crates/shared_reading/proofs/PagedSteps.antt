@@ -25,11 +25,11 @@ appended-append t (x ∷ xs) ys (tick ∷ ts) us h = go (refusal_in t tick x) _ 
   go None a b k = k
   go (Some why) a b k = refl
 
--- where the trace takes the first of them, the others are appended to what it is then
+-- if the trace takes the first of them, the others are appended to what it is then
 pub appended-ok : (t u : Recorded) (xs ys : List Step) (ts us : List ℕ) → length ts ≡ length xs → appended t xs ts ≡ Ok u → appended t (xs ++ ys) (ts ++ us) ≡ appended u ys us
 appended-ok t u xs ys ts us h taken = appended-append t xs ys ts us h ∙ ap (λ (r : Result Recorded StepRefused). r >>= λ w. appended w ys us) taken
 
--- where it refuses one of the first, the others make no difference
+-- if it refuses one of the first, the others make no difference
 pub appended-err : (t : Recorded) (xs ys : List Step) (ts us : List ℕ) (e : StepRefused) → length ts ≡ length xs → IsStepRefusal (appended t xs ts) e → IsStepRefusal (appended t (xs ++ ys) (ts ++ us)) e
 appended-err t xs ys ts us e h refused other = appended-append t xs ys ts us h ∙ ap (λ (r : Result Recorded StepRefused). r >>= λ w. appended w ys us) (refused other)
 

@@ -86,7 +86,7 @@ waits-step st.InQuoted c h = cc h
 waits-step st.AfterQuote c h = cc h
 waits-step st.InEscape c h = cc h
 
--- a record that was begun is ended where the bytes are closed
+-- a record that was begun is ended if the bytes are closed
 busy-none : (s : State) (f : List (List ℕ)) (p a : List ℕ) → idle s ≡ false → state_after s a ≡ st.StartRecord → next_record default_config s f p a ≡ None → ⊥
 unfolding state_after next_record
 busy-none s f p [] i e n = let bad : true ≡ false = rw e at i in cc bad
@@ -116,7 +116,7 @@ whole-some s f p (c ∷ rest) b r e n = go (λ m. whole-some (step default_confi
       rw (← same) (refl, e)
   go more false m = more m
 
--- where the first part has no record left, the next record is that of the second part
+-- if the first part has no record left, the next record is that of the second part
 whole-none : (s : State) (f : List (List ℕ)) (p a b : List ℕ) → idle s ≡ true → state_after s a ≡ st.StartRecord → next_record default_config s f p a ≡ None
     → next_record default_config s f p (a ++ b) ≡ next_record default_config st.StartRecord f p b
 unfolding state_after next_record

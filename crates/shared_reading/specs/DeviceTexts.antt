@@ -13,7 +13,7 @@ use Rattle.trace_text.specs.TraceTexts.{IsTextTrace, StandsFor}
 use Rattle.shared_reading.specs.Pieces.{read_on}
 use Rattle.shared_reading.specs.declared.progress.Progress.{Progress}
 
--- the trace is that of a text within the limit, which is all that the reader had, where that is known
+-- the trace is that of a text within the limit, which is all that the reader had, if that is known
 pub record IsTraceRead (known : Option (List ℕ)) (t : Recorded) : Type 0 where
   pub text : List ℕ
   pub is : IfSome known (λ bytes. text ≡ bytes)

@@ -31,7 +31,7 @@ pub(crate) struct Line {
 #[derive(Drop)]
 pub(crate) struct Lines {
     version: Version,
-    // The number of the first step, where there is one, and how many there are.
+    // The number of the first step, if there is one, and how many there are.
     first: u64,
     count: u64,
     steps: PagedSteps,

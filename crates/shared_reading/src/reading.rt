@@ -85,7 +85,7 @@ fn read_head(alloc: Global, text: &[u8], stage: &mut Stage) -> Result<usize, Tex
     read_part(alloc, text, 0, end, stage)
 }
 
-/// Reads from one place to another, where the text may be cut off there.
+/// Reads from one place to another, if the text may be cut off there.
 fn read_part(
     alloc: Global,
     text: &[u8],

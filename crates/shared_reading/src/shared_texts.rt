@@ -104,7 +104,7 @@ fn read_pieces<T: Threads, R: Read>(
     read
 }
 
-/// Waits for the threads that are left where reading was refused.
+/// Waits for the threads that are left if reading was refused.
 fn wait_for<T: Threads>(rt: &T, under_way: VecDeque<UnderWay>) {
     for piece in under_way {
         let _read = piece.join(rt);

@@ -127,7 +127,7 @@ fn field_at(text: &[u8], at: usize, len: usize, last: u8) -> Option<Field<'_>>
     })
 }
 
-/// The number that the first digits write. None where there are no digits, or where these are not the text of a `u64`:
+/// The number that the first digits write. None if there are no digits, or if these are not the text of a `u64`:
 /// it has no leading zero but in `0` itself.
 fn first_number(bytes: &[u8]) -> Option<FirstNumber>
     ensures { IfSome result (IsFirstNumber bytes.now) }

@@ -19,7 +19,7 @@ pub(crate) struct UnderWay {
 }
 
 impl UnderWay {
-    /// A thread reads these bytes. Hands them back where no thread can be started.
+    /// A thread reads these bytes. Hands them back if no thread can be started.
     pub(crate) fn start<T: Threads>(
         rt: &T,
         alloc: Global,

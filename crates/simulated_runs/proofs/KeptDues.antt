@@ -63,7 +63,7 @@ kept-old gst delta steps x s p r some kept late sent by received =
     let inside = (step_at_within steps r _ received.step).1 in
     taken-old steps x s r (kept s p r late (sent-old steps x s p (omega arith) sent) received by)
 
--- a Send keeps it, where its message is due in time
+-- a Send keeps it, if its message is due in time
 pub KeepsDelta-sent : (c : Setup) (gst delta p to due x : ℕ) (steps : List Step) (old new : List (List Posted)) → IsWellFormed c steps → 1 ≤ delta → 1 ≤ to → to ≤ length old
     → length new ≡ length old → x ≡ length steps + 1
     → ((x ≤ gst) × (new ≡ old)) ⊎ ((due ≤ max x gst + delta) × (new ≡ with_tray old to (tray_of old to ++ record { id = x; due = due } ∷ [])))
@@ -195,7 +195,7 @@ KeepsDelta-received c gst delta p x ends steps old new w some low high long e ma
               record { place = length steps + 1; after = omega arith; until = omega arith; takes = (step, last, takes) }
         ]
 
--- where bounds are stated
+-- if bounds are stated
 pub goes-on-sent : (c : Setup) (bounds : Option StatedBounds) (p to x : ℕ) (steps : List Step) (old new : List (List Posted)) → IsWellFormed c steps → 1 ≤ to → to ≤ length old
     → length new ≡ length old → x ≡ length steps + 1 → IsPosted bounds old new to x → DeltaGoesOn bounds steps old (steps ++ sending p to ∷ []) new
 goes-on-sent c None p to x steps old new w low high long e posted = tt

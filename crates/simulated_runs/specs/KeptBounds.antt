@@ -59,6 +59,6 @@ pub record KeepsDelta (gst delta : ℕ) (steps : List Step) (trays : List (List 
   pub on_time : AreOnTime gst delta steps trays
   pub kept : (s p r : ℕ) → gst < s → IsSentTo steps s p → IsReceiveOf steps r p → s + delta ≤ r → IsTakenBy steps s r
 
--- Where bounds are stated, the communication bound goes on to be kept by these steps and trays if it was by those.
+-- If bounds are stated, the communication bound goes on to be kept by these steps and trays if it was by those.
 abbrev pub DeltaGoesOn : Option StatedBounds → List Step → List (List Posted) → List Step → List (List Posted) → Type 0
 DeltaGoesOn bounds steps trays more others = IfSome bounds (λ b. KeepsDelta b.gst b.delta steps trays → KeepsDelta b.gst b.delta more others)

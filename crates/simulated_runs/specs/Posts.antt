@@ -11,11 +11,11 @@ tray_of trays p = slice_index_or trays (p - 1) []
 abbrev pub with_tray : List (List Posted) → ℕ → List Posted → List (List Posted)
 with_tray trays p tray = slice_set trays (p - 1) tray
 
--- a message that is sent in tick x may be lost: where bounds are stated, up to the stabilization time
+-- a message that is sent in tick x may be lost: if bounds are stated, up to the stabilization time
 abbrev pub MayBeLost : Option StatedBounds → ℕ → Type 0
 MayBeLost bounds x = IfSome bounds (λ b. x ≤ b.gst)
 
--- it is due after x, and where bounds are stated, within the communication bound
+-- it is due after x, and if bounds are stated, within the communication bound
 pub record IsDueTick (bounds : Option StatedBounds) (x due : ℕ) : Type 0 where
   pub after : x < due
   pub within : IfSome bounds (λ b. due ≤ max x b.gst + b.delta)

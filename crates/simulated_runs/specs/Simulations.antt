@@ -35,7 +35,7 @@ pub record IsStepped (old new : Simulation) : Type 0 where
   pub may : MayStep old.turns.queue.items (length old.world.trace.steps + 1) proc
   pub passed : ArePassed old.turns.gst old.turns.phi old.turns.queue.items new.turns.queue.items (length old.world.trace.steps + 1) proc
 
--- the turns before the first tick: those of the live ones of n processors, where bounds are stated
+-- the turns before the first tick: those of the live ones of n processors, if bounds are stated
 abbrev pub AreOpeningTurns : ℕ → List Crash → Option StatedBounds → Turns → Type 0
 AreOpeningTurns n crashes None turns = (turns.queue.items ≡ []) × (turns.gst ≡ 0) × (turns.phi ≡ 0)
 AreOpeningTurns n crashes (Some b) turns =

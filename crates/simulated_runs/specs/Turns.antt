@@ -33,7 +33,7 @@ pub record IsFirstTurn (queue : List Turn) (p place : ℕ) : Type 0 where
   pub own : turn.proc ≡ p
   pub first : (j : ℕ) (t : Turn) → j < place → slice_get queue j ≡ Some t → t.proc ≢ p
 
--- the turn of p once it stepped in tick x, where the bound holds from the stabilization time on
+-- the turn of p once it stepped in tick x, if the bound holds from the stabilization time on
 abbrev pub next_turn : ℕ → ℕ → ℕ → ℕ → Turn
 next_turn gst phi x p = record { proc = p; deadline = max x gst + phi }
 

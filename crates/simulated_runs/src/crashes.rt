@@ -66,7 +66,7 @@ fn last_tick(crashes: &[Crash], p: u64) -> u64
     last
 }
 
-/// The first processor that may step in this tick, from p on and then from 1 on. Where none may, it is p.
+/// The first processor that may step in this tick, from p on and then from 1 on. If none may, it is p.
 pub(crate) fn up_from(lasts: &[u64], p: u64, tick: u64) -> u64
     requires low { 1 ≤ p }
     requires high { p ≤ length lasts.now }

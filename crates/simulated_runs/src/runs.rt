@@ -101,7 +101,7 @@ fn opening_paces(alloc: Global, config: &Config, patience: u64) -> Result<Vec<Pa
     Ok(paces)
 }
 
-/// The turns of the live ones of `n` processors before the first step, where bounds are stated.
+/// The turns of the live ones of `n` processors before the first step, if bounds are stated.
 fn opening_turns(
     alloc: Global,
     n: u64,

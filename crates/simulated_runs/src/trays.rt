@@ -53,7 +53,7 @@ impl Tray {
         Ok(())
     }
 
-    /// Takes out the messages that are due by this tick, and gives their ids. Where none is due, it looks at none.
+    /// Takes out the messages that are due by this tick, and gives their ids. If none is due, it looks at none.
     pub(crate) fn take_due(&mut self, alloc: Global, tick: u64) -> Result<Vec<u64>, AllocError>
         ensures due { IfOk result (λ ids. ids.items ≡ due_ids tick self.old) }
         ensures left { OnOk result (self.new ≡ not_due tick self.old) }

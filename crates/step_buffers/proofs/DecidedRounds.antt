@@ -100,7 +100,7 @@ begun c steps x new since w ends is now =
     none r l (inl low) = is.before r l low
     none r l (inr high) = is.after r l high
 
--- a processor whose round ends: it has its decision since then, where it had another one before
+-- a processor whose round ends: it has its decision since then, if it had another one before
 pub IsDecidedSince-ended : (c : Setup) (steps : List Step) (x : Step) (old new : Option ℕ) (since next : ℕ) → IsWellFormed c steps → act_ends x.act ≡ true
     → IsDecidedSince c steps x.proc old since → old ≡ (node_at c steps x.proc).decision → new ≡ (node_at c (steps ++ x ∷ []) x.proc).decision
     → (new ≡ old → next ≡ since) → (new ≢ old → next ≡ passed steps x.proc + 2) → IsDecidedSince c (steps ++ x ∷ []) x.proc new next

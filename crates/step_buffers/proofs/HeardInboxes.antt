@@ -85,7 +85,7 @@ body_from-said letters (s ∷ rest) q body h = go (said_by q (letter_at letters 
         let is = later f in
         record { message = is.message; member = Contains-rest s is.message rest is.member; letter = is.letter; kept = is.kept; sender = is.sender; says = is.says }
 
--- where something of q is among these, something is found
+-- if something of q is among these, something is found
 pub body_from-some : (letters : List (Option Letter)) (ids : List ℕ) (q : ℕ) (body : Body) → IsSaid letters ids q body → (b : Body) × (body_from letters ids q ≡ Some b)
 body_from-some letters [] q body is = absurd (Contains-nil is.message is.member)
 body_from-some letters (s ∷ rest) q body is =

@@ -210,7 +210,7 @@ IsInbox-took c steps x r near new_near later new_later letters w are now same en
           IsEntry-longer steps x x.proc e (record { sender = a.sender; sent = a.sent; round = sym known ∙ sym here.1 })
     ]
 
--- where a round is over, those of it are dropped from the ones at hand
+-- if a round is over, those of it are dropped from the ones at hand
 pub IsInbox-turned : (c : Setup) (steps : List Step) (p r : ℕ) (near : List ℕ) (later : List Entry) (letters : List (Option Letter))
     → AreLetters c steps letters → r ≡ passed steps p → All (λ (e : Entry). r < e.0.0) later → IsInbox steps p r near later
     → IsInbox steps p (r + 1) (ahead letters (r + 1) near) later

@@ -223,7 +223,7 @@ IsProcessor-at c steps kept p z are is at =
     let count = are.count in
     AreEach-at (IsProcessor c steps) kept p z low (slice_get_read kept (length kept) (p - 1) z refl (omega arith) at) are.each
 
--- another record in the place of p, where no step was made
+-- another record in the place of p, if no step was made
 AreProcessors-set : (c : Setup) (steps : List Step) (kept : List Processor) (p : ℕ) (y : Processor) → 1 ≤ p → AreProcessors c steps kept → IsProcessor c steps p y
     → AreProcessors c steps (slice_set kept (p - 1) y)
 AreProcessors-set c steps kept p y low are is = record {
@@ -312,7 +312,7 @@ IsWorld-received old new letters sent kept p ends ids y world proc grown paced a
       (rw (← grown.config, ← grown.steps) paced.run.well_formed) proc world.processors (rw (← grown.config, ← grown.steps) is));
 }
 
--- the World with another record of p, where no step was made
+-- the World with another record of p, if no step was made
 pub IsWorld-kept : (old new : Recorded) (letters sent : List (Option Letter)) (kept : List Processor) (p : ℕ) (y : Processor) → IsWorld old letters kept → IsProc old.config p
     → new ≡ old → AreLetters new.config new.steps sent → IsProcessor new.config new.steps p y → IsWorld new sent (slice_set kept (p - 1) y)
 IsWorld-kept old new letters sent kept p y world proc same are is = rw same (record {

@@ -16,11 +16,11 @@ use Rattle.step_buffers.specs.Origins.{sender_of, round_ahead}
 pub sender_of-sent : (steps : List Step) (q p s : ℕ) → IsSend steps q p s → sender_of steps s ≡ q
 sender_of-sent steps q p s sent = ap (λ x. option_map_or (λ (y : Step). y.proc) x 0) sent
 
--- its round, where p hasn't passed it
+-- its round, if p hasn't passed it
 pub round_ahead-ahead : (steps : List Step) (q p s : ℕ) → IsSend steps q p s → passed steps p < round_at steps q s → round_ahead steps p s ≡ round_at steps q s
 round_ahead-ahead steps q p s sent ahead = rw (sender_of-sent steps q p s sent, lt-ltb (passed steps p) (round_at steps q s) ahead) refl
 
--- and where p has passed it
+-- and if p has passed it
 pub round_ahead-past : (steps : List Step) (q p s : ℕ) → IsSend steps q p s → round_at steps q s ≤ passed steps p → round_ahead steps p s ≡ 0
 round_ahead-past steps q p s sent past = rw (sender_of-sent steps q p s sent, le-ltb (passed steps p) (round_at steps q s) past) refl
 

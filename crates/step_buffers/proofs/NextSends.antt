@@ -101,7 +101,7 @@ find-first test a (suc n) k low high none at = elim (cases_lt a k) [
   | inr l ↦ (let e : a ≡ k = omega arith in rw (ap test e ∙ at) (ap (λ (x : ℕ). Some x) e))
 ]
 
--- where none passes
+-- if none passes
 find-none : (test : ℕ → Bool) (a n : ℕ) → ((j : ℕ) → a ≤ j → j < a + n → test j ≡ false) → find test (range_with_len a n) ≡ None
 find-none test a zero none = refl
 find-none test a (suc n) none = rw (none a (omega arith) (omega arith)) (find-none test (a + 1) n (λ j b h. none j (omega arith) (omega arith)))
@@ -147,7 +147,7 @@ sent-to_owner c s me round to (inr e) other =
     go true = refl
     go false = refl
 
--- so where the owner is sent nothing nobody is
+-- so if the owner is sent nothing nobody is
 pub sent-to_none : (c : Setup) (s : State) (me round r to : ℕ) → (part_of round ≡ 1) ⊎ (part_of round ≡ 3) → (to ≡ owner c.n (phase_of round) → to ≡ r)
     → is_some (out c s me round r) ≡ false → is_some (out c s me round to) ≡ false
 sent-to_none c s me round r to part same none = elim (cases_eq to (owner c.n (phase_of round))) [
@@ -202,7 +202,7 @@ find-above_zero : (test : ℕ → Bool) (a n : ℕ) → 1 ≤ a → find (λ y. 
 find-above_zero test a zero l = refl
 find-above_zero test a (suc n) l = rw (lt-ltb 0 a (omega arith), find-above_zero test (a + 1) n (omega arith)) refl
 
--- where nothing was sent in a round, the first destination of all is next
+-- if nothing was sent in a round, the first destination of all is next
 begins : (c : Setup) (node : State) (p round : ℕ) → slice_get (destinations c node p round) 0 ≡ destination_after c node p round 0
 begins c node p round = first-destination c node p round ∙ sym (find-above_zero (λ to. is_some (out c node p round to)) 1 c.n (omega arith))
 
@@ -231,7 +231,7 @@ module _ (steps : List Step) (x : Step) where
       ap (λ k. round_at (steps ++ x ∷ []) p k) e
       ∙ ap (λ xs. passed xs p + 1) (before-prefix steps (x ∷ []) (length steps + 1) (omega arith) ∙ before-now steps)
 
-  -- a step that doesn't end the round of p counts where it is a Send of p
+  -- a step that doesn't end the round of p counts if it is a Send of p
   sent_now-push : (p : ℕ) → (x.proc == p && act_ends x.act) ≡ false → sent_now (steps ++ x ∷ []) p ≡ sent_now steps p + cond (x.proc == p && act_sends x.act) 1 0
   sent_now-push p quiet =
       ap (λ n. sent_before (steps ++ x ∷ []) p (n + 1) (length (steps ++ x ∷ []) + 1)) (passed-stays steps x p quiet)

@@ -35,7 +35,7 @@ Contains-take (suc n) (x ∷ xs) s d = elim (Contains-cons_cases x s (take n xs)
   | inr e ↦ Contains-rest x s xs (Contains-take n xs s e)
 ]
 
--- where none is missing all are there
+-- if none is missing all are there
 none_missing : (waiting ids : List ℕ) (s : ℕ) → find (λ i. not (is_in waiting i)) ids ≡ None → Contains ids s
     → Contains waiting s
 none_missing waiting ids s h d =
@@ -97,7 +97,7 @@ IsStepRefusal-take (These ids) waiting why h = go (is_rising ids.now) (find (λ 
     go true None e = absurd (none-some why e)
     go true (Some s) e = subst (λ (z : StepError). IsStepRefusal z (Some z)) (same_Some (NotInBuffer s) why e) refl
 
--- and it is due where it ends no round too early
+-- and it is due if it ends no round too early
 pub IsDue-received : (next : Option ℕ) (ends : Bool) (ids : List ℕ) (other : Option StepError)
     → cond (ends && is_some next) (Some StillSending) other ≡ None → IsDue next (Receive ends ids)
 IsDue-received next false ids other h = tt
@@ -147,7 +147,7 @@ least-missing c limit steps p move s h = go (nat_lt (length steps) limit) (is_pr
     go true false f = cc
     go false is f = cc
 
--- what is taken, where nothing is against a Receive
+-- what is taken, if nothing is against a Receive
 pub take_refusal-none : (early : Bool) (o : Option StepError) → cond early (Some StillSending) o ≡ None → o ≡ None
 take_refusal-none true o h = cc
 take_refusal-none false o h = h

@@ -99,7 +99,7 @@ pub made-next : (steps made : List Step) (x : Step) → made ≡ take (length ma
     → made ++ x ∷ [] ≡ take (length (made ++ x ∷ [])) steps
 made-next steps made x first h = rw (length_push made x) (ap (λ m. m ++ x ∷ []) first ∙ sym (take-next steps (length made) x h))
 
--- where there is no further one they are all
+-- if there is no further one they are all
 pub made-all : (steps made : List Step) → made ≡ take (length made) steps → step_at steps (length made + 1) ≡ None → made ≡ steps
 made-all steps made first h = elim (slice_get_cases steps (length made)).1 [
   | inl some ↦ absurd (none-some some.0 (sym none ∙ some.2))

@@ -11,7 +11,7 @@ use Rattle.step_buffers.specs.declared.dues.DueStep.TheVariants as instead
 use Rattle.step_buffers.specs.Runs.{IsDue}
 use Rattle.step_buffers.specs.Moves.{next_send}
 
--- Where all messages of its round are out, it receives. Where it sends next to a processor, it sends to this one in place of
+-- If all messages of its round are out, it receives. If it sends next to a processor, it sends to this one in place of
 -- another, and before it ends its round.
 abbrev pub due_for : Option ℕ → Act → DueStep
 due_for None act = instead.Receive

@@ -34,7 +34,7 @@ abbrev pub named_ids : Move → List ℕ
 named_ids (Receive (These ids) ends) = ids.now
 named_ids move = []
 
--- where p sends next; None where all messages of its round are out
+-- where p sends next; None if all messages of its round are out
 abbrev pub next_send : Setup → List Step → ℕ → Option ℕ
 next_send c steps p = next_destination c steps p (length steps + 1)
 

@@ -5,7 +5,7 @@ use Rattle.step_trace.specs.declared.steps.Step.{Step}
 use Rattle.step_trace.specs.Traces.{step_at}
 use Rattle.step_buffers.specs.HeardTables.{passed, round_at}
 
--- the processor that made step s; 0 where there is no such step
+-- the processor that made step s; 0 if there is no such step
 abbrev pub sender_of : List Step → ℕ → ℕ
 sender_of steps s = option_map_or (λ x. x.proc) (step_at steps s) 0
 

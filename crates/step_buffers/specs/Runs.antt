@@ -20,7 +20,7 @@ node_at c steps p = state_after c (heard_table steps) (passed steps p) p
 abbrev pub node_before : Setup → List Step → ℕ → ℕ → State
 node_before c steps p k = state_after c (heard_table steps) (passed (before steps k) p) p
 
--- The body of message s, of q to a processor: what the node of q had to send when it was sent. (None where it
+-- The body of message s, of q to a processor: what the node of q had to send when it was sent. (None if it
 -- had nothing to send to it.)
 abbrev pub body_of : Setup → List Step → ℕ → ℕ → ℕ → Option Body
 body_of c steps q to s = out c (node_before c steps q s) q (round_at steps q s) to
@@ -38,14 +38,14 @@ abbrev pub sent_before : List Step → ℕ → ℕ → ℕ → ℕ
 sent_before steps p r k = count_by (λ s. is_sent_in steps p r s) (range_with_len 1 (k - 1))
 
 -- Where p sends next, if it were to take step k: after so many Sends of its round, the destination that
--- follows so many others. None where all are out.
+-- follows so many others. None if all are out.
 unfoldable pub next_destination : Setup → List Step → ℕ → ℕ → Option ℕ
 next_destination c steps p k =
     slice_get
     (destinations c (node_before c steps p k) p (round_at steps p k))
     (sent_before steps p (round_at steps p k) k)
 
--- the least destination above the last one, or the first one of all where the last is 0
+-- the least destination above the last one, or the first one of all if the last is 0
 abbrev pub destination_after : Setup → State → ℕ → ℕ → ℕ → Option ℕ
 destination_after c node p round last = find (λ to. nat_lt last to && is_some (out c node p round to)) (processors c)
 

@@ -1,4 +1,4 @@
-//! One step more, where nothing but memory can lack.
+//! One step more, if nothing but memory can lack.
 
 ghost use Rattle.std.specs.Prelude.{◌≡◌, ◌++◌, ◌∷◌, [], List, OnOk, OnErr};
 ghost use Rattle.step_trace.specs.declared.steps.Step.{Step as TraceStep};

@@ -17,7 +17,7 @@ pub struct Due {
 /// What a processor has to do, by what it sends next in its round.
 #[derive(Clone, Copy, Debug, PartialEq, Eq)]
 pub enum DueStep {
-    /// Where it sends, it sends to this processor, and to no other one.
+    /// If it sends, it sends to this processor, and to no other one.
     SendTo(u64),
     /// It sends to this processor, before it may end its round.
     SendFirst(u64),

@@ -77,7 +77,7 @@ impl Inbox {
         self.later.reserve(additional)
     }
 
-    /// Brings to hand the messages of rounds up to this one. Where memory is refused, some may have been brought.
+    /// Brings to hand the messages of rounds up to this one. If memory is refused, some may have been brought.
     pub(crate) fn gather(&mut self, round: u64) -> Result<(), AllocError>
         ensures moved { IsMoved self.old self.new.near self.new.later }
         ensures ahead { OnOk result (All (λ e. round < e.0.0) self.new.later) }
@@ -108,7 +108,7 @@ impl Inbox {
         }
     }
 
-    /// Keeps a message, where there is room: at hand if it is of this round, else for later.
+    /// Keeps a message, if there is room: at hand if it is of this round, else for later.
     fn keep(&mut self, round: u64, sent: u64, id: u64)
         requires room { 0 < self.old.room }
         ensures kept { IsPermutation (id ∷ kept_ids self.old) (kept_ids self.new) }
@@ -123,7 +123,7 @@ impl Inbox {
         }
     }
 
-    /// Keeps a message of a round for later, where there is room.
+    /// Keeps a message of a round for later, if there is room.
     fn keep_for_later(&mut self, round: u64, id: u64)
         requires room { 0 < self.old.room }
         ensures near { self.new.near ≡ self.old.near }

@@ -94,7 +94,7 @@ pub(crate) fn letter_at(letters: &[Place], id: u64) -> Option<&Letter>
     }
 }
 
-/// The round in which the message of this id was sent, or 0 where there is none.
+/// The round in which the message of this id was sent, or 0 if there is none.
 pub(crate) fn round_of(letters: &[Place], id: u64) -> u64
     ensures { result ≡ round_of letters.now id }
 {
@@ -162,7 +162,7 @@ fn heard_from(
     Ok(heard)
 }
 
-/// For each of `n` processors the first of these messages that is its own, in the place of its number; 0 where there is
+/// For each of `n` processors the first of these messages that is its own, in the place of its number; 0 if there is
 /// none.
 fn first_by_sender(
     alloc: Global,

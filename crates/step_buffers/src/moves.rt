@@ -9,7 +9,7 @@ pub enum Take<'a> {
     All,
     /// None of them.
     Nothing,
-    /// So many, those with the least ids; or all of them, where there are fewer.
+    /// So many, those with the least ids; or all of them, if there are fewer.
     Oldest(u64),
     /// Those with these ids, which rise.
     These(&'a [u64]),

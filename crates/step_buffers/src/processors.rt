@@ -21,7 +21,7 @@ use step_trace::{Config, Trace};
 pub(crate) struct Processor {
     /// Its round.
     pub round: u64,
-    /// The last destination of its round, or 0 where it sent nothing in it.
+    /// The last destination of its round, or 0 if it sent nothing in it.
     pub last: u64,
     /// Its node at the round's start.
     pub node: Node,
@@ -81,7 +81,7 @@ fn is_to_owner(round: u64) -> bool
     part == 1 || part == 3
 }
 
-/// Where a processor sends next. None where all messages of its round are out.
+/// Where a processor sends next. None if all messages of its round are out.
 pub(crate) fn next_send(trace: &Trace, sender: &Processor, p: u64) -> Option<u64>
     requires { IsProcessor trace.now.config trace.now.steps p sender.now }
     ensures { result ≡ next_send trace.now.config trace.now.steps p }

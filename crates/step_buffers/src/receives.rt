@@ -104,7 +104,7 @@ fn turned_node(
     Ok(Some(node))
 }
 
-/// The node of `p` after it took these messages and ended its round, where those of its round are at hand.
+/// The node of `p` after it took these messages and ended its round, if those of its round are at hand.
 fn computed(
     alloc: Global,
     trace: &Trace,

@@ -1,4 +1,4 @@
-//! Taking ids out of a list of rising ids. It costs what is taken, and to move the shorter side where something
+//! Taking ids out of a list of rising ids. It costs what is taken, and to move the shorter side if something
 //! else waits before the ids and after them.
 
 ghost use Rattle.std.specs.Prelude.{ℕ, ◌≡◌, ◌≢◌, ◌<◌, ◌≤◌, ◌++◌, ◌-◌, drop, get_or, length, take};
@@ -64,7 +64,7 @@ fn shared_back(waiting: &[u64], ids: &[u64]) -> usize
     most
 }
 
-/// Takes ids out of those that a list has from `start` on, where something else waits before the ids and after
+/// Takes ids out of those that a list has from `start` on, if something else waits before the ids and after
 /// them. Scans what is between the first of them and the last, and moves what is on its shorter side.
 fn take_out_between(list: &mut Vec<u64>, start: usize, ids: &[u64]) -> usize
     requires rising { IsStrictlyIncreasing ids.now }

@@ -109,7 +109,7 @@ fn due_instead(next: Option<u64>, step: &Step) -> Due
     }
 }
 
-/// Makes the Send that `p` makes next, and says whether it was one to this processor. It says no where `p` has
+/// Makes the Send that `p` makes next, and says whether it was one to this processor. It says no if `p` has
 /// nothing to send, too.
 fn follow_send(alloc: Global, world: &mut World, p: u64, to: u64) -> Result<bool, AllocError>
     requires { length world.old.trace.steps < world.old.limit }

@@ -60,7 +60,7 @@ impl Waiting {
         &self.ids[self.start..]
     }
 
-    /// Makes room for one id more. Where more ids are gone than wait, their places are used again.
+    /// Makes room for one id more. If more ids are gone than wait, their places are used again.
     pub(crate) fn reserve(&mut self) -> Result<(), AllocError>
         ensures items { self.new.items ≡ self.old.items }
         ensures gone { self.new.gone ≤ length self.new.items }

@@ -169,7 +169,7 @@ impl World {
         (sender, ahead)
     }
 
-    /// Where processor `p` sends next in its round; None where all its messages are out. Asks for a processor.
+    /// Where processor `p` sends next in its round; None if all its messages are out. Asks for a processor.
     pub fn next_destination(&self, p: u64) -> Option<u64>
         requires { IsProc self.now.trace.config p }
         ensures { result ≡ next_send self.now.trace.config self.now.trace.steps p }
@@ -290,7 +290,7 @@ impl World {
     }
 }
 
-/// Who made the step of this number; 0 where there is no such step.
+/// Who made the step of this number; 0 if there is no such step.
 fn sender_of(trace: &Trace, id: u64) -> u64
     ensures { result ≡ sender_of trace.now.steps id }
 {

@@ -1,4 +1,4 @@
--- Deliveries and steps can be decided, so a bound holds where no witness refutes it.
+-- Deliveries and steps can be decided, so a bound holds if no witness refutes it.
 use Rattle.std.proofs.Common.{ℕ, ◌≡◌, ◌+◌, ◌-◌, ◌<◌, ◌≤◌, ◌⊎◌, inl, inr, List, length, Option, Some, None, Bool, true, false, refl, ap, sym, ◌∙◌, subst, suc, zero, arith}
 use Rattle.std.proofs.lemmas.Bool.{cases_lt, cases_eq}
 use Rattle.std.proofs.lemmas.Option.{none-some, same_Some}

@@ -29,7 +29,7 @@ decimal-first_digits n bs i h e inside =
 zero-text : length (decimal 0) ≡ 1
 zero-text = rw (decimal_digit 0 (omega arith)) refl
 
--- its first digit is no zero where there are more
+-- its first digit is no zero if there are more
 pub decimal-leading_zero : (n : ℕ) (bs : List ℕ) → n < 2 ^ 64 → bs ≡ decimal n → get_or bs 0 0 ≡ 48 → length bs ≡ 1
 decimal-leading_zero zero bs h e k = rw e zero-text
 decimal-leading_zero (suc n) bs h e k = let f = first_decimal (suc n) (omega arith) h in let same = rw e at k in absurd (omega (arith, same, f))

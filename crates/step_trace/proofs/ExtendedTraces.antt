@@ -20,7 +20,7 @@ first_further longer shorter e other =
     let x = step_exists longer.steps (length shorter.steps) (omega (arith, l, other)) in
     e.later (suc (length shorter.steps)) x.0 (omega arith) x.1
 
--- and where that step is, all further steps are
+-- and if that step is, all further steps are
 pub further_from_first : (longer shorter : Recorded) → IsTimed longer → (length longer.steps ≡ length shorter.steps) ⊎ (shorter.last ≤ tick_of longer (suc (length shorter.steps)))
     → (k : ℕ) (x : Step) → length shorter.steps < k → step_at longer.steps k ≡ Some x → shorter.last ≤ tick_of longer k
 further_from_first longer shorter time (inl e) k x l at = absurd (let w = step_at_within longer.steps k x at in omega (arith, w.1, e, l))
@@ -30,7 +30,7 @@ further_from_first longer shorter time (inr h) k x l at =
     let r = ticks_rise longer time (suc (length shorter.steps)) k first.0 x first.1 at (omega arith) in
     omega (arith, r, h)
 
--- so one trace extends another, if what is tested before holds, where the first further step is in time
+-- so one trace extends another, if what is tested before holds, if the first further step is in time
 pub Extends-by_first : (longer shorter : Recorded) (tick : ℕ) → IsTimed longer → longer.config ≡ shorter.config → BeginsWith longer.steps shorter.steps → BeginsWith longer.ticks shorter.ticks
     → shorter.last ≤ longer.last → length longer.steps ≢ length shorter.steps → tick ≡ tick_of longer (length shorter.steps + 1) → (shorter.last ≤ tick) ↔ Extends longer shorter
 Extends-by_first longer shorter tick time config steps ticks last other here =

@@ -48,7 +48,7 @@ pub is_rising-from_increasing : (xs : List ℕ) → IsStrictlyIncreasing xs → 
 is_rising-from_increasing [] h = refl
 is_rising-from_increasing (x ∷ xs) h = rising_from-true x xs h
 
--- nothing is found where the test fails on each element
+-- nothing is found if the test fails on each element
 pub find-none : {X : Type 0} (p : X → Bool) (xs : List X) → ((x : X) → Contains xs x → p x ≡ false) → find p xs ≡ None
 find-none p [] h = refl
 find-none p (x ∷ xs) h = rw (h x (0, omega arith, refl), find-none p xs (λ y d. h y (suc d.0, let l = d.1 in omega arith, d.2))) refl

@@ -23,7 +23,7 @@ pub record FitsIn (trace : Recorded) (tick : ℕ) (x : Step) : Type 0 where
   pub order : (y : Step) → step_at trace.steps (length trace.steps) ≡ Some y → (tick_of trace (length trace.steps) < tick) ⊎ ((tick_of trace (length trace.steps) ≡ tick) × (y.proc < x.proc))
   pub later : (s : ℕ) → Contains (act_ids x.act) s → tick_of trace s < tick
 
--- where there is a step there is a last one
+-- if there is a step there is a last one
 last_step : (steps : List Step) (j : ℕ) (a : Step) → step_at steps j ≡ Some a → (b : Step) × (step_at steps (length steps) ≡ Some b)
 last_step [] j a at = absurd (let w = step_at_within [] j a at in omega arith)
 last_step (y ∷ ys) j a at = (get_or (y ∷ ys) (length ys) y, slice_get-get_or (y ∷ ys) (length ys) y (let l : length ys < suc (length ys) = omega arith in l))

@@ -49,7 +49,7 @@ own_steps-other steps i p x inside is other =
     let test : (x.proc == p) ≡ false = grind (arith, nat_tests) in
     rw test at (one_more steps i p x inside is) ∙ append-nil (own_steps (take i steps) p)
 
--- where one step is of p, there are own steps
+-- if one step is of p, there are own steps
 pub own_steps-some : (steps : List Step) (i p : ℕ) (x : Step) → i < length steps → x ≡ get_or steps i x → x.proc ≡ p → 0 < length (own_steps steps p)
 own_steps-some steps i p x inside is own =
     let front = own_steps-append (take (i + 1) steps) (drop (i + 1) steps) p in

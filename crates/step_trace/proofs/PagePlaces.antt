@@ -113,7 +113,7 @@ module _ {P X : Type 0} (items : P → List X) where
   flat_map-same R same (p ∷ pages) [] z = absurd z
   flat_map-same R same (p ∷ pages) (q ∷ copies) z = flat_map-cons items q copies ∙ ap (λ xs. xs ++ flat_map items copies) (same p q z.0) ∙ ap (λ xs. items p ++ xs) (flat_map-same R same pages copies z.1) ∙ sym (flat_map-cons items p pages)
 
-  -- and are full where those are
+  -- and are full if those are
   full-same : (R : P → P → Type 0) → ((p q : P) → R p q → items q ≡ items p) → (pages copies : List P) → AllZip R pages copies
       → All (λ p. length (items p) ≡ PAGE_LEN) pages → All (λ p. length (items p) ≡ PAGE_LEN) copies
   full-same R same [] [] z full = full

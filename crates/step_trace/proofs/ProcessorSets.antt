@@ -16,7 +16,7 @@ has_proc_set_same n p l h =
     let b : nat_le p MAX_MEMBER ≡ true = grind (arith, nat_tests) in
     rw (a, b, bit_at_set_same w64 n (p - 1) (omega arith)) refl
 
--- the third test counts only where the first two pass
+-- the third test counts only if the first two pass
 and_third : (b c d e : Bool) → (b ≡ true → c ≡ true → d ≡ e) → (b && c && d) ≡ (b && c && e)
 and_third true true d e h = h refl refl
 and_third true false d e h = refl

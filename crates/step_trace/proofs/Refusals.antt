@@ -32,7 +32,7 @@ pub first_id_none : (o : Option ℕ) (why : ℕ → PushError) (next : Option Pu
 first_id_none None why next h = (refl, h)
 first_id_none (Some s) why next h = cc
 
--- where nothing is found all elements fail
+-- if nothing is found all elements fail
 pub find_all : {X : Type 0} (p : X → Bool) (xs : List X) → find p xs ≡ None → (x : X) → Contains xs x → p x ≡ false
 find_all p [] h x d = absurd (Contains-nil x d)
 find_all p (y ∷ ys) h x d =

@@ -40,7 +40,7 @@ pub step_at_within : (steps : List Step) (k : ℕ) (x : Step) → step_at steps 
 step_at_within steps zero x h = absurd (none-some x h)
 step_at_within steps (suc k) x h = let l : k < length steps = slice_get_within steps k x h in (omega arith, omega arith)
 
--- an act takes a message exactly where its ids have it
+-- an act takes a message exactly if its ids have it
 pub act_takes-from_Contains : (a : Act) (s : ℕ) → Contains (act_ids a) s → act_takes a s ≡ true
 act_takes-from_Contains a s h = list_any_at (λ i. i == s) (act_ids a) h.0 s h.1 (eq-eqb _ _ h.2)
 
@@ -64,7 +64,7 @@ Contains-from_takes a s h =
     let y = Any-from_list_any (λ i. i == s) (act_ids a) h in
     (y.0, y.2, get_or_default (act_ids a) y.0 s y.1 y.2 ∙ y.3 ∙ eqb-true y.1 s y.4)
 
--- where a message was taken there is a step that takes it
+-- if a message was taken there is a step that takes it
 pub taken_at-from_is_taken : (steps : List Step) (s : ℕ) → is_taken steps s ≡ true → (m : ℕ) × TakesAt steps m s
 taken_at-from_is_taken steps s h =
     let y = Any-from_list_any (λ x. act_takes x.act s) steps h in

@@ -163,7 +163,7 @@ IsOnePerTick-push trace x t one = record {
       let long = t.time.each in
       tick_at-push_old trace.ticks (trace.last + 1) k (omega (arith, long, l)) ∙ one.each k l
 
--- where the answer is Ok
+-- if the answer is Ok
 pub IsOnePerTick-appended : {X E : Type 0} (trace : Recorded) (x : Step) → IsTrace trace → IsOnePerTick trace → (result : Result X E) (new : Recorded)
     → OnOk result (new ≡ with_step trace (trace.last + 1) x) → OnOk result (IsOnePerTick new)
 IsOnePerTick-appended trace x t one (Ok v) new e = subst (λ (z : Recorded). IsOnePerTick z) (sym e) (IsOnePerTick-push trace x t one)

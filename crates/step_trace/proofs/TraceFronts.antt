@@ -66,7 +66,7 @@ module _ (trace : Recorded) (n tick : ℕ) (sound : IsTrace trace) (inside : n �
   tick_whole : (k : ℕ) → k ≤ n → tick_of (front_to trace n tick) k ≡ tick_of trace k
   tick_whole k l = tick_at-take trace.ticks n k l
 
-  -- and in time, where the tick with which they end is no earlier than theirs
+  -- and in time, if the tick with which they end is no earlier than theirs
   front_timed : tick_of trace n ≤ tick → tick ≤ MAX_TICKS → IsTimed (front_to trace n tick)
   front_timed late high = record {
     each = let a = length-take-le n trace.steps inside in let b = length-take-le n trace.ticks (let long = sound.time.each in omega (arith, long, inside)) in b ∙ sym a;
@@ -91,7 +91,7 @@ module _ (trace : Recorded) (n tick : ℕ) (sound : IsTrace trace) (inside : n �
   pub IsTrace-front : tick_of trace n ≤ tick → tick ≤ MAX_TICKS → IsTrace (front_to trace n tick)
   IsTrace-front late high = record { steps = front_well_formed; time = front_timed late high }
 
-  -- which the trace extends, and is cut to, where each further step is in a later tick
+  -- which the trace extends, and is cut to, if each further step is in a later tick
   pub IsCutAt-front : tick ≤ trace.last → ((k : ℕ) → n < k → k ≤ length trace.steps → tick < tick_of trace k) → IsCutAt trace tick (front_to trace n tick)
   IsCutAt-front low after = record {
     extends = record {
@@ -118,7 +118,7 @@ first_steps-next trace n x sound h =
     ap (λ (s : List Step). record { config = trace.config; steps = s; ticks = take (n + 1) trace.ticks; last = tick_of trace (n + 1) }) steps
     ∙ ap (λ (t : List ℕ). record { config = trace.config; steps = take n trace.steps ++ x ∷ []; ticks = t; last = tick_of trace (n + 1) }) ticks
 
--- where the next step is in a later tick, all further ones are
+-- if the next step is in a later tick, all further ones are
 pub later_ticks : (trace : Recorded) (n tick : ℕ) → IsTimed trace → n < length trace.steps → tick < tick_of trace (n + 1) → (k : ℕ) → n < k → k ≤ length trace.steps → tick < tick_of trace k
 later_ticks trace n tick time inside late zero l m = absurd (omega (arith, l))
 later_ticks trace n tick time inside late (suc k) l m =

@@ -45,7 +45,7 @@ module _ (config : Setup) (placed : Ticked) (n last tick : ℕ) (x : Step) (each
       ∙ at_drop_more (λ ts. appended (front_of config placed n last) (x ∷ drop (n + 1) placed.steps) ts) placed.ticks n 0 (let l = inside in omega (arith, l, each))
       ∙ ap (λ t. appended (front_of config placed n last) (x ∷ drop (n + 1) placed.steps) (t ∷ drop (n + 1) placed.ticks)) the_tick
 
-  -- where nothing is against it, the others lead on from the trace with it
+  -- if nothing is against it, the others lead on from the trace with it
   pub rest-next : refusal_in (front_of config placed n last) tick x ≡ None → rest_of config placed (n + 1) tick ≡ rest_of config placed n last
   rest-next none =
       ap (λ t. appended t (drop (n + 1) placed.steps) (drop (n + 1) placed.ticks)) front-next

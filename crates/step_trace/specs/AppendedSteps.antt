@@ -8,7 +8,7 @@ use Rattle.step_trace.specs.Traces.{Recorded}
 use Rattle.step_trace.specs.Ticks.{with_step}
 use Rattle.step_trace.specs.TickRefusals.{refusal_in}
 
--- what comes of the step of this number, and of the steps after it where nothing is against it
+-- what comes of the step of this number, and of the steps after it if nothing is against it
 abbrev pub unless_refused : Option PushError → ℕ → Result Recorded StepRefused → Result Recorded StepRefused
 unless_refused None at after = after
 unless_refused (Some why) at after = Err (record { no = at; why = why })

@@ -10,7 +10,7 @@ abbrev pub named : Correct → ℕ → ℕ
 named correct.All n = all_to n
 named (correct.These set) n = set
 
--- what the text names: all of them where it is the word `all`, else the set that it lists
+-- what the text names: all of them if it is the word `all`, else the set that it lists
 abbrev pub IsCorrectIn : List ℕ → Correct → Type 0
 IsCorrectIn text correct.All = text ≡ codes "all"
 IsCorrectIn text (correct.These set) = IsSetIn text set

@@ -16,6 +16,6 @@ pub record IsListOf (text numbers : List ℕ) : Type 0 where
 abbrev pub HasMembers : ℕ → List ℕ → Type 0
 HasMembers set numbers = (p : ℕ) → IsTrue (has_proc set p) ↔ Contains numbers p
 
--- the set is what the text says: no processor where it is the word `none`, else the numbers that it lists
+-- the set is what the text says: no processor if it is the word `none`, else the numbers that it lists
 abbrev pub IsSetIn : List ℕ → ℕ → Type 0
 IsSetIn text set = ((text ≡ codes "none") × HasMembers set []) ⊎ ((numbers : List ℕ) × IsListOf text numbers × HasMembers set numbers)

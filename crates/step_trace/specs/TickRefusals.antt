@@ -38,7 +38,7 @@ refusal_in trace tick x =
 abbrev pub next_refusal : Recorded → Step → Option PushError
 next_refusal trace x = if nat_lt trace.last MAX_TICKS then refusal_in trace (trace.last + 1) x else Some Full
 
--- the answer is no reason exactly where the step may be appended in this tick
+-- the answer is no reason exactly if the step may be appended in this tick
 abbrev pub IsJustifiedIn : Recorded → ℕ → Step → PushError → Type 0
 IsJustifiedIn trace tick x Memory = CanAppend trace tick x
 IsJustifiedIn trace tick x e = CanAppend trace tick x → ⊥

@@ -6,7 +6,7 @@ use Rattle.step_trace.specs.declared.traces.TheConstants.{MAX_TICKS}
 use Rattle.step_trace.specs.declared.steps.Step.{Step}
 use Rattle.step_trace.specs.Traces.{Recorded, step_at, TakesAt, IsStepOf, IsWellFormed}
 
--- the tick of the step of this number, of the ticks of all steps; 0 where there is no such step
+-- the tick of the step of this number, of the ticks of all steps; 0 if there is no such step
 abbrev pub tick_at : List ℕ → ℕ → ℕ
 tick_at ticks zero = 0
 tick_at ticks (suc k) = slice_index_or ticks k 0

@@ -100,7 +100,7 @@ impl Trace {
         Ok(trace)
     }
 
-    /// Appends a step in this tick, and names it where it is refused.
+    /// Appends a step in this tick, and names it if it is refused.
     fn push_next(&mut self, tick: u32, step: Step) -> Result<(), StepRefused>
         ensures fits { OnOk result (refusal_in self.old tick step ≡ None) }
         ensures appended { OnOk result (self.new ≡ with_step self.old tick step) }

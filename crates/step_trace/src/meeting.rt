@@ -25,8 +25,8 @@ impl MeetingGate {
 }
 
 impl Gate for MeetingGate {
-    /// Waits for the other worker, for `TURNS` turns, in each of which other threads may run. False where
-    /// it doesn't come, where this worker came before, and to any other worker.
+    /// Waits for the other worker, for `TURNS` turns, in each of which other threads may run. False if
+    /// it doesn't come, if this worker came before, and to any other worker.
     fn enter(&self, who: u64) -> bool {
         let (mine, other) = match who {
             1 => (&self.first_came, &self.second_came),

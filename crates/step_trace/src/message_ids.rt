@@ -40,7 +40,7 @@ impl MessageIds {
         }
     }
 
-    /// The list of these ids, in this order. It wants memory only where there is more than one.
+    /// The list of these ids, in this order. It takes memory only if there is more than one.
     pub fn new(alloc: Global, items: Vec<u64>) -> Result<Self, AllocError>
         ensures ids { IfOk result (λ ids. ids ≡ items.items) }
         ensures more { OnErr result (1 < length items.items) }

@@ -7,7 +7,7 @@ use crate::placed_steps::PlacedSteps;
 use crate::steps::Step;
 use std::alloc::{AllocError, Global};
 
-/// The steps of processor `p` with their numbers, in order. Refuses only where there is one.
+/// The steps of processor `p` with their numbers, in order. Refuses only if there is one.
 pub(crate) fn own_steps(
     alloc: Global,
     placed: &PlacedSteps,

@@ -67,7 +67,7 @@ impl PlacedSteps {
         self.steps.get(no as usize - 1)
     }
 
-    /// The tick of the step of this number; 0 where there is no such step.
+    /// The tick of the step of this number; 0 if there is no such step.
     pub(crate) fn tick(&self, no: u64) -> u64
         ensures { result ≡ tick_at self.now.ticks no }
     {
@@ -133,7 +133,7 @@ impl PlacedSteps {
         })
     }
 
-    /// The ids that the last step takes; none where there is no step.
+    /// The ids that the last step takes; none if there is no step.
     pub(crate) fn last_ids(&self) -> &[u64]
         ensures { (steps : List Step) (x : Step) → self.now.steps ≡ steps ++ x ∷ [] → result.now ≡ act_ids x.act }
     {

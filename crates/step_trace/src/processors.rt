@@ -34,7 +34,7 @@ impl ProcSet {
         ProcSet { mask: 0 }
     }
 
-    /// The set whose members are the bits of a mask: processor p is one where bit p - 1 is set.
+    /// The set whose members are the bits of a mask: processor p is one if bit p - 1 is set.
     pub fn of_mask(mask: u64) -> Self
         ensures { result ≡ mask }
     {

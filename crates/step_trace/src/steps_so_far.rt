@@ -62,7 +62,7 @@ impl<'a> StepsSoFar<'a> {
         self.placed.step(no)
     }
 
-    /// The tick of the step of this number; 0 where there is no such step.
+    /// The tick of the step of this number; 0 if there is no such step.
     pub(crate) fn tick(&self, no: u64) -> u64
         ensures { result ≡ tick_at self.now.ticks no }
     {

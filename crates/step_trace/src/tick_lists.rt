@@ -27,7 +27,7 @@ impl TickList {
         }
     }
 
-    /// The tick of the step of this number; 0 where there is no such step.
+    /// The tick of the step of this number; 0 if there is no such step.
     pub(crate) fn tick(&self, no: u64) -> u64
         ensures { result ≡ tick_at (all_ticks self.now) no }
     {
@@ -41,7 +41,7 @@ impl TickList {
         }
     }
 
-    /// Makes room for this tick. Takes memory only where it isn't the number of the next step.
+    /// Makes room for this tick. Takes memory only if it isn't the number of the next step.
     pub(crate) fn reserve(&mut self, tick: u32) -> Result<(), AllocError>
         ensures same { all_ticks self.new ≡ all_ticks self.old }
         ensures room { OnOk result (HasRoom self.new tick) }

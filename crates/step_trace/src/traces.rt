@@ -151,7 +151,7 @@ impl Trace {
         self.placed.step(no)
     }
 
-    /// The tick of the step of this number; 0 where there is no such step.
+    /// The tick of the step of this number; 0 if there is no such step.
     pub(crate) fn tick_at(&self, no: u64) -> u64
         ensures { result ≡ tick_of self.now no }
     {
@@ -226,7 +226,7 @@ impl Trace {
         self.last
     }
 
-    /// Appends a step in the tick after the last, as `push_at` does. It is Full where there is no such tick.
+    /// Appends a step in the tick after the last, as `push_at` does. It is Full if there is no such tick.
     pub fn push(&mut self, step: Step) -> Result<(), PushError>
         ensures appended { OnOk result (self.new ≡ with_step self.old (self.old.last + 1) step) }
         ensures well_formed { OnOk result (IsTrace self.new) }

@@ -45,7 +45,7 @@ pub record IsLongestOver (set : ℕ) (trace : Recorded) (x f q until : ℕ) : Ty
   pub longest : (u : Gap) → IsGap set trace u → u.from ≡ x → (u.to < until) ⊎ (u.to + 1 < x + f)
   pub least : (u : Gap) → IsGap set trace u → u.from ≡ x → x + f ≤ u.to + 1 → u.to + 1 ≡ until → q ≤ u.proc
 
--- where it refutes the bound, it is longer than all that begin later
+-- if it refutes the bound, it is longer than all that begin later
 gaps_longer : (set : ℕ) (trace : Recorded) (x f q until : ℕ) (o : Option Gap) → KnowsGaps set trace (x + 1) f o → IsLongestOver set trace x f q until → f ≤ until - x
     → KnowsGaps set trace x (until - x + 1) (Some (record { proc = q; from = x; to = until - 1 }))
 gaps_longer set trace x f q until o k l h =
@@ -71,7 +71,7 @@ gaps_longer set trace x f q until o k l h =
       );
     }
 
--- where it doesn't, no gap that begins at x is as long as the named one
+-- if it doesn't, no gap that begins at x is as long as the named one
 gaps_kept : (set : ℕ) (trace : Recorded) (x f q until : ℕ) (o : Option Gap) → KnowsGaps set trace (x + 1) f o → IsLongestOver set trace x f q until → until - x < f → KnowsGaps set trace x f o
 gaps_kept set trace x f q until o k l h = record {
   shorter = λ w i a. elim (cases_eq w.from x) [
@@ -101,7 +101,7 @@ pub record GapsLowered (set : ℕ) (trace : Recorded) (x : ℕ) (old new : Level
   pub delta : new.delta ≡ old.delta
   pub miss : new.miss ≡ old.miss
 
--- one tick back, the level takes that gap where its bound allows it no more
+-- one tick back, the level takes that gap if its bound allows it no more
 pub GapsLowered-with_over : (set : ℕ) (t : Recorded) (x q until : ℕ) (level : Level) → IsLongestOver set t x level.phi q until → KnowsGaps set t (x + 1) level.phi level.gap → GapsLowered set t x level (with_gap level q x until)
 GapsLowered-with_over set t x q until level longest k = go (nat_le level.phi (until - x)) refl where
   go : (b : Bool) → nat_le level.phi (until - x) ≡ b

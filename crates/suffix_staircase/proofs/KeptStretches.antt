@@ -35,14 +35,14 @@ kept_last (s ∷ rest) =
     ∙ ap Some (sym (rw (← last) (get_or-reverse kept 0 s (omega arith))))
     ∙ sym (slice_get-get_or (reverse kept) 0 s (omega arith))
 
--- there are as many levels as the first stretch says, and none where there is no stretch
+-- there are as many levels as the first stretch says, and none if there is no stretch
 pub height-first : (stretches : List Stretch) (first : Option Stretch) → AreInOrder stretches
     → first ≡ slice_get stretches 0
     → option_map_or (λ s. s.reach) first 0 ≡ length (levels_in stretches)
 height-first [] first a e = rw e refl
 height-first (s ∷ rest) first a e = rw (e, length-levels_in (s ∷ rest) a) refl
 
--- a level begins a stretch where the first one has another bound
+-- a level begins a stretch if the first one has another bound
 pub begins-first : (stretches : List Stretch) (first : Option Stretch) (level : Level) → AreInOrder stretches
     → first ≡ slice_get stretches 0
     → option_map_or (λ s. not (same_bounds s.level level)) first true ≡ begins level (levels_in stretches)

@@ -100,7 +100,7 @@ pub record MissesLowered (set : ℕ) (trace : Recorded) (done : ℕ) (old new : 
   pub phi : new.phi ≡ old.phi
   pub gap : new.gap ≡ old.gap
 
--- one step back, the level takes the last miss of the message where its bound allows it no more
+-- one step back, the level takes the last miss of the message if its bound allows it no more
 pub MissesLowered-with_miss : (set : ℕ) (t : Recorded) (x r : ℕ) (level : Level) → 1 ≤ x → KnowsMissesAfter set t x level.delta level.miss → IsLastMissOf set t x r
     → MissesLowered set t (x - 1) level (with_miss level (record { sent = x; missed = r }) (tick_of t r - tick_of t x))
 MissesLowered-with_miss set t x r level low k l = go (nat_le level.delta (tick_of t r - tick_of t x)) refl where

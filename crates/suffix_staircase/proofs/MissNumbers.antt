@@ -14,7 +14,7 @@ use Rattle.step_trace.proofs.StepPositions.{step_at_within}
 use Rattle.step_trace.proofs.TickOrder.{ticks_rise, number_below, own_ticks_rise}
 use Rattle.suffix_staircase.specs.Receives.{IsDeliveredByNumber, IsMissByNumber, IsLastMissByNumber}
 
--- Of the Receives that miss message s, r is the last; its tick isn't above that of s where none does.
+-- Of the Receives that miss message s, r is the last; its tick isn't above that of s if none does.
 pub record IsLastMissOf (set : ℕ) (trace : Recorded) (s r : ℕ) : Type 0 where
   pub found : tick_of trace s < tick_of trace r → IsMiss set trace (record { sent = s; missed = r })
   pub last : (y : ℕ) → IsMiss set trace (record { sent = s; missed = y }) → tick_of trace y ≤ tick_of trace r

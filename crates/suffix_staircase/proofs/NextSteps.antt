@@ -72,14 +72,14 @@ AreNextTicks-after_all t next e = subst (λ (xs : List ℕ). AreNextTicks t (len
       });
 })
 
--- no entry grows where one is lowered
+-- no entry grows if one is lowered
 entry-lowered : (next : List ℕ) (p x r : ℕ) → p < length next → x ≤ get_or next p 0 → get_or (set next p x) r 0 ≤ get_or next r 0
 entry-lowered next p x r inside low = elim (cases_eq r p) [
   | inl e ↦ subst (λ (m : ℕ). get_or (set next p x) m 0 ≤ get_or next m 0) (sym e) (rw (get_or-set_same next p x 0 inside) low)
   | inr other ↦ rw (get_or-set_other next p r x 0 other) (omega arith)
 ]
 
--- the latest stays the latest where the next step of another processor comes earlier
+-- the latest stays the latest if the next step of another processor comes earlier
 pub IsLatest-kept : (members q p x : ℕ) (next : List ℕ) → q ≢ p → p < length next → x ≤ get_or next p 0 → IsLatest members next (length next) q
     → IsLatest members (set next p x) (length (set next p x)) q
 IsLatest-kept members q p x next other inside low latest = rw (length-set next p x) (record {
@@ -93,7 +93,7 @@ IsLatest-kept members q p x next other inside low latest = rw (length-set next p
       rw (get_or-set_other next p q x 0 other) (omega (arith, latest.least r below start member, lowered));
 })
 
--- the latest of the members so far stays it where the next one isn't later
+-- the latest of the members so far stays it if the next one isn't later
 pub IsLatest-passed : (members p q : ℕ) (next : List ℕ) → IsLatest members next p q → (IsTrue (has_proc members p) → get_or next p 0 ≤ get_or next q 0) → IsLatest members next (p + 1) q
 IsLatest-passed members p q next latest here = record {
   within = latest.within;

@@ -53,7 +53,7 @@ IsLastReceive-noted steps p x high r low receive below some l = record {
   ];
 }
 
--- a Receive is the last one where none comes later
+-- a Receive is the last one if none comes later
 IsLastReceive-first : (steps : List Step) (p x high : ℕ) → 1 ≤ x → IsReceiveOf steps x p → x < high → ((y : ℕ) → IsReceiveOf steps y p → x < y → y < high → ⊥) → IsLastReceive steps p (x - 1) high x
 IsLastReceive-first steps p x high low receive below none = record {
   found = λ h. (omega arith, below, receive);
@@ -148,7 +148,7 @@ module _ (t : Recorded) (x p : ℕ) (ids : List ℕ) (ends : Bool) (old new : Re
         send_is_no_receive t.steps s m.0 q p m.1 (subst (λ n. IsReceiveOf t.steps n p) same f.1))
     other false e = refl
 
-  -- that of a Receive where it is the next one
+  -- that of a Receive if it is the next one
   receive_link : (q y : ℕ) → IsReceiveOf t.steps y q → get_or new.links.items y 0 ≡ cond (next == y) x (get_or old.links.items y 0)
   receive_link q y r = notes.links y ∙ join (next == y) (list_any (λ i. i == y) ids) (untaken (list_any (λ i. i == y) ids) refl) where
     untaken : (b : Bool) → list_any (λ i. i == y) ids ≡ b → b ≡ false

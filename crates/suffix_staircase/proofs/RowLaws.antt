@@ -36,7 +36,7 @@ later last g level rest r a = record {
   go zero e = e
   go (suc k) e = e
 
--- a row is there where it is the first, and a test lets that in, or where it is a later one
+-- a row is there if it is the first, and a test lets that in, or if it is a later one
 cond-cases : (b : Bool) (first r : Row) (more : List Row) → Contains (cond b (first ∷ more) more) r
     → ((b ≡ true) × (first ≡ r)) ⊎ Contains more r
 cond-cases true first r more c = elim (Contains-cons_cases first r more c) [ inl e ↦ inl (refl, e) | inr l ↦ inr l ]

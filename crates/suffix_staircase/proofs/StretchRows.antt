@@ -21,7 +21,7 @@ rows_after-replicate (suc n) g level after =
     rw (place, eq-eqb level.delta level.delta refl, eq-eqb level.phi level.phi refl)
     (rows_after-replicate n (g + 1) level after)
 
--- the row of a stretch, where there are so many levels in all
+-- the row of a stretch, if there are so many levels in all
 abbrev pub row_in : ℕ → Stretch → Row
 row_in total s = row_from (total - s.reach + 1) s.level
 

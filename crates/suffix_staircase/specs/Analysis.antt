@@ -77,14 +77,14 @@ pub record AreIdleUpTo (trace : Recorded) (done high : ℕ) : Type 0 where
   pub until : high ≤ trace.last
   pub later : (k : ℕ) (x : Step) → step_at trace.steps k ≡ Some x → done < k → high ≤ tick_of trace k
 
--- the level, with this miss of this length where it refutes the communication bound
+-- the level, with this miss of this length if it refutes the communication bound
 abbrev pub with_miss : Level → Miss → ℕ → Level
 with_miss level miss long =
     if nat_le level.delta long then
     record { delta = long + 1; miss = Some miss; phi = level.phi; gap = level.gap }
     else level
 
--- the level, with this gap up to before `until` where it refutes the processor bound
+-- the level, with this gap up to before `until` if it refutes the processor bound
 abbrev pub with_gap : Level → ℕ → ℕ → ℕ → Level
 with_gap level proc from until =
     if nat_le level.phi (until - from) then

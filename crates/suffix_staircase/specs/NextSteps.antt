@@ -5,7 +5,7 @@ use Rattle.step_trace.specs.Traces.{Recorded, IsStepOf}
 use Rattle.step_trace.specs.Ticks.{tick_of, StepsIn}
 use Rattle.suffix_staircase.specs.declared.next_steps.NextSteps.{NextSteps}
 
--- the tick of the first step of p after number done, or one after the last tick where there is none
+-- the tick of the first step of p after number done, or one after the last tick if there is none
 pub record IsNextTick (trace : Recorded) (p done next : ℕ) : Type 0 where
   pub until : next ≤ trace.last + 1
   pub first : (k : ℕ) → done < k → IsStepOf trace.steps k p → next ≤ tick_of trace k
@@ -17,7 +17,7 @@ pub record AreNextTicks (trace : Recorded) (done : ℕ) (next : List ℕ) : Type
   pub zero : slice_index next 0 ≡ 0
   pub each : (p : ℕ) → 1 ≤ p → p ≤ trace.config.n → IsNextTick trace p done (slice_index next p)
 
--- the first tick from g on in which p takes a step, or one after the last tick where there is none
+-- the first tick from g on in which p takes a step, or one after the last tick if there is none
 pub record IsNextStep (trace : Recorded) (p g next : ℕ) : Type 0 where
   pub from : g ≤ next
   pub until : next ≤ trace.last + 1
@@ -31,7 +31,7 @@ pub record AreNextSteps (trace : Recorded) (g : ℕ) (next : List ℕ) : Type 0 
   pub each : (p : ℕ) → 1 ≤ p → p ≤ trace.config.n → IsNextStep trace p g (slice_index next p)
 
 -- of the members of the set below `until`, the one whose number here is greatest, and of these the
--- least: 0 where there is none
+-- least: 0 if there is none
 pub record IsLatest (set : ℕ) (next : List ℕ) (until latest : ℕ) : Type 0 where
   pub within : latest < length next
   pub member : 0 < latest → IsTrue (has_proc set latest)

@@ -66,7 +66,7 @@ pub record NotesReceive (x p : ℕ) (ids : List ℕ) (old new : Receives) : Type
   pub first : new.first.items ≡ slice_set old.first.items p x
   pub last : new.last.items ≡ (if slice_index old.last.items p == 0 then slice_set old.last.items p x else old.last.items)
 
--- the last Receive of p before the one that takes message s, or the last of all where none does
+-- the last Receive of p before the one that takes message s, or the last of all if none does
 abbrev pub last_missed : Receives → ℕ → ℕ → ℕ
 last_missed r s p =
     let taker = slice_index r.links.items s in

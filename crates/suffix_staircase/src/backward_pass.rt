@@ -135,7 +135,7 @@ fn tick_of(trace: &Trace, no: u64) -> u64
     if no == 0 { 0 } else { trace.tick(no) }
 }
 
-/// Takes a miss of this length, in ticks, into the level, where its bound allows no such miss.
+/// Takes a miss of this length, in ticks, into the level, if its bound allows no such miss.
 pub fn note_miss(level: &mut Level, miss: Miss, long: u64)
     requires { long ≤ MAX_TICKS }
     ensures { level.new ≡ with_miss level.old miss long }
@@ -146,8 +146,8 @@ pub fn note_miss(level: &mut Level, miss: Miss, long: u64)
     }
 }
 
-/// Takes the gap of `proc` from tick `from` to before tick `until` into the level, where its bound allows no such
-/// gap. None is taken where `until` isn't after `from`.
+/// Takes the gap of `proc` from tick `from` to before tick `until` into the level, if its bound allows no such
+/// gap. None is taken if `until` isn't after `from`.
 pub fn note_gap(level: &mut Level, proc: u64, from: u64, until: u64)
     requires positive { 1 ≤ level.old.phi }
     requires from { 1 ≤ from }

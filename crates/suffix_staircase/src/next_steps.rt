@@ -14,7 +14,7 @@ use step_trace::{ProcSet, Trace};
 /// comes last.
 #[derive(Debug, Drop)]
 pub(crate) struct NextSteps {
-    // For each processor, the tick of its next step: one after the last where there is none.
+    // For each processor, the tick of its next step: one after the last if there is none.
     by_processor: Vec<u64>,
     // The member whose next step comes in the last tick, and of these the least: 0 if there is no member.
     latest: u64,

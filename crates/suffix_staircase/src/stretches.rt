@@ -87,7 +87,7 @@ pub(crate) fn put_before(stretches: &mut Vec<Stretch>, level: Level) -> Result<(
     Ok(())
 }
 
-/// Puts the first level before the others so many times more; where there is none, it changes nothing.
+/// Puts the first level before the others so many times more; if there is none, it changes nothing.
 pub(crate) fn repeat_first(stretches: &mut Vec<Stretch>, count: u64)
     requires room { length (levels_of stretches.old.items) + count ≤ MAX_TICKS }
     requires stretches { AreStretches stretches.old.items }

@@ -42,7 +42,7 @@ impl Input {
         })
     }
 
-    /// The fault of a command that read this, with the name of this where a read of it failed.
+    /// The fault of a command that read this, with the name of this if a read of it failed.
     pub(crate) fn named(self, fault: Fault) -> Fault {
         match self.failure {
             Some(kind) => unread(fault, self.name, kind),

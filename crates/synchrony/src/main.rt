@@ -283,7 +283,7 @@ fn judge(rt: &HostRuntime, job: JudgeJob) -> Result<u8, Fault> {
     }
 }
 
-/// The text of the decisions in a file; an empty one where there is no file.
+/// The text of the decisions in a file; an empty one if there is no file.
 fn decided(rt: &HostRuntime, file: Option<String>) -> Result<Vec<u8>, Fault> {
     match file {
         None => Ok(Vec::new(rt.alloc())),

@@ -40,7 +40,7 @@ impl<W> Output<W> {
         self.is_closed
     }
 
-    /// Notes that the pipe is closed, where an error says so.
+    /// Notes that the pipe is closed, if an error says so.
     fn note(&mut self, error: &io::Error) {
         if matches!(error.kind(), io::ErrorKind::BrokenPipe) {
             self.is_closed = true;

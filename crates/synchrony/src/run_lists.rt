@@ -96,7 +96,7 @@ fn judged(
     judged.map_err(|fault| trace.named(fault))
 }
 
-/// The text of the decisions of a run; an empty one where they are those of the replay.
+/// The text of the decisions of a run; an empty one if they are those of the replay.
 fn decided(rt: &HostRuntime, alloc: Global, run: &ListedRun) -> Result<Vec<u8>, Fault> {
     if run.decisions.is_empty() {
         return Ok(Vec::new(alloc));

@@ -27,7 +27,7 @@ pub fn row_of(numbers: [u64; 8]) -> Row {
     }
 }
 
-/// The rows of the report of one-miss where both processors are correct.
+/// The rows of the report of one-miss if both processors are correct.
 pub fn one_miss_rows() -> [Row; 3] {
     [
         row_of([1, 2, 3, 1, 2, 1, 2, 3]),
@@ -36,7 +36,7 @@ pub fn one_miss_rows() -> [Row; 3] {
     ]
 }
 
-/// The rows of the report of never-delivered where both processors are correct.
+/// The rows of the report of never-delivered if both processors are correct.
 pub fn never_delivered_rows() -> [Row; 3] {
     [
         row_of([1, 5, 3, 1, 5, 1, 4, 5]),

@@ -7,7 +7,7 @@ use certificate_checker::{Reason, Verdict};
 use std::alloc::{AllocError, Global};
 use std::fmt;
 
-/// The exit status of a verdict: 1 where the rows are no certificate.
+/// The exit status of a verdict: 1 if the rows are no certificate.
 pub fn verdict_status(verdict: Verdict) -> u8
     ensures { result ≡ status_of_verdict verdict }
 {

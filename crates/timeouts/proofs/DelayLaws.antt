@@ -44,7 +44,7 @@ record IsTakenBy (t : Recorded) (n by : ℕ) : Type 0 where
   pub taken : by ≤ t.last → IsDelivered t n by
   pub no_sooner : (y : ℕ) → y ≤ t.last → IsDelivered t n y → by ≤ y
 
--- where no Receive takes it
+-- if no Receive takes it
 untaken : (t : Recorded) (n : ℕ) (taken : List ℕ) → IsTimed t → IsWellFormed t.config t.steps → KnowsTaken t n taken → get_or taken n 0 ≡ 0 → IsTakenBy t n (t.last + 1)
 untaken t n taken time w known none = record {
   end = omega arith;
@@ -56,7 +56,7 @@ untaken t n taken time w known none = record {
       absurd (omega (arith, is, none, inside));
 }
 
--- where one does
+-- if one does
 taken_at : (t : Recorded) (n : ℕ) (taken : List ℕ) → IsTimed t → IsWellFormed t.config t.steps → KnowsTaken t n taken → 0 < get_or taken n 0 → IsTakenBy t n (get_or taken n 0)
 taken_at t n taken time w known some =
     let place = known.found n some in

@@ -236,7 +236,7 @@ step_records-more v ticks at (y ∷ xs) x =
     let e : at + 1 + length xs ≡ at + suc (length xs) = omega arith in
     ap (λ r. step_record v at (tick_at ticks at) y ∷ r) (rw e at (step_records-more v ticks (at + 1) xs x))
 
--- they don't change where a tick is added after those of the steps
+-- they don't change if a tick is added after those of the steps
 step_records-later : (v : Version) (ticks : List ℕ) (tick at : ℕ) (xs : List Step) → at + length xs ≤ length ticks + 1 → step_records v (ticks ++ tick ∷ []) at xs ≡ step_records v ticks at xs
 step_records-later v ticks tick at [] room = refl
 step_records-later v ticks tick at (x ∷ xs) room =

@@ -126,7 +126,7 @@ rising-judged-from : (x : ℕ) (ys : List ℕ) → is_rising_from x (judged_afte
 rising-judged-from x [] = refl
 rising-judged-from x (y ∷ ys) = rising-judged-on (nat_lt x y) y ys (rising-judged-from y ys)
 
--- ids rise where those rise by which they are judged
+-- ids rise if those rise by which they are judged
 rising-judged : (xs : List ℕ) → is_rising (judged xs) ≡ is_rising xs
 rising-judged [] = refl
 rising-judged (x ∷ xs) = rising-judged-from x xs

@@ -33,6 +33,6 @@ end-read : next_record default_config st.StartRecord [] [] [] ≡ None
 unfolding next_record
 end-read = refl
 
--- the text of such records, where it begins with no byte order mark, is read as these
+-- the text of such records, if it begins with no byte order mark, is read as these
 pub lines-read : (rs : List (List (List ℕ))) → AreLines rs → strip_bom (text_of_records rs) ≡ text_of_records rs → records_of_text (text_of_records rs) ≡ rs
 lines-read rs lines no_mark = rw no_mark (are-records (text_of_records rs) rs (st.StartRecord, [], Reached-lines rs lines, end-read))

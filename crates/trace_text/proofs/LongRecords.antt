@@ -128,7 +128,7 @@ over n h = grind arith
 split-over : (n : ℕ) → (n ≤ MAX_FIELDS) ⊎ (MAX_FIELDS < n)
 split-over n = elim (dec_lt MAX_FIELDS n) [ yes h ↦ inr h | no h ↦ inl (omega (arith, h)) ]
 
--- one more byte that goes on within the record, where no field is one too many
+-- one more byte that goes on within the record, if no field is one too many
 alike-within : (n : ℕ) (r : State) (fields : List (List ℕ)) (field rest : List ℕ) → n ≤ MAX_FIELDS
     → Alike (next_record default_config r fields field rest) (next_record default_config r fields field (front_from n r rest))
     → Alike (next_record default_config r fields field rest) (next_record default_config r fields field (cond (nat_lt MAX_FIELDS n) [] (front_from n r rest)))

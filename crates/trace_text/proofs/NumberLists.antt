@@ -131,7 +131,7 @@ values-turn fs i ns items f n low high same before this e =
 pub values-turn_none : (fs : List (List ℕ)) (i : ℕ) (f : List ℕ) → 1 ≤ i → i < length fs → f ≡ field_of fs i → number_of f ≡ None → numbers_of (drop 1 fs) ≡ None
 values-turn_none fs i f low high same none = numbers_of-turn_none (drop 1 fs) (i - 1) f [] (after_first-within fs i low high) (same ∙ field_of-after_first fs i low) none
 
--- where a number was read, the first text is a number: it is this one, or it was read before
+-- if a number was read, the first text is a number: it is this one, or it was read before
 pub begins_with_number-turn : (fs : List (List ℕ)) (k : ℕ) (f : List ℕ) (n : ℕ) (d : List ℕ) → (0 < k → IsTrue (begins_with_number fs)) → k < length fs
     → f ≡ get_or fs k d → number_of f ≡ Some n → IsTrue (begins_with_number fs)
 begins_with_number-turn [] k f n d before l e h = absurd (omega (arith, l))

@@ -39,7 +39,7 @@ some-cond true true v n h = (refl, refl, cc)
 some-cond true false v n h = cc
 some-cond false d v n h = cc
 
--- where there is a number, the field is its text
+-- if there is a number, the field is its text
 pub number_of-some : (field : List ℕ) (n : ℕ) → number_of field ≡ Some n → (field ≡ decimal n) × (n < 2 ^ 64)
 unfolding number_of
 number_of-some field n h =
@@ -56,7 +56,7 @@ number_of-read field None small some none = go (number_of field) refl where
   go None e = refl
   go (Some n) e = let s = number_of-some field n e in absurd (none n s.1 s.0)
 
--- a field is the text of a number where that is its number
+-- a field is the text of a number if that is its number
 pub bytes_eq-decimal : (field : List ℕ) (n m : ℕ) → n < 2 ^ 64 → number_of field ≡ Some m → (m == n) ≡ bytes_eq field (decimal n)
 bytes_eq-decimal field n m h e = go (m == n) refl where
   go : (t : Bool) → (m == n) ≡ t → t ≡ bytes_eq field (decimal n)

@@ -1,4 +1,4 @@
--- The version in which a trace is written: the first exactly where there is one step in each tick.
+-- The version in which a trace is written: the first exactly if there is one step in each tick.
 use Rattle.std.proofs.Common.{ℕ, zero, suc, ◌≡◌, ◌+◌, ◌<◌, ◌≤◌, ◌==◌, List, [], ◌∷◌, length, Bool, true, false, refl, arith, eq-eqb}
 use Rattle.std.specs.Prelude.{◌↔◌, IsTrue, slice_index_or, if◌then◌else◌}
 use Rattle.std.proofs.lemmas.Bool.{eqb-true, and_parts}
@@ -51,7 +51,7 @@ HasTextsOf-version_of t time = go (is_one_per_tick t) refl where
   go true e = IsOnePerTick-from_test t time e
   go false e = tt
 
--- so each version is the answer where it is due
+-- so each version is the answer if it is due
 pub one-where_numbered : (t : Recorded) → IsTimed t → IsOnePerTick t → One ≡ version_of t
 one-where_numbered t time one = rw (test-from_IsOnePerTick t time one) refl
 

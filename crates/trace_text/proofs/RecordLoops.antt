@@ -46,7 +46,7 @@ HasRead-less text a b done fields h r =
     let less = reached-less a.state h.left fields b.state m.0 (reached-begins st.StartRecord (strip_bom text) done a.state h.left refl h.reached) m.2 in
     rw (h.source, m.1) less
 
--- where no record is left, all were read
+-- if no record is left, all were read
 pub HasRead-all : (text : List ℕ) (a b : Reader (Bor (List ℕ))) (done : List (List (List ℕ))) (fields : List (List ℕ))
     → HasRead text a done → ReadRecord bytes_of a b false fields → records default_config (strip_bom text) ≡ done
 HasRead-all text a b done fields h r =

@@ -44,7 +44,7 @@ text-step v ticks steps k x h =
     ∙ text_of_records-more (step_records v ticks 1 (take (k - 1) steps)) (step_record v (1 + length (take (k - 1) steps)) (tick_at ticks (1 + length (take (k - 1) steps))) x)
     ∙ ap (λ (i : ℕ). text_of_records (step_records v ticks 1 (take (k - 1) steps)) ++ record_line (step_record v i (tick_at ticks i) x)) at)
 
--- where there is no step of a number, the steps before it are all
+-- if there is no step of a number, the steps before it are all
 pub take-all_steps : (steps : List Step) (k : ℕ) → 1 ≤ k → step_at steps k ≡ None → take (k - 1) steps ≡ steps
 take-all_steps steps zero low h = absurd (omega (arith, low))
 take-all_steps steps (suc k) low h = let before : suc k - 1 ≡ k = omega arith in rw before (take_all k steps (past steps k h)) where

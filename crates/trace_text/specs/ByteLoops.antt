@@ -16,7 +16,7 @@ IsReadRefusal why.Read = ⊤
 IsReadRefusal why.Memory = ⊤
 IsReadRefusal _ = ⊥
 
--- how many bytes were read, where those that a reader has left are known before and after
+-- how many bytes were read, if those that a reader has left are known before and after
 abbrev pub bytes_read : Option (List ℕ) → Option (List ℕ) → Option ℕ
 bytes_read (Some before) (Some after) = Some (length before - length after)
 bytes_read _ _ = None
@@ -28,7 +28,7 @@ ReadRefusedFor why.Read old new known = Rose old new
 ReadRefusedFor why.Memory old new known = ⊤
 ReadRefusedFor _ old new known = ⊥
 
--- the count of faults after `read_all`: one more where it answers Read
+-- the count of faults after `read_all`: one more if it answers Read
 abbrev pub faults_after_reading : {A : Type 0} → Result A TextError → ℕ → ℕ
 faults_after_reading (Err why.Read) n = one_more n
 faults_after_reading _ n = n

@@ -8,7 +8,7 @@ use Rattle.trace_text.specs.declared.failing_devices.FailingWriter.{FailingWrite
 use Rattle.trace_text.specs.declared.failing_devices.WriteFailure.{WriteFailure}
 use Rattle.trace_text.specs.declared.failing_devices.WriteFailure.TheVariants as failure
 
--- the bytes that a reader of these gives, where it ends
+-- the bytes that a reader of these gives, if it ends
 abbrev pub known_bytes : List ℕ → AfterBytes → Option (List ℕ)
 known_bytes bytes End = Some bytes
 known_bytes bytes (Fail _) = Some bytes
@@ -18,7 +18,7 @@ known_bytes bytes (Repeat _) = None
 abbrev pub held_by : FailingReader → List ℕ
 held_by r = r.bytes.now
 
--- the bytes that a reader has left, where it ends
+-- the bytes that a reader has left, if it ends
 abbrev pub left_in : FailingReader → Option (List ℕ)
 left_in r = known_bytes r.bytes.now r.after
 

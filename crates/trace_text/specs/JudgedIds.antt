@@ -1,4 +1,4 @@
--- The ids by which a Receive is judged: all where they rise, else those up to the first that doesn't. Those after it
+-- The ids by which a Receive is judged: all if they rise, else those up to the first that doesn't. Those after it
 -- change no answer.
 use Rattle.std.specs.Prelude.{ℕ, ◌≡◌, ◌+◌, List, [], ◌∷◌, length, Option, Result, Ok, Err, Bool, true, false, ◌==◌, nat_lt, if◌then◌else◌, decimal, option_map}
 use Rattle.std.specs.Str.{bytes_eq}

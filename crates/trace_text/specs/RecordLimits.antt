@@ -30,7 +30,7 @@ count_after act.Copy n = n
 count_after act.EndField n = n + 1
 count_after act.EndRecord n = 0
 
--- The bytes up to the end of the first field that is one too many in its record; all where there is none. They are read
+-- The bytes up to the end of the first field that is one too many in its record; all if there is none. They are read
 -- from this state, where so many fields of a record are whole.
 unfoldable pub front_from : ℕ → State → List ℕ → List ℕ
 front_from n s [] = []

@@ -47,7 +47,7 @@ abbrev pub ReachesUnless : {S E : Type 0} → (E → Bool) → Result ⊤ E → 
 ReachesUnless may (Ok x) state table = table ≡ Ok state
 ReachesUnless may (Err e) state table = MatchBool (may e) ⊤ (table ≡ Err e)
 
--- an error that may always come does so only where something had to be kept
+-- an error that may always come does so only if something had to be kept
 abbrev pub WantsOnlyWhere : {A E : Type 0} → (E → Bool) → Result A E → Bool → Type 0
 WantsOnlyWhere may (Ok x) kept = ⊤
 WantsOnlyWhere may (Err e) kept = may e ≡ true → kept ≡ true

@@ -114,7 +114,7 @@ step_of v at fields =
     >>= λ tick. ok_or (number_of (field_of fields (proc_place v))) (BadNumber at)
     >>= λ p. ok_or (act_of o (field_of fields (proc_place v + 2))) (BadNumber at) >>= λ a. Ok (tick, record { proc = p; act = a })
 
--- one more step in this tick, where the trace doesn't refuse it
+-- one more step in this tick, if the trace doesn't refuse it
 abbrev pub pushed : Version → Recorded → ℕ → Step → Option PushError → Result Stage TextError
 pushed v t tick x None = Ok (Recording v (with_step t tick x))
 pushed v t tick x (Some why) = Err (BadStep (length t.steps + 1) why)
@@ -192,7 +192,7 @@ step_keeps v at fields =
 abbrev pub is_numbered : Version → ℕ → List (List ℕ) → Bool
 is_numbered v at fields = (length fields == step_fields v) && bytes_eq (field_of fields 0) (decimal at)
 
--- whether something has to be kept for a step's record: its ids, or the step, where the trace takes it
+-- whether something has to be kept for a step's record: its ids, or the step, if the trace takes it
 abbrev pub step_record_keeps : Version → Recorded → List (List ℕ) → Bool
 step_record_keeps v t fields = is_ok (step_stage v t fields) || (is_numbered v (length t.steps + 1) fields && step_keeps v (length t.steps + 1) fields)
 

@@ -75,7 +75,7 @@ counts_from at (x ∷ xs) = (x == at) && counts_from (at + 1) xs
 unfoldable pub is_one_per_tick : Recorded → Bool
 is_one_per_tick t = (t.last == length t.steps) && counts_from 1 t.ticks
 
--- version 1 where it has texts of the trace, else version 2
+-- version 1 if it has texts of the trace, else version 2
 abbrev pub version_of : Recorded → Version
 version_of t = if is_one_per_tick t then One else Two
 

@@ -116,7 +116,7 @@ pub struct FailingWriter {
 }
 
 impl FailingWriter {
-    /// A writer of which one write takes at most `piece` bytes; 0 is taken as 1. Where memory is
+    /// A writer of which one write takes at most `piece` bytes; 0 is taken as 1. If memory is
     /// refused, a write answers a fault of kind OutOfMemory.
     pub fn new(alloc: Global, piece: usize, failure: WriteFailure) -> Self
         ensures taken { taken_by result ≡ [] }

@@ -112,7 +112,7 @@ impl TakeRecords for Stage {
     ghost long = { refuses_long };
 }
 
-/// Ends the trace, where one is being recorded.
+/// Ends the trace, if one is being recorded.
 fn end(stage: &mut Stage)
     ensures { (v : Version) (t : Recorded) → stage.old ≡ Stage.Recording v t → stage.new ≡ Stage.Ended t }
 {

@@ -13,7 +13,7 @@ use step_trace::MAX_PROCESSORS;
 /// The greatest number of fields of a record that may be accepted: a word, and a value for each processor.
 pub const MAX_FIELDS: usize = MAX_PROCESSORS as usize + 1;
 
-/// A record is short enough to be read where it ends within so many bytes, or within as many more.
+/// A record is short enough to be read if it ends within so many bytes, or within as many more.
 const PAGE_BYTES: usize = 65_536;
 
 /// csv's reader goes past it at the start of a text.

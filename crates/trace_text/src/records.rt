@@ -26,7 +26,7 @@ pub trait TakeRecords {
     // whether something has to be kept for a record
     ghost keeps: { Self → List (List ℕ) → Bool };
 
-    /// Takes in one more record. Where it is refused, what it was taken into is of no more use.
+    /// Takes in one more record. If it is refused, what it was taken into is of no more use.
     fn take(&mut self, alloc: Global, fields: &ByteRecord) -> Result<(), Self::Error>
         ensures next { ReachesUnless is_memory result self.new
             (next self.old (fields_of fields.now)) }

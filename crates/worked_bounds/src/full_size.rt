@@ -1,4 +1,4 @@
-//! What no clause can say: that calls succeed at full size where memory is ample.
+//! What no clause can say: that calls succeed at full size if memory is ample.
 
 use bound_witness::gaps;
 use std::alloc::{AllocError, Global};
@@ -59,7 +59,7 @@ fn copy_of_the_greatest_trace(rt: HostRuntime) -> Result<(), Fail> {
     Ok(())
 }
 
-/// The longest gaps of both processors in such a trace; none where it hasn't both.
+/// The longest gaps of both processors in such a trace; none if it hasn't both.
 fn gaps_of_turns(alloc: Global, count: u64) -> Result<Vec<Gap>, Fail> {
     let trace = turns(alloc, count)?;
     let both = both();

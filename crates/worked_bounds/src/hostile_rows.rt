@@ -106,7 +106,7 @@ fn has_lone_rows(alloc: Global, trace: &Trace) -> Result<bool, Fail> {
     says(alloc, trace, "1,2", &rows, Verdict::Yes)
 }
 
-/// Each tick is a row of its own, where one processor alone steps.
+/// Each tick is a row of its own, if one processor alone steps.
 #[test]
 fn as_many_rows_as_ticks(rt: HostRuntime) -> Result<(), Fail> {
     let trace = lone_steps(rt.alloc())?;

@@ -164,7 +164,7 @@ fn goes_on_silent(alloc: Global, trace: &mut Trace, after: u64) -> Result<bool, 
     is_silent(alloc, trace)
 }
 
-/// Whether a trace goes on as if nothing were shared where its copy has another step.
+/// Whether a trace goes on as if nothing were shared if its copy has another step.
 fn is_alone(alloc: Global, trace: &mut Trace, after: u64) -> Result<bool, Fail> {
     let copy = other_copy(alloc, trace)?;
     let goes_on = goes_on_silent(alloc, trace, after)?;

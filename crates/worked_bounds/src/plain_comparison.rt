@@ -12,7 +12,7 @@ use test_support::random_traces::{Draws, empty_trace_of_three, some_act, some_se
 use test_support::stair_levels::level_of;
 use test_support::traces::step_of;
 
-/// Appends a step of this act, or where it is refused an empty Receive.
+/// Appends a step of this act, or if it is refused an empty Receive.
 fn push_or_receive(alloc: Global, trace: &mut Trace, proc: u64, act: Act) -> Result<(), Fail> {
     if trace.push(Step { proc, act }).is_err() {
         trace.push(step_of(alloc, proc, 0, &[])?)?;
@@ -48,7 +48,7 @@ fn is_searched(trace: &Trace, set: ProcSet, g: u64, level: Level) -> bool
     level == searched
 }
 
-/// Whether the plain searches give exactly these levels, written as in `stair_levels`, where the processors of a
+/// Whether the plain searches give exactly these levels, written as in `stair_levels`, if the processors of a
 /// list are correct.
 pub(crate) fn have_levels(trace: &Trace, correct: &str, levels: &[[u64; 7]]) -> bool {
     let Some(set) = ProcSet::parse_list(correct) else {
@@ -80,7 +80,7 @@ fn all_searched(stairs: &Stairs, trace: &Trace, set: ProcSet) -> bool
     true
 }
 
-/// Whether the pass agrees with the plain searches on a trace, where the set is within it.
+/// Whether the pass agrees with the plain searches on a trace, if the set is within it.
 pub(crate) fn stairs_agree(alloc: Global, trace: &Trace, set: ProcSet) -> Result<bool, Fail> {
     if !set.within(trace.config().n()) {
         return Ok(false);

@@ -44,7 +44,7 @@ const LAST: Level = Level {
     }),
 };
 
-/// Whether the stairs of a trace have these levels and starts, where the processors of a list are correct.
+/// Whether the stairs of a trace have these levels and starts, if the processors of a list are correct.
 pub(crate) fn climbs(
     alloc: Global,
     trace: &Trace,
@@ -83,7 +83,7 @@ fn built(alloc: Global) -> Result<Stairs, AllocError> {
     Ok(builder.build())
 }
 
-/// The same, where each of three equal levels is put before the others.
+/// The same, if each of three equal levels is put before the others.
 fn lowered(alloc: Global) -> Result<Stairs, AllocError> {
     let mut builder = StairBuilder::new(alloc);
     builder.lower(LAST)?;

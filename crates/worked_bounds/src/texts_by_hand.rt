@@ -32,13 +32,13 @@ fn members(rt: HostRuntime) {
     assert!(rt; ProcSet::empty().within(0));
 }
 
-/// Whether a list has this processor, where it is one.
+/// Whether a list has this processor, if it is one.
 fn lists(text: &str, p: u64) -> Option<bool> {
     let set = ProcSet::parse_list(text)?;
     Some(set.contains(p))
 }
 
-/// Texts, and whether this processor is listed; None where they list nothing.
+/// Texts, and whether this processor is listed; None if they list nothing.
 const LISTS: &[(&str, u64, Option<bool>)] = &[
     ("none", 1, Some(false)),
     ("7", 7, Some(true)),

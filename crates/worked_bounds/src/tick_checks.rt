@@ -41,7 +41,7 @@ const CHECKS: &[(TickedSteps, u64, &str, &[[u64; 8]], Verdict)] = &[
         &[[1, 2, 1, 1, 2, 0, 0, 0]],
         Verdict::No(Reason::BadMiss(1)),
     ),
-    // Where nobody is correct nobody is silent, in idle ticks either.
+    // If nobody is correct nobody is silent, in idle ticks either.
     (
         &[(2, 1, 0, &[])],
         5,

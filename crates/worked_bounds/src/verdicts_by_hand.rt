@@ -12,7 +12,7 @@ const SECOND: [u64; 8] = [2, 1, 3, 0, 0, 1, 4, 5];
 
 const THIRD: [u64; 8] = [5, 1, 2, 0, 0, 1, 5, 5];
 
-/// Rows of never-delivered, where both processors are correct.
+/// Rows of never-delivered, if both processors are correct.
 const OF_NEVER_DELIVERED: &[(&[[u64; 8]], Verdict)] = &[
     (&[FIRST, SECOND, THIRD], Verdict::Yes),
     // Rows in a wrong order.
@@ -187,7 +187,7 @@ const OF_OTHERS: &[(u64, Steps<'static>, &str, &[[u64; 8]], Verdict)] = &[
             },
         )),
     ),
-    // No tick after the last one is asked of anybody, and nobody is asked for anything where nobody is correct.
+    // No tick after the last one is asked of anybody, and nobody is asked for anything if nobody is correct.
     (
         2,
         ONE_MISS,

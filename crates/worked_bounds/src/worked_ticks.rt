@@ -8,7 +8,7 @@ use std::alloc::Global;
 use std::test::Fail;
 use test_support::traces::{TickedSteps, both, ticked};
 
-/// A trace of `n` processors with these steps up to the tick `last`. Where the processors of the list are correct,
+/// A trace of `n` processors with these steps up to the tick `last`. If the processors of the list are correct,
 /// these are the levels of its ticks, written as in `stair_levels`, and the starts of its stairs.
 struct Worked<'a> {
     name: &'a str,

@@ -7,7 +7,7 @@ use std::alloc::Global;
 use std::test::Fail;
 use test_support::traces::trace_of;
 
-/// A trace of `n` processors with these steps. Where the processors of the list are correct, these are the levels
+/// A trace of `n` processors with these steps. If the processors of the list are correct, these are the levels
 /// of its ticks, written as in `stair_levels`, and the starts of its stairs.
 struct Worked<'a> {
     name: &'a str,

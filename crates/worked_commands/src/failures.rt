@@ -134,7 +134,7 @@ const ONE_MISS_TIMEOUTS: &str =
     "follower,gst,delta,phi,heartbeat,poll,timeout,delay,quick,least,tried\n\
 2,1,2,3,3,2,5,2,4,2,0\n2,2,1,3,3,1,3,1,3,2,0\n2,3,1,2,2,1,2,1,2,1,0\n";
 
-/// Commands, their trace texts, and what they write where the device doesn't fail.
+/// Commands, their trace texts, and what they write if the device doesn't fail.
 const WRITTEN: &[(Command, &str, &str)] = &[
     (Report("1,2"), ONE_MISS, ONE_MISS_REPORT),
     (Part("1,2", Some(3), None), ONE_MISS, ONE_MISS_REPORT),

@@ -6,7 +6,7 @@ use std::alloc::{AllocError, Global};
 use std::test::Fail;
 use timed_events::Hint;
 
-/// Why a log is refused: record 4 where it is for one, whose message is m2 and whose nodes are a and b.
+/// Why a log is refused: record 4 if it is for one, whose message is m2 and whose nodes are a and b.
 #[derive(Clone, Copy, Debug)]
 enum Reason {
     TooLarge,

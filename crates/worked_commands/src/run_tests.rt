@@ -28,7 +28,7 @@ impl Gate for Holds {
     }
 }
 
-/// Runs as many nodes as there are values, each of so many steps, where the first Receive of a round ends it.
+/// Runs as many nodes as there are values, each of so many steps, if the first Receive of a round ends it.
 fn run_each<R: Threads + Wait + Clock + Sync, G: Gate>(
     rt: &R,
     alloc: Global,

@@ -119,7 +119,7 @@ fn asks_for_runs(
     }
 }
 
-/// Whether these are the members, or all where none are named.
+/// Whether these are the members, or all if none are named.
 fn is_set(correct: &Correct, members: Option<&[u64]>) -> bool {
     match members {
         Some(members) => has_members(correct, members),

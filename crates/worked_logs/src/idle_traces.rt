@@ -29,7 +29,7 @@ const STAYED: Moved = Moved {
     farthest: None,
 };
 
-/// The trace of events of 3 processors, or the first reason; Memory where nothing is promised.
+/// The trace of events of 3 processors, or the first reason; Memory if nothing is promised.
 fn idle(
     alloc: Global,
     events: &mut Vec<Event>,

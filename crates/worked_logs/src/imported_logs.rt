@@ -29,7 +29,7 @@ const TWO_NODES_STAMPS: &str =
     2026-11-22T10:00:01.013Z,a,receive,,m2\n2026-11-22T10:00:01.013Z,b,receive,,\n\
     2026-11-22T11:30:01.015+01:30,b,receive,,m1\n";
 
-/// The steps of two nodes where b is processor 1.
+/// The steps of two nodes if b is processor 1.
 const TWO_NODES_STEPS_OF_B: &[StepLine] = &[
     (1, 1, 1, 2, &[]),
     (2, 1, 2, 1, &[]),

@@ -66,7 +66,7 @@ fn refusal(
     }
 }
 
-/// The refusal where the text of this option is bad, and, but for the last two, those of all options after it.
+/// The refusal if the text of this option is bad, and, but for the last two, those of all options after it.
 fn refusal_by(alloc: Global, option: OptionError, text: &str) -> Option<OptionError> {
     match option {
         OptionError::Nodes => refusal(alloc, Some(text), Some("m"), Some("0"), Some("x")),

@@ -225,7 +225,7 @@ const STAMPS: &[Refused] = &[
     ),
 ];
 
-/// What would help, where a refusal says it.
+/// What would help, if a refusal says it.
 fn hint(why: &LogError) -> Option<Hint> {
     match why {
         LogError::NotLater(_, _, hint) => *hint,

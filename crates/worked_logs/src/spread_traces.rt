@@ -65,7 +65,7 @@ const TO_ITSELF: &[Line] = &[(10, 2, 1, &[]), (10, 1, 0, &[Some(2)]), (11, 1, 1,
 /// Two events of one node in the last tick that a trace may have.
 const TWICE_AT_THE_END: &[Line] = &[(0, 1, 2, &[]), (999_999, 1, 2, &[]), (999_999, 1, 2, &[])];
 
-/// The trace of at most 9 events of 3 processors, or the first reason; Memory where nothing is promised.
+/// The trace of at most 9 events of 3 processors, or the first reason; Memory if nothing is promised.
 fn timed(
     alloc: Global,
     lines: &[Line],
@@ -245,7 +245,7 @@ const LATE: &[(&[Line], u64, Option<LateMessage>)] = &[
     ),
 ];
 
-/// How late the messages of at most 9 events are; none where there are more.
+/// How late the messages of at most 9 events are; none if there are more.
 fn lateness(alloc: Global, lines: &[Line]) -> Result<Option<Lateness>, Fail> {
     let events = events_of(alloc, lines)?;
     if events.len() > 9 {
@@ -391,7 +391,7 @@ const CYCLES: &[(&[Line], &[(u32, u32)])] = &[
     (CLOCK_BEHIND, &[]),
 ];
 
-/// The cycle of causes of at most 9 events of 3 processors; nothing where nothing is promised.
+/// The cycle of causes of at most 9 events of 3 processors; nothing if nothing is promised.
 fn cycle_of(alloc: Global, lines: &[Line]) -> Option<Vec<Hop>> {
     let events = events_of(alloc, lines).ok()?;
     if !are_meant(&events, 3) || events.len() > 9 || check_messages(alloc, &events).is_err() {

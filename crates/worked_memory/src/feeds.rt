@@ -73,7 +73,7 @@ impl Feed {
         }
     }
 
-    /// What comes of feeding it to an analyst after the first two; where it is refused, both are fed again.
+    /// What comes of feeding it to an analyst after the first two; if it is refused, both are fed again.
     fn fed(&self, alloc: Global, refusal: Refusal, analyst: &mut Analyst) -> Outcome {
         let first = self.follows_two(alloc, analyst);
         refusal.begin(alloc);

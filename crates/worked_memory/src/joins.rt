@@ -9,7 +9,7 @@ use step_trace::Trace;
 use test_support::texts::NEVER_DELIVERED;
 use test_support::traces::both;
 
-/// The piece of these ticks, where the trace has them.
+/// The piece of these ticks, if the trace has them.
 pub(crate) fn piece_of(
     alloc: Global,
     trace: &Trace,

@@ -14,7 +14,7 @@ struct Push {
 }
 
 impl Push {
-    /// The step is pushed by number where its tick is the next.
+    /// The step is pushed by number if its tick is the next.
     fn push(&self, trace: &mut Trace, step: Step) -> Result<(), PushError> {
         if self.tick == self.trace.last_tick() + 1 {
             trace.push(step)

@@ -134,7 +134,7 @@ fn first_wrong<R: Threads + Sync>(
     let mut due = read_alone;
     for growth in 1..MOST_GROWTHS {
         match read_with(rt, alloc, text, way, Refusal::among(growth, whose)) {
-            // (the first one ends without it where none is refused)
+            // (the first one ends without it if none is refused)
             Outcome::Read if growth == 1 || due == 0 => return None,
             Outcome::Refused => {}
             Outcome::ReadAlone if due > 0 => due -= 1,

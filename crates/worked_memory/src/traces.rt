@@ -119,7 +119,7 @@ fn is_certified(alloc: Global, trace: &Trace) -> Result<bool, AllocError> {
     Ok(check(alloc, trace, set, &never_delivered_rows())? == Verdict::Yes)
 }
 
-/// The same where the rows are claimed one after the other.
+/// The same if the rows are claimed one after the other.
 fn is_certified_as_claimed(alloc: Global, trace: &Trace) -> Result<bool, AllocError> {
     let set = both();
     if !set.within(trace.config().n()) {

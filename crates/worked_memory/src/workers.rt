@@ -37,7 +37,7 @@ fn find<R: Threads + Wait + Sync, G: Gate>(
     Ok(has_levels(&stairs, LEVELS))
 }
 
-/// A thread takes memory to be started, so where memory is refused it may not be started.
+/// A thread takes memory to be started, so if memory is refused it may not be started.
 fn found<R: Threads + Wait + Sync>(
     rt: &R,
     alloc: Global,

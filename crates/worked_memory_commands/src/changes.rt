@@ -30,7 +30,7 @@ pub trait Lent: Drop {
 pub trait Change {
     type What: Lent;
 
-    /// What it is lent, made anew; none where that can't be made.
+    /// What it is lent, made anew; none if that can't be made.
     fn lent(&self, alloc: Global) -> Option<Self::What>;
 }
 

@@ -4,7 +4,7 @@ use command_line::{Job, LineError, read_command};
 use refused_growths::{Call, Outcome, Refusal, first_wrong, judged};
 use std::alloc::{AllocError, Global};
 
-/// What a command line gives where memory is ample. That a job is the one that the words ask for is proved, so only
+/// What a command line gives if memory is ample. That a job is the one that the words ask for is proved, so only
 /// its command is looked at.
 #[derive(Clone, Copy)]
 enum Given {
@@ -71,7 +71,7 @@ fn gives(alloc: Global, words: Vec<String>, given: Given) -> Result<bool, AllocE
 }
 
 impl Line {
-    /// Whether it gives what it should where memory is ample.
+    /// Whether it gives what it should if memory is ample.
     fn is_right(&self, alloc: Global) -> bool {
         match line_of(alloc, self.words) {
             Ok(words) => gives(alloc, words, self.given) == Ok(true),

@@ -33,7 +33,7 @@ impl<R: Wait> MakeSteps for Bench<'_, R> {
 }
 
 impl<R: Wait> Bench<'_, R> {
-    /// The World, where the seats fit its trace of so many steps.
+    /// The World, if the seats fit its trace of so many steps.
     fn world(&self, alloc: Global, steps: usize) -> Option<World> {
         let world = self.recorder.audit(self.rt, alloc, &self.seats, &[]).ok()?;
         if world.trace().len() == steps {

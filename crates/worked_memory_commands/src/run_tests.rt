@@ -101,7 +101,7 @@ fn has_told(errors: &[u8], was_refused: bool) -> bool {
     }
 }
 
-/// Whether a run is right where memory is ample.
+/// Whether a run is right if memory is ample.
 fn is_right<R: Threads + Wait + Clock + Sync>(rt: &R, alloc: Global, is_followed: bool) -> bool {
     let mut output = Vec::new(alloc);
     let mut notes = Vec::new(alloc);

@@ -8,7 +8,7 @@ use suffix_staircase::Stairs;
 use test_support::stair_levels::{has_levels, same_stairs};
 use test_support::traces::{both, never_delivered, trace_of};
 
-/// The piece of these ticks, where the trace has them.
+/// The piece of these ticks, if the trace has them.
 pub(crate) fn piece_of(
     alloc: Global,
     trace: &Trace,

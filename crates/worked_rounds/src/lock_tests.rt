@@ -1,5 +1,5 @@
 //! What a node locks, lists, acknowledges and releases, and what it makes of messages that are none of the
-//! round's. But where a row says otherwise, it is the node of 3 of three processors.
+//! round's. Unless a row says otherwise, it is the node of 3 of three processors.
 
 use crate::nodes::Says::{Ack, List, Lock, Locks};
 use crate::nodes::{Has, Round};

@@ -1,4 +1,4 @@
-//! What an owner proposes and decides. But where a row says otherwise, it is the node of 1 of three processors.
+//! What an owner proposes and decides. Unless a row says otherwise, it is the node of 1 of three processors.
 
 use crate::nodes::Says::{Ack, List, Lock, Locks};
 use crate::nodes::{Has, Round};

@@ -81,7 +81,7 @@ const WORKED: &[Worked] = &[
         decisions: &[Some(7), None, None],
         held: &[(&[5, 7], SEVEN), (&[7], SEVEN), (&[5, 7], SEVEN)],
     },
-    // A processor hears itself only where the table says so: 1 hears one list, and proposes nothing.
+    // A processor hears itself only if the table says so: 1 hears one list, and proposes nothing.
     Worked {
         name: "its own list is missed",
         init: &[7, 7, 5],

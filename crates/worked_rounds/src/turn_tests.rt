@@ -76,7 +76,7 @@ fn decided(
 const ROWS: &[(&[u64], u64, &[u64], u64, u64, u64)] = &[
     (&[5, 7], 0, &[1, 2], 8, 53, 5),
     (&[5, 7, 7], 1, &[1, 2, 3], 12, 90, 7),
-    // No patience is needed where nobody has crashed.
+    // No patience is needed if nobody has crashed.
     (&[5, 7, 7], 1, &[1, 2, 3], 100, 90, 7),
     // Who has crashed is waited for in the first phase alone, as long as patience lasts.
     (&[5, 7, 7], 1, &[1, 3], 12, 115, 5),

@@ -6,7 +6,7 @@ use std::io::{ErrorKind, Read, Write};
 use trace_text::failing_devices::{AfterBytes, FailingReader, FailingWriter, WriteFailure};
 use trace_text::{Counting, read_all, write_text};
 
-/// How many bytes a call took or gave, none where it failed; then the faults that were counted and the
+/// How many bytes a call took or gave, none if it failed; then the faults that were counted and the
 /// calls that reached the device.
 type Called = (Option<usize>, u64, u64);
 

@@ -33,7 +33,7 @@ struct Case {
     /// The set that the report is of, and the first and the last tick.
     of: (&'static str, u64, u64),
     steps: &'static [u64],
-    /// The numbers of a Send and of the Receive that takes its message, 0 where none does.
+    /// The numbers of a Send and of the Receive that takes its message, 0 if none does.
     messages: &'static [(u64, u64)],
     misses: &'static [(u64, u64)],
     gaps: &'static [(u64, u64, u64)],

@@ -75,7 +75,7 @@ const VERDICTS: &[(Asked, &str, &str, &str)] = &[
     ((1, false, 0), "n", "1,2,6\n2,3,6\n", "no validity 1 2 6"),
 ];
 
-/// The formula of a text, or 0 where it is none.
+/// The formula of a text, or 0 if it is none.
 fn formula_of(alloc: Global, text: &str) -> Formula {
     match parse_formula(alloc, text.as_bytes()) {
         Ok(formula) => formula,

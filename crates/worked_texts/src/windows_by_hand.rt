@@ -1,4 +1,4 @@
-//! Which ticks are drawn, where some are asked for.
+//! Which ticks are drawn, if some are asked for.
 
 use run_picture::{Window, WindowError, window_of};
 

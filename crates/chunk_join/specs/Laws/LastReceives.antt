@@ -15,7 +15,7 @@ use Rattle.chunk_join.specs.declared.summaries.Place.{Place}
 use Rattle.chunk_join.specs.Summaries.{IsLastReceive}
 use Rattle.chunk_join.specs.Parts.{later_of, after}
 
--- over a seam: the last Receive after it, or that before it where there is none after
+-- over a seam: the last Receive after it, or that before it if there is none after
 pub IsLastReceive-join : (t : Recorded) (q low mid high : ℕ) (x y : Option Place) → low ≤ mid → mid < high → IsLastReceive t q low (mid + 1) x → IsLastReceive t q mid high y → IsLastReceive t q low high (later_of x y)
 IsLastReceive-join t q low mid high None None l h a b = λ z r u v. elim (cases_lt mid (tick_of t z)) [
   | inl later ↦ b z r later v

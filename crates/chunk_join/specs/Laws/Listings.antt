@@ -16,15 +16,15 @@ Contains-found {X} p (z ∷ xs) x h = go (λ k. (let r = Contains-found p xs x k
   go rest true e k = let same = same_Some z x k in (subst (λ v. Contains (z ∷ xs) v) same (Contains-head z xs), ap p (sym same) ∙ e)
   go rest false e k = rest k
 
--- where it finds none, none passes
+-- if it finds none, none passes
 pub none_found : {X : Type 0} (p : X → Bool) (xs : List X) (x : X) → find p xs ≡ None → Contains xs x → p x ≡ false
 none_found p xs x h = find_all p xs h x
 
--- where a test finds none, none passes
+-- if a test finds none, none passes
 pub none_passes : {X : Type 0} (p : X → Bool) (xs : List X) (x : X) → list_any p xs ≡ false → Contains xs x → p x ≡ false
 none_passes p xs x h c = false_from_ne_true (p x) (λ t. true≢false (sym (list_any-at p xs x c t) ∙ h))
 
--- where none passes, a test finds none
+-- if none passes, a test finds none
 pub none_any : {X : Type 0} (p : X → Bool) (xs : List X) → ((x : X) → p x ≡ false) → list_any p xs ≡ false
 none_any p [] h = refl
 none_any p (x ∷ xs) h = ap₂ (λ (b c : Bool). b || c) (h x) (none_any p xs h)

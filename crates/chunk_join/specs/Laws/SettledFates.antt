@@ -35,7 +35,7 @@ earlier_fate t sound p q s j (Taken missed) high h = elim (cases_lt s (tick_of t
   | inr before ↦ (Taken missed, (h.0, h.1, before, h.3))
 ]
 
--- and keeps it, where nothing takes it after that
+-- and keeps it, if nothing takes it after that
 later_fate : (t : Recorded) (p : Place) (q s j : ℕ) (f : Fate) → s ≤ j → ((x : ℕ) → TakesAt t.steps x p.no → s < tick_of t x → tick_of t x ≤ j → ⊥) → IsFate t p q s f → IsFate t p q j f
 later_fate t p q s j Open high none h = λ x takes. elim (cases_lt j (tick_of t x)) [
   | inl late ↦ late

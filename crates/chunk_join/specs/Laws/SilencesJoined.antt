@@ -20,7 +20,7 @@ use Rattle.chunk_join.specs.Laws.Listings.{Contains-found, none_found, none_pass
 abbrev pub Silent : Recorded → ℕ → ℕ → ℕ → Type 0
 Silent trace p x y = (z : ℕ) → x ≤ z → z ≤ y → ¬ StepsIn trace z p
 
--- where p takes no step at x, there is a last tick up to k to which it takes none
+-- if p takes no step at x, there is a last tick up to k to which it takes none
 pub last_silent : (trace : Recorded) (p x n : ℕ) → ¬ StepsIn trace x p → (y : ℕ) × (x ≤ y) × (y ≤ x + n) × Silent trace p x y × ((y ≡ x + n) ⊎ StepsIn trace (y + 1) p)
 last_silent trace p x zero q = (x, omega arith, omega arith, (λ z a b s. q (subst (λ t. StepsIn trace t p) (omega (arith, a, b)) s)), inl (omega arith))
 last_silent trace p x (suc n) q = go (last_silent trace p x n q)
@@ -83,7 +83,7 @@ meets-facts m w v h = (grind (arith, h), grind (arith, h), grind (arith, h))
 meets-from_facts : (m : ℕ) (w v : Gap) → w.proc ≡ v.proc → w.to ≡ m → v.from ≡ m + 1 → meets m w v ≡ true
 meets-from_facts m w v e f g = rw (eq-eqb _ _ e, eq-eqb _ _ f, eq-eqb _ _ g) refl
 
--- nothing meets where the first ends before the seam, or the second begins after it
+-- nothing meets if the first ends before the seam, or the second begins after it
 pub meets-early : (seam : ℕ) (w v : Gap) → w.to < seam → meets seam w v ≡ false
 meets-early seam w v h = grind (arith, h)
 

@@ -12,7 +12,7 @@ take_next : (rows : List Row) (k : ℕ) (r : Row) → Some r ≡ slice_get rows 
 take_next rows k r e =
     sym (take_more rows k r (slice_get_within rows k r (sym e)) ∙ rw (get_or_from_slice_get rows k r r (sym e)) refl)
 
--- where there is no further row, all were taken
+-- if there is no further row, all were taken
 all_taken : (rows : List Row) (k : ℕ) → None ≡ slice_get rows k → take k rows ≡ rows
 all_taken [] k none = take_all k [] (omega arith)
 all_taken (r ∷ rest) k none = take_all k (r ∷ rest) (elim (cases_lt k (length (r ∷ rest))) [

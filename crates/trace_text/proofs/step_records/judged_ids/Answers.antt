@@ -23,7 +23,7 @@ returns-in_default-clause-numbers c =
     let none = numbers_of-turn_none (slice_split (λ b. b == 32) c.args.field.now) (length c.loop-part.yielded) c.in-Some.part.now c.in-Some.part.now t.0 t.1 (sym c.number.ensures ∙ c.in_default.is) in
     ap (option_map judged) (sym (ids_of-split c.args.field.now some ∙ none))
 
--- where a part was a number, so is the first
+-- if a part was a number, so is the first
 first-part : (c : In-Some-number) → IsTrue (begins_with_number (parts_of c.args.field.now))
 first-part c =
     let start = c.into_iter-part-iterator.ensures in
