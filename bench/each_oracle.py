@@ -8,9 +8,9 @@ refused of the set and the ticks.
 
 - *phi* of a member p: the least f such that in each f ticks in a row, from the tick on and up to the last, p takes a step. Its
   gap: of the f - 1 ticks in a row in which p takes none, those that begin last.
-- *delta* of members p and q: the least d such that of the messages of p to q sent in the tick or later each is delivered at each
-  Receive of q that comes d or more ticks after its Send. Its miss: of the messages and Receives that are d - 1 ticks apart,
-  with the message not delivered, the one with the latest Send.
+- *delta* of members p and q: the least d such that of the messages of p to q sent in the tick or later each is
+  delivered at each Receive of q that comes d or more ticks after its Send. Its miss: of the messages and Receives that
+  are d - 1 ticks apart, with the message not delivered, the one with the latest Send.
 """
 import argparse
 import sys
@@ -86,7 +86,7 @@ def phi_of(trace, member, at):
 
 
 def delta_of(trace, sender, receiver, at):
-    """The communication bound of a link, with its miss; nothing where it has no message."""
+    """The communication bound of a link, with its miss; nothing if it has no message."""
     tick_of = lambda no: trace.steps[no - 1][0]
     messages = [no for no, to in trace.sends.items() if to == receiver and trace.steps[no - 1][1] == sender and tick_of(no) >= at]
     if not messages:

@@ -2,11 +2,11 @@
 //!
 //!     generate STEPS SEED [TICKS [PROCESSORS]]
 //!
-//! The trace is of version 1, or where a last tick above 0 is named, of version 2: then ticks hold steps of several
-//! processors, or none. There are 16 processors where no other number is named. The first three quarters are meant as
-//! the correct ones; the others step seldom and lose a third of what is sent to them. In the first half of the trace some messages between the correct ones are lost and many are
-//! late, and processors fall silent for long; later nothing is lost, and delays and silences shrink, so that the
-//! front has many rows of both bounds.
+//! The trace is of version 1, or if a last tick above 0 is named, of version 2: then ticks hold steps of several
+//! processors, or none. There are 16 processors if no other number is named. The first three quarters are meant as the
+//! correct ones; the others step seldom and lose a third of what is sent to them. In the first half of the trace some
+//! messages between the correct ones are lost and many are late, and processors fall silent for long; later nothing is
+//! lost, and delays and silences shrink, so that the front has many rows of both bounds.
 
 use std::cmp::Reverse;
 use std::collections::BinaryHeap;

@@ -6,8 +6,8 @@ program.
     bench/import_oracle.py --self-test
 
 The first answers as the program should: standard output, standard error and status. The second tries the texts of
-`import_times.py` and the logs of `tests/cases/import*.cases`, whose answers were worked out by hand, and ends with 'N passed, M
-failed'.
+`import_times.py` and the logs of `tests/cases/import*.cases`, whose answers were worked out by hand, and ends with 'N
+passed, M failed'.
 """
 import argparse
 import glob

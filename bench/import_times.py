@@ -89,7 +89,7 @@ def day_number(year, month, day):
 
 
 def offset_of(found):
-    """The seconds of a stamp's offset, None where they are out of range. Half a second adds one."""
+    """The seconds of a stamp's offset, None if they are out of range. Half a second adds one."""
     hours, minutes, seconds = (int(found[it] or 0) for it in ("hours", "minutes", "seconds"))
     total = hours * 3600 + minutes * 60 + seconds + (nanos(found["rest"]) >= SECOND // 2)
     if hours > 25 or minutes > 59 or seconds > 59 or total > GREATEST_OFFSET:
@@ -124,7 +124,7 @@ def amount_of(parts):
 
 
 def word_parts(text):
-    """The amounts of a text in words, None where it isn't only such."""
+    """The amounts of a text in words, None if it isn't only such."""
     parts, at = [], 0
     while found := WORD_PART.match(text, at):
         amount, fraction, name = found.groups()

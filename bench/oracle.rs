@@ -95,7 +95,7 @@ fn part_of(words: &[&str]) -> Part {
     Part { until, at }
 }
 
-/// The tick of this option, where the words begin with it, and the words after it.
+/// The tick of this option, if the words begin with it, and the words after it.
 fn tick_of<'a, 'b>(option: &str, words: &'a [&'b str]) -> (Option<u64>, &'a [&'b str]) {
     match words {
         [name, tick, rest @ ..] if *name == option => (Some(tick.parse().expect("a tick")), rest),
@@ -221,7 +221,7 @@ fn definitions<'a>(trace: &'a Trace, correct: &'a [Processor]) -> Definitions<'a
     Definitions { trace, correct }
 }
 
-/// The correct processors of a trace: those of a list, or all where there is none.
+/// The correct processors of a trace: those of a list, or all if there is none.
 fn members(trace: &Trace, listed: Option<Vec<Processor>>) -> Vec<Processor> {
     let all = trace.processors;
     let correct = listed.unwrap_or_else(|| (1..=all).collect());

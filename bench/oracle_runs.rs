@@ -85,7 +85,7 @@ impl<'a> Runs<'a> {
     }
 
     /// The processors of which p took a message of a round at or before the step that ended its own round of that
-    /// number; none where there is no such step.
+    /// number; none if there is no such step.
     fn heard(&self, p: Processor, round: Round) -> BTreeSet<Processor> {
         let mut heard = BTreeSet::new();
         let endings = self.endings(p);
@@ -207,7 +207,7 @@ impl<'a> Runs<'a> {
         state
     }
 
-    /// Whether a step is what its processor does next: it sends to the next destination, or ends its round where
+    /// Whether a step is what its processor does next: it sends to the next destination, or ends its round if
     /// there is none left, or takes messages.
     fn is_due(&self, no: Number) -> bool {
         let p = self.processor(no);

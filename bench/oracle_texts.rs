@@ -72,7 +72,7 @@ fn is_text_of(field: &[u8], value: u64) -> bool {
     value.to_string().as_bytes() == field
 }
 
-/// The processors of a list, which are none for the word `all`; nothing where it is no list.
+/// The processors of a list, which are none for the word `all`; nothing if it is no list.
 pub fn read_list(list: &str) -> Option<Option<Vec<Processor>>> {
     match list {
         "all" => return Some(None),

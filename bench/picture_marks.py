@@ -4,15 +4,16 @@
     bench/picture_marks.py TRACE REPORT [--from TICK] [--to TICK] [--names A,B,..]
     bench/picture_marks.py --self-test
 
-Without --from and --to the window shows the first evidence (`story_oracle.py`), if there is any. The first prints the window and each list of marks, or the fault line with status 2. The second tries chosen traces whose
-marks were worked out by hand, with the reports of `oracle.rs` (of `plain/` where the trace is long), and ends with 'N
-passed, M failed'. It needs `rustc`.
+Without --from and --to the window shows the first evidence (`story_oracle.py`), if there is any. The first prints the
+window and each list of marks, or the fault line with status 2. The second tries chosen traces whose marks were worked
+out by hand, with the reports of `oracle.rs` (of `plain/` if the trace is long), and ends with 'N passed, M failed'. It
+needs `rustc`.
 
-What lasts from tick a to tick b touches the window where a is not after its end and b not before its beginning.
+What lasts from tick a to tick b touches the window if a is not after its end and b not before its beginning.
 
 - *Steps*: those whose tick is in the window.
 - *Messages*: a Send with the Receive that takes it, or none. It lasts from the one to the other, and in the tick of the Send
-  where nobody takes it.
+  if nobody takes it.
 - *Misses*: that of a row, from the tick of its Send to that of its Receive, unless the row before has the same.
 - *Gaps*: that of a row, unless the row before has one of the same processor with the same end.
 - *Corners*: the rows but those before and after which there is one in the same of a thousand columns of ticks.
@@ -100,7 +101,7 @@ def read_report(path):
 
 
 def window_of(last, first, to):
-    """The first and the last tick that are drawn, None where the trace has no tick."""
+    """The first and the last tick that are drawn, None if the trace has no tick."""
     first = 1 if first is None else first
     if last == 0:
         if first != 1:
@@ -115,7 +116,7 @@ def window_of(last, first, to):
 
 
 def evidence_window(trace, rows):
-    """The ticks in which the first evidence is shown, as many as are drawn; None where there is none."""
+    """The ticks in which the first evidence is shown, as many as are drawn; None if there is none."""
     receives = {no: step[2] for no, step in enumerate(trace.steps, 1) if step[2] is not None}
     run = SimpleNamespace(last=trace.last, steps=[step[:2] for step in trace.steps], sends=trace.sends, receives=receives)
     listed = [(row.gst, row.delta, row.phi, row.miss and tuple(row.miss), row.gap and tuple(row.gap)) for row in rows]
@@ -128,7 +129,7 @@ def evidence_window(trace, rows):
 
 
 def drawn_window(trace, rows, first, to):
-    """The ticks that are drawn: where none are asked for, those of the first evidence."""
+    """The ticks that are drawn: if none are asked for, those of the first evidence."""
     asked = window_of(trace.last, first, to)
     return first is None and to is None and evidence_window(trace, rows) or asked
 

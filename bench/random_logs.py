@@ -19,7 +19,7 @@ class Log:
 
     rows: list
     nodes: list
-    # The nanosecond at which time 0 is, None where times are whole numbers, and what is added to these.
+    # The nanosecond at which time 0 is, None if times are whole numbers, and what is added to these.
     epoch: object
     base: int
     # The length of a unit in nanoseconds, or in numbers; and of a tick in units.

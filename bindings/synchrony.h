@@ -59,7 +59,7 @@ uint32_t synchrony_answer(const uint8_t *words, size_t words_length, const uint8
 
    1. words, text, second and certificate point to as many bytes as is said, which nobody writes during the call; out to `room` bytes
       and size to one size_t, which nobody else reads or writes during the call. out and *size share no byte with each
-      other or with a text. No pointer is null, also where there are no bytes. Each length is below 2^63.
+      other or with a text. No pointer is null, also if there are no bytes. Each length is below 2^63.
    2. malloc, realloc and free are of one allocator, which aligns a block to each power of two up to 16 that divides the
       block's size. (A host may bring a heap of its own in their place: tests/hosts/refused.c does.)
    3. No call comes from a signal handler, nor from the forked child of a process with threads.

@@ -51,7 +51,7 @@ def copy_sources(crate, to):
 
 
 def link(file, to):
-    """Makes a file be in another place too: rt replaces files and writes into none, so a link is enough where one can
+    """Makes a file be in another place too: rt replaces files and writes into none, so a link is enough if one can
     be had."""
     try:
         os.link(file, to)
@@ -75,7 +75,7 @@ def lock(folder, is_shared=False, waits=False):
 
 
 def read_numbers(file):
-    """The numbers that a file of the system holds, none where there is no such file."""
+    """The numbers that a file of the system holds, none if there is no such file."""
     try:
         return [int(it) for it in re.findall(r"\d+", Path(file).read_text())]
     except OSError:

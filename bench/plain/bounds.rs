@@ -68,7 +68,7 @@ pub struct Row {
 pub struct Silence {
     /// The correct processors, rising.
     members: Vec<u8>,
-    /// The tick of the next step of each processor, by its number less one; one past the end where there is none.
+    /// The tick of the next step of each processor, by its number less one; one past the end if there is none.
     next: [u32; PROCESSOR_LIMIT as usize],
     /// The correct processor whose next step comes last, and of several the one with the least number.
     last: Option<u8>,
@@ -149,7 +149,7 @@ pub fn last_miss(trace: &Trace, correct: ProcessorSet, sent: u32) -> Option<Miss
 }
 
 /// The triples of bounds that no other triple dominates, in rising stabilization time: one backward pass, in which
-/// the bounds only grow, keeps a row where the tick before has another bound.
+/// the bounds only grow, keeps a row if the tick before has another bound.
 pub fn front(trace: &Trace, correct: ProcessorSet) -> Vec<Row> {
     let mut rows = Vec::new();
     let mut silence = Silence::new(correct, trace.last_tick);

@@ -243,7 +243,7 @@ impl Checks<'_> {
         ticks.get(next).is_none_or(|&tick| u64::from(tick) > to)
     }
 
-    /// Whether the bounds of all rows hold. Those of a row hold where from each tick on that of its own row does, as
+    /// Whether the bounds of all rows hold. Those of a row hold if from each tick on that of its own row does, as
     /// bounds don't rise from row to row.
     fn bounds(&self) -> Result<(), Reason> {
         let mut silence = Silence::new(self.correct, self.trace.last_tick);

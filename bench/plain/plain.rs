@@ -300,7 +300,7 @@ impl Input {
         Ok(Input { reader, size })
     }
 
-    /// All bytes, or None where they are more than a text may have.
+    /// All bytes, or None if they are more than a text may have.
     fn read(self) -> Result<Option<Vec<u8>>, Fault> {
         let limit = TEXT_LIMIT + 1;
         let mut text = Vec::with_capacity(self.size.min(limit) as usize + 1);

@@ -50,7 +50,7 @@ fn drive(shared: &Mutex<Shared>, me: u8, patience: u64, steps: u64) {
     }
 }
 
-/// Runs a thread for each processor, each of which makes so many steps; None where one isn't started.
+/// Runs a thread for each processor, each of which makes so many steps; None if one isn't started.
 pub fn run(setup: Setup, patience: u64, steps: u64) -> Option<Shared> {
     let processors = setup.processors;
     let shared = Mutex::new(Shared {

@@ -1,6 +1,6 @@
 """Makes the wheel and the source archive of the package: the hooks of PEP 517 and 660, by Python's own library alone.
 
-The wheel has libsynchrony.so where ./library has built it (or SYNCHRONY_LIBRARY names it), and is then one for this
+The wheel has libsynchrony.so if ./library has built it (or SYNCHRONY_LIBRARY names it), and is then one for this
 system; else it is one for any, and a line on standard error says how to get the library.
 """
 

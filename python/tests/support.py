@@ -30,7 +30,7 @@ def raises(kind, *words):
 
 
 def needs(*modules):
-    """Leaves the test out, by name, where a module isn't installed."""
+    """Leaves the test out, by name, if a module isn't installed."""
     for it in modules:
         if importlib.util.find_spec(it) is None:
             raise unittest.SkipTest(f"there is no {it}")

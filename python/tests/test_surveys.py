@@ -266,7 +266,7 @@ def test_the_command_line():
 
 
 def test_an_unguarded_script():
-    """Processes are forked where there is no other thread; else they import the script, and it is reported if that
+    """Processes are forked if there is no other thread; else they import the script, and it is reported if that
     can't be."""
     survey = f"print(len(sy.survey([{ONE_MISS!r}] * 3).rows))\n"
     lines = "import synchrony as sy, threading, time\n", "threading.Thread(target=time.sleep, args=[60], daemon=True).start()\n"

@@ -111,14 +111,14 @@ class Workshop:
             shutil.rmtree(self.folder(name) / "out", ignore_errors=True)
 
     def take_kept_work(self, name):
-        """Takes what the checkout's own checks kept, and its built library, where they are newer than those here."""
+        """Takes what the checkout's own checks kept, and its built library, if they are newer than those here."""
         theirs, ours = self.checkout / "crates" / name / "out", self.folder(name) / "out"
         for part, mark in (("incremental", "antt-checked-*"), ("rlib", "stamp")):
             there, here = newest(theirs.glob(f"{part}/{mark}")), newest(ours.glob(f"{part}/{mark}"))
             if there <= here:
                 continue
             try:
-                # (rt's work in the crate is waited for only where none is here)
+                # (rt's work in the crate is waited for only if none is here)
                 held = tree.lock(self.checkout / "crates" / name, is_shared=True, waits=not here)
             except tree.Busy:
                 continue

@@ -11,7 +11,7 @@ import tree
 
 @dataclass(frozen=True)
 class Impl:
-    """An impl by its type and its trait ("" where it has none)."""
+    """An impl by its type and its trait ("" if it has none)."""
 
     type: str
     trait: str
@@ -182,7 +182,7 @@ class Crate:
         return "::".join([*([module] if module else []), function.own()])
 
     def units_of(self, names):
-        """Which unit each of these names of the prover is of, where that is clear; a closure's is its function's."""
+        """Which unit each of these names of the prover is of, if that is clear; a closure's is its function's."""
         units = {}
         for function in [it for functions in self.functions.values() for it in functions]:
             name = function.name_among(names)

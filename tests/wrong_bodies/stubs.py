@@ -28,7 +28,7 @@ pub +{name}_spec : {{M : Type 1}} → statement M
 
 
 def parameters_of(header):
-    """The names of a function's parameters, or None where one of them is a pattern."""
+    """The names of a function's parameters, or None if one of them is a pattern."""
     text, depth, parts = header[HEADER.search(header).end() :].replace("->", "  "), 0, []
     for letter in text:
         depth -= letter in ")]}>"
@@ -51,7 +51,7 @@ def name_of(parameter):
 
 
 def call_of_itself(function, text):
-    """The call that a stub is made of, or None where the function can be no stub."""
+    """The call that a stub is made of, or None if the function can be no stub."""
     header, impl = text[function.start : function.body], function.impl
     if function.cycle or not function.is_opaque or function.name == "main" or UNUSUAL.search(header):
         return None
@@ -74,7 +74,7 @@ class Stubs:
         self.refused, self.unknown = set(), set()
 
     def place(self, function):
-        """Where the prover has a function, where that is known."""
+        """Where the prover has a function, if that is known."""
         place = self.crate.place(function)
         return None if place in self.unknown else place
 

@@ -116,7 +116,7 @@ class Trial:
         return True
 
     def try_together(self, batch):
-        """Tries one mutant of each of several functions in one check, and returns the verdict on each, or None where what
+        """Tries one mutant of each of several functions in one check, and returns the verdict on each, or None if what
         none of them changes isn't proved either."""
         progress(f"{self.crate.name}: {len(batch)} wrong bodies in one check")
         changed, lines = together(batch, self.crate.texts)

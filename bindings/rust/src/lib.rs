@@ -109,7 +109,7 @@ impl fmt::Display for Verdict {
 ///
 /// # Panics
 ///
-/// Where a number is another one.
+/// If a number is another one.
 ///
 /// ```
 /// assert_eq!(synchrony::set_of(&[1, 3]), 0b101);
@@ -166,7 +166,7 @@ pub fn check(text: &[u8], certificate: &[u8], correct: u64) -> Result<Verdict, R
 ///
 /// # Panics
 ///
-/// Where a word has a line feed, or there is none.
+/// If a word has a line feed, or there is none.
 ///
 /// ```
 /// let trace = b"dls-trace,1,2,0\ninit,5,7\nend,0\n";

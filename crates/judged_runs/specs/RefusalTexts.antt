@@ -1,4 +1,5 @@
--- The refusals of a text of decisions and of a list of runs in words (docs/FORMATS.md): without the program's name, and without a line feed.
+-- The refusals of a text of decisions and of a list of runs in words (docs/FORMATS.md): without the program's name, and
+-- without a line feed.
 use Rattle.std.specs.Prelude.{ℕ, List, ◌++◌, codes, decimal}
 use Rattle.judged_runs.specs.declared.refusals.DecisionsError.{DecisionsError}
 use Rattle.judged_runs.specs.declared.refusals.DecisionsError.TheVariants as why

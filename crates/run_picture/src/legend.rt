@@ -1,7 +1,7 @@
 //! The looks of the marks, and what they mean. Lengths are tenths of a pixel.
 
-/// The looks, by classes; on a dark screen the paper is dark. Words differ from the paper by 4.5 to 1 at least, as the guidelines
-/// for accessible pages (WCAG 2) ask.
+/// The looks, by classes; on a dark screen the paper is dark. Words differ from the paper by 4.5 to 1 at least, as the
+/// guidelines for accessible pages (WCAG 2) ask.
 pub(crate) const STYLE: &str = "<style>
 path{fill:none}
 .h{font-size:140px;font-weight:600}.n,.k,.o text{fill:#6b6b6b}.e,.i text,.o text{text-anchor:end}.m{text-anchor:middle}

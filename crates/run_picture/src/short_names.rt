@@ -13,7 +13,8 @@ pub(crate) const MOST_CHARACTERS: usize = 15;
 /// How many characters are shown then at each of its ends.
 pub(crate) const SHOWN_CHARACTERS: usize = 7;
 
-/// Appends a name as XML and HTML have it, and of a long one the first and the last characters alone, with an ellipsis between them.
+/// Appends a name as XML and HTML have it, and of a long one the first and the last characters alone, with an ellipsis
+/// between them.
 pub fn push_short(out: &mut Vec<u8>, name: &[u8]) -> Result<(), AllocError>
     ensures { OnOk result (out.new.items ≡ out.old.items ++ short_text name.now) }
 {

@@ -29,15 +29,16 @@ are_alike trace m o =
 abbrev pub AllHave : (ℕ → ℕ) → List Row → ℕ → ℕ → ℕ → Type 0
 AllHave f rows first last s = (k : ℕ) → first ≤ k → k ≤ last → f (message_at rows k) ≡ f s
 
--- how many messages the rows from this place on name, of so many rows after it: each row that names another one than the row before counts
+-- how many messages the rows from this place on name, of so many rows after it: each row that names another one than
+-- the row before counts
 abbrev pub messages_in : List Row → ℕ → ℕ → ℕ
 messages_in rows first zero = 1
 messages_in rows first (suc n) =
     if message_at rows (first + suc n) == message_at rows (first + n) then messages_in rows first n
     else messages_in rows first n + 1
 
--- The rows from place `first` to place `last` have misses, each alike the first one. If that message is ever taken, all of their messages
--- have one receiver, or all have one sender.
+-- The rows from place `first` to place `last` have misses, each alike the first one. If that message is ever taken, all
+-- of their messages have one receiver, or all have one sender.
 pub record IsDelayUpTo (trace : Recorded) (rows : List Row) (d : Delay) : Type 0 where
   pub named : miss_at rows d.first ≡ Some d.miss
   pub ticks : d.ticks ≡ tick_of trace d.miss.missed - tick_of trace d.miss.sent

@@ -21,7 +21,8 @@ shared_ticks trace s d = min s.gap.to (tick_of trace d.miss.missed) - (max s.gap
 abbrev pub share_row : Stall → Delay → Bool
 share_row s d = nat_le d.first s.last && nat_le s.first d.last
 
--- whether a stall explains a delay: some row names both, the silent processor is the receiver, and the silence has half of the miss at least
+-- whether a stall explains a delay: some row names both, the silent processor is the receiver, and the silence has half
+-- of the miss at least
 abbrev pub explains : Recorded → Stall → Delay → Bool
 explains trace s d = share_row s d && (s.gap.proc == d.to && nat_le d.ticks (2 * shared_ticks trace s d))
 

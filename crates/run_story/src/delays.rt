@@ -9,7 +9,8 @@ use crate::messages::{flag_at, receiver_of, sender_of, taken_messages, tick_at};
 use std::alloc::{AllocError, Global};
 use step_trace::{Miss, Row, Trace};
 
-/// Misses that are alike, in the rows from place `first` to place `last`, which count from 0. The miss is that of the first row.
+/// Misses that are alike, in the rows from place `first` to place `last`, which count from 0. The miss is that of the
+/// first row.
 #[derive(Clone, Copy, Debug, PartialEq, Eq)]
 pub struct Delay {
     pub miss: Miss,

@@ -28,8 +28,8 @@ pub enum Headline {
     Calm { sent: bool },
     /// The run has fewer than `SHORT_RUN` ticks. The bounds are those of the first row.
     Short { delta: u64, phi: u64 },
-    /// The gap of the calm row lasts to the end of the run, and its processor bound is no smaller than the other. `since` is the
-    /// number of the processor's last step, if it makes one.
+    /// The gap of the calm row lasts to the end of the run, and its processor bound is no smaller than the other.
+    /// `since` is the number of the processor's last step, if it makes one.
     SilentToEnd { proc: u64, since: Option<u64> },
     /// The message that the calm row names is never taken.
     NeverReceived,
@@ -39,7 +39,8 @@ pub enum Headline {
     Late { ticks: u64 },
 }
 
-/// The headline of a run, by its report, of whose rows the one at place `calm` is the calm row. That isn't poor if it is given.
+/// The headline of a run, by its report, of whose rows the one at place `calm` is the calm row. That isn't poor if it
+/// is given.
 ///
 /// Time grows with the trace.
 pub fn headline_of(

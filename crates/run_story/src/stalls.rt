@@ -9,8 +9,8 @@ ghost use Rattle.run_story.specs.Stalls.{AreStalls, IsStall, IsWholeSilence, Nam
 use std::alloc::{AllocError, Global};
 use step_trace::{Gap, Row};
 
-/// A silence and the rows that name it, from place `first` to place `last`, which count from 0: their gaps are of one processor
-/// and end in one tick. `gap` is that of the first row.
+/// A silence and the rows that name it, from place `first` to place `last`, which count from 0: their gaps are of one
+/// processor and end in one tick. `gap` is that of the first row.
 #[derive(Clone, Copy, Debug, PartialEq, Eq)]
 pub struct Stall {
     pub gap: Gap,

@@ -44,7 +44,8 @@ judged_act_of op.Send arg = option_map (λ to. Send to) (number_of arg)
 judged_act_of op.Receive arg = option_map (λ ids. Receive false (judged ids)) (ids_of arg)
 judged_act_of op.EndRound arg = option_map (λ ids. Receive true (judged ids)) (ids_of arg)
 
--- the same of the tick and the step that these fields say: the tick, if it is a number, the operation, the processor and the argument
+-- the same of the tick and the step that these fields say: the tick, if it is a number, the operation, the processor
+-- and the argument
 abbrev pub judged_of : ℕ → Option ℕ → List ℕ → List ℕ → List ℕ → Result (ℕ × Step) TextError
 judged_of at tick operation proc arg =
     ok_or (operation_of operation) (BadOp at) >>= λ o. ok_or tick (BadNumber at) >>= λ tick. ok_or (number_of proc) (BadNumber at)

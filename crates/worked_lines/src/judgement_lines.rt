@@ -93,8 +93,8 @@ fn reads_judgements(rt: HostRuntime) -> Result<(), Fail> {
     Ok(())
 }
 
-/// Whether the words ask for a judgement of the runs in the list l, within phi: for these processors, from a start, of validity, of
-/// the whole run, with so many rows due.
+/// Whether the words ask for a judgement of the runs in the list l, within phi: for these processors, from a start, of
+/// validity, of the whole run, with so many rows due.
 fn asks_for_runs(
     alloc: Global,
     words: &[&str],

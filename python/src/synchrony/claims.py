@@ -127,11 +127,11 @@ def judge_runs(
 ) -> Verdicts:
     """The verdicts on runs: whether all correct processors decided within a formula of the bounds, in each of them.
 
-    `within`, `valid`, `whole`, `due`, `factor` and `rows` are those of `library.judge`. `executor` stays open; else so many processes as
-    `workers` says, or as there are processors, work on it. A run that is refused or can't be read has its words in place of
-    a verdict. Where a worker dies, each run of its batch is tried once more, alone.
+    `within`, `valid`, `whole`, `due`, `factor` and `rows` are those of `library.judge`. `executor` stays open; else so
+    many processes as `workers` says, or as there are processors, work on it. A run that is refused or can't be read has
+    its words in place of a verdict. If a worker dies, each run of its batch is tried once more, alone.
 
-    SynchronyError is raised where the formula is none; nothing is judged then.
+    SynchronyError is raised if the formula is none; nothing is judged then.
     """
     claim = _Claim(within, valid, whole, due, factor, rows)
     claim.of(NO_TRACE, NO_DECISIONS, "all", None)
@@ -177,7 +177,7 @@ def _processes(count: int) -> ProcessPoolExecutor:
 
 
 def _submitted(pool: Executor, claim: _Claim, cases: List[Case]) -> Optional[Future[List[Judged]]]:
-    """The runs before the executor, or None where that takes nothing any more."""
+    """The runs before the executor, or None if that takes nothing any more."""
     try:
         return pool.submit(_judged, claim, cases)
     except (BrokenExecutor, RuntimeError):
@@ -185,7 +185,7 @@ def _submitted(pool: Executor, claim: _Claim, cases: List[Case]) -> Optional[Fut
 
 
 def _answer(future: Optional[Future[List[Judged]]]) -> Optional[List[Judged]]:
-    """The verdicts, or None where the worker died or the executor doesn't work any more."""
+    """The verdicts, or None if the worker died or the executor doesn't work any more."""
     try:
         return None if future is None else future.result()
     except BrokenExecutor:

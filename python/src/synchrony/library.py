@@ -71,7 +71,7 @@ class CertificateRefused(SynchronyError):
 class Row(NamedTuple):
     """From the tick gst on, delta and phi are the least bounds, up to the next row's gst. The other numbers are witnesses
     against smaller bounds: a message of the step `sent` that wasn't delivered at `missed`, and a processor that takes
-    no step from from_tick to to_tick. They are None where there is none."""
+    no step from from_tick to to_tick. They are None if there is none."""
 
     gst: int
     delta: int
@@ -220,7 +220,7 @@ def timeouts(
 
 
 def replay(trace: Text) -> bytes:
-    """What each processor decided, as a CSV, where the steps are those of the agreement algorithm."""
+    """What each processor decided, as a CSV, if the steps are those of the agreement algorithm."""
     return _asked("replay", trace)
 
 
@@ -519,7 +519,7 @@ def _places() -> List[str]:
 
 
 def _library() -> ctypes.CDLL:
-    """The library, which is loaded once. ImportError says how to get it where it isn't there."""
+    """The library, which is loaded once. ImportError says how to get it if it isn't there."""
     global _loaded
     if _loaded is None:
         _loaded = _with_types(_found())

@@ -17,7 +17,7 @@ NAMES = {"delta": "Δ, in ticks", "phi": "Φ, in ticks"}
 
 
 def plot_report(rows: Sequence[Row], last: Optional[int] = None) -> Figure:
-    """The two staircases of a report: the least bounds from each tick on. `last` is the last tick of the trace; where it is
+    """The two staircases of a report: the least bounds from each tick on. `last` is the last tick of the trace; if it is
     left out, the last row is drawn one tick long."""
     figure, parts = _figure(2)
     end = max([last or 0, *(it.gst + 1 for it in rows)])

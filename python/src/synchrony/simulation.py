@@ -62,7 +62,7 @@ def broadcast(n: int, body: Any) -> Iterator[Send]:
 
 
 class Decision(NamedTuple):
-    """What a processor has decided. The tick is that of its last step before, and 0 where it has made none."""
+    """What a processor has decided. The tick is that of its last step before, and 0 if it has made none."""
 
     proc: int
     tick: int
@@ -106,7 +106,7 @@ class Schedule:
 
 class Kept(NamedTuple):
     """Whether the bounds of a schedule were kept, which its truth says. delta and phi are the least bounds from gst on, by
-    the report of the library; they are None where the run ends before gst."""
+    the report of the library; they are None if the run ends before gst."""
 
     gst: int
     delta: Optional[int]
@@ -189,7 +189,7 @@ class Run:
 def simulate(node: Protocol, values: Sequence[int], schedule: Schedule = Schedule(), ticks: int = 1000, faults: Optional[int] = None) -> Run:
     """The run of so many ticks of one node for each initial value. The same arguments give the same run.
 
-    `faults` is the t of the trace's header; where it is left out, it is the number of processors that crash, if so many can
+    `faults` is the t of the trace's header; if it is left out, it is the number of processors that crash, if so many can
     be faulty. ValueError is raised for arguments outside of a trace's limits, for a run of more than 1,000,000 steps, and
     for a Send to no processor; TypeError for a protocol that yields something else than a step.
     """

@@ -31,7 +31,7 @@ from . import library
 if TYPE_CHECKING:
     import pandas
 
-# A batch is full with so many traces, or with so many bytes of them where bytes are sent.
+# A batch is full with so many traces, or with so many bytes of them if bytes are sent.
 BATCH_TRACES = 100
 BATCH_BYTES = 4 << 20
 # A worker looks at reports once it has so many bytes of them.
@@ -87,7 +87,7 @@ class Table:
     rows: List[Surveyed] = field(default_factory=list)
 
     def columns(self) -> List[str]:
-        """The names of the bounds: delta and phi, with their tick where there are several."""
+        """The names of the bounds: delta and phi, with their tick if there are several."""
         if len(self.ticks) == 1:
             return ["delta", "phi"]
         return [f"{bound}@{tick}" for tick in self.ticks for bound in ("delta", "phi")]
@@ -152,13 +152,13 @@ def survey(
     of a path, or a function of the trace's name.
 
     `executor` is any Executor of concurrent.futures, which stays open; else so many processes as `workers` says, or as
-    there are processors, work on it. (Where this process has threads, the others import the module that calls this, so a
-    script needs its `if __name__ == "__main__":`.) To them paths are sent, and to any other executor bytes; `send_paths` says otherwise,
-    for workers that share a file system.
+    there are processors, work on it. (If this process has threads, the others import the module that calls this, so a
+    script needs its `if __name__ == "__main__":`.) To them paths are sent, and to any other executor bytes;
+    `send_paths` says otherwise, for workers that share a file system.
 
-    A trace that is refused or can't be read, or whose name has no such number, has a row with its error. Where a worker dies, each trace of its batch is tried
-    once more, alone; a trace whose worker dies again has an error. If a given executor doesn't work any more, all that it
-    hasn't answered has an error.
+    A trace that is refused or can't be read, or whose name has no such number, has a row with its error. If a worker
+    dies, each trace of its batch is tried once more, alone; a trace whose worker dies again has an error. If a given
+    executor doesn't work any more, all that it hasn't answered has an error.
     """
     ticks = _ticks_of(at)
     _, listed = library._set_of(correct)
@@ -210,7 +210,7 @@ class _Job(NamedTuple):
     named: Optional[str]
 
     def ticks_in(self, name: str) -> Tuple[int, ...]:
-        """The ticks for a trace of this name; none where it should have one and has not."""
+        """The ticks for a trace of this name; none if it should have one and has not."""
         if self.named is None:
             return self.ticks
         found = re.search(rf"(?<![0-9A-Za-z]){re.escape(self.named[:-1])}([0-9]+)", name)
@@ -265,7 +265,7 @@ def _answer(report: bytes, length: Optional[Tuple[int, int]], ticks: Tuple[int, 
 
 
 def _file(path: str) -> bytes:
-    """The bytes of a file, which is read at once where its size is known. (A file object makes twice as many calls.)"""
+    """The bytes of a file, which is read at once if its size is known. (A file object makes twice as many calls.)"""
     file = os.open(path, os.O_RDONLY)
     try:
         size = os.fstat(file).st_size
@@ -369,7 +369,7 @@ class _Work:
         self.most = 4 * self.workers if given is None else 64
 
     def executor(self) -> Executor:
-        """The executor that was given, or processes that are started where there are none."""
+        """The executor that was given, or processes that are started if there are none."""
         if self.given is not None:
             return self.given
         if self.own is None:
@@ -382,7 +382,7 @@ class _Work:
             self.own = None
 
     def renew(self) -> None:
-        """New processes in place of broken ones. RuntimeError is raised where these don't even start."""
+        """New processes in place of broken ones. RuntimeError is raised if these don't even start."""
         self.close()
         try:
             self.executor().submit(int).result()
@@ -403,14 +403,14 @@ class _Work:
             yield from self.answered(before)
 
     def submit(self, pieces: List[Piece]) -> Optional[Future[List[Answer]]]:
-        """The batch before the executor, or None where that takes nothing any more."""
+        """The batch before the executor, or None if that takes nothing any more."""
         try:
             return self.executor().submit(_answers, self.job, [(text, self.job.ticks_in(name)) for _, name, text in pieces])
         except (BrokenExecutor, RuntimeError):
             return None
 
     def answered(self, before: Deque[Tuple[List[Piece], Optional[Future[List[Answer]]]]]) -> Iterator[Tuple[List[Piece], List[Answer]]]:
-        """The first batch with its answers. Where a worker died, all that was before the executor is looked after."""
+        """The first batch with its answers. If a worker died, all that was before the executor is looked after."""
         pieces, future = before.popleft()
         found = _result(future)
         if isinstance(found, list):
@@ -456,7 +456,7 @@ def _result(future: Optional[Future[List[Answer]]]) -> Union[List[Answer], str]:
 
 def _start_method() -> str:
     """How processes are started. The library may not be called in the forked child of a process with threads: so they are
-    forked, which is fastest, only where this process has no other thread. (Since Python 3.11 a pool forks all its processes
+    forked, which is fastest, only if this process has no other thread. (Since Python 3.11 a pool forks all its processes
     before it starts a thread of its own.)"""
     try:
         is_alone = len(os.listdir("/proc/self/task")) == 1 and sys.version_info >= (3, 11)
@@ -501,7 +501,7 @@ def _csv(rows: Iterable[Iterable[Any]]) -> str:
 
 
 class _Progress:
-    """A line on standard error that says how many traces are done; tqdm draws it where it is installed."""
+    """A line on standard error that says how many traces are done; tqdm draws it if it is installed."""
 
     def __init__(self, is_on: bool) -> None:
         self.done, self.is_on, self.bar = 0, is_on, None
