@@ -16,7 +16,7 @@ use Rattle.locked_recorder.specs.Recordings.{IsAnswer, IsAgainst}
 abbrev pub chosen : Bool → Move → Option ℕ → Move
 chosen sends step to = if sends && is_some to then Send else step
 
--- This was done on a World of a recorder, in which p sends next to `to`, and p's move was the choice.
+-- This was done on a World of a recorder, in which p sends next to `to`, and p made the move of the choice.
 pub record IsChosenAnswer (r : Identity) (p : ℕ) (choice : Option ℕ → Move) (done : Done) : Type 0 where
   pub to : Option ℕ
   pub answer : IsAnswer r p (choice to) done

@@ -136,7 +136,7 @@ impl<W: Write> Follower<W> {
         match recorder.decided_prefix(rt, alloc, view) {
             Ok(prefix) => self.tell_due(alloc, &prefix),
             Err(PrefixError::Memory) => self.stop(),
-            // What extends no prefix is no run, which the end of the run reports.
+            // What no prefix extends is no run, which the end of the run reports.
             Err(PrefixError::NotAnExtension { .. }) => self.is_over = true,
         }
     }

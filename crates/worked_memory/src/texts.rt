@@ -72,7 +72,7 @@ fn is_text_2(alloc: Global, trace: &Trace) -> Result<bool, AllocError> {
     Ok(trace_text_2_of(alloc, trace)?.as_slice() == NEVER_DELIVERED_2.as_bytes())
 }
 
-/// Whether this text is written. It is out of memory only if nothing is; the writer has room for all, and takes no
+/// Whether this text is written. Answers out of memory only if nothing is written; the writer has room for all, and takes no
 /// memory.
 fn is_written(
     alloc: Global,

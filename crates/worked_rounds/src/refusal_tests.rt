@@ -7,7 +7,7 @@ use std::test::Fail;
 use step_buffers::{Move, StepError, Take, World};
 use step_trace::Config;
 
-/// Whether a move is refused for this reason, by `step` or by `advance`, and the trace is unchanged.
+/// Whether a move is refused for this reason, by `step` and by `advance`, and the trace is unchanged.
 fn refuses(alloc: Global, world: &mut World, p: u64, step: Move, why: StepError) -> bool {
     let steps = world.trace().len();
     match (world.step(alloc, p, step), world.advance(alloc, p, step)) {
