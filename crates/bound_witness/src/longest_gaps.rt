@@ -46,8 +46,8 @@ fn push_gaps_of(trace: &Trace, set: ProcSet, p: u64, found: &mut Vec<Gap>) -> Re
     push_gap_between(found, p, last, end)
 }
 
-/// The gaps of the members that no longer gap covers: the longest intervals of ticks in which a member
-/// takes no step. They are listed by processor, then by beginning.
+/// The gaps of the members that no longer gap covers: the longest intervals of ticks, from 1 to the last
+/// tick, in which a member takes no step. They are listed by processor, then by beginning.
 ///
 /// Fails only if out of memory, and only if there is a gap to list.
 pub fn gaps(alloc: Global, trace: &Trace, set: ProcSet) -> Result<Vec<Gap>, AllocError>

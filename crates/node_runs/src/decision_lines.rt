@@ -46,7 +46,7 @@ fn keep_later(decisions: &mut Vec<Decision>, since: u64)
     decisions.retain(|decision| since < decision.step);
 }
 
-/// The line of these decisions, if there are any, if so many of all processors decided.
+/// The line of these decisions, if there are any, and of how many processors of all decided.
 fn line_of_any(
     alloc: Global,
     some: u64,
@@ -61,7 +61,7 @@ fn line_of_any(
     decided_line(alloc, some, all, decisions)
 }
 
-/// The line of these decisions, if so many of all processors decided.
+/// The line of these decisions, and of how many processors of all decided.
 fn decided_line(
     alloc: Global,
     some: u64,
