@@ -1,4 +1,4 @@
--- The lines in which faults are told (docs/FORMATS.md), without their line feeds.
+-- The lines in which faults are reported (docs/FORMATS.md), without their line feeds.
 use Rattle.std.specs.Prelude.{ℕ, ◌-◌, List, [], ◌∷◌, ◌++◌, length, ◌==◌, if◌then◌else◌, slice_index, codes, decimal, string_bytes}
 use Rattle.trace_text.specs.RefusalTexts.{text_error_text}
 use Rattle.front.specs.RefusalTexts.{report_error_text}
@@ -30,7 +30,7 @@ listed_field_words field.Decisions = codes "decisions"
 listed_field_words field.Correct = codes "correct"
 listed_field_words field.Start = codes "start"
 
--- the line of a fault, with one more where something is known; that of a refused command line is in its reader's words
+-- the line of a fault, with one more if something is known; that of a refused command line is in its reader's words
 abbrev pub fault_line : Fault → List ℕ
 fault_line (fault.Command words) = string_bytes words
 fault_line (fault.Set option o) = codes "synchrony: no such processor in " ++ (set_option_words option ++ member_line option o)
@@ -53,6 +53,6 @@ fault_line (fault.Log reason) = codes "synchrony: " ++ (log_lead reason ++ (log_
 fault_line (fault.Import option) = codes "synchrony: bad " ++ import_option_words option
 fault_line (fault.Length option given) = codes "synchrony: bad " ++ (import_option_words option ++ length_hint option (string_bytes given))
 
--- the text with a line feed at its end, where it has none there
+-- the text, with a line feed added unless it ends with one
 abbrev pub ended_line : List ℕ → List ℕ
 ended_line text = if slice_index text (length text - 1) == 10 then text else text ++ 10 ∷ []

@@ -26,14 +26,14 @@ use Rattle.command_faults.specs.declared.faults.ImportOption.TheVariants as opti
 use Rattle.command_faults.specs.declared.faults.ReportOption.{ReportOption}
 use Rattle.command_faults.specs.declared.faults.ReportOption.TheVariants as report_option
 
--- the exit status of a refused log: that of the command line, where an option doesn't fit the times
+-- the exit status of a refused log: that of the command line if an option doesn't fit the times
 abbrev pub status_of_log : LogError → ℕ
 status_of_log no_log.TickUnfit = 2
 status_of_log no_log.UntilUnfit = 2
 status_of_log no_log.IdleUnfit = 2
 status_of_log e = 3
 
--- the exit status of a tick that the trace hasn't: where nothing else can be asked of it, it is that of a refused trace
+-- the exit status of a tick that the trace hasn't: that of a refused trace if no other tick can be asked for
 abbrev pub status_of_tick : ReportOption → ℕ
 status_of_tick report_option.Until = 2
 status_of_tick report_option.At = 2
@@ -104,7 +104,7 @@ abbrev pub fault_of_log : LogError → Fault
 fault_of_log no_log.Memory = fault.Memory
 fault_of_log e = fault.Log e
 
--- the fault that options of a log which aren't told are
+-- the fault for options of a log that are refused
 abbrev pub fault_of_options : OptionError → Fault
 fault_of_options no_options.Nodes = fault.Import option.Nodes
 fault_of_options no_options.Unit = fault.Import option.Unit

@@ -25,7 +25,7 @@ abbrev pub reading_trouble : ErrorKind → FileTrouble
 reading_trouble IsADirectory = trouble.IsADirectory
 reading_trouble kind = trouble.Unread
 
--- a failed read with the file's name; any other fault as it is
+-- a failed read with the file's name; any other fault unchanged
 abbrev pub fault_of_reading : Fault → String Global → ErrorKind → Fault
 fault_of_reading fault.Read file kind = fault.Unread file (reading_trouble kind)
 fault_of_reading w file kind = w

@@ -1,4 +1,5 @@
--- The lines after that of a fault (docs/FORMATS.md): each begins with a line feed, and where nothing is known there is none.
+-- The lines after that of a fault (docs/FORMATS.md): each begins with a line feed, and there is none if nothing is
+-- known.
 use Rattle.std.specs.Prelude.{ℕ, ◌+◌, ◌-◌, ◌^◌, min, List, [], ◌∷◌, ◌++◌, codes, decimal, Option, Some, None, ◌==◌, if◌then◌else◌}
 use Rattle.trace_text.specs.declared.refusals.TextError.{TextError}
 use Rattle.trace_text.specs.declared.refusals.TextError.TheVariants as why
@@ -38,7 +39,7 @@ trouble_words trouble.Unread = codes "cannot be read"
 abbrev pub file_hint : List ℕ → FileTrouble → List ℕ
 file_hint file trouble = hint (file ++ (codes ": " ++ trouble_words trouble))
 
--- what a trace begins with, where a text doesn't begin as one
+-- what a trace begins with, for a text that doesn't begin as one
 abbrev pub trace_hint : TextError → List ℕ
 trace_hint why.BadHeader = hint (codes "a trace begins with dls-trace; if this is a log, import makes a trace of it")
 trace_hint e = []
@@ -70,7 +71,7 @@ listed_hint field.Decisions = hint (codes "decisions takes the path of a file, i
 listed_hint field.Correct = hint (codes "correct takes all, none, or numbers from 1 to 64 with one comma between them")
 listed_hint field.Start = hint (codes "start takes a tick, or nothing")
 
--- why a text is no formula: what stands at which operand, counted from 1
+-- why a text is no formula: what is at which operand, counted from 1
 abbrev pub formula_hint : BadFormula → List ℕ
 formula_hint (unread.Operand operand) = hint (codes "operand " ++ (decimal operand ++ codes " of the formula is no number and none of delta, phi, n, t"))
 formula_hint (unread.Divisor operand) = hint (codes "operand " ++ (decimal operand ++ codes " of the formula divides: it has to be a number from 1 on, and all divisors together, multiplied, at most 4294967295"))

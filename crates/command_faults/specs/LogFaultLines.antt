@@ -1,4 +1,5 @@
--- What the line of a refused log has beside the words of the refusal, and that of an option by which no log is read.
+-- What the line of a refused log has besides the words of the refusal, and that of an option by which no log is
+-- read.
 use Rattle.std.specs.Prelude.{ℕ, List, [], ◌∷◌, ◌++◌, codes, Option, Some, None}
 use Rattle.timed_events.specs.declared.events.Hint.{Hint}
 use Rattle.timed_events.specs.declared.events.Hint.TheVariants.{ShorterTick, Spread}
@@ -9,7 +10,7 @@ use Rattle.command_faults.specs.Hints.{hint}
 use Rattle.event_log.specs.declared.refusals.LogError.{LogError}
 use Rattle.event_log.specs.declared.refusals.LogError.TheVariants.{BadNode, BadTime, TickUnfit, UntilUnfit, IdleUnfit, TooManyTicks, TooManySteps, NotLater, SecondEvent, Cycle, NoOffsets}
 
--- what stands before the reason of a refused log: nothing where it begins with an option that doesn't fit
+-- what comes before the reason of a refused log: nothing if it begins with an option that doesn't fit
 abbrev pub log_lead : LogError → List ℕ
 log_lead TickUnfit = []
 log_lead UntilUnfit = []
@@ -22,7 +23,7 @@ hint_line None = []
 hint_line (Some ShorterTick) = 10 ∷ codes "synchrony: a shorter --tick sets them apart, and --spread moves one of them"
 hint_line (Some Spread) = 10 ∷ codes "synchrony: --spread sets them apart"
 
--- the same for a refused log; nothing where nothing helps
+-- the same for a refused log; nothing if nothing helps
 abbrev pub help_line : LogError → List ℕ
 help_line TooManyTicks = 10 ∷ codes "synchrony: a greater --tick makes fewer"
 help_line TooManySteps = 10 ∷ codes "synchrony: a greater --tick or a shorter --idle makes fewer"
@@ -43,6 +44,6 @@ import_option_words import_option.Tick = codes "--tick"
 import_option_words import_option.Until = codes "--until"
 import_option_words import_option.Idle = codes "--idle"
 
--- what an option says that tells no length of time, and what it takes
+-- what an option has that gives no length of time, and what it takes
 abbrev pub length_hint : ImportOption → List ℕ → List ℕ
 length_hint option given = hint (import_option_words option ++ (codes " is \"" ++ (given ++ codes "\", and takes a number above 0 in the unit of the times (ns for decimal seconds and time stamps), or a duration above 0 such as 250us, 5ms, 1m 30s or 2h, unless the times are whole numbers without --unit")))

@@ -1,5 +1,4 @@
--- What the line of a fault says more of a processor or a tick that is asked for, and that a trace or a run hasn't: a second
--- line, with the line feed before it.
+-- The second line of a fault about a processor or a tick that a trace or a run hasn't, with the line feed before it.
 use Rattle.std.specs.Prelude.{ℕ, List, ◌++◌, codes, decimal}
 use Rattle.command_faults.specs.declared.faults.MemberOutside.{MemberOutside}
 use Rattle.command_faults.specs.declared.faults.ReportOption.{ReportOption}

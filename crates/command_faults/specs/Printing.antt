@@ -19,8 +19,8 @@ abbrev pub IsUntold : Fault → List ℕ → Option (List ℕ) → Option (List 
 IsUntold fault.Memory text before after = ⊤
 IsUntold why text before after = IsUnprinted why text before after
 
--- where the fault is a failed write, one call of the writer answered a fault or took no byte; after any
--- other fault the writer is as it was
+-- if the fault is a failed write, one call of the writer answered a fault or took no byte; after any
+-- other fault the writer is unchanged
 abbrev pub IsWriteFault : {T : Type 0} → Counting T → Counting T → Fault → Type 0
 IsWriteFault old new (fault.Write n) = MetOneFault old new
 IsWriteFault old new _ = new ≡ old

@@ -1,4 +1,4 @@
-//! The lines in which faults are told.
+//! The lines in which faults are reported.
 
 ghost use Rattle.std.specs.Prelude.{◌≡◌, IfOk, string_bytes};
 ghost use Rattle.command_faults.specs.FaultLines.{fault_line, ended_line};
@@ -13,8 +13,8 @@ use crate::outside_lines::{MemberLine, TickLine};
 use std::alloc::{AllocError, Global};
 use std::fmt;
 
-/// The line of a fault without its line feed, with one more line where something helps; or the words of the command
-/// line's reader, which end in one.
+/// The line of a fault without its line feed, with one more line if something helps. For a refused command line,
+/// its reader's words, which end with a line feed.
 pub fn fault_text(alloc: Global, fault: &Fault) -> Result<String, AllocError>
     ensures { IfOk result (λ text. string_bytes text ≡ fault_line fault.now) }
 {

@@ -35,7 +35,7 @@ pub enum Fault {
     Listed(ListedField),
     /// The text of a deadline is no formula, for this reason.
     Within(BadFormula),
-    /// There was no memory.
+    /// Out of memory.
     Memory,
     /// The input can't be read.
     Read,
@@ -43,8 +43,8 @@ pub enum Fault {
     Unread(String, FileTrouble),
     /// The output can't be written; so many bytes of it went out before.
     Write(u64),
-    /// The trace is no run of the algorithm: the step of this number is the first that isn't; and what its processor
-    /// had to do, where that is known.
+    /// The trace is no run of the algorithm: the first step that is none of a run has this number. With what its
+    /// processor had to do, if that is known.
     NotARun(u64, Option<Due>),
     /// A thread wasn't started, or was held back.
     Threads,
@@ -54,10 +54,10 @@ pub enum Fault {
     Report(ReportOption, TickOutside),
     /// The log is refused, or an option doesn't fit its times. `Memory` is a fault of its own.
     Log(LogError),
-    /// What this option says tells no way to read a log.
+    /// What this option has gives no way to read a log.
     Import(ImportOption),
-    /// What this option says, which is this, is no length of time by which a log is read: neither a number nor a duration, or
-    /// not above 0.
+    /// This text of this option is no length of time by which a log is read: it is neither a number nor a duration, or
+    /// isn't above 0.
     Length(ImportOption, String),
 }
 
@@ -83,7 +83,7 @@ pub struct MemberOutside {
     pub count: u64,
 }
 
-/// A tick that is asked for and that a trace hasn't, and its last tick, which is 0 where it has none.
+/// A tick that is asked for and that a trace hasn't, and the trace's last tick: 0 if it has none.
 #[derive(Clone, Copy, Debug, PartialEq, Eq)]
 pub struct TickOutside {
     /// The tick that is asked for.
@@ -292,7 +292,7 @@ impl From<WriteError> for Fault {
     }
 }
 
-/// The exit status that the program ends with. Takes no memory.
+/// The exit status that the program ends with. Allocates nothing.
 pub fn status(fault: &Fault) -> u8
     ensures { result ≡ status_of fault.now }
 {

@@ -45,7 +45,7 @@ fn opening_trouble(kind: io::ErrorKind) -> FileTrouble
     }
 }
 
-/// The same fault, with the name of the file where it is a failed read of that file: the read answered an error of this
+/// The same fault, with the name of the file if it is a failed read of that file: the read answered an error of this
 /// kind.
 pub fn unread(fault: Fault, file: String, kind: io::ErrorKind) -> Fault
     ensures { result ≡ fault_of_reading fault file kind }

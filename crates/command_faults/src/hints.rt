@@ -1,5 +1,5 @@
-//! The lines after that of a fault: what was wrong with what was given, and what helps. Each begins with a line feed;
-//! where nothing is known there is none.
+//! The lines after that of a fault: what was wrong in the input, and what helps. Each begins with a line feed; there
+//! is none if nothing is known.
 
 ghost use Rattle.std.specs.Prelude.{◌≡◌, ◌+◌, ◌-◌, ◌^◌, min};
 
@@ -45,7 +45,7 @@ impl fmt::Display for FileTrouble {
     }
 }
 
-/// What a trace begins with, where a text doesn't begin as one.
+/// What a trace begins with, for a text that doesn't begin as one.
 #[derive(Clone, Copy)]
 pub(crate) struct TraceHint<'a>(pub(crate) &'a TextError);
 
@@ -65,7 +65,7 @@ impl fmt::Display for TraceHint<'_> {
     }
 }
 
-/// What a certificate begins with, where a text doesn't begin as one.
+/// What a certificate begins with, for a text that doesn't begin as one.
 #[derive(Clone, Copy)]
 pub(crate) struct CertificateHint<'a>(pub(crate) &'a ReportError);
 
@@ -85,7 +85,7 @@ impl fmt::Display for CertificateHint<'_> {
     }
 }
 
-/// What decisions begin with, where a text doesn't begin as theirs.
+/// What decisions begin with, for a text that doesn't begin as theirs.
 #[derive(Clone, Copy)]
 pub(crate) struct DecisionsHint<'a>(pub(crate) &'a DecisionsError);
 
@@ -105,7 +105,7 @@ impl fmt::Display for DecisionsHint<'_> {
     }
 }
 
-/// What a list of runs begins with, where a text doesn't begin as one.
+/// What a list of runs begins with, for a text that doesn't begin as one.
 #[derive(Clone, Copy)]
 pub(crate) struct RunListHint<'a>(pub(crate) &'a RunListError);
 
@@ -125,7 +125,7 @@ impl fmt::Display for RunListHint<'_> {
     }
 }
 
-/// Where the table of a trace comes from, where a text is none of it.
+/// Where the table of a trace comes from, for a text that is no table of it.
 #[derive(Clone, Copy)]
 pub(crate) struct TableHint<'a>(pub(crate) &'a TableError);
 
@@ -169,7 +169,7 @@ impl fmt::Display for ListedHint {
     }
 }
 
-/// Why a text is no formula: what stands at which operand, counted from 1.
+/// Why a text is no formula: what is at which operand, counted from 1.
 #[derive(Clone, Copy)]
 pub(crate) struct FormulaHint(pub(crate) BadFormula);
 

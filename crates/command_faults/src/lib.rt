@@ -1,5 +1,5 @@
-//! Why a command stops: the faults, the line that tells each and the exit status that it has; and how a text is printed.
-//! `specs/` has the definitions that the contracts cite.
+//! Why a command stops: the faults, with the line and the exit status of each; and how a text is printed. `specs/` has
+//! the definitions that the contracts cite.
 #![tactic(auto)]
 
 mod fault_lines;

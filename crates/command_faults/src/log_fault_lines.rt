@@ -1,5 +1,5 @@
-//! What the line of a refused log has beside the words of the refusal: what stands before them, and what helps; and what the
-//! line of an option has by which no log is read.
+//! What the line of a refused log has besides the words of the refusal: what comes before them, and what helps. Also
+//! the line of an option by which no log is read.
 
 ghost use Rattle.std.specs.Prelude.{◌≡◌};
 ghost use Rattle.command_faults.specs.LogFaultLines.{hint_line};
@@ -9,7 +9,7 @@ use event_log::LogError;
 use std::fmt;
 use timed_events::Hint;
 
-/// What stands before the reason of a refused log: nothing where it begins with an option that doesn't fit.
+/// What comes before the reason of a refused log: nothing if it begins with an option that doesn't fit.
 #[derive(Clone, Copy)]
 pub(crate) struct LogLead<'a>(pub(crate) &'a LogError);
 
@@ -27,7 +27,7 @@ impl fmt::Display for LogLead<'_> {
     }
 }
 
-/// What helps where a log is refused, after a line feed; nothing where nothing does.
+/// What helps if a log is refused, after a line feed; nothing if nothing helps.
 #[derive(Clone, Copy)]
 pub(crate) struct HelpLine<'a>(pub(crate) &'a LogError);
 
@@ -94,7 +94,7 @@ impl fmt::Display for ImportOption {
     }
 }
 
-/// What an option says that tells no length of time, and what it takes, after a line feed.
+/// What an option has that gives no length of time, and what it takes, after a line feed.
 #[derive(Clone, Copy)]
 pub(crate) struct LengthHint<'a>(pub(crate) ImportOption, pub(crate) &'a str);
 

@@ -1,4 +1,4 @@
-//! What the line of a fault says more of a processor or a tick that is asked for, and that a trace or a run hasn't.
+//! The second line of a fault about a processor or a tick that a trace or a run hasn't.
 
 ghost use Rattle.std.specs.Prelude.{◌≡◌};
 ghost use Rattle.command_faults.specs.OutsideLines.{whose_words};

@@ -37,9 +37,9 @@ pub fn print_notes<W: Write>(text: &str, writer: &mut Counting<W>)
     }
 }
 
-/// Tells a fault, on a line of its own.
+/// Prints a fault, on a line of its own.
 ///
-/// Refuses Memory where there is none for the line, and then nothing is printed; and Write as `print`
+/// Refuses Memory if the line can't be allocated, and then nothing is printed; and Write as `print`
 /// does.
 pub fn tell<W: Write>(alloc: Global, fault: &Fault, writer: &mut Counting<W>) -> Result<(), Fault>
     ensures told { OnOk result (Appends (W.contents (inner_of writer.old)) (W.contents (inner_of writer.new)) (ended_line (fault_line fault.now))) }

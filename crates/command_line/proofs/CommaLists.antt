@@ -1,4 +1,4 @@
--- What the parts of a text say of the items that it lists.
+-- What the parts of a text mean for the items that it lists.
 use Rattle.std.proofs.Common.{◌≡◌, ◌≢◌, ◌∙◌, ◌<◌, ◌≤◌, ◌^◌, ℕ, false, List, [], ◌∷◌, ◌++◌, length, map, get_or, decimal, All, eqb, refl, sym, ap, arith}
 use Rattle.std.specs.List.{join_with_byte, slice_split}
 use Rattle.std.proofs.lemmas.Bool.{ne_eqb}

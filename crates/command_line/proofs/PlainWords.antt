@@ -81,7 +81,7 @@ after_word s w v word words end goes none p = record {
   faultless = ap₂ or_else none (ap (λ u. walk_fault s [] u words) goes ∙ p.faultless);
 }
 
--- so over a word that is no flag, where it is a value
+-- so over a word that is no flag, if it is a value
 pub after_value : (s : Shape) (w : Walk) (word : Text) (words : List Text) (end : Walk) → is_flag word ≡ false
     → subcommand_met [] w.waiting word ≡ None → w.stopped ≡ None → w.is_trailing ≡ false
     → step_fault s w.position (plain_word s.rules w.waiting word w.held).0 (plain_word s.rules w.waiting word w.held).1 ≡ []
@@ -99,7 +99,7 @@ level_end s met w =
     or_else met (or_else [] (or_else (settle_fault s.rules s.args_override_self w.held)
     (or_else (defaults_fault (settled s.rules w.held).rows s.rules) (check_fault s (finished s.rules w.held) false))))
 
--- what is refused in the program's words, where these are a command and its words
+-- what is refused in the program's words, if these are a command and its words
 abbrev pub line_fault : List Text → Kinds → Kinds
 line_fault words below = level_fault (built program).top (names_of (built program)) nothing_held words true below
 

@@ -1,4 +1,4 @@
--- What a command's words give: nothing where one of them lacks, and else a job, or why there is none.
+-- What a command's words give: nothing if one of them is missing; else a job, or why there is none.
 use Rattle.std.specs.Prelude.{Option, Result, IsNone, IsSomeAnd, MatchOption, MatchResult}
 use Rattle.command_line.specs.declared.jobs.Job.{Job}
 use Rattle.command_line.specs.declared.line_errors.LineError.{LineError}

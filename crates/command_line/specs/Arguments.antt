@@ -1,4 +1,4 @@
--- The arguments that several commands take, what the words of a command line say of them, and why they are refused.
+-- The arguments that several commands take, what the words of a command line give for them, and why they are refused.
 use Rattle.std.specs.Prelude.{ℕ, ◌≡◌, ◌-◌, ◌^◌, ◌++◌, Bool, false, true, ◌==◌, if◌then◌else◌, List, [], ◌∷◌, Option, Some, None, codes, option_and_then, option_map, string_bytes, ⊤}
 use Rattle.std.specs.Str.{bytes_eq}
 use Rattle.std.specs.Str.Parse.{digits_value, without_leading_plus}
@@ -74,7 +74,7 @@ file_rule = positional_rule (codes "file")
 abbrev pub correct_rule : Rule
 correct_rule = option_rule (codes "correct")
 
--- the number that a text is to the reader of 64-bit numbers, where it lies within these bounds
+-- the number that the reader of 64-bit numbers reads in a text, if it is within these bounds
 abbrev pub number_of : ℕ → ℕ → Text → Option ℕ
 number_of least most text = if is_unsigned_in least most text then Some (digits_value 10 (without_leading_plus text)) else None
 
@@ -82,7 +82,7 @@ number_of least most text = if is_unsigned_in least most text then Some (digits_
 abbrev pub number_in : List Row → Text → ℕ → ℕ → Option ℕ
 number_in rows name least most = option_and_then (number_of least most) (first_of name rows)
 
--- the number that an option has, or none where it is left out; nothing where its text is no number within these bounds
+-- the number that an option has, or none if it is left out; nothing if its text is no number within these bounds
 abbrev pub optional_number_of : ℕ → ℕ → Option Text → Option (Option ℕ)
 optional_number_of least most None = Some None
 optional_number_of least most (Some text) = option_map (λ number. Some number) (number_of least most text)
@@ -90,7 +90,7 @@ optional_number_of least most (Some text) = option_map (λ number. Some number) 
 abbrev pub optional_number_in : List Row → Text → ℕ → ℕ → Option (Option ℕ)
 optional_number_in rows name least most = optional_number_of least most (first_of name rows)
 
--- the tick that an option has, or none where it is left out; nothing where its text is no tick
+-- the tick that an option has, or none if it is left out; nothing if its text is no tick
 abbrev pub tick_of : Option Text → Option (Option ℕ)
 tick_of None = Some None
 tick_of (Some text) = option_map (λ tick. Some tick) (number_of 0 (2 ^ 64 - 1) text)
@@ -111,7 +111,7 @@ is_flag [] = false
 is_flag (b ∷ []) = false
 is_flag (b ∷ c ∷ rest) = b == 45
 
--- the fault is want of memory
+-- the fault is out of memory
 abbrev pub IsMemory : LineError → Type 0
 IsMemory unread.Memory = ⊤
 IsMemory _ = ⊥
@@ -139,12 +139,12 @@ abbrev pub list_words : Text → List ℕ
 list_words option = codes "synchrony: bad --" ++ (option ++ (10 ∷ (codes "synchrony: --" ++ (option
     ++ codes " takes all, none, or numbers from 1 to 64 with one comma between them"))))
 
--- it is told in these words
+-- it is reported in these words
 abbrev pub TellsList : Text → LineError → Type 0
 TellsList option (unread.Refused text) = string_bytes text ≡ list_words option
 TellsList option _ = ⊥
 
--- the refusal of a text that is no list, for this option; or want of memory
+-- the refusal of a text that is no list, for this option; or out of memory
 abbrev pub IsListFaultOf : Text → List ℕ → LineError → Type 0
 IsListFaultOf option list (unread.Refused text) = (string_bytes text ≡ list_words option) × IsNoList list
 IsListFaultOf option list unread.Memory = Unit {0}

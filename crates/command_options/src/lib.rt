@@ -1,4 +1,4 @@
-//! What the command line tells a command beside its files: plain data, which `command_line` reads, and which the
+//! The options that the command line gives a command besides its files: plain data, which `command_line` reads and the
 //! commands take.
 #![tactic(auto)]
 
@@ -67,9 +67,9 @@ pub struct RunOptions {
 pub struct ReportPart {
     /// The processors that count as correct.
     pub correct: Correct,
-    /// The tick up to which the trace is reported, as if it had ended there: all of it where there is none.
+    /// The tick up to which the trace is reported, as if it had ended there: all of it if there is none.
     pub until: Option<u64>,
-    /// The tick whose row is printed alone: all rows where there is none.
+    /// The tick whose row is printed alone: all rows if there is none.
     pub at: Option<u64>,
 }
 
@@ -78,7 +78,7 @@ pub struct ReportPart {
 pub struct Brief {
     /// The processors that count as correct.
     pub correct: Correct,
-    /// The tick up to which the trace is reported, as if it had ended there: all of it where there is none.
+    /// The tick up to which the trace is reported, as if it had ended there: all of it if there is none.
     pub until: Option<u64>,
 }
 
@@ -87,9 +87,9 @@ pub struct Brief {
 pub struct Each {
     /// The processors that count as correct.
     pub correct: Correct,
-    /// The tick up to which the trace counts, as if it had ended there: all of it where there is none.
+    /// The tick up to which the trace counts, as if it had ended there: all of it if there is none.
     pub until: Option<u64>,
-    /// The tick from which on the bounds hold: 1 where there is none.
+    /// The tick from which on the bounds hold: 1 if there is none.
     pub at: Option<u64>,
 }
 
@@ -101,15 +101,15 @@ pub const MAX_TURNS: u64 = 1_000_000;
 pub struct TimeoutTable {
     /// The leader, from 1 to `MAX_MEMBER`.
     pub from: u64,
-    /// The followers: those to which the leader sends at all where there is none.
+    /// The followers: all to which the leader sends, if there is none.
     pub to: Option<Correct>,
-    /// Of each so many steps of the leader one is a Send to the follower, where that is known.
+    /// Of each so many steps of the leader one is a Send to the follower, if that is known.
     pub every: Option<u64>,
-    /// Of each so many steps of the follower one is a Receive, where that is known.
+    /// Of each so many steps of the follower one is a Receive, if that is known.
     pub polls: Option<u64>,
-    /// The tick up to which the trace counts, as if it had ended there: all of it where there is none.
+    /// The tick up to which the trace counts, as if it had ended there: all of it if there is none.
     pub until: Option<u64>,
-    /// The tick whose row alone is asked for: all rows where there is none.
+    /// The tick whose row alone is asked for: all rows if there is none.
     pub at: Option<u64>,
     ghost low: { 1 ≤ from },
     ghost high: { from ≤ MAX_MEMBER },
@@ -122,7 +122,7 @@ pub struct TimeoutTable {
 pub struct Claim {
     /// The processors that count as correct.
     pub correct: Correct,
-    /// The tick up to which the trace counts, as if it had ended there: all of it where there is none.
+    /// The tick up to which the trace counts, as if it had ended there: all of it if there is none.
     pub until: Option<u64>,
 }
 
@@ -133,13 +133,13 @@ pub struct Judging {
     pub correct: Correct,
     /// The text of a formula: within so many ticks each of them has to decide.
     pub within: String,
-    /// The tick in which the instance of agreement started: 1 where there is none.
+    /// The tick in which the instance of agreement started: 1 if there is none.
     pub start: Option<u64>,
     /// Whether each decision has to be an initial value.
     pub valid: bool,
     /// Whether the bounds of the whole run alone count, and not those of its prefixes.
     pub whole: bool,
-    /// How many rows of the report have to be due at least: none where there is none.
+    /// How many rows of the report have to be due at least: none if there is none.
     pub due: Option<u64>,
     /// Whether the least factor with which the claim would be kept is asked for, too.
     pub factor: bool,
@@ -154,11 +154,11 @@ pub struct Judging {
 pub struct Drawing {
     /// The processors that count as correct.
     pub correct: Correct,
-    /// The first tick to draw: 1 where there is none, but a last one.
+    /// The first tick to draw: 1 if only a last one is given.
     pub from: Option<u64>,
-    /// The last tick to draw: 99 ticks later, or the last of the trace, where there is none, but a first one.
+    /// The last tick to draw: 99 ticks later, or the last of the trace, if only a first one is given.
     pub to: Option<u64>,
-    /// The names of the processors, with commas between them: their numbers where there are none.
+    /// The names of the processors, with commas between them: their numbers if there are none.
     pub names: Option<String>,
 }
 
@@ -167,9 +167,9 @@ pub struct Drawing {
 pub struct Page {
     /// The processors that count as correct.
     pub correct: Correct,
-    /// The tick whose row counts as the calm one: the row with the most room for its bounds where there is none.
+    /// The tick whose row counts as the calm one: the row with the most room for its bounds if there is none.
     pub at: Option<u64>,
-    /// The names of the processors, with commas between them: their numbers where there are none.
+    /// The names of the processors, with commas between them: their numbers if there are none.
     pub names: Option<String>,
 }
 
@@ -185,16 +185,17 @@ pub enum ImportForm {
 /// How a log is to be read, as texts that are still to be read themselves, and what is printed of it.
 #[derive(Debug, Drop)]
 pub struct ImportOptions {
-    /// The names of the nodes, with commas between them: those of the log, in their order, where there are none.
+    /// The names of the nodes, with commas between them: those of the log, in their order, if there are none.
     pub nodes: Option<String>,
-    /// The unit of the log's times, which are then whole numbers of it: as its first event has them where there is none.
+    /// The unit of the log's times, which are then whole numbers of it. If there is none, the times are as its first
+    /// event has them.
     pub unit: Option<String>,
-    /// The length of a tick, a number or a duration: 1 where there is none.
+    /// The length of a tick, a number or a duration: 1 if there is none.
     pub tick: Option<String>,
-    /// The time when the log ends: that of its last event where there is none.
+    /// The time when the log ends: that of its last event if there is none.
     pub until: Option<String>,
-    /// The longest time without an event of a node that gets a receive of nothing, a number or a duration: none does where
-    /// there is none.
+    /// The longest time without an event of a node that gets a receive of nothing, a number or a duration. If there is
+    /// none, no node gets one.
     pub idle: Option<String>,
     /// Whether events may go to later ticks than those of their times.
     pub spread: bool,

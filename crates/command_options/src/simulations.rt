@@ -62,8 +62,8 @@ pub struct SimulationOptions {
     pub bounds: Option<StatedBounds>,
     /// The processors that crash; the others are live. At most t crash.
     pub crashes: Vec<Crash>,
-    /// Of a hundred messages to other processors, how many are lost on average: of those that are sent up to the
-    /// stabilization time, or of all where no bounds are stated.
+    /// Of a hundred messages to other processors, how many are lost on average. They are those sent up to the
+    /// stabilization time, or all if no bounds are stated.
     pub loss: u64,
     ghost room: { steps ≤ MAX_STEPS },
     ghost processors: { All (λ crash. IsProc config crash.proc) crashes.items },

@@ -30,7 +30,7 @@ round_at-ended steps (suc i) x h ends =
     let here = round-here steps x.proc i in
     omega arith
 
--- any other step leaves the round as it is
+-- any other step leaves the round unchanged
 pub round_at-stays : (steps : List Step) (k : ℕ) (x : Step) (p : ℕ) → step_at steps k ≡ Some x → (x.proc == p && act_ends x.act) ≡ false → round_at steps p (k + 1) ≡ round_at steps p k
 round_at-stays steps zero x p h other = absurd (none-some _ h)
 round_at-stays steps (suc i) x p h other =

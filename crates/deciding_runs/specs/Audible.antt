@@ -1,11 +1,11 @@
--- Whom a processor may hear in a round, as far as its own node tells (own; by the table of Algorithm 1).
+-- Whom a processor may hear in a round, as far as its own node knows (own; by the table of Algorithm 1).
 use Rattle.std.specs.Prelude.{ℕ, Bool, true, false, is_some, not, ◌==◌, ◌&&◌, ◌||◌}
 use Rattle.step_trace.specs.Configurations.{Setup}
 use Rattle.lock_phases.specs.Rounds.{phase_of, part_of, owner, Part, Listing, Locking, Acknowledging, Releasing, part_at}
 use Rattle.lock_phases.specs.Nodes.{State}
 
--- Whom p, with this node, may hear in each part of a phase: the owner may be sent lists, and acknowledgements where it
--- has a proposal; the owner may send a lock, unless it is p itself and has no proposal; and all send their locks.
+-- Whom p, with this node, may hear in each part of a phase. The owner may be sent lists, and acknowledgements if it
+-- has a proposal. It may send a lock, unless it is p itself and has no proposal. All send their locks.
 abbrev pub may_hear_in : Part → State → ℕ → ℕ → ℕ → Bool
 may_hear_in Listing node owner p q = p == owner
 may_hear_in Locking node owner p q = q == owner && (not (p == owner) || is_some node.proposal)

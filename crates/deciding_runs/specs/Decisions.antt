@@ -1,5 +1,5 @@
--- The decisions of a run: which processor decides, with which step, and what (section 3: at the end of a round a node
--- may decide; own: a step may end its processor's round).
+-- The decisions of a run: which processor decides, with which step, and what. (Section 3: at the end of a round a
+-- node may decide; own: a step may end its processor's round.)
 use Rattle.std.specs.Prelude.{ℕ, ◌-◌, List, Option, Some, None, Bool, true, false, filter_map}
 use Rattle.std.specs.Option.{option_and_then}
 use Rattle.step_trace.specs.declared.steps.Step.{Step}

@@ -38,8 +38,8 @@ abbrev pub TakesInOrder : List Step → ℕ → ℕ → Type 0
 TakesInOrder steps p q =
     (s later k : ℕ) → IsSend steps q p s → IsSend steps q p later → s < later → IsTakenAt steps p k later → IsTakenBefore steps p k s
 
--- A round of p that was ended when p had heard, of each member of the set that it may hear in it, something of that
--- round or of a later one. So no patience ended it.
+-- When p ended this round, it had heard something of that round or of a later one from each member of the set that it
+-- may hear. So no patience ended it.
 pub record IsHeardOut (c : Setup) (steps : List Step) (set p round : ℕ) : Type 0 where
   pub place : ℕ
   pub ids : List ℕ
@@ -47,8 +47,8 @@ pub record IsHeardOut (c : Setup) (steps : List Step) (set p round : ℕ) : Type
   pub round_is : round_at steps p place ≡ round
   pub heard : (q : ℕ) → IsTrue (has_proc set q) → may_hear c (node_before c steps p place) round p q ≡ true → HasHeardOf steps p q round place
 
--- A set of at least N - t processors that take one another's messages in order, and end each of some rounds when they
--- have heard all of the set that they may hear in it.
+-- A set of at least N - t processors that take one another's messages in order. Each ends each of some rounds when it
+-- has heard all of the set that it may hear in it.
 pub record HearOut (c : Setup) (steps : List Step) (set first last : ℕ) : Type 0 where
   pub within : IsWithin set c.n
   pub size : c.n - c.t ≤ number_of c.n (has_proc set)

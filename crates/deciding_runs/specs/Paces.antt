@@ -21,7 +21,7 @@ use Rattle.deciding_runs.specs.Audible.{may_hear_all}
 use Rattle.deciding_runs.specs.HeardOut.{HasHeardOf, TakesAll}
 use Rattle.deciding_runs.specs.Peers.{unheard, peer_of, after_hearing, after_phase, is_left_behind, awaited_count, heard_count}
 
--- what contracts see of a Pace: what was heard of each processor; of how many something must be heard where all may say
+-- what contracts see of a Pace: what was heard of each processor; of how many something must be heard if all may say
 -- something; how many Receives a round may take; and how many it may take still
 pub record Paced : Type 0 where
   pub peers : List Peer
@@ -33,8 +33,8 @@ pub record Paced : Type 0 where
 abbrev pub opening_pace : Setup → ℕ → Paced
 opening_pace c patience = record { peers = replicate c.n unheard; quorum = c.n - c.t; patience = patience; left = patience }
 
--- All has been heard that the round can bring: nobody is waited for, and where all may say something, a quorum has
--- been heard of.
+-- All has been heard that the round can bring: nobody is waited for, and if all may say something, a quorum has been
+-- heard of.
 abbrev pub is_complete : Setup → State → ℕ → ℕ → Paced → Bool
 is_complete c node round p x = awaited_count c node round p x.peers == 0 && (not (may_hear_all c node round p) || nat_le x.quorum (heard_count round x.peers))
 
@@ -64,8 +64,8 @@ ends_taking c steps p ids x = is_over c (node_at c steps p) (passed steps p + 1)
 abbrev pub ends_round : Setup → List Step → ℕ → Paced → Bool
 ends_round c steps p x = is_over c (node_at c steps p) (passed steps p + 1) p (heard_waiting steps p x)
 
--- The move of p by its pace: a Send, if it has something to send; and else a Receive of all that waits, which ends the
--- round if the round is over with what it takes.
+-- The move of p by its pace: a Send, if it has something to send; else a Receive of all that waits. The Receive ends
+-- the round if the round is over with what it takes.
 abbrev pub paced_move : Setup → List Step → ℕ → Paced → Move
 paced_move c steps p x = if is_some (next_send c steps p) then move.Send else move.Receive All (ends_round c steps p x)
 
@@ -94,7 +94,7 @@ after_move c steps p x =
 abbrev pub WereHeard : List Step → ℕ → List Peer → Type 0
 WereHeard steps p peers = (q : ℕ) → 1 ≤ q → 0 < (peer_of peers q).latest → HasHeardOf steps p q (peer_of peers q).latest (length steps)
 
--- A round of p that its pace ended as complete, with the step that ended it: what was noted by then was heard, and p
+-- A round of p that its pace ended as complete, with the step that ended it. What was noted by then was heard, and p
 -- still waited for each member of the set. So no patience ended it, and p wasn't left behind.
 pub record EndsComplete (c : Setup) (steps : List Step) (set p round : ℕ) : Type 0 where
   pub place : ℕ

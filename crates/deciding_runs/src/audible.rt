@@ -1,4 +1,4 @@
-//! Whom a processor may hear in a round, as far as its own node tells.
+//! Whom a processor may hear in a round, as far as its own node knows.
 
 ghost use Rattle.std.specs.Prelude.{◌≡◌, ◌≤◌};
 ghost use Rattle.deciding_runs.specs.Audible.{may_hear, may_hear_all};

@@ -25,7 +25,7 @@ pub struct Decision {
 
 /// The decisions of the run that a World made, in the order of their steps. A processor decides once at most.
 ///
-/// Refuses only if memory for the list, or for a number of each processor, can't be had. Goes over the steps once.
+/// Fails only if the list, or a number of each processor, can't be allocated. Scans the steps once.
 pub fn decisions_of(alloc: Global, world: &World) -> Result<Vec<Decision>, AllocError>
     ensures { IfOk result (λ found. found.items
         ≡ decisions world.now.trace.config world.now.trace.steps) }

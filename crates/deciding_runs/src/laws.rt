@@ -21,14 +21,14 @@ ghost use Rattle.deciding_runs.specs.HeardOut.{HearOut, HasHeardOf, IsHeardOut, 
 ghost use Rattle.deciding_runs.specs.Peers.{peer_of};
 ghost use Rattle.deciding_runs.specs.Paces.{Paced, WereHeard, EndsComplete, EndRoundsComplete, is_complete, paced_move, after_move};
 
-/// Where the processors of a set of at least N - t pass some rounds and hear all that they say to one another in
-/// them, each of them decides (as section 3 of the 1988 paper argues of its rounds).
+/// If the processors of a set of at least N - t pass some rounds and hear all that they say to one another in them,
+/// each of them decides (as section 3 of the 1988 paper argues of its rounds).
 ///
-/// A theorem: it stands in the contract and quantifies over every configuration, every list of steps and every
-/// trace. Calling it does nothing. In `decided` the rounds go from `first` to the deciding round of `first`. In
-/// `by_tick` the members have passed them by a tick: then the trace as it stood at that tick has all their
-/// decisions. On the way: who has passed a round has sent all that it had to say in it (`sent`); and to hear of
-/// somebody who has nothing to say changes no node (`silence`).
+/// A theorem: its contract quantifies over every configuration, every list of steps and every trace. Calling it does
+/// nothing. In `decided` the rounds go from `first` to the deciding round of `first`. In `by_tick` the members have
+/// passed them by a tick: then the trace up to that tick has all their decisions. On the way: who has passed a round
+/// has sent all that it had to say in it (`sent`); and to hear of somebody who has nothing to say changes no node
+/// (`silence`).
 pub fn deciding_laws()
     ensures decided { (c : Setup) (steps : List TraceStep) (set first : ℕ) → IsSetup c → IsRun c steps
         → AreTogether c steps set first (deciding_round c first)
@@ -47,13 +47,14 @@ pub fn deciding_laws()
         → state_after c table rounds p ≡ state_after c (filled c table) rounds p }
 {}
 
-/// Who ends its rounds when it has heard all that it may hear in them, and not for want of patience, decides (own).
+/// Who ends its rounds when it has heard all that it may hear in them, and not because its patience ran out, decides
+/// (own).
 ///
-/// A theorem, as `deciding_laws` is. Whom a processor may hear in a round it knows by its own node (`may_hear`):
-/// who tells it anything is among those. Where the members of a set of at least N - t take one another's messages
-/// in order, and end each round from `first` to the deciding round of `first` when they have heard, of each member
-/// that they may hear in it, something of that round or of a later one, each of them decides (`decided`). Who takes all
-/// that waits takes messages in order (`order`).
+/// A theorem, as `deciding_laws` is. Whom a processor may hear in a round it knows by its own node (`may_hear`): who
+/// tells it anything is among those. Let the members of a set of at least N - t take one another's messages in order.
+/// Let each end each round, from `first` to the deciding round of `first`, when it has heard something of that round or
+/// of a later one from each member that it may hear in it. Then each of them decides (`decided`). Who takes all that
+/// waits takes messages in order (`order`).
 pub fn heard_out_laws()
     ensures tellers { (c : Setup) (table : Table) (rounds p q : ℕ) (body : SaidBody)
         → out c (state_after c table rounds q) q (rounds + 1) p ≡ Some body
@@ -65,11 +66,11 @@ pub fn heard_out_laws()
         → TakesAll steps p → TakesInOrder steps p q }
 {}
 
-/// What a pace has heard was heard in the trace, and stays so with each step of a run (`moved`, `grows`). So who ends a
-/// round because it is complete has heard, of all whom it may hear in it and doesn't suspect, something of that round or
-/// of a later one (`hears`); and a round that was ended so is heard out (`heard_out`). Where the members of a set of at
-/// least N - t take all that waits for them, and no patience ends a round of theirs up to the deciding round, and in none
-/// of them a member suspects a member or is left behind, each of them decides (`decided`).
+/// What a pace has heard was heard in the trace, and stays so with each step of a run (`moved`, `grows`). Who ends a
+/// round because it is complete has heard something of that round or of a later one from all whom it may hear in it and
+/// doesn't suspect (`hears`). A round that was ended so is heard out (`heard_out`). Let the members of a set of at
+/// least N - t take all that waits for them. Up to the deciding round, let no patience end a round of theirs, and let
+/// no member suspect a member or be left behind. Then each of them decides (`decided`).
 ///
 /// A theorem, as `deciding_laws` is.
 pub fn pace_laws()

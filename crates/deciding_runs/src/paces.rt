@@ -17,11 +17,11 @@ use step_trace::Config;
 /// The pace "heard out" of a processor (own): what it has heard of each other one, and how many Receives its round may
 /// still take.
 ///
-/// A Receive ends the round if it is complete: of each processor that it may hear, by its own node, it has taken
-/// something of this round or of a later one, or it suspects it; and where it may hear all, it has heard so of N - t. A
-/// Receive ends the round as well if something of a round more than a phase later was taken, or if it is the last of as
-/// many as its patience. A processor is suspected from the end of a phase on in which nothing was taken of it, unless
-/// something of a later round was, until something is taken of it again.
+/// A Receive ends the round if it is complete: from each processor that it may hear, by its own node, it has taken
+/// something of this round or of a later one, or it suspects it; and if it may hear all, it has heard so of N - t. A
+/// Receive also ends the round if something of a round more than a phase later was taken, or if it is the last that its
+/// patience allows. A processor is suspected from the end of a phase on in which nothing was taken from it, unless
+/// something of a later round was. It is suspected until something is taken from it again.
 #[derive(Debug, Drop)]
 pub struct Pace {
     peers: Vec<Peer>,
@@ -68,8 +68,8 @@ impl Pace {
         self.peers.len() as u64
     }
 
-    /// The next move of processor `p` in a World: a Send, if it has something to send; and else a Receive of all that
-    /// waits for it. The pace goes on as after this move. Asks for a processor of the World, and for a pace of as many
+    /// The next move of processor `p` in a World: a Send, if it has something to send; else a Receive of all that waits
+    /// for it. The pace goes on as after this move. Asks for a processor of the World, and for a pace of as many
     /// processors.
     pub fn next_move<'a>(&mut self, world: &World, p: u64) -> Move<'a>
         requires processor { IsProc world.now.trace.config p }

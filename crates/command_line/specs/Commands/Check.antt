@@ -22,8 +22,8 @@ check_line name file certificate list = name ∷ codes "check" ∷ file ∷ cert
 abbrev pub AreBothStandardInput : List ℕ → List ℕ → Type 0
 AreBothStandardInput a b = (a ≡ codes "-") × (b ≡ codes "-")
 
--- the check of the files of these names, which aren't both standard input, for the processors that this list names, up to
--- this tick where there is one
+-- the check of the files of these names, which aren't both standard input, for the processors of this list, up to this
+-- tick if there is one
 abbrev pub IsCheck : List ℕ → List ℕ → List ℕ → Option ℕ → Job → Type 0
 IsCheck name certified list until (job.Check j) =
     (string_bytes j.file ≡ name) × (string_bytes j.certificate ≡ certified) × IsCorrectIn list j.claim.correct × (j.claim.until ≡ until)
@@ -37,7 +37,7 @@ pub record IsOneInput (name certified list text : List ℕ) : Type 0 where
   pub listed : IsCorrectIn list correct
   pub told : text ≡ codes "synchrony: only one file can be -"
 
--- the refusal of a text that is no list, or else of two files that are both standard input; or want of memory
+-- the refusal of a text that is no list, or else of two files that are both standard input; or out of memory
 abbrev pub IsFilesFault : List ℕ → List ℕ → List ℕ → LineError → Type 0
 IsFilesFault name certified list (unread.Refused text) = IsListFault list (unread.Refused text) ⊎ IsOneInput name certified list (string_bytes text)
 IsFilesFault name certified list unread.Memory = Unit {0}

@@ -34,7 +34,7 @@ abbrev pub IsOneInputRefusal : List ℕ → List ℕ → LineError → Type 0
 IsOneInputRefusal name decided (unread.Refused text) = AreBothStandardInput name decided × (string_bytes text ≡ codes "synchrony: only one file can be -")
 IsOneInputRefusal name decided _ = ⊥
 
--- why there are no decisions; or want of memory
+-- why there are no decisions; or out of memory
 abbrev pub IsDecisionsFault : List ℕ → Option (List ℕ) → Bool → LineError → Type 0
 IsDecisionsFault name decided replay unread.Memory = Unit {0}
 IsDecisionsFault name None false e = IsEitherRefusal e
@@ -42,12 +42,12 @@ IsDecisionsFault name (Some decided) true e = IsEitherRefusal e
 IsDecisionsFault name (Some decided) false e = IsOneInputRefusal name decided e
 IsDecisionsFault name None true e = ⊥
 
--- the refusal of a text that is no list, or else of the decisions; or want of memory
+-- the refusal of a text that is no list, or else of the decisions; or out of memory
 abbrev pub IsJudgeFault : List ℕ → Option (List ℕ) → List ℕ → Bool → LineError → Type 0
 IsJudgeFault name decided list replay e = IsListFault list e ⊎ (((correct : Correct) × IsCorrectIn list correct) × IsDecisionsFault name decided replay e)
 
--- the judgement of the decisions in the second file of these names, or of those of the replay, for the processors that this
--- list names, within a formula, with these options
+-- the judgement of the decisions of the second file, or of those of the replay, for the processors of this list, within
+-- a formula, with these options
 abbrev pub IsJudge : List ℕ → Option (List ℕ) → List ℕ → List ℕ → Option ℕ → Bool → Bool → Option ℕ → Bool → Bool → Bool → Job → Type 0
 IsJudge name decided list within start valid whole due factor table replay (job.Judge j) =
     (string_bytes j.file ≡ name) × AreDecisionsIn name decided replay (option_map string_bytes j.decisions) × IsCorrectIn list j.judging.correct × (string_bytes j.judging.within ≡ within)
@@ -55,7 +55,7 @@ IsJudge name decided list within start valid whole due factor table replay (job.
     × (j.judging.replay ≡ replay)
 IsJudge name decided list within start valid whole due factor table replay _ = ⊥
 
--- the correct processors of the runs of a list, unless it says them of a run: all, where no list of them is given
+-- the correct processors of a run for which the list of runs names none: all, if no list of processors is given
 abbrev pub IsSetOfRuns : Option (List ℕ) → Correct → Type 0
 IsSetOfRuns None found = found ≡ correct.All
 IsSetOfRuns (Some list) found = IsCorrectIn list found
@@ -68,7 +68,7 @@ IsRuns name list within start valid whole due (job.JudgeRuns j) =
     × (j.judging.replay ≡ false)
 IsRuns name list within start valid whole due _ = ⊥
 
--- the refusal of a text that is no list of processors; or want of memory
+-- the refusal of a text that is no list of processors; or out of memory
 abbrev pub IsRunsFault : Option (List ℕ) → LineError → Type 0
 IsRunsFault None e = IsMemory e
 IsRunsFault (Some list) e = IsListFault list e
@@ -93,7 +93,7 @@ IsJudgeOf true name decided list within start valid whole due factor table repla
 IsJudgeOf false name decided (Some list) within start valid whole due factor table replay j = IsJudge name decided list within start valid whole due factor table replay j
 IsJudgeOf false name decided None within start valid whole due factor table replay j = ⊥
 
--- why the runs of a list aren't judged: something goes with one run alone, or else their set is none; or want of memory
+-- why the runs of a list aren't judged: an argument is for one run alone, or else their set is none; or out of memory
 abbrev pub IsForOneFault : LineError → Type 0
 IsForOneFault unread.Memory = Unit {0}
 IsForOneFault e = IsForOneRefusal e
@@ -102,7 +102,7 @@ abbrev pub IsRunsFaultOf : Bool → Option (List ℕ) → LineError → Type 0
 IsRunsFaultOf true list e = IsForOneFault e
 IsRunsFaultOf false list e = IsRunsFault list e
 
--- why one run isn't judged that has no list of processors; or want of memory
+-- why one run without a list of processors isn't judged; or out of memory
 abbrev pub IsNoListFault : LineError → Type 0
 IsNoListFault unread.Memory = Unit {0}
 IsNoListFault e = IsNoListRefusal e

@@ -22,8 +22,8 @@ FitsTable name names None = Unit {0}
 FitsTable name None (Some table) = ¬ AreBothStandardInput name table
 FitsTable name (Some names) (Some table) = ⊥
 
--- the page about the file of this name, for the processors that this list names, with this tick, these names, and the table in the
--- file of that name
+-- the page about the file of this name, for the processors of this list, with this tick, these names, and the table in
+-- that file
 abbrev pub IsPage : List ℕ → List ℕ → Option ℕ → Option (List ℕ) → Option (List ℕ) → Job → Type 0
 IsPage name list at names table (job.Page j) =
     (string_bytes j.file ≡ name) × IsCorrectIn list j.page.correct × (j.page.at ≡ at) × (option_map string_bytes j.page.names ≡ names)
@@ -35,14 +35,14 @@ abbrev pub IsNamesRefusal : LineError → Type 0
 IsNamesRefusal (unread.Refused text) = string_bytes text ≡ codes "synchrony: page takes either --names or --table"
 IsNamesRefusal _ = ⊥
 
--- why a table doesn't fit; or want of memory
+-- why a table doesn't fit; or out of memory
 abbrev pub IsTableFault : List ℕ → Option (List ℕ) → Option (List ℕ) → LineError → Type 0
 IsTableFault name names table unread.Memory = Unit {0}
 IsTableFault name names None e = ⊥
 IsTableFault name (Some names) (Some table) e = IsNamesRefusal e
 IsTableFault name None (Some table) e = IsOneInputRefusal name table e
 
--- the refusal of a text that is no list, or else of the table; or want of memory
+-- the refusal of a text that is no list, or else of the table; or out of memory
 abbrev pub IsPageFault : List ℕ → List ℕ → Option (List ℕ) → Option (List ℕ) → LineError → Type 0
 IsPageFault name list names table e = IsListFault list e ⊎ (((correct : Correct) × IsCorrectIn list correct) × IsTableFault name names table e)
 

@@ -9,7 +9,7 @@ use Rattle.command_options.specs.declared.TheConstants.{MAX_WORKERS}
 use Rattle.command_line.specs.Answers.{Given, ◌>>=◌, answers}
 use Rattle.command_line.specs.Arguments.{command_app, IsListFault, correct_rule, file_rule, number_in, optional_rule, tick_in, tick_rule}
 
--- --workers W, a number within its bounds; 1 where it is left out
+-- --workers W, a number within its bounds; 1 if it is left out
 abbrev pub workers_rule : Rule
 workers_rule = record (optional_rule (codes "workers")) { defaults = codes "1" ∷ []; parser = Some (vp.Unsigned 1 MAX_WORKERS) }
 

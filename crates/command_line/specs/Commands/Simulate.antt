@@ -46,7 +46,7 @@ AreStated _ _ _ _ = ⊥
 abbrev pub bad_schedule_words : List ℕ
 bad_schedule_words = codes "synchrony: bad --schedule" ++ (10 ∷ codes "synchrony: --schedule takes turns, random or bursts")
 
--- there is no schedule of this name; or there was no memory
+-- there is no schedule of this name; or out of memory
 abbrev pub IsScheduleFault : Option Text → LineError → Type 0
 IsScheduleFault name (unread.Refused words) = (schedule_of name ≡ None) × (string_bytes words ≡ bad_schedule_words)
 IsScheduleFault name unread.Memory = ⊤
@@ -60,7 +60,7 @@ AreNamed (Some text) crashes = IsCrashList text crashes
 abbrev pub bad_crash_words : List ℕ
 bad_crash_words = codes "synchrony: bad --crash" ++ (10 ∷ codes "synchrony: --crash takes P@TICK with one comma between each two, each P once")
 
--- the text lists no crashes; or there was no memory
+-- the text lists no crashes; or out of memory
 abbrev pub IsCrashListFault : Option Text → LineError → Type 0
 IsCrashListFault name (unread.Refused words) = ((crashes : List Crash) → ¬ AreNamed name crashes) × (string_bytes words ≡ bad_crash_words)
 IsCrashListFault name unread.Memory = ⊤
@@ -77,7 +77,7 @@ AreOfEach config crashes = All (λ crash. IsProc config crash.proc) crashes × (
 abbrev pub too_many_crashes_words : List ℕ
 too_many_crashes_words = codes "synchrony: bad --crash" ++ (10 ∷ codes "synchrony: more processors crash than may be faulty")
 
--- more crash than may be faulty, or else they aren't one of a processor each; or there was no memory
+-- more crash than may be faulty, or else they aren't one of a processor each; or out of memory
 abbrev pub IsCrashFault : Setup → List Crash → LineError → Type 0
 IsCrashFault config crashes (unread.Refused words) = (¬ AreFew config crashes × (string_bytes words ≡ too_many_crashes_words))
     ⊎ (AreFew config crashes × ¬ AreOfEach config crashes × (string_bytes words ≡ bad_crash_words))
@@ -90,13 +90,13 @@ bad_bounds_words = codes "synchrony: bad --gst" ++ (10 ∷ codes "synchrony: --g
 abbrev pub bad_phi_words : List ℕ
 bad_phi_words = codes "synchrony: bad --phi" ++ (10 ∷ codes "synchrony: no schedule keeps it: it is below the number of live processors")
 
--- the words in which these bounds are refused where so many are live; none where they aren't
+-- the words in which these bounds are refused if so many processors are live; none if they aren't refused
 abbrev pub bounds_refusal : ℕ → Option ℕ → Option ℕ → Option ℕ → Option (List ℕ)
 bounds_refusal lives (Some gst) (Some delta) (Some phi) = if nat_lt phi lives then Some bad_phi_words else None
 bounds_refusal lives None None None = None
 bounds_refusal lives _ _ _ = Some bad_bounds_words
 
--- they are refused in these words; or there was no memory
+-- they are refused in these words; or out of memory
 abbrev pub IsBoundsFault : ℕ → Option ℕ → Option ℕ → Option ℕ → LineError → Type 0
 IsBoundsFault lives gst delta phi (unread.Refused words) = bounds_refusal lives gst delta phi ≡ Some (string_bytes words)
 IsBoundsFault lives gst delta phi unread.Memory = ⊤
@@ -142,8 +142,8 @@ pub record IsUnkept (n t : ℕ) (values : List ℕ) (name : Option Text) (gst de
   pub refused : IsBoundsFault (length (live config.n crashes)) gst delta phi why
       ⊎ ((bounds_refusal (length (live config.n crashes)) gst delta phi ≡ None) × IsCrashFault config crashes why)
 
--- the schedule is refused, or else the list of crashes, or else the configuration, or else the bounds, or else who crashes;
--- or there was no memory
+-- the first refusal: of the schedule, the list of crashes, the configuration, the bounds, or who crashes; or out of
+-- memory
 abbrev pub IsSimulationFault : ℕ → ℕ → List ℕ → Option Text → Option ℕ → Option ℕ → Option ℕ → Option Text → LineError → Type 0
 IsSimulationFault n t values name gst delta phi crash (unread.Refused words) = IsScheduleFault name (unread.Refused words)
     ⊎ (IsOfNoCrashes name crash (unread.Refused words) ⊎ (IsOfNoConfig n t values name crash (unread.Refused words)

@@ -16,13 +16,13 @@ abbrev pub timeouts_app : App
 timeouts_app = command_app (codes "timeouts") (file_rule ∷ number_rule (codes "from") 1 MAX_MEMBER ∷ optional_rule (codes "to") ∷ optional_number_rule (codes "every") 1 MAX_TURNS
     ∷ optional_number_rule (codes "polls") 1 MAX_TURNS ∷ tick_rule (codes "until") ∷ tick_rule (codes "at") ∷ [])
 
--- the followers that a list names, where there is one
+-- the followers that a list names, if there is one
 abbrev pub AreNamed : Option (List ℕ) → Option Correct → Type 0
 AreNamed None to = to ≡ None
 AreNamed (Some list) None = ⊥
 AreNamed (Some list) (Some named) = IsCorrectIn list named
 
--- there is a list, and it is refused; or there was no memory
+-- there is a list, and it is refused; or out of memory
 abbrev pub IsToFault : Option (List ℕ) → LineError → Type 0
 IsToFault None why = IsMemory why
 IsToFault (Some list) why = IsListFaultOf (codes "to") list why

@@ -1,4 +1,4 @@
-//! The arguments that several commands take, and what the words of a command line say of them.
+//! The arguments that several commands take, and what the words of a command line give for them.
 
 ghost use Rattle.std.specs.Prelude.{◌≡◌, ◌↔◌, ◌≤◌, List, IfOk, IfErr, IfSome, IsTrue, codes, option_map, string_bytes};
 ghost use Rattle.clap.specs.Words.{Rule, first_of, found_of, rows_of};
@@ -121,14 +121,14 @@ pub fn flag_argument<'a>(alloc: Global, name: &'a str, help: &'a str) -> Arg<'a>
         .action(ArgAction::SetTrue)
 }
 
-/// The text of this name, where the matches have one.
+/// The text of this name, if the matches have one.
 pub fn text<'a>(found: &ArgMatches<'a>, name: &str) -> Option<&'a str>
     ensures { option_map (λ text. text.now) result ≡ first_of name.now (rows_of (found_of found.now)) }
 {
     found.get_str(name)
 }
 
-/// The number of this name, where the matches have one within these bounds.
+/// The number of this name, if the matches have one within these bounds.
 pub fn number(found: &ArgMatches<'_>, name: &str, least: u64, most: u64) -> Option<u64>
     ensures value { result ≡ number_in (rows_of (found_of found.now)) name.now least most }
     ensures low { IfSome result (λ value. least ≤ value) }
@@ -144,7 +144,7 @@ pub fn number(found: &ArgMatches<'_>, name: &str, least: u64, most: u64) -> Opti
     Some(value)
 }
 
-/// The number of this name within these bounds, or none where the matches have no word of this name. None where they have
+/// The number of this name within these bounds, or none if the matches have no word of this name. None if they have
 /// another word of it.
 pub fn optional_number(
     found: &ArgMatches<'_>,
@@ -162,7 +162,7 @@ pub fn optional_number(
     }
 }
 
-/// The tick of this name, or none where the matches have no word of this name. None where they have another word of it.
+/// The tick of this name, or none if the matches have no word of this name. None if they have another word of it.
 pub fn tick(found: &ArgMatches<'_>, name: &str) -> Option<Option<u64>>
     ensures { result ≡ tick_in (rows_of (found_of found.now)) name.now }
 {
@@ -172,7 +172,7 @@ pub fn tick(found: &ArgMatches<'_>, name: &str) -> Option<Option<u64>>
     }
 }
 
-/// Whether the flag of this name was given, where the matches say it.
+/// Whether the flag of this name was given; None if the matches don't have it.
 pub fn flag(found: &ArgMatches<'_>, name: &str) -> Option<bool>
     ensures { result ≡ flag_in (rows_of (found_of found.now)) name.now }
 {
@@ -183,7 +183,7 @@ pub fn flag(found: &ArgMatches<'_>, name: &str) -> Option<bool>
     }
 }
 
-/// A copy of a text, where there is one.
+/// A copy of a text, if there is one.
 pub fn kept(alloc: Global, text: Option<&str>) -> Result<Option<String>, AllocError>
     ensures { IfOk result (λ kept. option_map string_bytes kept ≡ option_map (λ t. t.now) text.entry) }
 {

@@ -39,7 +39,7 @@ pub fn command<'a>(alloc: Global) -> Result<Command<'a>, AllocError>
     new_command(alloc, "brief", ABOUT, help(), arguments)
 }
 
-/// The job that the words after `brief` ask for; none where one of them lacks.
+/// The job that the words after `brief` ask for; None if one is missing.
 ///
 /// Refuses a list that isn't one. Memory may come instead.
 pub fn job(alloc: Global, found: &ArgMatches<'_>) -> Option<Result<Job, LineError>>

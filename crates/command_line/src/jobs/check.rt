@@ -45,7 +45,7 @@ pub fn command<'a>(alloc: Global) -> Result<Command<'a>, AllocError>
     new_command(alloc, "check", ABOUT, help(), arguments)
 }
 
-/// The job that the words after `check` ask for; none where one of them lacks.
+/// The job that the words after `check` ask for; None if one is missing.
 ///
 /// Refuses a list that isn't one, and then two files that are both standard input. Memory may come instead.
 pub fn job(alloc: Global, found: &ArgMatches<'_>) -> Option<Result<Job, LineError>>
@@ -84,7 +84,7 @@ fn check(
     }))
 }
 
-/// What a check says of a report.
+/// What a check finds out about a report.
 fn help() -> &'static str {
     "\
 CERT is a report of the trace in FILE for the processors of LIST, in the form

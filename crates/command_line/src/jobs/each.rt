@@ -42,7 +42,7 @@ pub fn command<'a>(alloc: Global) -> Result<Command<'a>, AllocError>
     new_command(alloc, "each", ABOUT, help(), arguments)
 }
 
-/// The job that the words after `each` ask for; none where one of them lacks.
+/// The job that the words after `each` ask for; None if one is missing.
 ///
 /// Refuses a list that isn't one. Memory may come instead.
 pub fn job(alloc: Global, found: &ArgMatches<'_>) -> Option<Result<Job, LineError>>

@@ -28,7 +28,7 @@ const UNTIL_HELP: &str = "When LOG ends; at its last event if it is left out";
 
 const IDLE_HELP: &str = "The longest wait that gets a receive of nothing";
 
-/// The trace that a log stands for, as a text of version 2.
+/// The trace that a log encodes, as a text of version 2.
 #[derive(Debug, Drop)]
 pub struct ImportJob {
     /// The path of the log's file; `-` is standard input.
@@ -96,7 +96,7 @@ fn table_argument<'a>(alloc: Global) -> Arg<'a>
         .action(ArgAction::SetTrue)
 }
 
-/// The job that the words after `import` ask for; none where one of them lacks. What the texts say is looked at
+/// The job that the words after `import` ask for; None if one is missing. The texts of its options are read
 /// elsewhere. Memory is the only refusal.
 pub fn job(alloc: Global, found: &ArgMatches<'_>) -> Option<Result<Job, LineError>>
     ensures { import_given (rows_of (found_of found.now)) result }

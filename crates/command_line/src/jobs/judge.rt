@@ -47,7 +47,7 @@ const ROWS_HELP: &str = "Prints the rows with their deadlines, too";
 pub struct JudgeJob {
     /// The path of the trace's file; `-` is standard input.
     pub file: String,
-    /// The path of the decisions' file; `-` is standard input. None where the decisions are those of the replay.
+    /// The path of the decisions' file; `-` is standard input. None if the decisions are those of the replay.
     pub decisions: Option<String>,
     /// What the decisions are judged for.
     pub judging: Judging,
@@ -91,11 +91,11 @@ fn due_argument<'a>(alloc: Global) -> Arg<'a>
     optional_argument(alloc, "due", "K", DUE_HELP).value_parser(ValueParser::unsigned(0, u64::MAX))
 }
 
-/// The job that the words after `judge` ask for; none where one of them lacks. What the formula says is looked at elsewhere.
+/// The job that the words after `judge` ask for; None if one is missing. The formula is read elsewhere.
 ///
-/// Without --runs it refuses that no list of processors is given, or one that isn't one; then decisions both of a file and of
-/// the replay, or of neither; and then two files that are both standard input. With --runs it refuses what goes with one run
-/// alone, and then such a list. Memory may come instead.
+/// Refuses, without --runs: a missing list of processors, or one that isn't one; then decisions both of a file and of
+/// the replay, or of neither; then two files that are both standard input. With --runs: what goes with one run alone;
+/// then such a list. Memory may come instead.
 pub fn job(alloc: Global, found: &ArgMatches<'_>) -> Option<Result<Job, LineError>>
     ensures { judge_given (rows_of (found_of found.now)) result }
 {

@@ -51,10 +51,10 @@ pub fn command<'a>(alloc: Global) -> Result<Command<'a>, AllocError>
     new_command(alloc, "page", ABOUT, help(), arguments)
 }
 
-/// The job that the words after `page` ask for; none where one of them lacks.
+/// The job that the words after `page` ask for; None if one is missing.
 ///
-/// Refuses a list that isn't one; then both names and a table; and then two files that are both standard input. Memory may come
-/// instead.
+/// Refuses a list that isn't one; then both names and a table; and then two files that are both standard input. Memory
+/// may come instead.
 pub fn job(alloc: Global, found: &ArgMatches<'_>) -> Option<Result<Job, LineError>>
     ensures { page_given (rows_of (found_of found.now)) result }
 {
@@ -87,7 +87,7 @@ fn page(
     Ok(Job::Page(PageJob { file, table, page }))
 }
 
-/// Refuses a table beside names, and then one that is standard input as the trace is.
+/// Refuses a table together with names, and then one that is standard input as the trace is.
 fn test_table(
     alloc: Global,
     file: &str,

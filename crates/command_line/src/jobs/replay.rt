@@ -28,7 +28,7 @@ pub fn command<'a>(alloc: Global) -> Result<Command<'a>, AllocError>
     new_command(alloc, "replay", ABOUT, help(), arguments)
 }
 
-/// The job that the words after `replay` ask for; none where one of them lacks. Memory is the only refusal.
+/// The job that the words after `replay` ask for; None if one is missing. Memory is the only refusal.
 pub fn job(alloc: Global, found: &ArgMatches<'_>) -> Option<Result<Job, LineError>>
     ensures { replay_given (rows_of (found_of found.now)) result }
 {

@@ -59,7 +59,7 @@ fn workers_argument<'a>(alloc: Global) -> Arg<'a>
         .value_parser(ValueParser::unsigned(1, MAX_WORKERS))
 }
 
-/// The job that the words after `report` ask for; none where one of them lacks.
+/// The job that the words after `report` ask for; None if one is missing.
 ///
 /// Refuses a list that isn't one. Memory may come instead.
 pub fn job(alloc: Global, found: &ArgMatches<'_>) -> Option<Result<Job, LineError>>

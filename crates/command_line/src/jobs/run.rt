@@ -95,11 +95,18 @@ fn patience_option<'a>(alloc: Global) -> Arg<'a>
     ))
 }
 
-/// The job that the words after `run` ask for; none where one of them lacks.
+/// The job that the words after `run` ask for; None if one is missing.
 ///
-/// Refuses a list of processors that isn't one; a pace that isn't one, or that needs a patience; an end that isn't one, or
-/// that its pace can't have; a number of processors outside its limits; too many that may be faulty; values that aren't
-/// one for each processor; and more than `MAX_STEPS` steps of all processors together. Memory may come instead.
+/// Refuses, in this order:
+/// - a list of processors that isn't one;
+/// - a pace that isn't one, or that needs a patience;
+/// - an end that isn't one, or that its pace can't have;
+/// - a number of processors outside its limits;
+/// - too many that may be faulty;
+/// - values that aren't one for each processor;
+/// - more than `MAX_STEPS` steps of all processors together.
+///
+/// Memory may come instead.
 pub fn job(alloc: Global, found: &ArgMatches<'_>) -> Option<Result<Job, LineError>>
     ensures { run_given (rows_of (found_of found.now)) result }
 {
@@ -145,7 +152,7 @@ fn run(
     }))
 }
 
-/// The processors for which a run is followed, where there is a list of them.
+/// The processors for which a run is followed, if there is a list of them.
 fn followed(alloc: Global, list: Option<&str>) -> Result<Option<Correct>, LineError>
     ensures named { IfOk result (IsFollowed (option_map (λ text. text.now) list.entry)) }
     ensures refused { IfErr result (IsFollowFault (option_map (λ text. text.now) list.entry)) }
@@ -163,7 +170,7 @@ fn most_patience(n: u64) -> u64
     4 * n.min(MAX_PROCESSORS)
 }
 
-/// The pace that a name and a patience ask for, where that usual patience is the one of "heard out".
+/// The pace that a name and a patience ask for; `usual` is the patience of "heard out" if none is given.
 fn paced(
     alloc: Global,
     usual: u64,
@@ -206,7 +213,7 @@ fn named_pace(
     }
 }
 
-/// The end that a run of this pace is to have, where one is asked for: that of its steps, or of the decisions.
+/// The end that a run of this pace is to have: with its steps, or with the decisions if that is asked for.
 fn ended(alloc: Global, pace: Pace, until: Option<&str>) -> Result<RunEnd, LineError>
     ensures end { IfOk result (λ end. end_of pace (option_map (λ text. text.now) until.entry) ≡ Ok end) }
     ensures refused { IfErr result (IsEndFault pace (option_map (λ text. text.now) until.entry)) }
@@ -265,7 +272,7 @@ pub(super) fn configuration(alloc: Global, n: u64, t: u64, list: &str) -> Result
     }
 }
 
-/// The values that a text lists, or none where it is no list.
+/// The values that a text lists, or none if it is no list.
 fn listed(alloc: Global, list: &str) -> Result<Vec<u64>, AllocError>
     ensures { IfOk result (λ values. AreListed list.now values.items) }
 {

@@ -103,12 +103,20 @@ fn limited_option<'a>(
     ))
 }
 
-/// The job that the words after `simulate` ask for; none where one of them lacks.
+/// The job that the words after `simulate` ask for; None if one is missing.
 ///
-/// Refuses, in this order: a schedule that isn't one; a list of crashes that isn't one; a number of processors outside its
-/// limits; too many that may be faulty; values that aren't one for each processor; one or two of the three bounds; a
-/// processor bound below the number of live processors; more crashes than may be faulty; and a crash of no processor, or
-/// two of one. Memory may come instead.
+/// Refuses, in this order:
+/// - a schedule that isn't one;
+/// - a list of crashes that isn't one;
+/// - a number of processors outside its limits;
+/// - too many that may be faulty;
+/// - values that aren't one for each processor;
+/// - one or two of the three bounds;
+/// - a processor bound below the number of live processors;
+/// - more crashes than may be faulty;
+/// - a crash of no processor, or two of one.
+///
+/// Memory may come instead.
 pub fn job(alloc: Global, found: &ArgMatches<'_>) -> Option<Result<Job, LineError>>
     ensures { simulate_given (rows_of (found_of found.now)) result }
 {
@@ -211,7 +219,7 @@ fn crashed(alloc: Global, list: Option<&str>) -> Result<Vec<Crash>, LineError>
     }
 }
 
-/// The bounds that these numbers state, where so many processors are live.
+/// The bounds that these numbers state, if so many processors are live.
 fn stated(
     alloc: Global,
     gst: Option<u64>,
@@ -241,7 +249,7 @@ fn stated(
 }
 
 /// Tests that at most as many processors crash as may be faulty, and that each crash is one of a processor, no two of
-/// one, where so many processors are live.
+/// one. `lives` is the number of live processors.
 fn are_possible(
     alloc: Global,
     config: &Config,

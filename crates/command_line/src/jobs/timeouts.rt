@@ -76,7 +76,7 @@ fn turns_argument<'a>(alloc: Global, name: &'a str, value_name: &'a str, help: &
     ))
 }
 
-/// The job that the words after `timeouts` ask for; none where one of them lacks.
+/// The job that the words after `timeouts` ask for; None if one is missing.
 ///
 /// Refuses a list that isn't one. Memory may come instead.
 pub fn job(alloc: Global, found: &ArgMatches<'_>) -> Option<Result<Job, LineError>>
@@ -123,7 +123,7 @@ fn timeouts(
     Ok(Job::Timeouts(TimeoutsJob { file, table }))
 }
 
-/// The followers that a list names, where there is one.
+/// The followers that a list names, if there is one.
 fn named(alloc: Global, list: Option<&str>) -> Result<Option<Correct>, LineError>
     ensures named { IfOk result (AreNamed (option_map (λ list. list.now) list.entry)) }
     ensures refused { IfErr result (IsToFault (option_map (λ list. list.now) list.entry)) }
