@@ -49,7 +49,7 @@ few-events kind nodes events s = let same = length-map events seen in let few = 
 pub of-processors : (kind : TimeKind) (nodes : List (List ℕ)) (events : List Event) → IsSound (record { kind = kind; nodes = nodes; events = map seen events }) → AreOfProcessors events
 of-processors kind nodes events s = meant-processors (length nodes) events s.few_nodes (are-meant (length nodes) events s.within)
 
--- a reason against messages, or want of memory
+-- a reason against messages, or out of memory
 due-fault : (why : EventError) (o : Option EventError) → IsEventRefusal why o → (why ≡ refused.Memory) ⊎ (o ≡ Some why)
 due-fault refused.UntilTooEarly o h = inr h
 due-fault refused.TooManyTicks o h = inr h

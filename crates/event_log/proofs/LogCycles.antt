@@ -1,4 +1,4 @@
--- Where events are refused for a cycle, nothing is against their messages.
+-- If events are refused for a cycle, nothing is against their messages.
 use Rattle.std.proofs.Common.{◌≡◌, ℕ, zero, suc, List, length, Option, Some, None, Bool, true, false, cond, subst, sym}
 use Rattle.std.specs.Prelude.{⊤, int_lt, nat_lt, option_map, slice_index_or}
 use Rattle.std.specs.Option.{option_or}

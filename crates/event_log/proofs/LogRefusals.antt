@@ -11,7 +11,7 @@ use Rattle.event_log.specs.declared.refusals.LogError.TheVariants.{TooLarge, Mem
 use Rattle.event_log.specs.Imports.{IsAlignRefusal, IsLogRefusal, IsRead, IsUnaligned, IsUnalignedFor, IsUnfit, IsUntimed}
 use Rattle.event_log.specs.Naming.{is_memory}
 
--- any refusal but want of memory
+-- any refusal but out of memory
 refusal-unless_memory : (o : Options) (text : List ℕ) (why : LogError) → (is_memory why ≡ false → IsRead o text (Err why) ⊎ (IsUnfit o text why ⊎ (IsUnaligned o text why ⊎ IsUntimed o text why))) → IsLogRefusal o text why
 refusal-unless_memory o text Memory f = tt
 refusal-unless_memory o text why f = f refl
@@ -29,7 +29,7 @@ unaligned-refusal o text nodes events why h f = refusal-unless_memory o text why
 pub unfit-refusal : (o : Options) (text : List ℕ) (why : LogError) → IsUnfit o text why → IsLogRefusal o text why
 unfit-refusal o text why h = refusal-unless_memory o text why (λ n. inr (inl h))
 
--- listed nodes, as they are lent
+-- listed nodes, as lent
 lent : (nodes : Option (List (List ℕ))) → (lent : Option (Bor (List (List ℕ)))) × (option_map (λ n. n.now) lent ≡ nodes)
 lent None = (None, refl)
 lent (Some nodes) = (Some (record { ref_ptr = (0, 0); now = nodes }), refl)

@@ -85,7 +85,7 @@ module _ (unit : Option TimeUnit) (a b : Option (Bor (List (List ℕ)))) (same :
   staged-same nodes text =
       ap (λ r. cond (nat_le (length text) MAX_TEXT_BYTES) (r >>= λ r. Ok (resolved_log r.0 r.1)) (Err TooLarge)) (header-same nodes (records_of_text text))
 
--- a text tells one list of events, or is refused for one reason
+-- a text gives one list of events, or is refused for one reason
 pub IsRead-unique : (o : Options) (text : List ℕ) (a b : Result SeenLog LogError) → IsRead o text a → IsRead o text b → a ≡ b
 IsRead-unique o text a b s t = sym s.staged ∙ staged-same o.unit s.listed t.listed (s.same ∙ sym t.same) (unwrap_or o.nodes []) text ∙ t.staged
 

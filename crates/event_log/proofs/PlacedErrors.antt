@@ -11,7 +11,7 @@ use Rattle.event_log.specs.declared.reading.TheConstants.{MAX_EVENTS}
 use Rattle.event_log.specs.declared.refusals.LogError.{LogError}
 use Rattle.event_log.specs.Imports.{IsErrorUnlessMemory, IsPlacedErrorUnlessMemory, event_place, hop_in, place_in, reason_in}
 
--- a reason other than a cycle is told by the place of its event
+-- a reason other than a cycle is reported by the place of its event
 pub placed-error : (text : List ℕ) (nodes : List (List ℕ)) (events left : List Event) (places : List ℕ) (why : EventError) (error : LogError) → ((i : ℕ) → ¬ (why ≡ refused.Cycle i)) → IsErrorUnlessMemory text nodes events (reason_in places why) error → IsPlacedErrorUnlessMemory text nodes events left places (filled.Events why) error
 placed-error text nodes events left places refused.UntilTooEarly error other h = h
 placed-error text nodes events left places refused.TooManyTicks error other h = h

@@ -18,7 +18,7 @@ use Rattle.event_log.specs.LostSends.{AreLeft, left_places}
 use Rattle.event_log.specs.Naming.{is_memory}
 use Rattle.event_log.proofs.LogRefusals.{untimed-refusal}
 
--- what follows of a reason follows of it, or else memory was wanting
+-- what follows of a reason follows of it, or else out of memory
 weaker : (t : Bool) (P Q : Type 0) → (P → Q) → MatchBool t ⊤ P → MatchBool t ⊤ Q
 weaker true P Q f h = h
 weaker false P Q f h = f h

@@ -90,7 +90,7 @@ each-hops : (f g : ℕ → List Hop) → ((i : ℕ) → f i ≡ g i) → (xs : L
 each-hops f g h [] = refl
 each-hops f g h (x ∷ xs) = ap₂ (λ (a b : List Hop). a ++ b) (h x) (each-hops f g h xs)
 
--- an event that is seen at a place of the one list stands at that of the other
+-- an event that is seen at a place of the one list is at that of the other
 found-by : (o : Option Event) (s : Seen) → option_map seen o ≡ Some s → (e : Event) × (o ≡ Some e) × (seen e ≡ s)
 found-by None s h = absurd (cc)
 found-by (Some e) s h = (e, refl, cc)

@@ -1,4 +1,4 @@
--- Texts that tell times, and lengths of ticks.
+-- Texts that give times, and lengths of ticks.
 use Rattle.std.proofs.Common.{◌≡◌, ◌∙◌, ℕ, zero, suc, ℤ, pos, ◌+◌, ◌<◌, ◌≤◌, List, [], ◌∷◌, ◌++◌, None, ap, arith, drop, length, refl, take}
 use Rattle.std.specs.Prelude.{replicate}
 use Rattle.trace_text.specs.Records.{number_of}
@@ -7,7 +7,7 @@ use Rattle.event_log.specs.declared.times.Width.{Width}
 use Rattle.event_log.specs.declared.times.Width.TheVariants as width
 use Rattle.event_log.specs.Times.{IsDuration, IsWidth}
 
--- a text that is neither a number nor a duration tells no length of a tick
+-- a text that is neither a number nor a duration gives no length of a tick
 pub no-width : (text : List ℕ) → number_of text ≡ None → ((x : ℤ) → ¬ (IsDuration text x)) → (w : Width) → ¬ (IsWidth text w)
 no-width text none never (width.Units n) h = let some = h.1 in absurd (cc)
 no-width text none never (width.Nanoseconds n) h = never (pos n) h.2

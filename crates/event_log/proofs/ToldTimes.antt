@@ -1,4 +1,4 @@
--- A text that tells an option isn't bad.
+-- A text that gives an option isn't bad.
 use Rattle.std.proofs.Common.{ℕ, ◌≡◌, ◌∙◌, List, Option, Some, None, ap, subst}
 use Rattle.event_log.specs.declared.times.LogEnd.{LogEnd}
 use Rattle.event_log.specs.declared.times.TimeUnit.{TimeUnit}

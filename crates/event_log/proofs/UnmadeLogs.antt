@@ -42,6 +42,6 @@ behind-unmade : (limit : Option ℕ) (spread : Bool) (n : ℕ) (events : List Ev
 behind-unmade None spread n events clock i h = behind-cycle spread events clock i h
 behind-unmade (Some limit) spread n events clock i h = behind-cycle spread events clock i h
 
--- where it is a cycle, nothing is against their messages
+-- if it is a cycle, nothing is against their messages
 pub unmade-behind : (limit : Option ℕ) (spread : Bool) (n : ℕ) (events : List Event) (clock : Clock) (why : IdleError) → IsUnmadeFor limit spread n events clock why → (i : ℕ) → why ≡ filled.Events (refused.Cycle i) → IsBehindCycle events i
 unmade-behind limit spread n events clock why h i e = behind-unmade limit spread n events clock i (subst (λ w. IsUnmadeFor limit spread n events clock w) e h)

@@ -8,8 +8,8 @@ use Rattle.event_log.specs.declared.times.TimeKind.{TimeKind}
 use Rattle.event_log.specs.declared.times.TimeKind.TheVariants as kind
 use Rattle.event_log.specs.Times.{nanoseconds_in}
 
--- the latest time of a kind: the greatest number of 64 bits, in its unit or as seconds with nine digits behind them, and the
--- last time stamp that is read
+-- the latest time of a kind: the greatest number of 64 bits, in its unit or as seconds with nine decimals, and the last
+-- time stamp that is read
 abbrev pub latest_in : TimeKind → ℤ
 latest_in kind.Number = pos 18446744073709551615
 latest_in (kind.Whole unit) = pos (18446744073709551615 * nanoseconds_in unit)
@@ -17,8 +17,8 @@ latest_in kind.Decimal = pos 18446744073709551615999999999
 latest_in kind.Stamp = pos 253402207200999999999
 latest_in kind.Local = pos 253402207200999999999
 
--- Nothing is against the messages of the events, the offsets are the least that bring them into order, and each event is
--- moved by that of its node's clock.
+-- Nothing is against the messages of the events. The offsets are the least that bring them into order, and each event
+-- is moved by that of its node's clock.
 pub record IsAligned (n : ℕ) (events : List Event) (offsets : List ℤ) (moved : List Event) : Type 0 where
   pub passed : first_fault events ≡ None
   pub least : AreClockOffsets n events offsets

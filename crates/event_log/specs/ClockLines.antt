@@ -1,4 +1,4 @@
--- The lines that tell a cycle of clocks, for which no offsets align those of a log.
+-- The lines that report a cycle of clocks, for which no offsets align those of a log.
 use Rattle.std.specs.Prelude.{ℕ, ◌+◌, ◌-◌, min, ℤ, pos, List, [], ◌∷◌, ◌++◌, length, get_or, codes, decimal, Option, Some, None}
 use Rattle.std.specs.Fmt.{signed_decimal}
 use Rattle.std.specs.List.{flat_map, range_with_len}
@@ -11,8 +11,8 @@ use Rattle.event_log.specs.HopLines.{more_line}
 use Rattle.event_log.specs.RefusalTexts.{printed}
 use Rattle.event_log.specs.ToldNames.{message_name, node_name}
 
--- the line of a message: in which record it is received, from which node to which it went, how long it took, and in which
--- record it is sent
+-- the line of a message: the record that receives it, from which node to which it went, how long it took, and the
+-- record that sends it
 abbrev pub named_clock_line : ℕ → List ℕ → List ℕ → List ℕ → ℤ → ℕ → List ℕ
 named_clock_line number message sender receiver took sent =
     10 ∷ (codes "synchrony: record " ++ (decimal number ++ (codes ": " ++ (printed message ++ (codes " from " ++ (printed sender ++ (codes " to " ++ (printed receiver ++ (codes " takes " ++ (signed_decimal took ++ (codes " (record " ++ (decimal sent ++ codes ")"))))))))))))
@@ -42,7 +42,7 @@ together_line total = 10 ∷ (codes "synchrony: together " ++ (signed_decimal to
 abbrev pub cycle_lines : List ℕ → List (List ℕ) → List Event → ClockCycle → List ℕ
 cycle_lines text nodes events cycle = all_clock_lines text nodes events cycle.hops.items ++ together_line cycle.total
 
--- the same where one is told
+-- the same; none if there is no cycle
 abbrev pub clock_lines : List ℕ → List (List ℕ) → List Event → Option ClockCycle → List ℕ
 clock_lines text nodes events None = []
 clock_lines text nodes events (Some cycle) = cycle_lines text nodes events cycle

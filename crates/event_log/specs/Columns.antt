@@ -39,7 +39,7 @@ lacks header c = is_none (place_in header c)
 abbrev pub has_twice : List (List ℕ) → Column → Bool
 has_twice header c = is_some (option_and_then (λ i. place_from (i + 1) header c) (place_in header c))
 
--- the places of the columns where each is there
+-- the places of the columns if each is there
 abbrev pub places_in : List (List ℕ) → Columns
 places_in header = record {
   time = unwrap_or (place_in header column.Time) 0;
@@ -50,7 +50,7 @@ places_in header = record {
   fields = length header;
 }
 
--- a column that stands twice refuses the header
+-- a column that occurs twice refuses the header
 abbrev pub unless_twice : Option Column → Columns → Result Columns LogError
 unless_twice None columns = Ok columns
 unless_twice (Some c) columns = Err (TwoColumns c)
@@ -60,6 +60,6 @@ abbrev pub unless_lacking : Option Column → Result Columns LogError → Result
 unless_lacking None columns = columns
 unless_lacking (Some c) columns = Err (NoColumn c)
 
--- the columns of a header: each of the five stands in it once
+-- the columns of a header: each of the five occurs in it once
 abbrev pub columns_of : List (List ℕ) → Result Columns LogError
 columns_of header = unless_lacking (find (lacks header) all_columns) (unless_twice (find (has_twice header) all_columns) (places_in header))

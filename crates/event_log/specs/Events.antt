@@ -29,7 +29,7 @@ seen_act (act.Receive messages) = Receives messages.items
 abbrev pub seen : Event → Seen
 seen event = record { time = event.time; processor = event.processor; act = seen_act event.act }
 
--- the place of the event that sent a message, where one did
+-- the place of the event that sent a message, if one did
 abbrev pub place_of_send : List (List ℕ) → List ℕ → List ℕ → Option ℕ
 place_of_send messages sends name = option_and_then (λ i. slice_get sends i) (position (bytes_eq name) messages)
 

@@ -1,4 +1,4 @@
--- The lines that tell a cycle of messages, for which a log makes no trace.
+-- The lines that report a cycle of messages, for which a log makes no trace.
 use Rattle.std.specs.Prelude.{ℕ, ◌+◌, ◌-◌, ◌%◌, min, List, [], ◌∷◌, ◌++◌, length, get_or, codes, decimal, ◌==◌, if◌then◌else◌}
 use Rattle.std.specs.List.{flat_map, range_with_len}
 use Rattle.timed_events.specs.declared.cause_cycles.Hop.{Hop}

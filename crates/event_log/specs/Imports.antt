@@ -55,7 +55,7 @@ abbrev pub duration_in : TimeKind → ℕ → Result ℕ LogError
 duration_in kind.Number n = Err TickUnfit
 duration_in k n = above_zero n
 
--- so many units of times of this kind: of their own unit, if one is told, and else of that in which they are counted
+-- so many units of times of this kind: of their own unit, if one is given, and else of that in which they are counted
 abbrev pub units_in : TimeKind → ℕ → ℕ
 units_in (kind.Whole unit) n = n * nanoseconds_in unit
 units_in k n = n
@@ -65,7 +65,7 @@ abbrev pub width_in : TimeKind → Width → Result ℕ LogError
 width_in k (Units n) = above_zero (units_in k n)
 width_in k (Nanoseconds n) = duration_in k n
 
--- The end of a log as times of this kind are counted. A whole number is one among the times, and a duration or decimal
+-- The end of a log as times of this kind are counted. A whole number is one among the times. A duration or decimal
 -- seconds fit whole numbers of a unit and decimal seconds; a time stamp fits those of its own kind.
 abbrev pub end_in : TimeKind → LogEnd → Result ℤ LogError
 end_in kind.Number (end.Number n) = Ok (pos n)
@@ -77,7 +77,7 @@ end_in kind.Stamp (end.Stamp x) = Ok x
 end_in kind.Local (end.Local x) = Ok x
 end_in k other = Err UntilUnfit
 
--- when a log with times of this kind ends, where that is told
+-- when a log with times of this kind ends, if that is given
 abbrev pub until_in : TimeKind → Option LogEnd → Result (Option ℤ) LogError
 until_in k None = Ok None
 until_in k (Some e) = end_in k e >>= λ x. Ok (Some x)
@@ -92,7 +92,7 @@ idle_in k (Units n) = Ok (units_in k n)
 idle_in kind.Number (Nanoseconds n) = Err IdleUnfit
 idle_in k (Nanoseconds n) = Ok n
 
--- how many ticks of a clock a silence has at most that gets a receive of nothing, where it is told how long it lasts
+-- how many ticks of a clock a silence has at most that gets a receive of nothing, if it is given how long it lasts
 abbrev pub limit_of : TimeKind → Option Width → Clock → Result (Option ℕ) LogError
 limit_of k None clock = Ok None
 limit_of k (Some idle) clock = idle_in k idle >>= λ x. Ok (Some (x / clock.width))
@@ -113,7 +113,7 @@ receiver_at events s = option_map_or (λ e. sent_to e.act) (slice_get events s) 
 abbrev pub receiver_of : List Event → ℕ → ℕ → ℕ
 receiver_of events i k = option_map_or (receiver_at events) (slice_index_or (messages_at events i) k None) 0
 
--- the place of the event that a reason names; 0 where it names none
+-- the place of the event that a reason names; 0 if it names none
 abbrev pub event_place : EventError → ℕ
 event_place refused.UntilTooEarly = 0
 event_place refused.TooManyTicks = 0
@@ -125,7 +125,7 @@ event_place (refused.SecondEvent i tick hint) = i
 event_place (refused.Cycle i) = i
 event_place refused.Memory = 0
 
--- the same, where it may also be that there are too many steps
+-- the same, if the reason may also be too many steps
 abbrev pub idle_place : IdleError → ℕ
 idle_place (filled.Events why) = event_place why
 idle_place filled.TooManySteps = 0
@@ -134,8 +134,8 @@ idle_place filled.TooManySteps = 0
 abbrev pub IsBehindCycle : List Event → ℕ → Type 0
 IsBehindCycle events i = (first_fault events ≡ None) × IsFirstUnplaceable events i
 
--- The refusal tells the first event in a cycle of messages or behind one, and the hops of such a cycle, from the least of
--- their events on; the record of the event at place i is number i + 2.
+-- The refusal names the first event in a cycle of messages or behind one, and the hops of such a cycle, from the least
+-- of their events on. The record of the event at place i is number i + 2.
 pub record IsCycleError (text : List ℕ) (nodes : List (List ℕ)) (events : List Event) (i : ℕ) (error : LogError) : Type 0 where
   pub hops : List Hop
   pub cycle : IsCauseCycle events hops
@@ -154,7 +154,7 @@ IsErrorOf text nodes events (refused.SecondEvent i tick hint) error = error ≡ 
 IsErrorOf text nodes events (refused.Cycle i) error = IsCycleError text nodes events i error
 IsErrorOf text nodes events refused.Memory error = error ≡ Memory
 
--- the same, or want of memory
+-- the same, or out of memory
 abbrev pub IsErrorUnlessMemory : List ℕ → List (List ℕ) → List Event → EventError → LogError → Type 0
 IsErrorUnlessMemory text nodes events why error = MatchBool (is_memory error) ⊤ (IsErrorOf text nodes events why error)
 
@@ -163,34 +163,34 @@ abbrev pub IsIdleErrorOf : List ℕ → List (List ℕ) → List Event → IdleE
 IsIdleErrorOf text nodes events (filled.Events why) error = IsErrorOf text nodes events why error
 IsIdleErrorOf text nodes events filled.TooManySteps error = error ≡ TooManySteps
 
--- the same, or want of memory
+-- the same, or out of memory
 abbrev pub IsIdleErrorUnlessMemory : List ℕ → List (List ℕ) → List Event → IdleError → LogError → Type 0
 IsIdleErrorUnlessMemory text nodes events why error = MatchBool (is_memory error) ⊤ (IsIdleErrorOf text nodes events why error)
 
--- no offsets bring the messages into order, which a cycle of clocks tells, if one is told
+-- no offsets bring the messages into order, which a cycle of clocks shows, if one is reported
 pub record HaveNoOffsets (text : List ℕ) (nodes : List (List ℕ)) (events : List Event) (why : LogError) : Type 0 where
   pub none : (y : ℕ → ℤ) → ¬ AreInOrder events y
   pub cycle : Option ClockCycle
   pub sound : IfSome cycle (λ c. IsClockCycle events c)
   pub is : why ≡ NoOffsets (clock_lines text nodes events cycle)
 
--- why the clocks of events aren't aligned: the first reason against their messages; or that no offsets bring these into
--- order; or that times would be too late
+-- why the clocks of events aren't aligned: the first reason against their messages; or no offsets bring these into
+-- order; or times would be too late
 abbrev pub IsUnalignedFor : List ℕ → List (List ℕ) → List Event → LogError → Type 0
 IsUnalignedFor text nodes events why = ((reason : EventError) × (first_fault events ≡ Some reason) × IsErrorOf text nodes events reason why)
     ⊎ (((first_fault events ≡ None) × HaveNoOffsets text nodes events why) ⊎ ((first_fault events ≡ None) × (why ≡ TooLate)))
 
--- the same, or want of memory
+-- the same, or out of memory
 abbrev pub IsAlignRefusal : List ℕ → List (List ℕ) → List Event → LogError → Type 0
 IsAlignRefusal text nodes events why = MatchBool (is_memory why) ⊤ (IsUnalignedFor text nodes events why)
 
--- the events that the records of a text tell, or why they tell none: where nodes are listed, these are numbered first
+-- the events that the records of a text give, or why they give none; if nodes are listed, these are numbered first
 pub record IsRead (o : Options) (text : List ℕ) (answer : Result SeenLog LogError) : Type 0 where
   pub listed : Option (Bor (List (List ℕ)))
   pub same : option_map (λ nodes. nodes.now) listed ≡ o.nodes
   pub staged : staged_log o.unit listed (unwrap_or o.nodes []) text ≡ answer
 
--- the events aren't told for this reason, or for want of memory
+-- the events aren't read for this reason, or out of memory
 abbrev pub IsReadRefusal : Options → List ℕ → LogError → Type 0
 IsReadRefusal o text why = MatchBool (is_memory why) ⊤ (IsRead o text (Err why))
 
@@ -206,7 +206,7 @@ abbrev pub IsMadeBy : Option ℕ → Bool → ℕ → List Event → Clock → R
 IsMadeBy None spread n events clock trace moved idle = IsTimed spread n events clock (record { trace = trace; moved = moved }) × (idle ≡ None)
 IsMadeBy (Some limit) spread n events clock trace moved idle = IsFilledWith limit spread n events clock trace moved idle
 
--- `filled` has the events and, behind them, the receives of nothing that are added to them, if any are; these are its places in the
+-- `filled` has the events and, behind them, the receives of nothing that are added, if any; these are its places in the
 -- order of the steps of their trace
 abbrev pub ArePlacedBy : Option ℕ → Bool → ℕ → List Event → Clock → List Event → List ℕ → Type 0
 ArePlacedBy None spread n events clock filled places = (filled ≡ events) × AreStepPlaces spread events clock places
@@ -218,8 +218,8 @@ IsUnmadeFor None spread n events clock (filled.Events why) = IsTimedRefusal spre
 IsUnmadeFor None spread n events clock filled.TooManySteps = ⊥
 IsUnmadeFor (Some limit) spread n events clock why = IsIdleRefusal spread n events clock limit why
 
--- Where lost sends are left out, `left` are the other events, and these are their places; else `left` are all events, each at its
--- own place.
+-- If lost sends are left out, `left` are the other events, and these are their places; else `left` are all events, each
+-- at its own place.
 abbrev pub AreLeftBy : Bool → List Event → List Event → Option (List ℕ) → Type 0
 AreLeftBy false events left places = (left ≡ events) × (places ≡ None)
 AreLeftBy true events left None = ⊥
@@ -254,8 +254,8 @@ reason_in places refused.Memory = refused.Memory
 abbrev pub hop_in : List ℕ → Hop → Hop
 hop_in places hop = record { event = place_in places hop.event; message = place_in places hop.message }
 
--- The refusal tells the first event that is in a cycle of messages or behind one, and the hops of such a cycle, from the least
--- of their events on, by their records.
+-- The refusal names the first event in a cycle of messages or behind one, and the hops of such a cycle by their
+-- records, from the least event on.
 pub record IsLeftCycleError (text : List ℕ) (nodes : List (List ℕ)) (events left : List Event) (places : List ℕ) (i : ℕ) (error : LogError) : Type 0 where
   pub hops : List Hop
   pub cycle : IsCauseCycle left hops
@@ -272,11 +272,11 @@ abbrev pub IsLeftErrorOf : List ℕ → List (List ℕ) → List Event → List 
 IsLeftErrorOf text nodes events left None why error = IsIdleErrorOf text nodes events why error
 IsLeftErrorOf text nodes events left (Some places) why error = IsPlacedErrorOf text nodes events left places why error
 
--- the same, or want of memory
+-- the same, or out of memory
 abbrev pub IsPlacedErrorUnlessMemory : List ℕ → List (List ℕ) → List Event → List Event → List ℕ → IdleError → LogError → Type 0
 IsPlacedErrorUnlessMemory text nodes events left places why error = MatchBool (is_memory error) ⊤ (IsPlacedErrorOf text nodes events left places why error)
 
--- events and a clock, which a text and options tell
+-- events and a clock, which a text and options give
 pub record AreEventsOf (o : Options) (text : List ℕ) (log : SeenLog) (events : List Event) (clock : Clock) : Type 0 where
   pub read : IsRead o text (Ok log)
   pub same : map seen events ≡ log.events
@@ -287,8 +287,8 @@ abbrev pub lost_of : ℕ → Option (List ℕ) → Option ℕ
 lost_of count None = None
 lost_of count (Some places) = Some (count - length places)
 
--- The trace is that of the events of a log, without lost sends if these are left out. How far they went is told by their places in the
--- log.
+-- The trace is that of the events of a log, without lost sends if these are left out. How far they moved is reported by
+-- their places in the log.
 pub record IsMadeOfLog (drop : Bool) (limit : Option ℕ) (spread : Bool) (n : ℕ) (events : List Event) (clock : Clock) (import : Import) : Type 0 where
   pub left : List Event
   pub left_at : Option (List ℕ)
@@ -298,8 +298,8 @@ pub record IsMadeOfLog (drop : Bool) (limit : Option ℕ) (spread : Bool) (n : �
   pub moved_is : import.moved ≡ moved_in left_at moved
   pub lost : import.lost ≡ lost_of (length events) left_at
 
--- The trace is that of the events that the text tells, by the options, with their clocks aligned and without lost sends if that
--- is asked for; the nodes are the processors, in their order; and so many messages of the events are late.
+-- The trace is that of the events that the text gives by the options, with their clocks aligned and without lost sends
+-- if that is asked for. The nodes are the processors, in their order. So many messages of the events are late.
 pub record IsImportOf (o : Options) (text : List ℕ) (import : Import) : Type 0 where
   pub log : SeenLog
   pub events : List Event
@@ -332,7 +332,7 @@ pub record IsPlacedImport (o : Options) (text : List ℕ) (import : Import) (fil
   pub begins : first ≡ least_time is.made.left
   pub placed : ArePlacedBy is.limit o.spread (length is.log.nodes) is.made.left clock filled places
 
--- the events are told, and an option doesn't fit their times
+-- the events are read, and an option doesn't fit their times
 pub record IsUnfit (o : Options) (text : List ℕ) (why : LogError) : Type 0 where
   pub log : SeenLog
   pub read : IsRead o text (Ok log)
@@ -355,11 +355,11 @@ IsEmptied drop events why = (drop ≡ true) × (left_places events ≡ []) × (w
 abbrev pub IsUnmadeOfLog : Bool → Option ℕ → Bool → List ℕ → List (List ℕ) → List Event → Clock → LogError → Type 0
 IsUnmadeOfLog drop limit spread text nodes events clock why = IsEmptied drop events why ⊎ IsUntimedOf drop limit spread text nodes events clock why
 
--- the same, or want of memory
+-- the same, or out of memory
 abbrev pub IsUnmadeUnlessMemory : Bool → Option ℕ → Bool → List ℕ → List (List ℕ) → List Event → Clock → LogError → Type 0
 IsUnmadeUnlessMemory drop limit spread text nodes events clock why = MatchBool (is_memory why) ⊤ (IsUnmadeOfLog drop limit spread text nodes events clock why)
 
--- the events are told, and they make no trace
+-- the events are read, and they make no trace
 pub record IsUntimed (o : Options) (text : List ℕ) (why : LogError) : Type 0 where
   pub log : SeenLog
   pub events : List Event
@@ -372,7 +372,7 @@ pub record IsUntimed (o : Options) (text : List ℕ) (why : LogError) : Type 0 w
   pub fits_idle : limit_in o log.kind clock ≡ Ok limit
   pub unmade : IsUnmadeOfLog o.drop_lost limit o.spread text log.nodes aligned clock why
 
--- the events are told, and their clocks aren't aligned, though that is asked for
+-- the events are read, and their clocks aren't aligned, though that is asked for
 pub record IsUnaligned (o : Options) (text : List ℕ) (why : LogError) : Type 0 where
   pub log : SeenLog
   pub events : List Event
@@ -381,8 +381,8 @@ pub record IsUnaligned (o : Options) (text : List ℕ) (why : LogError) : Type 0
   pub asked : o.align ≡ true
   pub unaligned : IsUnalignedFor text log.nodes events why
 
--- why there is no trace: the first refusal of the text, or else of the options by its times, or else of its clocks, or else
--- of its events; or want of memory
+-- why there is no trace: the first refusal of the text, else of the options by its times, else of its clocks, else of
+-- its events; or out of memory
 abbrev pub IsLogRefusal : Options → List ℕ → LogError → Type 0
 IsLogRefusal o text Memory = ⊤
 IsLogRefusal o text why = IsRead o text (Err why) ⊎ (IsUnfit o text why ⊎ (IsUnaligned o text why ⊎ IsUntimed o text why))

@@ -1,4 +1,4 @@
--- What a record of a log says of an event, or the first reason for which it is refused.
+-- What a record of a log says about an event, or the first reason for which it is refused.
 use Rattle.std.specs.Prelude.{ℕ, List, Option, Some, None, Result, Ok, Err, Bool, ◌&&◌, ◌==◌, codes, length, if◌then◌else◌}
 use Rattle.std.specs.Borrow.{Bor}
 use Rattle.std.specs.Option.{ok_or}
@@ -16,7 +16,7 @@ use Rattle.event_log.specs.declared.times.TimeKind.{TimeKind}
 use Rattle.event_log.specs.Names.{are_message_names, has_name, is_message_name, is_name}
 use Rattle.event_log.specs.Times.{moment_in, moment_of}
 
--- what a record says of an event
+-- what a record says about an event
 pub record Said : Type 0 where
   pub moment : Moment
   pub verb : Verb
@@ -28,7 +28,7 @@ pub record Said : Type 0 where
 abbrev pub said : Told → Said
 said told = record { moment = told.moment; verb = told.verb; node = told.node.now; to = told.to.now; messages = told.messages.now }
 
--- a time of the kind of the times, where it is settled
+-- a time of the kind of the times, if that is settled
 abbrev pub moment_as : Option TimeKind → List ℕ → Option Moment
 moment_as None field = moment_of field
 moment_as (Some kind) field = moment_in kind field
@@ -39,7 +39,7 @@ verb_of field =
     else if bytes_eq field (codes "receive") then Some verb.Receive
     else None
 
--- whether a node may be named: where the nodes are listed, it is one of them
+-- whether a node may be named: if the nodes are listed, it is one of them
 abbrev pub is_node : Option (Bor (List (List ℕ))) → List ℕ → Bool
 is_node None name = is_name name
 is_node (Some nodes) name = has_name nodes.now name
@@ -52,7 +52,7 @@ are_nodes_by verb.Receive listed s = is_node listed s.node
 abbrev pub are_nodes : Option (Bor (List (List ℕ))) → Said → Bool
 are_nodes listed s = are_nodes_by s.verb listed s
 
--- the name that a refused node has; None where it is no name
+-- the name that a refused node has; None if it is no name
 abbrev pub name_in : List ℕ → Option (List ℕ)
 name_in node = if is_name node then Some node else None
 
@@ -82,7 +82,7 @@ said_by columns moment verb fields = record {
   messages = field_of fields columns.message;
 }
 
--- an event is accepted where its nodes may be named and its messages are names
+-- an event is accepted if its nodes may be named and its messages are names
 abbrev pub accepted : Option (Bor (List (List ℕ))) → ℕ → Said → Result Said LogError
 accepted listed number s =
     if are_nodes listed s then (if are_messages s then Ok s else Err (BadMessage number))

@@ -24,7 +24,7 @@ pub record Named : Type 0 where
 abbrev pub begun : List (List ℕ) → Named
 begun nodes = record { nodes = nodes; messages = []; sends = []; events = [] }
 
--- the number of a node: one more than its place, or than that of the last node where it is new
+-- the number of a node: one more than its place, or than that of the last node if it is new
 abbrev pub number_of : List (List ℕ) → List ℕ → ℕ
 number_of nodes name = position_or_len (bytes_eq name) nodes + 1
 

@@ -1,4 +1,4 @@
--- The options of a log, as texts tell them.
+-- The options of a log, as texts give them.
 use Rattle.std.specs.Prelude.{ℕ, ◌≡◌, ◌≤◌, Bool, true, List, length, Option, Some, None, ◌==◌, ◌&&◌, nat_lt, not, ⊤}
 use Rattle.std.specs.List.{All, IsDistinct, slice_split}
 use Rattle.std.specs.Str.{bytes_eq}
@@ -27,7 +27,7 @@ pub record AreNodes (names : List (List ℕ)) : Type 0 where
 abbrev pub is_next_node : List (List ℕ) → List ℕ → Bool
 is_next_node names name = is_name name && nat_lt (length names) 64 && not (has_name names name)
 
--- a text lists no nodes for this reason, unless memory was wanting
+-- a text lists no nodes for this reason, or out of memory
 abbrev pub IsNodeFault : Type 0 → OptionError → Type 0
 IsNodeFault Why option.Nodes = Why
 IsNodeFault Why option.Unit = ⊥
@@ -36,32 +36,32 @@ IsNodeFault Why option.Until = ⊥
 IsNodeFault Why option.Idle = ⊥
 IsNodeFault Why option.Memory = ⊤
 
--- the nodes that a text lists; nothing where there is no text
+-- the nodes that a text lists; nothing if there is no text
 abbrev pub AreNodesIn : Option (List ℕ) → Option (List (List ℕ)) → Type 0
 AreNodesIn None nodes = nodes ≡ None
 AreNodesIn (Some text) nodes = AreNodes (parts_between_commas text) × (nodes ≡ Some (parts_between_commas text))
 
--- the unit that a text names; nothing where there is no text
+-- the unit that a text names; nothing if there is no text
 abbrev pub IsUnitIn : Option (List ℕ) → Option TimeUnit → Type 0
 IsUnitIn None unit = unit ≡ None
 IsUnitIn (Some text) unit = (named : TimeUnit) × (unit_of text ≡ Some named) × (unit ≡ Some named)
 
--- the length of a tick that a text tells; 1 where there is no text
+-- the length of a tick that a text gives; 1 if there is no text
 abbrev pub IsWidthIn : Option (List ℕ) → Width → Type 0
 IsWidthIn None width = width ≡ Units 1
 IsWidthIn (Some text) width = IsWidth text width
 
--- the end of the log that a text tells; nothing where there is no text
+-- the end of the log that a text gives; nothing if there is no text
 abbrev pub IsUntilIn : Option (List ℕ) → Option LogEnd → Type 0
 IsUntilIn None until = until ≡ None
 IsUntilIn (Some text) until = (end : LogEnd) × IsEnd text end × (until ≡ Some end)
 
--- the longest time without an event that a text tells; nothing where there is no text
+-- the longest time without an event that a text gives; nothing if there is no text
 abbrev pub IsIdleIn : Option (List ℕ) → Option Width → Type 0
 IsIdleIn None idle = idle ≡ None
 IsIdleIn (Some text) idle = (width : Width) × IsWidth text width × (idle ≡ Some width)
 
--- the options that the five texts tell
+-- the options that the five texts give
 pub record AreOptions (nodes unit tick until idle : Option (List ℕ)) (spread align drop_lost : Bool) (o : Options) : Type 0 where
   pub nodes_are : AreNodesIn nodes o.nodes
   pub unit_is : IsUnitIn unit o.unit
@@ -72,8 +72,8 @@ pub record AreOptions (nodes unit tick until idle : Option (List ℕ)) (spread a
   pub align_is : o.align ≡ align
   pub drop_is : o.drop_lost ≡ drop_lost
 
--- a text that lists no nodes, one that names no unit, one that tells no length of a tick or of a silence, and one that tells
--- no end
+-- a text that lists no nodes, one that names no unit, one that gives no length of a tick or of a silence, and one that
+-- gives no end
 abbrev pub HasBadNodes : Option (List ℕ) → Type 0
 HasBadNodes nodes = (text : List ℕ) × (nodes ≡ Some text) × (¬ AreNodes (parts_between_commas text))
 
@@ -86,7 +86,8 @@ HasBadTick tick = (text : List ℕ) × (tick ≡ Some text) × ((width : Width) 
 abbrev pub HasBadUntil : Option (List ℕ) → Type 0
 HasBadUntil until = (text : List ℕ) × (until ≡ Some text) × ((end : LogEnd) → ¬ IsEnd text end)
 
--- why four texts tell no unit, no length of a tick, no end and no length of a silence: the first that is bad, in this order
+-- why four texts give no unit, no length of a tick, no end and no length of a silence: the first that is bad, in this
+-- order
 abbrev pub IsTimeFault : Option (List ℕ) → Option (List ℕ) → Option (List ℕ) → Option (List ℕ) → OptionError → Type 0
 IsTimeFault unit tick until idle option.Nodes = ⊥
 IsTimeFault unit tick until idle option.Unit = HasBadUnit unit
@@ -95,7 +96,7 @@ IsTimeFault unit tick until idle option.Until = (¬ HasBadUnit unit) × (¬ HasB
 IsTimeFault unit tick until idle option.Idle = (¬ HasBadUnit unit) × (¬ HasBadTick tick) × (¬ HasBadUntil until) × HasBadTick idle
 IsTimeFault unit tick until idle option.Memory = ⊥
 
--- why the texts tell no options: the first that is bad, in this order; or want of memory
+-- why the texts give no options: the first that is bad, in this order; or out of memory
 abbrev pub IsOptionFault : Option (List ℕ) → Option (List ℕ) → Option (List ℕ) → Option (List ℕ) → Option (List ℕ) → OptionError → Type 0
 IsOptionFault nodes unit tick until idle option.Nodes = HasBadNodes nodes
 IsOptionFault nodes unit tick until idle option.Unit = (¬ HasBadNodes nodes) × HasBadUnit unit

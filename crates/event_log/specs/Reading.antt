@@ -29,7 +29,7 @@ rules_of columns r = record { columns = columns; kind = settled r.unit r.kind; l
 abbrev pub with_event : Reading → Said → Reading
 with_event r s = record r { kind = Some s.moment.kind; count = r.count + 1; names = after_told r.count r.names s }
 
--- an event, where there may be one more
+-- an event, if there may be one more
 abbrev pub next_event : Columns → Reading → List (List ℕ) → Result Reading LogError
 next_event columns r fields =
     if nat_le MAX_EVENTS r.count then Err TooManyEvents

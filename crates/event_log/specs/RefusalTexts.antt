@@ -1,4 +1,4 @@
--- What is told of a refused log.
+-- What is reported about a refused log.
 use Rattle.std.specs.Prelude.{ℕ, List, ◌++◌, codes, decimal, unwrap_or}
 use Rattle.event_log.specs.declared.refusals.LogError.{LogError}
 use Rattle.event_log.specs.declared.refusals.LogError.TheVariants.{TooLarge, NoColumn, TwoColumns, TooManyEvents, BadFields, BadTime, BadEvent, BadNode, BadMessage, NoEvents, TooManyNodes, SentBefore, TooFewNodes, TickUnfit, UntilUnfit, IdleUnfit, TooManyTicks, NeverSent, WrongReceiver, ReceivedBefore, NotLater, SecondEvent, Cycle, NoOffsets, TooLate, TooManySteps, Memory}

@@ -1,4 +1,4 @@
--- The events of a log by stages: a stage begins where the one before it has refused nothing.
+-- The events of a log by stages: a stage begins if the one before it has refused nothing.
 use Rattle.std.specs.Prelude.{ℕ, ◌+◌, List, [], ◌∷◌, Option, Some, None, Result, Ok, Err, length, nat_le, if◌then◌else◌}
 use Rattle.std.specs.Borrow.{Bor}
 use Rattle.trace_text.specs.Records.{◌>>=◌, records_of_text}

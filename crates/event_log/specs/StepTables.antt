@@ -45,14 +45,15 @@ receiver_name_at nodes events i = option_map_or (λ e. receiver_in nodes e.act) 
 abbrev pub message_fields : List ℕ → List (List ℕ)
 message_fields text = map (λ fields. field_of fields (message_place text)) (records_of_text text)
 
--- what only a step of one of the log's events has, of which there are so many; a receive that was added behind these has nothing
+-- what only a step of one of the log's events has, of which there are so many; a receive that was added behind them has
+-- nothing
 abbrev pub if_logged : ℕ → ℕ → List ℕ → List ℕ
 if_logged logged i field = if nat_lt i logged then field else []
 
--- Step k, counted from 0, which is the event at place i, in a tick: its number and tick, when the tick begins, the number of its
--- record, the time of the event, the node, what it did, the node that a send is for, and what its record has in the column of
--- messages. The events are at the places `left_at` of the log, whose records come after that of the header, which is number 1. Tick 1
--- begins at the time `first`.
+-- Step k, counted from 0, which is the event at place i, in a tick. Its fields: its number and tick; when the tick
+-- begins; the number of its record; the time of the event; the node; what it did; the node that a send is for; and what
+-- its record has in the column of messages. The events are at the places `left_at` of the log, whose records come after
+-- that of the header, which is number 1. Tick 1 begins at the time `first`.
 abbrev pub step_record : List (List ℕ) → List (List ℕ) → List Event → ℕ → Option (List ℕ) → ℤ → ℕ → ℕ → ℕ → ℕ → List (List ℕ)
 step_record messages nodes events logged left_at first width k tick i =
     decimal (k + 1) ∷ decimal tick ∷ signed_decimal (begin_of first width tick) ∷ if_logged logged i (decimal (log_place left_at i + 2)) ∷ if_logged logged i (signed_decimal (time_at events i))
@@ -71,8 +72,8 @@ rows_text messages nodes events logged left_at first width ticks places count =
 abbrev pub table_text : List ℕ → List (List ℕ) → List Event → ℕ → Option (List ℕ) → ℤ → ℕ → List ℕ → List ℕ → List ℕ
 table_text text nodes events logged left_at first width ticks places = rows_text (message_fields text) nodes events logged left_at first width ticks places (length places)
 
--- The import is that of the text by the options, and the table has a record for each of its steps: that of its event, or of the
--- receive of nothing that was added.
+-- The import is that of the text by the options. The table has a record for each of its steps: that of its event, or of
+-- the receive of nothing that was added.
 pub record IsTableOf (o : Options) (text : List ℕ) (import : Import) (table : List ℕ) : Type 0 where
   pub is : IsImportOf o text import
   pub filled : List Event

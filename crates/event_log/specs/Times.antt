@@ -24,7 +24,7 @@ abbrev pub value_of : {A : Type 0} → Result A Error → Option A
 value_of (Ok x) = Some x
 value_of (Err e) = None
 
--- the text that bytes are, where they are UTF-8
+-- the text that bytes encode, if they are UTF-8
 unfoldable pub text_of : List ℕ → Option (List ℕ)
 text_of bytes = if is_utf8 bytes then Some bytes else None
 
@@ -32,7 +32,8 @@ text_of bytes = if is_utf8 bytes then Some bytes else None
 abbrev pub stamp_of : List ℕ → Option ℤ
 stamp_of field = option_and_then (λ text. value_of (parse_timestamp text)) (text_of field)
 
--- the nanosecond of a time stamp without an offset, in UTC: of a field that is no time stamp, and is one with a Z behind it
+-- the nanosecond of a time stamp without an offset, in UTC: of a field that is no time stamp, and is one with a Z after
+-- it
 abbrev pub stamp_unless : Option ℤ → List ℕ → Option ℤ
 stamp_unless (Some time) field = None
 stamp_unless None field = if nat_le (length field) MAX_LOCAL_BYTES then stamp_of (field ++ 90 ∷ []) else None
@@ -92,16 +93,17 @@ time_as kind.Decimal field = option_map pos (option_or (whole_of unit.Second fie
 time_as kind.Stamp field = stamp_of field
 time_as kind.Local field = local_of field
 
--- the time of this kind that a field tells
+-- the time of this kind that a field gives
 abbrev pub moment_in : TimeKind → List ℕ → Option Moment
 moment_in k field = option_map (λ time. record { kind = k; time = time }) (time_as k field)
 
--- the kind by which a time is read: that of the whole numbers of a unit, if one is told; else that of record 2, if it is known
+-- the kind by which a time is read: that of the whole numbers of a unit, if one is given; else that of record 2, if it
+-- is known
 abbrev pub settled : Option TimeUnit → Option TimeKind → Option TimeKind
 settled None k = k
 settled (Some unit) k = Some (kind.Whole unit)
 
--- the time that a field tells: a number, else decimal seconds, else a time stamp, else one without an offset
+-- the time that a field gives: a number, else decimal seconds, else a time stamp, else one without an offset
 abbrev pub moment_of : List ℕ → Option Moment
 moment_of field =
     option_or (moment_in kind.Number field) (option_or (moment_in kind.Decimal field) (option_or (moment_in kind.Stamp field) (moment_in kind.Local field)))
@@ -115,12 +117,12 @@ abbrev pub nanoseconds_of : Width → ℕ
 nanoseconds_of (width.Units n) = 0
 nanoseconds_of (width.Nanoseconds n) = n
 
--- a text tells this length of a tick: a number above 0, or else a duration above 0
+-- a text gives this length of a tick: a number above 0, or else a duration above 0
 abbrev pub IsWidth : List ℕ → Width → Type 0
 IsWidth text (width.Units n) = (0 < n) × (number_of text ≡ Some n)
 IsWidth text (width.Nanoseconds n) = (0 < n) × (number_of text ≡ None) × IsDuration text (pos n)
 
--- the end of a log that a text tells: a number, else decimal seconds, else a time stamp, else one without an offset
+-- the end of a log that a text gives: a number, else decimal seconds, else a time stamp, else one without an offset
 abbrev pub time_of_end : List ℕ → Option LogEnd
 time_of_end text =
     option_or (option_map end.Number (number_of text)) (option_or (option_map (λ n. end.Nanoseconds (pos n)) (decimal_of text))
@@ -131,6 +133,6 @@ abbrev pub IsDurationEnd : List ℕ → LogEnd → Type 0
 IsDurationEnd text (end.Nanoseconds x) = IsDuration text x
 IsDurationEnd text _ = ⊥
 
--- a text tells this end of a log: a time, or else a duration
+-- a text gives this end of a log: a time, or else a duration
 abbrev pub IsEnd : List ℕ → LogEnd → Type 0
 IsEnd text e = (time_of_end text ≡ Some e) ⊎ ((time_of_end text ≡ None) × IsDurationEnd text e)

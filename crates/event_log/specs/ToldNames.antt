@@ -1,4 +1,4 @@
--- The names that are told of a refused log: of messages, as their records have them, and of nodes.
+-- The names that a refusal of a log reports: of messages, as their records have them, and of nodes.
 use Rattle.std.specs.Prelude.{ℕ, ◌+◌, ◌-◌, List, [], slice_index_or, unwrap_or}
 use Rattle.trace_text.specs.Records.{records_of_text, field_of}
 use Rattle.event_log.specs.declared.columns.Column.TheVariants as column

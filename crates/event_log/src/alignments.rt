@@ -22,7 +22,7 @@ use clock_offsets::{
 use std::alloc::{AllocError, Global};
 use timed_events::check_messages;
 
-/// A log with its clocks aligned, and by how much they were moved; nothing where that wasn't asked for.
+/// A log with its clocks aligned, and by how much they were moved; nothing if that wasn't asked for.
 #[derive(Drop)]
 pub(crate) struct AlignedLog {
     pub(crate) log: NamedEvents,
@@ -143,8 +143,8 @@ fn moved_log(log: NamedEvents, offsets: Offsets) -> Result<AlignedLog, LogError>
     }
 }
 
-/// The latest time of a kind: the greatest number of 64 bits, in its unit or as seconds with nine digits behind them, and
-/// the last time stamp that is read.
+/// The latest time of a kind: the greatest number of 64 bits, in its unit or as seconds with nine decimals, and the
+/// last time stamp that is read.
 fn latest_in(kind: TimeKind) -> i128
     ensures { result ≡ latest_in kind }
 {

@@ -1,4 +1,4 @@
-//! The lines that tell a cycle of clocks, for which no offsets align those of a log.
+//! The lines that report a cycle of clocks, for which no offsets align those of a log.
 
 ghost use Rattle.std.specs.Prelude.{◌≡◌, ◌<◌, ℕ, IfOk, length, get_or, string_bytes};
 ghost use Rattle.clock_offsets.specs.declared.clock_cycles.ClockHop.{ClockHop};
@@ -14,8 +14,8 @@ use std::alloc::{AllocError, Global};
 use std::fmt;
 use timed_events::Event;
 
-/// The lines of a cycle of clocks: one for each of the first `MAX_SHOWN` messages, how many more there are, if any, and how
-/// long they take together. None where no cycle is told.
+/// The lines of a cycle of clocks: one for each of the first `MAX_SHOWN` messages, how many more there are, if any, and
+/// how long they take together. None if there is no cycle.
 pub(crate) fn clock_lines(
     alloc: Global,
     text: &[u8],
@@ -88,8 +88,8 @@ fn shown_clock_lines(
     Ok(lines)
 }
 
-/// The line of a message: in which record it is received, from which node to which it went, how long it took, and in which
-/// record it is sent.
+/// The line of a message: the record that receives it, from which node to which it went, how long it took, and the
+/// record that sends it.
 fn clock_line(
     alloc: Global,
     text: &[u8],

@@ -67,7 +67,7 @@ impl fmt::Display for Column {
 
 /// The columns of a header.
 ///
-/// Refuses NoColumn with the first column that is lacking, and TwoColumns with the first that stands twice, in this
+/// Refuses NoColumn with the first column that is missing, and TwoColumns with the first that occurs twice, in this
 /// order.
 pub(crate) fn columns_of(header: &ByteRecord) -> Result<Columns, LogError>
     ensures { result ≡ columns_of (fields_of header.now) }

@@ -15,7 +15,7 @@ use timed_events::{Event, EventAct, EventError, cycle_of_causes};
 
 /// The refusal of a log for a reason against its events, or Memory.
 ///
-/// Asks for a reason that stands, so that it names one of `MAX_EVENTS` events, if any; and where it is a cycle, for events
+/// Asks for a reason that holds, so that it names one of `MAX_EVENTS` events, if any. If it is a cycle, asks for events
 /// against whose messages there is nothing.
 pub(crate) fn error_of(
     alloc: Global,
@@ -119,7 +119,7 @@ pub(crate) fn node_name(alloc: Global, nodes: &NameSet, number: u64) -> Result<N
     }
 }
 
-/// The processor of the event at a place, or 0 where there is none.
+/// The processor of the event at a place, or 0 if there is none.
 pub(crate) fn processor_at(events: &[Event], place: usize) -> u64
     ensures { result ≡ processor_at events.now place }
 {
@@ -129,7 +129,7 @@ pub(crate) fn processor_at(events: &[Event], place: usize) -> u64
     }
 }
 
-/// The processor to which a message of the event at a place was sent, or 0 where no event sent it.
+/// The processor to which a message of the event at a place was sent, or 0 if no event sent it.
 fn receiver_of(events: &[Event], place: usize, message: usize) -> u64
     ensures { result ≡ receiver_of events.now place message }
 {
@@ -148,7 +148,7 @@ fn sent_place(events: &[Event], place: usize, message: usize) -> Option<u32>
     *sent
 }
 
-/// The processor to which the event at a place sends, or 0 where it doesn't.
+/// The processor to which the event at a place sends, or 0 if it doesn't.
 fn receiver_at(events: &[Event], place: usize) -> u64
     ensures { result ≡ receiver_at events.now place }
 {

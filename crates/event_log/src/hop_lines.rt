@@ -1,4 +1,4 @@
-//! The lines that tell a cycle of messages, for which a log makes no trace.
+//! The lines that report a cycle of messages, for which a log makes no trace.
 
 ghost use Rattle.std.specs.Prelude.{◌≡◌, ◌<◌, ◌+◌, ℕ, List, IfOk, length, get_or, string_bytes};
 ghost use Rattle.timed_events.specs.declared.cause_cycles.Hop.{Hop};
@@ -13,7 +13,7 @@ use std::fmt;
 use std::marker::Model;
 use timed_events::{Event, Hop};
 
-/// The greatest number of hops that are told one by one.
+/// The greatest number of hops that are listed one by one.
 pub(crate) const MAX_SHOWN: usize = 8;
 
 /// The lines of a cycle of messages or of clocks, each after a line feed.

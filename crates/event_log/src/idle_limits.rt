@@ -9,7 +9,7 @@ use crate::refusals::LogError;
 use crate::times::{TimeKind, Width};
 use timed_events::Clock;
 
-/// How many ticks of this clock a silence has at most that gets a receive of nothing, where it is told how long it lasts.
+/// How many ticks of this clock a silence has at most that gets a receive of nothing, if it is given how long it lasts.
 ///
 /// Asks for ticks that have a length. Refuses IdleUnfit.
 pub(crate) fn limit_for(

@@ -41,11 +41,11 @@ pub struct Import {
     pub moved: Moved,
     /// How many messages are received no later than they are sent, by the times of the events.
     pub lateness: Lateness,
-    /// By how much the clocks of the nodes were moved, where they were to be aligned.
+    /// By how much the clocks of the nodes were moved, if they were to be aligned.
     pub offsets: Option<Offsets>,
-    /// The receives of nothing that were added, where they were asked for.
+    /// The receives of nothing that were added, if they were asked for.
     pub idle: Option<IdleReceives>,
-    /// How many sends of messages that no record receives were left out, where that was asked for.
+    /// How many sends of messages that no record receives were left out, if that was asked for.
     pub lost: Option<u64>,
 }
 
@@ -58,8 +58,8 @@ pub struct IdleReceives {
     pub limit: u128,
 }
 
-/// The trace of a log, how far its events went, the receives of nothing that were added, and the places of the events and of
-/// these receives in the order of its steps.
+/// The trace of a log, how far its events moved, and the receives of nothing that were added; with the places of these
+/// and of the events in the order of its steps.
 #[derive(Drop)]
 pub(crate) struct LogTrace {
     pub(crate) trace: Trace,
@@ -68,14 +68,15 @@ pub(crate) struct LogTrace {
     pub(crate) places: Vec<u32>,
 }
 
-/// Reads a log as a trace: each event is one step, in the tick of its time or, where events may be spread, as little later
+/// Reads a log as a trace: each event is one step, in the tick of its time or, if events may be spread, as little later
 /// as need be.
 ///
-/// Where clocks are to be aligned, each is moved first, and the end of the log is one by the moved times. Where lost sends are left
-/// out, they are no steps, and take no time; all else is named by its place in the whole log.
+/// If clocks are to be aligned, each is moved first, and the end of the log is one by the moved times. If lost sends
+/// are left out, they are no steps, and take no time; all else is named by its place in the whole log.
 ///
-/// Refuses in the order of `LogError`; where events may be spread, none is NotLater or SecondEvent, Cycle comes after the
-/// other refusals of events, and TooManyTicks last where an event came too far. Memory comes only for a text that isn't too large.
+/// Refuses in the order of `LogError`. If events may be spread, none is NotLater or SecondEvent, Cycle comes after the
+/// other refusals of events, and TooManyTicks last if an event came too far. Memory comes only for a text that isn't
+/// too large.
 pub fn read_log(alloc: Global, text: &[u8], options: &Options) -> Result<Import, LogError>
     ensures import { IfOk result (λ import. IsImportOf options.now text.now import) }
     ensures refused { IfErr result (λ why. IsLogRefusal options.now text.now why) }
@@ -88,8 +89,8 @@ pub fn read_log(alloc: Global, text: &[u8], options: &Options) -> Result<Import,
 #[derive(Drop)]
 pub(crate) struct PlacedImport {
     pub(crate) import: Import,
-    /// The events of the log in the order of their records, with their clocks aligned and without lost sends if that was asked
-    /// for, and behind them the receives of nothing that were added.
+    /// The events of the log in the order of their records, with aligned clocks and without lost sends if that was
+    /// asked for; behind them, the receives of nothing that were added.
     pub(crate) events: Vec<Event>,
     /// How many of the events are the log's.
     pub(crate) logged: usize,
@@ -220,7 +221,7 @@ fn log_error(alloc: Global, text: &[u8], log: &NamedEvents, why: IdleError) -> L
     }
 }
 
-/// The events that a log records, whose nodes are the listed ones where nodes are listed.
+/// The events that a log records; if nodes are listed, its nodes are listed ones.
 fn events_by(alloc: Global, text: &[u8], options: &Options) -> Result<NamedEvents, LogError>
     ensures read { IfOk result (λ log. IsRead options.now text.now (Ok (seen_log log))) }
     ensures sound { IfOk result (λ log. IsSound (seen_log log)) }
@@ -302,7 +303,7 @@ fn above_zero(units: u128) -> Result<u128, LogError>
     Ok(units)
 }
 
-/// When a log with times of this kind ends, if that is told.
+/// When a log with times of this kind ends, if that is given.
 fn until_for(kind: TimeKind, until: Option<LogEnd>) -> Result<Option<i128>, LogError>
     ensures { result ≡ until_in kind until }
 {
@@ -340,8 +341,8 @@ fn lateness_in(alloc: Global, log: &NamedEvents) -> Result<Lateness, LogError>
     }
 }
 
-/// The trace of the events of a log, with receives of nothing in silences of at most so many ticks, if there is a limit. These
-/// stand behind the events then; after a refusal the events are as they were.
+/// The trace of the events of a log, with receives of nothing in silences of at most so many ticks, if there is a
+/// limit. These are behind the events then; after a refusal the events are unchanged.
 pub(crate) fn trace_of_log(
     alloc: Global,
     n: u64,

@@ -7,10 +7,10 @@ ghost use Rattle.event_log.specs.declared.refusals.LogError.{LogError};
 ghost use Rattle.event_log.specs.Imports.{IsImportOf, IsRead};
 ghost use Rattle.event_log.specs.Logs.{SeenLog};
 
-/// The laws of imports. A text, read by options, tells one list of events, or is refused for one reason before there are
-/// any. So a text and options have one import.
+/// The laws of imports. A text, read by options, gives one list of events, or is refused for one reason before there
+/// are any. So a text and options have one import.
 ///
-/// Theorems over the definitions: they stand in the contract and quantify over all texts and options. Calling it does
+/// These are theorems over the definitions. The contract quantifies over all texts and options. Calling it does
 /// nothing.
 pub fn log_laws()
     ensures read_once { (o : Options) (text : List ℕ) (a b : Result SeenLog LogError) → IsRead o text a → IsRead o text b → a ≡ b }

@@ -23,7 +23,7 @@ use timed_events::{Clock, EventError, IdleError, Lateness, cycle_of_causes, leas
 
 /// The import of the events of an aligned log but lost sends.
 ///
-/// Refuses NoEvents where none is left, and else the first reason against those that are. Memory may come at any step.
+/// Refuses NoEvents if none is left, else the first reason against those that are. Memory may come at any step.
 pub(crate) fn left_import(
     alloc: Global,
     text: &[u8],
@@ -52,7 +52,7 @@ pub(crate) fn left_import(
 
 /// The events of a log but lost sends.
 ///
-/// Refuses NoEvents where none is left, and Memory.
+/// Refuses NoEvents if none is left, and Memory.
 fn left_of(alloc: Global, log: &NamedEvents) -> Result<LeftEvents, LogError>
     requires sound { IsSound (seen_log log.now) }
     ensures left { IfOk result (λ left. AreLeft log.now.events.items left.events.items left.places.items) }

@@ -26,12 +26,12 @@ pub struct NamedEvents {
     pub events: Vec<Event>,
 }
 
-/// The events that a log records. Where a unit is told, the times are whole numbers of it. Where nodes are `listed`, no others may be named; `nodes` are numbered before those that
-/// the log names: the listed ones, or none.
+/// The events that a log records. If a unit is given, the times are whole numbers of it. If nodes are `listed`, no
+/// others may be named; `nodes` are numbered before those that the log names: the listed ones, or none.
 ///
 /// There are 2 to 64 nodes, and at least one event, at most `MAX_EVENTS`.
 ///
-/// Refuses in the order of `LogError`. The first record that is refused for itself decides; where none is, the first whose
+/// Refuses in the order of `LogError`. The first record that is refused for itself decides; if none is, the first whose
 /// names are refused. Memory comes only for a text that isn't too large.
 pub fn events_of_log(
     alloc: Global,

@@ -19,7 +19,7 @@ pub(crate) fn message_fields(alloc: Global, text: &[u8]) -> Result<Vec<Name>, Al
     fields_at(alloc, text, column)
 }
 
-/// The fields at a place of all records that csv reads from a text; empty ones where there are fewer.
+/// The fields at a place of all records that csv reads from a text; empty ones if there are fewer.
 fn fields_at(alloc: Global, text: &[u8], column: usize) -> Result<Vec<Name>, AllocError>
     ensures { IfOk result (λ fields. fields.items ≡ map (λ fields. field_of fields column) (records_of_text text.now)) }
 {

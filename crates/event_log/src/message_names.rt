@@ -1,4 +1,4 @@
-//! The names of messages, read again from a log where one of them has to be told.
+//! The names of messages, read again from a log if one of them has to be reported.
 
 ghost use Rattle.std.specs.Prelude.{◌≡◌, ◌<◌, [], IfOk, slice_index_or};
 ghost use Rattle.csv.specs.Records.{fields_of};
@@ -12,7 +12,8 @@ use csv::{ByteRecord, ErrorKind, ReaderBuilder};
 use std::alloc::{AllocError, Global};
 use trace_text::records::field;
 
-/// The name of the message at place `k` among those of an event, as the event's record has it. Nothing where there is none.
+/// The name of the message at place `k` among those of an event, as the event's record has it. Nothing if there is
+/// none.
 ///
 /// Asks for the place of one of `MAX_EVENTS` events.
 pub(crate) fn message_name(
@@ -29,7 +30,7 @@ pub(crate) fn message_name(
     part_of(alloc, field(&record, column), k)
 }
 
-/// The place of the column of messages, or 0 where there is none.
+/// The place of the column of messages, or 0 if there is none.
 pub(crate) fn message_place(alloc: Global, text: &[u8]) -> Result<usize, AllocError>
     ensures { IfOk result (λ place. place ≡ message_place text.now) }
 {
@@ -37,7 +38,7 @@ pub(crate) fn message_place(alloc: Global, text: &[u8]) -> Result<usize, AllocEr
     Ok(place_in(&header, Column::Message).unwrap_or(0))
 }
 
-/// The record at a place among those that csv reads from a text, from 0 on; one without fields where there are fewer.
+/// The record at a place among those that csv reads from a text, from 0 on; one without fields if there are fewer.
 fn record_at(alloc: Global, text: &[u8], place: usize) -> Result<ByteRecord, AllocError>
     ensures { IfOk result (λ fields. fields_of fields ≡ record_at text.now place) }
 {

@@ -1,4 +1,4 @@
-//! How a log is read, as texts tell it.
+//! How a log is read, as texts give it.
 
 ghost use Rattle.std.specs.Prelude.{◌≡◌, ◌<◌, ◌^◌, ◌∷◌, [], ◌++◌, Err, IfErr, IfOk, IfSome, IsSome, OnOk, option_map, true, false, None};
 ghost use Rattle.event_log.specs.Options.{AreNodes, AreNodesIn, AreOptions, HasBadNodes, HasBadTick, HasBadUnit, HasBadUntil, IsIdleIn, IsNodeFault, IsOptionFault, IsTimeFault, IsUnitIn, IsUntilIn, IsWidthIn, is_next_node, parts_between_commas};
@@ -10,11 +10,11 @@ use crate::results::both;
 use crate::times::{LogEnd, TimeUnit, Width, read_end, read_unit, read_width};
 use std::alloc::Global;
 
-/// The options that texts tell: the nodes with one comma between each two; the unit of the times, if they are whole numbers of
-/// one; the length of a tick, which is 1 where it is left out; when the log ends; and the longest time without an event that is
-/// filled.
+/// The options that texts give: the nodes with one comma between each two; the unit of the times, if they are whole
+/// numbers of one; the length of a tick, which is 1 if it is left out; when the log ends; and the longest time without
+/// an event that is filled.
 ///
-/// Refuses in the order of `OptionError`. Memory comes only where nodes are listed.
+/// Refuses in the order of `OptionError`. Memory comes only if nodes are listed.
 pub fn read_options(
     alloc: Global,
     nodes: Option<&str>,
@@ -58,7 +58,8 @@ fn listed_nodes(alloc: Global, text: Option<&str>) -> Result<Option<NameSet>, Op
     Ok(Some(nodes))
 }
 
-/// The unit of the times, the length of a tick, the end of the log and the longest time without an event that texts tell.
+/// The unit of the times, the length of a tick, the end of the log and the longest time without an event that texts
+/// give.
 ///
 /// Refuses Unit, Tick, Until and Idle, in this order.
 fn told_times(
@@ -103,7 +104,7 @@ fn told_unit(text: Option<&str>) -> Option<Option<TimeUnit>>
     }
 }
 
-/// The length of a tick that a text tells; 1 where there is none.
+/// The length of a tick that a text gives; 1 if there is none.
 fn told_width(text: Option<&str>) -> Option<Width>
     ensures width { IfSome result (IsWidthIn (option_map (λ t. t.now) text.entry)) }
     ensures short { IfSome result (λ width. nanoseconds_of width < 2 ^ 94) }
@@ -115,7 +116,7 @@ fn told_width(text: Option<&str>) -> Option<Width>
     }
 }
 
-/// The end of the log that a text tells, if there is one.
+/// The end of the log that a text gives, if there is one.
 fn told_end(text: Option<&str>) -> Option<Option<LogEnd>>
     ensures end { IfSome result (IsUntilIn (option_map (λ t. t.now) text.entry)) }
     ensures refused { result ≡ None → HasBadUntil (option_map (λ t. t.now) text.entry) }
@@ -129,7 +130,7 @@ fn told_end(text: Option<&str>) -> Option<Option<LogEnd>>
     }
 }
 
-/// The longest time without an event that a text tells, if there is one.
+/// The longest time without an event that a text gives, if there is one.
 fn told_idle(text: Option<&str>) -> Option<Option<Width>>
     ensures idle { IfSome result (IsIdleIn (option_map (λ t. t.now) text.entry)) }
     ensures refused { result ≡ None → HasBadTick (option_map (λ t. t.now) text.entry) }

@@ -9,7 +9,7 @@ use crate::times::{LogEnd, TimeUnit, Width};
 /// How a log is read.
 #[derive(Drop)]
 pub struct Options {
-    /// The nodes, in the order of their numbers; where they aren't listed, they are numbered as the log names them.
+    /// The nodes, in the order of their numbers; if they aren't listed, they are numbered as the log names them.
     pub nodes: Option<NameSet>,
     /// The unit of the log's times, which are then whole numbers of it. Else record 2 settles what they are.
     pub unit: Option<TimeUnit>,
@@ -28,7 +28,7 @@ pub struct Options {
     ghost short: { nanoseconds_of width < 2 ^ 94 },
 }
 
-/// Why texts tell no options, in the order in which they are looked at.
+/// Why texts give no options, in the order in which they are looked at.
 #[derive(Clone, Copy, Debug, PartialEq, Eq)]
 pub enum OptionError {
     /// The nodes aren't 2 to 64 different names with one comma between each two.
@@ -41,6 +41,6 @@ pub enum OptionError {
     Until,
     /// The longest time without an event is neither a number nor a duration, or isn't above 0.
     Idle,
-    /// There was no memory.
+    /// Out of memory.
     Memory,
 }

@@ -31,18 +31,19 @@ pub(crate) struct Reading<'a> {
     unit: Option<TimeUnit>,
     /// The kind of the times, once a record has settled it.
     kind: Option<TimeKind>,
-    /// The nodes that may be named, where they are listed.
+    /// The nodes that may be named, if they are listed.
     listed: Option<&'a NameSet>,
     /// How many events were read.
     count: u32,
-    /// What the events name, or why their names are refused: that is told only where no later record is refused.
+    /// What the events name, or why their names are refused. The refusal is reported only if no later record is
+    /// refused.
     names: Result<Naming, LogError>,
 }
 
-/// The kind of a log's times, and its events with its nodes and messages, where those that `listed` has may be named, and `nodes` are numbered
-/// before all others. Where a unit is told, the times are whole numbers of it.
+/// The kind of a log's times, and its events with its nodes and messages. If there are `listed` nodes, no others may be
+/// named; `nodes` are numbered before all others. If a unit is given, the times are whole numbers of it.
 ///
-/// Refuses in the order of `LogError`. Where a record is refused for itself, the first such record decides; else the first
+/// Refuses in the order of `LogError`. If a record is refused for itself, the first such record decides; else the first
 /// whose names are refused.
 pub(crate) fn read_names(
     alloc: Global,
@@ -79,7 +80,7 @@ fn read_kind(alloc: Global, text: &[u8], reading: &mut Reading<'_>) -> Result<Ti
     kind_at_end(reading)
 }
 
-/// What the end of the text says: the kind of the times, unless something is wanting beside the names.
+/// The kind of the times at the end of the text, unless something else than the names is missing.
 fn kind_at_end(reading: &Reading<'_>) -> Result<TimeKind, LogError>
     ensures kind { IfOk result (λ kind. named_at_end reading.now ≡ both (Ok kind) reading.now.names) }
     ensures refused { IfErr result (λ why. named_at_end reading.now ≡ Err why) }
@@ -164,7 +165,7 @@ fn take_names(
     }
 }
 
-/// Keeps why names are refused, if it isn't want of memory.
+/// Keeps why names are refused, if it isn't out of memory.
 fn refuse_names(names: &mut Result<Naming, LogError>, why: LogError) -> Result<(), LogError>
     ensures names { OnOk result (names.new ≡ Err why) }
     ensures kept { OnOk result (is_memory why ≡ false) }

@@ -1,4 +1,4 @@
-//! What a record of a log tells of an event.
+//! What a record of a log says about an event.
 
 ghost use Rattle.std.specs.Prelude.{◌≡◌, Ok, Err, IfOk, MatchBool, MatchResult, ⊤};
 ghost use Rattle.csv.specs.Records.{fields_of};
@@ -20,7 +20,7 @@ pub(crate) enum Verb {
     Receive,
 }
 
-/// What a record tells of an event, with the names as they stand in it.
+/// What a record says about an event, with the names as the record has them.
 #[derive(Clone, Copy)]
 pub(crate) struct Told<'a> {
     pub(crate) moment: Moment,
@@ -38,14 +38,14 @@ pub(crate) struct Rules<'a> {
     pub(crate) columns: Columns,
     /// The kind of the times, once a record has settled it.
     pub(crate) kind: Option<TimeKind>,
-    /// The nodes that may be named, where they are listed.
+    /// The nodes that may be named, if they are listed.
     pub(crate) listed: Option<&'a NameSet>,
 }
 
-/// What the record of this number tells, under these rules.
+/// What the record of this number says, under these rules.
 ///
-/// Refuses BadFields, BadTime, BadEvent, BadNode and BadMessage with the number, in this order. Memory may come in place of
-/// BadNode, which has the name.
+/// Refuses BadFields, BadTime, BadEvent, BadNode and BadMessage with the number, in this order. Memory may come in
+/// place of BadNode, which has the name.
 pub(crate) fn told_of<'a>(
     alloc: Global,
     rules: &Rules<'_>,
@@ -82,7 +82,7 @@ pub(crate) fn told_of<'a>(
     Ok(told)
 }
 
-/// The time that a field tells: of the kind of the times, where it is settled.
+/// The time that a field gives: of the kind of the times, if that is settled.
 fn moment_as(kind: Option<TimeKind>, field: &[u8]) -> Option<Moment>
     ensures { result ≡ moment_as kind field.now }
 {
@@ -114,7 +114,7 @@ fn are_nodes(listed: Option<&NameSet>, told: &Told<'_>) -> bool
     }
 }
 
-/// Whether a node may be named: where the nodes are listed, it is one of them.
+/// Whether a node may be named: if the nodes are listed, it is one of them.
 fn is_node(listed: Option<&NameSet>, name: &[u8]) -> bool
     ensures { result ≡ is_node listed.entry name.now }
 {
@@ -134,7 +134,7 @@ fn node_refusal(alloc: Global, no: u64, listed: Option<&NameSet>, told: &Told<'_
     }
 }
 
-/// The node that a refusal is for: the event's own, or where that may be named the one that it sends to.
+/// The node that a refusal is for: the event's own, or, if that may be named, the one that it sends to.
 fn bad_node<'a>(listed: Option<&NameSet>, told: &Told<'a>) -> &'a [u8]
     ensures { name_in result.now ≡ bad_node listed.entry (said told.now) }
 {
@@ -144,7 +144,7 @@ fn bad_node<'a>(listed: Option<&NameSet>, told: &Told<'a>) -> &'a [u8]
     }
 }
 
-/// The name that a node has; None where it is no name.
+/// The name that a node has; None if it is no name.
 fn name_in(alloc: Global, node: &[u8]) -> Result<Option<Name>, AllocError>
     ensures { IfOk result (λ name. name ≡ name_in node.now) }
 {

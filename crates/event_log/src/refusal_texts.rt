@@ -1,4 +1,4 @@
-//! What is told of a refused log.
+//! What is reported about a refused log.
 
 ghost use Rattle.std.specs.Prelude.{◌≡◌};
 ghost use Rattle.event_log.specs.RefusalTexts.{log_error_text, printed, words_text};
@@ -42,7 +42,7 @@ impl fmt::Display for LogError {
     }
 }
 
-/// The words of a refusal, with what they are said of.
+/// The words of a refusal, with what they are about.
 #[derive(Clone, Copy)]
 enum Words<'a> {
     Log(&'static str),

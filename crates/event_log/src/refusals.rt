@@ -6,10 +6,10 @@ use crate::names::Name;
 use thiserror::Error;
 use timed_events::Hint;
 
-/// Why a log is refused, in the order in which the stages and their reasons are tested; where clocks are to be aligned, the
-/// reasons against messages whatever their times, then NoOffsets and TooLate, come before those that the end of the log gives;
-/// so does, after these, NoEvents where lost sends are left out. A record's number is its place among all records, from 1; the
-/// header is record 1.
+/// Why a log is refused, in the order in which the stages and their reasons are tested. If clocks are to be aligned,
+/// the reasons against messages whatever their times, then NoOffsets and TooLate, come before those that the end of the
+/// log gives. So does NoEvents, after these, if lost sends are left out. A record's number is its place among all
+/// records, from 1; the header is record 1.
 #[derive(Debug, Drop, Error)]
 pub enum LogError {
     /// The text has more than 67,108,864 bytes.
@@ -22,7 +22,8 @@ pub enum LogError {
     TooManyEvents,
     /// The record hasn't as many fields as the header.
     BadFields(u64),
-    /// The time isn't of the kind of the first event's, or that is of no kind; or it is no whole number, and a unit is told.
+    /// The time isn't of the kind of the first event's, or that is of no kind; or it is no whole number, and a unit is
+    /// given.
     BadTime(u64),
     /// The event is neither a send nor a receive.
     BadEvent(u64),
@@ -58,12 +59,12 @@ pub enum LogError {
     SecondEvent(u64, Name, u64, Option<Hint>),
     /// The event is in a cycle of messages or behind one, and none before it is; with the lines of the hops of such a cycle.
     Cycle(u64, HopLines),
-    /// Where clocks are to be aligned: no offsets bring the messages into order; with the lines of a cycle of clocks.
+    /// If clocks are to be aligned: no offsets bring the messages into order; with the lines of a cycle of clocks.
     NoOffsets(HopLines),
-    /// Where clocks are to be aligned: a time would be later than any of its kind, or a sum of times is too great.
+    /// If clocks are to be aligned: a time would be later than any of its kind, or a sum of times is too great.
     TooLate,
     /// The events and the receives of nothing are more than 1,000,000.
     TooManySteps,
-    /// There was no memory.
+    /// Out of memory.
     Memory,
 }

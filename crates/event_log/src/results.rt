@@ -1,5 +1,5 @@
-//! What is done with results of any types. A function that leaves early drops what it owns in its own body, arm by arm; here a
-//! value is dropped by its type, so that the proofs of callers stay short.
+//! What is done with results of any types. A function that leaves early drops what it owns in its own body, arm by arm.
+//! Here a value is dropped by its type, so that the proofs of callers stay short.
 
 ghost use Rattle.std.specs.Prelude.{◌≡◌, Err};
 ghost use Rattle.event_log.specs.Results.{both};

@@ -37,8 +37,9 @@ pub struct LogTable {
     pub table: Vec<u8>,
 }
 
-/// Reads a log as `read_log` does, and makes the table of its steps. Times are as they are counted, and by the moved clocks
-/// if these were to be aligned. A receive of nothing that was added has no record, no time and no messages.
+/// Reads a log as `read_log` does, and makes the table of its steps. Times are in the units in which they are counted,
+/// and by the moved clocks if these were to be aligned. A receive of nothing that was added has no record, no time and
+/// no messages.
 ///
 /// Refuses the same.
 pub fn read_table(alloc: Global, text: &[u8], options: &Options) -> Result<LogTable, LogError>
@@ -142,8 +143,8 @@ fn push_time(alloc: Global, fields: &mut ByteRecord, time: i128) -> Result<(), A
     fields.push_field(text.as_bytes())
 }
 
-/// Puts last the number of the record of the event at a place, and its time: two empty fields for a receive that was added, behind
-/// the log's events.
+/// Puts last the number of the record of the event at a place, and its time: two empty fields for a receive that was
+/// added, behind the log's events.
 fn push_source(
     alloc: Global,
     fields: &mut ByteRecord,
@@ -262,7 +263,7 @@ fn message_at<'a>(messages: &'a [Name], placed: &PlacedImport, place: usize) -> 
     }
 }
 
-/// Writes a record, with quotes where they are called for.
+/// Writes a record, with quotes if they are needed.
 fn write_fields(writer: &mut Writer<Vec<u8>>, fields: &ByteRecord) -> Result<(), AllocError>
     requires { IsReady writer.old }
     ensures ready { OnOk result (IsReady writer.new) }

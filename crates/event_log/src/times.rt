@@ -1,4 +1,4 @@
-//! The times of a log, and the options that are told in time: numbers, or nanoseconds.
+//! The times of a log, and the options that give times: numbers, or nanoseconds.
 
 ghost use Rattle.std.specs.Prelude.{◌≡◌, ℤ, ◌*◌, ◌<◌, ◌≤◌, ◌^◌, ◌∷◌, [], ◌++◌, ◌==◌, None, Some, IfSome, length, option_map, position};
 ghost use Rattle.std.specs.Char.{is_ascii_digit};
@@ -204,7 +204,7 @@ fn stamp_of(field: &[u8]) -> Option<i128>
 }
 
 /// The nanosecond of a time stamp without an offset, in UTC: of a field that is no time stamp, and is one with a Z
-/// behind it.
+/// after it.
 #[tactic(auto, unfolding(crate::specs::Times::local_of))]
 fn local_of(field: &[u8]) -> Option<i128>
     ensures { result ≡ local_of field.now }
@@ -228,7 +228,7 @@ fn zulu_of(field: &[u8]) -> Option<i128>
     stamp_of(&text[..field.len() + 1])
 }
 
-/// The time of this kind that a field tells.
+/// The time of this kind that a field gives.
 pub(crate) fn moment_in(kind: TimeKind, field: &[u8]) -> Option<Moment>
     ensures { result ≡ moment_in kind field.now }
 {
@@ -236,7 +236,8 @@ pub(crate) fn moment_in(kind: TimeKind, field: &[u8]) -> Option<Moment>
     Some(Moment { kind, time })
 }
 
-/// The kind by which the next time is read: whole numbers of a unit, if one is told; else that of record 2, if it is known.
+/// The kind by which the next time is read: whole numbers of a unit, if one is given; else that of record 2, if it is
+/// known.
 pub(crate) fn settled(unit: Option<TimeUnit>, kind: Option<TimeKind>) -> Option<TimeKind>
     ensures { result ≡ settled unit kind }
 {
@@ -246,8 +247,8 @@ pub(crate) fn settled(unit: Option<TimeUnit>, kind: Option<TimeKind>) -> Option<
     }
 }
 
-/// The time that a field tells: a whole number, else decimal seconds, else a time stamp, else one without an offset. None
-/// if it is none of them.
+/// The time that a field gives: a whole number, else decimal seconds, else a time stamp, else one without an offset.
+/// None if it is none of them.
 pub fn read_moment(field: &[u8]) -> Option<Moment>
     ensures { result ≡ moment_of field.now }
 {
@@ -293,8 +294,7 @@ fn duration_of(text: &str) -> Option<i128>
     }
 }
 
-/// The length of a tick that a text tells: a number above 0, or else a duration above 0. None where it is
-/// neither.
+/// The length of a tick that a text gives: a number above 0, or else a duration above 0. None if it is neither.
 pub fn read_width(text: &str) -> Option<Width>
     ensures some { IfSome result (λ width. IsWidth text.now width) }
     ensures none { result ≡ None → (width : Width) → ¬ IsWidth text.now width }
@@ -313,8 +313,8 @@ pub fn read_width(text: &str) -> Option<Width>
     Some(Width::Nanoseconds(nanoseconds as u128))
 }
 
-/// The end of a log that a text tells: a time, or else a duration, which is the time that comes so long after zero. None
-/// if it is neither.
+/// The end of a log that a text gives: a time, or else a duration, which is the time that comes so long after zero.
+/// None if it is neither.
 pub fn read_end(text: &str) -> Option<LogEnd>
     ensures some { IfSome result (λ end. IsEnd text.now end) }
     ensures none { result ≡ None → (end : LogEnd) → ¬ IsEnd text.now end }
@@ -326,7 +326,7 @@ pub fn read_end(text: &str) -> Option<LogEnd>
     Some(LogEnd::Nanoseconds(nanoseconds))
 }
 
-/// The end of a log that a text tells as a time.
+/// The end of a log that a text gives as a time.
 fn time_of_end(text: &[u8]) -> Option<LogEnd>
     ensures { result ≡ time_of_end text.now }
 {
