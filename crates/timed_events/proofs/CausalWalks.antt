@@ -26,7 +26,7 @@ push-other [] x k l = absurd (omega arith)
 push-other (y ∷ xs) x zero l = refl
 push-other (y ∷ xs) x (suc k) l = push-other xs x k (omega arith)
 
--- who stands in a list stands in it with one number more, and so does that number
+-- who is in a list is in it with one number more, and so is that number
 pub in-more : (q x : ℕ) (xs : List ℕ) → IsIn q xs → IsIn q (xs ++ x ∷ [])
 in-more q x xs i = record { k = i.k; within = (let n = length_push xs x in let l = i.within in omega arith); at = push-other xs x i.k i.within ∙ i.at }
 
@@ -302,7 +302,7 @@ module _ (events : List Event) (heads met waits ranks order awake : List ℕ) (p
       inside = inside;
     }
 
--- where nobody is awake, each event that isn't placed has a cause that isn't
+-- if nobody is awake, each event that isn't placed has a cause that isn't
 pub walked-stuck : (events : List Event) (heads met waits ranks order awake : List ℕ) → AreOfProcessors events → length awake ≡ 0 → IsWalked events heads met waits ranks order awake → AreStuck events ranks
 walked-stuck events heads met waits ranks order awake o none w i l z = go (w.next i l z).1 where
   p : index_at events i < MAX_PROCESSORS

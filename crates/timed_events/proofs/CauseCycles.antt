@@ -107,7 +107,7 @@ module _ (events : List Event) (heads met waits ranks order awake seen : List �
   pub path-step : (event message rank to : ℕ) (grown : List Hop) → event ≡ slice_index heads at → message ≡ s → rank ≡ length path + 1 → to ≡ index_at events message → grown ≡ path ++ record { event = event; message = message } ∷ [] → IsPath events heads grown (set seen at rank) to
   path-step event message rank to grown e f g t h = subst (λ x. IsPath events heads x (set seen at rank) to) (sym h) (subst (λ x. IsPath events heads (path ++ record { event = x; message = message } ∷ []) (set seen at rank) to) (sym e) (subst (λ x. IsPath events heads (path ++ record { event = slice_index heads at; message = x } ∷ []) (set seen at rank) to) (sym f) (subst (λ x. IsPath events heads (path ++ hop ∷ []) (set seen at x) to) (sym g) (subst (λ x. IsPath events heads (path ++ hop ∷ []) (set seen at (length path + 1)) x) (sym (t ∙ ap (index_at events) f)) path-more))))
 
--- where the walk comes back, the rest of its path is a cycle
+-- if the walk comes back, the rest of its path is a cycle
 pub path-cycle : (events : List Event) (heads seen : List ℕ) (path hops : List Hop) (at from : ℕ) → IsPath events heads path seen at → 0 < slice_index seen at → from ≡ slice_index seen at - 1 → hops ≡ drop from path → IsCauseCycle events hops
 path-cycle events heads seen path hops at from p b e f = subst (λ xs. IsCauseCycle events xs) (sym f) (record {
   some = (let x = long in let y = within in omega arith);
@@ -129,7 +129,7 @@ path-cycle events heads seen path hops at from p b e f = subst (λ xs. IsCauseCy
   within : from < length path
   within = let u = (p.back at (record { event = 0; message = 0 }) b).0 in omega arith
 
--- where there is a cycle of causes, there is no order that keeps them
+-- if there is a cycle of causes, there is no order that keeps them
 module _ (events : List Event) (order : List ℕ) (hops : List Hop) (o : IsCausalOrder events order) (c : IsCauseCycle events hops) where
   abbrev none : Hop
   none = record { event = 0; message = 0 }
@@ -140,7 +140,7 @@ module _ (events : List Event) (order : List ℕ) (hops : List Hop) (o : IsCausa
   abbrev message : ℕ → ℕ
   message k = (get_or hops k none).message
 
-  -- who stands at u, and who at v
+  -- who is at u, and who at v
   sent-below : (i j u v : ℕ) → IsSentTo events i j → u < length order → v < length order → slice_index order u ≡ i → slice_index order v ≡ j → v < u
   sent-below i j u v t lu lv a b = causes-before events order v u o lv lu (subst (λ x. IsCause events x (slice_index order v)) (sym a) (subst (λ y. IsCause events i y) (sym b) (inr t)))
 
@@ -152,7 +152,7 @@ module _ (events : List Event) (order : List ℕ) (hops : List Hop) (o : IsCausa
   from-inside i j (inl e) l = omega arith
   from-inside i j (inr f) l = f.inside
 
-  -- where the events of the cycle stand: none behind the first
+  -- where the events of the cycle are: none behind the first
   falls : (k u : ℕ) → k < length hops → u < length order → slice_index order u ≡ event 0 → (v : ℕ) × (v < length order) × (slice_index order v ≡ event k) × (v ≤ u)
   falls zero u l lu a = (u, lu, a, omega arith)
   falls (suc k) u l lu a =

@@ -27,7 +27,7 @@ module _ (events : List Event) (ticks order : List ℕ) (o : AreInOrder events t
   inside : (m : ℕ) → m < length order → slice_index order m < length events
   inside m l = (places-inside (length events) order o.ordered.places).1 m l
 
-  -- of two events of one processor that which stands before is in an earlier tick
+  -- of two events of one processor the one that comes first is in an earlier tick
   earlier : (m k p : ℕ) → m < k → k < length order → processor_at events (slice_index order m) ≡ p → processor_at events (slice_index order k) ≡ p → slice_index ticks (slice_index order m) < slice_index ticks (slice_index order k)
   earlier m k p b l e f = let r = o.ordered.rising m k b l in omega arith
 
@@ -83,7 +83,7 @@ module _ (events : List Event) (ticks order : List ℕ) (o : AreInOrder events t
           let n = ap (λ j. slice_index ticks (slice_index order j)) s in
           omega arith
 
-    -- the last tick of a processor, where all events stand before
+    -- the last tick of a processor, if all events come before
     pub latest-end : (index last : ℕ) → length order ≡ k → ((i : ℕ) → i < length events → slice_index ticks i ≤ last) → IsLatestBefore events ticks (index + 1) (last + 1) (slice_index lasts index)
     latest-end index last l within = record {
       from = from-last index (omega arith);

@@ -11,7 +11,7 @@ use Rattle.timed_events.specs.CausalWalks.{index_at, AreNexts, AreFirsts}
 use Rattle.timed_events.proofs.SortedEvents.{place-found}
 use Rattle.timed_events.proofs.TimeOrders.{before-in_order, differ-in_order, inside-order}
 
--- it is an event of the processor, and stands at k in the order or later
+-- it is an event of the processor, and is at k in the order or later
 pub record IsFoundFrom (events : List Event) (order : List ℕ) (k p i : ℕ) : Type 0 where
   pub m : ℕ
   pub from : k ≤ m
@@ -19,7 +19,7 @@ pub record IsFoundFrom (events : List Event) (order : List ℕ) (k p i : ℕ) : 
   pub at : slice_index order m ≡ i
   pub own : index_at events i ≡ p
 
--- the sequences of the events that stand at k in the order or later
+-- the sequences of the events that are at k in the order or later
 pub record AreChained (events : List Event) (order : List ℕ) (k : ℕ) (firsts nexts : List ℕ) : Type 0 where
   pub wide : length firsts ≡ MAX_PROCESSORS
   pub long : length nexts ≡ length events

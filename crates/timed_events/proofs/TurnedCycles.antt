@@ -102,6 +102,6 @@ turned-least hops now at l e least = subst (λ xs. BeginsAtLeast xs) (sym e) (λ
     let below = m.1 in
     omega arith))
 
--- the least of the first k hops, or 0 where there are none
+-- the least of the first k hops, or 0 if there are none
 abbrev pub IsLeastOf : List Hop → ℕ → ℕ → Type 0
 IsLeastOf hops k least = (least ≤ k) × ((j : ℕ) (d : Hop) → j < k → (least < length hops) × ((get_or hops least d).event ≤ (get_or hops j d).event))

@@ -11,7 +11,7 @@ use Rattle.timed_events.specs.declared.events.EventError.TheVariants.{Cycle, Mem
 abbrev pub index_at : List Event → ℕ → ℕ
 index_at events i = processor_at events i - 1
 
--- The list has for each event the next of its processor: none is between them. Where there is none, a number that is no
+-- The list has for each event the next of its processor: none is between them. If there is none, a number that is no
 -- event's place.
 pub record AreNexts (events : List Event) (nexts : List ℕ) : Type 0 where
   pub long : length nexts ≡ length events
@@ -30,7 +30,7 @@ zeros [] = 0
 zeros (zero ∷ xs) = zeros xs + 1
 zeros (suc x ∷ xs) = zeros xs
 
--- a number stands in a list
+-- a number is in a list
 pub record IsIn (x : ℕ) (xs : List ℕ) : Type 0 where
   pub k : ℕ
   pub within : k < length xs
@@ -64,7 +64,7 @@ pub record IsWalked (events : List Event) (heads met waits ranks order awake : L
 abbrev pub AreStuck : List Event → List ℕ → Type 0
 AreStuck events ranks = (i : ℕ) → i < length events → slice_index ranks i ≡ 0 → (j : ℕ) × IsCause events i j × (slice_index ranks j ≡ 0)
 
--- what is left to do: each event is placed once, and wakes at most one processor beside its own
+-- what is left to do: each event is placed once, and wakes at most one processor besides its own
 abbrev pub left_to_do : List ℕ → List ℕ → ℕ
 left_to_do ranks awake = 2 * zeros ranks + length awake
 
@@ -72,7 +72,7 @@ left_to_do ranks awake = 2 * zeros ranks + length awake
 abbrev pub AreRightlyReceived : List Event → Type 0
 AreRightlyReceived events = (i s : ℕ) → i < length events → IsSentTo events i s → is_for events s (processor_at events i) ≡ true
 
--- the answer is the first event in a cycle of causes or behind one, or want of memory
+-- the answer is the first event in a cycle of causes or behind one, or out of memory
 abbrev pub IsCycleRefusal : List Event → EventError → Type 0
 IsCycleRefusal events Memory = Unit {0}
 IsCycleRefusal events (Cycle event) = IsFirstUnplaceable events event

@@ -4,9 +4,8 @@ use Rattle.timed_events.specs.declared.cause_cycles.Hop.{Hop}
 use Rattle.timed_events.specs.declared.events.Event.{Event}
 use Rattle.timed_events.specs.Causes.{IsFrom, IsSentTo}
 
--- The event of each hop received its message, and the message's sender sent it no earlier than the event of the next hop;
--- the message of the last hop, no earlier than the event of the first. So none of these events can stand behind all its
--- causes.
+-- The event of each hop received its message. The message's sender sent it no earlier than the event of the next hop;
+-- the last one's, no earlier than the event of the first. So none of these events can come after all its causes.
 pub record IsCauseCycle (events : List Event) (hops : List Hop) : Type 0 where
   pub some : 0 < length hops
   pub taken : (k : ℕ) (d : Hop) → k < length hops → IsSentTo events (get_or hops k d).event (get_or hops k d).message

@@ -37,7 +37,8 @@ pub record IsSentTo (events : List Event) (i j : ℕ) : Type 0 where
 abbrev pub AreSentBefore : List Event → Type 0
 AreSentBefore events = (i j : ℕ) → i < length events → IsSentTo events i j → IsTrue (is_earlier events j i)
 
--- event j is a cause of event i: it is of its processor and comes before it, or it is the Send of a message that it received
+-- event j is a cause of event i: it is an event of the same processor that comes before i, or the Send of a message
+-- that i received
 abbrev pub IsCause : List Event → ℕ → ℕ → Type 0
 IsCause events i j = IsOwnBefore events i j ⊎ IsSentTo events i j
 

@@ -1,5 +1,5 @@
--- What makes events a trace: each message is received by the one to whom it was sent, once, in a later tick; and
--- no processor has two events in a tick (own).
+-- What makes events a trace: each message is received by the one to whom it was sent, once, in a later tick. No
+-- processor has two events in a tick (own).
 use Rattle.std.specs.Prelude.{ℕ, ◌≡◌, ◌+◌, ◌*◌, ◌-◌, ◌≤◌, ◌<◌, List, [], length, take, Option, Some, None, Bool, false, ◌==◌, ◌||◌, ◌&&◌, not, nat_lt, int_lt, pos, slice_get, slice_index_or, if◌then◌else◌, ℤ}
 use Rattle.std.specs.List.{list_any}
 use Rattle.std.specs.Option.{option_or, option_map_or}
@@ -51,7 +51,7 @@ received_before events i s = any_below (λ j. list_any (is_message s) (messages_
 abbrev pub was_received : List Event → ℕ → ℕ → ℕ → Bool
 was_received events i k s = received_before events i s || list_any (is_message s) (take k (messages_at events i))
 
--- what would help against a receive at i no later than the Send at s; nothing does where one processor receives its own
+-- what would help against a receive at i no later than the Send at s; nothing does if one processor receives its own
 -- message before it sends it
 abbrev pub late_hint : List Event → ℕ → ℕ → Option Hint
 late_hint events s i =
@@ -143,7 +143,7 @@ event_refusal events ticks i = option_or (messages_refusal events ticks i) (seco
 unfoldable pub events_refusal : List Event → List ℕ → Option EventError
 events_refusal events ticks = first_of (event_refusal events ticks) (length events)
 
--- the answer is this reason, or want of memory
+-- the answer is this reason, or out of memory
 abbrev pub IsEventRefusal : EventError → Option EventError → Type 0
 IsEventRefusal Memory why = Unit {0}
 IsEventRefusal e why = why ≡ Some e

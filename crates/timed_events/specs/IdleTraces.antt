@@ -27,8 +27,9 @@ pub record IsFilled (n : ℕ) (events new : List Event) (ticks : List ℕ) (last
   pub grown : new ≡ events ++ added
   pub trace : IsTraceOf n (events ++ added) (ticks ++ ticks_of idles) last made
 
--- No event is refused. The trace has the events in their ticks, and a receive of nothing in the last tick of each silence of
--- at most `limit` ticks; the new list has both; this is how the events moved, and how many receives were added.
+-- No event is refused. The trace has the events in their ticks, and a receive of nothing in the last tick of each
+-- silence of at most `limit` ticks. The new list has both. This is how the events moved, and how many receives were
+-- added.
 pub record IsIdleTimed (spread : Bool) (n : ℕ) (events : List Event) (clock : Clock) (limit : ℕ) (timed : IdleTrace) (new : List Event) : Type 0 where
   pub passed : HavePassed spread events clock
   pub ticks : List ℕ
@@ -39,8 +40,8 @@ pub record IsIdleTimed (spread : Bool) (n : ℕ) (events : List Event) (clock : 
   pub moved : timed.moved ≡ moved_of (time_ticks events clock) ticks
   pub added : timed.added ≡ length idles
 
--- `filled` has the events and, behind them, a receive of nothing in the last tick of each silence of at most `limit` ticks;
--- these are its places in the order of the steps of the trace: that of the ticks, and within a tick of the processors
+-- `filled` has the events and, behind them, a receive of nothing in the last tick of each silence of at most `limit`
+-- ticks; these are its places in the order of the trace's steps: by tick, and within a tick by processor
 pub record AreFilledPlaces (spread : Bool) (n : ℕ) (events : List Event) (clock : Clock) (limit : ℕ) (filled : List Event) (places : List ℕ) : Type 0 where
   pub ticks : List ℕ
   pub are : AreTicks spread events clock ticks
@@ -58,7 +59,7 @@ pub record AreTooMany (spread : Bool) (n : ℕ) (events : List Event) (clock : C
   pub idle : AreIdle n events ticks (last_of events clock ticks) limit idles
   pub many : MAX_STEPS < length events + length idles
 
--- why there is no trace of events with receives of nothing; or want of memory
+-- why there is no trace of events with receives of nothing; or out of memory
 abbrev pub IsIdleRefusal : Bool → ℕ → List Event → Clock → ℕ → IdleError → Type 0
 IsIdleRefusal spread n events clock limit (Events why) = IsTimedRefusal spread events clock why
 IsIdleRefusal spread n events clock limit TooManySteps = AreTooMany spread n events clock limit

@@ -16,7 +16,7 @@ is_short since y limit = nat_lt since y && not (nat_lt limit (y - since))
 abbrev pub noted : List IdleTick → ℕ → ℕ → ℕ → ℕ → List IdleTick
 noted idles index since y limit = if is_short since y limit then idles ++ record { processor = index + 1; tick = y } ∷ [] else idles
 
--- u is the last tick before t in which processor p has an event; 0 where there is none
+-- u is the last tick before t in which processor p has an event; 0 if there is none
 pub record IsLatestBefore (events : List Event) (ticks : List ℕ) (p t u : ℕ) : Type 0 where
   pub from : (u ≡ 0) ⊎ HasEventIn events ticks p u
   pub below : u < t

@@ -22,7 +22,8 @@ late_message events hop = record {
   by = unsigned_abs (time_at events hop.message -ℤ time_at events hop.event);
 }
 
--- the one of two messages that is sent longer after it is received, the first where both are so long; at first there is none
+-- the one of two messages that is sent longer after it is received, the first if both are so long; at first there is
+-- none
 abbrev pub worse : Option LateMessage → LateMessage → LateMessage
 worse None late = late
 worse (Some worst) late = if nat_lt worst.by late.by then late else worst

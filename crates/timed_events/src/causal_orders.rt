@@ -14,13 +14,13 @@ use step_trace::{MAX_PROCESSORS, MAX_STEPS};
 /// A walk over the events of all processors, each in its own order, that places each event behind its causes.
 #[derive(Drop)]
 pub(crate) struct Walk {
-    /// Of each processor its first event that isn't placed; the number of all events where there is none.
+    /// Of each processor its first event that isn't placed; the number of all events if there is none.
     pub(crate) heads: Vec<u32>,
     /// How many of the messages of that event are known as sent by placed events.
     pub(crate) met: Vec<usize>,
-    /// The message for which that event waits, where its processor isn't awake.
+    /// The message for which that event waits, if its processor isn't awake.
     pub(crate) waits: Vec<u32>,
-    /// By place: the event's number in the order, counted from 1; 0 where it isn't placed.
+    /// By place: the event's number in the order, counted from 1; 0 if it isn't placed.
     pub(crate) ranks: Vec<u32>,
     /// The events that are placed, each behind its causes.
     pub(crate) order: Vec<u32>,
@@ -31,7 +31,7 @@ pub(crate) struct Walk {
 /// An order of the events that keeps their causes.
 ///
 /// Asks for the order by their times, which it keeps within each processor, and for messages that are received by those
-/// to whom they were sent. Refuses exactly where there is none: `Cycle`.
+/// to whom they were sent. Refuses exactly if there is none: `Cycle`.
 pub(crate) fn causal_order(
     alloc: Global,
     events: &[Event],
@@ -153,9 +153,9 @@ fn receiver_at(events: &[Event], place: usize) -> u64
 /// The first message whose Send isn't placed.
 #[derive(Clone, Copy, Debug)]
 struct Unmet {
-    /// How many stand before it.
+    /// How many are before it.
     met: usize,
-    /// The number of all events where there is none.
+    /// The number of all events if there is none.
     message: u32,
 }
 

@@ -23,12 +23,15 @@ pub struct Hop {
     pub message: u32,
 }
 
-/// A cycle of causes: each of its events received a message that is sent, by that message's sender, no earlier than the
-/// next of its events; the last one's no earlier than the first. So none of them can stand behind all its causes. It begins
-/// at the least of their places. It tells why events that may be spread make no trace, where they are refused by `Cycle`;
-/// it has no hops exactly where some order of the events keeps their causes.
+/// A cycle of causes. Each of its events received a message that is sent, by that message's sender, no earlier than the
+/// next of its events; the last one's, no earlier than the first. So none of them can come after all its causes. It
+/// begins at the least of their places.
 ///
-/// Asks for events of 1 to 64 processors, at most `MAX_STEPS`, against whose messages there is nothing (`check_messages`).
+/// It shows why events that may be spread make no trace, if they are refused by `Cycle`. It has no hops exactly if some
+/// order of the events keeps their causes.
+///
+/// Asks for events of 1 to 64 processors, at most `MAX_STEPS`, against whose messages there is nothing
+/// (`check_messages`).
 pub fn cycle_of_causes(alloc: Global, events: &[Event]) -> Result<Vec<Hop>, AllocError>
     requires few { length events.now ≤ MAX_STEPS }
     requires processors { AreOfProcessors events.now }
@@ -42,7 +45,7 @@ pub fn cycle_of_causes(alloc: Global, events: &[Event]) -> Result<Vec<Hop>, Allo
     begun_at_least(alloc, &cycle)
 }
 
-/// A cycle of causes, begun anywhere; no hops where some order of the events keeps their causes.
+/// A cycle of causes, begun anywhere; no hops if some order of the events keeps their causes.
 ///
 /// Asks for the same as `causal_order`.
 fn cause_cycle(alloc: Global, events: &[Event], time_order: &[u32]) -> Result<Vec<Hop>, AllocError>
@@ -75,7 +78,7 @@ fn cycle_from(
     ensures { IfOk result (λ v. IsCauseCycle events.now v.items) }
 {
     let mut path = Vec::new(alloc);
-    // Of each processor its place on the path, counted from 1; 0 where it has none.
+    // Of each processor its place on the path, counted from 1; 0 if it has none.
     let mut seen = vec![in alloc; 0; MAX_PROCESSORS as usize]?;
     let mut at = processor;
     while seen[at] == 0 {
@@ -107,7 +110,7 @@ fn begun_at_least(alloc: Global, hops: &[Hop]) -> Result<Vec<Hop>, AllocError>
     Ok(turned)
 }
 
-/// The hop of the least event; 0 where there are none.
+/// The hop of the least event; 0 if there are none.
 fn least_hop(hops: &[Hop]) -> usize
     ensures inside { result ≤ length hops.now }
     ensures least { (k : ℕ) (d : Hop) → k < length hops.now → (result < length hops.now) × ((get_or hops.now result d).event ≤ (get_or hops.now k d).event) }

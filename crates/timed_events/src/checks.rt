@@ -85,7 +85,7 @@ pub(crate) fn take_messages(
     Ok(())
 }
 
-/// The place of the event that sent a message, where the event at `place` may receive it.
+/// The place of the event that sent a message, if the event at `place` may receive it.
 fn sent_before(
     events: &[Event],
     briefs: &[Brief],
@@ -147,8 +147,8 @@ pub(crate) fn is_sent_to(events: &[Event], briefs: &[Brief], place: usize, proce
     }
 }
 
-/// What would help against a receive no later than its Send: nothing does where a processor receives its own message before
-/// it sends it.
+/// What would help against a receive no later than its Send: nothing does if a processor receives its own message
+/// before it sends it.
 fn late_hint(events: &[Event], sent: usize, place: usize) -> Option<Hint>
     requires sent { sent < length events.now }
     requires inside { place < length events.now }
@@ -190,7 +190,7 @@ fn take_moment(
     Ok(())
 }
 
-/// The reason against the event at `place`, where an earlier one is of the same processor in the same tick.
+/// The reason against the event at `place`, if an earlier one is of the same processor in the same tick.
 fn second_event(events: &[Event], ticks: &[u32], place: usize) -> EventError
     requires inside { place < length events.now }
     requires ticks { length ticks.now ≡ length events.now }

@@ -17,8 +17,8 @@ pub struct Event {
 pub enum EventAct {
     /// A message was sent to this processor.
     Send { to: u64 },
-    /// These messages were received, possibly none: each is the place of the event that sent it, or nothing where
-    /// no event did.
+    /// These messages were received, possibly none: each is the place of the event that sent it, or nothing if no event
+    /// did.
     Receive { messages: Vec<Option<u32>> },
 }
 
@@ -55,10 +55,10 @@ pub enum Hint {
     Spread,
 }
 
-/// Why events make no trace, in the order in which the reasons are tested: first those of the times, then those of
-/// the events in their order; of one event those of its messages in their order. Where events may be spread, `Cycle` comes
-/// after those of the messages of all events, and none is `NotLater` or `SecondEvent`. `event` is a place among the events,
-/// `message` one among the messages of that event.
+/// Why events make no trace, in the order in which the reasons are tested: first those of the times, then those of the
+/// events in their order; of one event those of its messages in their order. If events may be spread, `Cycle` comes
+/// after those of the messages of all events, and none is `NotLater` or `SecondEvent`. `event` is a place among the
+/// events, `message` one among the messages of that event.
 #[derive(Clone, Copy, Debug, PartialEq, Eq)]
 pub enum EventError {
     /// The log ends before the time of some event.
@@ -92,11 +92,11 @@ pub enum EventError {
         tick: u64,
         hint: Option<Hint>,
     },
-    /// Where events may be spread: this one, and none before it, is in a cycle of causes or behind one.
+    /// If events may be spread: this one, and none before it, is in a cycle of causes or behind one.
     Cycle {
         event: usize,
     },
-    /// There was no memory.
+    /// Out of memory.
     Memory,
 }
 

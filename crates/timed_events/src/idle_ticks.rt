@@ -18,8 +18,9 @@ pub struct IdleTick {
     pub tick: u32,
 }
 
-/// The last tick of each short silence of `n` processors: ticks without an event of the processor, at most `limit` of them,
-/// from tick 1 or its event before to its next event or the tick `last`, in the order of their moments.
+/// The last tick of each short silence of `n` processors, in the order of their moments. A short silence is at most
+/// `limit` ticks without an event of the processor: from tick 1 or its event before to its next event or the tick
+/// `last`.
 ///
 /// Asks for ticks from 1 to `last`, and for the order of the events by their moments.
 pub(crate) fn idle_ticks(
@@ -53,7 +54,7 @@ pub(crate) fn idle_ticks(
     Ok(walk.idles)
 }
 
-/// The short silences that end before an event, and the last tick of each processor; 0 where it has none.
+/// The short silences that end before an event, and the last tick of each processor; 0 if it has none.
 #[derive(Drop)]
 struct Walk {
     idles: Vec<IdleTick>,

@@ -29,8 +29,8 @@ pub struct IdleTrace {
     pub added: u64,
 }
 
-/// A trace with receives of nothing, and the places of the events and of these receives, which stand behind the events, in
-/// the order of its steps.
+/// A trace with receives of nothing, and the places of the events and of these receives, which come behind the events,
+/// in the order of its steps.
 #[derive(Drop)]
 pub struct PlacedIdleTrace {
     pub timed: IdleTrace,
@@ -69,13 +69,13 @@ impl From<AllocError> for IdleError {
     }
 }
 
-/// The trace of the events as `trace_of_events` makes it, and of a receive of nothing in the last tick of each short silence:
-/// ticks without an event of a processor, at most `limit` of them, from tick 1 or its event before to its next event or
-/// the last tick. The receives stand behind the events in the list: a place from the number of events on is that of a receive
-/// that was added.
+/// The trace of the events as `trace_of_events` makes it, and of a receive of nothing in the last tick of each short
+/// silence. That is at most `limit` ticks without an event of a processor, from tick 1 or its event before to its next
+/// event or the last tick. The receives are behind the events in the list: a place from the number of events on is that
+/// of a receive that was added.
 ///
-/// Asks for the same as `trace_of_events`, and refuses in the same order, by `Events`; TooManySteps comes last but for Memory.
-/// After a refusal the list of events is as it was.
+/// Asks for the same as `trace_of_events`, and refuses in the same order, by `Events`; TooManySteps comes last but for
+/// Memory. After a refusal the list of events is unchanged.
 pub fn idle_trace(
     alloc: Global,
     n: u64,
@@ -136,10 +136,10 @@ fn idles_of(
     idle_ticks(alloc, n, events, ticks, &order, last, limit)
 }
 
-/// The trace of the events in their ticks, and of a receive of nothing in each of the idle ticks, which stand behind the
+/// The trace of the events in their ticks, and of a receive of nothing in each of the idle ticks, which are behind the
 /// events then; with the places of all of them in the order of its steps.
 ///
-/// After a refusal the events are as they were.
+/// After a refusal the events are unchanged.
 fn filled_trace(
     alloc: Global,
     n: u64,

@@ -77,7 +77,7 @@ fn late_message(events: &[Event], hop: Hop) -> LateMessage
     }
 }
 
-/// The time of the event at a place; 0 where there is none.
+/// The time of the event at a place; 0 if there is none.
 pub fn time_at(events: &[Event], place: usize) -> i128
     ensures { result ≡ time_at events.now place }
 {
@@ -87,7 +87,7 @@ pub fn time_at(events: &[Event], place: usize) -> i128
     }
 }
 
-/// The one of two messages that was sent longer after it was received; the first where both were so long.
+/// The one of two messages that was sent longer after it was received; the first if both were so long.
 fn worse(worst: Option<LateMessage>, late: LateMessage) -> LateMessage
     ensures { result ≡ worse worst late }
 {

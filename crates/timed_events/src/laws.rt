@@ -14,11 +14,11 @@ ghost use Rattle.timed_events.specs.Spreads.{AreLeast, AreSpread, AreStepPlaces,
 ghost use Rattle.timed_events.specs.TimedTraces.{IsTraceOf};
 
 /// The laws of traces of events. Events in their ticks, up to a last tick, have one trace. Events that may be spread,
-/// and of which none is refused, have one list of ticks. So events with times have one trace, and moved in one way.
-/// The places of the events in the order of its steps are those at which its steps are (`placed`).
+/// and of which none is refused, have one list of ticks. So events with times have one trace, and moved in one way. The
+/// places of the events in the order of its steps are those at which its steps are (`placed`).
 ///
-/// Theorems over the definitions: they stand in the contract and quantify over all events, ticks and clocks. Calling
-/// it does nothing.
+/// These are theorems over the definitions. The contract quantifies over all events, ticks and clocks. Calling it does
+/// nothing.
 pub fn trace_laws()
     ensures one { (n : ℕ) (events : List Event) (ticks : List ℕ) (last : ℕ) (a b : Recorded) → IsTraceOf n events ticks last a → IsTraceOf n events ticks last b → a ≡ b }
     ensures spread_once { (events : List Event) (clock : Clock) (a b : List ℕ) → HavePassed true events clock → AreSpread events clock a → AreSpread events clock b → a ≡ b }

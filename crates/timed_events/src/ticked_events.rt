@@ -28,7 +28,7 @@ pub(crate) struct TickedEvents {
     pub(crate) moved: Moved,
 }
 
-/// The ticks of the events, where these make a trace: those of their times or, where they may be `spread`, as little later as
+/// The ticks of the events, if these make a trace: those of their times or, if they may be `spread`, as little later as
 /// need be.
 ///
 /// Asks for the same, and refuses in the same order, as `trace_of_events`.
@@ -85,7 +85,7 @@ fn events_in_time(
     Ok((ticks, span.last))
 }
 
-/// The ticks of the events where they may be spread.
+/// The ticks of the events if they may be spread.
 pub(crate) fn spread_events(
     alloc: Global,
     n: u64,

@@ -120,8 +120,8 @@ pub(crate) fn ended<T: Threads + Wait + Sync>(
     Ok(0)
 }
 
-/// Checks the rows against a text for the processors of a list, up to a tick if there is one, in reads of 7 bytes; and
-/// gives the status of the verdict.
+/// Checks the rows against a text for the processors of a list, up to a tick if there is one, in reads of 7 bytes.
+/// Gives the status of the verdict.
 fn checked(
     alloc: Global,
     input: Input<'_>,

@@ -1,4 +1,4 @@
-//! What each command refuses, and leaves half written, where a device fails after each number of bytes.
+//! What each command refuses, and leaves half written, if a device fails after each number of bytes.
 
 use crate::commands::Command::{Brief, Check, Each, Part, Replay, Report, Timeouts, Upgrade};
 use crate::commands::{Command, Cut, Input, WHOLE, ended, has_refused, whole};

@@ -129,7 +129,7 @@ const LEFT_TABLE: &str =
     "step,tick,begins,record,time,node,event,to,message\n1,1,3,3,3,a,send,b,m1\n\
     2,5,7,4,7,b,receive,,m1\n";
 
-/// Logs, what is asked for, what is written of them, and what is told.
+/// Logs, what is asked for, what is written of them, and the notes.
 const IMPORTED: &[(Given, ImportForm, &str, &str)] = &[
     (LISTED, ImportForm::Trace, LISTED_TRACE, ""),
     (UNLISTED, ImportForm::Trace, UNLISTED_TRACE, UNLISTED_NOTES),

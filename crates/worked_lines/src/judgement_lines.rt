@@ -6,8 +6,9 @@ use std::alloc::Global;
 use std::test::Fail;
 use step_trace::Correct;
 
-/// Whether the words ask for this judgement of the decisions d of the trace t, for processors 1 and 2 and within phi: from a
-/// start, of validity, of the whole run, with so many rows due, for the least factor and for rows.
+/// Whether the words ask for this judgement of the decisions d of the trace t, for processors 1 and 2 and within phi.
+/// The rest says from which start, and whether of validity, of the whole run, with so many rows due, for the least
+/// factor and for rows.
 fn asks_for_judgement(
     alloc: Global,
     words: &[&str],
@@ -93,8 +94,8 @@ fn reads_judgements(rt: HostRuntime) -> Result<(), Fail> {
     Ok(())
 }
 
-/// Whether the words ask for a judgement of the runs in the list l, within phi: for these processors, from a start, of
-/// validity, of the whole run, with so many rows due.
+/// Whether the words ask for a judgement of the runs in the list l, within phi, for these processors. The rest says
+/// from which start, and whether of validity, of the whole run, with so many rows due.
 fn asks_for_runs(
     alloc: Global,
     words: &[&str],

@@ -6,7 +6,7 @@ use std::alloc::{AllocError, Global};
 use std::io;
 use std::test::Fail;
 
-/// Whether the words ask for the replay of this file, or where they name `upgrade` for its upgrade.
+/// Whether the words ask for the replay of this file, or for its upgrade if they name `upgrade`.
 fn asks_for_file(alloc: Global, words: &[&str], command: &str, name: &str) -> bool {
     match read(alloc, words) {
         Ok(Job::Replay(job)) => command == "replay" && job.file.as_str() == name,
@@ -238,7 +238,7 @@ fn refuses_other_lines(rt: HostRuntime) -> Result<(), Fail> {
     Ok(())
 }
 
-/// Whether the refusal of words that are no text, as it is printed, begins and ends so.
+/// Whether the refusal of words that are no text, as printed, begins and ends so.
 fn tells(alloc: Global, begins: &str, ends: &str) -> Result<bool, AllocError> {
     let error = refuse_words(alloc, io::ErrorKind::InvalidData)?;
     let line = error.to_string(alloc)?;

@@ -286,7 +286,7 @@ const TIMEOUTS: &[(&[&str], &[u64], [Option<u64>; 4])] = &[
     ),
 ];
 
-/// Whether the words ask for the timeouts of these followers of 3, or of all where there are none, by a file.
+/// Whether the words ask for the timeouts of these followers of 3, or of all if there are none, by a file.
 fn asks_for_timeouts(
     alloc: Global,
     words: &[&str],
