@@ -25,7 +25,7 @@ const LEAST_MARGIN: u64 = 4;
 /// The ticks in which a picture shows the first evidence of a report of the trace, but at most the first `MAX_WINDOW` of them;
 /// none if there is no evidence. They are ticks of the trace.
 ///
-/// Time grows with the trace and the rows, apart from the sorting of the evidence. Refuses only for want of memory.
+/// Time grows with the trace and the rows, apart from the sorting of the evidence. Fails only if out of memory.
 pub fn evidence_window(
     alloc: Global,
     trace: &Trace,
@@ -63,8 +63,8 @@ pub(crate) fn taker_of(takers: &[Option<u64>], evidence: &Evidence) -> Option<u6
     }
 }
 
-/// The ticks of evidence: of its gap, with the steps at both ends, and of its miss, with the Receive that takes the message if
-/// that is near. `taken` is that Receive, if there is one.
+/// The ticks of evidence: of its gap, with the steps at both ends; or of its miss, with the Receive that takes the
+/// message if that is near. `taken` is that Receive, if there is one.
 pub(crate) fn core_of(trace: &Trace, evidence: &Evidence, taken: Option<u64>) -> Span
     ensures { result ≡ core_of trace.now evidence.now.stall evidence.now.delay taken }
 {

@@ -60,8 +60,8 @@ fn put_pins(pen: &mut Pen<'_>, run: &Run<'_>) {
     pen.text("</nav>");
 }
 
-/// Whether the evidence at this place is numbered: it isn't late, or all is and it is one of the first, and it isn't too near
-/// to evidence before it.
+/// Whether the evidence at this place is numbered: it isn't late, or all is and it is one of the first; and it isn't
+/// too near to evidence before it.
 fn is_pinned(run: &Run, place: usize) -> bool {
     let (Some(first), Some(evidence)) = (run.evidence.first(), run.evidence.get(place)) else {
         return false;

@@ -6,7 +6,7 @@ use crate::pieces::Piece::{Count, Late, Many, Node, Number, Silent, Text, Ticks}
 use crate::runs::Run;
 use run_story::Headline;
 
-/// Writes what is said of a run first.
+/// Writes the headline of a run.
 pub(crate) fn put_headline(pen: &mut Pen<'_>, run: &Run<'_>) {
     match run.found.headline {
         Some(headline) => put_case(pen, run, headline),
@@ -47,7 +47,7 @@ fn put_calm(pen: &mut Pen<'_>, run: &Run<'_>, sent: bool) {
     ]);
 }
 
-/// Writes what is said of the messages of a calm run, by their bound, and whether there is one.
+/// Writes about the messages of a calm run, by their bound, and by whether there is one.
 fn put_arrived(pen: &mut Pen<'_>, delta: u64, sent: bool) {
     if !sent {
         pen.text("no message was sent between the nodes");
@@ -58,7 +58,7 @@ fn put_arrived(pen: &mut Pen<'_>, delta: u64, sent: bool) {
     }
 }
 
-/// Writes the bounds of a run that tells too little.
+/// Writes the bounds of a run that is too short to say more.
 fn put_too_short(pen: &mut Pen<'_>, run: &Run<'_>, delta: u64, phi: u64) {
     pen.put(&[
         Text("The run is too short to tell much: from tick 1 on Δ = "),

@@ -147,7 +147,7 @@ impl Blame {
         }
     }
 
-    /// Whichever has the smaller bounds: by the greater one, then by the other.
+    /// The one with the smaller bounds: by the greater bound, then by the other.
     fn or(self, other: Blame) -> Self {
         let (most, least) = (self.delta.max(self.phi), self.delta.min(self.phi));
         let (other_most, other_least) = (other.delta.max(other.phi), other.delta.min(other.phi));

@@ -13,8 +13,8 @@ const FIRST_CHARACTERS: usize = 30;
 
 const LAST_CHARACTERS: usize = 15;
 
-/// Appends a name as HTML has it, and of one with more characters than `most` the first and the last ones alone, with an ellipsis
-/// between them.
+/// Appends a name as HTML has it. If it has more characters than `most`, only the first and the last ones, with an
+/// ellipsis between them.
 pub(crate) fn push_long(out: &mut Vec<u8>, name: &[u8], most: usize) -> Result<(), AllocError>
     ensures { OnOk result (out.new.items ≡ out.old.items ++ long_text most name.now) }
 {

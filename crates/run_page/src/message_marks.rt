@@ -145,7 +145,7 @@ fn class_of(pane: &Pane, sent: u64) -> Option<u64> {
     }
 }
 
-/// Writes a message, with its words if it tells them.
+/// Writes a message, with its title if it has one.
 fn put_way(pen: &mut Pen<'_>, pane: &Pane<'_>, sent: u64) {
     pen.put(&[
         Text("<path class=\""),

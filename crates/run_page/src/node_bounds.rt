@@ -9,7 +9,7 @@ use step_trace::{MAX_MEMBER, ProcSet, Row, Trace};
 /// How many places there are: one for each processor, and one for number 0, which is none.
 const PLACES: usize = MAX_MEMBER as usize + 1;
 
-/// The least bounds of nodes and pairs from one tick on: 0 where there is none.
+/// The least bounds of nodes and pairs from one tick on: 0 if there is none.
 #[derive(Drop)]
 pub(crate) struct NodeBounds {
     phi: Vec<u64>,

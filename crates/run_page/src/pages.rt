@@ -26,11 +26,12 @@ use std::alloc::{AllocError, Global};
 use step_tables::StepRow;
 use step_trace::{ProcSet, Row, Trace};
 
-/// The page about a run, in UTF-8: HTML that needs no script and asks for nothing else. `rows` is the report of the trace for
-/// the set, `names` calls the processors in their order, and numbers those that it has no name for; `said` is what a table says of the steps, and nothing without one. The row that applies to
-/// the tick `at` is the calm one, if it is given.
+/// The page about a run, in UTF-8: HTML that needs no script and loads nothing else. `rows` is the report of the trace
+/// for the set. `names` has the names of the processors in their order; one without a name has its number. `said` is
+/// what a table says about the steps, and nothing without one. The row that applies to the tick `at` is the calm one,
+/// if it is given.
 ///
-/// Time grows with the trace and the rows, apart from the sorting of the evidence. Refuses only for want of memory.
+/// Time grows with the trace and the rows, apart from the sorting of the evidence. Fails only if out of memory.
 pub fn page_text(
     alloc: Global,
     trace: &Trace,
@@ -143,7 +144,7 @@ impl Bounds {
     }
 }
 
-/// What single steps tell.
+/// What is found from single steps.
 #[derive(Drop)]
 struct Steps {
     takers: Vec<Option<u64>>,

@@ -57,7 +57,7 @@ pub(crate) struct Pane<'a> {
     /// The number of the first step, and that of the first one after the last.
     pub first: u64,
     pub next: u64,
-    /// Whether each mark tells what it is.
+    /// Whether each mark has a title that says what it is.
     pub is_told: bool,
     /// How many messages are drawn.
     pub most: u64,
@@ -169,7 +169,7 @@ fn put_lane_lines(pen: &mut Pen<'_>, pane: &Pane<'_>) {
     }
 }
 
-/// Writes the silence as a band, unless it lies beside the pane.
+/// Writes the silence as a band, unless it lies outside the pane.
 fn put_gap(pen: &mut Pen<'_>, pane: &Pane<'_>, stall: Stall) {
     let (x, width) = band(pane, stall);
     if width == 0 {
@@ -195,7 +195,7 @@ fn band(pane: &Pane, stall: Stall) -> (u64, u64) {
     (x, end.saturating_sub(x))
 }
 
-/// Writes the length of the silence, where the band has room for it.
+/// Writes the length of the silence, if the band has room for it.
 fn put_gap_label(pen: &mut Pen<'_>, pane: &Pane<'_>, stall: Stall) {
     let (x, width) = band(pane, stall);
     if width < if pane.is_part() { 5_000 } else { 2_500 } {

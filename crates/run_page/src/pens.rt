@@ -8,14 +8,14 @@ use crate::pieces::{Piece, push_pieces};
 use std::alloc::{AllocError, Global};
 use step_tables::StepRow;
 
-/// A page while it is written. Once memory is refused, it writes nothing more, and has no text in the end: so a phrase is a
-/// list of calls, and only the whole page may fail.
+/// A page while it is written. Once an allocation fails, it writes nothing more, and has no text in the end. So a
+/// phrase is a list of calls, and only the whole page may fail.
 #[derive(Drop)]
 pub(crate) struct Pen<'a> {
     text: Vec<u8>,
     // What processors are called, in their order.
     names: &'a [&'a str],
-    // What a table says of the steps; nothing without one.
+    // What a table says about the steps; nothing without one.
     said: &'a [StepRow],
     is_refused: bool,
 }
@@ -31,7 +31,7 @@ impl<'a> Pen<'a> {
         }
     }
 
-    /// What was written, in UTF-8. Refuses only for want of memory.
+    /// What was written, in UTF-8. Fails only if out of memory.
     pub(crate) fn written(self) -> Result<Vec<u8>, AllocError> {
         if self.is_refused {
             Err(AllocError)
@@ -64,7 +64,7 @@ impl<'a> Pen<'a> {
         }
     }
 
-    /// Writes HTML, as it is.
+    /// Writes HTML unchanged.
     pub(crate) fn text(&mut self, text: &'static str)
         ensures { HasWritten text.now self.old self.new }
     {

@@ -13,7 +13,7 @@ use step_tables::{StepRow, message_at, source_at};
 /// A piece of a phrase.
 #[derive(Clone, Copy)]
 pub(crate) enum Piece {
-    /// HTML, as it is.
+    /// HTML, unchanged.
     Text(&'static str),
     /// A number in digits alone: a tick, a step, or a length in a picture.
     Number(u64),
@@ -43,10 +43,10 @@ pub(crate) enum Piece {
     At(Place),
 }
 
-/// Appends these pieces, one after the other; `names` calls the processors in their order, and `said` is what a table says of
-/// the steps.
+/// Appends these pieces, one after the other. `names` has the names of the processors in their order, and `said` is
+/// what a table says about the steps.
 ///
-/// Refuses only for want of memory.
+/// Fails only if out of memory.
 pub(crate) fn push_pieces(
     out: &mut Vec<u8>,
     names: &[&str],

@@ -28,7 +28,7 @@ const MARKED: usize = 40;
 
 const BANDS: u64 = 12;
 
-/// Writes the lanes of all nodes, or those of the first evidence, and then all where the reader asks for them.
+/// Writes the lanes of all nodes; or those of the first evidence, and then all if the reader asks for them.
 pub(crate) fn put_all_lanes(pen: &mut Pen<'_>, run: &Run<'_>) {
     let count = run.count();
     let all = ProcSet::all_to(count);

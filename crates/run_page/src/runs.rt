@@ -16,7 +16,7 @@ pub(crate) struct Run<'a> {
     pub set: ProcSet,
     pub rows: &'a [Row],
     pub names: &'a [&'a str],
-    /// What a table says of the steps; nothing without one.
+    /// What a table says about the steps; nothing without one.
     pub said: &'a [StepRow],
     /// Evidence in the order of the page, and for each row which it names.
     pub evidence: &'a [Evidence],

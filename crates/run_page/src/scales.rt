@@ -24,7 +24,7 @@ impl Span {
         self.to.saturating_sub(self.first).min(MAX_TICKS) + 1
     }
 
-    /// The left edge of a tick; the picture's own for a tick beside it.
+    /// The left edge of a tick; the picture's own for a tick outside it.
     pub(crate) fn edge(self, tick: u64) -> u64
         ensures { result ≤ WIDE }
     {
@@ -32,7 +32,7 @@ impl Span {
         tick.saturating_sub(self.first).min(count) * WIDE / count
     }
 
-    /// The middle of a tick, which may lie beside the picture.
+    /// The middle of a tick, which may lie outside the picture.
     pub(crate) fn middle(self, tick: u64) -> Place {
         let double = self.count() * 2;
         let (tick, first) = (tick.min(MAX_TICKS), self.first.min(MAX_TICKS));

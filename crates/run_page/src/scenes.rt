@@ -20,7 +20,7 @@ const MOST_LATER_STEPS: u64 = 500;
 /// How many steps each part of a picture in two parts has, about.
 const PART_STEPS: u64 = 160;
 
-/// The evidence with these numbers has the larger pictures, and these tell each of their marks.
+/// The evidence up to these numbers has the larger pictures, and titles for each of their marks.
 pub(crate) const LARGE: usize = 3;
 
 pub(crate) const TOLD: usize = 5;

@@ -207,7 +207,7 @@ fn put_corner(pen: &mut Pen<'_>, before: u64, x: u64, y: u64) {
     ]);
 }
 
-/// Writes what the bounds are from a row on, for whoever points there: one in each column of 40 units.
+/// Writes titles with the bounds from a row on: one in each column of 40 units.
 fn put_hints(pen: &mut Pen<'_>, run: &Run<'_>) {
     let mut column = None;
     for row in run.rows {

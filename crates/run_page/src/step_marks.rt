@@ -81,8 +81,8 @@ fn put_told(pen: &mut Pen<'_>, pane: &Pane<'_>, no: u64, path: &'static str) {
     pen.text("</title></path>");
 }
 
-/// Whether a step has a mark of this kind: it is of the kind, has a lane, and isn't too near the last one there, which it
-/// then is. For each lane `last` has one more than the place of the last mark.
+/// Whether a step has a mark of this kind: it is of the kind, has a lane, and isn't too near to the last mark there.
+/// Then it is the last: for each lane `last` has one more than the place of that mark.
 fn is_marked(pane: &Pane, no: u64, kind: Kind, last: &mut [u64; 65]) -> bool {
     let proc = pane.run.proc(no);
     if !pane.has_lane(proc) || proc > 64 || kind_of(pane.run, no) != Some(kind) {

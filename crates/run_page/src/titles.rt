@@ -5,7 +5,7 @@ use crate::pieces::Piece::{Message, Node, Text, Ticks};
 use crate::runs::Run;
 use run_story::{Delay, Evidence, Stall};
 
-/// Writes what a card is called. It has no marks of HTML, so it stands between quotes too.
+/// Writes what a card is called. It has no marks of HTML, so it may be in quotes too.
 pub(crate) fn put_title(pen: &mut Pen<'_>, run: &Run<'_>, evidence: &Evidence) {
     match (evidence.stall, evidence.delay) {
         (Some(stall), None) => put_stall_title(pen, stall),

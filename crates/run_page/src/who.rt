@@ -12,7 +12,7 @@ const FEW_MEMBERS: u64 = 12;
 
 const SOME_MEMBERS: u64 = 10;
 
-/// Writes the section that tells who is late or slow.
+/// Writes the section about who is late or slow.
 pub(crate) fn put_who(pen: &mut Pen<'_>, run: &Run<'_>) {
     let shown = shown_members(run);
     pen.text(

@@ -31,7 +31,7 @@ has_name-reordered words others name same =
     ∙ sym (list_any-IsPermutation (λ word. bytes_eq name word.now) words others same)
     ∙ sym (has_name-lent words name)
 
--- so messages have their names among the one just where they have them among the other, if there are as many of both
+-- so messages have their names in one list exactly if they have them in the other, if there are as many of both
 pub are_names_of-reordered : (rows : List Said) (ids : List ℕ) (words others : List (Bor (List ℕ)))
     → length words ≡ length ids → IsPermutation words others
     → list_all (λ id. has_name (map (λ word. word.now) others) (message_at rows id)) ids ≡ are_names_of rows ids (map (λ word. word.now) words)

@@ -7,7 +7,7 @@ use Rattle.std.specs.Str.{bytes_eq, is_utf8}
 abbrev pub is_control : ℕ → Bool
 is_control byte = nat_lt byte 32 || (byte == 127)
 
--- the text that bytes are, where they are UTF-8
+-- the text that bytes encode, if they are UTF-8
 unfoldable pub text_of : List ℕ → Option (List ℕ)
 text_of bytes = if is_utf8 bytes then Some bytes else None
 

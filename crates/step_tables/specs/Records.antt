@@ -24,8 +24,8 @@ abbrev pub is_at : ℕ → ℕ → List (List ℕ) → Bool
 is_at number tick fields =
     (length fields == 9) && (bytes_eq (field_of fields 0) (decimal number) && (bytes_eq (field_of fields 1) (decimal tick) && is_source (field_of fields 3)))
 
--- What the nodes are called, once this is said to be what the one at a place is called: if it has a name, it has to be this one; if
--- not, no other node may have it.
+-- The names of the nodes once the one at a place is said to have this name: if it has a name, that has to be this one;
+-- if not, no other node may have it.
 abbrev pub named : ℕ → List (List ℕ) → ℕ → List ℕ → Result (List (List ℕ)) TableError
 named at nodes place name =
     if nat_lt 0 (length (slice_index_or nodes place [])) then (if bytes_eq (slice_index_or nodes place []) name then Ok nodes else Err (Unfit at))
@@ -54,15 +54,15 @@ abbrev pub message_of : Act → List (List ℕ) → List ℕ
 message_of (act.Send to) fields = field_of fields 8
 message_of (act.Receive ends ids) fields = []
 
--- what a record says of a step
+-- what a record says about a step
 abbrev pub said_of : Act → List (List ℕ) → Said
 said_of a fields = record { source = number_of (field_of fields 3); message = message_of a fields }
 
--- what is told once the record says what a step does
+-- what is known once the record says what a step does
 abbrev pub with_deed : ℕ → Told → Act → List (List ℕ) → Result Told TableError
 with_deed at told a fields = texts.◌>>=◌ (with_act at told.rows told.nodes a fields) (λ nodes. Ok (record { nodes = nodes; rows = told.rows ++ said_of a fields ∷ [] }))
 
--- what is told with the record of one more step
+-- what is known with the record of one more step
 abbrev pub with_step : ℕ → Told → Step → List (List ℕ) → Result Told TableError
 with_step at told step fields =
     texts.◌>>=◌ (named at told.nodes (step.proc - 1) (field_of fields 5)) (λ nodes. with_deed at (record { nodes = nodes; rows = told.rows }) step.act fields)
@@ -72,7 +72,7 @@ abbrev pub with_record : ℕ → Recorded → Told → Option Step → List (Lis
 with_record at trace told None fields = Err (Unfit at)
 with_record at trace told (Some step) fields = if is_at (at - 1) (tick_of trace (at - 1)) fields then with_step at told step fields else Err (Unfit at)
 
--- what is told with one more record
+-- what is known with one more record
 abbrev pub after_record : Recorded → Told → List (List ℕ) → Result Told TableError
 after_record trace told fields = with_record (length told.rows + 2) trace told (step_at trace.steps (length told.rows + 1)) fields
 

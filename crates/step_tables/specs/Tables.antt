@@ -23,11 +23,11 @@ is_header fields =
     && (bytes_eq (field_of fields 3) (codes "record") && (bytes_eq (field_of fields 4) (codes "time") && (bytes_eq (field_of fields 5) (codes "node")
     && (bytes_eq (field_of fields 6) (codes "event") && (bytes_eq (field_of fields 7) (codes "to") && bytes_eq (field_of fields 8) (codes "message")))))))))
 
--- what is told before any record of a step
+-- what is known before any record of a step
 abbrev pub nothing : Recorded → Told
 nothing trace = record { nodes = replicate trace.config.n []; rows = [] }
 
--- what is told after one more record; before the header nothing is
+-- what is known after one more record; before the header nothing is
 abbrev pub told_after : Recorded → Option Told → List (List ℕ) → Result (Option Told) TableError
 told_after trace None fields = if is_header fields then Ok (Some (nothing trace)) else Err BadHeader
 told_after trace (Some told) fields = texts.◌>>=◌ (after_record trace told fields) (λ more. Ok (Some more))
@@ -43,11 +43,11 @@ at_end steps (Some told) = if nat_lt (length told.rows) steps then Err (Missing 
 abbrev pub told_at_end : SoFar → Result Told TableError
 told_at_end s = at_end (length s.trace.steps) s.told
 
--- what these records tell of a trace, or the first refusal
+-- what these records say about a trace, or the first refusal
 abbrev pub told_of_records : Recorded → List (List (List ℕ)) → Result Told TableError
 told_of_records trace records = texts.◌>>=◌ (after_records next_told (record { trace = trace; told = None }) records) told_at_end
 
--- what a text tells of a trace, or the first refusal
+-- what a text says about a trace, or the first refusal
 abbrev pub told_of_text : Recorded → List ℕ → Result Told TableError
 told_of_text trace text = if nat_le (length text) MAX_TEXT_BYTES then told_of_records trace (records_of_text text) else Err TooLarge
 
@@ -55,7 +55,7 @@ abbrev pub is_memory : TableError → Bool
 is_memory Memory = true
 is_memory e = false
 
--- the answer, seen by view, is what the table gives, or want of memory
+-- the answer, seen by view, is what the table gives, or out of memory
 abbrev pub Gives : {X Y : Type 0} → (X → Y) → Result X TableError → Result Y TableError → Type 0
 Gives view result table = GivesUnless is_memory view result table
 

@@ -1,13 +1,15 @@
--- What a table says of a trace (own).
+-- What a table says about a trace (own).
 use Rattle.std.specs.Prelude.{ℕ, List, Option}
 use Rattle.step_trace.specs.Traces.{Recorded}
 
--- what it says of a step: the number of its record in the log, if it has one, and what its message is called, if it is a Send
+-- what it says about a step: the number of its record in the log, if it has one, and what its message is called, if it
+-- is a Send
 pub record Said : Type 0 where
   pub source : Option ℕ
   pub message : List ℕ
 
--- what the processors are called, in their order, where nothing stands for one that no record names; and what is said of each step
+-- what the processors are called, in their order, with an empty name for one that no record names; and what is said
+-- about each step
 pub record Told : Type 0 where
   pub nodes : List (List ℕ)
   pub rows : List Said

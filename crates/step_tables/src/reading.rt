@@ -32,7 +32,7 @@ impl<'a> Model for Reading<'a> {
     ghost view = { λ a. record { trace = a.trace.now; told = a.table } };
 }
 
-/// What the table in a text says of a trace.
+/// What the table in a text says about a trace.
 ///
 /// Refuses in the order of `TableError`; the first record that is refused decides. Memory may come instead of any refusal
 /// but TooLarge.
@@ -56,7 +56,7 @@ fn table_in(alloc: Global, trace: &Trace, text: &[u8]) -> Result<StepTable, Tabl
     table_at_end(steps, reading.table)
 }
 
-/// What the end of the text says, where the trace has so many steps.
+/// The table at the end of the text, if the trace has so many steps.
 fn table_at_end(steps: usize, table: Option<StepTable>) -> Result<StepTable, TableError>
     ensures { MatchResult result (λ t. at_end steps table ≡ Ok t) (λ e. at_end steps table ≡ Err e) }
 {

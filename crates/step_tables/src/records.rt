@@ -151,8 +151,8 @@ fn test_same(at: u64, known: &[u8], name: &[u8]) -> Result<(), TableError>
     }
 }
 
-/// Takes in what a record says of an act: its word, and the receiver and name of a message that is sent, or the names of those
-/// that are received.
+/// Takes in what a record says about an act: its word, and the receiver and name of a message that is sent, or the
+/// names of those that are received.
 fn take_act(
     alloc: Global,
     rows: &[StepRow],
@@ -225,7 +225,7 @@ fn are_among(rows: &[StepRow], ids: &[u64], words: &[&[u8]]) -> bool
     true
 }
 
-/// Keeps what a record says of a step.
+/// Keeps what a record says about a step.
 fn push_row(
     alloc: Global,
     rows: &mut Vec<StepRow>,

@@ -2,8 +2,8 @@
 
 use thiserror::Error;
 
-/// Why a text is no table of a trace, in the order in which the reasons are tested. The first record that is refused decides; a
-/// number is that of the record, where the header is record 1.
+/// Why a text is no table of a trace, in the order in which the reasons are tested. The first record that is refused
+/// decides. A number is that of the record; the header is record 1.
 #[derive(Debug, Drop, Error)]
 pub enum TableError {
     /// The text has more than 67,108,864 bytes.
@@ -14,6 +14,6 @@ pub enum TableError {
     Unfit(u64),
     /// The record lacks: the trace has more steps.
     Missing(u64),
-    /// There was no memory.
+    /// Out of memory.
     Memory,
 }

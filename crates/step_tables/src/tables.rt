@@ -1,4 +1,4 @@
-//! What a table says of a trace, to be looked up.
+//! What a table says about a trace, to be looked up.
 
 ghost use Rattle.std.specs.Prelude.{◌≡◌, ◌-◌, IfOk, [], length, map, slice_index_or};
 ghost use Rattle.step_tables.specs.Records.{message_at, source_at};
@@ -6,7 +6,7 @@ ghost use Rattle.step_tables.specs.Records.{message_at, source_at};
 use std::alloc::{AllocError, Global};
 use std::marker::Model;
 
-/// What a table says of a step.
+/// What a table says about a step.
 #[derive(Debug, Drop)]
 pub struct StepRow {
     /// The number of its record in the log, if it has one.
@@ -37,7 +37,7 @@ impl StepRow {
     }
 }
 
-/// What a table says of a trace: the names of its processors, and a row for each step.
+/// What a table says about a trace: the names of its processors, and a row for each step.
 #[derive(Debug, Drop)]
 pub struct StepTable {
     pub(crate) nodes: Vec<String>,
@@ -65,7 +65,7 @@ impl StepTable {
         Ok(names)
     }
 
-    /// What it says of each step, in their order.
+    /// What it says about each step, in their order.
     pub fn rows(&self) -> &[StepRow]
         ensures { result.now ≡ self.now.rows }
     {
@@ -80,8 +80,8 @@ fn place_of(no: u64) -> usize
     no.saturating_sub(1) as usize
 }
 
-/// The number of a step's record in the log, by what a table says of the steps; none if the step has none, or there is no such
-/// step.
+/// The number of a step's record in the log, by what a table says about the steps; None if the step has none, or there
+/// is no such step.
 pub fn source_at(rows: &[StepRow], no: u64) -> Option<u64>
     ensures { result ≡ source_at rows.now no }
 {
@@ -91,7 +91,8 @@ pub fn source_at(rows: &[StepRow], no: u64) -> Option<u64>
     }
 }
 
-/// What the message of this number is called, in UTF-8, by what a table says of the steps; nothing if there is no such message.
+/// What the message of this number is called, in UTF-8, by what a table says about the steps; nothing if there is no
+/// such message.
 pub fn message_at(rows: &[StepRow], no: u64) -> &[u8]
     ensures { result.now ≡ message_at rows.now no }
 {

@@ -24,7 +24,7 @@ pub record IsCutTo (claim : Claim) (text : List ℕ) (t reported : Recorded) : T
 abbrev pub IsCheckFault : Claim → List ℕ → List ℕ → Option (List ℕ) → Option (List ℕ) → Fault → Type 0
 IsCheckFault claim certificate text before after w = IsServeFault (IsAnswerTo (IsLineOn claim certificate)) (IsUnanswered (IsUnchecked claim certificate)) text before after w
 
--- a fault in what was read is one in what was there to be read, where that is known
+-- a fault in what was read is one in what was there to be read, if that is known
 pub check-served : (claim : Claim) (certificate text : List ℕ) (before after known other : Option (List ℕ)) (w : Fault) → IfSome known (λ xs. text ≡ xs)
     → IfSome other (λ xs. certificate ≡ xs) → IsCheckFault claim certificate text before after w
     → IfSome known (λ xs. IfSome other (λ ys. IsCheckFault claim ys xs before after w))

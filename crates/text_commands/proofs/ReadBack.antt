@@ -6,7 +6,7 @@ use Rattle.trace_text.specs.TraceTexts.{IsTextTrace, trace_text_2}
 use Rattle.trace_text.proofs.WrittenTexts.{StandsFor-version_text, short-version_text}
 use Rattle.text_verdicts.specs.Texts.{IsTextOf}
 
--- the text of a trace in version 2 stands for it, and isn't too large
+-- the text of a trace in version 2 encodes it, and isn't too large
 pub text_2-stands : (t : Recorded) (text : List ℕ) → IsTextTrace t → text ≡ trace_text_2 t → IsTextOf text t
 text_2-stands t text h e = subst (λ x. IsTextOf x t) (sym e) (record {
   trace = h;

@@ -29,7 +29,7 @@ cut Gives Refuses text out before after fault.Memory gives memory h = memory
 cut Gives Refuses text out before after (fault.Write n) gives memory h = (out, gives, h.0, h.1)
 cut Gives Refuses text out before after w gives memory h = absurd h
 
--- what a text's writer answers is what is told of a text
+-- what a text's writer answers is what is reported about a text
 pub front-untold : (e : WriteError) (out : List ℕ) (before after : Option (List ℕ)) → WroteFront e out before after → IsUntold (fault_of_write e) out before after
 front-untold (unwritten.Write n) out before after h = h
 front-untold unwritten.Memory out before after h = absurd h
@@ -38,19 +38,19 @@ pub before-untold : (e : WriteError) (out : List ℕ) (before after : Option (Li
 before-untold (unwritten.Write n) out before after h = h
 before-untold unwritten.Memory out before after h = tt
 
--- each command may tell it
+-- each command may report it
 pub write-told : (May : Fault → Type 0) (e : WriteError) → IsFaultOf May (fault_of_write e)
 write-told May (unwritten.Write n) = tt
 write-told May unwritten.Memory = tt
 
--- what isn't read whole is told as a failed read, as want of memory, or as a text that is too large
+-- what isn't read whole is reported as a failed read, as out of memory, or as a text that is too large
 pub whole-unread : (P : Fault → Type 0) (too_large : Fault) (known : Option (List ℕ)) (w : Fault) → P fault.Read → P fault.Memory
     → (IfSome known (λ text. MAX_TEXT_BYTES < length text) → P too_large) → IsUnreadWhole too_large known w → P w
 whole-unread P too_large known fault.Read read memory large h = read
 whole-unread P too_large known fault.Memory read memory large h = memory
 whole-unread P too_large known w read memory large h = subst P (sym h.0) (large h.1)
 
--- where the fault is no failed read, the reader met none
+-- if the fault is no failed read, the reader met none
 pub no-failed_read : (old new : ℕ) (w : Fault) → w ≢ fault.Read → new ≡ old → IsReadFault old new w
 no-failed_read old new fault.Read other same = absurd (other refl)
 no-failed_read old new w other same = same

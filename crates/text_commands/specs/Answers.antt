@@ -9,7 +9,7 @@ use Rattle.command_faults.specs.declared.faults.SetOption.TheVariants as set_opt
 use Rattle.command_faults.specs.Outside.{IsSetFault}
 use Rattle.text_verdicts.specs.Texts.{IsRefusedFor, OfTrace}
 
--- the text stands for a trace, of which the command gives the other text
+-- the text encodes a trace, of which the command gives the other text
 abbrev pub IsAnswerTo : (Recorded → List ℕ → Type 0) → List ℕ → List ℕ → Type 0
 IsAnswerTo Gives text out = OfTrace (λ t. Gives t out) text
 
@@ -28,7 +28,7 @@ IsUnread text (fault.Trace reason) = IsRefusedFor text reason
 IsUnread text fault.Memory = ⊤
 IsUnread text _ = ⊥
 
--- Why a text has no answer: its first refusal; or it stands for a trace that is declined for this; or out of memory.
+-- Why a text has no answer: its first refusal; or the trace that it encodes is declined for this; or out of memory.
 abbrev pub IsUnanswered : (Recorded → Fault → Type 0) → List ℕ → Fault → Type 0
 IsUnanswered Declines text fault.Memory = ⊤
 IsUnanswered Declines text fault.Read = ⊥
@@ -36,6 +36,6 @@ IsUnanswered Declines text (fault.Write n) = ⊥
 IsUnanswered Declines text (fault.Trace reason) = IsRefusedFor text reason
 IsUnanswered Declines text w = OfTrace (λ t. Declines t w) text
 
--- a correct processor is none of the trace; what is told is the least one, and how many there are
+-- a correct processor is none of the trace; the least one is reported, and how many processors there are
 abbrev pub IsOutside : Correct → Recorded → Fault → Type 0
 IsOutside correct t w = IsSetFault set_option.Correct (named correct t.config.n) t.config.n w

@@ -29,7 +29,7 @@ abbrev pub names_other : Option Row → Row → Bool
 names_other None row = true
 names_other (Some before) row = not (same_miss before.miss row.miss && same_silence before.gap row.gap)
 
--- the rows that do, in their order, where this row comes before them
+-- the rows that do, in their order, if this row comes before them
 abbrev pub brief_after : Option Row → List Row → List Row
 brief_after before [] = []
 brief_after before (row ∷ rows) = if names_other before row then row ∷ brief_after (Some row) rows else brief_after (Some row) rows
@@ -40,7 +40,7 @@ pub record IsBriefTextOf (set : ℕ) (out : List ℕ) (t : Recorded) : Type 0 wh
   pub report : IsReport set t rows
   pub written : out ≡ report_text (brief_after None rows)
 
--- The trace has all correct processors, and the tick if there is one; and the text is that of the brief rows of its report,
+-- The trace has all correct processors, and the tick if there is one. The text is that of the brief rows of its report,
 -- or of its report up to the tick.
 abbrev pub IsBriefOf : Brief → Recorded → List ℕ → Type 0
 IsBriefOf b t out = IsCutFor b.correct b.until (IsBriefTextOf (named b.correct t.config.n) out) t

@@ -1,4 +1,4 @@
--- Why the program doesn't check a certificate by a trace, and the line that it writes where it does.
+-- Why the program doesn't check a certificate by a trace, and the line that it writes if it does.
 use Rattle.std.specs.Prelude.{ℕ, ◌≡◌, ◌≢◌, ◌⊎◌, List, Option, Err, ⊤}
 use Rattle.step_trace.specs.declared.correct_sets.Correct.{Correct}
 use Rattle.step_trace.specs.Traces.{Recorded}
@@ -48,12 +48,12 @@ abbrev pub IsUnchecked : Claim → List ℕ → Recorded → Fault → Type 0
 IsUnchecked claim certificate t (fault.Certificate reason) = IsUncertified claim.correct claim.until certificate reason t × IsRefusalOfText reason
 IsUnchecked claim certificate t w = IsUncut claim t w
 
--- what the command may tell: a refusal of a certificate, or what it may tell of the trace alone
+-- what the command may report: a refusal of a certificate, or what it may report about the trace alone
 abbrev pub IsToldOfChecks : Claim → Fault → Type 0
 IsToldOfChecks claim (fault.Certificate reason) = IsRefusalOfText reason
 IsToldOfChecks claim w = MayTell (IsUncut claim) w
 
--- where the fault is a failed read, a call of one of two readers answered a fault; else none did
+-- if the fault is a failed read, a call of one of two readers answered a fault; else none did
 abbrev pub IsEitherReadFault : ℕ → ℕ → ℕ → ℕ → Fault → Type 0
 IsEitherReadFault old new other_old other_new fault.Read = (Rose old new × (other_new ≡ other_old)) ⊎ ((new ≡ old) × Rose other_old other_new)
 IsEitherReadFault old new other_old other_new _ = (new ≡ old) × (other_new ≡ other_old)

@@ -27,7 +27,7 @@ abbrev pub are_names_in : {B : Type 0} → Option (String B) → ℕ → Type 0
 are_names_in None count = ⊤
 are_names_in (Some list) count = AreNames count (parts_of (string_bytes list))
 
--- the names that are listed; none where no list is there
+-- the names that are listed; none if there is no list
 abbrev pub names_of_list : {B : Type 0} → Option (String B) → List (List ℕ)
 names_of_list None = []
 names_of_list (Some list) = parts_of (string_bytes list)
@@ -36,7 +36,7 @@ names_of_list (Some list) = parts_of (string_bytes list)
 abbrev pub AreNamesFor : Drawing → ℕ → Type 0
 AreNamesFor d count = are_names_in d.names count
 
--- the ticks that are asked for, of a trace with this last tick; where none are, its first ones
+-- the ticks that are asked for, of a trace with this last tick; if none are, its first ones
 abbrev pub window_for : Drawing → ℕ → Result Window WindowError
 window_for d last = window_of last d.from d.to
 
@@ -50,8 +50,8 @@ pub record IsDrawable (d : Drawing) (t : Recorded) : Type 0 where
 abbrev pub asks_for_ticks : Drawing → Bool
 asks_for_ticks d = is_some d.from || is_some d.to
 
--- The window that is drawn of a trace with these rows: the one that is asked for. Where none is, it shows the first evidence of the rows; and
--- if there is no evidence, the first ticks.
+-- The window that is drawn of a trace with these rows: the one that is asked for. If none is, it shows the first
+-- evidence of the rows; and if there is no evidence, the first ticks.
 pub record IsDrawnWindow (d : Drawing) (t : Recorded) (rows : List Row) (w : Window) : Type 0 where
   pub asked : Window
   pub fits : window_for d t.last ≡ Ok asked
@@ -69,7 +69,7 @@ pub record IsPictureFor (set : ℕ) (d : Drawing) (t : Recorded) (picture : Pict
   pub misses : ShowsMisses t rows window picture.misses.items
   pub gaps : ShowsGaps rows window picture.gaps.items
 
--- The trace has all correct processors, and can be drawn as asked. Nothing is said of the text: what a mark looks like is
+-- The trace has all correct processors, and can be drawn as asked. The text is left open: what a mark looks like is
 -- only tested.
 pub record IsDrawingOf (d : Drawing) (t : Recorded) (picture : List ℕ) : Type 0 where
   pub within : HasCorrect d.correct t

@@ -12,7 +12,7 @@ use Rattle.text_verdicts.specs.Checks.{IsCutFor}
 use Rattle.text_verdicts.specs.Cuts.{IsTickOf}
 use Rattle.text_commands.specs.ReportParts.{IsUntoldPart}
 
--- the rows are those from the tick that is asked for, which is one of the trace; from tick 1 where none is
+-- the rows are those from the tick that is asked for, which is one of the trace; from tick 1 if none is
 abbrev pub AreRowsFrom : ℕ → Recorded → Option ℕ → List BoundRow → Type 0
 AreRowsFrom set t None rows = AreRows set t 1 rows
 AreRowsFrom set t (Some tick) rows = IsTickOf t tick × AreRows set t tick rows
@@ -23,7 +23,7 @@ pub record IsEachTextOf (set : ℕ) (at : Option ℕ) (out : List ℕ) (t : Reco
   pub exact : AreRowsFrom set t at rows
   pub written : out ≡ bounds_text rows
 
--- The trace has all correct processors, and the tick up to which it is taken, if there is one; and the text is that of the
+-- The trace has all correct processors, and the tick up to which it is taken, if there is one. The text is that of the
 -- rows of it, or of it up to the tick.
 abbrev pub IsEachOf : Each → Recorded → List ℕ → Type 0
 IsEachOf e t out = IsCutFor e.correct e.until (IsEachTextOf (named e.correct t.config.n) e.at out) t

@@ -1,4 +1,4 @@
--- What is told of a log beside its trace: the notes on it.
+-- What is reported about a log besides its trace: the notes on it.
 use Rattle.std.specs.Prelude.{ℕ, ◌+◌, ◌-◌, List, [], ◌∷◌, ◌++◌, ◌==◌, if◌then◌else◌, length, codes, decimal, Bool, true, false, Option, Some, None, ℤ, pos, int_lt, slice_index_or}
 use Rattle.std.specs.Fmt.{signed_decimal}
 use Rattle.std.specs.List.{flat_map, range_with_len}
@@ -11,7 +11,7 @@ use Rattle.event_log.specs.declared.options.Options.{Options}
 use Rattle.event_log.specs.ToldNames.{node_name}
 use Rattle.event_log.specs.RefusalTexts.{printed}
 
--- the line that tells which node the processor of this number is
+-- the line that says which node the processor of this number is
 abbrev pub node_line : ℕ → List ℕ → List ℕ
 node_line number name = codes "synchrony: processor " ++ (decimal number ++ (codes " is " ++ (printed name ++ 10 ∷ [])))
 
@@ -28,12 +28,12 @@ abbrev pub distance_words : ℕ → Option ℕ → List ℕ
 distance_words ticks None = []
 distance_words ticks (Some place) = codes ", by at most " ++ (tick_words ticks ++ (codes " (record " ++ (decimal (place + 2) ++ codes ")")))
 
--- the line that tells how many of so many events moved, and how far
+-- the line that says how many of so many events moved, and how far
 abbrev pub moved_line : ℕ → Moved → List ℕ
 moved_line count moved =
     codes "synchrony: " ++ (decimal moved.events ++ (codes " of " ++ (decimal count ++ (codes " events moved" ++ (distance_words moved.ticks moved.farthest ++ 10 ∷ [])))))
 
--- the nodes are told where they weren't listed
+-- the nodes, if they weren't listed
 abbrev pub node_notes : Option (List (List ℕ)) → List (List ℕ) → List ℕ
 node_notes None nodes = node_lines nodes (length nodes)
 node_notes (Some listed) nodes = []
@@ -44,7 +44,7 @@ late_count_words messages =
     if messages == 1 then codes "1 message is received no later than it is sent"
     else decimal messages ++ codes " messages are received no later than they are sent"
 
--- the lines that tell how many messages are received no later than they are sent, by how much the worst of them, in which
+-- the lines about messages that are received no later than they are sent: how many, by how much the worst, in which
 -- record, which record sends it, and what may help
 abbrev pub named_late_lines : ℕ → ℕ → ℕ → ℕ → List ℕ
 named_late_lines messages by number sent =
@@ -56,12 +56,12 @@ abbrev pub late_lines : ℕ → Option LateMessage → List ℕ
 late_lines messages None = []
 late_lines messages (Some worst) = named_late_lines messages worst.by (worst.event + 2) (worst.message + 2)
 
--- how far events went is told where they might, and then which messages are late
+-- how far events moved, if they might, and then which messages are late
 abbrev pub moved_notes : Bool → ℕ → Moved → Lateness → List ℕ
 moved_notes true count moved lateness = moved_line count moved ++ late_lines lateness.messages lateness.worst
 moved_notes false count moved lateness = []
 
--- the line that tells by how much the clock of a node moved
+-- the line that says by how much the clock of a node moved
 abbrev pub clock_line : List ℕ → ℤ → List ℕ
 clock_line name offset = codes "synchrony: the clock of " ++ (printed name ++ (codes " moved by " ++ (signed_decimal offset ++ 10 ∷ [])))
 
@@ -74,18 +74,18 @@ clock_line_at nodes offsets place =
 abbrev pub clock_lines : List (List ℕ) → List ℤ → ℕ → List ℕ
 clock_lines nodes offsets count = flat_map (clock_line_at nodes offsets) (range_with_len 0 count)
 
--- by how much clocks moved is told where they were to be aligned
+-- by how much clocks moved, if they were to be aligned
 abbrev pub clock_notes : List (List ℕ) → Option (List ℤ) → List ℕ
 clock_notes nodes None = []
 clock_notes nodes (Some offsets) = clock_lines nodes offsets (length nodes)
 
--- the line that tells how many messages were never received, whose sends are left out
+-- the line that says how many messages were never received, whose sends are left out
 abbrev pub lost_line : ℕ → List ℕ
 lost_line lost =
     if lost == 1 then codes "synchrony: 1 message was never received; its send is left out" ++ 10 ∷ []
     else codes "synchrony: " ++ (decimal lost ++ (codes " messages were never received; their sends are left out" ++ 10 ∷ []))
 
--- it is told where they are
+-- this line, if they are left out
 abbrev pub lost_notes : Option ℕ → List ℕ
 lost_notes None = []
 lost_notes (Some lost) = lost_line lost
@@ -94,12 +94,12 @@ lost_notes (Some lost) = lost_line lost
 abbrev pub receives_words : ℕ → List ℕ
 receives_words count = if count == 1 then codes "1 receive of nothing" else decimal count ++ codes " receives of nothing"
 
--- the line that tells how many receives of nothing were added, and in which silences
+-- the line that says how many receives of nothing were added, and in which silences
 abbrev pub idle_line : ℕ → ℕ → List ℕ
 idle_line count limit =
     codes "synchrony: " ++ (receives_words count ++ (codes " added, in silences of at most " ++ (tick_words limit ++ 10 ∷ [])))
 
--- it is told where silences get such receives
+-- this line, if silences get such receives
 abbrev pub idle_notes : Option IdleReceives → List ℕ
 idle_notes None = []
 idle_notes (Some idle) = idle_line idle.count idle.limit
@@ -109,6 +109,6 @@ abbrev pub event_count : ℕ → Option IdleReceives → ℕ
 event_count steps None = steps
 event_count steps (Some idle) = steps - idle.count
 
--- what is told of a log that was read as a trace
+-- the notes on a log that was read as a trace
 abbrev pub notes_of : Options → Import → List ℕ
 notes_of o import = node_notes o.nodes import.nodes ++ (clock_notes import.nodes import.offsets ++ (lost_notes import.lost ++ (moved_notes o.spread (event_count (length import.trace.steps) import.idle) import.moved import.lateness ++ idle_notes import.idle)))

@@ -27,7 +27,7 @@ IsNoLength o text (fault.Length named given) = (named ≡ o) × (string_bytes gi
 IsNoLength o text fault.Memory = ⊤
 IsNoLength o text _ = ⊥
 
--- why five texts tell no options: the first of them that is bad; or out of memory
+-- why five texts give no options: the first of them that is bad; or out of memory
 abbrev pub IsImportOptionFault : Option (List ℕ) → Option (List ℕ) → Option (List ℕ) → Option (List ℕ) → Option (List ℕ) → Fault → Type 0
 IsImportOptionFault nodes unit tick until idle (fault.Import option.Nodes) = IsOptionFault nodes unit tick until idle no_options.Nodes
 IsImportOptionFault nodes unit tick until idle (fault.Import option.Unit) = IsOptionFault nodes unit tick until idle no_options.Unit
@@ -37,13 +37,13 @@ IsImportOptionFault nodes unit tick until idle (fault.Length option.Idle given) 
 IsImportOptionFault nodes unit tick until idle fault.Memory = ⊤
 IsImportOptionFault nodes unit tick until idle _ = ⊥
 
--- The text is what is printed of an import of a log by these options: that of its trace in version 2, which is read back as
--- that trace; or the table of its steps.
+-- The text is what is printed of an import of a log by these options. That is the text of its trace in version 2, which
+-- is read back as that trace; or the table of its steps.
 abbrev pub IsImportText : ImportForm → Options → List ℕ → Import → List ℕ → Type 0
 IsImportText forms.Trace o text import out = IsUpgradeOf import.trace out
 IsImportText forms.Table o text import out = IsTableOf o text import out
 
--- The first text is a log that is read as a trace, by these options, and the second is what is printed of it; and `Told`
+-- The first text is a log that is read as a trace by these options, and the second is what is printed of it. `Told`
 -- holds of the notes on it.
 pub record IsImportTold (form : ImportForm) (o : Options) (Told : List ℕ → Type 0) (text out : List ℕ) : Type 0 where
   pub import : Import
@@ -62,7 +62,7 @@ abbrev pub IsToldOfLogs : Fault → Type 0
 IsToldOfLogs (fault.Log reason) = reason ≢ no_log.Memory
 IsToldOfLogs _ = ⊥
 
--- nothing was told but before a failed write
+-- nothing was reported, except before a failed write
 abbrev pub IsQuietFault : {T : Type 0} → Counting T → Counting T → Fault → Type 0
 IsQuietFault old new (fault.Write n) = ⊤
 IsQuietFault old new _ = new ≡ old

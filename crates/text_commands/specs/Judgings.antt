@@ -22,7 +22,7 @@ use Rattle.text_commands.specs.ReplayedDecisions.{AreReplayed}
 use Rattle.text_commands.specs.Replays.{IsOffRun}
 use Rattle.text_commands.specs.ReportParts.{IsNoTickOf}
 
--- what is demanded of the decisions: the instance starts in tick 1, and no row has to be due, where nothing else is said
+-- what is demanded of the decisions: unless said otherwise, the instance starts in tick 1, and no row has to be due
 abbrev pub demands_of : Judging → Demands
 demands_of j = record { start = unwrap_or j.start 1; valid = j.valid; whole = j.whole; due = unwrap_or j.due 0 }
 
@@ -58,7 +58,7 @@ pub record HasFormula (j : Judging) (t : Recorded) : Type 0 where
   pub formula : Terms
   pub written : read_formula (string_bytes j.within) ≡ Ok formula
 
--- what is asked for beside the verdict
+-- what is asked for besides the verdict
 abbrev pub details_of : Judging → Details
 details_of j = record { factor = j.factor; rows = j.rows }
 
@@ -80,8 +80,8 @@ abbrev pub IsStartFault : Option ℕ → Recorded → Fault → Type 0
 IsStartFault start t (fault.Report option.Start o) = IsNoTickOf start t o
 IsStartFault start t _ = ⊥
 
--- For what the decisions aren't judged by the trace: a correct processor that it hasn't; or else the first reason why the text
--- is no formula; or else the tick of the start, which the trace hasn't; or else why there are no decisions.
+-- Why the decisions aren't judged by the trace: a correct processor that it hasn't; else the first reason why the text
+-- is no formula; else the tick of the start, which the trace hasn't; else why there are no decisions.
 abbrev pub IsUnjudged : Judging → List ℕ → Recorded → Fault → Type 0
 IsUnjudged j text t (fault.Within why) = HasCorrect j.correct t × (read_formula (string_bytes j.within) ≡ Err why)
 IsUnjudged j text t (fault.Report option.Start o) = HasFormula j t × IsNoTickOf j.start t o

@@ -1,4 +1,4 @@
--- The runs of a list: what each of them is judged for, and the line that is told of it (docs/FORMATS.md).
+-- The runs of a list: what each of them is judged for, and the line that is printed for it (docs/FORMATS.md).
 use Rattle.std.specs.Prelude.{ℕ, ◌≡◌, ◌≢◌, ◌⊎◌, List, [], ◌∷◌, ◌++◌, Bool, true, false, Option, Some, None, Ok, Err, option_map, ◌==◌, if◌then◌else◌, codes, decimal, string_bytes}
 use Rattle.std.specs.Str.{IsUtf8}
 use Rattle.step_trace.specs.declared.correct_sets.Correct.{Correct}
@@ -45,7 +45,7 @@ abbrev pub is_empty : List ℕ → Bool
 is_empty [] = true
 is_empty (b ∷ rest) = false
 
--- This is what the run of a list is judged for, where this is asked of all of them.
+-- This is what the run of a list is judged for, if this is asked of all of them.
 pub record IsListedJudging (asked : Judging) (run : Listed) (j : Judging) : Type 0 where
   pub correct : IsListedCorrect asked.correct run.correct j.correct
   pub within : string_bytes j.within ≡ string_bytes asked.within
@@ -71,7 +71,7 @@ IsNoPath of bytes fault.Memory = Unit {0}
 IsNoPath of bytes (fault.Listed field) = (field ≡ of) × ((bytes ≡ []) ⊎ (¬ IsUtf8 bytes))
 IsNoPath of bytes _ = ⊥
 
--- the number of a run, before what is told of it
+-- the number of a run, before what is printed about it
 abbrev pub run_lead : ℕ → List ℕ
 run_lead run = codes "run " ++ (decimal run ++ codes ": ")
 
@@ -83,6 +83,6 @@ abbrev pub one_line : List ℕ → List ℕ
 one_line [] = []
 one_line (b ∷ rest) = if b == 10 then codes "; " ++ one_line rest else b ∷ one_line rest
 
--- what is told of a run that wasn't judged, for this fault
+-- what is printed about a run that wasn't judged, for this fault
 abbrev pub unjudged_words : Fault → List ℕ
 unjudged_words why = codes "not judged: " ++ (one_line (fault_line why) ++ 10 ∷ [])

@@ -19,7 +19,7 @@ abbrev pub HasTable : Option (List ℕ) → Recorded → Type 0
 HasTable None t = ⊤
 HasTable (Some text) t = (told : Told) × (told_of_text t text ≡ Ok told)
 
--- why it is none: its first refusal, or want of memory
+-- why it is none: its first refusal, or out of memory
 abbrev pub IsTableFault : Option (List ℕ) → Recorded → Fault → Type 0
 IsTableFault (Some text) t (fault.Table why) = (told_of_text t text ≡ Err why) × (why ≢ untabled.Memory)
 IsTableFault (Some text) t fault.Memory = ⊤
@@ -30,8 +30,8 @@ pub record IsTellable (p : Page) (t : Recorded) : Type 0 where
   pub named : are_names_in p.names t.config.n
   pub tick : IfSome p.at (IsTickOf t)
 
--- The trace has all correct processors, the table, if there is one, is the trace's, and there is a page about it as asked. Nothing
--- is said of the text: what a page says and looks like is only tested.
+-- The trace has all correct processors; the table, if there is one, is the trace's; and there is a page about it as
+-- asked. The text is left open: what a page says and looks like is only tested.
 pub record IsPageBy (p : Page) (table : Option (List ℕ)) (t : Recorded) (page : List ℕ) : Type 0 where
   pub within : HasCorrect p.correct t
   pub tabled : HasTable table t
@@ -44,7 +44,7 @@ table_text_of p = option_map (λ text. text.items) p.table
 abbrev pub IsPageOf : ToldPage → Recorded → List ℕ → Type 0
 IsPageOf p = IsPageBy p.page (table_text_of p)
 
--- why there is no page: the names, or else the tick, or want of memory
+-- why there is no page: the names, or else the tick, or out of memory
 abbrev pub IsUntellable : Page → Recorded → Fault → Type 0
 IsUntellable p t (fault.Report option o) = are_names_in p.names t.config.n × IsAtFault p.at t (fault.Report option o)
 IsUntellable p t w = IsNamesFault p.names t.config.n w

@@ -1,4 +1,4 @@
--- The text of a replay: a header, and for each processor where it stands at the end of a trace.
+-- The text of a replay: a header, and the state of each processor at the end of a trace.
 use Rattle.std.specs.Prelude.{ℕ, ◌+◌, List, [], ◌∷◌, Option, Some, None, map, decimal, codes}
 use Rattle.step_trace.specs.declared.steps.Step.{Step}
 use Rattle.step_trace.specs.Configurations.{Setup}
@@ -11,7 +11,7 @@ use Rattle.step_buffers.specs.Runs.{node_at}
 abbrev pub replay_header : List (List ℕ)
 replay_header = codes "proc" ∷ codes "round" ∷ codes "decision" ∷ []
 
--- the field of a decision, empty where there is none
+-- the field of a decision, empty if there is none
 abbrev pub decision_field : Option ℕ → List ℕ
 decision_field None = []
 decision_field (Some v) = decimal v

@@ -7,7 +7,7 @@ use Rattle.deciding_runs.specs.declared.decisions.Decision.{Decision as RunDecis
 use Rattle.deciding_runs.specs.Decisions.{decisions}
 use Rattle.decision_claims.specs.declared.decisions.Decision.{Decision}
 
--- the tick of the step of this number, 0 where there is no such step
+-- the tick of the step of this number, 0 if there is no such step
 unfoldable pub step_tick : Recorded → ℕ → ℕ
 step_tick t number = if (nat_le 1 number && nat_le number (length t.steps)) then tick_of t number else 0
 

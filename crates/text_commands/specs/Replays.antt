@@ -13,7 +13,7 @@ pub record IsReplayOf (t : Recorded) (replay : List ℕ) : Type 0 where
   pub run : IsRun t.config t.steps
   pub written : replay ≡ replay_text t.config t.steps
 
--- for what a trace has no replay: its step of this number is the first that is none of a run; its processor had to do this
+-- why a trace has no replay: its step of this number is the first that is none of a run; its processor had to do this
 abbrev pub IsOffRun : Recorded → Fault → Type 0
 IsOffRun t (fault.NotARun number (Some due)) = IsFirstOff t.config t.steps number × IsDueInstead t.config t.steps number due
 IsOffRun t _ = ⊥

@@ -16,13 +16,13 @@ use Rattle.command_faults.specs.declared.faults.TickOutside.{TickOutside}
 use Rattle.command_options.specs.declared.ReportPart.{ReportPart}
 use Rattle.text_commands.specs.Answers.{IsOutside}
 
--- The tick that is asked for is none of the trace; what is told is that tick, and the last one of the trace.
+-- The tick that is asked for is none of the trace; that tick is reported, and the last one of the trace.
 pub record IsNoTickOf (asked : Option ℕ) (t : Recorded) (o : TickOutside) : Type 0 where
   pub asked_is : asked ≡ Some o.tick
   pub outside : ¬ IsTickOf t o.tick
   pub last : o.last ≡ t.last
 
--- The row is the one of the trace's report that serves this tick: the last that begins at it or before.
+-- The row is the one of the trace's report that applies to this tick: the last that begins at it or before.
 pub record IsRowAt (set : ℕ) (t : Recorded) (tick : ℕ) (row : Row) : Type 0 where
   pub rows : List Row
   pub report : IsReport set t rows
@@ -30,7 +30,7 @@ pub record IsRowAt (set : ℕ) (t : Recorded) (tick : ℕ) (row : Row) : Type 0 
   pub last : row_at (record { len = t.last; rows = rows }) tick ≡ Some row
   pub serves : Serves set t tick row
 
--- the rows are the report of the trace, or the one of its rows that serves a tick
+-- the rows are the report of the trace, or the one of its rows that applies to a tick
 abbrev pub AreRowsFor : ℕ → Recorded → Option ℕ → List Row → Type 0
 AreRowsFor set t None rows = IsReport set t rows
 AreRowsFor set t (Some tick) rows = (row : Row) × IsRowAt set t tick row × (rows ≡ row ∷ [])
@@ -41,15 +41,15 @@ pub record IsTextFor (set : ℕ) (t : Recorded) (at : Option ℕ) (out : List �
   pub exact : AreRowsFor set t at rows
   pub written : out ≡ report_text rows
 
--- The trace has all correct processors; and the text is that of the rows which are asked for, of the report of the trace
--- up to the tick that is asked for.
+-- The trace has all correct processors. The text is that of the rows that are asked for, of the report of the trace up
+-- to the tick that is asked for.
 pub record IsPartOfReport (part : ReportPart) (t : Recorded) (out : List ℕ) : Type 0 where
   pub within : HasCorrect part.correct t
   pub reported : Recorded
   pub until : IsReportedTo part.until t reported
   pub told : IsTextFor (named part.correct t.config.n) reported part.at out
 
--- which tick the trace hasn't: the one up to which it is to be reported, or, up to that, the one that is to be served
+-- which tick the trace hasn't: the one up to which it is to be reported, or, up to that, the one whose row is asked for
 abbrev pub IsTickOutsideFor : ReportPart → Recorded → ReportOption → TickOutside → Type 0
 IsTickOutsideFor part t option.Until o = IsNoTickOf part.until t o
 IsTickOutsideFor part t option.At o = (reported : Recorded) × IsReportedTo part.until t reported × IsNoTickOf part.at reported o

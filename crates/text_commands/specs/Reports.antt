@@ -9,8 +9,8 @@ use Rattle.command_faults.specs.declared.faults.Fault.{Fault}
 use Rattle.command_faults.specs.declared.faults.Fault.TheVariants as fault
 use Rattle.text_commands.specs.Answers.{IsOutside}
 
--- the fault that a trace which wasn't analysed is: of threads, where a worker was held back or couldn't be started;
--- the number of workers is never refused
+-- the fault of an analysis that failed: of threads, if a worker was held back or couldn't be started; the number of
+-- workers is never refused
 abbrev pub TellsAnalysis : AnalyseError → Fault → Type 0
 TellsAnalysis unanalysed.BadWorkers w = ⊥
 TellsAnalysis unanalysed.Held w = w ≡ fault.Threads

@@ -13,32 +13,32 @@ use Rattle.command_faults.specs.declared.faults.Fault.TheVariants as fault
 use Rattle.text_commands.specs.Answers.{IsAnswerTo, IsUnanswered}
 
 -- The fault has its cause: the text is refused for it; or a read failed; or the text has an answer, of which that many
--- first bytes went out.
+-- first bytes were written.
 abbrev pub IsServeFault : (List ℕ → List ℕ → Type 0) → (List ℕ → Fault → Type 0) → List ℕ → Option (List ℕ) → Option (List ℕ) → Fault → Type 0
 IsServeFault Gives Refuses text before after fault.Read = ⊤
 IsServeFault Gives Refuses text before after (fault.Write n) = (out : List ℕ) × Gives text out × (n ≤ length out) × Appends before after (take n out)
 IsServeFault Gives Refuses text before after w = Refuses text w
 
--- the fault is one of memory, of a reader or of a writer, or one that the command may tell
+-- the fault is one of memory, of a reader or of a writer, or one that the command may report
 abbrev pub IsFaultOf : (Fault → Type 0) → Fault → Type 0
 IsFaultOf May fault.Memory = ⊤
 IsFaultOf May fault.Read = ⊤
 IsFaultOf May (fault.Write n) = ⊤
 IsFaultOf May w = May w
 
--- What a command may tell that makes a text of a trace: a refusal of a trace text, of which out of memory and a failed read
--- are none, or what some trace is declined for.
+-- What a command that makes a text of a trace may report: a refusal of a trace text, of which out of memory and a
+-- failed read are none; or what some trace is declined for.
 abbrev pub MayTell : (Recorded → Fault → Type 0) → Fault → Type 0
 MayTell Declines (fault.Trace reason) = (reason ≢ why.Read) × (reason ≢ why.Memory)
 MayTell Declines w = (t : Recorded) × Declines t w
 
--- where the fault is a failed read, a call of the reader answered a fault; else none did
+-- if the fault is a failed read, a call of the reader answered a fault; else none did
 abbrev pub IsReadFault : ℕ → ℕ → Fault → Type 0
 IsReadFault old new fault.Read = Rose old new
 IsReadFault old new _ = new ≡ old
 
--- What was read, which is all that was there where that is known, has an answer, which went out whole and was flushed;
--- neither device met a fault.
+-- What was read has an answer, which was written whole and flushed; neither device met a fault. If it is known what was
+-- there to be read, that is what was read.
 pub record HasServed {R W : Type 0} (Gives : List ℕ → List ℕ → Type 0) (left : R → Option (List ℕ)) (taken : W → Option (List ℕ))
     (reader read : Counting R) (writer written : Counting W) : Type 0 where
   pub text : List ℕ
@@ -51,8 +51,8 @@ pub record HasServed {R W : Type 0} (Gives : List ℕ → List ℕ → Type 0) (
   pub readable : faults_of read ≡ faults_of reader
   pub faultless : WasFaultless writer written
 
--- The fault has its cause in what was there to be read, where that is known; the command may tell it; and it is a failed
--- read or a failed write exactly where a device met a fault.
+-- The fault has its cause in what was there to be read, if that is known, and the command may report it. It is a failed
+-- read or a failed write exactly if a device met a fault.
 pub record IsUnserved {R W : Type 0} (Gives : List ℕ → List ℕ → Type 0) (Refuses : List ℕ → Fault → Type 0) (May : Fault → Type 0)
     (left : R → Option (List ℕ)) (taken : W → Option (List ℕ)) (reader read : Counting R) (writer written : Counting W) (w : Fault) : Type 0 where
   pub cause : IfSome (left (inner_of reader)) (λ text. IsServeFault Gives Refuses text (taken (inner_of writer)) (taken (inner_of written)) w)
@@ -60,7 +60,7 @@ pub record IsUnserved {R W : Type 0} (Gives : List ℕ → List ℕ → Type 0) 
   pub unread : IsReadFault (faults_of reader) (faults_of read) w
   pub unwritten : IsWriteFault writer written w
 
--- what a command has done that answered so: it has served its answer to a text, or it told a fault
+-- what a command has done that answered so: it has written its answer to a text, or it reported a fault
 abbrev pub Serves : {A R W : Type 0} → (List ℕ → List ℕ → Type 0) → (List ℕ → Fault → Type 0) → (Fault → Type 0)
     → (R → Option (List ℕ)) → (W → Option (List ℕ)) → Counting R → Counting R → Counting W → Counting W → Result A Fault → Type 0
 Serves Gives Refuses May left taken reader read writer written result =

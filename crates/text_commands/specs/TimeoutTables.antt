@@ -1,4 +1,4 @@
--- How long the followers of a leader have to wait, as the program tells it of a trace.
+-- How long the followers of a leader have to wait, as the program reports it by a trace.
 use Rattle.std.specs.Prelude.{ℕ, ◌≡◌, ◌+◌, ◌<◌, ◌≤◌, List, length, Option, Some, None, unwrap_or, ⊤}
 use Rattle.step_trace.specs.declared.correct_sets.Correct.{Correct}
 use Rattle.step_trace.specs.declared.processors.TheConstants.{MAX_MEMBER}
@@ -20,7 +20,7 @@ use Rattle.command_faults.specs.Outside.{IsMemberOutside}
 use Rattle.text_verdicts.specs.Cuts.{IsReportedTo}
 use Rattle.text_commands.specs.ReportParts.{IsNoTickOf}
 
--- how often the leader sends and the follower receives, where that is known; 0 stands for what isn't
+-- how often the leader sends and the follower receives; 0 denotes what isn't known
 abbrev pub turns_of : TimeoutTable → Turns
 turns_of o = record { every = unwrap_or o.every 0; polls = unwrap_or o.polls 0 }
 
@@ -44,7 +44,7 @@ pub record IsTableOf (o : TimeoutTable) (t : Recorded) (out : List ℕ) : Type 0
 abbrev pub HasLink : TimeoutTable → ℕ → Type 0
 HasLink o n = (o.from ≤ n) × HasFollowers o.to n
 
--- The trace has leader and followers; and the text is that of their timeouts by the trace, or by the trace up to the tick
+-- The trace has leader and followers. The text is that of their timeouts by the trace, or by the trace up to the tick
 -- that is asked for.
 pub record AreTimeoutsOf (o : TimeoutTable) (t : Recorded) (out : List ℕ) : Type 0 where
   pub link : HasLink o t.config.n
@@ -52,13 +52,13 @@ pub record AreTimeoutsOf (o : TimeoutTable) (t : Recorded) (out : List ℕ) : Ty
   pub until : IsReportedTo o.until t reported
   pub table : IsTableOf o reported out
 
--- the leader is above n; what is told is its number, and how many there are
+-- the leader is above n; its number is reported, and how many processors there are
 pub record IsLeaderOutside (p n : ℕ) (m : MemberOutside) : Type 0 where
   pub leader : m.member ≡ p
   pub above : n < p
   pub count : m.count ≡ n
 
--- followers are named of which some are above n; what is told is the least of them, and n
+-- followers are named of which some are above n; the least of them is reported, and n
 abbrev pub IsFollowerOutside : Option Correct → ℕ → MemberOutside → Type 0
 IsFollowerOutside None n m = ⊥
 IsFollowerOutside (Some followers) n m = IsMemberOutside (named followers n) n m

@@ -1,5 +1,5 @@
-//! Commands that make a text of a trace: each is an `Answer`. The program serves it from a reader to a writer (`serving.rt`),
-//! and whoever has the trace's text in memory asks for it by `answer_to`.
+//! Commands that make a text of a trace: each is an `Answer`. The program serves it from a reader to a writer
+//! (`serving.rt`); a caller that has the trace's text in memory asks for it by `answer_to`.
 
 ghost use Rattle.std.specs.Prelude.{ℕ, List, IfOk, IfErr};
 ghost use Rattle.step_trace.specs.Traces.{Recorded};

@@ -24,8 +24,8 @@ use step_trace::Trace;
 use text_verdicts::certificate_of_text;
 use trace_text::Counting;
 
-/// Reads a trace text and then a certificate to their ends, checks the rows of the certificate by the trace, and writes the
-/// line of the verdict. Nothing is written before the verdict stands.
+/// Reads a trace text and then a certificate to their ends, checks the rows of the certificate by the trace, and writes
+/// the line of the verdict. Nothing is written before the verdict is complete.
 ///
 /// Refuses, in this order: Read, or Trace for a trace text that is too large; Trace for any other refusal of it;
 /// Set if a correct processor is above the trace's number of processors; Report if the trace hasn't the tick; Read, or

@@ -60,7 +60,7 @@ fn marks_for(
     Ok(picture_of(alloc, trace, report.rows(), window)?)
 }
 
-/// The ticks to draw: those that are asked for; where none are, those of the first evidence of these rows, and `asked` if
+/// The ticks to draw: those that are asked for; if none are, those of the first evidence of these rows, or `asked` if
 /// there is no evidence.
 fn drawn_window(
     alloc: Global,

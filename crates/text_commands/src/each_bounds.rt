@@ -16,9 +16,8 @@ use step_trace::{ProcSet, Trace};
 
 /// The bounds of each.
 ///
-/// Declines a trace, in this order, by: Set if a correct processor is above its number of processors; Report for a tick that
-/// it hasn't, first the one up to which it is taken, then the one from which on the bounds hold, which it has to have up to
-/// there.
+/// Declines a trace, in this order, by: Set if a correct processor is above its number of processors; Report for a tick
+/// that it hasn't: first the one up to which it is taken, then, up to there, the one from which on the bounds hold.
 impl Answer for Each {
     ghost use Rattle.text_commands.specs.EachBounds.{IsEachOf, IsNoEach};
 
@@ -34,7 +33,7 @@ impl Answer for Each {
     }
 }
 
-/// The rows from this tick on; from tick 1 where there is none.
+/// The rows from this tick on; from tick 1 if there is none.
 fn rows_from(
     alloc: Global,
     trace: &Trace,

@@ -1,4 +1,4 @@
-//! The line in which it is told how many receives of nothing were added to a trace.
+//! The line that says how many receives of nothing were added to a trace.
 
 ghost use Rattle.std.specs.Prelude.{◌≡◌, IfOk, string_bytes};
 ghost use Rattle.text_commands.specs.ImportLines.{event_count, idle_notes};
@@ -8,7 +8,7 @@ use event_log::IdleReceives;
 use std::alloc::{AllocError, Global};
 use std::fmt;
 
-/// How many receives of nothing were added, and in which silences; nothing where none were asked for.
+/// How many receives of nothing were added, and in which silences; nothing if none were asked for.
 pub(crate) fn idle_notes(alloc: Global, idle: Option<IdleReceives>) -> Result<String, AllocError>
     ensures { IfOk result (λ text. string_bytes text ≡ idle_notes idle) }
 {

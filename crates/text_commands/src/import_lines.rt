@@ -1,4 +1,4 @@
-//! The lines in which it is told how a log was read.
+//! The lines that say how a log was read.
 
 ghost use Rattle.std.specs.Prelude.{◌≡◌, [], IfOk, Some, length, slice_index_or, string_bytes};
 ghost use Rattle.text_commands.specs.ImportLines.{clock_line_at, clock_lines, clock_notes, event_count, late_lines, moved_notes, node_lines, notes_of};
@@ -12,9 +12,11 @@ use std::alloc::{AllocError, Global};
 use std::fmt;
 use timed_events::{LateMessage, Lateness, Moved};
 
-/// What is told of a log that was read as a trace: which processor each node is, where the nodes weren't listed; by how much
-/// clocks moved and how many lost sends are left out, where that was asked for; how far events went, where they might; and how
-/// many receives of nothing were added, where they might be.
+/// The notes on a log that was read as a trace:
+/// - which processor each node is, if the nodes weren't listed;
+/// - by how much clocks moved and how many lost sends are left out, if that was asked for;
+/// - how far events moved, if they might;
+/// - how many receives of nothing were added, if they might be.
 pub(crate) fn notes_text(
     alloc: Global,
     options: &Options,
@@ -37,7 +39,7 @@ pub(crate) fn notes_text(
     Ok(notes)
 }
 
-/// How far events went, where they might, and then which messages are late.
+/// How far events moved, if they might, and then which messages are late.
 fn moved_notes(alloc: Global, spread: bool, import: &Import) -> Result<String, AllocError>
     ensures { IfOk result (λ text. string_bytes text ≡ moved_notes spread (event_count (length import.now.trace.steps) import.now.idle) import.now.moved import.now.lateness) }
 {
@@ -55,7 +57,7 @@ fn moved_notes(alloc: Global, spread: bool, import: &Import) -> Result<String, A
     Ok(notes)
 }
 
-/// By how much clocks moved, where they were to be aligned.
+/// By how much clocks moved, if they were to be aligned.
 fn clock_notes(
     alloc: Global,
     nodes: &NameSet,
@@ -99,7 +101,7 @@ fn clock_line_at(
     Ok(line)
 }
 
-/// The name of the node at a place; an empty one where there is none.
+/// The name of the node at a place; an empty one if there is none.
 fn name_in(nodes: &NameSet, place: usize) -> &[u8]
     ensures { result.now ≡ slice_index_or nodes.now place [] }
 {
@@ -143,7 +145,7 @@ fn late_lines(alloc: Global, lateness: Lateness) -> Result<String, AllocError>
     }
 }
 
-/// The same where this is the worst of so many.
+/// The same, if this is the worst of so many.
 fn worst_lines(alloc: Global, messages: u64, worst: LateMessage) -> Result<String, AllocError>
     ensures { IfOk result (λ text. string_bytes text ≡ late_lines messages (Some worst)) }
 {

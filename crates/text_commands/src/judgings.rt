@@ -44,13 +44,20 @@ pub fn read_decisions<R: Read>(alloc: Global, reader: &mut Counting<R>) -> Resul
     read_whole(alloc, reader, Fault::Decisions(DecisionsError::TooLarge))
 }
 
-/// Reads a trace text to its end, judges the decisions of another text by the trace, or those that its replay finds, and writes
-/// the line of the verdict and the details that are asked for. Nothing is written before all of it stands.
+/// Reads a trace text to its end, judges the decisions of another text by the trace, or those that its replay finds,
+/// and writes the line of the verdict and the details that are asked for. Nothing is written before all of it is
+/// complete.
 ///
-/// Refuses, in this order: Read, or Trace for a trace text that is too large; Trace for any other refusal of it; Set if a
-/// correct processor is above the trace's number of processors; Within for a deadline that is no formula; Report if the trace
-/// hasn't the tick of the start; NotARun as `replay` does, or Decisions with the first refusal of the decisions; Write with the number of bytes that went
-/// out before. Memory may come at any step before the first write.
+/// Refuses, in this order:
+/// - Read, or Trace for a trace text that is too large;
+/// - Trace for any other refusal of it;
+/// - Set if a correct processor is above the trace's number of processors;
+/// - Within for a deadline that is no formula;
+/// - Report if the trace hasn't the tick of the start;
+/// - NotARun as `replay` does, or Decisions with the first refusal of the decisions;
+/// - Write with the number of bytes that went out before.
+///
+/// Memory may come at any step before the first write.
 pub fn run_judge<R: Read, W: Write>(
     alloc: Global,
     judging: &Judging,
@@ -133,7 +140,7 @@ fn demands_of(judging: &Judging) -> Demands
     }
 }
 
-/// What is asked for beside the verdict.
+/// What is asked for besides the verdict.
 fn details_of(judging: &Judging) -> Details
     ensures { result ≡ details_of judging.now }
 {

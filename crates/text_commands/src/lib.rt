@@ -1,7 +1,7 @@
 //! The commands that make text of text. Each that makes a text of a trace is an `Answer`: the report of the trace, its
-//! replay, its upgrade, its picture, the page about it. Two doors lead to an answer: `serve`, from a reader to a writer,
-//! and `answer_to`, of a text in memory. Reports by several workers, checks of reports, judgements of decisions and imports
-//! of logs have bodies of their own, and cite the same definitions (`specs/`).
+//! replay, its upgrade, its picture, the page about it. Two doors lead to an answer: `serve`, from a reader to a
+//! writer, and `answer_to`, of a text in memory. Reports by several workers, checks of reports, judgements of decisions
+//! and imports of logs have functions of their own that cite the same definitions (`specs/`).
 #![tactic(auto)]
 
 mod answers;

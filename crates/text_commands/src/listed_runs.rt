@@ -1,4 +1,4 @@
-//! The runs of a list: how each of them is judged, and the line that is told of it.
+//! The runs of a list: how each of them is judged, and the line that is printed for it.
 
 ghost use Rattle.std.specs.Prelude.{◌≡◌, ◌≢◌, ◌++◌, ◌∷◌, [], IfErr, IfOk, IfNone, IfSome, OnOk, option_map, codes, decimal, string_bytes};
 ghost use Rattle.std.specs.Str.{IsUtf8};
@@ -32,10 +32,10 @@ pub fn read_runs<R: Read>(alloc: Global, reader: &mut Counting<R>) -> Result<Vec
     Ok(runs_of_text(alloc, &text)?)
 }
 
-/// What a run of a list is judged for: what is asked of all runs, with its own correct processors and its own start, where it
-/// has them. The decisions are those of the replay where it has no file of them.
+/// What a run of a list is judged for: what is asked of all runs, with its own correct processors and its own start, if
+/// it has them. The decisions are those of the replay if it has no file of them.
 ///
-/// Refuses Listed for the first of the two that says nothing. Memory may come instead.
+/// Refuses Listed for the first of the two that isn't one. Memory may come instead.
 pub fn listed_judging(alloc: Global, asked: &Judging, run: &ListedRun) -> Result<Judging, Fault>
     ensures judging { IfOk result (IsListedJudging asked.now run.now) }
     ensures refused { IfErr result (IsListedFault asked.now run.now) }

@@ -1,4 +1,4 @@
-//! The line in which it is told how many lost sends are left out of a trace.
+//! The line that says how many lost sends are left out of a trace.
 
 ghost use Rattle.std.specs.Prelude.{◌≡◌, IfOk, string_bytes};
 ghost use Rattle.text_commands.specs.ImportLines.{lost_notes};
@@ -6,7 +6,7 @@ ghost use Rattle.text_commands.specs.ImportLines.{lost_notes};
 use std::alloc::{AllocError, Global};
 use std::fmt;
 
-/// How many sends of messages that no record receives are left out; nothing where they aren't.
+/// How many sends of messages that no record receives are left out; nothing if they aren't.
 pub(crate) fn lost_notes(alloc: Global, lost: Option<u64>) -> Result<String, AllocError>
     ensures { IfOk result (λ text. string_bytes text ≡ lost_notes lost) }
 {

@@ -7,7 +7,7 @@ use command_faults::{Fault, PictureOption};
 use run_picture::{NamesError, names_of};
 use std::alloc::Global;
 
-/// The names of so many processors; none where none are listed.
+/// The names of so many processors; none if none are listed.
 pub(crate) fn names_for(
     alloc: Global,
     list: &Option<String>,

@@ -20,8 +20,8 @@ use step_tables::{StepTable, TableError, table_of_text};
 use step_trace::{ProcSet, Trace};
 use trace_text::Counting;
 
-/// What a page is asked for, and the text of the table of the trace's steps, if there is one: then nodes and messages are called
-/// as it calls them.
+/// What a page is asked for, with the text of the table of the trace's steps, if there is one: then nodes and messages
+/// have the names that it gives.
 #[derive(Debug, Drop)]
 pub struct ToldPage {
     pub page: Page,
@@ -59,7 +59,7 @@ impl Answer for ToldPage {
     }
 }
 
-/// What the table says of a trace, if there is one.
+/// What the table says about a trace, if there is one.
 fn table_for(
     alloc: Global,
     text: &Option<Vec<u8>>,
@@ -74,7 +74,7 @@ fn table_for(
     }
 }
 
-/// The page about a trace, by what a table says of it.
+/// The page about a trace, by what a table says about it.
 fn told(
     alloc: Global,
     trace: &Trace,

@@ -61,7 +61,7 @@ fn write_processor(
     )
 }
 
-/// The field of a decision, empty where there is none.
+/// The field of a decision, empty if there is none.
 fn decision_text(alloc: Global, decision: Option<u64>) -> Result<String, AllocError>
     ensures field { IfOk result (λ text. string_bytes text ≡ decision_field decision) }
     ensures plain { IfOk result (λ text. IsPlain (string_bytes text)) }

@@ -43,7 +43,7 @@ fn with_ticks(
     Ok(decisions)
 }
 
-/// The tick of the step of this number, 0 where there is no such step.
+/// The tick of the step of this number, 0 if there is no such step.
 #[tactic(auto, unfolding(crate::specs::ReplayedDecisions::step_tick))]
 fn step_tick(trace: &Trace, number: u64) -> u64
     ensures { result ≡ step_tick trace.now number }

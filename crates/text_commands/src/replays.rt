@@ -36,7 +36,7 @@ impl Answer for Replay {
     }
 }
 
-/// Serves the command `replay`.
+/// Runs the command `replay`.
 pub fn run_replay<R: Read, W: Write>(
     alloc: Global,
     reader: &mut Counting<R>,
@@ -47,8 +47,8 @@ pub fn run_replay<R: Read, W: Write>(
     serve(alloc, &Replay, reader, writer)
 }
 
-/// The World that made the steps of a trace, whatever their ticks. It lets go of the trace, of whose steps the World has
-/// its own.
+/// The World that made the steps of a trace, whatever their ticks. It frees the trace, of whose steps the World has its
+/// own.
 fn world_of(alloc: Global, trace: Trace) -> Result<World, Fault>
     ensures config { IfOk result (λ world. world.trace.config ≡ trace.config) }
     ensures steps { IfOk result (λ world. world.trace.steps ≡ trace.steps) }

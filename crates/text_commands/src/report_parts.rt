@@ -1,5 +1,5 @@
-//! A part of the report of a trace: of the trace up to a tick or of all of it, all rows or the one that serves a tick. The
-//! command `report`, but for its workers (`reports.rt`).
+//! A part of the report of a trace: of the trace up to a tick or of all of it, all rows or the one that applies to a
+//! tick. The command `report`, but for its workers (`reports.rt`).
 
 ghost use Rattle.std.specs.Prelude.{◌≡◌, ◌↔◌, Some, IfOk, IfErr, IfSome, IsTrue, OnOk};
 ghost use Rattle.step_trace.specs.Fronts.{IsReport};
@@ -19,8 +19,8 @@ use suffix_staircase::Stairs;
 
 /// A part of a report. One thread finds its bounds.
 ///
-/// Declines a trace, in this order, by: Set if a correct processor is above its number of processors; Report for a tick that
-/// it hasn't, first the one up to which it is reported, then the one that is to be served, which it has to have up to there.
+/// Declines a trace, in this order, by: Set if a correct processor is above its number of processors; Report for a tick
+/// that it hasn't: first the one up to which it is reported, then, up to there, the one whose row is asked for.
 impl Answer for ReportPart {
     ghost use Rattle.text_commands.specs.ReportParts.{IsPartOfReport, IsUntoldPart};
 
@@ -50,7 +50,7 @@ pub(crate) fn reported_to(alloc: Global, trace: Trace, until: Option<u64>) -> Re
     Ok(trace.until(alloc, tick)?)
 }
 
-/// The text of the rows that are asked for: of all of the report of a trace, or of the row that serves a tick.
+/// The text of the rows that are asked for: of all of the report of a trace, or of the row that applies to a tick.
 fn text_for(alloc: Global, trace: &Trace, set: ProcSet, at: Option<u64>) -> Result<Vec<u8>, Fault>
     requires within { IsWithin set trace.now.config.n }
     ensures rows { IfOk result (λ text. IsTextFor set trace.now at text.items) }
@@ -64,7 +64,7 @@ fn text_for(alloc: Global, trace: &Trace, set: ProcSet, at: Option<u64>) -> Resu
     Ok(report_text_of(alloc, &[row])?)
 }
 
-/// The row that serves a tick of a trace.
+/// The row that applies to a tick of a trace.
 fn row_at(alloc: Global, trace: &Trace, set: ProcSet, tick: u64) -> Result<Row, Fault>
     requires within { IsWithin set trace.now.config.n }
     ensures row { IfOk result (IsRowAt set trace.now tick) }

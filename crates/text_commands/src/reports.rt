@@ -24,18 +24,20 @@ use std::thread::Threads;
 use step_trace::{Correct, Gate, ProcSet, Trace};
 use trace_text::Counting;
 
-/// Reads a trace text to its end, and writes the report of its trace, for these correct
-/// processors. With two workers and more, other threads read pieces of the text, about as many at once. So many
-/// workers find the bounds, each in a thread of its own, which enters the gate before that work; whatever their
-/// number, the report is the same.
-/// What the trace has taken of a long text is let go of; the trace itself is left to the end of the program. Nothing is
-/// written before the whole report stands.
+/// Reads a trace text to its end, and writes the report of its trace, for these correct processors. With two workers
+/// and more, other threads read pieces of the text, about as many at once. So many workers find the bounds, each in a
+/// thread of its own, which enters the gate before that work. Whatever their number, the report is the same.
+/// What the trace has taken of a long text is freed; the trace itself is left to the end of the program. Nothing is
+/// written before the whole report is complete.
 ///
-/// Asks for 1 to `MAX_WORKERS` workers, and waits for them. Refuses, in this order: Read, or Trace for
-/// a text that is too large; Trace for any other refusal of the text; Set if a correct processor is above the
-/// trace's number of processors; Threads where the gate held a worker back or its thread couldn't be
-/// started; Write with the number of bytes that went out before. Memory may come at any step before
-/// the first write.
+/// Asks for 1 to `MAX_WORKERS` workers, and waits for them. Refuses, in this order:
+/// - Read, or Trace for a text that is too large;
+/// - Trace for any other refusal of the text;
+/// - Set if a correct processor is above the trace's number of processors;
+/// - Threads if the gate held a worker back or its thread couldn't be started;
+/// - Write with the number of bytes that went out before.
+///
+/// Memory may come at any step before the first write.
 pub fn run_report<T: Threads + Wait + Sync, R: Read, W: Write, G: Gate>(
     rt: &T,
     alloc: Global,
@@ -54,8 +56,8 @@ pub fn run_report<T: Threads + Wait + Sync, R: Read, W: Write, G: Gate>(
     Ok(write_report(alloc, report.rows(), writer)?)
 }
 
-/// The report of a trace, for correct processors that are tested. The memory of the trace is left to the end of the program: to let go
-/// of it step by step takes a tenth of the time of a report.
+/// The report of a trace, for correct processors that are tested. The memory of the trace is left to the end of the
+/// program: to free it step by step takes a tenth of the time of a report.
 fn report_of<T: Threads + Wait + Sync, G: Gate>(
     rt: &T,
     alloc: Global,

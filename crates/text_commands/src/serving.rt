@@ -10,7 +10,7 @@ use std::io::{Read, Write};
 use trace_text::{Counting, write_text};
 
 /// Reads a trace text to its end, and writes the answer of a command to its trace. Nothing is written before the whole
-/// answer stands.
+/// answer is complete.
 ///
 /// Refuses, in this order: Read, or Trace for a text that is too large; Trace for any other refusal of the text; what the
 /// command declines the trace for; Write with the number of bytes that went out before. Memory may come at any step before

@@ -1,4 +1,4 @@
-//! The trace that a text stands for, in memory or behind a reader, and the correct processors of a trace.
+//! The trace that a text encodes, in memory or behind a reader, and the correct processors of a trace.
 
 ghost use Rattle.std.specs.Prelude.{◌≡◌, IfOk, IfErr, IfSome, OnOk};
 ghost use Rattle.std.specs.Io.KnownBytes.{IsAtEnd};
@@ -16,7 +16,7 @@ use std::io::Read;
 use step_trace::{Correct, ProcSet, Trace};
 use trace_text::{Counting, TextError, read_all};
 
-/// The trace that a text in memory stands for.
+/// The trace that a text in memory encodes.
 ///
 /// Refuses Trace with the first refusal of the text, and Memory.
 pub(crate) fn trace_of(alloc: Global, text: &[u8]) -> Result<Trace, Fault>
@@ -26,8 +26,8 @@ pub(crate) fn trace_of(alloc: Global, text: &[u8]) -> Result<Trace, Fault>
     Ok(read_trace(alloc, text)?)
 }
 
-/// Reads a text to its end, and gives the trace that it stands for. It lets go of the text, which takes much memory for a
-/// long trace.
+/// Reads a text to its end, and gives the trace that it encodes. It frees the text, which takes much memory for a long
+/// trace.
 ///
 /// Refuses as `read_trace_from` of `shared_reading` does.
 pub(crate) fn read_text<R: Read>(

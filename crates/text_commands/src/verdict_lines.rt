@@ -1,4 +1,4 @@
-//! The lines in which verdicts are told.
+//! The lines in which verdicts are printed.
 
 ghost use Rattle.std.specs.Prelude.{OnOk, IfErr, IsTrue};
 ghost use Rattle.std.specs.Io.KnownBytes.{Appends};

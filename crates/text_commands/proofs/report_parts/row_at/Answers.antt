@@ -11,7 +11,7 @@ unreachable-requires c =
     let high : c.args.tick ≤ c.in_ok-report.report.len = omega (arith, inside.1, len) in
     c.in-None.ensures.serves c.args.set c.args.trace.now c.if-not-has_tick.ensures.timed c.in_ok-report.ensures.report len inside.0 high
 
--- and that is the row which serves it
+-- and that is the row which applies to it
 pub returns-clause-row : goal.returns-clause-row
 returns-clause-row c =
     let inside : IsTickOf c.args.trace.now c.args.tick = c.if-not-has_tick.ensures.exact.0 refl in

@@ -1,7 +1,7 @@
 use Rattle.std.proofs.Common.{[], ◌∷◌, refl}
 use Rattle.text_commands.proofs.report_parts.text_for.Goals as goal
 
--- the text of one row, where a tick was asked for
+-- the text of one row, if a tick was asked for
 pub returns-clause-rows : goal.returns-clause-rows
 returns-clause-rows c = rw c.in-Some.is (record {
   rows = c.in_ok-row.row ∷ [];
