@@ -416,7 +416,7 @@ def without_lost(events):
 
 
 def lost_line(lost):
-    """What is told of so many lost messages."""
+    """The note on so many lost messages."""
     if lost == 1:
         return b"1 message was never received; its send is left out"
     return b"%d messages were never received; their sends are left out" % lost

@@ -43,10 +43,11 @@ uint32_t synchrony_check(uint64_t correct, const uint8_t *text, size_t length, c
 /* Does what the words of a command line ask for, with texts in place of its files, and answers the exit status that the
    program has. `words` has the words after the program's name, with a line feed between each two and none at the end, as
    in "draw\n-\n--correct\nall". `text` is the text of the file `-`. `second` is the certificate of a `check`, the decisions
-   of a `judge`, or the table of a `page`, whatever name the words have for it. Written over the first bytes of out, and its length into *size, is what
-   the program prints: with 0 and 1 its standard output (the notes of an `import` are left out), else its standard error.
-   Refused, with status 2, are `run`, `simulate` and each file that has another name than `-`. With SYNCHRONY_NO_ROOM only
-   *size is written, the length that the answer has, and with SYNCHRONY_NO_MEMORY nothing. */
+   of a `judge`, or the table of a `page`, whatever name the words have for it. What the program prints is written over
+   the first bytes of out, and its length into *size: with 0 and 1 its standard output (the notes of an `import` are left
+   out), else its standard error. Refused, with status 2, are `run`, `simulate` and each file that has another name than
+   `-`. With SYNCHRONY_NO_ROOM only *size is written, the length that the answer has, and with SYNCHRONY_NO_MEMORY
+   nothing. */
 uint32_t synchrony_answer(const uint8_t *words, size_t words_length, const uint8_t *text, size_t length,
                           const uint8_t *second, size_t second_length, uint8_t *out, size_t room, size_t *size);
 
@@ -57,9 +58,9 @@ uint32_t synchrony_answer(const uint8_t *words, size_t words_length, const uint8
 
    That is proved of callers that keep five duties, which nothing checks:
 
-   1. words, text, second and certificate point to as many bytes as is said, which nobody writes during the call; out to `room` bytes
-      and size to one size_t, which nobody else reads or writes during the call. out and *size share no byte with each
-      other or with a text. No pointer is null, also if there are no bytes. Each length is below 2^63.
+   1. words, text, second and certificate point to as many bytes as is said, which nobody writes during the call; out to
+      `room` bytes and size to one size_t, which nobody else reads or writes during the call. out and *size share no byte
+      with each other or with a text. No pointer is null, also if there are no bytes. Each length is below 2^63.
    2. malloc, realloc and free are of one allocator, which aligns a block to each power of two up to 16 that divides the
       block's size. (A host may bring a heap of its own in their place: tests/hosts/refused.c does.)
    3. No call comes from a signal handler, nor from the forked child of a process with threads.

@@ -292,7 +292,7 @@ impl From<WriteError> for Fault {
     }
 }
 
-/// The exit status that the program ends with. Allocates nothing.
+/// The exit status that the program ends with. Takes no memory.
 pub fn status(fault: &Fault) -> u8
     ensures { result ≡ status_of fault.now }
 {

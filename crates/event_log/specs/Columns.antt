@@ -55,7 +55,7 @@ abbrev pub unless_twice : Option Column → Columns → Result Columns LogError
 unless_twice None columns = Ok columns
 unless_twice (Some c) columns = Err (TwoColumns c)
 
--- one that is lacking does so before
+-- a missing one refuses it before that
 abbrev pub unless_lacking : Option Column → Result Columns LogError → Result Columns LogError
 unless_lacking None columns = columns
 unless_lacking (Some c) columns = Err (NoColumn c)

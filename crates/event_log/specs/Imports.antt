@@ -233,7 +233,7 @@ abbrev pub log_place : Option (List ℕ) → ℕ → ℕ
 log_place None i = i
 log_place (Some places) i = place_in places i
 
--- how far events went, by the place of the farthest in the log
+-- how far events moved, by the place of the farthest in the log
 abbrev pub moved_in : Option (List ℕ) → Moved → Moved
 moved_in None moved = moved
 moved_in (Some places) moved = record { events = moved.events; ticks = moved.ticks; farthest = option_map (place_in places) moved.farthest }
@@ -313,9 +313,9 @@ pub record IsImportOf (o : Options) (text : List ℕ) (import : Import) : Type 0
   pub nodes : import.nodes ≡ log.nodes
   pub lateness : import.lateness ≡ lateness_of aligned
 
--- The import is that of a log's events. `filled` has those that are left, so many, in the order of their records, and behind them the
--- receives of nothing that were added. The events are at the places `left_at` of the log. Tick 1 begins at the time `first`, and the
--- steps are those of the list at these places.
+-- The import is that of a log's events. `filled` has those that are left, so many, in the order of their records, and
+-- behind them the receives of nothing that were added. The events are at the places `left_at` of the log. Tick 1 begins
+-- at the time `first`, and the steps are those of the list at these places.
 pub record IsPlacedOfLog (drop : Bool) (limit : Option ℕ) (spread : Bool) (n : ℕ) (events : List Event) (clock : Clock) (import : Import) (filled : List Event) (logged : ℕ) (left_at : Option (List ℕ)) (first : ℤ) (places : List ℕ) : Type 0 where
   pub is : IsMadeOfLog drop limit spread n events clock import
   pub so_many : logged ≡ length is.left

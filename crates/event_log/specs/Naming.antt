@@ -13,7 +13,8 @@ use Rattle.event_log.specs.declared.refusals.LogError.TheVariants.{TooManyNodes,
 use Rattle.event_log.specs.LogRecords.{Said}
 use Rattle.event_log.specs.Names.{has_name, with_name}
 
--- the nodes in the order in which the events name them, the messages in the order of their sends, the places of these sends, and the events
+-- the nodes in the order in which the events name them, the messages in the order of their sends, the places of these
+-- sends, and the events
 pub record Named : Type 0 where
   pub nodes : List (List ℕ)
   pub messages : List (List ℕ)

@@ -37,7 +37,7 @@ pub struct Import {
     pub trace: Trace,
     /// The nodes: a processor's number is its node's place and 1.
     pub nodes: NameSet,
-    /// How far events went from the ticks of their times.
+    /// How far events moved from the ticks of their times.
     pub moved: Moved,
     /// How many messages are received no later than they are sent, by the times of the events.
     pub lateness: Lateness,

@@ -62,7 +62,7 @@ pub(crate) fn place_in(places: &[u32], place: usize) -> u32
     }
 }
 
-/// How far events went, by the place of the farthest in the log.
+/// How far events moved, by the place of the farthest in the log.
 pub(crate) fn moved_in(places: &[u32], moved: Moved) -> Moved
     ensures { result ≡ moved_in (Some places.now) moved }
 {

@@ -182,7 +182,7 @@ fn digit_at(digits: &[u8], k: usize) -> u64
     u64::from(digit.saturating_sub(b'0'))
 }
 
-/// The text that bytes are, if they are UTF-8.
+/// The text that bytes encode, if they are UTF-8.
 pub(crate) fn text_of(bytes: &[u8]) -> Option<&str>
     ensures { option_map (λ text. text.now) result ≡ text_of bytes.now }
 {

@@ -17,8 +17,8 @@ use Rattle.run_page.specs.declared.scales.Span.{Span}
 abbrev pub around_gap : ℕ → Stall → Span
 around_gap last s = record { first = s.gap.from - 1; to = min s.gap.to last + 1 }
 
--- the last tick to show of a late message: that of the Receive that takes it, if it comes soon after the one that
--- misses it; else that of the one that misses it
+-- the last tick to show of a late message: that of the Receive that takes it, if it comes soon after the miss;
+-- else that of the miss
 abbrev pub miss_end : Recorded → Delay → Option ℕ → ℕ
 miss_end trace d None = tick_of trace d.miss.missed
 miss_end trace d (Some r) =

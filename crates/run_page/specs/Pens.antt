@@ -2,7 +2,8 @@
 use Rattle.std.specs.Prelude.{ℕ, ◌≡◌, ◌++◌, List, false}
 use Rattle.run_page.specs.declared.pens.Pen.{Pen}
 
--- the pen has written these bytes after what it had written before, unless memory is refused, now or before
+-- the pen has written these bytes after what it had written before, unless an allocation fails, now or
+-- before
 pub record HasWritten (bytes : List ℕ) (old : Pen) (new : Pen) : Type 0 where
   pub names : new.names ≡ old.names
   pub said : new.said ≡ old.said

@@ -40,7 +40,7 @@ impl<'a> Pen<'a> {
         }
     }
 
-    /// Whether memory is refused, so that nothing more is written.
+    /// Whether an allocation failed, so that nothing more is written.
     pub(crate) fn is_refused(&self) -> bool
         ensures { result ≡ self.now.is_refused }
     {

@@ -23,9 +23,9 @@ pub(crate) enum Piece {
     Many(u64, &'static str),
     /// A length of time, in ticks.
     Ticks(u64),
-    /// A communication bound, or a time that speaks against a smaller one, in ticks.
+    /// A communication bound, or a time that refutes a smaller one, in ticks.
     Late(u64),
-    /// A processor bound, or a silence that speaks against a smaller one, in ticks.
+    /// A processor bound, or a silence that refutes a smaller one, in ticks.
     Silent(u64),
     /// What a processor is called: its name, or `processor` and its number.
     Node(u64),

@@ -33,7 +33,7 @@ pub(crate) struct Run<'a> {
     pub found: Found,
 }
 
-/// Where a run is calm, and what there is to say of it first.
+/// Where a run is calm, and its headline.
 #[derive(Clone, Copy)]
 pub(crate) struct Found {
     /// The place of the calm row, and the row.

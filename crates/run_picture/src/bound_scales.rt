@@ -84,7 +84,7 @@ fn power_of_ten(exponent: u64) -> Option<u64>
     }
 }
 
-/// The greatest number whose logarithm is told, and what power of two it is.
+/// The greatest number whose logarithm is computed, and what power of two it is.
 const MOST_LOGGED: u64 = 1_048_576;
 
 const MOST_EXPONENT: u64 = 20;

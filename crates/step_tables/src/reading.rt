@@ -106,7 +106,7 @@ impl<'a> TakeRecords for Reading<'a> {
     ghost long = { refuses_long };
 }
 
-/// A table that says nothing of a trace yet.
+/// A table that says nothing about a trace yet.
 fn empty_table(alloc: Global, trace: &Trace) -> Result<StepTable, AllocError>
     ensures { IfOk result (λ t. t ≡ nothing trace.now) }
 {

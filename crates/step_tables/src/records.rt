@@ -200,8 +200,8 @@ fn test_received(
     }
 }
 
-/// Whether there are as many words as messages, and each message's name is among them. The words are put in order first, so that
-/// k messages take about k log k comparisons.
+/// Whether there are as many words as messages, and each message's name is among them. The words are put in order
+/// first, so that k messages take about k log k comparisons.
 fn are_names_of(rows: &[StepRow], ids: &[u64], words: &mut [&[u8]]) -> bool
     ensures { result ≡ are_names_of rows.now ids.now (map (λ word. word.now) words.old) }
 {

@@ -12,7 +12,7 @@ pub enum TableError {
     BadHeader,
     /// The record doesn't say what the trace has at its place.
     Unfit(u64),
-    /// The record lacks: the trace has more steps.
+    /// The record is missing: the trace has more steps.
     Missing(u64),
     /// Out of memory.
     Memory,

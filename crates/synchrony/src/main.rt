@@ -189,8 +189,8 @@ fn answer_to_input<A: Answer>(
     output.ended(served.map_err(|fault| trace.named(fault)))
 }
 
-/// Prints the page about the trace in a file, by the table in another, if there is one. Both files are opened before one is read;
-/// the table is read first.
+/// Prints the page about the trace in a file, by the table in another, if there is one. Both files are opened before
+/// one is read; the table is read first.
 fn page(rt: &HostRuntime, job: PageJob) -> Result<u8, Fault> {
     let PageJob { file, table, page } = job;
     let trace = Input::open(rt, file)?;

@@ -18,7 +18,7 @@ use Rattle.command_options.specs.declared.Judging.{Judging}
 abbrev pub AreListed : List ℕ → List Listed → Type 0
 AreListed text runs = runs_of_text text ≡ Ok runs
 
--- why it lists none; a failed read, or no more memory, may come instead
+-- why it lists none; a failed read, or out of memory, may come instead
 abbrev pub IsUnlisted : List ℕ → Fault → Type 0
 IsUnlisted text fault.Read = Unit {0}
 IsUnlisted text fault.Memory = Unit {0}

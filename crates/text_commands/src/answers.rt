@@ -19,8 +19,8 @@ pub trait Answer {
     // what it declines a trace for
     ghost Declines: { Self → Recorded → Fault → Type 0 };
 
-    /// The answer to a trace, of which it lets go as soon as it can. Memory may come instead of what it declines the
-    /// trace for.
+    /// The answer to a trace, which is freed as soon as possible. Memory may come instead of what it declines the trace
+    /// for.
     fn answer(&self, alloc: Global, trace: Trace) -> Result<Vec<u8>, Fault>
         ensures gives { IfOk result (λ out. Gives self.now trace out.items) }
         ensures declines { IfErr result (IsDeclined (Declines self.now trace)) };

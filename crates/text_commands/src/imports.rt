@@ -50,7 +50,7 @@ pub fn import_options(
     }
 }
 
-/// The fault that what an option says is no length of time. Memory may come instead.
+/// The fault that what an option has is no length of time. Memory may come instead.
 fn no_length(alloc: Global, option: ImportOption, text: &str) -> Fault
     ensures { IsNoLength option text.now result }
 {
@@ -110,7 +110,7 @@ fn texts_of(
     }
 }
 
-/// The text of the trace of a log, and the notes. It lets go of the log before it makes them.
+/// The text of the trace of a log, and the notes. The log is freed before they are made.
 fn trace_texts(alloc: Global, text: Vec<u8>, options: &Options) -> Result<ImportTexts, Fault>
     ensures texts { IfOk result (λ texts. IsImportTold ImportForm.Trace options.now (λ notes. string_bytes texts.notes ≡ notes) text.items texts.out.items) }
     ensures refused { IfErr result (IsUnimported options.now text.items) }
@@ -131,7 +131,7 @@ fn table_texts(alloc: Global, text: Vec<u8>, options: &Options) -> Result<Import
     Ok(ImportTexts { out: table, notes })
 }
 
-/// A log read as a trace. It lets go of the text, which takes much memory for a long log.
+/// A log read as a trace. The text, which takes much memory for a long log, is freed.
 fn import_of(alloc: Global, text: Vec<u8>, options: &Options) -> Result<Import, Fault>
     ensures import { IfOk result (λ import. IsImportOf options.now text.items import) }
     ensures refused { IfErr result (IsUnimported options.now text.items) }
@@ -139,7 +139,7 @@ fn import_of(alloc: Global, text: Vec<u8>, options: &Options) -> Result<Import, 
     Ok(read_log(alloc, &text, options)?)
 }
 
-/// A log read as a trace, with the table of its steps. It lets go of the text.
+/// A log read as a trace, with the table of its steps. The text is freed.
 fn log_table(alloc: Global, text: Vec<u8>, options: &Options) -> Result<LogTable, Fault>
     ensures table { IfOk result (λ t. IsTableOf options.now text.items t.import t.table.items) }
     ensures refused { IfErr result (IsUnimported options.now text.items) }

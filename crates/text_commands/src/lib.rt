@@ -1,5 +1,5 @@
 //! The commands that make text of text. Each that makes a text of a trace is an `Answer`: the report of the trace, its
-//! replay, its upgrade, its picture, the page about it. Two doors lead to an answer: `serve`, from a reader to a
+//! replay, its upgrade, its picture, the page about it. There are two ways to an answer: `serve`, from a reader to a
 //! writer, and `answer_to`, of a text in memory. Reports by several workers, checks of reports, judgements of decisions
 //! and imports of logs have functions of their own that cite the same definitions (`specs/`).
 #![tactic(auto)]

@@ -189,7 +189,7 @@ IsIdleTimed-unique spread n events clock limit a b new more s t =
           ap₂ (λ (x : Recorded) (y : Moved). let z : IdleTrace = record { trace = x; moved = y; added = a.added } in z) t m
           ∙ ap (λ (k : ℕ). let z : IdleTrace = record { trace = b.trace; moved = b.moved; added = k } in z) k
 
--- the places of the events and of the receives behind them in the order of the steps of their trace are those at which its steps are
+-- the steps of the trace are those of the events and of the receives behind them at these places, in this order
 pub steps-filled : (spread : Bool) (n : ℕ) (events : List Event) (clock : Clock) (limit : ℕ) (timed : IdleTrace) (new : List Event) (places : List ℕ) → IsIdleTimed spread n events clock limit timed new → AreFilledPlaces spread n events clock limit new places → HasStepsAt n new places timed.trace
 steps-filled spread n events clock limit timed new places t p =
     let ticks = AreTicks-unique spread events clock p.ticks t.ticks t.passed p.are t.are in

@@ -38,8 +38,8 @@ pub fn cause_laws()
     ensures by_time { (events : List Event) (order : List ℕ) → IsTimeOrder events order → (IsCausalOrder events order ↔ AreSentBefore events) }
 {}
 
-/// The laws of traces with receives of nothing in short silences. Events, clock and limit have one. The places of the events and
-/// of these receives in the order of its steps are those at which its steps are (`filled`).
+/// The laws of traces with receives of nothing in short silences. Events, clock and limit have one. The places of the
+/// events and of these receives in the order of its steps are those at which its steps are (`filled`).
 ///
 /// Theorems over the definitions, as those of `trace_laws`.
 pub fn idle_laws()

@@ -11,7 +11,7 @@ use crate::timed_traces::{OrderedTrace, ordered_by_ticks, ordered_in_time};
 use std::alloc::Global;
 use step_trace::{MAX_PROCESSORS, MAX_STEPS, MIN_PROCESSORS, Trace};
 
-/// How far events went from the ticks of their times.
+/// How far events moved from the ticks of their times.
 #[derive(Clone, Copy, Debug, PartialEq, Eq)]
 pub struct Moved {
     /// How many events are in a later tick than that of their time.
@@ -22,14 +22,14 @@ pub struct Moved {
     pub farthest: Option<usize>,
 }
 
-/// A trace of events, and how far they went.
+/// A trace of events, and how far they moved.
 #[derive(Drop)]
 pub struct TimedTrace {
     pub trace: Trace,
     pub moved: Moved,
 }
 
-/// A trace of events and how far they went, with the places of the events in the order of its steps.
+/// A trace of events and how far they moved, with the places of the events in the order of its steps.
 #[derive(Drop)]
 pub struct PlacedTrace {
     pub timed: TimedTrace,
@@ -151,7 +151,7 @@ pub(crate) fn last_of(last: u64, ticks: &[u32]) -> u64
     greatest
 }
 
-/// How far events went from their own ticks, those of their times.
+/// How far events moved from their own ticks, those of their times.
 pub(crate) fn moved_of(own: &[u32], ticks: &[u32]) -> Moved
     requires long { length ticks.now ≡ length own.now }
     requires few { length own.now ≤ MAX_STEPS }

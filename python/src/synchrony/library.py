@@ -248,8 +248,8 @@ def page(
     names: Optional[Iterable[str]] = None,
     table: Optional[Text] = None,
 ) -> bytes:
-    """A page about the run, as HTML. The run counts as calm from the tick `at` on; `names` are names for the processors. Those of
-    nodes and messages, and the records of the log, come from `table`, the table of the steps."""
+    """A page about the run, as HTML. The run counts as calm from the tick `at` on; `names` are names for the
+    processors. The names of nodes and messages, and the records of the log, come from `table`, the table of the steps."""
     listed = _set_of(correct)[1]
     if table is None:
         return _asked("page", trace, correct=listed, at=at, names=names)
@@ -268,10 +268,10 @@ def import_log(
     table: bool = False,
     drop_lost: bool = False,
 ) -> bytes:
-    """The trace of a log, as a text of version 2, or the `table` of its steps. Nodes are numbered in the order of `nodes`, or else
-    as the log names them. With `unit`, one of s, ms, us and ns, the times are whole numbers of it. With `idle`, a node without
-    an event for at most so long gets a receive of nothing. With `drop_lost`, sends of messages that no record receives are left
-    out."""
+    """The trace of a log, as a text of version 2, or the `table` of its steps. Nodes are numbered in the order of `nodes`,
+    or else as the log names them. With `unit`, one of s, ms, us and ns, the times are whole numbers of it. With `idle`, a
+    node without an event for at most so long gets a receive of nothing. With `drop_lost`, sends of messages that no record
+    receives are left out."""
     return _asked(
         "import",
         log,
@@ -364,7 +364,8 @@ ERRORS = {BAD_TRACE: TraceRefused, BAD_CERTIFICATE: CertificateRefused}
 
 
 def _asked(command: str, text: Text, second: Optional[bytes] = None, second_word: str = "certificate", **given: Any) -> bytes:
-    """What the program prints for a command with these options; None and False leave one out. `second_word` names the second text."""
+    """What the program prints for a command with these options; None and False leave one out. `second_word` names the
+    second text."""
     words = [command, "-"] + ([second_word] if second is not None else [])
     for name, value in given.items():
         option, word_of = OPTIONS[name]

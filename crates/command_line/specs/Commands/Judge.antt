@@ -12,8 +12,8 @@ use Rattle.command_line.specs.Answers.{Given, ◌>>=◌, answers}
 use Rattle.command_line.specs.Arguments.{IsListFault, IsMemory, command_app, file_rule, flag_in, flag_rule, option_rule, optional_positional_rule, optional_rule, tick_in, tick_rule}
 use Rattle.command_line.specs.Commands.Check.{AreBothStandardInput}
 
--- judge FILE DECISIONS --correct LIST --within FORMULA --start TICK --valid --whole --due K --factor --rows, or --replay in the
--- place of DECISIONS; or judge FILE --runs, without DECISIONS, --factor and --rows
+-- judge FILE DECISIONS --correct LIST --within FORMULA --start TICK --valid --whole --due K --factor --rows, or
+-- --replay in place of DECISIONS; or judge FILE --runs, without DECISIONS, --factor and --rows
 abbrev pub judge_app : App
 judge_app = command_app (codes "judge") (file_rule ∷ optional_positional_rule (codes "decisions") ∷ optional_rule (codes "correct") ∷ option_rule (codes "within")
     ∷ tick_rule (codes "start") ∷ flag_rule (codes "valid") ∷ flag_rule (codes "whole") ∷ tick_rule (codes "due") ∷ flag_rule (codes "factor") ∷ flag_rule (codes "rows") ∷ flag_rule (codes "replay") ∷ flag_rule (codes "runs") ∷ [])

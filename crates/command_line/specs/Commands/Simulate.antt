@@ -83,7 +83,7 @@ IsCrashFault config crashes (unread.Refused words) = (¬ AreFew config crashes �
     ⊎ (AreFew config crashes × ¬ AreOfEach config crashes × (string_bytes words ≡ bad_crash_words))
 IsCrashFault config crashes unread.Memory = ⊤
 
--- the words in which bounds are refused of which one lacks, and a processor bound that no schedule keeps
+-- the words in which bounds are refused of which one is missing, and a processor bound that no schedule keeps
 abbrev pub bad_bounds_words : List ℕ
 bad_bounds_words = codes "synchrony: bad --gst" ++ (10 ∷ codes "synchrony: --gst, --delta and --phi are given together or not at all")
 
