@@ -33,7 +33,8 @@ status_of_log no_log.UntilUnfit = 2
 status_of_log no_log.IdleUnfit = 2
 status_of_log e = 3
 
--- the exit status of a tick that the trace hasn't: that of a refused trace if no other tick can be asked for
+-- the exit status of a tick that the trace hasn't: for a start that of a refused trace, else that of the
+-- command line
 abbrev pub status_of_tick : ReportOption → ℕ
 status_of_tick report_option.Until = 2
 status_of_tick report_option.At = 2

@@ -31,7 +31,7 @@ pub enum Fault {
     Runs(RunListError),
     /// The table of the trace's steps is refused. `Memory` is a fault of its own.
     Table(TableError),
-    /// This field of a run in a list says nothing that the run can be judged by.
+    /// This field of a run in a list is bad.
     Listed(ListedField),
     /// The text of a deadline is no formula, for this reason.
     Within(BadFormula),
@@ -48,7 +48,7 @@ pub enum Fault {
     NotARun(u64, Option<Due>),
     /// A thread wasn't started, or was held back.
     Threads,
-    /// There is no picture of the trace for what this option says.
+    /// There is no picture of the trace for the value of this option.
     Picture(PictureOption),
     /// This option asks for this tick, and the trace has none after this last one.
     Report(ReportOption, TickOutside),

@@ -92,7 +92,7 @@ idle_in k (Units n) = Ok (units_in k n)
 idle_in kind.Number (Nanoseconds n) = Err IdleUnfit
 idle_in k (Nanoseconds n) = Ok n
 
--- how many ticks of a clock a silence has at most that gets a receive of nothing, if it is given how long it lasts
+-- how many ticks of a clock a silence that gets a receive of nothing has at most, if its longest time is given
 abbrev pub limit_of : TimeKind → Option Width → Clock → Result (Option ℕ) LogError
 limit_of k None clock = Ok None
 limit_of k (Some idle) clock = idle_in k idle >>= λ x. Ok (Some (x / clock.width))
@@ -201,7 +201,7 @@ pub record IsFilledWith (limit : ℕ) (spread : Bool) (n : ℕ) (events : List E
   pub timed : IsIdleTimed spread n events clock limit (record { trace = trace; moved = moved; added = added }) new
   pub told : idle ≡ Some (record { count = added; limit = limit })
 
--- the trace of the events, by how many ticks a silence has at most that gets a receive of nothing, if any does
+-- the trace of the events, by how many ticks a silence that gets a receive of nothing has at most, if any gets one
 abbrev pub IsMadeBy : Option ℕ → Bool → ℕ → List Event → Clock → Recorded → Moved → Option IdleReceives → Type 0
 IsMadeBy None spread n events clock trace moved idle = IsTimed spread n events clock (record { trace = trace; moved = moved }) × (idle ≡ None)
 IsMadeBy (Some limit) spread n events clock trace moved idle = IsFilledWith limit spread n events clock trace moved idle

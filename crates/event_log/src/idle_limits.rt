@@ -1,4 +1,4 @@
-//! How many ticks the silences have at most that get a receive of nothing.
+//! How many ticks the silences that get a receive of nothing have at most.
 
 ghost use Rattle.std.specs.Prelude.{◌≡◌, ◌<◌};
 ghost use Rattle.event_log.specs.Imports.{idle_in, limit_in};
@@ -9,7 +9,7 @@ use crate::refusals::LogError;
 use crate::times::{TimeKind, Width};
 use timed_events::Clock;
 
-/// How many ticks of this clock a silence has at most that gets a receive of nothing, if it is given how long it lasts.
+/// How many ticks of this clock a silence that gets a receive of nothing has at most, if its longest time is given.
 ///
 /// Asks for ticks that have a length. Refuses IdleUnfit.
 pub(crate) fn limit_for(

@@ -28,7 +28,7 @@ pub struct Options {
     ghost short: { nanoseconds_of width < 2 ^ 94 },
 }
 
-/// Why texts give no options, in the order in which they are looked at.
+/// Why texts give no options, in the order in which they are tested.
 #[derive(Clone, Copy, Debug, PartialEq, Eq)]
 pub enum OptionError {
     /// The nodes aren't 2 to 64 different names with one comma between each two.

@@ -26,7 +26,7 @@ pub(crate) struct Told<'a> {
     pub(crate) moment: Moment,
     pub(crate) verb: Verb,
     pub(crate) node: &'a [u8],
-    /// The node that a send is for. Not looked at in a receive.
+    /// The node that a send is for. Ignored in a receive.
     pub(crate) to: &'a [u8],
     /// The name of the message, or those of the messages with one space between them.
     pub(crate) messages: &'a [u8],

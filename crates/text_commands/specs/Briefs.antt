@@ -45,6 +45,6 @@ pub record IsBriefTextOf (set : ℕ) (out : List ℕ) (t : Recorded) : Type 0 wh
 abbrev pub IsBriefOf : Brief → Recorded → List ℕ → Type 0
 IsBriefOf b t out = IsCutFor b.correct b.until (IsBriefTextOf (named b.correct t.config.n) out) t
 
--- for what there is no brief report: a correct processor that the trace hasn't, or else a tick
+-- why there is no brief report: a correct processor that the trace hasn't, or else a tick
 abbrev pub IsNoBrief : Brief → Recorded → Fault → Type 0
 IsNoBrief b = IsUncutAt b.correct b.until

@@ -34,16 +34,16 @@ IsBadCertificate certificate (fault.Certificate reason) = (rows_of_text certific
 IsBadCertificate certificate fault.Memory = ⊤
 IsBadCertificate certificate _ = ⊥
 
--- for what a trace isn't cut: a correct processor that it hasn't, or else a tick
+-- why a trace isn't cut: a correct processor that it hasn't, or else a tick
 abbrev pub IsUncutAt : Correct → Option ℕ → Recorded → Fault → Type 0
 IsUncutAt correct until t (fault.Report option.Until o) = HasCorrect correct t × IsNoTickOf until t o
 IsUncutAt correct until t w = IsOutside correct t w
 
--- for what no certificate is checked by the trace
+-- why no certificate is checked by the trace
 abbrev pub IsUncut : Claim → Recorded → Fault → Type 0
 IsUncut claim = IsUncutAt claim.correct claim.until
 
--- for what this one isn't: the same, or else the first refusal of the certificate
+-- why this one isn't: the same, or else the first refusal of the certificate
 abbrev pub IsUnchecked : Claim → List ℕ → Recorded → Fault → Type 0
 IsUnchecked claim certificate t (fault.Certificate reason) = IsUncertified claim.correct claim.until certificate reason t × IsRefusalOfText reason
 IsUnchecked claim certificate t w = IsUncut claim t w

@@ -122,7 +122,7 @@ IsUndrawn d t (fault.Picture o) = IsUndrawnFor d t o
 IsUndrawn d t fault.Memory = ⊤
 IsUndrawn d t _ = ⊥
 
--- for what the trace has no picture: a correct processor that it hasn't, or else an option
+-- why the trace has no picture: a correct processor that it hasn't, or else an option
 abbrev pub IsUndrawnTrace : Drawing → Recorded → Fault → Type 0
 IsUndrawnTrace d t (fault.Picture o) = HasCorrect d.correct t × IsUndrawnFor d t o
 IsUndrawnTrace d t w = IsOutside d.correct t w

@@ -32,6 +32,6 @@ IsEachOf e t out = IsCutFor e.correct e.until (IsEachTextOf (named e.correct t.c
 abbrev pub part_of : Each → ReportPart
 part_of e = record { correct = e.correct; until = e.until; at = e.at }
 
--- for what there is none: that for which there is no part of a report by these options
+-- why there is none: as for the part of a report by these options
 abbrev pub IsNoEach : Each → Recorded → Fault → Type 0
 IsNoEach e = IsUntoldPart (part_of e)

@@ -57,7 +57,7 @@ pub record IsListedJudging (asked : Judging) (run : Listed) (j : Judging) : Type
   pub rows_of : j.rows ≡ asked.rows
   pub replay : j.replay ≡ is_empty run.decisions
 
--- why a run can't be judged: the first of its fields that says nothing; or out of memory
+-- why a run can't be judged: the first of its fields that is bad; or out of memory
 abbrev pub IsListedFault : Judging → Listed → Fault → Type 0
 IsListedFault asked run fault.Memory = Unit {0}
 IsListedFault asked run (fault.Listed field.Correct) = IsNoCorrect run.correct
@@ -65,7 +65,7 @@ IsListedFault asked run (fault.Listed field.Start) = ((found : Correct) × IsLis
     × (start_of asked.start run.start ≡ None)
 IsListedFault asked run _ = ⊥
 
--- the field says no path: it is empty, or no text; or out of memory
+-- the field has no path: it is empty, or no text; or out of memory
 abbrev pub IsNoPath : ListedField → List ℕ → Fault → Type 0
 IsNoPath of bytes fault.Memory = Unit {0}
 IsNoPath of bytes (fault.Listed field) = (field ≡ of) × ((bytes ≡ []) ⊎ (¬ IsUtf8 bytes))

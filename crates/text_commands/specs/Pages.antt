@@ -49,7 +49,8 @@ abbrev pub IsUntellable : Page → Recorded → Fault → Type 0
 IsUntellable p t (fault.Report option o) = are_names_in p.names t.config.n × IsAtFault p.at t (fault.Report option o)
 IsUntellable p t w = IsNamesFault p.names t.config.n w
 
--- for what the trace has no page: a correct processor that it hasn't, or else the table, or else the names, or else the tick
+-- why the trace has no page: a correct processor that it hasn't, or else the table, the names, or the tick, in this
+-- order
 abbrev pub IsNoPageBy : Page → Option (List ℕ) → Recorded → Fault → Type 0
 IsNoPageBy p table t (fault.Table why) = HasCorrect p.correct t × IsTableFault table t (fault.Table why)
 IsNoPageBy p table t (fault.Picture o) = HasCorrect p.correct t × HasTable table t × IsUntellable p t (fault.Picture o)

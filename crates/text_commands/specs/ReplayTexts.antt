@@ -1,4 +1,5 @@
--- The text of a replay: a header, and the state of each processor at the end of a trace.
+-- The text of a replay: a header, and the round and the decision of each processor at the end of a
+-- trace.
 use Rattle.std.specs.Prelude.{ℕ, ◌+◌, List, [], ◌∷◌, Option, Some, None, map, decimal, codes}
 use Rattle.step_trace.specs.declared.steps.Step.{Step}
 use Rattle.step_trace.specs.Configurations.{Setup}

@@ -67,7 +67,7 @@ IsAtFault at t (fault.Report option.At o) = IsNoTickOf at t o
 IsAtFault at t fault.Memory = ⊤
 IsAtFault at t _ = ⊥
 
--- for what there is no part of a report: a correct processor that the trace hasn't, or else a tick
+-- why there is no part of a report: a correct processor that the trace hasn't, or else a tick
 abbrev pub IsUntoldPart : ReportPart → Recorded → Fault → Type 0
 IsUntoldPart part t (fault.Report which o) = HasCorrect part.correct t × IsTickOutsideFor part t which o
 IsUntoldPart part t w = IsOutside part.correct t w

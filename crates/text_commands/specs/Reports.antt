@@ -23,7 +23,7 @@ IsFaultOfWorkers fault.Memory = ⊤
 IsFaultOfWorkers fault.Threads = ⊤
 IsFaultOfWorkers _ = ⊥
 
--- for what there is no report of a trace: a correct processor that it hasn't, or else a thread
+-- why there is no report of a trace: a correct processor that it hasn't, or else a thread
 abbrev pub IsUnreported : Correct → Recorded → Fault → Type 0
 IsUnreported correct t fault.Threads = HasCorrect correct t
 IsUnreported correct t w = IsOutside correct t w

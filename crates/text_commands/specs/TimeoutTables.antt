@@ -63,7 +63,7 @@ abbrev pub IsFollowerOutside : Option Correct → ℕ → MemberOutside → Type
 IsFollowerOutside None n m = ⊥
 IsFollowerOutside (Some followers) n m = IsMemberOutside (named followers n) n m
 
--- for what there is no link: the leader, or else a follower
+-- why there is no link: the leader, or else a follower
 abbrev pub IsLinkFault : TimeoutTable → ℕ → Fault → Type 0
 IsLinkFault o n (fault.Set set_option.From m) = IsLeaderOutside o.from n m
 IsLinkFault o n (fault.Set set_option.To m) = (o.from ≤ n) × IsFollowerOutside o.to n m
@@ -75,7 +75,7 @@ IsNoTickFor o t option.Until x = IsNoTickOf o.until t x
 IsNoTickFor o t option.At x = (reported : Recorded) × IsReportedTo o.until t reported × IsNoTickOf o.at reported x
 IsNoTickFor o t option.Start x = ⊥
 
--- for what there is no table: the leader or a follower, or else a tick
+-- why there is no table: the leader or a follower, or else a tick
 abbrev pub IsNoTable : TimeoutTable → Recorded → Fault → Type 0
 IsNoTable o t (fault.Report which x) = HasLink o t.config.n × IsNoTickFor o t which x
 IsNoTable o t w = IsLinkFault o t.config.n w

@@ -31,7 +31,7 @@ pub fn test_formula(alloc: Global, within: &str) -> Result<(), Fault>
     Ok(())
 }
 
-/// Reads a text of decisions to its end. What it says is looked at by `run_judge`.
+/// Reads a text of decisions to its end. It is parsed by `run_judge`.
 ///
 /// Refuses Read at the first fault, and Decisions for a text that is too large. Memory may come instead.
 pub fn read_decisions<R: Read>(alloc: Global, reader: &mut Counting<R>) -> Result<Vec<u8>, Fault>

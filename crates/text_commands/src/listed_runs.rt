@@ -35,7 +35,7 @@ pub fn read_runs<R: Read>(alloc: Global, reader: &mut Counting<R>) -> Result<Vec
 /// What a run of a list is judged for: what is asked of all runs, with its own correct processors and its own start, if
 /// it has them. The decisions are those of the replay if it has no file of them.
 ///
-/// Refuses Listed for the first of the two that isn't one. Memory may come instead.
+/// Refuses Listed for the first of the two that is bad. Memory may come instead.
 pub fn listed_judging(alloc: Global, asked: &Judging, run: &ListedRun) -> Result<Judging, Fault>
     ensures judging { IfOk result (IsListedJudging asked.now run.now) }
     ensures refused { IfErr result (IsListedFault asked.now run.now) }
@@ -59,7 +59,7 @@ pub fn listed_judging(alloc: Global, asked: &Judging, run: &ListedRun) -> Result
     })
 }
 
-/// The path that this field of a run says.
+/// The path in this field of a run.
 ///
 /// Refuses Listed for the field, if its bytes are no text or there are none. Memory may come instead.
 pub fn listed_path(alloc: Global, field: ListedField, bytes: &[u8]) -> Result<String, Fault>
@@ -132,7 +132,7 @@ fn correct_of(asked: Correct, text: &[u8]) -> Option<Correct>
     Correct::parse(utf8_of(text)?)
 }
 
-/// The start that a text says; this one, if it is empty.
+/// The start that a text gives; this one, if it is empty.
 fn start_of(asked: Option<u64>, text: &[u8]) -> Option<Option<u64>>
     ensures { result ≡ start_of asked text.now }
 {

@@ -28,7 +28,7 @@ pub struct ToldPage {
     pub table: Option<Vec<u8>>,
 }
 
-/// Reads the text of a table to its end. What it says is looked at for the page.
+/// Reads the text of a table to its end. It is parsed for the page.
 ///
 /// Refuses Read at the first fault, and Table for a text that is too large. Memory may come instead.
 pub fn read_table<R: Read>(alloc: Global, reader: &mut Counting<R>) -> Result<Vec<u8>, Fault>

@@ -7,8 +7,8 @@ use std::test::Fail;
 use step_trace::Correct;
 
 /// Whether the words ask for this judgement of the decisions d of the trace t, for processors 1 and 2 and within phi.
-/// The rest says from which start, and whether of validity, of the whole run, with so many rows due, for the least
-/// factor and for rows.
+/// The options are the start, whether validity and the whole run are judged, how many rows are due, and whether the
+/// least factor and the rows are asked for.
 fn asks_for_judgement(
     alloc: Global,
     words: &[&str],
@@ -94,8 +94,8 @@ fn reads_judgements(rt: HostRuntime) -> Result<(), Fail> {
     Ok(())
 }
 
-/// Whether the words ask for a judgement of the runs in the list l, within phi, for these processors. The rest says
-/// from which start, and whether of validity, of the whole run, with so many rows due.
+/// Whether the words ask for a judgement of the runs in the list l, within phi, for these processors. The options are
+/// the start, whether validity and the whole run are judged, and how many rows are due.
 fn asks_for_runs(
     alloc: Global,
     words: &[&str],

@@ -6,7 +6,7 @@ use std::alloc::{AllocError, Global};
 use std::io;
 use std::test::Fail;
 
-/// Whether the words ask for the replay of this file, or for its upgrade if they name `upgrade`.
+/// Whether the words ask for this command, `replay` or `upgrade`, of this file.
 fn asks_for_file(alloc: Global, words: &[&str], command: &str, name: &str) -> bool {
     match read(alloc, words) {
         Ok(Job::Replay(job)) => command == "replay" && job.file.as_str() == name,
