@@ -38,8 +38,8 @@ abbrev pub TakesInOrder : List Step → ℕ → ℕ → Type 0
 TakesInOrder steps p q =
     (s later k : ℕ) → IsSend steps q p s → IsSend steps q p later → s < later → IsTakenAt steps p k later → IsTakenBefore steps p k s
 
--- When p ended this round, it had heard something of that round or of a later one from each member of the set that it
--- may hear. So no patience ended it.
+-- When p ended this round, it had heard something of that round or a later one from each member that it may hear. So
+-- no patience ended it.
 pub record IsHeardOut (c : Setup) (steps : List Step) (set p round : ℕ) : Type 0 where
   pub place : ℕ
   pub ids : List ℕ

@@ -106,7 +106,7 @@ pub record EndsComplete (c : Setup) (steps : List Step) (set p round : ℕ) : Ty
   pub complete : is_complete c (node_before c steps p place) round p pace ≡ true
   pub waited : (q : ℕ) → IsTrue (has_proc set q) → (peer_of pace.peers q).suspected ≡ false
 
--- A set of at least N - t processors that take all that waits for them, and whose paces end each of some rounds as
+-- A set of at least N - t processors that take all that waits for them. Their paces end each of some rounds as
 -- complete.
 pub record EndRoundsComplete (c : Setup) (steps : List Step) (set first last : ℕ) : Type 0 where
   pub within : IsWithin set c.n

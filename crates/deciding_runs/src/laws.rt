@@ -21,13 +21,13 @@ ghost use Rattle.deciding_runs.specs.HeardOut.{HearOut, HasHeardOf, IsHeardOut, 
 ghost use Rattle.deciding_runs.specs.Peers.{peer_of};
 ghost use Rattle.deciding_runs.specs.Paces.{Paced, WereHeard, EndsComplete, EndRoundsComplete, is_complete, paced_move, after_move};
 
-/// If the processors of a set of at least N - t pass some rounds and hear all that they say to one another in them,
-/// each of them decides (as section 3 of the 1988 paper argues of its rounds).
+/// If at least N - t processors pass some rounds and hear all that they say to one another in them, each of them
+/// decides (section 3 of the 1988 paper argues so of its rounds).
 ///
 /// A theorem: its contract quantifies over every configuration, every list of steps and every trace. Calling it does
 /// nothing. In `decided` the rounds go from `first` to the deciding round of `first`. In `by_tick` the members have
 /// passed them by a tick: then the trace up to that tick has all their decisions. On the way: who has passed a round
-/// has sent all that it had to say in it (`sent`); and to hear of somebody who has nothing to say changes no node
+/// has sent all that it had to say in it (`sent`). To hear of somebody who has nothing to say changes no node
 /// (`silence`).
 pub fn deciding_laws()
     ensures decided { (c : Setup) (steps : List TraceStep) (set first : ℕ) → IsSetup c → IsRun c steps
@@ -52,8 +52,8 @@ pub fn deciding_laws()
 ///
 /// A theorem, as `deciding_laws` is. Whom a processor may hear in a round it knows by its own node (`may_hear`): who
 /// tells it anything is among those. Let the members of a set of at least N - t take one another's messages in order.
-/// Let each end each round, from `first` to the deciding round of `first`, when it has heard something of that round or
-/// of a later one from each member that it may hear in it. Then each of them decides (`decided`). Who takes all that
+/// Let each end each round, from `first` to the deciding round of `first`, once it has heard each member that it may
+/// hear in it: something of that round or of a later one. Then each of them decides (`decided`). Who takes all that
 /// waits takes messages in order (`order`).
 pub fn heard_out_laws()
     ensures tellers { (c : Setup) (table : Table) (rounds p q : ℕ) (body : SaidBody)
@@ -67,10 +67,10 @@ pub fn heard_out_laws()
 {}
 
 /// What a pace has heard was heard in the trace, and stays so with each step of a run (`moved`, `grows`). Who ends a
-/// round because it is complete has heard something of that round or of a later one from all whom it may hear in it and
-/// doesn't suspect (`hears`). A round that was ended so is heard out (`heard_out`). Let the members of a set of at
-/// least N - t take all that waits for them. Up to the deciding round, let no patience end a round of theirs, and let
-/// no member suspect a member or be left behind. Then each of them decides (`decided`).
+/// round because it is complete has heard all whom it may hear in it and doesn't suspect: something of that round or of
+/// a later one (`hears`). A round that was ended so is heard out (`heard_out`). Let the members of a set of at least
+/// N - t take all that waits for them. Up to the deciding round, let no patience end a round of theirs, and let no
+/// member suspect a member or be left behind. Then each of them decides (`decided`).
 ///
 /// A theorem, as `deciding_laws` is.
 pub fn pace_laws()

@@ -17,10 +17,10 @@ use step_trace::Config;
 /// The pace "heard out" of a processor (own): what it has heard of each other one, and how many Receives its round may
 /// still take.
 ///
-/// A Receive ends the round if it is complete: from each processor that it may hear, by its own node, it has taken
-/// something of this round or of a later one, or it suspects it; and if it may hear all, it has heard so of N - t. A
-/// Receive also ends the round if something of a round more than a phase later was taken, or if it is the last that its
-/// patience allows. A processor is suspected from the end of a phase on in which nothing was taken from it, unless
+/// A Receive ends the round if it is complete. By its own node the processor knows whom it may hear. From each of these
+/// it has taken something of this round or of a later one, or it suspects it; and if it may hear all, it has heard so
+/// of N - t. A Receive also ends the round if something of a round more than a phase later was taken, or if it is the
+/// last of its patience. A processor is suspected from the end of a phase on in which nothing was taken from it, unless
 /// something of a later round was. It is suspected until something is taken from it again.
 #[derive(Debug, Drop)]
 pub struct Pace {

@@ -134,8 +134,8 @@ idle_place filled.TooManySteps = 0
 abbrev pub IsBehindCycle : List Event → ℕ → Type 0
 IsBehindCycle events i = (first_fault events ≡ None) × IsFirstUnplaceable events i
 
--- The refusal names the first event in a cycle of messages or behind one, and the hops of such a cycle, from the least
--- of their events on. The record of the event at place i is number i + 2.
+-- The refusal names the first event in a cycle of messages or behind one. It lists the hops of such a cycle, from the
+-- least of their events on. The record of the event at place i is number i + 2.
 pub record IsCycleError (text : List ℕ) (nodes : List (List ℕ)) (events : List Event) (i : ℕ) (error : LogError) : Type 0 where
   pub hops : List Hop
   pub cycle : IsCauseCycle events hops
@@ -254,7 +254,7 @@ reason_in places refused.Memory = refused.Memory
 abbrev pub hop_in : List ℕ → Hop → Hop
 hop_in places hop = record { event = place_in places hop.event; message = place_in places hop.message }
 
--- The refusal names the first event in a cycle of messages or behind one, and the hops of such a cycle by their
+-- The refusal names the first event in a cycle of messages or behind one. It lists the hops of such a cycle by their
 -- records, from the least event on.
 pub record IsLeftCycleError (text : List ℕ) (nodes : List (List ℕ)) (events left : List Event) (places : List ℕ) (i : ℕ) (error : LogError) : Type 0 where
   pub hops : List Hop
@@ -298,8 +298,8 @@ pub record IsMadeOfLog (drop : Bool) (limit : Option ℕ) (spread : Bool) (n : �
   pub moved_is : import.moved ≡ moved_in left_at moved
   pub lost : import.lost ≡ lost_of (length events) left_at
 
--- The trace is that of the events that the text gives by the options, with their clocks aligned and without lost sends
--- if that is asked for. The nodes are the processors, in their order. So many messages of the events are late.
+-- The trace is that of the events that the text gives by the options, with aligned clocks and without lost sends if
+-- that is asked for. The nodes are the processors, in their order. So many messages of the events are late.
 pub record IsImportOf (o : Options) (text : List ℕ) (import : Import) : Type 0 where
   pub log : SeenLog
   pub events : List Event

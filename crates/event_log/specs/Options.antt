@@ -72,7 +72,7 @@ pub record AreOptions (nodes unit tick until idle : Option (List ℕ)) (spread a
   pub align_is : o.align ≡ align
   pub drop_is : o.drop_lost ≡ drop_lost
 
--- a text that lists no nodes, one that names no unit, one that gives no length of a tick or of a silence, and one that
+-- a text that lists no nodes; one that names no unit; one that gives no length of a tick or of a silence; and one that
 -- gives no end
 abbrev pub HasBadNodes : Option (List ℕ) → Type 0
 HasBadNodes nodes = (text : List ℕ) × (nodes ≡ Some text) × (¬ AreNodes (parts_between_commas text))

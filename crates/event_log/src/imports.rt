@@ -58,8 +58,8 @@ pub struct IdleReceives {
     pub limit: u128,
 }
 
-/// The trace of a log, how far its events moved, and the receives of nothing that were added; with the places of these
-/// and of the events in the order of its steps.
+/// The trace of a log, how far its events moved, and the receives of nothing that were added. With the places of the
+/// events and of these receives in the order of its steps.
 #[derive(Drop)]
 pub(crate) struct LogTrace {
     pub(crate) trace: Trace,
@@ -74,9 +74,9 @@ pub(crate) struct LogTrace {
 /// If clocks are to be aligned, each is moved first, and the end of the log is one by the moved times. If lost sends
 /// are left out, they are no steps, and take no time; all else is named by its place in the whole log.
 ///
-/// Refuses in the order of `LogError`. If events may be spread, none is NotLater or SecondEvent, Cycle comes after the
-/// other refusals of events, and TooManyTicks last if an event came too far. Memory comes only for a text that isn't
-/// too large.
+/// Refuses in the order of `LogError`. If events may be spread, none is NotLater or SecondEvent. Cycle then comes after
+/// the other refusals of events, and TooManyTicks last if an event came too far. Memory comes only for a text that
+/// isn't too large.
 pub fn read_log(alloc: Global, text: &[u8], options: &Options) -> Result<Import, LogError>
     ensures import { IfOk result (λ import. IsImportOf options.now text.now import) }
     ensures refused { IfErr result (λ why. IsLogRefusal options.now text.now why) }
@@ -90,7 +90,7 @@ pub fn read_log(alloc: Global, text: &[u8], options: &Options) -> Result<Import,
 pub(crate) struct PlacedImport {
     pub(crate) import: Import,
     /// The events of the log in the order of their records, with aligned clocks and without lost sends if that was
-    /// asked for; behind them, the receives of nothing that were added.
+    /// asked for. Behind them are the receives of nothing that were added.
     pub(crate) events: Vec<Event>,
     /// How many of the events are the log's.
     pub(crate) logged: usize,

@@ -10,9 +10,12 @@ use crate::results::both;
 use crate::times::{LogEnd, TimeUnit, Width, read_end, read_unit, read_width};
 use std::alloc::Global;
 
-/// The options that texts give: the nodes with one comma between each two; the unit of the times, if they are whole
-/// numbers of one; the length of a tick, which is 1 if it is left out; when the log ends; and the longest time without
-/// an event that is filled.
+/// The options that texts give:
+/// - the nodes, with one comma between each two;
+/// - the unit of the times, if they are whole numbers of one;
+/// - the length of a tick, which is 1 if it is left out;
+/// - when the log ends;
+/// - the longest time without an event that is filled.
 ///
 /// Refuses in the order of `OptionError`. Memory comes only if nodes are listed.
 pub fn read_options(

@@ -26,8 +26,8 @@ IsFaultOf May fault.Read = ⊤
 IsFaultOf May (fault.Write n) = ⊤
 IsFaultOf May w = May w
 
--- What a command that makes a text of a trace may report: a refusal of a trace text, of which out of memory and a
--- failed read are none; or what some trace is declined for.
+-- What a command that makes a text of a trace may report: a refusal of a trace text, or what some trace is declined
+-- for. Out of memory and a failed read are no refusals of a text.
 abbrev pub MayTell : (Recorded → Fault → Type 0) → Fault → Type 0
 MayTell Declines (fault.Trace reason) = (reason ≢ why.Read) × (reason ≢ why.Memory)
 MayTell Declines w = (t : Recorded) × Declines t w

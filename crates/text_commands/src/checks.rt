@@ -24,13 +24,18 @@ use step_trace::Trace;
 use text_verdicts::certificate_of_text;
 use trace_text::Counting;
 
-/// Reads a trace text and then a certificate to their ends, checks the rows of the certificate by the trace, and writes
-/// the line of the verdict. Nothing is written before the verdict is complete.
+/// Reads a trace text and then a certificate to their ends, and checks the rows of the certificate by the trace. Writes
+/// the line of the verdict; nothing is written before the verdict is complete.
 ///
-/// Refuses, in this order: Read, or Trace for a trace text that is too large; Trace for any other refusal of it;
-/// Set if a correct processor is above the trace's number of processors; Report if the trace hasn't the tick; Read, or
-/// Certificate with the first refusal of the certificate; Write with the number of bytes that went out before. Memory may
-/// come at any step before the first write.
+/// Refuses, in this order:
+/// - Read, or Trace for a trace text that is too large;
+/// - Trace for any other refusal of it;
+/// - Set if a correct processor is above the trace's number of processors;
+/// - Report if the trace hasn't the tick;
+/// - Read, or Certificate with the first refusal of the certificate;
+/// - Write with the number of bytes that went out before.
+///
+/// Memory may come at any step before the first write.
 pub fn run_check<R: Read, S: Read, W: Write>(
     alloc: Global,
     claim: &Claim,

@@ -16,8 +16,10 @@ use step_trace::{ProcSet, Trace};
 
 /// The bounds of each.
 ///
-/// Declines a trace, in this order, by: Set if a correct processor is above its number of processors; Report for a tick
-/// that it hasn't: first the one up to which it is taken, then, up to there, the one from which on the bounds hold.
+/// Declines a trace, in this order, by:
+/// - Set if a correct processor is above its number of processors;
+/// - Report for a tick that it hasn't: first the one up to which it is taken, then, up to there, the one from which on the
+///   bounds hold.
 impl Answer for Each {
     ghost use Rattle.text_commands.specs.EachBounds.{IsEachOf, IsNoEach};
 

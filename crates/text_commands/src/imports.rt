@@ -20,9 +20,12 @@ use std::alloc::Global;
 use std::io::{Read, Write};
 use trace_text::{Counting, write_text};
 
-/// How a log is read, as texts give it: the nodes, with one comma between each two; the unit of the times, if they are
-/// whole numbers of one; the length of a tick, which is 1 if it is left out; when the log ends; and the longest time
-/// without an event that gets a receive of nothing.
+/// How a log is read, as texts give it:
+/// - the nodes, with one comma between each two;
+/// - the unit of the times, if they are whole numbers of one;
+/// - the length of a tick, which is 1 if it is left out;
+/// - when the log ends;
+/// - the longest time without an event that gets a receive of nothing.
 ///
 /// Refuses Import for the first of the five that gives nothing, in this order, but Length for a tick or a longest time;
 /// and Memory.
@@ -60,10 +63,10 @@ fn no_length(alloc: Global, option: ImportOption, text: &str) -> Fault
     }
 }
 
-/// Reads a log to its end, writes the notes on it, and then the text of its trace in version 2, or the table of its
-/// steps. The notes are which processor each node is, if the nodes aren't listed; how many lost sends are left out, if
-/// they are; and how far events moved, if they may be spread. Nothing is written before both texts are complete. That
-/// the notes can't be written stops nothing.
+/// Reads a log to its end and writes the notes on it. Then it writes the text of its trace in version 2, or the table
+/// of its steps. The notes are which processor each node is, if the nodes aren't listed; how many lost sends are left
+/// out, if they are; and how far events moved, if they may be spread. Nothing is written before both texts are
+/// complete. That the notes can't be written stops nothing.
 ///
 /// Refuses, in this order: Read, or Log for a text that is too large; Log for any other refusal of the log; Write with
 /// the number of bytes that went out before. Memory may come at any step before the notes are written.

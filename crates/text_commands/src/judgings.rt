@@ -44,9 +44,8 @@ pub fn read_decisions<R: Read>(alloc: Global, reader: &mut Counting<R>) -> Resul
     read_whole(alloc, reader, Fault::Decisions(DecisionsError::TooLarge))
 }
 
-/// Reads a trace text to its end, judges the decisions of another text by the trace, or those that its replay finds,
-/// and writes the line of the verdict and the details that are asked for. Nothing is written before all of it is
-/// complete.
+/// Reads a trace text to its end, and judges by it the decisions of another text, or those that its replay finds.
+/// Writes the line of the verdict and the details that are asked for. Nothing is written before all of it is complete.
 ///
 /// Refuses, in this order:
 /// - Read, or Trace for a trace text that is too large;

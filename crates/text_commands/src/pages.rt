@@ -43,8 +43,11 @@ pub fn read_table<R: Read>(alloc: Global, reader: &mut Counting<R>) -> Result<Ve
 
 /// A page: what holds in a run, for the correct processors, who is to blame, and the evidence.
 ///
-/// Declines a trace, in this order, by: Set if a correct processor is above its number of processors; Table with the first
-/// refusal of the table; Picture for the names; Report if it hasn't the tick from which on it counts as calm.
+/// Declines a trace, in this order, by:
+/// - Set if a correct processor is above its number of processors;
+/// - Table with the first refusal of the table;
+/// - Picture for the names;
+/// - Report if it hasn't the tick from which on it counts as calm.
 impl Answer for ToldPage {
     ghost use Rattle.text_commands.specs.Pages.{IsNoPage, IsPageOf};
 

@@ -29,8 +29,7 @@ pub struct IdleTrace {
     pub added: u64,
 }
 
-/// A trace with receives of nothing, and the places of the events and of these receives, which come behind the events,
-/// in the order of its steps.
+/// A trace with receives of nothing, which come behind the events; and the places of both in the order of its steps.
 #[derive(Drop)]
 pub struct PlacedIdleTrace {
     pub timed: IdleTrace,
@@ -70,7 +69,7 @@ impl From<AllocError> for IdleError {
 }
 
 /// The trace of the events as `trace_of_events` makes it, and of a receive of nothing in the last tick of each short
-/// silence. That is at most `limit` ticks without an event of a processor, from tick 1 or its event before to its next
+/// silence. That is at most `limit` ticks without an event of a processor: from tick 1 or its event before to its next
 /// event or the last tick. The receives are behind the events in the list: a place from the number of events on is that
 /// of a receive that was added.
 ///
@@ -136,8 +135,8 @@ fn idles_of(
     idle_ticks(alloc, n, events, ticks, &order, last, limit)
 }
 
-/// The trace of the events in their ticks, and of a receive of nothing in each of the idle ticks, which are behind the
-/// events then; with the places of all of them in the order of its steps.
+/// The trace of the events in their ticks, and of a receive of nothing in each of the idle ticks. The receives are then
+/// behind the events. With the places of all of them in the order of its steps.
 ///
 /// After a refusal the events are unchanged.
 fn filled_trace(

@@ -37,13 +37,13 @@ pub struct PlacedTrace {
 }
 
 /// The trace of the events: of `n` processors of which none may be faulty, all with initial value 0. Each event is in
-/// the tick of its time. If they may be `spread`, it is in the first tick from there on that is after those of its
-/// processor's earlier events and of the Sends of the messages that it received. The steps are in the order of their
+/// the tick of its time. If they may be `spread`, it is in the first tick from there on after those of its causes: its
+/// processor's earlier events, and the Sends of the messages that it received. The steps are in the order of their
 /// ticks, and in a tick of their processors; a message's id is the number of its Send.
 ///
-/// Asks for 2 to 64 processors, at least one event and at most `MAX_STEPS`, each of one of the processors and to one of
-/// them, and ticks that have a length. Refuses in the order of `EventError`. If events may be spread, no event is
-/// refused for its tick, and TooManyTicks comes last if an event came too far. Memory comes only if the times aren't
+/// Asks for 2 to 64 processors, and for at least one event and at most `MAX_STEPS`, each of one of the processors and
+/// to one of them. Ticks have to have a length. Refuses in the order of `EventError`. If events may be spread, no event
+/// is refused for its tick, and TooManyTicks comes last if an event came too far. Memory comes only if the times aren't
 /// refused.
 pub fn trace_of_events(
     alloc: Global,

@@ -22,8 +22,8 @@ check_line name file certificate list = name ∷ codes "check" ∷ file ∷ cert
 abbrev pub AreBothStandardInput : List ℕ → List ℕ → Type 0
 AreBothStandardInput a b = (a ≡ codes "-") × (b ≡ codes "-")
 
--- the check of the files of these names, which aren't both standard input, for the processors of this list, up to this
--- tick if there is one
+-- the check of these two files, which aren't both standard input, for the processors of this list, up to this tick if
+-- there is one
 abbrev pub IsCheck : List ℕ → List ℕ → List ℕ → Option ℕ → Job → Type 0
 IsCheck name certified list until (job.Check j) =
     (string_bytes j.file ≡ name) × (string_bytes j.certificate ≡ certified) × IsCorrectIn list j.claim.correct × (j.claim.until ≡ until)

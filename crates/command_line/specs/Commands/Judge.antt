@@ -46,8 +46,8 @@ IsDecisionsFault name None true e = ⊥
 abbrev pub IsJudgeFault : List ℕ → Option (List ℕ) → List ℕ → Bool → LineError → Type 0
 IsJudgeFault name decided list replay e = IsListFault list e ⊎ (((correct : Correct) × IsCorrectIn list correct) × IsDecisionsFault name decided replay e)
 
--- the judgement of the decisions of the second file, or of those of the replay, for the processors of this list, within
--- a formula, with these options
+-- the judgement of the decisions of the second file, or of the replay, for the processors of this list, within a
+-- formula, with these options
 abbrev pub IsJudge : List ℕ → Option (List ℕ) → List ℕ → List ℕ → Option ℕ → Bool → Bool → Option ℕ → Bool → Bool → Bool → Job → Type 0
 IsJudge name decided list within start valid whole due factor table replay (job.Judge j) =
     (string_bytes j.file ≡ name) × AreDecisionsIn name decided replay (option_map string_bytes j.decisions) × IsCorrectIn list j.judging.correct × (string_bytes j.judging.within ≡ within)
