@@ -48,7 +48,44 @@ pub fn read_trace_from<T: Threads + Sync, R: Read>(
     read_whole_from(rt, alloc, reader, &mut piece, workers)
 }
 
+/// The same without other threads.
+pub fn read_trace_by_parts<R: Read>(
+    alloc: Global,
+    reader: &mut Counting<R>,
+) -> Result<Trace, TextError>
+    ensures read { IfOk result (IsTraceRead (R.remaining (inner_of reader.old))) }
+    ensures end { OnOk result (IsAtEnd (R.remaining (inner_of reader.new))) }
+    ensures refused { IfErr result (λ e. IfSome (R.remaining (inner_of reader.old)) (IsRefusalOf e)) }
+    ensures faults { faults_of reader.new ≡ faults_after_reading result (faults_of reader.old) }
+{
+    let Ok(mut piece) = vec![in alloc; 0u8; READ_BYTES] else {
+        return Err(TextError::Memory);
+    };
+    read_parts_from(alloc, reader, &mut piece)
+}
+
 /// The same, by reads of so many bytes as the piece has.
+fn read_parts_from<R: Read>(
+    alloc: Global,
+    reader: &mut Counting<R>,
+    piece: &mut [u8],
+) -> Result<Trace, TextError>
+    requires room { 0 < length piece.old }
+    ensures read { IfOk result (IsTraceRead (R.remaining (inner_of reader.old))) }
+    ensures end { OnOk result (IsAtEnd (R.remaining (inner_of reader.new))) }
+    ensures refused { IfErr result (λ e. IfSome (R.remaining (inner_of reader.old)) (IsRefusalOf e)) }
+    ensures faults { faults_of reader.new ≡ faults_after_reading result (faults_of reader.old) }
+{
+    let mut progress = Progress {
+        stage: Stage::Opening,
+        total: 0,
+        rest: Vec::new(alloc),
+    };
+    read_parts(alloc, reader, piece, &mut progress)?;
+    read_rest(alloc, progress)
+}
+
+/// The whole text, by reads of so many bytes as the piece has.
 fn read_whole_from<T: Threads + Sync, R: Read>(
     rt: &T,
     alloc: Global,

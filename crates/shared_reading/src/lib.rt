@@ -15,5 +15,5 @@ mod step_fields;
 mod step_lines;
 mod under_way;
 
-pub use device_texts::read_trace_from;
+pub use device_texts::{read_trace_by_parts, read_trace_from};
 pub use reading::read_trace;

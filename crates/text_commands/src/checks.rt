@@ -12,12 +12,13 @@ ghost use Rattle.text_verdicts.specs.VerdictLines.{told_verdict};
 
 use crate::report_parts::reported_to;
 use crate::texts::read_whole;
-use crate::traces::{read_text, set_of, trace_of};
+use crate::traces::{set_of, trace_of};
 use crate::verdict_lines::tell_verdict;
 use certificate_checker::{Verdict, check_claimed};
 use command_faults::Fault;
 use command_options::Claim;
 use front::ReportError;
+use shared_reading::read_trace_by_parts;
 use std::alloc::Global;
 use std::io::{Read, Write};
 use step_trace::Trace;
@@ -59,7 +60,7 @@ pub fn run_check<R: Read, S: Read, W: Write>(
     ensures read { IfErr result (IsEitherReadFault (faults_of trace.old) (faults_of trace.new) (faults_of certificate.old) (faults_of certificate.new)) }
     ensures unwritten { IfErr result (IsWriteFault writer.old writer.new) }
 {
-    let trace = read_text(alloc, trace)?;
+    let trace = read_trace_by_parts(alloc, trace)?;
     let reported = cut_for(alloc, claim, trace)?;
     let too_large = Fault::Certificate(ReportError::TooLarge);
     let rows = read_whole(alloc, certificate, too_large)?;

@@ -10,13 +10,14 @@ ghost use Rattle.text_verdicts.specs.Texts.{OfTrace};
 use crate::replayed_decisions::replayed_decisions;
 use crate::report_parts::{has_tick, outside};
 use crate::texts::read_whole;
-use crate::traces::{read_text, set_of, trace_of};
+use crate::traces::{set_of, trace_of};
 use command_faults::{Fault, ReportOption};
 use command_options::Judging;
 use decision_claims::{Decision, parse_formula};
 use judged_runs::{
     DecisionsError, Demands, Details, Judgement, Verdict, decisions_of_text, judgement_of,
 };
+use shared_reading::read_trace_by_parts;
 use std::alloc::Global;
 use std::io::{Read, Write};
 use step_trace::Trace;
@@ -69,7 +70,7 @@ pub fn run_judge<R: Read, W: Write>(
         × OfTrace (IsJudgementOn judging.now decisions.now verdict out) text
         × Appends (W.contents (inner_of writer.old)) (W.contents (inner_of writer.new)) out) }
 {
-    let trace = read_text(alloc, reader)?;
+    let trace = read_trace_by_parts(alloc, reader)?;
     let told = judgement_for(alloc, judging, decisions, &trace)?;
     write_text(told.text.as_bytes(), writer)?;
     Ok(told.verdict)

@@ -3,8 +3,8 @@
 ghost use Rattle.text_commands.specs.Serving.{ServesTrace};
 
 use crate::answers::Answer;
-use crate::traces::read_text;
 use command_faults::Fault;
+use shared_reading::read_trace_by_parts;
 use std::alloc::Global;
 use std::io::{Read, Write};
 use trace_text::{Counting, write_text};
@@ -23,7 +23,7 @@ pub fn serve<A: Answer, R: Read, W: Write>(
 ) -> Result<(), Fault>
     ensures { ServesTrace (A.Gives command.now) (A.Declines command.now) R.remaining W.contents reader.old reader.new writer.old writer.new result }
 {
-    let trace = read_text(alloc, reader)?;
+    let trace = read_trace_by_parts(alloc, reader)?;
     let out = command.answer(alloc, trace)?;
     Ok(write_text(&out, writer)?)
 }
