@@ -2,7 +2,7 @@
 
 use chunk_join::MAX_WORKERS;
 use command_faults::{Fault, fault_text, status};
-use command_options::{Brief, Claim, Each, ReportPart, TimeoutTable};
+use command_options::{Claim, ReportPart};
 use std::alloc::{AllocError, Global};
 use std::sync::Wait;
 use std::thread::Threads;
@@ -17,15 +17,9 @@ pub(crate) enum Command<'a> {
     Report(&'a str),
     /// With the tick up to which the trace is reported, and the tick whose row is printed.
     Part(&'a str, Option<u64>, Option<u64>),
-    Brief(&'a str),
-    Each(&'a str),
-    /// Of processor 1.
-    Timeouts,
     Replay,
     Upgrade,
     Check(&'a str, &'a str),
-    /// With the tick up to which the trace is checked.
-    CheckUntil(&'a str, &'a str, u64),
 }
 
 /// How many bytes of a text are read, and what comes after them.
@@ -73,69 +67,61 @@ pub(crate) fn ended<T: Threads + Wait + Sync>(
     input: Input<'_>,
     writer: &mut FailingWriter,
 ) -> Result<u8, Fault> {
-    let mut trace = reader_of(input.text, input.cut);
-    match command {
-        Command::Report(list) => reported(rt, alloc, input, list, 1, &OpenGate, writer)?,
-        Command::Part(list, until, at) => {
-            let part = ReportPart {
-                correct: named(list)?,
-                until,
-                at,
-            };
-            serve(alloc, &part, &mut trace, &mut Counting::new(writer))?;
-        }
-        Command::Brief(list) => {
-            let brief = Brief {
-                correct: named(list)?,
-                until: None,
-            };
-            serve(alloc, &brief, &mut trace, &mut Counting::new(writer))?;
-        }
-        Command::Each(list) => {
-            let each = Each {
-                correct: named(list)?,
-                until: None,
-                at: None,
-            };
-            serve(alloc, &each, &mut trace, &mut Counting::new(writer))?;
-        }
-        Command::Timeouts => {
-            let table = TimeoutTable {
-                from: 1,
-                to: None,
-                every: None,
-                polls: None,
-                until: None,
-                at: None,
-            };
-            serve(alloc, &table, &mut trace, &mut Counting::new(writer))?;
-        }
-        Command::Replay => run_replay(alloc, &mut trace, &mut Counting::new(writer))?,
-        Command::Upgrade => serve(alloc, &Upgrade, &mut trace, &mut Counting::new(writer))?,
-        Command::Check(list, rows) => return checked(alloc, input, (list, rows, None), writer),
-        Command::CheckUntil(list, rows, until) => {
-            return checked(alloc, input, (list, rows, Some(until)), writer);
-        }
+    let told = match command {
+        Command::Report(list) => reported(rt, alloc, input, list, 1, &OpenGate, writer),
+        Command::Part(list, until, at) => part_served(alloc, input, list, until, at, writer),
+        Command::Replay => replayed(alloc, input, writer),
+        Command::Upgrade => upgraded(alloc, input, writer),
+        Command::Check(list, rows) => return checked(alloc, input, list, rows, writer),
+    };
+    match told {
+        Ok(()) => Ok(0),
+        Err(fault) => Err(fault),
     }
-    Ok(0)
 }
 
-/// Checks the rows against a text for the processors of a list, up to a tick if there is one, in reads of 7 bytes.
-/// Gives the status of the verdict.
+fn part_served(
+    alloc: Global,
+    input: Input<'_>,
+    list: &str,
+    until: Option<u64>,
+    at: Option<u64>,
+    writer: &mut FailingWriter,
+) -> Result<(), Fault> {
+    let correct = named(list)?;
+    let part = ReportPart { correct, until, at };
+    let mut trace = reader_of(input.text, input.cut);
+    serve(alloc, &part, &mut trace, &mut Counting::new(writer))
+}
+
+fn replayed(alloc: Global, input: Input<'_>, writer: &mut FailingWriter) -> Result<(), Fault> {
+    let mut trace = reader_of(input.text, input.cut);
+    run_replay(alloc, &mut trace, &mut Counting::new(writer))
+}
+
+fn upgraded(alloc: Global, input: Input<'_>, writer: &mut FailingWriter) -> Result<(), Fault> {
+    let mut trace = reader_of(input.text, input.cut);
+    serve(alloc, &Upgrade, &mut trace, &mut Counting::new(writer))
+}
+
+/// Checks the rows against a text for the processors of a list. Gives the status of the verdict.
 fn checked(
     alloc: Global,
     input: Input<'_>,
-    check: (&str, &str, Option<u64>),
+    list: &str,
+    rows: &str,
     writer: &mut FailingWriter,
 ) -> Result<u8, Fault> {
-    let (list, rows, until) = check;
+    let correct = named(list)?;
+    let until = None;
+    let claim = Claim { correct, until };
     let mut trace = reader_of(input.text, input.cut);
     let mut rows = reader_of(rows, input.cut_rows);
     let mut output = Counting::new(writer);
-    let correct = named(list)?;
-    let claim = Claim { correct, until };
-    let verdict = run_check(alloc, &claim, &mut trace, &mut rows, &mut output)?;
-    Ok(verdict_status(verdict))
+    match run_check(alloc, &claim, &mut trace, &mut rows, &mut output) {
+        Ok(verdict) => Ok(verdict_status(verdict)),
+        Err(fault) => Err(fault),
+    }
 }
 
 /// Reports a text, in reads of 7 bytes.

@@ -1,6 +1,6 @@
-//! Worked examples of the commands that make text of text, of the lines of their faults, and of runs on threads. These
-//! are tests of `text_commands`, `command_faults` and `node_runs`, by their public items, with gates that hold a thread
-//! back, outputs that fail, and followers.
+//! Worked examples of the commands that make text of text, and of runs on threads. These are tests of `text_commands`
+//! and `node_runs`, by their public items, with gates that hold a thread back, devices that fail, and followers. Their
+//! outputs over whole texts, and the lines of their faults, are cases of `tests/cases/`.
 #![tactic(auto)]
 
 #[cfg(test)]
@@ -12,15 +12,11 @@ mod imported;
 #[cfg(test)]
 mod imports;
 #[cfg(test)]
-mod log_lines;
-#[cfg(test)]
 mod run_tests;
 #[cfg(test)]
 mod run_texts;
 #[cfg(test)]
 mod standing_tests;
-#[cfg(test)]
-mod told;
 #[cfg(test)]
 mod traces;
 #[cfg(test)]

@@ -14,13 +14,3 @@ pub(crate) const SHARED_TICKS: &str = "dls-trace,2,2,0\ninit,5,7\n1,1,1,S,2\n2,1
 pub(crate) const SHARED_TICKS_REPORT: &str = report_text!(
     "1,4,4,1,4,1,5,7\n2,1,4,,,1,5,7\n6,1,3,,,1,6,7\n7,1,2,,,1,7,7\n"
 );
-
-pub(crate) const ENDS_A_ROUND: &str =
-    "dls-trace,2,2,0\ninit,5,7\n1,1,1,S,2\n2,1,2,S,1\n3,4,1,E,2\n4,4,2,R,1\nend,9\n";
-
-pub(crate) const SENDS_TWICE: &str = "dls-trace,1,2,0\ninit,5,7\n1,2,R,\n2,1,S,1\n3,1,S,1\nend,3\n";
-
-pub(crate) const REDELIVERED: &str =
-    "dls-trace,1,2,0\ninit,5,7\n1,1,S,2\n2,2,R,1\n3,2,R,1\nend,3\n";
-
-pub(crate) const SAME_TICK: &str = "dls-trace,2,2,0\ninit,5,7\n1,1,1,S,2\n2,1,2,R,1\nend,1\n";

@@ -29,8 +29,6 @@ mod stories_by_hand;
 #[cfg(test)]
 mod trace_reports;
 #[cfg(test)]
-mod trace_texts;
-#[cfg(test)]
 mod verdict_tests;
 #[cfg(test)]
 mod windows_by_hand;

@@ -1,13 +1,32 @@
 //! Traces written: what is written of a trace is its text, in plain form.
 
-use crate::trace_texts::{FORMS_OF_ONE_MISS, empty_receives};
-use std::alloc::Global;
+use std::alloc::{AllocError, Global};
 use std::io::ErrorKind;
 use std::test::Fail;
 use step_trace::Trace;
 use test_support::texts::ONE_MISS;
 use trace_text::failing_devices::{FailingWriter, WriteFailure};
 use trace_text::{Counting, TextError, WriteError, read_trace, write_trace};
+
+/// A text of so many empty Receives, which names 1,000,000 as their number.
+fn empty_receives(alloc: Global, steps: u64) -> Result<String, AllocError> {
+    let mut text = String::from_str(alloc, "dls-trace,1,2,0\ninit,5,7\n")?;
+    for no in 0..steps {
+        let number = no.saturating_add(1).to_string(alloc)?;
+        text.push_str(number.as_str())?;
+        text.push_str(",1,R,\n")?;
+    }
+    text.push_str("end,1000000\n")?;
+    Ok(text)
+}
+
+/// Texts that encode one-miss.
+const FORMS_OF_ONE_MISS: &[&str] = &[
+    ONE_MISS,
+    "dls-trace,1,2,0\r\ninit,5,7\r\n1,1,S,2\r\n2,2,R,\r\n3,2,R,1\r\nend,3\r\n",
+    "dls-trace,1,2,0\ninit,5,7\n\"1\",\"1\",\"S\",2\n2,2,R,\"\"\n3,2,R,1\n\"end\",3",
+    "\n\ndls-trace,1,2,0\n\ninit,5,7\n1,1,S,2\n2,2,R,\n3,2,R,1\nend,3\n\n\n",
+];
 
 /// Whether this is written for the trace that a text encodes.
 fn is_written_as(alloc: Global, text: &str, wanted: &str) -> Result<bool, Fail> {

@@ -2,7 +2,7 @@
 
 ghost use Rattle.step_trace.specs.Processors.{IsWithin};
 
-use crate::full_size::sent_and_then_taken;
+use crate::full_size_cuts::sent_and_then_taken;
 use chunk_join::analyse;
 use std::alloc::Global;
 use std::sync::Wait;
