@@ -14,6 +14,7 @@ fn asks_for_picture(alloc: Global, words: &[&str], picture: Picture) -> bool {
                 && job.drawing.from == picture.from
                 && job.drawing.to == picture.to
                 && is_text(&job.drawing.names, picture.names)
+                && is_text(&job.drawing.lanes, picture.lanes)
         }
         _ => false,
     }
@@ -26,6 +27,7 @@ struct Picture {
     from: Option<u64>,
     to: Option<u64>,
     names: Option<&'static str>,
+    lanes: Option<&'static str>,
 }
 
 const USUAL_PICTURE: Picture = Picture {
@@ -33,6 +35,7 @@ const USUAL_PICTURE: Picture = Picture {
     from: None,
     to: None,
     names: None,
+    lanes: None,
 };
 
 /// Words, and the picture that they ask for.
@@ -83,6 +86,13 @@ const PICTURES: &[(&[&str], Picture)] = &[
         &["draw", "-", "--correct", "1,2", "--names", "a,b"],
         Picture {
             names: Some("a,b"),
+            ..USUAL_PICTURE
+        },
+    ),
+    (
+        &["draw", "-", "--lanes", "2,b", "--correct", "1,2"],
+        Picture {
+            lanes: Some("2,b"),
             ..USUAL_PICTURE
         },
     ),

@@ -159,6 +159,8 @@ const LINES: &[(&[&str], Given)] = &[
             "7",
             "--names",
             "a,b",
+            "--lanes",
+            "b",
         ],
         Given::Draw,
     ),

@@ -130,6 +130,7 @@ fn ended<T: Threads + Wait + Sync>(
                 from: None,
                 to: None,
                 names: None,
+                lanes: Some(String::from_str(alloc, "1,2")?),
             };
             serve(alloc, &drawing, &mut trace, &mut output)
         }
