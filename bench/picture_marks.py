@@ -1,7 +1,7 @@
 #!/usr/bin/env python3
 """The marks of a picture of a run, by plain loops: what is drawn of a trace and its report in a window of ticks.
 
-    bench/picture_marks.py TRACE REPORT [--from TICK] [--to TICK] [--names A,B,..]
+    bench/picture_marks.py TRACE REPORT [--from TICK] [--to TICK] [--names A,B,..] [--lanes A,B,..]
     bench/picture_marks.py --self-test
 
 Without --from and --to the window shows the first evidence (`story_oracle.py`), if there is any. The first prints the
@@ -17,6 +17,8 @@ What lasts from tick a to tick b touches the window if a is not after its end an
 - *Misses*: that of a row, from the tick of its Send to that of its Receive, unless the row before has the same.
 - *Gaps*: that of a row, unless the row before has one of the same processor with the same end.
 - *Corners*: the rows but those before and after which there is one in the same of a thousand columns of ticks.
+
+With --lanes only steps and gaps of those processors are marks, and messages and misses from one of them to one of them.
 """
 import argparse
 import os
@@ -35,6 +37,7 @@ COLUMNS = 1000
 TICKS_SHOWN, MOST_TICKS = 100, 1000
 MOST_MESSAGES, MOST_WITNESSES = 10_000, 1_000
 MOST_NAME_BYTES = 64
+MOST_PROCESSORS = 64
 
 
 class Refused(Exception):
@@ -148,10 +151,26 @@ def names_of(names, processors):
     return labels
 
 
+def lanes_of(lanes, names, processors):
+    """The processors whose lanes are drawn, each by its name or else by its number."""
+    if lanes is None:
+        return {*range(1, processors + 1)}
+    named = {name: it for it, name in enumerate(names.split(","), 1)} if names else {}
+    numbered = {str(it): it for it in range(1, MOST_PROCESSORS + 1)}
+    found = [named.get(it) or numbered.get(it) for it in lanes.split(",")]
+    for it in found:
+        if it is None:
+            raise Refused("bad --lanes")
+        if it > processors:
+            raise Refused("no such processor in --lanes")
+    return {*found}
+
+
 # Marks
 
 
-def picture_of(trace, rows, window):
+def picture_of(trace, rows, window, lanes=None):
+    """The marks, for these lanes, or for all."""
     if window is None:
         return Picture(None, [], [], [], [], [])
     first, to = window
@@ -159,16 +178,20 @@ def picture_of(trace, rows, window):
     tick = {no: step[0] for no, step in enumerate(trace.steps, 1)}
     takers = {id: no for no, step in enumerate(trace.steps, 1) for id in step[2] or []}
     picture = Picture(window, [], [], [], [], [])
-    for no, (at, _, takes) in enumerate(trace.steps, 1):
-        if touches(at, at):
+    lanes = {*range(1, trace.processors + 1)} if lanes is None else lanes
+    drawn = lambda *processors: lanes.issuperset(processors)
+    for no, (at, processor, takes) in enumerate(trace.steps, 1):
+        if touches(at, at) and drawn(processor):
             picture.steps.append(no)
-        if takes is None and touches(at, tick[takers.get(no, no)]):
+        if takes is None and touches(at, tick[takers.get(no, no)]) and drawn(processor, trace.sends[no]):
             picture.messages.append((no, takers.get(no)))
     for before, row in zip([None, *rows], rows):
         if row.miss and touches(tick[row.miss[0]], tick[row.miss[1]]) and not (before and before.miss == row.miss):
-            picture.misses.append(row)
+            if drawn(*(trace.steps[no - 1][1] for no in row.miss)):
+                picture.misses.append(row)
         if row.gap and touches(row.gap[1], row.gap[2]) and not (before and before.gap and before.gap[::2] == row.gap[::2]):
-            picture.gaps.append(row)
+            if drawn(row.gap[0]):
+                picture.gaps.append(row)
     columns = [(row.gst - 1) * COLUMNS // trace.last for row in rows]
     for at, row in enumerate(rows):
         if not (0 < at < len(rows) - 1 and columns[at - 1] == columns[at] == columns[at + 1]):
@@ -307,6 +330,7 @@ def main():
     words.add_argument("--from", type=int, dest="first")
     words.add_argument("--to", type=int)
     words.add_argument("--names")
+    words.add_argument("--lanes")
     words.add_argument("--self-test", action="store_true")
     read = words.parse_args()
     if read.self_test:
@@ -316,8 +340,9 @@ def main():
     trace = read_trace(read.trace)
     try:
         names_of(read.names, trace.processors)
+        lanes = lanes_of(read.lanes, read.names, trace.processors)
         rows = read_report(read.report)
-        picture = picture_of(trace, rows, drawn_window(trace, rows, read.first, read.to))
+        picture = picture_of(trace, rows, drawn_window(trace, rows, read.first, read.to), lanes)
     except Refused as refused:
         print(f"synchrony: {refused}", file=sys.stderr)
         return 2

@@ -52,15 +52,16 @@ def shortened(name):
 
 
 class Places:
-    """The picture of a trace with a window, of a set and with names or none."""
+    """The picture of a trace with a window, of a set and with names or none, and with these lanes or all."""
 
-    def __init__(self, trace, rows, picture, members, names=None):
+    def __init__(self, trace, rows, picture, members, names=None, lanes=None):
         self.trace, self.rows, self.picture, self.members, self.names = trace, rows, picture, members, names
+        self.drawn = sorted(lanes or range(1, trace.processors + 1))
         self.first, self.to = picture.window
         self.count = self.to - self.first + 1
-        self.half_lane = 110 if trace.processors > 16 else 220
+        self.half_lane = 110 if len(self.drawn) > 16 else 220
         self.half_tick = WIDTH / self.count / 2
-        self.lanes_end = LANES_TOP + 2 * self.half_lane * trace.processors
+        self.lanes_end = LANES_TOP + 2 * self.half_lane * len(self.drawn)
         self.high = max([1] + [max(row.delta, row.phi) for row in picture.corners])
 
     # Places and words
@@ -73,7 +74,7 @@ class Places:
         return LEFT + WIDTH * (tick - self.first + 0.5) / self.count
 
     def lane(self, processor):
-        return LANES_TOP + (2 * processor - 1) * self.half_lane
+        return LANES_TOP + (2 * self.drawn.index(processor) + 1) * self.half_lane
 
     def name(self, processor):
         return self.names[processor - 1] if self.names else f"processor {processor}"
@@ -108,7 +109,7 @@ class Places:
     # Kinds of marks
 
     def lanes(self):
-        for it in range(1, self.trace.processors + 1):
+        for it in self.drawn:
             label = shortened(self.names[it - 1]) if self.names else str(it)
             yield "i" if it in self.members else "o", [(780, self.lane(it))], label, self.name(it)
 
@@ -210,11 +211,15 @@ class Places:
         yield "Least bounds that hold from a tick to the end" + (", on a log scale" if self.high > MOST_LINEAR else ""), [(900, 300)]
         row = self.rows[0]
         yield f"Δ({row.gst}) = {row.delta} in communication, Φ({row.gst}) = {row.phi} of processors", [(10_900, 300)]
-        yield f"Steps of the ticks {self.first} to {self.to}", [(900, LANES_TOP - 160)]
+        yield f"Steps of the ticks {self.first} to {self.to}{self.of_all()}", [(900, LANES_TOP - 160)]
+
+    def of_all(self):
+        count = self.trace.processors
+        return "" if len(self.drawn) == count else f", of {len(self.drawn)} of {count} processors"
 
     def words(self):
         """The text for a reader that doesn't show pictures."""
-        yield "title", f"Least bounds from each tick to the end, and steps of the ticks {self.first} to {self.to}"
+        yield "title", f"Least bounds from each tick to the end, and steps of the ticks {self.first} to {self.to}{self.of_all()}"
         every = range(1, self.trace.processors + 1)
         told = f"Taken as correct: {', '.join(self.name(it) for it in every if it in self.members)}."
         told = told if self.members else "No processor is taken as correct."

@@ -20,6 +20,7 @@ abbrev pub option_words : PictureOption → List ℕ
 option_words (option.NameCount given processors) = codes "--names"
 option_words (option.BadName place) = codes "--names"
 option_words (option.SameName place) = codes "--names"
+option_words (option.NoLane place) = codes "--lanes"
 option_words (option.From from last) = codes "--from"
 option_words (option.To to from) = codes "--to"
 

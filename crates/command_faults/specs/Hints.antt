@@ -101,5 +101,6 @@ abbrev pub picture_hint : PictureOption → List ℕ
 picture_hint (option.NameCount given processors) = hint (codes "--names has " ++ (count_words given ++ (codes ", and the trace has " ++ (decimal processors ++ codes " processors"))))
 picture_hint (option.BadName place) = hint (codes "name " ++ (decimal place ++ codes " of --names has to be 1 to 64 bytes of text with no control character"))
 picture_hint (option.SameName place) = hint (codes "name " ++ (decimal place ++ codes " of --names is the same as an earlier one"))
+picture_hint (option.NoLane place) = hint (codes "lane " ++ (decimal place ++ codes " of --lanes is neither one of --names nor a number from 1 to 64"))
 picture_hint (option.From from last) = hint (codes "--from is " ++ (decimal from ++ (codes ", and the trace has " ++ ticks_words last)))
 picture_hint (option.To to from) = hint (codes "--to is " ++ (decimal to ++ (codes ", and has to be from " ++ (decimal from ++ (codes " to " ++ decimal (min (from + 999) (2 ^ 64 - 1)))))))

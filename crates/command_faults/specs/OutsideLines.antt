@@ -8,12 +8,13 @@ use Rattle.command_faults.specs.declared.faults.SetOption.TheVariants as set_opt
 use Rattle.command_faults.specs.declared.faults.TickOutside.{TickOutside}
 use Rattle.command_faults.specs.Hints.{hint, ticks_words}
 
--- an option that names correct processors, as the command line has it
+-- an option that names processors, as the command line has it
 abbrev pub set_option_words : SetOption → List ℕ
 set_option_words set_option.Correct = codes "--correct"
 set_option_words set_option.Follow = codes "--follow"
 set_option_words set_option.From = codes "--from"
 set_option_words set_option.To = codes "--to"
+set_option_words set_option.Lanes = codes "--lanes"
 
 -- whose processors they are
 abbrev pub whose_words : SetOption → List ℕ
@@ -21,6 +22,7 @@ whose_words set_option.Correct = codes "the trace"
 whose_words set_option.Follow = codes "the run"
 whose_words set_option.From = codes "the trace"
 whose_words set_option.To = codes "the trace"
+whose_words set_option.Lanes = codes "the trace"
 
 -- which processor is named, and which there are
 abbrev pub member_line : SetOption → MemberOutside → List ℕ

@@ -97,6 +97,7 @@ impl fmt::Display for PictureOption {
         match self {
             PictureOption::NameCount(..) => f.write_str("--names"),
             PictureOption::BadName(_) | PictureOption::SameName(_) => f.write_str("--names"),
+            PictureOption::NoLane(_) => f.write_str("--lanes"),
             PictureOption::From(..) => f.write_str("--from"),
             PictureOption::To(..) => f.write_str("--to"),
         }

@@ -61,7 +61,7 @@ pub enum Fault {
     Length(ImportOption, String),
 }
 
-/// An option that names correct processors.
+/// An option that names processors.
 #[derive(Clone, Copy, Debug, PartialEq, Eq)]
 pub enum SetOption {
     /// Those of a trace.
@@ -72,6 +72,8 @@ pub enum SetOption {
     From,
     /// The followers of a table of timeouts.
     To,
+    /// Those whose lanes are drawn.
+    Lanes,
 }
 
 /// The least processor that is named and that there isn't, and how many there are.
@@ -101,6 +103,8 @@ pub enum PictureOption {
     BadName(u64),
     /// The name at this place, from 1, is the same as an earlier one.
     SameName(u64),
+    /// The lane at this place, from 1, is neither a name nor a number of processors.
+    NoLane(u64),
     /// The first tick to draw is this one, and the last tick of the trace is the second.
     From(u64, u64),
     /// The last tick to draw is this one, and the first tick to draw is the second.

@@ -272,6 +272,10 @@ impl fmt::Display for PictureHint {
                     "\nsynchrony: name {place} of --names is the same as an earlier one"
                 )
             }
+            PictureOption::NoLane(place) => write!(
+                f,
+                "\nsynchrony: lane {place} of --lanes is neither one of --names nor a number from 1 to 64"
+            ),
             PictureOption::From(from, last) => write!(
                 f,
                 "\nsynchrony: --from is {from}, and the trace has {}",

@@ -34,7 +34,7 @@ fn whose(option: SetOption) -> &'static str
     ensures { result.now ≡ whose_words option }
 {
     match option {
-        SetOption::Correct | SetOption::From | SetOption::To => "the trace",
+        SetOption::Correct | SetOption::From | SetOption::To | SetOption::Lanes => "the trace",
         SetOption::Follow => "the run",
     }
 }
@@ -52,6 +52,7 @@ impl fmt::Display for SetOption {
             SetOption::Follow => f.write_str("--follow"),
             SetOption::From => f.write_str("--from"),
             SetOption::To => f.write_str("--to"),
+            SetOption::Lanes => f.write_str("--lanes"),
         }
     }
 }

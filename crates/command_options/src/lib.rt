@@ -160,6 +160,8 @@ pub struct Drawing {
     pub to: Option<u64>,
     /// The names of the processors, with commas between them: their numbers if there are none.
     pub names: Option<String>,
+    /// The processors whose lanes are drawn, by their names or numbers, with commas between them: all if there are none.
+    pub lanes: Option<String>,
 }
 
 /// What a page is asked for.

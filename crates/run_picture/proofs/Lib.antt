@@ -8,3 +8,5 @@ pub mod RowPlaces
 pub mod MissMarks
 pub mod GapMarks
 pub mod NameLists
+pub mod LaneFacts
+pub mod LaneCounts

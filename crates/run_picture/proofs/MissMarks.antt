@@ -8,14 +8,26 @@ use Rattle.step_trace.specs.declared.rows.Row.{Row}
 use Rattle.step_trace.specs.Traces.{Recorded}
 use Rattle.step_trace.specs.Ticks.{tick_of}
 use Rattle.run_picture.specs.declared.windows.Window.{Window}
+use Rattle.run_picture.specs.Messages.{proc_of}
+use Rattle.step_trace.specs.Processors.{has_proc}
 use Rattle.run_picture.specs.Windows.{touches}
 use Rattle.run_picture.specs.Gathered.{gathered}
 use Rattle.run_picture.specs.Rows.{row_at, miss_at, same_miss}
-use Rattle.run_picture.specs.Pictures.{shown_miss}
-use Rattle.run_picture.specs.Marks.{Touches, HasMiss, ShowsMisses}
+use Rattle.run_picture.specs.Pictures.{shown_miss, shows_miss}
+use Rattle.run_picture.specs.Marks.{HasMiss, IsShownMiss, ShowsMisses}
 use Rattle.run_picture.proofs.GatheredLists.{gathered_has, gathered_from}
 use Rattle.run_picture.proofs.RowPlaces.{if_option, row_at-has, row_at-within}
 use Rattle.run_picture.proofs.ShownMarks.{both, both_of, touches_so, touches_test}
+
+-- the test of a miss, and what it means
+shown_miss_so : (trace : Recorded) (w : Window) (lanes : ℕ) (m : Miss) → shows_miss trace w lanes m ≡ true → IsShownMiss trace w lanes m
+shown_miss_so trace w lanes m h =
+    let t = both (touches w (tick_of trace m.sent) (tick_of trace m.missed)) (has_proc lanes (proc_of trace.steps m.sent) && has_proc lanes (proc_of trace.steps m.missed)) h in
+    let e = both (has_proc lanes (proc_of trace.steps m.sent)) (has_proc lanes (proc_of trace.steps m.missed)) t.1 in
+    record { inside = touches_so w (tick_of trace m.sent) (tick_of trace m.missed) t.0; begins = e.0; ends = e.1 }
+
+shown_test : (trace : Recorded) (w : Window) (lanes : ℕ) (m : Miss) → IsShownMiss trace w lanes m → shows_miss trace w lanes m ≡ true
+shown_test trace w lanes m t = both_of _ _ (touches_test w (tick_of trace m.sent) (tick_of trace m.missed) t.inside) (both_of _ _ t.begins t.ends)
 
 abbrev miss_from : ℕ → ℕ → Miss
 miss_from x y = record { sent = x; missed = y }
@@ -36,23 +48,23 @@ with_miss rows k m h = go (row_at rows k) refl h
     go None e h = absurd (none-some m h)
     go (Some r) e h = (r, e, h)
 
-shown_so : (trace : Recorded) (w : Window) (rows : List Row) (k : ℕ) (r : Row) → row_at rows k ≡ Some r
-    → option_map_or (λ m. touches w (tick_of trace m.sent) (tick_of trace m.missed)) (miss_at rows k) false ≡ true
+shown_so : (trace : Recorded) (w : Window) (lanes : ℕ) (rows : List Row) (k : ℕ) (r : Row) → row_at rows k ≡ Some r
+    → option_map_or (λ m. shows_miss trace w lanes m) (miss_at rows k) false ≡ true
     → same_miss (miss_at rows (k - 1)) (miss_at rows k) ≡ false
-    → shown_miss trace w rows k ≡ Some r
-shown_so trace w rows k r e p q =
+    → shown_miss trace w lanes rows k ≡ Some r
+shown_so trace w lanes rows k r e p q =
     let n : not (same_miss (miss_at rows (k - 1)) (miss_at rows k)) ≡ true = rw q refl in
     let t = both_of _ _ p n in
     rw t e
 
-abbrev Found : Recorded → Window → List Row → Miss → ℕ → Type 0
-Found trace w rows m n = (k : ℕ) × (k ≤ n) × ((r : Row) × (row_at rows k ≡ Some r) × (r.miss ≡ Some m) × (shown_miss trace w rows k ≡ Some r))
+abbrev Found : Recorded → Window → ℕ → List Row → Miss → ℕ → Type 0
+Found trace w lanes rows m n = (k : ℕ) × (k ≤ n) × ((r : Row) × (row_at rows k ≡ Some r) × (r.miss ≡ Some m) × (shown_miss trace w lanes rows k ≡ Some r))
 
-first_with : (trace : Recorded) (w : Window) (rows : List Row) (m : Miss) (k : ℕ) → Touches w (tick_of trace m.sent) (tick_of trace m.missed) → miss_at rows k ≡ Some m → Found trace w rows m k
-first_with trace w rows m zero t h = absurd (none-some m h)
-first_with trace w rows m (suc k) t h = go (same_miss (miss_at rows k) (miss_at rows (suc k))) refl (λ e. first_with trace w rows m k t e)
+first_with : (trace : Recorded) (w : Window) (lanes : ℕ) (rows : List Row) (m : Miss) (k : ℕ) → IsShownMiss trace w lanes m → miss_at rows k ≡ Some m → Found trace w lanes rows m k
+first_with trace w lanes rows m zero t h = absurd (none-some m h)
+first_with trace w lanes rows m (suc k) t h = go (same_miss (miss_at rows k) (miss_at rows (suc k))) refl (λ e. first_with trace w lanes rows m k t e)
   where
-    go : (same : Bool) → same_miss (miss_at rows k) (miss_at rows (suc k)) ≡ same → (miss_at rows k ≡ Some m → Found trace w rows m k) → Found trace w rows m (suc k)
+    go : (same : Bool) → same_miss (miss_at rows k) (miss_at rows (suc k)) ≡ same → (miss_at rows k ≡ Some m → Found trace w lanes rows m k) → Found trace w lanes rows m (suc k)
     go true e before =
         let f = before (same_so (miss_at rows k) m (rw h at e)) in
         let l : f.0 ≤ k = f.1 in
@@ -61,21 +73,21 @@ first_with trace w rows m (suc k) t h = go (same_miss (miss_at rows k) (miss_at 
         let y = with_miss rows (suc k) m h in
         let back_one : suc k - 1 ≡ k = omega arith in
         let other : same_miss (miss_at rows (suc k - 1)) (miss_at rows (suc k)) ≡ false = rw back_one e in
-        let inside : option_map_or (λ m. touches w (tick_of trace m.sent) (tick_of trace m.missed)) (miss_at rows (suc k)) false ≡ true = rw h (touches_test w (tick_of trace m.sent) (tick_of trace m.missed) t) in
-        (suc k, omega arith, (y.0, y.1, y.2, shown_so trace w rows (suc k) y.0 y.1 inside other))
+        let inside : option_map_or (λ m. shows_miss trace w lanes m) (miss_at rows (suc k)) false ≡ true = rw h (shown_test trace w lanes m t) in
+        (suc k, omega arith, (y.0, y.1, y.2, shown_so trace w lanes rows (suc k) y.0 y.1 inside other))
 
-pub misses_exact : (trace : Recorded) (w : Window) (rows : List Row) → ShowsMisses trace rows w (gathered (shown_miss trace w rows) (length rows))
-misses_exact trace w rows m = (
-  (λ (g : HasMiss (gathered (shown_miss trace w rows) (length rows)) m).
-      let y = gathered_from (shown_miss trace w rows) (length rows) g.0 g.1 in
-      let i = if_option (option_map_or (λ m. touches w (tick_of trace m.sent) (tick_of trace m.missed)) (miss_at rows y.0) false && not (same_miss (miss_at rows (y.0 - 1)) (miss_at rows y.0))) (row_at rows y.0) g.0 y.3 in
+pub misses_exact : (trace : Recorded) (w : Window) (lanes : ℕ) (rows : List Row) → ShowsMisses trace rows w lanes (gathered (shown_miss trace w lanes rows) (length rows))
+misses_exact trace w lanes rows m = (
+  (λ (g : HasMiss (gathered (shown_miss trace w lanes rows) (length rows)) m).
+      let y = gathered_from (shown_miss trace w lanes rows) (length rows) g.0 g.1 in
+      let i = if_option (option_map_or (λ m. shows_miss trace w lanes m) (miss_at rows y.0) false && not (same_miss (miss_at rows (y.0 - 1)) (miss_at rows y.0))) (row_at rows y.0) g.0 y.3 in
       let h : miss_at rows y.0 ≡ Some m = rw i.1 g.2 in
-      let passed : option_map_or (λ m. touches w (tick_of trace m.sent) (tick_of trace m.missed)) (miss_at rows y.0) false ≡ true = (both (option_map_or (λ m. touches w (tick_of trace m.sent) (tick_of trace m.missed)) (miss_at rows y.0) false) (not (same_miss (miss_at rows (y.0 - 1)) (miss_at rows y.0))) i.0).0 in
-      ((g.0, row_at-has rows y.0 g.0 i.1, g.2), touches_so w (tick_of trace m.sent) (tick_of trace m.missed) (rw h at passed))),
-  (λ (g : HasMiss rows m × Touches w (tick_of trace m.sent) (tick_of trace m.missed)).
+      let passed : option_map_or (λ m. shows_miss trace w lanes m) (miss_at rows y.0) false ≡ true = (both (option_map_or (λ m. shows_miss trace w lanes m) (miss_at rows y.0) false) (not (same_miss (miss_at rows (y.0 - 1)) (miss_at rows y.0))) i.0).0 in
+      ((g.0, row_at-has rows y.0 g.0 i.1, g.2), shown_miss_so trace w lanes m (rw h at passed))),
+  (λ (g : HasMiss rows m × IsShownMiss trace w lanes m).
       let at_place : row_at rows (suc g.0.1.0) ≡ Some g.0.0 = slice_get-get_or rows g.0.1.0 g.0.0 g.0.1.1 ∙ ap (λ (x : Row). Some x) g.0.1.2 in
       let h : miss_at rows (suc g.0.1.0) ≡ Some m = rw at_place g.0.2 in
-      let f = first_with trace w rows m (suc g.0.1.0) g.1 h in
+      let f = first_with trace w lanes rows m (suc g.0.1.0) g.1 h in
       let within = row_at-within rows f.0 f.2.0 f.2.1 in
-      (f.2.0, gathered_has (shown_miss trace w rows) (length rows) f.0 f.2.0 within.0 within.1 f.2.3, f.2.2)),
+      (f.2.0, gathered_has (shown_miss trace w lanes rows) (length rows) f.0 f.2.0 within.0 within.1 f.2.3, f.2.2)),
 )

@@ -32,6 +32,13 @@ pub other_names : (names : List (Bor (List ℕ))) (j i : ℕ) → j < length nam
     → name_at (map (λ x. x.now) names) j ≢ name_at (map (λ x. x.now) names) i
 other_names names j i p q e = λ same. other_text (text_at names j) (text_at names i) e (sym (name_at-text names j p) ∙ same ∙ name_at-text names i q)
 
+-- whether a name is this text
+pub same_name : (names : List (Bor (List ℕ))) (i : ℕ) (text : List ℕ) → i < length names → true ≡ pointwise eqb (text_at names i) text → name_at (map (λ x. x.now) names) i ≡ text
+same_name names i text inside e = name_at-text names i inside ∙ same_text (text_at names i) text e
+
+pub other_name : (names : List (Bor (List ℕ))) (i : ℕ) (text : List ℕ) → i < length names → false ≡ pointwise eqb (text_at names i) text → name_at (map (λ x. x.now) names) i ≢ text
+other_name names i text inside e = λ same. other_text (text_at names i) text e (sym (name_at-text names i inside) ∙ same)
+
 -- what a test that decides P shows
 pub confirmed : (b : Bool) (P : Type 0) → IsTrue b ↔ P → b ≡ true → P
 confirmed true P e h = e.0 refl

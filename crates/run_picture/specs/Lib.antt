@@ -6,6 +6,8 @@ pub mod Pictures
 pub mod Marks
 pub mod Escapes
 pub mod Names
+pub mod ShownLanes
+pub mod LaneLists
 pub mod Places
 pub mod ShortNames
 pub mod Labels

@@ -3,6 +3,7 @@ use Rattle.std.specs.Prelude.{ℕ, ◌+◌, ◌-◌, ◌*◌, ◌/◌, nat_lt, n
 use Rattle.run_picture.specs.declared.frames.Frame.{Frame}
 use Rattle.run_picture.specs.declared.frames.TheConstants.{LEFT, WIDTH, LANES_TOP}
 use Rattle.run_picture.specs.declared.windows.TheConstants.{MAX_WINDOW}
+use Rattle.run_picture.specs.ShownLanes.{lane_number}
 
 -- half of the height of each of so many lanes
 abbrev pub half_lane : ℕ → ℕ
@@ -10,7 +11,7 @@ half_lane lanes = if nat_lt 16 lanes then 110 else 220
 
 -- the middle of the lane of processor p
 abbrev pub lane_middle : Frame → ℕ → ℕ
-lane_middle f p = LANES_TOP + (min (max p 1) 64 * 2 - 1) * half_lane f.lanes
+lane_middle f p = LANES_TOP + (min (max (lane_number f.shown p) 1) 64 * 2 - 1) * half_lane f.lanes
 
 -- how many ticks are drawn
 abbrev pub tick_count : Frame → ℕ

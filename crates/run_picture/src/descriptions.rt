@@ -1,6 +1,7 @@
 //! What a picture says to readers that don't show it.
 
 use crate::labels::put_processor;
+use crate::lanes::put_lane_count;
 use crate::pictures::Picture;
 use crate::svg::put;
 use std::alloc::{AllocError, Global};
@@ -16,14 +17,19 @@ pub(crate) fn put_description(
     count: u64,
     names: &[&str],
 ) -> Result<(), AllocError> {
-    put_title(alloc, out, picture)?;
+    put_title(alloc, out, picture, count)?;
     out.extend_from_slice(b"<desc>")?;
     put_correct(alloc, out, set, count, names)?;
     put_bounds(alloc, out, &picture.corners)?;
     out.extend_from_slice(b"</desc>\n")
 }
 
-fn put_title(alloc: Global, out: &mut Vec<u8>, picture: &Picture) -> Result<(), AllocError> {
+fn put_title(
+    alloc: Global,
+    out: &mut Vec<u8>,
+    picture: &Picture,
+    count: u64,
+) -> Result<(), AllocError> {
     let (first, to) = (picture.window.first, picture.window.to);
     if to == 0 {
         return out.extend_from_slice(b"<title>A trace with no tick</title>\n");
@@ -32,9 +38,11 @@ fn put_title(alloc: Global, out: &mut Vec<u8>, picture: &Picture) -> Result<(), 
         alloc,
         out,
         format_args!(
-            "<title>Least bounds from each tick to the end, and steps of the ticks {first} to {to}</title>\n"
+            "<title>Least bounds from each tick to the end, and steps of the ticks {first} to {to}"
         ),
-    )
+    )?;
+    put_lane_count(alloc, out, picture.lanes, count)?;
+    out.extend_from_slice(b"</title>\n")
 }
 
 fn put_correct(

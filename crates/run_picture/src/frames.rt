@@ -1,9 +1,13 @@
 //! Where ticks and processors are drawn. Lengths are tenths of a pixel.
 
 ghost use Rattle.std.specs.Prelude.{◌≡◌, ◌≤◌, ◌<◌, ◌↔◌, ◌+◌, ◌-◌, ◌*◌, ◌/◌, ◌^◌, IsTrue, min};
+ghost use Rattle.step_trace.specs.Processors.{has_proc};
+ghost use Rattle.run_picture.specs.ShownLanes.{lane_number};
 ghost use Rattle.run_picture.specs.Places.{half_lane, half_tick, height_at, lane_middle, left_end, left_height, lost_height, right_end, right_height, tick_count, tick_edge, tick_middle};
 
+use crate::shown_lanes::lane_number;
 use crate::windows::{MAX_WINDOW, Window};
+use step_trace::ProcSet;
 
 /// The left edge of what is drawn by ticks.
 pub(crate) const LEFT: u64 = 900;
@@ -19,6 +23,7 @@ pub(crate) const LANES_TOP: u64 = 2_900;
 pub(crate) struct Frame {
     first: u64,
     to: u64,
+    shown: ProcSet,
     lanes: u64,
 }
 
@@ -32,22 +37,31 @@ pub(crate) struct Line {
 }
 
 impl Frame {
-    /// The frame of a window and of so many processors.
-    pub(crate) fn new(window: Window, processors: u64) -> Frame
+    /// The frame of a window and of the lanes of those of so many processors that are in the set.
+    pub(crate) fn new(window: Window, shown: ProcSet, processors: u64) -> Frame
         ensures first { result.first ≡ window.first }
         ensures to { result.to ≡ window.to }
-        ensures lanes { result.lanes ≡ min processors 64 }
+        ensures shown { result.shown ≡ shown }
+        ensures lanes { result.lanes ≡ lane_number shown processors }
     {
         Frame {
             first: window.first,
             to: window.to,
-            lanes: processors.min(64),
+            shown,
+            lanes: lane_number(shown, processors),
         }
     }
 
+    /// Whether a processor has a lane.
+    pub(crate) fn has(&self, processor: u64) -> bool
+        ensures { result ≡ has_proc self.now.shown processor }
+    {
+        self.shown.contains(processor)
+    }
+
     /// How many ticks are drawn, at least one.
-    pub(crate) fn count(self) -> u64
-        ensures value { result ≡ tick_count self }
+    pub(crate) fn count(&self) -> u64
+        ensures value { result ≡ tick_count self.now }
         ensures low { 1 ≤ result }
         ensures high { result ≤ MAX_WINDOW }
     {
@@ -55,32 +69,32 @@ impl Frame {
     }
 
     /// Half of the height of a lane.
-    pub(crate) fn half_lane(self) -> u64
-        ensures value { result ≡ half_lane self.lanes }
+    pub(crate) fn half_lane(&self) -> u64
+        ensures value { result ≡ half_lane self.now.lanes }
         ensures limit { result ≤ 220 }
     {
         if self.lanes > 16 { 110 } else { 220 }
     }
 
     /// The bottom of the last lane.
-    pub(crate) fn lanes_end(self) -> u64
-        ensures value { result ≡ LANES_TOP + min self.lanes 64 * 2 * half_lane self.lanes }
+    pub(crate) fn lanes_end(&self) -> u64
+        ensures value { result ≡ LANES_TOP + min self.now.lanes 64 * 2 * half_lane self.now.lanes }
         ensures limit { result ≤ 50_000 }
     {
         LANES_TOP + self.lanes.min(64) * 2 * self.half_lane()
     }
 
     /// The middle of a lane.
-    pub(crate) fn y(self, processor: u64) -> u64
-        ensures value { result ≡ lane_middle self processor }
+    pub(crate) fn y(&self, processor: u64) -> u64
+        ensures value { result ≡ lane_middle self.now processor }
         ensures limit { result ≤ 50_000 }
     {
-        LANES_TOP + (processor.clamp(1, 64) * 2 - 1) * self.half_lane()
+        LANES_TOP + (lane_number(self.shown, processor).clamp(1, 64) * 2 - 1) * self.half_lane()
     }
 
     /// The left edge of a tick of the window, or the right edge of the window, if the tick is after it.
-    pub(crate) fn edge(self, tick: u64) -> u64
-        ensures value { result ≡ tick_edge self tick }
+    pub(crate) fn edge(&self, tick: u64) -> u64
+        ensures value { result ≡ tick_edge self.now tick }
         ensures limit { result ≤ LEFT + WIDTH }
     {
         let count = self.count();
@@ -89,8 +103,8 @@ impl Frame {
     }
 
     /// The middle of a tick of the window.
-    pub(crate) fn middle(self, tick: u64) -> u64
-        ensures value { result ≡ tick_middle self tick }
+    pub(crate) fn middle(&self, tick: u64) -> u64
+        ensures value { result ≡ tick_middle self.now tick }
         ensures limit { result ≤ LEFT + WIDTH }
     {
         let count = self.count();
@@ -99,26 +113,26 @@ impl Frame {
     }
 
     /// Half of the width of a tick.
-    pub(crate) fn half(self) -> u64
-        ensures value { result ≡ half_tick self }
+    pub(crate) fn half(&self) -> u64
+        ensures value { result ≡ half_tick self.now }
         ensures limit { result ≤ 5_000 }
     {
         WIDTH / (self.count() * 2)
     }
 
     /// Whether a tick is drawn.
-    pub(crate) fn shows(self, tick: u64) -> bool
-        ensures { IsTrue result ↔ ((self.first ≤ tick) × (tick ≤ self.to)) }
+    pub(crate) fn shows(&self, tick: u64) -> bool
+        ensures { IsTrue result ↔ ((self.now.first ≤ tick) × (tick ≤ self.now.to)) }
     {
         self.first <= tick && tick <= self.to
     }
 
     /// The line from the middle of one tick in one lane to that of another in another, cut at the window's edges.
-    pub(crate) fn line(self, tick: u64, processor: u64, end: u64, processor_end: u64) -> Line
-        ensures x { result.x ≡ left_end self tick }
-        ensures y { result.y ≡ left_height self tick processor end processor_end }
-        ensures x_end { result.x_end ≡ right_end self end }
-        ensures y_end { result.y_end ≡ right_height self tick processor end processor_end }
+    pub(crate) fn line(&self, tick: u64, processor: u64, end: u64, processor_end: u64) -> Line
+        ensures x { result.x ≡ left_end self.now tick }
+        ensures y { result.y ≡ left_height self.now tick processor end processor_end }
+        ensures x_end { result.x_end ≡ right_end self.now end }
+        ensures y_end { result.y_end ≡ right_height self.now tick processor end processor_end }
     {
         let (y, y_end) = (self.y(processor), self.y(processor_end));
         let span = halves(tick, end);
@@ -142,11 +156,11 @@ impl Frame {
 
     /// The short line of a message that nobody takes, from the middle of its Send towards the lane of its receiver. It
     /// stays within the tick and the lane.
-    pub(crate) fn lost(self, tick: u64, processor: u64, to: u64) -> Line
-        ensures x { result.x ≡ tick_middle self tick }
-        ensures y { result.y ≡ lane_middle self processor }
-        ensures x_end { result.x_end ≡ tick_middle self tick + half_tick self * 9 / 10 }
-        ensures y_end { result.y_end ≡ lost_height self processor to }
+    pub(crate) fn lost(&self, tick: u64, processor: u64, to: u64) -> Line
+        ensures x { result.x ≡ tick_middle self.now tick }
+        ensures y { result.y ≡ lane_middle self.now processor }
+        ensures x_end { result.x_end ≡ tick_middle self.now tick + half_tick self.now * 9 / 10 }
+        ensures y_end { result.y_end ≡ lost_height self.now processor to }
     {
         let (x, y) = (self.middle(tick), self.y(processor));
         let far = self.half_lane() * 7 / 10;

@@ -5,7 +5,9 @@ ghost use Rattle.step_trace.specs.Processors.{has_proc};
 
 use crate::frames::{Frame, LANES_TOP};
 use crate::labels::{push_label, put_processor};
+use crate::pictures::Picture;
 use crate::round_numbers::round_step;
+use crate::shown_lanes::lane_number;
 use crate::svg::put;
 use crate::windows::Window;
 use std::alloc::{AllocError, Global};
@@ -14,28 +16,57 @@ use step_trace::ProcSet;
 /// How many numbers of ticks fit below the lanes.
 const MOST_LABELS: u64 = 14;
 
-/// Draws the heading, the lanes of processors 1 to `count` and the axis of the ticks.
+/// Draws the heading, the lanes of a picture of processors 1 to `count`, and the axis of the ticks.
 pub(crate) fn put_lanes(
     alloc: Global,
     out: &mut Vec<u8>,
-    frame: Frame,
-    window: Window,
+    frame: &Frame,
+    picture: &Picture,
     count: u64,
     set: ProcSet,
     names: &[&str],
 ) -> Result<(), AllocError> {
-    let (first, to, y) = (window.first, window.to, LANES_TOP - 160);
+    put_heading(alloc, out, picture, count)?;
+    for p in 1..count.min(64) + 1 {
+        if frame.has(p) {
+            put_lane(alloc, out, frame, p, set, names)?;
+        }
+    }
+    put_ticks(alloc, out, frame, picture.window)
+}
+
+fn put_heading(
+    alloc: Global,
+    out: &mut Vec<u8>,
+    picture: &Picture,
+    count: u64,
+) -> Result<(), AllocError> {
+    let (first, to, y) = (picture.window.first, picture.window.to, LANES_TOP - 160);
     put(
         alloc,
         out,
-        format_args!(
-            "<text x=\"900\" y=\"{y}\" class=\"h\">Steps of the ticks {first} to {to}</text>\n"
-        ),
+        format_args!("<text x=\"900\" y=\"{y}\" class=\"h\">Steps of the ticks {first} to {to}"),
     )?;
-    for p in 1..count.min(64) + 1 {
-        put_lane(alloc, out, frame, p, set, names)?;
+    put_lane_count(alloc, out, picture.lanes, count)?;
+    out.extend_from_slice(b"</text>\n")
+}
+
+/// Of how many of the processors 1 to `count` there are lanes, unless of each.
+pub(crate) fn put_lane_count(
+    alloc: Global,
+    out: &mut Vec<u8>,
+    lanes: ProcSet,
+    count: u64,
+) -> Result<(), AllocError> {
+    let drawn = lane_number(lanes, count);
+    if drawn == count {
+        return Ok(());
     }
-    put_ticks(alloc, out, frame, window)
+    put(
+        alloc,
+        out,
+        format_args!(", of {drawn} of {count} processors"),
+    )
 }
 
 /// How the lane of a processor looks: in ink, if it is one of the set, and pale, if it isn't.
@@ -48,7 +79,7 @@ fn look_of(set: ProcSet, p: u64) -> &'static str
 fn put_lane(
     alloc: Global,
     out: &mut Vec<u8>,
-    frame: Frame,
+    frame: &Frame,
     p: u64,
     set: ProcSet,
     names: &[&str],
@@ -76,7 +107,7 @@ fn put_label(alloc: Global, out: &mut Vec<u8>, p: u64, names: &[&str]) -> Result
 fn put_ticks(
     alloc: Global,
     out: &mut Vec<u8>,
-    frame: Frame,
+    frame: &Frame,
     window: Window,
 ) -> Result<(), AllocError> {
     let y = frame.lanes_end() + 180;

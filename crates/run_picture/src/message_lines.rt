@@ -21,7 +21,7 @@ struct Sending {
 pub(crate) fn put_message(
     alloc: Global,
     out: &mut Vec<u8>,
-    frame: Frame,
+    frame: &Frame,
     trace: &Trace,
     names: &[&str],
     message: &Message,
@@ -47,7 +47,7 @@ pub(crate) fn put_message(
 fn put_way(
     alloc: Global,
     out: &mut Vec<u8>,
-    frame: Frame,
+    frame: &Frame,
     trace: &Trace,
     sending: Sending,
 ) -> Result<(), AllocError> {
@@ -119,7 +119,7 @@ fn put_title(
 fn put_arc(
     alloc: Global,
     out: &mut Vec<u8>,
-    frame: Frame,
+    frame: &Frame,
     tick: u64,
     end: u64,
     processor: u64,
@@ -130,14 +130,14 @@ fn put_arc(
 }
 
 /// How far a message to its own sender goes up.
-fn rise(frame: Frame) -> u64 {
+fn rise(frame: &Frame) -> u64 {
     frame.half_lane() * 7 / 10
 }
 
 fn put_way_up(
     alloc: Global,
     out: &mut Vec<u8>,
-    frame: Frame,
+    frame: &Frame,
     tick: u64,
     x: u64,
     y: u64,
@@ -158,7 +158,7 @@ fn put_way_up(
 fn put_way_down(
     alloc: Global,
     out: &mut Vec<u8>,
-    frame: Frame,
+    frame: &Frame,
     end: u64,
     x_end: u64,
 ) -> Result<(), AllocError> {

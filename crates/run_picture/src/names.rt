@@ -38,7 +38,7 @@ pub fn names_of(alloc: Global, list: &str, count: u64) -> Result<Vec<&str>, Name
 }
 
 /// The parts of a text between its commas.
-fn parts_of(alloc: Global, list: &str) -> Result<Vec<&str>, AllocError>
+pub(crate) fn parts_of(alloc: Global, list: &str) -> Result<Vec<&str>, AllocError>
     ensures { IfOk result (λ parts. map (λ x. x.now) parts.items ≡ parts_of list.now) }
 {
     let mut parts = Vec::new(alloc);

@@ -13,13 +13,14 @@ use crate::report_rows;
 use crate::takers::takers;
 use crate::windows::Window;
 use std::alloc::{AllocError, Global};
-use step_trace::{Row, Trace};
+use step_trace::{ProcSet, Row, Trace};
 
-/// What a picture shows: the numbers of the steps in its window, the messages that touch it, the rows
+/// What a picture shows: the numbers of the steps in its window and its lanes, the messages that touch it, the rows
 /// whose misses and gaps do, and the corners of the staircase.
 #[derive(Debug, Drop)]
 pub struct Picture {
     pub window: Window,
+    pub lanes: ProcSet,
     pub steps: Vec<u64>,
     pub messages: Vec<Message>,
     pub misses: Vec<Row>,
@@ -27,7 +28,7 @@ pub struct Picture {
     pub corners: Vec<Row>,
 }
 
-/// The picture of these ticks of a trace, with the rows of a report of it, in time that grows with the
+/// The picture of these ticks and lanes of a trace, with the rows of a report of it, in time that grows with the
 /// trace and the rows.
 ///
 /// Fails only if out of memory, and only if there is a step or a row.
@@ -36,39 +37,51 @@ pub fn picture_of(
     trace: &Trace,
     rows: &[Row],
     window: Window,
+    lanes: ProcSet,
 ) -> Result<Picture, AllocError>
-    ensures shows { IfOk result (λ p. Shows trace.now rows.now window p) }
-    ensures exact { IfOk result (λ p. ShowsExactly trace.now window p) }
-    ensures misses { IfOk result (λ p. ShowsMisses trace.now rows.now window p.misses.items) }
-    ensures gaps { IfOk result (λ p. (set : ℕ) → IsReport set trace.now rows.now → ShowsGaps rows.now window p.gaps.items) }
+    ensures shows { IfOk result (λ p. Shows trace.now rows.now window lanes p) }
+    ensures exact { IfOk result (λ p. ShowsExactly trace.now window lanes p) }
+    ensures misses { IfOk result (λ p. ShowsMisses trace.now rows.now window lanes p.misses.items) }
+    ensures gaps { IfOk result (λ p. (set : ℕ) → IsReport set trace.now rows.now → ShowsGaps rows.now window lanes p.gaps.items) }
     ensures more { OnErr result ((0 < length trace.now.steps) ⊎ (0 < length rows.now)) }
 {
     Ok(Picture {
         window,
-        steps: steps(alloc, trace, window)?,
-        messages: messages(alloc, trace, window)?,
-        misses: misses(alloc, trace, window, rows)?,
-        gaps: gaps(alloc, window, rows)?,
+        lanes,
+        steps: steps(alloc, trace, window, lanes)?,
+        messages: messages(alloc, trace, window, lanes)?,
+        misses: misses(alloc, trace, window, lanes, rows)?,
+        gaps: gaps(alloc, window, lanes, rows)?,
         corners: corners(alloc, trace.last_tick(), rows)?,
     })
 }
 
-fn steps(alloc: Global, trace: &Trace, window: Window) -> Result<Vec<u64>, AllocError>
-    ensures listed { IfOk result (λ steps. steps.items ≡ gathered (shown_step trace.now window) (length trace.now.steps)) }
+fn steps(
+    alloc: Global,
+    trace: &Trace,
+    window: Window,
+    lanes: ProcSet,
+) -> Result<Vec<u64>, AllocError>
+    ensures listed { IfOk result (λ steps. steps.items ≡ gathered (shown_step trace.now window lanes) (length trace.now.steps)) }
     ensures more { OnErr result (0 < length trace.now.steps) }
 {
     let mut steps = Vec::new(alloc);
     for i in 0..trace.len() {
         push_some(
             &mut steps,
-            messages::shown_step(trace, window, i as u64 + 1),
+            messages::shown_step(trace, window, lanes, i as u64 + 1),
         )?;
     }
     Ok(steps)
 }
 
-fn messages(alloc: Global, trace: &Trace, window: Window) -> Result<Vec<Message>, AllocError>
-    ensures listed { IfOk result (λ messages. messages.items ≡ gathered (shown_message trace.now window) (length trace.now.steps)) }
+fn messages(
+    alloc: Global,
+    trace: &Trace,
+    window: Window,
+    lanes: ProcSet,
+) -> Result<Vec<Message>, AllocError>
+    ensures listed { IfOk result (λ messages. messages.items ≡ gathered (shown_message trace.now window lanes) (length trace.now.steps)) }
     ensures more { OnErr result (0 < length trace.now.steps) }
     ensures sound { OnOk result (IsWellFormed trace.now.config trace.now.steps) }
 {
@@ -80,7 +93,7 @@ fn messages(alloc: Global, trace: &Trace, window: Window) -> Result<Vec<Message>
     for i in 0..trace.len() {
         push_some(
             &mut messages,
-            messages::shown_message(trace, &takers, window, i as u64 + 1),
+            messages::shown_message(trace, &takers, window, lanes, i as u64 + 1),
         )?;
     }
     Ok(messages)
@@ -90,30 +103,31 @@ fn misses(
     alloc: Global,
     trace: &Trace,
     window: Window,
+    lanes: ProcSet,
     rows: &[Row],
 ) -> Result<Vec<Row>, AllocError>
-    ensures listed { IfOk result (λ misses. misses.items ≡ gathered (shown_miss trace.now window rows.now) (length rows.now)) }
+    ensures listed { IfOk result (λ misses. misses.items ≡ gathered (shown_miss trace.now window lanes rows.now) (length rows.now)) }
     ensures more { OnErr result (0 < length rows.now) }
 {
     let mut misses = Vec::new(alloc);
     for i in 0..rows.len() {
         push_some(
             &mut misses,
-            report_rows::shown_miss(trace, window, rows, i as u64 + 1),
+            report_rows::shown_miss(trace, window, lanes, rows, i as u64 + 1),
         )?;
     }
     Ok(misses)
 }
 
-fn gaps(alloc: Global, window: Window, rows: &[Row]) -> Result<Vec<Row>, AllocError>
-    ensures listed { IfOk result (λ gaps. gaps.items ≡ gathered (shown_gap window rows.now) (length rows.now)) }
+fn gaps(alloc: Global, window: Window, lanes: ProcSet, rows: &[Row]) -> Result<Vec<Row>, AllocError>
+    ensures listed { IfOk result (λ gaps. gaps.items ≡ gathered (shown_gap window lanes rows.now) (length rows.now)) }
     ensures more { OnErr result (0 < length rows.now) }
 {
     let mut gaps = Vec::new(alloc);
     for i in 0..rows.len() {
         push_some(
             &mut gaps,
-            report_rows::shown_gap(window, rows, i as u64 + 1),
+            report_rows::shown_gap(window, lanes, rows, i as u64 + 1),
         )?;
     }
     Ok(gaps)

@@ -16,7 +16,7 @@ const NAMED_IDS: usize = 8;
 pub(crate) fn put_step(
     alloc: Global,
     out: &mut Vec<u8>,
-    frame: Frame,
+    frame: &Frame,
     trace: &Trace,
     names: &[&str],
     no: u64,
@@ -53,7 +53,7 @@ struct Mark {
 fn put_send(
     alloc: Global,
     out: &mut Vec<u8>,
-    frame: Frame,
+    frame: &Frame,
     names: &[&str],
     mark: Mark,
     to: u64,
@@ -74,7 +74,7 @@ fn put_send(
 fn put_receive(
     alloc: Global,
     out: &mut Vec<u8>,
-    frame: Frame,
+    frame: &Frame,
     names: &[&str],
     mark: Mark,
     ends: bool,
@@ -100,7 +100,7 @@ fn put_subject(
 }
 
 /// How far a mark goes from its middle.
-fn radius(frame: Frame) -> u64
+fn radius(frame: &Frame) -> u64
     ensures { result ≤ 60 }
 {
     (frame.half() * 6 / 10).clamp(22, 60)
@@ -109,7 +109,7 @@ fn radius(frame: Frame) -> u64
 fn put_square(
     alloc: Global,
     out: &mut Vec<u8>,
-    frame: Frame,
+    frame: &Frame,
     mark: Mark,
     is_empty: bool,
 ) -> Result<(), AllocError> {
@@ -149,7 +149,7 @@ fn put_ids(alloc: Global, out: &mut Vec<u8>, ids: &[u64]) -> Result<(), AllocErr
 fn put_end(
     alloc: Global,
     out: &mut Vec<u8>,
-    frame: Frame,
+    frame: &Frame,
     mark: Mark,
     ends: bool,
 ) -> Result<(), AllocError> {

@@ -22,9 +22,9 @@ pub const MAX_LINES: usize = 10_000;
 /// How many misses are written, and how many gaps: the first, of the greatest bounds.
 pub const MAX_WITNESSES: usize = 1_000;
 
-/// The SVG of a picture of this trace, in UTF-8: the staircase, and the steps of its ticks with their messages and the
-/// witnesses. The lanes of the set are in ink; `names` labels the lanes in their order, and numbers those that it
-/// has no name for.
+/// The SVG of a picture of this trace, in UTF-8: the staircase, and in its lanes the steps of its ticks with their messages
+/// and the witnesses. The lanes of the set are in ink; `names` has the names of processors 1 on, and numbers label those
+/// that it has no name for.
 ///
 /// Fails only if out of memory.
 pub fn svg_text(
@@ -36,7 +36,7 @@ pub fn svg_text(
 ) -> Result<Vec<u8>, AllocError> {
     let mut out = Vec::new(alloc);
     let count = trace.config().n().min(64);
-    let frame = Frame::new(picture.window, count);
+    let frame = &Frame::new(picture.window, picture.lanes, count);
     put_head(alloc, &mut out, frame, overhang(names))?;
     put_description(alloc, &mut out, picture, set, count, names)?;
     put_paper(alloc, &mut out, frame, overhang(names))?;
@@ -48,7 +48,7 @@ pub fn svg_text(
         return Ok(out);
     }
     put_staircase(alloc, &mut out, picture, last)?;
-    put_lanes(alloc, &mut out, frame, picture.window, count, set, names)?;
+    put_lanes(alloc, &mut out, frame, picture, count, set, names)?;
     put_marks(alloc, &mut out, frame, trace, picture, names)?;
     put_foot(alloc, &mut out, frame, picture)?;
     Ok(out)
@@ -65,14 +65,19 @@ pub(crate) fn put<D: Display + Drop>(
 }
 
 /// The height of the page.
-fn page_height(frame: Frame) -> u64
+fn page_height(frame: &Frame) -> u64
     ensures { result ≤ 51_000 }
 {
     frame.lanes_end() + 1_000
 }
 
 /// The page is wider by what names reach beyond its left edge.
-fn put_head(alloc: Global, out: &mut Vec<u8>, frame: Frame, overhang: u64) -> Result<(), AllocError>
+fn put_head(
+    alloc: Global,
+    out: &mut Vec<u8>,
+    frame: &Frame,
+    overhang: u64,
+) -> Result<(), AllocError>
     requires { overhang ≤ MOST_OVERHANG }
 {
     let height = page_height(frame);
@@ -91,7 +96,7 @@ fn put_head(alloc: Global, out: &mut Vec<u8>, frame: Frame, overhang: u64) -> Re
 fn put_paper(
     alloc: Global,
     out: &mut Vec<u8>,
-    frame: Frame,
+    frame: &Frame,
     overhang: u64,
 ) -> Result<(), AllocError>
     requires { overhang ≤ MOST_OVERHANG }
@@ -113,7 +118,7 @@ fn put_paper(
 fn put_marks(
     alloc: Global,
     out: &mut Vec<u8>,
-    frame: Frame,
+    frame: &Frame,
     trace: &Trace,
     picture: &Picture,
     names: &[&str],
@@ -129,7 +134,7 @@ fn put_marks(
 fn put_gaps(
     alloc: Global,
     out: &mut Vec<u8>,
-    frame: Frame,
+    frame: &Frame,
     names: &[&str],
     gaps: &[Row],
 ) -> Result<(), AllocError> {
@@ -142,7 +147,7 @@ fn put_gaps(
 fn put_misses(
     alloc: Global,
     out: &mut Vec<u8>,
-    frame: Frame,
+    frame: &Frame,
     trace: &Trace,
     names: &[&str],
     misses: &[Row],
@@ -156,7 +161,7 @@ fn put_misses(
 fn put_steps(
     alloc: Global,
     out: &mut Vec<u8>,
-    frame: Frame,
+    frame: &Frame,
     trace: &Trace,
     names: &[&str],
     steps: &[u64],
@@ -185,7 +190,7 @@ fn earliest(rows: &[Row], most: usize) -> &[Row]
 fn put_foot(
     alloc: Global,
     out: &mut Vec<u8>,
-    frame: Frame,
+    frame: &Frame,
     picture: &Picture,
 ) -> Result<(), AllocError> {
     let legend = frame.lanes_end() + 480;

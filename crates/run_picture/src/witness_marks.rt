@@ -3,7 +3,7 @@
 use crate::frames::Frame;
 use crate::labels::put_processor;
 use crate::message_lines::put_line;
-use crate::messages::tick_at;
+use crate::messages::{processor_at, tick_at};
 use crate::svg::put;
 use std::alloc::{AllocError, Global};
 use step_trace::{Row, Trace};
@@ -12,7 +12,7 @@ use step_trace::{Row, Trace};
 pub(crate) fn put_miss(
     alloc: Global,
     out: &mut Vec<u8>,
-    frame: Frame,
+    frame: &Frame,
     trace: &Trace,
     names: &[&str],
     row: &Row,
@@ -35,19 +35,11 @@ pub(crate) fn put_miss(
     )
 }
 
-/// The processor of the step of this number; 0, if there is no such step.
-fn processor_at(trace: &Trace, no: u64) -> u64 {
-    match trace.step(no) {
-        Some(step) => step.proc,
-        None => 0,
-    }
-}
-
 /// Draws the gap of a row, as far as it lies in the window.
 pub(crate) fn put_gap(
     alloc: Global,
     out: &mut Vec<u8>,
-    frame: Frame,
+    frame: &Frame,
     names: &[&str],
     row: &Row,
 ) -> Result<(), AllocError> {

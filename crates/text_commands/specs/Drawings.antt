@@ -2,6 +2,7 @@
 use Rattle.std.specs.Prelude.{ℕ, ◌≡◌, ◌||◌, Bool, true, false, is_some, List, [], Option, Some, None, Result, Ok, Err, String, string_bytes, ⊤}
 use Rattle.std.specs.Option.{unwrap_or}
 use Rattle.step_trace.specs.declared.rows.Row.{Row}
+use Rattle.step_trace.specs.Members.{all_to}
 use Rattle.step_trace.specs.Traces.{Recorded}
 use Rattle.step_trace.specs.Fronts.{IsReport}
 use Rattle.run_picture.specs.declared.pictures.Picture.{Picture}
@@ -11,6 +12,9 @@ use Rattle.run_picture.specs.declared.windows.WindowError.TheVariants as no_wind
 use Rattle.run_picture.specs.Marks.{ShowsExactly, ShowsMisses, ShowsGaps}
 use Rattle.run_picture.specs.declared.names.NamesError.{NamesError}
 use Rattle.run_picture.specs.declared.names.NamesError.TheVariants as no_names
+use Rattle.run_picture.specs.declared.lane_lists.LanesError.{LanesError}
+use Rattle.run_picture.specs.declared.lane_lists.LanesError.TheVariants as no_lanes
+use Rattle.run_picture.specs.LaneLists.{AreLanes, IsLanesRefusal}
 use Rattle.run_picture.specs.Names.{AreNames, IsNamesRefusal, parts_of}
 use Rattle.run_picture.specs.Pictures.{Shows}
 use Rattle.run_picture.specs.Windows.{window_of}
@@ -18,8 +22,10 @@ use Rattle.run_page.specs.EvidenceTicks.{IsEvidenceWindow}
 use Rattle.command_options.specs.declared.Drawing.{Drawing}
 use Rattle.command_faults.specs.declared.faults.Fault.{Fault}
 use Rattle.command_faults.specs.declared.faults.Fault.TheVariants as fault
+use Rattle.command_faults.specs.declared.faults.MemberOutside.{MemberOutside}
 use Rattle.command_faults.specs.declared.faults.PictureOption.{PictureOption}
 use Rattle.command_faults.specs.declared.faults.PictureOption.TheVariants as option
+use Rattle.command_faults.specs.declared.faults.SetOption.TheVariants as set_option
 use Rattle.text_verdicts.specs.Texts.{HasCorrect}
 use Rattle.text_commands.specs.Answers.{IsOutside}
 
@@ -36,13 +42,24 @@ names_of_list (Some list) = parts_of (string_bytes list)
 abbrev pub AreNamesFor : Drawing → ℕ → Type 0
 AreNamesFor d count = are_names_in d.names count
 
+-- The set has the processors that are listed, by these names or by numbers up to `count`; all if none are listed.
+abbrev pub AreLanesIn : {B : Type 0} → Option (String B) → List (List ℕ) → ℕ → ℕ → Type 0
+AreLanesIn None names count set = set ≡ all_to count
+AreLanesIn (Some list) names count set = AreLanes names (parts_of (string_bytes list)) count set
+
+-- the set has the processors whose lanes are asked for, if there are `count`
+abbrev pub AreLanesFor : Drawing → ℕ → ℕ → Type 0
+AreLanesFor d count set = AreLanesIn d.lanes (names_of_list d.names) count set
+
 -- the ticks that are asked for, of a trace with this last tick; if none are, its first ones
 abbrev pub window_for : Drawing → ℕ → Result Window WindowError
 window_for d last = window_of last d.from d.to
 
--- a window of the trace is asked for, and as many names as there are processors, or none
+-- a window of the trace is asked for, lanes of its processors, and as many names as there are processors, or none
 pub record IsDrawable (d : Drawing) (t : Recorded) : Type 0 where
   pub named : AreNamesFor d t.config.n
+  pub lanes : ℕ
+  pub listed : AreLanesFor d t.config.n lanes
   pub window : Window
   pub asked : window_for d t.last ≡ Ok window
 
@@ -58,16 +75,16 @@ pub record IsDrawnWindow (d : Drawing) (t : Recorded) (rows : List Row) (w : Win
   pub chosen : asks_for_ticks d ≡ true → w ≡ asked
   pub usual : asks_for_ticks d ≡ false → (e : Option Window) × IsEvidenceWindow t rows e × (w ≡ unwrap_or e asked)
 
--- The picture has the marks of the window that is drawn, with the rows of the trace's report.
-pub record IsPictureFor (set : ℕ) (d : Drawing) (t : Recorded) (picture : Picture) : Type 0 where
+-- The picture has the marks of the window that is drawn and of these lanes, with the rows of the trace's report.
+pub record IsPictureFor (set : ℕ) (d : Drawing) (lanes : ℕ) (t : Recorded) (picture : Picture) : Type 0 where
   pub window : Window
   pub rows : List Row
   pub exact : IsReport set t rows
   pub drawn : IsDrawnWindow d t rows window
-  pub shows : Shows t rows window picture
-  pub marks : ShowsExactly t window picture
-  pub misses : ShowsMisses t rows window picture.misses.items
-  pub gaps : ShowsGaps rows window picture.gaps.items
+  pub shows : Shows t rows window lanes picture
+  pub marks : ShowsExactly t window lanes picture
+  pub misses : ShowsMisses t rows window lanes picture.misses.items
+  pub gaps : ShowsGaps rows window lanes picture.gaps.items
 
 -- The trace has all correct processors, and can be drawn as asked. The text is left open: what a mark looks like is
 -- only tested.
@@ -86,6 +103,12 @@ names_fault count (no_names.WrongCount given) = fault.Picture (option.NameCount 
 names_fault count (no_names.BadName place) = fault.Picture (option.BadName place)
 names_fault count (no_names.SameName place) = fault.Picture (option.SameName place)
 names_fault count no_names.Memory = fault.Memory
+
+-- the fault that lanes are refused with, of so many processors
+abbrev pub lanes_fault : ℕ → LanesError → Fault
+lanes_fault count (no_lanes.NoLane place) = fault.Picture (option.NoLane place)
+lanes_fault count (no_lanes.Above p) = fault.Set set_option.Lanes (record { member = p; count = count })
+lanes_fault count no_lanes.Memory = fault.Memory
 
 -- a fault of the window: it is for the option
 abbrev pub IsWindowFault : Drawing → ℕ → Fault → Type 0
@@ -111,18 +134,41 @@ IsNamesFault names count (fault.Picture (option.SameName place)) = are_refused_i
 IsNamesFault names count fault.Memory = ⊤
 IsNamesFault names count _ = ⊥
 
--- why there is no picture of the trace: its names, or else its first tick, or its last one
+-- the drawing lists lanes, which are refused so
+abbrev pub are_lanes_refused_in : {B : Type 0} → Option (String B) → List (List ℕ) → ℕ → LanesError → Type 0
+are_lanes_refused_in None names count why = ⊥
+are_lanes_refused_in (Some list) names count why = IsLanesRefusal names (parts_of (string_bytes list)) count why
+
+-- a fault of the lanes: the first that is no processor's, or whose processor is above their number
+abbrev pub IsLanesFault : {B : Type 0} → Option (String B) → List (List ℕ) → ℕ → Fault → Type 0
+IsLanesFault lanes names count (fault.Picture (option.NoLane place)) = are_lanes_refused_in lanes names count (no_lanes.NoLane place)
+IsLanesFault lanes names count (fault.Set set_option.Lanes o) = (o.count ≡ count) × are_lanes_refused_in lanes names count (no_lanes.Above o.member)
+IsLanesFault lanes names count fault.Memory = ⊤
+IsLanesFault lanes names count _ = ⊥
+
+-- there are the names and the lanes that are asked for
+abbrev pub HasLanes : Drawing → ℕ → Type 0
+HasLanes d count = AreNamesFor d count × ((set : ℕ) × AreLanesFor d count set)
+
+-- why there is no picture of the trace: its names, or else its lanes, or its first tick, or its last one
 abbrev pub IsUndrawnFor : Drawing → Recorded → PictureOption → Type 0
-IsUndrawnFor d t (option.From from last) = AreNamesFor d t.config.n × (window_for d t.last ≡ Err (no_window.BadFrom from last))
-IsUndrawnFor d t (option.To to from) = AreNamesFor d t.config.n × (window_for d t.last ≡ Err (no_window.BadTo to from))
+IsUndrawnFor d t (option.From from last) = HasLanes d t.config.n × (window_for d t.last ≡ Err (no_window.BadFrom from last))
+IsUndrawnFor d t (option.To to from) = HasLanes d t.config.n × (window_for d t.last ≡ Err (no_window.BadTo to from))
+IsUndrawnFor d t (option.NoLane place) = AreNamesFor d t.config.n × IsLanesFault d.lanes (names_of_list d.names) t.config.n (fault.Picture (option.NoLane place))
 IsUndrawnFor d t o = IsNamesFault d.names t.config.n (fault.Picture o)
+
+-- a lane is that of a processor which the trace hasn't
+abbrev pub IsLaneOutside : Drawing → Recorded → MemberOutside → Type 0
+IsLaneOutside d t o = AreNamesFor d t.config.n × IsLanesFault d.lanes (names_of_list d.names) t.config.n (fault.Set set_option.Lanes o)
 
 abbrev pub IsUndrawn : Drawing → Recorded → Fault → Type 0
 IsUndrawn d t (fault.Picture o) = IsUndrawnFor d t o
+IsUndrawn d t (fault.Set set_option.Lanes o) = IsLaneOutside d t o
 IsUndrawn d t fault.Memory = ⊤
 IsUndrawn d t _ = ⊥
 
 -- why the trace has no picture: a correct processor that it hasn't, or else an option
 abbrev pub IsUndrawnTrace : Drawing → Recorded → Fault → Type 0
 IsUndrawnTrace d t (fault.Picture o) = HasCorrect d.correct t × IsUndrawnFor d t o
+IsUndrawnTrace d t (fault.Set set_option.Lanes o) = HasCorrect d.correct t × IsLaneOutside d t o
 IsUndrawnTrace d t w = IsOutside d.correct t w

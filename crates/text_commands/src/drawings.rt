@@ -5,6 +5,7 @@ ghost use Rattle.step_trace.specs.Processors.{IsWithin};
 ghost use Rattle.text_commands.specs.Drawings.{IsDrawable, IsDrawnWindow, IsMarksFault, IsPictureFor, IsUndrawn, IsWindowFault, asks_for_ticks, option_of, window_for};
 
 use crate::answers::Answer;
+use crate::lanes::lanes_for;
 use crate::names::names_for;
 use crate::report_parts::report_of;
 use crate::traces::set_of;
@@ -17,8 +18,11 @@ use step_trace::{ProcSet, Row, Trace};
 
 /// A picture: the bounds of every tick, for the correct processors, and the steps, messages and witnesses of some ticks.
 ///
-/// Declines a trace, in this order, by: Set if a correct processor is above its number of processors; Picture for the names,
-/// the first tick and the last tick.
+/// Declines a trace, in this order, by:
+/// - Set if a correct processor is above its number of processors;
+/// - Picture for the names;
+/// - for the first lane that is none: Picture, or Set if it is above the number of processors;
+/// - Picture for the first tick and the last tick.
 impl Answer for Drawing {
     ghost use Rattle.text_commands.specs.Drawings.{IsDrawingOf, IsUndrawnTrace};
 
@@ -39,25 +43,27 @@ fn drawn(alloc: Global, trace: &Trace, set: ProcSet, drawing: &Drawing) -> Resul
     ensures refused { IfErr result (IsUndrawn drawing.now trace.now) }
 {
     let names = names_for(alloc, &drawing.names, trace.config().n())?;
-    let picture = marks_for(alloc, trace, set, drawing)?;
+    let lanes = lanes_for(alloc, &drawing.lanes, &names, trace.config().n())?;
+    let picture = marks_for(alloc, trace, set, drawing, lanes)?;
     Ok(svg_text(alloc, trace, &picture, set, &names)?)
 }
 
-/// The marks of the ticks that are asked for, with the rows of the trace's report.
+/// The marks of the ticks that are asked for and of these lanes, with the rows of the trace's report.
 fn marks_for(
     alloc: Global,
     trace: &Trace,
     set: ProcSet,
     drawing: &Drawing,
+    lanes: ProcSet,
 ) -> Result<Picture, Fault>
     requires within { IsWithin set trace.now.config.n }
-    ensures marks { IfOk result (IsPictureFor set drawing.now trace.now) }
+    ensures marks { IfOk result (IsPictureFor set drawing.now lanes trace.now) }
     ensures refused { IfErr result (IsMarksFault drawing.now trace.now.last) }
 {
     let asked = window_for(drawing, trace.last_tick())?;
     let report = report_of(alloc, trace, set)?;
     let window = drawn_window(alloc, trace, drawing, asked, report.rows())?;
-    Ok(picture_of(alloc, trace, report.rows(), window)?)
+    Ok(picture_of(alloc, trace, report.rows(), window, lanes)?)
 }
 
 /// The ticks to draw: those that are asked for; if none are, those of the first evidence of these rows, or `asked` if

@@ -13,6 +13,7 @@ mod idle_lines;
 mod import_lines;
 mod imports;
 mod judgings;
+mod lanes;
 mod listed_runs;
 mod lost_lines;
 mod names;

@@ -32,6 +32,8 @@ struct Case {
     text: &'static str,
     /// The set that the report is of, and the first and the last tick.
     of: (&'static str, u64, u64),
+    /// The processors that have lanes.
+    lanes: &'static str,
     steps: &'static [u64],
     /// The numbers of a Send and of the Receive that takes its message, 0 if none does.
     messages: &'static [(u64, u64)],
@@ -45,6 +47,7 @@ const CASES: &[Case] = &[
     Case {
         text: ONE_MISS,
         of: ("1,2", 1, 3),
+        lanes: "1,2",
         steps: &[1, 2, 3],
         messages: &[(1, 3)],
         misses: &[(1, 2)],
@@ -54,6 +57,7 @@ const CASES: &[Case] = &[
     Case {
         text: ONE_MISS,
         of: ("none", 1, 3),
+        lanes: "1,2",
         steps: &[1, 2, 3],
         messages: &[(1, 3)],
         misses: &[],
@@ -63,6 +67,7 @@ const CASES: &[Case] = &[
     Case {
         text: DECIDES_SEVEN,
         of: ("1,2,3", 1, 18),
+        lanes: "1,2,3",
         steps: &[
             1, 2, 3, 4, 5, 6, 7, 8, 9, 10, 11, 12, 13, 14, 15, 16, 17, 18,
         ],
@@ -84,6 +89,7 @@ const CASES: &[Case] = &[
     Case {
         text: LOST_LOCK,
         of: ("1,2,3", 9, 20),
+        lanes: "1,2,3",
         steps: &[9, 10, 11, 12, 13, 14, 15, 16, 17, 18, 19, 20],
         messages: &[
             (13, 22),
@@ -102,6 +108,7 @@ const CASES: &[Case] = &[
     Case {
         text: NEVER_DELIVERED,
         of: ("1,2", 5, 5),
+        lanes: "1,2",
         steps: &[5],
         messages: &[],
         misses: &[(1, 5)],
@@ -111,6 +118,7 @@ const CASES: &[Case] = &[
     Case {
         text: EDGES,
         of: ("1,2", 1, 12),
+        lanes: "1,2",
         steps: &[1, 2, 3, 4, 5],
         messages: &[(1, 5), (2, 0), (3, 5)],
         misses: &[(2, 5), (3, 4)],
@@ -120,6 +128,7 @@ const CASES: &[Case] = &[
     Case {
         text: EDGES,
         of: ("1,2", 4, 5),
+        lanes: "1,2",
         steps: &[],
         messages: &[(1, 5), (3, 5)],
         misses: &[(2, 5), (3, 4)],
@@ -129,7 +138,48 @@ const CASES: &[Case] = &[
     Case {
         text: EDGES,
         of: ("1,2", 10, 12),
+        lanes: "1,2",
         steps: &[],
+        messages: &[],
+        misses: &[],
+        gaps: &[(1, 4, 12)],
+        corners: &[1, 3, 4, 5, 6, 7, 8, 9, 10, 11, 12],
+    },
+    Case {
+        text: DECIDES_SEVEN,
+        of: ("1,2,3", 1, 18),
+        lanes: "1,3",
+        steps: &[1, 3, 4, 6, 7, 8, 9, 10, 12, 13, 15, 16, 18],
+        messages: &[(1, 4), (3, 4), (7, 10), (9, 12), (13, 16), (15, 16)],
+        misses: &[],
+        gaps: &[(3, 7, 11), (1, 17, 18)],
+        corners: &[1, 8, 9, 10, 18],
+    },
+    Case {
+        text: DECIDES_SEVEN,
+        of: ("1,2,3", 1, 18),
+        lanes: "2",
+        steps: &[2, 5, 11, 14, 17],
+        messages: &[],
+        misses: &[],
+        gaps: &[],
+        corners: &[1, 8, 9, 10, 18],
+    },
+    Case {
+        text: EDGES,
+        of: ("1,2", 1, 12),
+        lanes: "2",
+        steps: &[4, 5],
+        messages: &[],
+        misses: &[],
+        gaps: &[],
+        corners: &[1, 3, 4, 5, 6, 7, 8, 9, 10, 11, 12],
+    },
+    Case {
+        text: EDGES,
+        of: ("1,2", 1, 12),
+        lanes: "1",
+        steps: &[1, 2, 3],
         messages: &[],
         misses: &[],
         gaps: &[(1, 4, 12)],
@@ -138,6 +188,7 @@ const CASES: &[Case] = &[
     Case {
         text: NO_STEPS,
         of: ("1,2", 1, 0),
+        lanes: "1,2",
         steps: &[],
         messages: &[],
         misses: &[],
@@ -146,14 +197,15 @@ const CASES: &[Case] = &[
     },
 ];
 
-/// The picture of a trace text, of the set that a list names.
+/// The picture of a trace text, of the set and of the lanes that lists name.
 fn picture(
     alloc: Global,
     text: &str,
     (list, first, to): (&str, u64, u64),
+    lanes: &str,
 ) -> Result<Option<Picture>, Fail> {
     let trace = read_trace(alloc, text.as_bytes())?;
-    let Some(set) = ProcSet::parse_list(list) else {
+    let (Some(set), Some(lanes)) = (ProcSet::parse_list(list), ProcSet::parse_list(lanes)) else {
         return Ok(None);
     };
     if !set.within(trace.config().n()) {
@@ -161,7 +213,8 @@ fn picture(
     }
     let stairs = Stairs::of_trace(alloc, &trace, set)?;
     let report = front(alloc, &stairs)?;
-    Ok(Some(picture_of(alloc, &trace, report.rows(), Window { first, to })?))
+    let window = Window { first, to };
+    Ok(Some(picture_of(alloc, &trace, report.rows(), window, lanes)?))
 }
 
 fn are_messages(messages: &[Message], wanted: &[(u64, u64)]) -> bool {
@@ -214,7 +267,7 @@ fn difference(picture: &Picture, wanted: &Case) -> Option<&'static str> {
 
 /// What differs in the picture of a case.
 fn case_difference(alloc: Global, case: &Case) -> Result<Option<&'static str>, Fail> {
-    match picture(alloc, case.text, case.of)? {
+    match picture(alloc, case.text, case.of, case.lanes)? {
         Some(picture) => Ok(difference(&picture, case)),
         None => Ok(Some("set")),
     }
@@ -231,7 +284,7 @@ fn marks(rt: HostRuntime) -> Result<(), Fail> {
 
 /// Whether the 4,999 rows of the long silence are thinned to two for each of 1,000 columns.
 fn is_thinned(alloc: Global) -> Result<bool, Fail> {
-    match picture(alloc, LONG_SILENCE, ("1", 1, 100))? {
+    match picture(alloc, LONG_SILENCE, ("1", 1, 100), "1")? {
         Some(picture) => Ok(
             picture.steps.as_slice() == [1].as_slice()
                 && are_gaps(&picture.gaps, &[(1, 2, 5_000)])

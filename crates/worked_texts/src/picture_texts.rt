@@ -90,7 +90,8 @@ fn svg_of(alloc: Global, text: &str) -> Result<Vec<u8>, Fail> {
         first: 1,
         to: trace.last_tick(),
     };
-    let picture = picture_of(alloc, &trace, report.rows(), window)?;
+    let lanes = ProcSet::all_to(trace.config().n().min(64));
+    let picture = picture_of(alloc, &trace, report.rows(), window, lanes)?;
     let names = ["<a>", "b&\"c'", "é"];
     Ok(svg_text(alloc, &trace, &picture, set, &names)?)
 }

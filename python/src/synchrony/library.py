@@ -235,10 +235,11 @@ def draw(
     from_tick: Optional[int] = None,
     to_tick: Optional[int] = None,
     names: Optional[Iterable[str]] = None,
+    lanes: Optional[Iterable[Union[int, str]]] = None,
 ) -> bytes:
     """A picture of the trace and its bounds, as SVG. If no tick is given, it shows the first evidence. `names` are names for the
-    processors, in their order."""
-    return _asked("draw", trace, correct=_set_of(correct)[1], from_tick=from_tick, to_tick=to_tick, names=names)
+    processors, in their order. `lanes` are the only processors that are drawn, by their names or numbers."""
+    return _asked("draw", trace, correct=_set_of(correct)[1], from_tick=from_tick, to_tick=to_tick, names=names, lanes=lanes)
 
 
 def page(
@@ -342,6 +343,7 @@ OPTIONS: Dict[str, Tuple[str, Optional[Callable[[Any], str]]]] = {
     "from_tick": ("--from", str),
     "to_tick": ("--to", str),
     "names": ("--names", ",".join),
+    "lanes": ("--lanes", lambda lanes: ",".join(map(str, lanes))),
     "nodes": ("--nodes", ",".join),
     "unit": ("--unit", str),
     "tick": ("--tick", str),

@@ -7,21 +7,21 @@ use Rattle.command_line.specs.declared.jobs.Job.TheVariants as job
 use Rattle.command_line.specs.Answers.{Given, ◌>>=◌, answers}
 use Rattle.command_line.specs.Arguments.{command_app, IsListFault, correct_rule, file_rule, optional_rule, tick_in, tick_rule}
 
--- draw FILE --correct LIST --from TICK --to TICK --names LIST
+-- draw FILE --correct LIST --from TICK --to TICK --names LIST --lanes LIST
 abbrev pub draw_app : App
 draw_app = command_app (codes "draw") (file_rule ∷ correct_rule ∷ tick_rule (codes "from")
-    ∷ tick_rule (codes "to") ∷ optional_rule (codes "names") ∷ [])
+    ∷ tick_rule (codes "to") ∷ optional_rule (codes "names") ∷ optional_rule (codes "lanes") ∷ [])
 
 -- the line `draw FILE --correct LIST`, after the program's name
 abbrev pub draw_line : Text → Text → Text → List Text
 draw_line name file list = name ∷ codes "draw" ∷ file ∷ codes "--correct" ∷ list ∷ []
 
--- the picture of the file of this name, for the processors that this list names, with these ticks and names
-abbrev pub IsDraw : List ℕ → List ℕ → Option ℕ → Option ℕ → Option (List ℕ) → Job → Type 0
-IsDraw name list from to names (job.Draw j) =
+-- the picture of the file of this name, for the processors that this list names, with these ticks, names and lanes
+abbrev pub IsDraw : List ℕ → List ℕ → Option ℕ → Option ℕ → Option (List ℕ) → Option (List ℕ) → Job → Type 0
+IsDraw name list from to names lanes (job.Draw j) =
     (string_bytes j.file ≡ name) × IsCorrectIn list j.drawing.correct × (j.drawing.from ≡ from) × (j.drawing.to ≡ to)
-    × (option_map string_bytes j.drawing.names ≡ names)
-IsDraw name list from to names _ = ⊥
+    × (option_map string_bytes j.drawing.names ≡ names) × (option_map string_bytes j.drawing.lanes ≡ lanes)
+IsDraw name list from to names lanes _ = ⊥
 
 -- what the rows below `draw` give
 abbrev pub draw_given : List Row → Given → Type 0
@@ -30,4 +30,4 @@ draw_given rows = do
   list ← first_of (codes "correct") rows
   from ← tick_in rows (codes "from")
   to ← tick_in rows (codes "to")
-  answers (IsDraw file list from to (first_of (codes "names") rows)) (IsListFault list)
+  answers (IsDraw file list from to (first_of (codes "names") rows) (first_of (codes "lanes") rows)) (IsListFault list)

@@ -26,6 +26,9 @@ const TO_HELP: &str =
 const NAMES_HELP: &str =
     "The names of all processors, in their order; their numbers if it is left out";
 
+const LANES_HELP: &str =
+    "Draws only these processors, by their names or numbers, and what passes between them";
+
 /// The picture of the trace in a file, as SVG.
 #[derive(Debug, Drop)]
 pub struct DrawJob {
@@ -45,6 +48,7 @@ pub fn command<'a>(alloc: Global) -> Result<Command<'a>, AllocError>
         tick_argument(alloc, "from", FROM_HELP),
         tick_argument(alloc, "to", TO_HELP),
         optional_argument(alloc, "names", "A,B,C", NAMES_HELP),
+        optional_argument(alloc, "lanes", "A,B", LANES_HELP),
     ]?;
     new_command(alloc, "draw", ABOUT, help(), arguments)
 }
@@ -60,7 +64,8 @@ pub fn job(alloc: Global, found: &ArgMatches<'_>) -> Option<Result<Job, LineErro
     let from = tick(found, "from")?;
     let to = tick(found, "to")?;
     let names = text(found, "names");
-    Some(draw(alloc, file, list, from, to, names))
+    let lanes = text(found, "lanes");
+    Some(draw(alloc, file, list, from, to, names, lanes))
 }
 
 /// The job of a picture with these words.
@@ -71,18 +76,21 @@ fn draw(
     from: Option<u64>,
     to: Option<u64>,
     names: Option<&str>,
+    lanes: Option<&str>,
 ) -> Result<Job, LineError>
-    ensures job { IfOk result (IsDraw file.now list.now from to (option_map (λ n. n.now) names.entry)) }
+    ensures job { IfOk result (IsDraw file.now list.now from to (option_map (λ n. n.now) names.entry) (option_map (λ n. n.now) lanes.entry)) }
     ensures refused { IfErr result (IsListFault list.now) }
 {
     let correct = correct_in(alloc, "correct", list)?;
     let file = String::from_str(alloc, file)?;
     let names = kept(alloc, names)?;
+    let lanes = kept(alloc, lanes)?;
     let drawing = Drawing {
         correct,
         from,
         to,
         names,
+        lanes,
     };
     Ok(Job::Draw(DrawJob { file, drawing }))
 }
@@ -106,7 +114,10 @@ the ticks:
                    if they touch these ticks
 
 The lanes of the processors in LIST are in ink, the others pale. Each step and
-each witness shows what it is when the pointer is on it.
+each witness shows what it is when the pointer is on it. With --lanes there are
+the lanes of those processors alone, their steps and silences, and the messages
+from one of them to one of them. Each is given by its name, if --names has it,
+or else by its number. The bounds above stay those of all ticks and of LIST.
 
 Without --from and --to these are the ticks of the first evidence: the silence or
 the late message, or both, that rules out smaller bounds from tick 1 on, with a
@@ -121,8 +132,8 @@ Exit status:
   2  the command line is refused, LIST is no list, or it has a processor above
      the trace's number of processors; the names aren't as many different ones
      as there are processors, each of 1 to 64 bytes without control characters;
-     the first tick is none of the trace; or the last one is before it, or more
-     than 999 after it
+     a processor of --lanes is none of the trace; the first tick is none of it;
+     or the last one is before the first, or more than 999 after it
   3  the trace is refused
   5  out of memory
   6  FILE can't be opened or read, or the output can't be written
