@@ -13,7 +13,7 @@ use crate::texts::read_whole;
 use crate::traces::set_of;
 use command_faults::Fault;
 use command_options::Page;
-use run_page::page_text;
+use run_page::{LogWords, page_text};
 use std::alloc::Global;
 use std::io::Read;
 use step_tables::{StepTable, TableError, table_of_text};
@@ -96,9 +96,21 @@ fn told(
     let text = match table {
         Some(table) => {
             let names = table.names(alloc)?;
-            page_text(alloc, trace, set, rows, &names, table.rows(), page.at)
+            let words = LogWords {
+                names: &names,
+                said: table.rows(),
+                unit: None,
+            };
+            page_text(alloc, trace, set, rows, &words, page.at)
         }
-        None => page_text(alloc, trace, set, rows, &listed, &[], page.at),
+        None => {
+            let words = LogWords {
+                names: &listed,
+                said: &[],
+                unit: None,
+            };
+            page_text(alloc, trace, set, rows, &words, page.at)
+        }
     };
     Ok(text?)
 }

@@ -1,4 +1,4 @@
-use Rattle.std.proofs.Common.{◌≡◌, ◌≤◌, ◌<◌, ◌+◌, ◌-◌, ◌*◌, ◌/◌, ◌^◌, Some, min, arith}
+use Rattle.std.proofs.Common.{◌≡◌, ◌-◌, ◌/◌, Some, arith}
 use Rattle.step_tables.proofs.TickLengths.{between-first, between-order, between-width}
 use Rattle.step_tables.proofs.tick_begins.times_between.Goals as goal
 
