@@ -12,7 +12,7 @@ use crate::report_parts::{report_of, test_at};
 use crate::texts::read_whole;
 use crate::traces::set_of;
 use command_faults::Fault;
-use command_options::Page;
+use command_options::{Page, TimeUnit};
 use run_page::{LogWords, page_text};
 use std::alloc::Global;
 use std::io::Read;
@@ -93,13 +93,14 @@ fn told(
     test_at(trace, page.at)?;
     let report = report_of(alloc, trace, set)?;
     let rows = report.rows();
+    let unit = nanoseconds_in(page.unit);
     let text = match table {
         Some(table) => {
             let names = table.names(alloc)?;
             let words = LogWords {
                 names: &names,
                 said: table.rows(),
-                unit: None,
+                unit,
             };
             page_text(alloc, trace, set, rows, &words, page.at)
         }
@@ -113,4 +114,14 @@ fn told(
         }
     };
     Ok(text?)
+}
+
+/// How many nanoseconds a unit has, if one is given.
+fn nanoseconds_in(unit: Option<TimeUnit>) -> Option<u64> {
+    match unit? {
+        TimeUnit::Second => Some(1_000_000_000),
+        TimeUnit::Millisecond => Some(1_000_000),
+        TimeUnit::Microsecond => Some(1_000),
+        TimeUnit::Nanosecond => Some(1),
+    }
 }

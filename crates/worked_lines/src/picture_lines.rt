@@ -2,6 +2,7 @@
 
 use crate::lines::{has_members, is_text, read};
 use command_line::Job;
+use command_options::TimeUnit;
 use std::alloc::Global;
 use std::test::Fail;
 
@@ -96,18 +97,51 @@ fn reads_pictures(rt: HostRuntime) -> Result<(), Fail> {
     Ok(())
 }
 
-/// Words, and the tick, the names and the table that they give a page.
-const PAGES: &[(&[&str], Option<u64>, Option<&str>, Option<&str>)] = &[
-    (&["page", "t.csv", "--correct", "1,2"], None, None, None),
+/// What a page about processors 1 and 2 is asked for.
+#[derive(Clone, Copy)]
+struct AskedPage {
+    at: Option<u64>,
+    names: Option<&'static str>,
+    table: Option<&'static str>,
+    unit: Option<TimeUnit>,
+}
+
+const USUAL_PAGE: AskedPage = AskedPage {
+    at: None,
+    names: None,
+    table: None,
+    unit: None,
+};
+
+/// Words, and the page that they ask for.
+const PAGES: &[(&[&str], AskedPage)] = &[
+    (&["page", "t.csv", "--correct", "1,2"], USUAL_PAGE),
     (
         &["page", "t.csv", "--correct", "1,2", "--table", "s.csv"],
-        None,
-        None,
-        Some("s.csv"),
+        AskedPage {
+            table: Some("s.csv"),
+            ..USUAL_PAGE
+        },
     ),
     (
         &[
             "page",
+            "t.csv",
+            "--correct=1,2",
+            "--unit",
+            "us",
+            "--table=s.csv",
+        ],
+        AskedPage {
+            table: Some("s.csv"),
+            unit: Some(TimeUnit::Microsecond),
+            ..USUAL_PAGE
+        },
+    ),
+    (
+        &[
+            "page",
+            "--unit=s",
             "--names",
             "a,b",
             "--correct",
@@ -115,27 +149,25 @@ const PAGES: &[(&[&str], Option<u64>, Option<&str>, Option<&str>)] = &[
             "t.csv",
             "--at=3",
         ],
-        Some(3),
-        Some("a,b"),
-        None,
+        AskedPage {
+            at: Some(3),
+            names: Some("a,b"),
+            unit: Some(TimeUnit::Second),
+            ..USUAL_PAGE
+        },
     ),
 ];
 
-/// Whether the words ask for the page about a file, for processors 1 and 2.
-fn asks_for_page(
-    alloc: Global,
-    words: &[&str],
-    at: Option<u64>,
-    names: Option<&str>,
-    table: Option<&str>,
-) -> bool {
+/// Whether the words ask for this page about a file.
+fn asks_for_page(alloc: Global, words: &[&str], page: AskedPage) -> bool {
     match read(alloc, words) {
         Ok(Job::Page(job)) => {
             job.file.as_str() == "t.csv"
                 && has_members(&job.page.correct, &[1, 2])
-                && job.page.at == at
-                && is_text(&job.page.names, names)
-                && is_text(&job.table, table)
+                && job.page.at == page.at
+                && is_text(&job.page.names, page.names)
+                && is_text(&job.table, page.table)
+                && job.page.unit == page.unit
         }
         _ => false,
     }
@@ -143,11 +175,8 @@ fn asks_for_page(
 
 #[test]
 fn reads_pages(rt: HostRuntime) -> Result<(), Fail> {
-    for &(words, at, names, table) in PAGES {
-        assert!(rt;
-            asks_for_page(rt.alloc(), words, at, names, table),
-            "{words:?}"
-        );
+    for &(words, page) in PAGES {
+        assert!(rt; asks_for_page(rt.alloc(), words, page), "{words:?}");
     }
     Ok(())
 }

@@ -2,7 +2,7 @@
 
 use chunk_join::MAX_WORKERS;
 use command_faults::Fault;
-use command_options::{Claim, Drawing, Each, ImportForm, Page, ReportPart};
+use command_options::{Claim, Drawing, Each, ImportForm, Page, ReportPart, TimeUnit};
 use refused_growths::{Outcome, Refusal, judged};
 use std::alloc::{AllocError, Global};
 use std::sync::Wait;
@@ -138,6 +138,7 @@ fn ended<T: Threads + Wait + Sync>(
                 correct: Correct::All,
                 at: None,
                 names: None,
+                unit: Some(TimeUnit::Millisecond),
             };
             let table = Some(Vec::from_slice(alloc, ONE_MISS_STEPS.as_bytes())?);
             serve(alloc, &ToldPage { page, table }, &mut trace, &mut output)
