@@ -173,6 +173,17 @@ pub struct Page {
     pub at: Option<u64>,
     /// The names of the processors, with commas between them: their numbers if there are none.
     pub names: Option<String>,
+    /// The unit of the times in the table of the trace's steps, if it is given.
+    pub unit: Option<TimeUnit>,
+}
+
+/// A unit of time.
+#[derive(Clone, Copy, Debug, PartialEq, Eq)]
+pub enum TimeUnit {
+    Second,
+    Millisecond,
+    Microsecond,
+    Nanosecond,
 }
 
 /// What is printed of a log.

@@ -1,3 +1,5 @@
+pub mod Clocks
+pub mod Digits
 pub mod EvidenceTicks
 pub mod LongNames
 pub mod Pens

@@ -7,4 +7,5 @@ use Rattle.run_page.specs.declared.pens.Pen.{Pen}
 pub record HasWritten (bytes : List ℕ) (old : Pen) (new : Pen) : Type 0 where
   pub names : new.names ≡ old.names
   pub said : new.said ≡ old.said
+  pub clock : new.clock ≡ old.clock
   pub text : new.is_refused ≡ false → (old.is_refused ≡ false) × (new.text.items ≡ old.text.items ++ bytes)

@@ -3,7 +3,7 @@
 use crate::delay_words::put_delay_words;
 use crate::panes::put_picture;
 use crate::pens::Pen;
-use crate::pieces::Piece::{Count, Number, Text};
+use crate::pieces::Piece::{Begin, Count, From, Number, Text};
 use crate::runs::Run;
 use crate::scenes::{LARGE, Scene};
 use crate::stall_words::put_stall_words;
@@ -53,8 +53,8 @@ fn first_late(run: &Run) -> Option<usize> {
 fn put_group_head(pen: &mut Pen<'_>, run: &Run<'_>, place: usize) {
     let late = run.evidence.len().saturating_sub(place);
     pen.put(&[
-        Text("<details class=\"later\"><summary>After tick "),
-        Number(run.found.calm.gst),
+        Text("<details class=\"later\"><summary>After "),
+        From(run.found.calm.gst),
         Text(": "),
         Count(late as u64),
         Text(
@@ -68,7 +68,7 @@ fn put_card(alloc: Global, pen: &mut Pen<'_>, run: &Run<'_>, evidence: &Evidence
     put_card_words(pen, run, evidence);
     pen.text("</div><div class=\"px\">");
     let scene = Scene::of(run, evidence, place.saturating_add(1));
-    let mut picture = Pen::new(alloc, run.names, run.said);
+    let mut picture = Pen::new(alloc, run.names, run.said, run.clock);
     put_picture(&mut picture, &scene);
     let is_large = pen.len().saturating_add(picture.len()) > ROOM_FOR_PICTURES;
     if is_large && !picture.is_refused() {
@@ -94,13 +94,26 @@ fn put_card_head(pen: &mut Pen<'_>, run: &Run<'_>, evidence: &Evidence, place: u
         Text("</span> <span class=\"ti\">"),
     ]);
     put_title(pen, run, evidence);
-    pen.put(&[
-        Text("</span><span class=\"when\">counts from tick "),
-        Number(run.row(evidence.first).gst),
-        Text(" to "),
-        Number(run.until(evidence.last)),
-        Text("</span></summary><div class=\"body\"><div class=\"tx\">"),
-    ]);
+    pen.text("</span><span class=\"when\">counts ");
+    put_counted(pen, run, evidence);
+    pen.text("</span></summary><div class=\"body\"><div class=\"tx\">");
+}
+
+/// Writes for which ticks evidence counts.
+fn put_counted(pen: &mut Pen<'_>, run: &Run<'_>, evidence: &Evidence) {
+    let (first, until) = (run.row(evidence.first).gst, run.until(evidence.last));
+    if run.clock.is_some() {
+        pen.put(&[
+            Text("from "),
+            Begin(first),
+            Text(" to "),
+            Begin(until),
+            Text(", ticks "),
+        ]);
+    } else {
+        pen.text("from tick ");
+    }
+    pen.put(&[Number(first), Text(" to "), Number(until)]);
 }
 
 /// Whether the card of this place is open at first: the first one is, and the next ones if they aren't late.

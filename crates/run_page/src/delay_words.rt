@@ -2,7 +2,7 @@
 
 use crate::headlines::was;
 use crate::pens::Pen;
-use crate::pieces::Piece::{Late, Many, Message, Node, Number, Source, Step, Text, Ticks};
+use crate::pieces::Piece::{Late, Many, Message, Node, Stepped, Text, Tick, Ticks};
 use crate::runs::Run;
 use run_story::{Delay, Stall};
 use step_trace::Act;
@@ -35,18 +35,18 @@ fn put_missed(pen: &mut Pen<'_>, run: &Run<'_>, delay: Delay) {
         Node(run.proc(miss.sent)),
         Text("</b> to <b>"),
         Node(delay.to),
-        Text("</b>, sent in tick "),
-        Number(run.tick(miss.sent)),
+        Text("</b>, sent "),
+        run.made(miss.sent),
     ]);
     pen.put(&[
-        Source(miss.sent),
         Text(", was not there when "),
         Node(delay.to),
-        Text(" received in tick "),
-        Number(run.tick(miss.missed)),
-        Text(" ("),
-        Step(miss.missed),
-        Text("), "),
+        Text(" received "),
+        Stepped {
+            tick: run.tick(miss.missed),
+            no: miss.missed,
+        },
+        Text(", "),
         Late(delay.ticks),
         Text(" later. "),
     ]);
@@ -65,9 +65,8 @@ fn put_fate(pen: &mut Pen<'_>, run: &Run<'_>, sent: u64) {
 fn put_received(pen: &mut Pen<'_>, run: &Run<'_>, sent: u64, taker: u64) {
     let taken = run.tick(taker);
     pen.put(&[
-        Text("It was received in tick "),
-        Number(taken),
-        Source(taker),
+        Text("It was received "),
+        run.made(taker),
         Text(", "),
         Ticks(taken.saturating_sub(sent)),
         Text(" after it was sent. "),
@@ -160,8 +159,8 @@ fn put_ruled_out(pen: &mut Pen<'_>, run: &Run<'_>, delay: Delay) {
     pen.put(&[
         Text("It rules out each Δ below "),
         Ticks(run.row(delay.first).delta),
-        Text(" until tick "),
-        Number(run.tick(delay.miss.sent)),
+        Text(" until "),
+        Tick(run.tick(delay.miss.sent)),
         Text(". "),
     ]);
 }
@@ -178,9 +177,8 @@ fn put_later_ones(pen: &mut Pen<'_>, run: &Run<'_>, delay: Delay) {
         Text(if more == 1 { " rules" } else { " rule" }),
         Text(" out less and less, the last one <b>message "),
         Message(delay.last_message),
-        Text("</b>, sent in tick "),
-        Number(run.tick(delay.last_message)),
-        Source(delay.last_message),
+        Text("</b>, sent "),
+        run.made(delay.last_message),
         Text("."),
     ]);
 }

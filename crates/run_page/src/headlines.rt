@@ -2,7 +2,7 @@
 
 use crate::pens::Pen;
 use crate::pieces::Piece;
-use crate::pieces::Piece::{Count, Late, Many, Node, Number, Silent, Text, Ticks};
+use crate::pieces::Piece::{Count, From, In, Late, Many, Node, Silent, Text, Tick, Ticks};
 use crate::runs::Run;
 use run_story::Headline;
 
@@ -37,31 +37,51 @@ fn put_calm(pen: &mut Pen<'_>, run: &Run<'_>, sent: bool) {
     if found.calm_place == 0 {
         pen.text("All through the run ");
     } else {
-        pen.put(&[Text("From tick "), Number(found.calm.gst), Text(" on ")]);
+        pen.put(&[Text("From "), From(found.calm.gst), Text(" on ")]);
     }
-    put_arrived(pen, found.calm.delta, sent);
+    put_arrived(pen, run, sent);
     pen.put(&[
         Text(" and every node stepped at least every "),
+        Text(about(run, found.calm.phi)),
         Silent(found.calm.phi),
         Text("."),
     ]);
 }
 
+/// Of a bound of so few ticks, told as time, a tick is more than a tenth.
+const FEW_TICKS: u64 = 10;
+
+/// `about ` before a bound as time if its last tick counts much.
+fn about(run: &Run, bound: u64) -> &'static str {
+    if run.clock.is_some() && bound < FEW_TICKS {
+        "about "
+    } else {
+        ""
+    }
+}
+
 /// Writes about the messages of a calm run, by their bound, and by whether there is one.
-fn put_arrived(pen: &mut Pen<'_>, delta: u64, sent: bool) {
+fn put_arrived(pen: &mut Pen<'_>, run: &Run<'_>, sent: bool) {
+    let delta = run.found.calm.delta;
     if !sent {
         pen.text("no message was sent between the nodes");
     } else if delta == 1 {
         pen.text("each message was received at the receiver’s next look");
     } else {
-        pen.put(&[Text("every message arrived within "), Late(delta)]);
+        pen.put(&[
+            Text("every message arrived within "),
+            Text(about(run, delta)),
+            Late(delta),
+        ]);
     }
 }
 
 /// Writes the bounds of a run that is too short to say more.
 fn put_too_short(pen: &mut Pen<'_>, run: &Run<'_>, delta: u64, phi: u64) {
     pen.put(&[
-        Text("The run is too short to tell much: from tick 1 on Δ = "),
+        Text("The run is too short to tell much: from "),
+        Tick(1),
+        Text(" on Δ = "),
         Late(delta),
         Text(" and Φ = "),
         Silent(phi),
@@ -81,11 +101,7 @@ fn put_silent_to_end(pen: &mut Pen<'_>, run: &Run<'_>, proc: u64, since: Option<
     if after == 0 {
         pen.text("in the whole run");
     } else {
-        pen.put(&[
-            Text("after tick "),
-            Number(after),
-            Text(", to the end of the run"),
-        ]);
+        pen.put(&[Text("after "), Tick(after), Text(", to the end of the run")]);
     }
     pen.put(&[
         Text(": "),
@@ -108,8 +124,8 @@ fn put_never_received(pen: &mut Pen<'_>, run: &Run<'_>) {
     ]);
     match counts.last_lost {
         Some(no) => pen.put(&[
-            Text(", the last of them sent in tick "),
-            Number(run.tick(no)),
+            Text(", the last of them sent "),
+            In(run.tick(no)),
             Text("."),
         ]),
         None => pen.text("."),

@@ -3,6 +3,7 @@
 use crate::headlines::was;
 use crate::pens::Pen;
 use crate::pieces::Piece::{Count, Late, Many, Message, Node, Silent, Text, Ticks};
+use crate::row_table::put_again;
 use crate::runs::Run;
 use crate::stall_words::put_stretch;
 use crate::titles::gap_ticks;
@@ -177,23 +178,19 @@ fn put_blame(pen: &mut Pen<'_>, run: &Run<'_>) {
         Node(blame.proc),
         Text("</b> the whole run would keep "),
     ]);
-    put_fall(pen, "Δ = ", blame.delta, first.delta);
+    put_fall(pen, run, "Δ = ", blame.delta, first.delta);
     if blame.delta < first.delta && blame.phi < first.phi {
         pen.text(" and ");
     }
-    put_fall(pen, "Φ = ", blame.phi, first.phi);
+    put_fall(pen, run, "Φ = ", blame.phi, first.phi);
     pen.text(". ");
 }
 
 /// Writes a bound in place of a greater one; nothing if it is the same.
-fn put_fall(pen: &mut Pen<'_>, name: &'static str, bound: u64, before: u64) {
+fn put_fall(pen: &mut Pen<'_>, run: &Run<'_>, name: &'static str, bound: u64, before: u64) {
     if bound < before {
-        pen.put(&[
-            Text(name),
-            Ticks(bound),
-            Text(" in place of "),
-            Count(before),
-        ]);
+        pen.put(&[Text(name), Ticks(bound), Text(" in place of ")]);
+        put_again(pen, run, before);
     }
 }
 

@@ -3,7 +3,9 @@
 
 mod axes;
 mod cards;
+mod clocks;
 mod delay_words;
+mod digits;
 mod evidence_ticks;
 mod glances;
 mod headlines;
@@ -29,4 +31,4 @@ mod titles;
 mod who;
 
 pub use evidence_ticks::evidence_window;
-pub use pages::page_text;
+pub use pages::{LogWords, page_text};

@@ -2,7 +2,7 @@
 
 use crate::panes::{LANE, Pane};
 use crate::pens::Pen;
-use crate::pieces::Piece::{At, Message, Node, Number, Source, Text, Ticks};
+use crate::pieces::Piece::{At, Message, Node, Number, Text, Ticks};
 use crate::runs::Run;
 use crate::scales::Place;
 use crate::scenes::nodes_of;
@@ -276,14 +276,12 @@ fn put_miss_title(pen: &mut Pen<'_>, run: &Run<'_>, delay: Delay) {
     pen.put(&[
         Text("message "),
         Message(miss.sent),
-        Text(", sent in tick "),
-        Number(run.tick(miss.sent)),
-        Source(miss.sent),
+        Text(", sent "),
+        run.made(miss.sent),
         Text(", is not there when "),
         Node(delay.to),
-        Text(" receives in tick "),
-        Number(run.tick(miss.missed)),
-        Source(miss.missed),
+        Text(" receives "),
+        run.made(miss.missed),
     ]);
 }
 
@@ -297,9 +295,8 @@ fn put_way_title(pen: &mut Pen<'_>, run: &Run<'_>, sent: u64) {
         Node(run.proc(sent)),
         Text(" to "),
         Node(run.receiver(sent)),
-        Text(": sent in tick "),
-        Number(tick),
-        Source(sent),
+        Text(": sent "),
+        run.made(sent),
         Text(", "),
     ]);
     match run.taker(sent) {
@@ -312,9 +309,8 @@ fn put_way_title(pen: &mut Pen<'_>, run: &Run<'_>, sent: u64) {
 fn put_taking(pen: &mut Pen<'_>, run: &Run<'_>, sent: u64, taker: u64) {
     let taken = run.tick(taker);
     pen.put(&[
-        Text("received in tick "),
-        Number(taken),
-        Source(taker),
+        Text("received "),
+        run.made(taker),
         Text(", "),
         Ticks(taken.saturating_sub(sent)),
         Text(" later"),

@@ -5,12 +5,13 @@ ghost use Rattle.step_trace.specs.Fronts.{IsReport};
 ghost use Rattle.step_trace.specs.Processors.{IsWithin};
 
 use crate::cards::{put_card_words, put_cards};
+use crate::clocks::Clock;
 use crate::glances::put_glance;
 use crate::headlines::put_headline;
 use crate::leads::put_lead;
 use crate::node_bounds::NodeBounds;
 use crate::pens::Pen;
-use crate::pieces::Piece::{Count, Many, Node, Number, Text, Ticks};
+use crate::pieces::Piece::{Count, Many, Node, Number, Short, Text};
 use crate::row_table::put_row_table;
 use crate::runs::{Found, Run, row_at};
 use crate::scans::Scan;
@@ -23,13 +24,23 @@ use run_story::{
     named_evidence,
 };
 use std::alloc::{AllocError, Global};
-use step_tables::StepRow;
+use step_tables::{StepRow, tick_times};
 use step_trace::{ProcSet, Row, Trace};
 
+/// What a log calls things, as far as that is known.
+#[derive(Clone, Copy)]
+pub struct LogWords<'a> {
+    /// The names of the processors, in their order; one without a name has its number.
+    pub names: &'a [&'a str],
+    /// What a table says about the steps; nothing without one.
+    pub said: &'a [StepRow],
+    /// How many nanoseconds the unit of the table's times has. If it isn't given, they are nanoseconds if the first tick
+    /// begins at `STAMPS` or later, and else no time is told.
+    pub unit: Option<u64>,
+}
+
 /// The page about a run, in UTF-8: HTML that needs no script and loads nothing else. `rows` is the report of the trace
-/// for the set. `names` has the names of the processors in their order; one without a name has its number. `said` is
-/// what a table says about the steps, and nothing without one. The row that applies to the tick `at` is the calm one,
-/// if it is given.
+/// for the set. The row that applies to the tick `at` is the calm one, if it is given.
 ///
 /// Time grows with the trace and the rows, apart from the sorting of the evidence. Fails only if out of memory.
 pub fn page_text(
@@ -37,8 +48,7 @@ pub fn page_text(
     trace: &Trace,
     set: ProcSet,
     rows: &[Row],
-    names: &[&str],
-    said: &[StepRow],
+    words: &LogWords<'_>,
     at: Option<u64>,
 ) -> Result<Vec<u8>, AllocError>
     requires within { IsWithin set trace.now.config.n }
@@ -52,8 +62,9 @@ pub fn page_text(
         trace,
         set,
         rows,
-        names,
-        said,
+        names: words.names,
+        said: words.said,
+        clock: clock_of(trace, words),
         evidence: &story.evidence,
         named: &story.named,
         brief: &story.brief,
@@ -65,6 +76,20 @@ pub fn page_text(
         found,
     };
     written(alloc, &run)
+}
+
+/// So many nanoseconds had passed from the start of 1970 on in September 2001.
+const STAMPS: u64 = 1_000_000_000_000_000_000;
+
+/// The clock of a run, if the length of its ticks is known, and in which unit.
+fn clock_of(trace: &Trace, words: &LogWords<'_>) -> Option<Clock> {
+    let times = tick_times(trace, words.said)?;
+    let unit = match words.unit {
+        Some(unit) => unit,
+        None if times.first >= STAMPS => 1,
+        None => return None,
+    };
+    Clock::of(times.width.checked_mul(unit)?, trace.last_tick())
 }
 
 /// Where the run is calm, and its headline.
@@ -166,7 +191,7 @@ impl Steps {
 
 /// The text of the page.
 fn written(alloc: Global, run: &Run<'_>) -> Result<Vec<u8>, AllocError> {
-    let mut pen = Pen::new(alloc, run.names, run.said);
+    let mut pen = Pen::new(alloc, run.names, run.said, run.clock);
     put_head(&mut pen, run);
     put_header(&mut pen, run);
     if run.is_shown() {
@@ -237,8 +262,19 @@ fn put_facts(pen: &mut Pen<'_>, run: &Run<'_>) {
         Text(", "),
         Many(run.counts.all, "message"),
         Text(" between members · "),
-        Ticks(run.last()),
     ]);
+    put_length(pen, run);
+}
+
+/// Writes how long the run is, and how long its ticks are.
+fn put_length(pen: &mut Pen<'_>, run: &Run<'_>) {
+    if run.clock.is_some() {
+        pen.put(&[Short(run.last()), Text(" in ")]);
+    }
+    pen.put(&[Many(run.last(), "tick")]);
+    if run.clock.is_some() {
+        pen.put(&[Text(" of "), Short(1)]);
+    }
 }
 
 /// Writes which nodes are members.
@@ -264,7 +300,7 @@ fn put_body(alloc: Global, pen: &mut Pen<'_>, run: &Run<'_>) {
     put_glance(pen, run);
     pen.text("<div class=\"side\">");
     put_who(pen, run);
-    pen.text(HOW);
+    put_how(pen, run);
     put_key(pen, run);
     put_cards(alloc, pen, run);
     put_row_table(pen, run);
@@ -273,7 +309,21 @@ fn put_body(alloc: Global, pen: &mut Pen<'_>, run: &Run<'_>) {
 }
 
 const HOW: &str =
-    "<section class=\"how\" aria-labelledby=\"h-how\"><h2 id=\"h-how\">How to read this</h2><p><b class=\"dl\">Δ</b> is the least time such that no receive misses a message that was sent that long before it or longer; <b class=\"phi\">Φ</b> is the least time in which each node always takes a step. Each tick has its own pair, which holds from there to the end of the run, so the lines only fall, and each piece of evidence rules out smaller bounds. The last stretch of a run shows small bounds because nothing was left to refute them, and ticks are counted, not timed.</p></section>";
+    "<section class=\"how\" aria-labelledby=\"h-how\"><h2 id=\"h-how\">How to read this</h2><p><b class=\"dl\">Δ</b> is the least time such that no receive misses a message that was sent that long before it or longer; <b class=\"phi\">Φ</b> is the least time in which each node always takes a step. Each tick has its own pair, which holds from there to the end of the run, so the lines only fall, and each piece of evidence rules out smaller bounds. The last stretch of a run shows small bounds because nothing was left to refute them, and ";
+
+/// Writes what the bounds are.
+fn put_how(pen: &mut Pen<'_>, run: &Run<'_>) {
+    pen.text(HOW);
+    if run.clock.is_some() {
+        pen.put(&[
+            Text("a tick tells a moment only to within its own "),
+            Short(1),
+        ]);
+    } else {
+        pen.text("ticks are counted, not timed");
+    }
+    pen.text(".</p></section>");
+}
 
 /// Writes the beginning of the evidence, with what the marks mean, if there are any.
 fn put_key(pen: &mut Pen<'_>, run: &Run<'_>) {

@@ -5,7 +5,7 @@ ghost use Rattle.std.specs.Prelude.{◌≤◌, ◌*◌};
 use crate::axes::put_axis;
 use crate::message_marks::{count_in_lanes, put_messages, put_miss};
 use crate::pens::Pen;
-use crate::pieces::Piece::{Count, Number, Percent, Text, Ticks};
+use crate::pieces::Piece::{Begin, Count, Number, Percent, Short, Text};
 use crate::run_lanes::{lanes_in, paleness, put_lane_names};
 use crate::runs::Run;
 use crate::scales::{Span, WIDE};
@@ -41,7 +41,7 @@ fn put_two_plots(pen: &mut Pen<'_>, left: &Pane<'_>, right: &Pane<'_>) {
     let out = right.span.first.saturating_sub(left.span.to);
     pen.put(&[
         Text("<div class=\"cut\" aria-hidden=\"true\"><span>"),
-        Ticks(out.saturating_sub(1)),
+        Short(out.saturating_sub(1)),
         Text(" left out</span></div>"),
     ]);
     put_plot(pen, right);
@@ -207,14 +207,15 @@ fn put_gap_label(pen: &mut Pen<'_>, pane: &Pane<'_>, stall: Stall) {
         Text(";top:"),
         Number(pane.y(stall.gap.proc)),
         Text("px\">"),
-        Ticks(gap_ticks(stall.gap.from, stall.gap.to)),
+        Short(gap_ticks(stall.gap.from, stall.gap.to)),
         Text("</span>"),
     ]);
 }
 
 /// Writes which ticks, lanes and messages a picture has.
 fn put_caption(pen: &mut Pen<'_>, scene: &Scene<'_>) {
-    pen.text("<p class=\"cap\">Ticks ");
+    pen.text("<p class=\"cap\">");
+    put_times(pen, scene);
     put_range(pen, scene.left);
     if let Some(right) = scene.right {
         pen.text(" and ");
@@ -223,6 +224,25 @@ fn put_caption(pen: &mut Pen<'_>, scene: &Scene<'_>) {
     put_some_lanes(pen, scene);
     put_left_out(pen, scene);
     pen.text("</p>");
+}
+
+/// Writes when the ticks of a picture begin, if that is known, and that its ticks come next.
+fn put_times(pen: &mut Pen<'_>, scene: &Scene<'_>) {
+    if scene.run.clock.is_none() {
+        pen.text("Ticks ");
+        return;
+    }
+    let (left, right) = (scene.left, scene.right);
+    pen.put(&[Begin(left.first), Text(" to "), Begin(left.to)]);
+    if let Some(right) = right {
+        pen.put(&[
+            Text(" and "),
+            Begin(right.first),
+            Text(" to "),
+            Begin(right.to),
+        ]);
+    }
+    pen.text(", ticks ");
 }
 
 /// Writes from which tick to which.

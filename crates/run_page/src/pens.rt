@@ -4,6 +4,7 @@ ghost use Rattle.std.specs.Prelude.{◌≡◌, true, map};
 ghost use Rattle.run_page.specs.Pieces.{pieces_text};
 ghost use Rattle.run_page.specs.Pens.{HasWritten};
 
+use crate::clocks::Clock;
 use crate::pieces::{Piece, push_pieces};
 use std::alloc::{AllocError, Global};
 use step_tables::StepRow;
@@ -17,16 +18,24 @@ pub(crate) struct Pen<'a> {
     names: &'a [&'a str],
     // What a table says about the steps; nothing without one.
     said: &'a [StepRow],
+    // How long ticks are, if that is known.
+    clock: Option<Clock>,
     is_refused: bool,
 }
 
 impl<'a> Pen<'a> {
     /// A pen that has written nothing.
-    pub(crate) fn new(alloc: Global, names: &'a [&'a str], said: &'a [StepRow]) -> Self {
+    pub(crate) fn new(
+        alloc: Global,
+        names: &'a [&'a str],
+        said: &'a [StepRow],
+        clock: Option<Clock>,
+    ) -> Self {
         Pen {
             text: Vec::new(alloc),
             names,
             said,
+            clock,
             is_refused: false,
         }
     }
@@ -54,12 +63,12 @@ impl<'a> Pen<'a> {
 
     /// Writes these pieces, one after the other.
     pub(crate) fn put(&mut self, pieces: &[Piece])
-        ensures { HasWritten (pieces_text (map (λ x. x.now) self.old.names.now) self.old.said.now pieces.now) self.old self.new }
+        ensures { HasWritten (pieces_text (map (λ x. x.now) self.old.names.now) self.old.said.now self.old.clock pieces.now) self.old self.new }
     {
         if self.is_refused {
             return;
         }
-        if push_pieces(&mut self.text, self.names, self.said, pieces).is_err() {
+        if push_pieces(&mut self.text, self.names, self.said, self.clock, pieces).is_err() {
             self.is_refused = true;
         }
     }

@@ -44,9 +44,9 @@ fn put_row(pen: &mut Pen<'_>, run: &Run<'_>, first: usize, last: usize) {
         Number(from.gst),
         Text("</td><td>"),
     ]);
-    put_falling(pen, from.delta, to.delta);
+    put_falling(pen, run, from.delta, to.delta);
     pen.text("</td><td>");
-    put_falling(pen, from.phi, to.phi);
+    put_falling(pen, run, from.phi, to.phi);
     pen.text("</td><td>");
     if let Some(named) = run.named.get(first) {
         put_links(pen, *named);
@@ -66,11 +66,21 @@ fn row_head(run: &Run, first: usize, last: usize) -> &'static str {
 }
 
 /// Writes a bound that may fall.
-fn put_falling(pen: &mut Pen<'_>, from: u64, to: u64) {
+fn put_falling(pen: &mut Pen<'_>, run: &Run<'_>, from: u64, to: u64) {
     pen.put(&[Ticks(from)]);
     if from != to {
-        pen.put(&[Text(" falling to "), Count(to)]);
+        pen.text(" falling to ");
+        put_again(pen, run, to);
     }
+}
+
+/// Writes a bound after another one: ticks alone have no unit then.
+pub(crate) fn put_again(pen: &mut Pen<'_>, run: &Run<'_>, bound: u64) {
+    pen.put(&[if run.clock.is_some() {
+        Ticks(bound)
+    } else {
+        Count(bound)
+    }]);
 }
 
 /// Writes links to the evidence that a row names.

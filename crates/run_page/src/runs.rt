@@ -2,7 +2,9 @@
 
 ghost use Rattle.std.specs.Prelude.{◌≤◌};
 
+use crate::clocks::Clock;
 use crate::node_bounds::NodeBounds;
+use crate::pieces::Piece;
 use crate::scans::{Scan, tick_at};
 use run_picture::takers::taker_in;
 use run_story::{Evidence, Headline, MessageCounts, Named};
@@ -18,6 +20,8 @@ pub(crate) struct Run<'a> {
     pub names: &'a [&'a str],
     /// What a table says about the steps; nothing without one.
     pub said: &'a [StepRow],
+    /// How long ticks are, if that is known.
+    pub clock: Option<Clock>,
     /// Evidence in the order of the page, and for each row which it names.
     pub evidence: &'a [Evidence],
     pub named: &'a [Named],
@@ -73,6 +77,14 @@ impl Run<'_> {
     /// The tick of the step of this number; 0 if there is no such step.
     pub(crate) fn tick(&self, no: u64) -> u64 {
         tick_at(self.trace, no)
+    }
+
+    /// When the step of this number was made.
+    pub(crate) fn made(&self, no: u64) -> Piece {
+        Piece::Made {
+            tick: self.tick(no),
+            no,
+        }
     }
 
     /// The processor of the step of this number; 0 if there is no such step.

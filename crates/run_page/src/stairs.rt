@@ -3,7 +3,7 @@
 ghost use Rattle.std.specs.Prelude.{◌≤◌};
 
 use crate::pens::Pen;
-use crate::pieces::Piece::{Count, Number, Percent, Text, Ticks};
+use crate::pieces::Piece::{Count, From, Number, Percent, Short, Text, Tick, Ticks};
 use crate::runs::Run;
 use crate::scales::{Span, WIDE};
 use run_picture::BoundScale;
@@ -104,8 +104,8 @@ fn put_stairs_head(pen: &mut Pen<'_>, run: &Run<'_>) {
         Ticks(first.phi),
     ]);
     pen.put(&[
-        Text("; from tick "),
-        Number(calm.gst),
+        Text("; from "),
+        From(calm.gst),
         Text(" on Δ is "),
         Ticks(calm.delta),
         Text(" and Φ is "),
@@ -229,8 +229,8 @@ fn put_hint(pen: &mut Pen<'_>, row: Row, x: u64) {
         Number(HEIGHT),
         Text("H"),
         Number(x),
-        Text("z\"><title>from tick "),
-        Number(row.gst),
+        Text("z\"><title>from "),
+        Tick(row.gst),
     ]);
     pen.put(&[
         Text(" on: Δ = "),
@@ -286,12 +286,12 @@ pub(crate) fn put_calm_label(pen: &mut Pen<'_>, run: &Run<'_>) {
         Text(if x > WIDE * 7 / 10 { " flip" } else { "" }),
         Text("\" style=\"left:"),
         Percent(x),
-        Text("\">from tick "),
-        Number(calm.gst),
+        Text("\">from "),
+        From(calm.gst),
         Text(": <b class=\"dl\">Δ "),
-        Ticks(calm.delta),
+        Short(calm.delta),
         Text("</b>, <b class=\"phi\">Φ "),
-        Ticks(calm.phi),
+        Short(calm.phi),
         Text("</b></span>"),
     ]);
 }

@@ -1,7 +1,7 @@
 //! A silence in words.
 
 use crate::pens::Pen;
-use crate::pieces::Piece::{Message, Node, Number, Silent, Step, Text, Ticks};
+use crate::pieces::Piece::{In, Message, Node, Number, Silent, Step, Text, Tick, Ticks};
 use crate::runs::Run;
 use crate::titles::gap_ticks;
 use run_story::Stall;
@@ -22,14 +22,9 @@ pub(crate) fn put_stall_words(pen: &mut Pen<'_>, run: &Run<'_>, stall: Stall) {
 /// Writes from which tick to which.
 pub(crate) fn put_stretch(pen: &mut Pen<'_>, from: u64, to: u64) {
     if from == to {
-        pen.put(&[Text("in tick "), Number(from)]);
+        pen.put(&[In(from)]);
     } else {
-        pen.put(&[
-            Text("from tick "),
-            Number(from),
-            Text(" to tick "),
-            Number(to),
-        ]);
+        pen.put(&[Text("from "), Tick(from), Text(" to "), Tick(to)]);
     }
 }
 
@@ -135,13 +130,13 @@ fn put_ruled_out(pen: &mut Pen<'_>, run: &Run<'_>, stall: Stall) {
     pen.put(&[
         Text("It rules out each Φ below "),
         Ticks(run.row(stall.first).phi),
-        Text(" until tick "),
-        Number(stall.gap.from),
+        Text(" until "),
+        Tick(stall.gap.from),
     ]);
     match run.rows.get(stall.last.saturating_add(1)) {
         Some(next) => pen.put(&[
-            Text(", then less and less until tick "),
-            Number(next.gst),
+            Text(", then less and less until "),
+            Tick(next.gst),
             Text(", where Φ falls to "),
             Ticks(next.phi),
             Text("."),

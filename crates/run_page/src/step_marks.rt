@@ -2,7 +2,7 @@
 
 use crate::panes::Pane;
 use crate::pens::Pen;
-use crate::pieces::Piece::{At, Message, Node, Number, Step, Text};
+use crate::pieces::Piece::{At, Begin, Message, Node, Number, Step, Text};
 use crate::runs::Run;
 use crate::stall_words::put_received;
 use step_trace::Act;
@@ -133,11 +133,9 @@ fn put_step_title(pen: &mut Pen<'_>, run: &Run<'_>, no: u64) {
             put_received(pen, ids.as_slice());
         }
     }
-    pen.put(&[
-        Text(" ("),
-        Step(no),
-        Text(", tick "),
-        Number(run.tick(no)),
-        Text(")"),
-    ]);
+    pen.put(&[Text(" ("), Step(no), Text(", tick "), Number(run.tick(no))]);
+    if run.clock.is_some() {
+        pen.put(&[Text(", "), Begin(run.tick(no))]);
+    }
+    pen.text(")");
 }

@@ -1,7 +1,8 @@
 //! Who is to blame: the bounds of each node and of each pair, as a table.
 
 use crate::pens::Pen;
-use crate::pieces::Piece::{Count, Label, Node, Number, Text, Ticks};
+use crate::pieces::Piece;
+use crate::pieces::Piece::{From, Label, Node, Number, Text, Ticks};
 use crate::run_lanes::lanes_in;
 use crate::runs::Run;
 use run_picture::log_of;
@@ -109,7 +110,7 @@ fn put_phi(pen: &mut Pen<'_>, run: &Run<'_>, proc: u64) {
         Text("<td class=\"hp\" style=\"--a:"),
         Number(shade(value, run.row(0).phi)),
         Text("%\">"),
-        Count(value),
+        cell(run, value),
     ]);
     put_later(pen, run, run.rest.phi(proc));
     pen.text("</td>");
@@ -131,7 +132,7 @@ fn put_delta(pen: &mut Pen<'_>, run: &Run<'_>, from: u64, to: u64) {
         Text(": "),
         Ticks(value),
         Text("\">"),
-        Count(value),
+        cell(run, value),
     ]);
     put_later(pen, run, run.rest.delta(from, to));
     pen.text("</td>");
@@ -145,7 +146,16 @@ fn put_later(pen: &mut Pen<'_>, run: &Run<'_>, bound: u64) {
     if bound == 0 {
         pen.text("<small>–</small>");
     } else {
-        pen.put(&[Text("<small>"), Count(bound), Text("</small>")]);
+        pen.put(&[Text("<small>"), cell(run, bound), Text("</small>")]);
+    }
+}
+
+/// A bound in a cell: as time, or else as a number of ticks.
+fn cell(run: &Run, bound: u64) -> Piece {
+    if run.clock.is_some() {
+        Piece::Short(bound)
+    } else {
+        Piece::Count(bound)
     }
 }
 
@@ -157,16 +167,33 @@ fn shade(value: u64, most: u64) -> u64 {
     6 + log_of(value) * 54 / log_of(most.max(10)).max(1)
 }
 
-fn put_caption(pen: &mut Pen<'_>, run: &Run<'_>, shown: ProcSet) {
-    if run.found.calm_place == 0 {
-        pen.text("<p class=\"cap\">In ticks, over the whole run. A dot: nothing was sent.");
+/// Writes what the numbers in the cells are.
+fn put_cells(pen: &mut Pen<'_>, run: &Run<'_>) {
+    pen.text("<p class=\"cap\">");
+    let is_whole = run.found.calm_place == 0;
+    if run.clock.is_none() {
+        pen.text(if is_whole {
+            "In ticks, over"
+        } else {
+            "In ticks. "
+        });
+    } else if is_whole {
+        pen.text("Over");
+    }
+    if is_whole {
+        pen.text(" the whole run.");
     } else {
         pen.put(&[
-            Text("<p class=\"cap\">In ticks. Upper number: over the whole run. Lower: from tick "),
-            Number(run.found.calm.gst),
-            Text(" on. A dot: nothing was sent."),
+            Text("Upper number: over the whole run. Lower: from "),
+            From(run.found.calm.gst),
+            Text(" on."),
         ]);
     }
+}
+
+fn put_caption(pen: &mut Pen<'_>, run: &Run<'_>, shown: ProcSet) {
+    put_cells(pen, run);
+    pen.text(" A dot: nothing was sent.");
     let (some, all) = (lanes_in(shown), run.members());
     if some < all {
         pen.put(&[

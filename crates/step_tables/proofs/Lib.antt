@@ -1,3 +1,4 @@
 pub mod RefusalsGoOn
 pub mod SortedWords
 pub mod Texts
+pub mod TickLengths

@@ -2,4 +2,5 @@ pub mod Names
 pub mod Records
 pub mod RefusalTexts
 pub mod Tables
+pub mod TickBegins
 pub mod Told

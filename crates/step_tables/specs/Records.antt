@@ -56,7 +56,7 @@ message_of (act.Receive ends ids) fields = []
 
 -- what a record says about a step
 abbrev pub said_of : Act → List (List ℕ) → Said
-said_of a fields = record { source = number_of (field_of fields 3); message = message_of a fields }
+said_of a fields = record { source = number_of (field_of fields 3); message = message_of a fields; begins = number_of (field_of fields 2) }
 
 -- what is known once the record says what a step does
 abbrev pub with_deed : ℕ → Told → Act → List (List ℕ) → Result Told TableError

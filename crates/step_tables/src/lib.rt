@@ -8,7 +8,9 @@ mod records;
 mod refusal_texts;
 mod refusals;
 mod tables;
+mod tick_begins;
 
 pub use reading::table_of_text;
 pub use refusals::TableError;
 pub use tables::{StepRow, StepTable, message_at, source_at};
+pub use tick_begins::{TickTimes, tick_times};

@@ -239,7 +239,13 @@ fn push_row(
         return Err(TableError::Memory);
     };
     let source = number(field(fields, 3));
-    match rows.push(StepRow { source, message }) {
+    let begins = number(field(fields, 2));
+    let row = StepRow {
+        source,
+        message,
+        begins,
+    };
+    match rows.push(row) {
         Ok(()) => Ok(()),
         Err(_) => Err(TableError::Memory),
     }

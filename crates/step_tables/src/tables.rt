@@ -13,6 +13,8 @@ pub struct StepRow {
     pub source: Option<u64>,
     /// What its message is called, in UTF-8, if it is a Send.
     pub message: Vec<u8>,
+    /// When its tick begins, in what the times of the table are counted in, if that is a number of 64 bits.
+    pub begins: Option<u64>,
 }
 
 impl Model for StepRow {
@@ -20,7 +22,7 @@ impl Model for StepRow {
 
     ghost Value = { Said };
 
-    ghost view = { λ row. record { source = row.source; message = row.message.items } };
+    ghost view = { λ row. record { source = row.source; message = row.message.items; begins = row.begins } };
 }
 
 impl StepRow {
@@ -34,6 +36,12 @@ impl StepRow {
         ensures { result.now ≡ self.now.message }
     {
         self.message.as_slice()
+    }
+
+    pub(crate) fn begins(&self) -> Option<u64>
+        ensures { result ≡ self.now.begins }
+    {
+        self.begins
     }
 }
 

@@ -12,8 +12,8 @@ use crate::report_parts::{report_of, test_at};
 use crate::texts::read_whole;
 use crate::traces::set_of;
 use command_faults::Fault;
-use command_options::Page;
-use run_page::page_text;
+use command_options::{Page, TimeUnit};
+use run_page::{LogWords, page_text};
 use std::alloc::Global;
 use std::io::Read;
 use step_tables::{StepTable, TableError, table_of_text};
@@ -93,12 +93,35 @@ fn told(
     test_at(trace, page.at)?;
     let report = report_of(alloc, trace, set)?;
     let rows = report.rows();
+    let unit = nanoseconds_in(page.unit);
     let text = match table {
         Some(table) => {
             let names = table.names(alloc)?;
-            page_text(alloc, trace, set, rows, &names, table.rows(), page.at)
+            let words = LogWords {
+                names: &names,
+                said: table.rows(),
+                unit,
+            };
+            page_text(alloc, trace, set, rows, &words, page.at)
         }
-        None => page_text(alloc, trace, set, rows, &listed, &[], page.at),
+        None => {
+            let words = LogWords {
+                names: &listed,
+                said: &[],
+                unit: None,
+            };
+            page_text(alloc, trace, set, rows, &words, page.at)
+        }
     };
     Ok(text?)
+}
+
+/// How many nanoseconds a unit has, if one is given.
+fn nanoseconds_in(unit: Option<TimeUnit>) -> Option<u64> {
+    match unit? {
+        TimeUnit::Second => Some(1_000_000_000),
+        TimeUnit::Millisecond => Some(1_000_000),
+        TimeUnit::Microsecond => Some(1_000),
+        TimeUnit::Nanosecond => Some(1),
+    }
 }

@@ -248,13 +248,15 @@ def page(
     at: Optional[int] = None,
     names: Optional[Iterable[str]] = None,
     table: Optional[Text] = None,
+    unit: Optional[str] = None,
 ) -> bytes:
     """A page about the run, as HTML. The run counts as calm from the tick `at` on; `names` are names for the
-    processors. The names of nodes and messages, and the records of the log, come from `table`, the table of the steps."""
+    processors. The names of nodes and messages, and the records of the log, come from `table`, the table of the steps.
+    With `unit`, one of s, ms, us and ns, its times are of that unit, and ticks are told as time, too."""
     listed = _set_of(correct)[1]
     if table is None:
-        return _asked("page", trace, correct=listed, at=at, names=names)
-    return _asked("page", trace, _bytes_of(table), "--table=table", correct=listed, at=at, names=names)
+        return _asked("page", trace, correct=listed, at=at, names=names, unit=unit)
+    return _asked("page", trace, _bytes_of(table), "--table=table", correct=listed, at=at, names=names, unit=unit)
 
 
 def import_log(
