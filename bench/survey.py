@@ -4,7 +4,7 @@
     bench/survey.py [--traces N] [--steps N] [--workers W] [--rounds N]
 
 Makes N traces of so many steps, and then, in each round, one after the other: a survey of them by W processes, as its own
-program, and W processes of bench/survey.c, each over its share. Both answers are compared. Printed are the wall-clock times in
+program, and W processes of bench/callers/survey.c, each over its share. Both answers are compared. Printed are the wall-clock times in
 seconds, the CPU times of all processes, and the ratios of the medians.
 """
 import argparse
@@ -90,7 +90,7 @@ def main():
     with tempfile.TemporaryDirectory() as folder:
         folder = Path(folder)
         program = folder / "survey"
-        subprocess.run(["cc", "-O2", "-o", program, TOP / "bench/survey.c", TOP / "out/libsynchrony.a"], check=True)
+        subprocess.run(["cc", "-O2", "-o", program, TOP / "bench/callers/survey.c", TOP / "out/libsynchrony.a"], check=True)
         files = list(make_traces(folder, words.traces, words.steps))
         print(f"{len(files)} traces, {sum(it.stat().st_size for it in files) / len(files):.0f} bytes each on average")
         by_survey(folder / "cache", files[:1], 1, 1)

@@ -1,7 +1,7 @@
 #!/usr/bin/env python3
 """What a page about a run reports, straight from the definitions: slow, and by plain loops.
 
-    bench/story_oracle.py FILE --correct LIST|all
+    bench/oracles/story_oracle.py FILE --correct LIST|all
 
 It reads a trace text that is right, finds the rows of its report, and prints, with places counted from 0:
 

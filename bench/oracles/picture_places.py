@@ -3,7 +3,7 @@
 marks of `picture_marks.py`: where each mark is, how it looks and what its title says. `tests/pictures` compares the
 program's pictures with it.
 
-    bench/picture_places.py --crowd >crowd.trace
+    bench/oracles/picture_places.py --crowd >crowd.trace
 
 prints the trace of 20 processors that it draws. Lengths are tenths of a pixel, and places may differ by two of them, since
 the program rounds.

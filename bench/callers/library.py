@@ -3,7 +3,7 @@ import sys
 from pathlib import Path
 
 sys.dont_write_bytecode = True
-sys.path.insert(0, str(Path(__file__).resolve().parent.parent / "python/src"))
+sys.path.insert(0, str(Path(__file__).resolve().parents[2] / "python/src"))
 import synchrony
 
 correct, file, count = [int(it) for it in sys.argv[1].split(",")], sys.argv[2], int(sys.argv[3])

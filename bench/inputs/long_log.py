@@ -2,7 +2,7 @@
 """Writes a log of so many events of 16 nodes, to measure `import` with: half of them are sends, and nearly all that is sent
 is received, some of it late.
 
-    bench/long_log.py EVENTS [--stamps] [--coarse] [--long-names] [--shuffled] [--seed N] >FILE
+    bench/inputs/long_log.py EVENTS [--stamps] [--coarse] [--long-names] [--shuffled] [--seed N] >FILE
 
 Times are numbers, in which each node acts at most once at a time; with --stamps time stamps, a millisecond apart, which want
 `--tick 1ms`. With --coarse five times are one, so that it wants `--spread`. With --shuffled the records are in any order.

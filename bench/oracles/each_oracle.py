@@ -1,7 +1,7 @@
 #!/usr/bin/env python3
 """The bounds of each processor and of each link from a tick on, straight from the definitions: slow, and by plain loops.
 
-    bench/each_oracle.py FILE --correct LIST|all [--at TICK] [--until TICK]
+    bench/oracles/each_oracle.py FILE --correct LIST|all [--at TICK] [--until TICK]
 
 It reads a trace text that is right, of either version, prints what `./synchrony each` prints, and the same lines for what is
 refused of the set and the ticks.
@@ -128,7 +128,7 @@ def each(text, correct, at=None, until=None):
 
 
 def main():
-    parser = argparse.ArgumentParser(prog="bench/each_oracle.py")
+    parser = argparse.ArgumentParser(prog="bench/oracles/each_oracle.py")
     parser.add_argument("file")
     parser.add_argument("--correct", required=True)
     parser.add_argument("--at", type=int)

@@ -1,8 +1,8 @@
 #!/usr/bin/env python3
 """The marks of a picture of a run, by plain loops: what is drawn of a trace and its report in a window of ticks.
 
-    bench/picture_marks.py TRACE REPORT [--from TICK] [--to TICK] [--names A,B,..] [--lanes A,B,..]
-    bench/picture_marks.py --self-test
+    bench/oracles/picture_marks.py TRACE REPORT [--from TICK] [--to TICK] [--names A,B,..] [--lanes A,B,..]
+    bench/oracles/picture_marks.py --self-test
 
 Without --from and --to the window shows the first evidence (`story_oracle.py`), if there is any. The first prints the
 window and each list of marks, or the fault line with status 2. The second tries chosen traces whose marks were worked
@@ -32,7 +32,7 @@ sys.dont_write_bytecode = True
 import story_oracle
 
 HERE = os.path.dirname(os.path.realpath(__file__))
-EXAMPLES = os.path.join(os.path.dirname(HERE), "examples")
+EXAMPLES = os.path.join(os.path.dirname(os.path.dirname(HERE)), "examples")
 COLUMNS = 1000
 TICKS_SHOWN, MOST_TICKS = 100, 1000
 MOST_MESSAGES, MOST_WITNESSES = 10_000, 1_000
@@ -306,7 +306,7 @@ def outcome(read, *words):
 def self_test():
     found = []
     with tempfile.TemporaryDirectory(prefix="marks-") as folder:
-        programs = [built("oracle.rs", folder), built("plain/plain.rs", folder)]
+        programs = [built("oracle.rs", folder), built("../plain/plain.rs", folder)]
         for at, case in enumerate(CHOSEN):
             wrong = [*differences(case, WRITTEN.get(at), programs, folder)]
             found.append(f"{case[0][:60]!r}, {case[1]}, {case[2]}: {'; '.join(wrong)}" if wrong else None)

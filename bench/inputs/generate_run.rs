@@ -10,13 +10,13 @@
 //! decide.
 
 #[allow(dead_code)]
-#[path = "plain/rounds.rs"]
+#[path = "../plain/rounds.rs"]
 mod rounds;
 #[allow(dead_code)]
-#[path = "plain/texts.rs"]
+#[path = "../plain/texts.rs"]
 mod texts;
 #[allow(dead_code)]
-#[path = "plain/world.rs"]
+#[path = "../plain/world.rs"]
 mod world;
 
 use std::env;

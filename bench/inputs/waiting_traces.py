@@ -1,7 +1,7 @@
 #!/usr/bin/env python3
 """Writes the trace text of a run in which messages wait for long, in version 1.
 
-    bench/waiting_traces.py STEPS ORDER >FILE
+    bench/inputs/waiting_traces.py STEPS ORDER >FILE
 
 There are two processors. The first one goes on alone, while what it sends waits for both; then each takes what waits for
 it, in the stated order: one at a time, a hundred in a step or all in one.
@@ -92,5 +92,5 @@ def write_waiting(file, steps, order):
 
 if __name__ == "__main__":
     if len(sys.argv) != 3 or not sys.argv[1].isdecimal() or sys.argv[2] not in ORDERS:
-        sys.exit(f"usage: bench/waiting_traces.py STEPS ORDER, which is one of {', '.join(ORDERS)}")
+        sys.exit(f"usage: bench/inputs/waiting_traces.py STEPS ORDER, which is one of {', '.join(ORDERS)}")
     write_waiting(sys.stdout, int(sys.argv[1]), sys.argv[2])

@@ -2,8 +2,8 @@
 """What `synchrony import` prints of a log, straight from the words of its format: slow, and sharing no line with the
 program.
 
-    bench/import_oracle.py import LOG [--nodes A,B,..] [--unit U] [--tick W] [--until X] [--idle Y] [--spread] [--align] [--drop-lost] [--table]
-    bench/import_oracle.py --self-test
+    bench/oracles/import_oracle.py import LOG [--nodes A,B,..] [--unit U] [--tick W] [--until X] [--idle Y] [--spread] [--align] [--drop-lost] [--table]
+    bench/oracles/import_oracle.py --self-test
 
 The first answers as the program should: standard output, standard error and status. The second tries the texts of
 `import_times.py` and the logs of `tests/cases/import*.cases`, whose answers were worked out by hand, and ends with 'N
@@ -23,7 +23,7 @@ import import_times
 from import_times import above_zero, decimal, duration, local, number, stamp
 
 HERE = os.path.dirname(os.path.realpath(__file__))
-CASES = sorted(glob.glob(f"{HERE}/../tests/cases/import*.cases"))
+CASES = sorted(glob.glob(f"{HERE}/../../tests/cases/import*.cases"))
 TEXT_LIMIT = 67_108_864
 EVENT_LIMIT = 1_000_000
 TICK_LIMIT = 1_000_000
@@ -659,7 +659,7 @@ def self_test():
     tried, wrong = import_times.failures()
     for it in wrong:
         print(f"FAILED {it}")
-    ran = subprocess.run([f"{HERE}/../tests/run", os.path.realpath(__file__), *CASES], stdout=subprocess.PIPE, text=True)
+    ran = subprocess.run([f"{HERE}/../../tests/run", os.path.realpath(__file__), *CASES], stdout=subprocess.PIPE, text=True)
     *told, last = ran.stdout.splitlines()
     print("\n".join(told), end="\n" if told else "")
     passed, failed = map(int, re.fullmatch(r"(\d+) passed, (\d+) failed", last).groups())
