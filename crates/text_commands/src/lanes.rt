@@ -1,6 +1,6 @@
 //! The lanes of a picture that a command line lists.
 
-ghost use Rattle.std.specs.Prelude.{◌≤◌, IfErr, IfOk, map};
+ghost use Rattle.std.specs.Prelude.{◌≡◌, ◌≤◌, IfErr, IfOk, map};
 ghost use Rattle.step_trace.specs.declared.processors.TheConstants.{MAX_MEMBER};
 ghost use Rattle.text_commands.specs.Drawings.{AreLanesIn, IsLanesFault, lanes_fault};
 
