@@ -15,7 +15,7 @@ use Rattle.decision_claims.specs.declared.lateness.Late.{Late}
 use Rattle.decision_claims.specs.Claims.{IsLater, IsMonotone, KeepsClaim, KeepsClaimInTime}
 use Rattle.decision_claims.specs.Decisions.{HaveDecidedBy}
 use Rattle.decision_claims.specs.LateRows.{IsFirstLate}
-use Rattle.decision_claims.proofs.FrontClaims.{front-below}
+use Rattle.decision_claims.proofs.FrontClaims.{front-below, KeepsClaim-rows}
 use Rattle.decision_claims.proofs.PrefixClaims.{has_cut, IsCutAt-twice, IsFeasible-cut}
 use Rattle.judged_runs.specs.LateInTime.{IsLateInTime, IsNextLook, KeepsBefore, begun_after}
 
@@ -55,6 +55,13 @@ none_earlier set cut rows due next t monotone report none feasible early =
     let rises = monotone.rises o t g d f in
     let same : due (triple_of m.0) ≡ due o = ap due m.2 in
     omega (arith, above, rises, same, early))
+
+-- a prefix none of whose rows is due keeps the claim
+pub none_due : (set : ℕ) (cut : Recorded) (rows : List Row) (decisions : List Decision) (due : Triple → ℕ) (next : ℕ) → IsMonotone due → IsReport set cut rows → cut.last < next
+    → ((k : ℕ) (r : Row) → slice_get rows k ≡ Some r → next ≤ due (triple_of r)) → KeepsClaim set cut decisions due
+none_due set cut rows decisions due next monotone report beyond later =
+    (KeepsClaim-rows set cut rows decisions due monotone report).1
+    (record { each = λ k r at. record { when_due = λ l. absurd (let m = later k r at in omega (arith, m, l, beyond)) } })
 
 -- So the search goes on at a tick before which each deadline is kept.
 pub before_jump : (set : ℕ) (trace cut : Recorded) (rows : List Row) (decisions : List Decision) (due : Triple → ℕ) (x next : ℕ) → IsMonotone due → IsTrace cut → IsCutAt trace x cut

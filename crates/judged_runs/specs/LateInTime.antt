@@ -39,3 +39,12 @@ pub record IsNextLook (rows : List Row) (deadline : Triple → ℕ) (x next : �
   pub later : x < next
   pub of_rows : x + 1 < next → (k : ℕ) (r : Row) → slice_get rows k ≡ Some r → next ≤ deadline (triple_of r)
   pub of_others : x + 1 < next → next ≤ deadline (begun_after x)
+
+-- no deadline of these rows is earlier
+pub record AreNoEarlier (rows : List Row) (deadline : Triple → ℕ) (y : ℕ) : Type 0 where
+  pub each : (k : ℕ) (r : Row) → slice_get rows k ≡ Some r → y ≤ deadline (triple_of r)
+
+-- the bounds fall from row to row
+pub record AreFalling (rows : List Row) : Type 0 where
+  pub delta : (j k : ℕ) (a b : Row) → j < k → slice_get rows j ≡ Some a → slice_get rows k ≡ Some b → b.delta ≤ a.delta
+  pub phi : (j k : ℕ) (a b : Row) → j < k → slice_get rows j ≡ Some a → slice_get rows k ≡ Some b → b.phi ≤ a.phi

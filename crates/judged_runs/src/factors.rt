@@ -1,14 +1,17 @@
 //! The least factor with which a claim would be kept: a constant that a run measures.
 
-ghost use Rattle.std.specs.Prelude.{ℕ, ◌≡◌, ◌≤◌, ◌<◌, IfOk, OnErr, Some, max};
+ghost use Rattle.std.specs.Prelude.{ℕ, ◌≡◌, ◌≤◌, ◌<◌, IfOk, OnErr, OnOk, Some, max};
 ghost use Rattle.step_trace.specs.Processors.{IsWithin};
+ghost use Rattle.step_trace.specs.Cuts.{IsCutAt};
 ghost use Rattle.decision_claims.specs.Claims.{KeepsClaim, KeepsClaimInTime, deadline_times};
 ghost use Rattle.decision_claims.specs.Decisions.{HaveDecidedBy, IsFrom};
 ghost use Rattle.judged_runs.specs.Factors.{IsMeasured};
 ghost use Rattle.judged_runs.specs.Judgements.{Keeps};
 ghost use Rattle.judged_runs.specs.LateInTime.{KeepsBefore};
 
+use crate::prefix_reports::report_until;
 use crate::prefixes::{next_look, undecided_until};
+use chunk_join::Analyst;
 use decision_claims::{Decision, Formula, least_factor};
 use front::front;
 use std::alloc::{AllocError, Global};
@@ -74,15 +77,27 @@ pub fn least_factor_in_time(
     start: u64,
     formula: &Formula,
 ) -> Result<Option<u64>, AllocError>
-    requires { IsWithin set trace.now.config.n }
     ensures factor { IfOk result (IsFrom (λ c. KeepsClaimInTime set trace.now decisions.now (deadline_times trace.now.config start formula.now c))) }
     ensures more { OnErr result (¬ HaveDecidedBy set decisions.now 0) }
 {
     let end = undecided_until(set, decisions, trace.last_tick());
     let mut factor = 0u64;
+    if end == 0 {
+        return Ok(Some(factor));
+    }
+    let mut analyst = Analyst::new(alloc, trace.config().copy(alloc)?, set);
     let mut x = 0u64;
     while x < end {
-        match measure_at(alloc, trace, set, decisions, start, formula, factor, x)? {
+        match measure_at(
+            alloc,
+            &mut analyst,
+            trace,
+            decisions,
+            start,
+            formula,
+            factor,
+            x,
+        )? {
             Some(
                 Measured {
                     factor: needed,
@@ -99,27 +114,35 @@ pub fn least_factor_in_time(
 }
 
 /// What the prefix that ends in this tick needs besides those before it, which need this factor. None if no factor is
-/// enough.
+/// enough. The analyst goes on to it.
 fn measure_at(
     alloc: Global,
+    analyst: &mut Analyst,
     trace: &Trace,
-    set: ProcSet,
     decisions: &[Decision],
     start: u64,
     formula: &Formula,
     factor: u64,
     x: u64,
 ) -> Result<Option<Measured>, AllocError>
-    requires set { IsWithin set trace.now.config.n }
+    requires seen { IsCutAt trace.now analyst.old.seen.last analyst.old.seen }
+    requires order { analyst.old.seen.last ≤ x }
     requires inside { x ≤ trace.now.last }
-    requires before { IsFrom (λ c. KeepsBefore set trace.now decisions.now (deadline_times trace.now.config start formula.now c) x) (Some factor) }
-    ensures { IfOk result (IsMeasured set trace.now decisions.now (deadline_times trace.now.config start formula.now) x) }
+    requires before { IsFrom (λ c. KeepsBefore analyst.old.set trace.now decisions.now (deadline_times trace.now.config start formula.now c) x) (Some factor) }
+    ensures measured { IfOk result (IsMeasured analyst.old.set trace.now decisions.now (deadline_times trace.now.config start formula.now) x) }
+    ensures seen { OnOk result (IsCutAt trace.now x analyst.new.seen) }
+    ensures set { OnOk result (analyst.new.set ≡ analyst.old.set) }
 {
-    let cut = trace.until(alloc, x)?;
-    let stairs = Stairs::of_trace(alloc, &cut, set)?;
-    let report = front(alloc, &stairs)?;
+    let report = report_until(alloc, analyst, trace, x)?;
     let rows = report.rows();
-    match least_factor(&cut, set, rows, decisions, start, formula) {
+    match least_factor(
+        analyst.seen(),
+        analyst.set(),
+        rows,
+        decisions,
+        start,
+        formula,
+    ) {
         Some(own) => {
             let both = greater(own, factor);
             let times = formula.times(alloc, both)?;

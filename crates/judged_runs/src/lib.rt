@@ -9,6 +9,7 @@ mod details;
 mod factors;
 mod judgements;
 mod outcomes;
+mod prefix_reports;
 mod prefixes;
 mod refusal_texts;
 mod refusals;

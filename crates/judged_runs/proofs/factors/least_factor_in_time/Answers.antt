@@ -1,5 +1,6 @@
-use Rattle.std.proofs.Common.{arith}
+use Rattle.std.proofs.Common.{arith, ◌∙◌}
 use Rattle.decision_claims.specs.Claims.{deadline_times}
+use Rattle.judged_runs.proofs.PrefixFronts.{opening_cut}
 use Rattle.judged_runs.proofs.MeasuredFactors.{factor_in_time}
 use Rattle.judged_runs.proofs.factors.least_factor_in_time.Goals as goal
 
@@ -9,3 +10,14 @@ returns-clause-factor c =
     let last = c.last_tick.ensures.value in
     factor_in_time c.args.set c.args.trace.now c.args.decisions.now (deadline_times c.args.trace.now.config c.args.start c.args.formula.now) c.loop-x.x c.loop-x.factor
     (λ y l m. c.undecided_until-end.ensures.decided y (omega (arith, past, l)) (omega (arith, m, last))) c.loop-x.invariant.least
+
+pub loop-x-init : goal.loop-x-init
+loop-x-init c =
+    let config = c.in_ok-copy.ensures.copied ∙ c.config.ensures in
+    let opening = opening_cut c.args.trace.now c.args.set c.in_ok-copy.field-0 c.new-analyst.result c.last_tick.ensures.timed config c.new-analyst.ensures in
+    record {
+      least = λ y. ((λ kept. omega arith), (λ any. record { each = λ t cut l. absurd (omega (arith, l)) }));
+      seen = opening.0;
+      early = opening.1.0;
+      set = opening.1.1;
+    }
