@@ -8,7 +8,7 @@ from dataclasses import dataclass, field
 COLUMNS = ["time", "node", "event", "to", "message"]
 NAMES = ["a", "b", "c", "node-7", "10.0.0.1:8080", "é", "a b", 'x"y', "p,q", "A", " a", "→", "send", "1"]
 # The options that are words alone.
-FLAGS = ("spread", "align", "drop-lost", "table")
+FLAGS = ("spread", "align", "drop-lost", "merge", "table", "ticks")
 GREATEST = 2**64 - 1
 TEXT_LIMIT = 67_108_864
 
@@ -62,7 +62,7 @@ def random_log(chance, scale=1):
 
 def apart_rows(chance, nodes, width, scale):
     """Each node acts at most once in a tick, and what it receives was sent in an earlier one."""
-    waiting, rows, serial = {it: [] for it in nodes}, [], 0
+    waiting, rows, serial, sent_to, again = {it: [] for it in nodes}, [], 0, {}, share_of_names(chance)
     busy, sends = chance.choice([0.1, 0.3, 0.6, 1]) / (10 if len(nodes) > 5 else 1), chance.choice([0.3, 0.5, 0.7])
     for moment in range(scale * chance.choice([1, 2, 5, *range(5, 25)])):
         sent = []
@@ -73,8 +73,9 @@ def apart_rows(chance, nodes, width, scale):
             if chance.random() < sends:
                 serial += 1
                 to = chance.choice(nodes)
-                rows.append({"at": at, "node": node, "event": "send", "to": to, "message": f"m{serial}"})
-                sent.append((to, f"m{serial}"))
+                message = name_for(chance, to, f"m{serial}", sent_to, again)
+                rows.append({"at": at, "node": node, "event": "send", "to": to, "message": message})
+                sent.append((to, message))
             else:
                 rows.append(receive_row(chance, at, node, waiting))
         for to, message in sent:
@@ -84,17 +85,31 @@ def apart_rows(chance, nodes, width, scale):
 
 def coarse_rows(chance, nodes, scale):
     """Several events of a node at one time, in the order of the file."""
-    waiting, rows, at = {it: [] for it in nodes}, [], 0
+    waiting, rows, at, sent_to, again = {it: [] for it in nodes}, [], 0, {}, share_of_names(chance)
     for serial in range(1, scale * chance.choice([2, 5, *range(5, 30)])):
         at += chance.choice([0, 0, 0, 1, 1, 2, 9])
         node = chance.choice(nodes)
         if chance.random() < 0.6:
             to = chance.choice(nodes)
-            rows.append({"at": at, "node": node, "event": "send", "to": to, "message": f"m{serial}"})
-            waiting[to].append(f"m{serial}")
+            message = name_for(chance, to, f"m{serial}", sent_to, again)
+            rows.append({"at": at, "node": node, "event": "send", "to": to, "message": message})
+            waiting[to].append(message)
         else:
             rows.append(receive_row(chance, at, node, waiting))
     return rows
+
+
+def share_of_names(chance):
+    """How often a message has a name that was sent to other nodes, if there is one."""
+    return chance.choice([0, 0, 0.3, 0.8])
+
+
+def name_for(chance, to, new, sent_to, again):
+    """The name of a message to a node: a new one, or one of the last names that were sent to other nodes alone."""
+    others = [name for name in [*sent_to][-20:] if to not in sent_to[name]]
+    name = chance.choice(others) if others and chance.random() < again else new
+    sent_to.setdefault(name, set()).add(to)
+    return name
 
 
 def receive_row(chance, at, node, waiting):
@@ -125,8 +140,15 @@ def options_of(chance, log):
         options["align"] = ""
     if chance.random() < 0.3:
         options["drop-lost"] = ""
+    if chance.random() < 0.3:
+        options["merge"] = ""
     if chance.random() < 0.4:
         options["table"] = ""
+    if chance.random() < 0.2:
+        options["ticks"] = ""
+        if chance.random() < 0.9:
+            for it in ("tick", "idle", "merge", "table"):
+                options.pop(it, None)
     return options
 
 
@@ -339,6 +361,17 @@ def never_sent(chance, log):
     add_message(chance, log, "nobody-sent-it")
 
 
+def sent_again(chance, log):
+    """A name is sent to another node, and maybe received there."""
+    sends = sends_of(log)
+    if sends:
+        first, to = chance.choice(sends), chance.choice(log.nodes)
+        at = chance.randrange(len(log.rows) + 1)
+        log.rows.insert(at, {**first, "at": first["at"] + chance.choice([0, 1, log.width]), "to": to})
+        if chance.random() < 0.6:
+            log.rows.append({**log.rows[at], "at": log.rows[at]["at"] + chance.choice([1, log.width, 500]), "node": to, "event": "receive"})
+
+
 def for_another(chance, log):
     sends = sends_of(log)
     if sends:
@@ -431,7 +464,7 @@ AIMS = [
     bad_nodes, bad_unit, bad_tick, bad_until, bad_idle, no_log, no_column, two_columns, bad_fields, bad_time, bad_event, bad_node, bad_message,
     no_events, too_many_nodes, sent_before, too_few_nodes, unit_of_another_kind, tick_of_another_kind, until_of_another_kind,
     idle_of_another_kind, too_many_ticks,
-    never_sent, for_another, received_before, no_later, longer_ticks, second_event, skewed, aligned, aligned, cycle, spread_past,
+    never_sent, sent_again, for_another, received_before, no_later, longer_ticks, second_event, skewed, aligned, aligned, cycle, spread_past,
 ]
 
 

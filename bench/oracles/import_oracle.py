@@ -2,7 +2,7 @@
 """What `synchrony import` prints of a log, straight from the words of its format: slow, and sharing no line with the
 program.
 
-    bench/oracles/import_oracle.py import LOG [--nodes A,B,..] [--unit U] [--tick W] [--until X] [--idle Y] [--spread] [--align] [--drop-lost] [--table]
+    bench/oracles/import_oracle.py import LOG [--nodes A,B,..] [--unit U] [--tick W] [--until X] [--idle Y] [--spread] [--align] [--drop-lost] [--merge] [--table | --ticks]
     bench/oracles/import_oracle.py --self-test
 
 The first answers as the program should: standard output, standard error and status. The second tries the texts of
@@ -15,7 +15,7 @@ import os
 import re
 import subprocess
 import sys
-from dataclasses import dataclass
+from dataclasses import dataclass, replace
 from typing import Optional
 
 sys.dont_write_bytecode = True
@@ -35,7 +35,7 @@ SECOND = 10**9
 UNITS = {b"s": SECOND, b"ms": 10**6, b"us": 10**3, b"ns": 1}
 NODE_LIMIT = 64
 COLUMNS = (b"time", b"node", b"event", b"to", b"message")
-FEWER_TICKS = b"a greater --tick makes fewer"
+FEWER_TICKS = b"a greater --tick makes fewer; --ticks lists those that fit"
 FEWER_STEPS = b"a greater --tick or a shorter --idle makes fewer"
 SHORTER_TICK = b"a shorter --tick sets them apart, and --spread moves one of them"
 SPREAD = b"--spread sets them apart"
@@ -79,7 +79,9 @@ class Options:
     spread: bool = False
     align: bool = False
     drop_lost: bool = False
+    merge: bool = False
     table: bool = False
+    ticks: bool = False
 
 
 @dataclass
@@ -93,6 +95,28 @@ class Event:
     messages: list
     # Its tick, once it is known.
     tick: int = 0
+    # Of each message the record that has it, in a receive that is made of several.
+    sources: Optional[list] = None
+
+
+class Sends:
+    """The sends of a log: a message is known by its name and the node that it is for."""
+
+    def __init__(self):
+        self.by_message, self.by_name = {}, {}
+
+    def add(self, send):
+        """Whether the message is new."""
+        message = send.messages[0], send.to
+        is_new = message not in self.by_message
+        self.by_message.setdefault(message, send)
+        self.by_name.setdefault(send.messages[0], send)
+        return is_new
+
+    def taken(self, receive, name):
+        """The send of the message that a receive takes by this name: to its node, or else the first of that name, if there is
+        one."""
+        return self.by_message.get((name, receive.node), self.by_name.get(name))
 
 
 # Records
@@ -297,19 +321,16 @@ def events_of(records, places, listed, kind):
 
 
 def numbered(events, listed):
-    """The nodes in the order of their numbers, and the send of each message by its name."""
-    nodes, sends = [*listed] if listed else [], {}
+    """The nodes in the order of their numbers, and the sends."""
+    nodes, sends = [*listed] if listed else [], Sends()
     for it in events:
         for name in [it.node] if it.to is None else [it.node, it.to]:
             if name not in nodes:
                 nodes.append(name)
             if len(nodes) > NODE_LIMIT:
                 refuse_record(it.record, b"too many nodes")
-        if it.to is not None:
-            name = it.messages[0]
-            if name in sends:
-                refuse_record(it.record, b"message " + name + b" was sent before")
-            sends[name] = it
+        if it.to is not None and not sends.add(it):
+            refuse_record(it.record, b"message " + it.messages[0] + b" was sent before")
     if len(nodes) < 2:
         refuse_log(b"too few nodes")
     return nodes, sends
@@ -345,7 +366,7 @@ def last_tick_of(events, width, until):
 
 def receipts(events, sends):
     """The pairs of a receive and a send whose message it took, in the order of the receives."""
-    return [(it, sends[name]) for it in events if it.to is None for name in it.messages]
+    return [(it, sends.taken(it, name)) for it in events if it.to is None for name in it.messages]
 
 
 def short_round(events, nodes, sends):
@@ -406,13 +427,41 @@ def align(events, nodes, sends, latest):
     return offset
 
 
-def without_lost(events):
+def without_lost(events, sends):
     """The events but the sends of messages that no record receives, and how many these are."""
-    received = {name for it in events if it.to is None for name in it.messages}
-    kept = [it for it in events if it.to is None or it.messages[0] in received]
+    received = {send.record for _, send in receipts(events, sends) if send}
+    kept = [it for it in events if it.to is None or it.record in received]
     if not kept:
         refuse_log(b"no events")
     return kept, len(events) - len(kept)
+
+
+def merged(events):
+    """The events with the receives of a node in one tick as one, at the place of the first, if it sends nothing between them; and
+    how many are merged into others."""
+    sent, groups = {}, {}
+    for it in sorted(events, key=own_place):
+        if it.to is not None:
+            sent[it.node] = sent.get(it.node, 0) + 1
+        else:
+            groups.setdefault((it.node, sent.get(it.node, 0), it.tick), []).append(it)
+    made = {
+        first.record: replace(
+            first,
+            messages=[name for it in (first, *others) for name in it.messages],
+            sources=[it.record for it in (first, *others) for _ in it.messages],
+        )
+        for first, *others in groups.values()
+    }
+    kept = [made.get(it.record, it) for it in events if it.to is not None or it.record in made]
+    return kept, len(events) - len(kept)
+
+
+def merged_line(count):
+    """The note on so many receives that are merged into others."""
+    if count == 1:
+        return b"1 receive is merged into another"
+    return b"%d receives are merged into others" % count
 
 
 def lost_line(lost):
@@ -427,15 +476,16 @@ def test_messages(events, sends):
     received = set()
     for it in events:
         for name in it.messages if it.to is None else []:
-            why, hint = fault_of(it, name, sends, received, True)
+            send = sends.taken(it, name)
+            why, hint = fault_of(it, send, received, True)
             if why:
                 refuse_record(it.record, b"message " + name + why, hint)
-            received.add(name)
+            received.add(send.record)
 
 
 def late_lines(events, sends):
     """What is printed about the messages that are received no later than they are sent."""
-    late = [(send.time - receive.time, receive, send) for receive, send in receipts(events, sends) if receive.time <= send.time]
+    late = [(send.time - receive.time, receive, send) for receive, send in receipts(events, sends) if send and receive.time <= send.time]
     if not late:
         return []
     by, receive, send = max(late, key=lambda it: it[0])
@@ -449,25 +499,25 @@ def test_steps(events, sends, spread):
     """Refuses the first event that can't be a step, at its time or, with spread, anywhere."""
     received, filled = set(), {}
     for it in events:
-        for name in it.messages if it.to is None else []:
-            why, hint = fault_of(it, name, sends, received, spread)
+        for at, name in enumerate(it.messages if it.to is None else []):
+            send = sends.taken(it, name)
+            why, hint = fault_of(it, send, received, spread)
             if why:
-                refuse_record(it.record, b"message " + name + why, hint)
-            received.add(name)
+                refuse_record(it.sources[at] if it.sources else it.record, b"message " + name + why, hint)
+            received.add(send.record)
         before = filled.setdefault((it.node, it.tick), it)
         if before is not it and not spread:
             hint = SPREAD if before.time == it.time else SHORTER_TICK
             refuse_record(it.record, b"a second event of %b in tick %d" % (it.node, it.tick), hint)
 
 
-def fault_of(receive, name, sends, received, spread):
-    """Why a message can't be received where it is, if so, and what helps."""
-    send = sends.get(name)
+def fault_of(receive, send, received, spread):
+    """Why the message of a send can't be received where it is, if so, and what helps."""
     if send is None:
         return b" was never sent", None
     if send.to != receive.node:
         return b" is for " + send.to, None
-    if name in received:
+    if send.record in received:
         return b" was received before", None
     if spread or receive.tick > send.tick:
         return None, None
@@ -509,7 +559,7 @@ def order_of_causes(events, sends):
 
 def unplaced_of(event, sends, is_placed):
     """The sends of the messages that it received, as far as they aren't placed."""
-    return [sends[name] for name in event.messages if event.to is None and sends[name].record not in is_placed]
+    return [send for _, send in receipts([event], sends) if send.record not in is_placed]
 
 
 def cycle_from(node, heads, sends, is_placed):
@@ -537,7 +587,7 @@ def spread_out(order, sends):
     for it in order:
         after = [busy.get(it.node, 0)]
         if it.to is None:
-            after += [sends[name].tick for name in it.messages]
+            after += [send.tick for _, send in receipts([it], sends)]
         tick = max(it.tick, *(tick + 1 for tick in after))
         far.append((tick - it.tick, it.record))
         it.tick = busy[it.node] = tick
@@ -545,6 +595,44 @@ def spread_out(order, sends):
         refuse_log(b"too many ticks", FEWER_TICKS)
     most = max(by for by, _ in far)
     return sum(by > 0 for by, _ in far), most, min(record for by, record in far if by == most)
+
+
+# The lengths of a tick of which the table has rows, in units of the times.
+TICK_LENGTHS = [digit * 10**power for power in range(19) for digit in (1, 2, 5)]
+
+
+def lengths_of(events, sends, kind, until):
+    """The lines of the table of the lengths of a tick, and the note on it."""
+    first, last = min(it.time for it in events), max(it.time for it in events)
+    log_length = abs((last if until is None else until) - first)
+    lines, longest = [b"tick,last,moved,most"], None
+    for shorter, units in zip([0, *TICK_LENGTHS], TICK_LENGTHS):
+        if shorter * kind.unit > log_length:
+            break
+        try:
+            last_tick = last_tick_of(events, units * kind.unit, until)
+            own = {it.record: it.tick for it in events}
+            test_steps(events, sends, True)
+            count, most, _ = spread_out(order_of_causes(events, sends), sends)
+        except Refused as refusal:
+            if refusal.lines[0] != b"log: too many ticks":
+                raise
+            continue
+        length = b"%d" % units if not kind.has_durations else nanoseconds_text(units * kind.unit)
+        lines.append(b"%b,%d,%d,%d" % (length, max(last_tick, *(it.tick for it in events)), count, most))
+        if 100 * sum(it.tick > own[it.record] + 1 for it in events) <= len(events):
+            longest = length
+    if longest is None:
+        return lines, [b"each of these moves more than 1 in 100 events by more than one tick"]
+    return lines, [b"--tick %b is the longest that moves at most 1 in 100 events by more than one tick" % longest]
+
+
+def nanoseconds_text(count):
+    """So many nanoseconds in the greatest of four units of which they are a whole number."""
+    for power, unit in ((9, b"s"), (6, b"ms"), (3, b"us")):
+        if count % 10**power == 0:
+            return b"%d%b" % (count // 10**power, unit)
+    return b"%dns" % count
 
 
 def idle_receives(events, nodes, last_tick, limit):
@@ -579,7 +667,7 @@ def trace_of(events, nodes, sends, last_tick):
     yield b"dls-trace,2,%d,0" % len(nodes)
     yield b"init" + b",0" * len(nodes)
     for no, it in enumerate(in_order, 1):
-        ids = sorted(number_of[sends[name].record] for name in it.messages) if it.to is None else []
+        ids = sorted(number_of[send.record] for _, send in receipts([it], sends))
         act = b"R," + b" ".join(b"%d" % id for id in ids) if it.to is None else b"S,%d" % place[it.to]
         yield b"%d,%d,%d,%b" % (no, it.tick, place[it.node], act)
     yield b"end,%d" % last_tick
@@ -603,6 +691,8 @@ def quoted(field):
 
 def imported(log, options):
     """The lines of standard output and of standard error for a log that is accepted; an error is one that can't be read."""
+    if options.ticks and (options.tick is not None or options.idle is not None or options.merge or options.table):
+        raise Refused(2, b"import --ticks takes no --tick, --idle, --merge or --table")
     listed, told_kind, width, until, idle = read_options(options)
     if isinstance(log, OSError):
         trouble = b"is a directory" if isinstance(log, IsADirectoryError) else b"no such file"
@@ -614,18 +704,24 @@ def imported(log, options):
     nodes, sends = numbered(events, listed)
     width, until, idle = fitted(kind, width, until, idle)
     offset = align(events, nodes, sends, kind.latest) if options.align else {}
-    events, lost = without_lost(events) if options.drop_lost else (events, 0)
+    events, lost = without_lost(events, sends) if options.drop_lost else (events, 0)
+    if options.ticks:
+        return lengths_of(events, sends, kind, until)
     last_tick = last_tick_of(events, width, until)
+    told_apart = events
+    events, count_merged = merged(events) if options.merge else (events, 0)
     test_steps(events, sends, options.spread)
     told = [] if listed else [b"processor %d is %b" % (at, name) for at, name in enumerate(nodes, 1)]
     told += [b"the clock of %b moved by %d" % (node, offset[node]) for node in nodes if offset.get(node, 0) > 0]
     if options.drop_lost:
         told.append(lost_line(lost))
+    if options.merge:
+        told.append(merged_line(count_merged))
     if options.spread:
         count, most, first = spread_out(order_of_causes(events, sends), sends)
         far = b"" if most == 0 else b", by at most %d tick%b (record %d)" % (most, b"" if most == 1 else b"s", first)
         told.append(b"%d of %d events moved" % (count, len(events)) + far)
-        told += late_lines(events, sends)
+        told += late_lines(told_apart, sends)
         last_tick = max(last_tick, max(it.tick for it in events))
     if idle is not None:
         filled = idle_receives(events, nodes, last_tick, idle // width)
@@ -675,14 +771,14 @@ def main():
     command.add_argument("log")
     for name in ("--nodes", "--unit", "--tick", "--until", "--idle"):
         command.add_argument(name, type=os.fsencode)
-    for name in ("--spread", "--align", "--drop-lost", "--table"):
+    for name in ("--spread", "--align", "--drop-lost", "--merge", "--table", "--ticks"):
         command.add_argument(name, action="store_true")
     words = words.parse_args()
     if words.self_test:
         return self_test()
     if not hasattr(words, "log"):
         command.error("no command")
-    status, output, told = answer(read_log(words.log), Options(words.nodes, words.unit, words.tick, words.until, words.idle, words.spread, words.align, words.drop_lost, words.table))
+    status, output, told = answer(read_log(words.log), Options(words.nodes, words.unit, words.tick, words.until, words.idle, words.spread, words.align, words.drop_lost, words.merge, words.table, words.ticks))
     sys.stderr.buffer.write(told)
     sys.stdout.buffer.write(output)
     return status

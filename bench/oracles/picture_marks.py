@@ -228,7 +228,7 @@ RARE = "dls-trace,2,2,0\ninit,5,7\n" + "".join(f"{no},{tick},1,R,\n" for no, tic
 SELDOM = "dls-trace,2,2,0\ninit,5,7\n" + "".join(f"{no},{tick},1,R,\n" for no, tick in enumerate([1, 2000, 4000, 5000], 1)) + "end,5000\n"
 SENDS = "dls-trace,1,2,0\ninit,5,7\n" + "".join(f"{no},1,S,2\n" for no in range(1, 500_001))
 # Traces by their names in examples/, or by their texts; the set, the window, and what the lists are: steps, messages,
-# misses, gaps and corners. A number says only how many there are.
+# misses, gaps and corners. A number says only how many there are. Last, if not all lanes are drawn, those that are.
 CHOSEN = [
     ("one-miss", "1,2", (1, 3), "1 2 3", "1-3", "1,2", "1,2,3", "1 2 3"),
     ("one-miss", "none", (1, 3), "1 2 3", "1-3", "", "", "1"),
@@ -249,6 +249,10 @@ CHOSEN = [
     (f"{SENDS}500001,2,R,\nend,500001\n", "1,2", (250_000, 250_099), ones(250_000, 250_099), " ".join(f"{no}-" for no in range(250_000, 250_100)), 250_099, "2,1,500000", 2000),
     (f"{SENDS}500001,2,R,{ones(1, 500_000)}\nend,500001\n", "1,2", (250_000, 250_099), ones(250_000, 250_099), 250_099, "", "2,1,500000", 2000),
     ("no-steps", "1,2", (None, None), "", "", "", "", ""),
+    ("decides-seven", "1,2,3", (1, 18), "1 3 4 6 7 8 9 10 12 13 15 16 18", "1-4 3-4 7-10 9-12 13-16 15-16", "", "3,7,11 1,17,18", "1 8 9 10 18", "1,3"),
+    ("decides-seven", "1,2,3", (1, 18), "2 5 11 14 17", "", "", "", "1 8 9 10 18", "2"),
+    (EDGES, "1,2", (1, 12), "4 5", "", "", "", EDGES_CORNERS, "2"),
+    (EDGES, "1,2", (1, 12), "1 2 3", "", "", "1,4,12", EDGES_CORNERS, "1"),
 ]
 # How many of the two long ones' messages, misses and gaps are written.
 WRITTEN = {16: (100, 1000, 1), 17: (10_000, 0, 1)}
@@ -276,6 +280,7 @@ def built(source, folder):
 def differences(case, written_wanted, programs, folder):
     """What is wrong with the marks of a chosen trace."""
     text, members, (first, to), *wanted = case
+    lanes = wanted[5] if len(wanted) > 5 else None
     path, report = f"{EXAMPLES}/{text}.trace", f"{folder}/report"
     if "\n" in text:
         path = f"{folder}/trace"
@@ -286,7 +291,7 @@ def differences(case, written_wanted, programs, folder):
         program = programs[trace.last > 400]
         subprocess.run([program, "report", path, "--correct", members], stdout=opened, check=True)
     rows = read_report(report)
-    picture = picture_of(trace, rows, drawn_window(trace, rows, first, to))
+    picture = picture_of(trace, rows, drawn_window(trace, rows, first, to), lanes_of(lanes, None, trace.processors))
     lines = [line.split(" ", 1)[1] for line in lines_of(picture)][1:]
     for name, line, it in zip(("steps", "messages", "misses", "gaps", "corners"), lines, wanted):
         given = len(line.split()) if isinstance(it, int) else line

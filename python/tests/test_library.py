@@ -86,6 +86,8 @@ def test_a_log_gives_its_trace_or_the_table_of_its_steps():
     filled = b"step,tick,begins,record,time,node,event,to,message\n1,1,5,2,5,a,send,b,m\n2,2,6,,,b,receive,,\n3,3,7,,,a,receive,,\n4,3,7,3,7,b,receive,,m\n"
     assert sy.import_log(log, idle=2, table=True) == filled
     assert sy.import_log(log + b"8,a,send,b,lost\n", drop_lost=True) == sy.import_log(log)
+    assert sy.import_log(log + b"7,b,receive,,\n", merge=True) == sy.import_log(log)
+    assert sy.import_log(log, ticks=True) == b"tick,last,moved,most\n1,3,0,0\n2,2,0,0\n5,2,1,1\n"
 
 
 def test_errors_survive_a_pickle():

@@ -4,9 +4,7 @@ use Rattle.std.specs.List.{slice_split}
 use Rattle.certificate_checker.specs.declared.verdicts.Verdict.{Verdict}
 use Rattle.command_options.specs.declared.ImportForm.{ImportForm}
 use Rattle.command_options.specs.declared.ImportOptions.{ImportOptions}
-use Rattle.event_log.specs.declared.imports.Import.{Import}
 use Rattle.event_log.specs.declared.options.Options.{Options}
-use Rattle.event_log.specs.Imports.{IsImportOf}
 use Rattle.event_log.specs.Options.{AreOptions}
 use Rattle.judged_runs.specs.declared.judgements.Verdict.{Verdict as Judgement}
 use Rattle.judged_runs.specs.VerdictLines.{status_of_verdict as status_of_judgement}
@@ -22,7 +20,7 @@ use Rattle.text_commands.specs.Briefs.{IsBriefOf, IsNoBrief}
 use Rattle.text_commands.specs.Checks.{IsUnchecked}
 use Rattle.text_commands.specs.Drawings.{IsDrawingOf, IsUndrawnTrace}
 use Rattle.text_commands.specs.EachBounds.{IsEachOf, IsNoEach}
-use Rattle.text_commands.specs.Imports.{IsImportOptionFault, IsImportText, IsUnimported}
+use Rattle.text_commands.specs.Imports.{IsImportOptionFault, IsImportTold, IsUnimported}
 use Rattle.text_commands.specs.Judgings.{IsJudgementOn, IsUnjudged}
 use Rattle.text_commands.specs.Pages.{IsNoPageBy, IsPageBy}
 use Rattle.text_commands.specs.Replays.{IsOffRun, IsReplayOf}
@@ -106,13 +104,11 @@ pub record IsJudgementPrinted (file : List ℕ) (Judges : Judgement → List ℕ
 
 -- the texts encode these options of a log
 abbrev pub AreImportOptions : ImportOptions → Options → Type 0
-AreImportOptions given o = AreOptions (option_map string_bytes given.nodes) (option_map string_bytes given.unit) (option_map string_bytes given.tick) (option_map string_bytes given.until) (option_map string_bytes given.idle) given.spread given.align given.drop_lost o
+AreImportOptions given o = AreOptions (option_map string_bytes given.nodes) (option_map string_bytes given.unit) (option_map string_bytes given.tick) (option_map string_bytes given.until) (option_map string_bytes given.idle) given.spread given.align given.drop_lost given.merge o
 
--- The log is read by these options, and the text is what is printed of it.
-pub record IsTextOfLog (form : ImportForm) (o : Options) (log out : List ℕ) : Type 0 where
-  pub import : Import
-  pub exact : IsImportOf o log import
-  pub written : IsImportText form o log import out
+-- the log is read by these options, and the text is what is printed of it, without notes
+abbrev pub IsTextOfLog : ImportForm → Options → List ℕ → List ℕ → Type 0
+IsTextOfLog form o log out = IsImportTold form o (λ notes. ⊤) log out
 
 -- the same, by the options that are given
 abbrev pub IsImportFor : ImportOptions → List ℕ → List ℕ → Type 0
@@ -121,7 +117,7 @@ IsImportFor given log out = (o : Options) × AreImportOptions given o × IsTextO
 -- why there is none: the options; or else the log
 abbrev pub IsUnimportedFor : ImportOptions → List ℕ → Fault → Type 0
 IsUnimportedFor given log w = IsImportOptionFault (option_map string_bytes given.nodes) (option_map string_bytes given.unit) (option_map string_bytes given.tick) (option_map string_bytes given.until) (option_map string_bytes given.idle) w
-    ⊎ ((o : Options) × AreImportOptions given o × IsUnimported o log w)
+    ⊎ ((o : Options) × AreImportOptions given o × IsUnimported given.form o log w)
 
 -- the second text, if a file is named for it
 abbrev pub second_if : {B : Type 0} → Option (String B) → List ℕ → Option (List ℕ)

@@ -15,11 +15,11 @@ use command_faults::Fault;
 use command_line::jobs::{CheckJob, ImportJob, JudgeJob, PageJob};
 use command_line::{Job, names_standard_input};
 use command_options::{ImportForm, ImportOptions};
-use event_log::{Options, read_log, read_table};
+use event_log::{Options, read_log, read_table, read_ticks};
 use std::alloc::{AllocError, Global};
 use text_commands::{
     Answer, Replay, ToldPage, Upgrade, answer_to, import_options, judgement_on, judgement_status,
-    verdict_on,
+    ticks_text, verdict_on,
 };
 use text_verdicts::{verdict_status, verdict_text};
 
@@ -153,6 +153,7 @@ fn imported(alloc: Global, given: &ImportOptions, text: &[u8]) -> Result<Vec<u8>
         given.spread,
         given.align,
         given.drop_lost,
+        given.merge,
     )?;
     log_text(alloc, text, &options, given.form)
 }
@@ -165,18 +166,19 @@ fn log_text(
     form: ImportForm,
 ) -> Result<Vec<u8>, Fault>
     ensures text { IfOk result (λ out. IsTextOfLog form options.now text.now out.items) }
-    ensures refused { IfErr result (IsUnimported options.now text.now) }
+    ensures refused { IfErr result (IsUnimported form options.now text.now) }
 {
     match form {
         ImportForm::Trace => trace_text_of(alloc, text, options),
         ImportForm::Table => table_text_of(alloc, text, options),
+        ImportForm::Ticks => ticks_text_of(alloc, text, options),
     }
 }
 
 /// The text of the trace of a log, which is read so.
 fn trace_text_of(alloc: Global, text: &[u8], options: &Options) -> Result<Vec<u8>, Fault>
     ensures trace { IfOk result (λ out. IsTextOfLog ImportForm.Trace options.now text.now out.items) }
-    ensures refused { IfErr result (IsUnimported options.now text.now) }
+    ensures refused { IfErr result (IsUnimported ImportForm.Trace options.now text.now) }
 {
     let import = read_log(alloc, text, options)?;
     Upgrade.answer(alloc, import.trace)
@@ -185,9 +187,18 @@ fn trace_text_of(alloc: Global, text: &[u8], options: &Options) -> Result<Vec<u8
 /// The table of the steps of a log, which is read so.
 fn table_text_of(alloc: Global, text: &[u8], options: &Options) -> Result<Vec<u8>, Fault>
     ensures table { IfOk result (λ out. IsTextOfLog ImportForm.Table options.now text.now out.items) }
-    ensures refused { IfErr result (IsUnimported options.now text.now) }
+    ensures refused { IfErr result (IsUnimported ImportForm.Table options.now text.now) }
 {
     Ok(read_table(alloc, text, options)?.table)
+}
+
+/// The table of the lengths of a tick for a log.
+fn ticks_text_of(alloc: Global, text: &[u8], options: &Options) -> Result<Vec<u8>, Fault>
+    ensures ticks { IfOk result (λ out. IsTextOfLog ImportForm.Ticks options.now text.now out.items) }
+    ensures refused { IfErr result (IsUnimported ImportForm.Ticks options.now text.now) }
+{
+    let table = read_ticks(alloc, text, options)?;
+    Ok(ticks_text(alloc, &table)?)
 }
 
 /// The text, if there is one.

@@ -25,7 +25,7 @@ hint_line (Some Spread) = 10 ∷ codes "synchrony: --spread sets them apart"
 
 -- the same for a refused log; nothing if nothing helps
 abbrev pub help_line : LogError → List ℕ
-help_line TooManyTicks = 10 ∷ codes "synchrony: a greater --tick makes fewer"
+help_line TooManyTicks = 10 ∷ codes "synchrony: a greater --tick makes fewer; --ticks lists those that fit"
 help_line TooManySteps = 10 ∷ codes "synchrony: a greater --tick or a shorter --idle makes fewer"
 help_line (NotLater number message hint) = hint_line hint
 help_line (SecondEvent number node tick hint) = hint_line hint

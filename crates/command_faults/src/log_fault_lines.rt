@@ -39,7 +39,9 @@ impl fmt::Display for HelpLine<'_> {
 
     fn fmt<W: fmt::Write>(&self, f: &mut fmt::Formatter<W>) -> fmt::Result {
         match self.0 {
-            LogError::TooManyTicks => f.write_str("\nsynchrony: a greater --tick makes fewer"),
+            LogError::TooManyTicks => f.write_str(
+                "\nsynchrony: a greater --tick makes fewer; --ticks lists those that fit",
+            ),
             LogError::TooManySteps => f.write_str(
                 "\nsynchrony: a greater --tick or a shorter --idle makes fewer",
             ),

@@ -193,6 +193,8 @@ pub enum ImportForm {
     Trace,
     /// The table of the steps of its trace.
     Table,
+    /// The table of the lengths of a tick: how many ticks its trace has with each, and how far events move.
+    Ticks,
 }
 
 /// How a log is to be read, as texts that are still to be read themselves, and what is printed of it.
@@ -216,6 +218,8 @@ pub struct ImportOptions {
     pub align: bool,
     /// Whether the sends of messages that no record receives are left out.
     pub drop_lost: bool,
+    /// Whether the receives of a node in one tick become one, if it sends nothing between them.
+    pub merge: bool,
     /// What is printed.
     pub form: ImportForm,
 }

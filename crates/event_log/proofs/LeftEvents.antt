@@ -39,7 +39,7 @@ one-within n events places p e (Some x) h at same =
     let within = within-at n events p x h at in
     subst (λ (s : Seen). IsWithin n s) is (within.0, sends-left n places (seen_act x.act) within.1)
 
-within-left : (n : ℕ) (events : List Event) (new : List ℕ) (left : List Event) (places : List ℕ) → All (IsWithin n) (map seen events) → map (λ e. Some (seen e)) left ≡ map (renumbered_at events new) places → All (IsWithin n) (map seen left)
+pub within-left : (n : ℕ) (events : List Event) (new : List ℕ) (left : List Event) (places : List ℕ) → All (IsWithin n) (map seen events) → map (λ e. Some (seen e)) left ≡ map (renumbered_at events new) places → All (IsWithin n) (map seen left)
 within-left n events new [] places h same = All-nil (IsWithin n)
 within-left n events new (e ∷ es) [] h same = absurd (cc same)
 within-left n events new (e ∷ es) (p ∷ ps) h same =
@@ -63,7 +63,7 @@ module _ (log : NamedEvents) (sound : IsSound (seen_log log)) (left : List Event
       omega (arith, long, places_few, few, all)
 
 -- events that are seen as the same have the same lost sends
-seen_send : SeenAct → Bool
+pub seen_send : SeenAct → Bool
 seen_send (Sends to) = true
 seen_send (Receives messages) = false
 
@@ -72,7 +72,7 @@ unfolding seen_send
 send-seen (act.Send to) = refl
 send-seen (act.Receive messages) = refl
 
-sends-seen : (events : List Event) (s : ℕ) → sends_at events s ≡ option_map_or (λ (v : Seen). seen_send v.act) (slice_get (map seen events) s) false
+pub sends-seen : (events : List Event) (s : ℕ) → sends_at events s ≡ option_map_or (λ (v : Seen). seen_send v.act) (slice_get (map seen events) s) false
 sends-seen [] s = refl
 sends-seen (e ∷ es) zero = send-seen e.act
 sends-seen (e ∷ es) (suc s) = sends-seen es s
@@ -86,11 +86,11 @@ filters-same : (f g : ℕ → Bool) → ((s : ℕ) → f s ≡ g s) → (xs : Li
 filters-same f g h [] = refl
 filters-same f g h (x ∷ xs) = ap₂ (λ (t : Bool) (ys : List ℕ). cond t (x ∷ ys) ys) (h x) (filters-same f g h xs)
 
-maps-same : {Y : Type 0} (f g : ℕ → Y) → ((s : ℕ) → f s ≡ g s) → (xs : List ℕ) → map f xs ≡ map g xs
+pub maps-same : {Y : Type 0} (f g : ℕ → Y) → ((s : ℕ) → f s ≡ g s) → (xs : List ℕ) → map f xs ≡ map g xs
 maps-same f g h [] = refl
 maps-same f g h (x ∷ xs) = ap₂ (λ y ys. y ∷ ys) (h x) (maps-same f g h xs)
 
-somes-same : (xs ys : List Event) → map (λ e. Some (seen e)) xs ≡ map (λ e. Some (seen e)) ys → map seen xs ≡ map seen ys
+pub somes-same : (xs ys : List Event) → map (λ e. Some (seen e)) xs ≡ map (λ e. Some (seen e)) ys → map seen xs ≡ map seen ys
 somes-same [] [] h = refl
 somes-same [] (y ∷ ys) h = absurd (cc h)
 somes-same (x ∷ xs) [] h = absurd (cc h)
@@ -110,7 +110,7 @@ module _ (xs ys : List Event) (same : map seen xs ≡ map seen ys) where
   unfolding left_before
   before-same s = filters-same (λ p. not (is_lost xs p)) (λ p. not (is_lost ys p)) (λ p. ap not (lost-same p)) (range_with_len 0 s)
 
-  places-same : left_places xs ≡ left_places ys
+  pub places-same : left_places xs ≡ left_places ys
   places-same = before-same (length xs) ∙ ap (left_before ys) (lengths xs ys same)
 
   new-same : new_places xs ≡ new_places ys

@@ -7,6 +7,8 @@ pub mod MeantEvents
 pub mod MessageNames
 pub mod OneImport
 pub mod RecordPlaces
+pub mod SentNames
+pub mod SentLaws
 pub mod SeenEvents
 pub mod SoundLogs
 pub mod Stages
@@ -21,5 +23,10 @@ pub mod ToldTimes
 pub mod StepPlaces
 pub mod LostSends
 pub mod LeftEvents
+pub mod MergedOnce
+pub mod Outcomes
+pub mod TakenEvents
 pub mod PlacedImports
 pub mod PlacedErrors
+pub mod TickRows
+pub mod TickTables

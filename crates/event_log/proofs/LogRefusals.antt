@@ -8,7 +8,7 @@ use Rattle.trace_text.specs.declared.byte_loops.TheConstants.{MAX_TEXT_BYTES}
 use Rattle.event_log.specs.declared.options.Options.{Options}
 use Rattle.event_log.specs.declared.refusals.LogError.{LogError}
 use Rattle.event_log.specs.declared.refusals.LogError.TheVariants.{TooLarge, Memory}
-use Rattle.event_log.specs.Imports.{IsAlignRefusal, IsLogRefusal, IsRead, IsUnaligned, IsUnalignedFor, IsUnfit, IsUntimed}
+use Rattle.event_log.specs.Imports.{IsAlignRefusal, IsLogRefusal, IsRead, IsReadRefusal, IsUnaligned, IsUnalignedFor, IsUnfit, IsUntimed}
 use Rattle.event_log.specs.Naming.{is_memory}
 
 -- any refusal but out of memory
@@ -25,6 +25,9 @@ untimed-refusal o text why Unmade h f = refusal-unless_memory o text why (λ n. 
 
 pub unaligned-refusal : (o : Options) (text : List ℕ) (nodes : List (List ℕ)) (events : List Event) (why : LogError) → IsAlignRefusal text nodes events why → (IsUnalignedFor text nodes events why → IsUnaligned o text why) → IsLogRefusal o text why
 unaligned-refusal o text nodes events why h f = refusal-unless_memory o text why (λ n. inr (inr (inl (f (due (IsUnalignedFor text nodes events why) (is_memory why) n h)))))
+
+pub read-refusal : (o : Options) (text : List ℕ) (why : LogError) → IsReadRefusal o text why → IsLogRefusal o text why
+read-refusal o text why h = refusal-unless_memory o text why (λ n. inl (due (IsRead o text (Err why)) (is_memory why) n h))
 
 pub unfit-refusal : (o : Options) (text : List ℕ) (why : LogError) → IsUnfit o text why → IsLogRefusal o text why
 unfit-refusal o text why h = refusal-unless_memory o text why (λ n. inr (inl h))

@@ -1,5 +1,5 @@
 -- A text and options have one import.
-use Rattle.std.proofs.Common.{ℕ, ℤ, ◌≡◌, ◌∙◌, ◌+◌, Bool, List, [], ◌∷◌, length, map, Option, Some, None, Result, Ok, Err, cond, refl, sym, ap, ap₂, subst}
+use Rattle.std.proofs.Common.{ℕ, ℤ, ◌≡◌, ◌∙◌, ◌+◌, Bool, true, false, List, [], ◌∷◌, length, map, Option, Some, None, Result, Ok, Err, cond, refl, sym, ap, ap₂, subst}
 use Rattle.std.specs.Prelude.{◌&&◌, ◌==◌, nat_le, option_map, unwrap_or}
 use Rattle.std.specs.Option.{ok_or}
 use Rattle.std.specs.Borrow.{Bor}
@@ -24,14 +24,15 @@ use Rattle.event_log.specs.declared.times.TimeUnit.{TimeUnit}
 use Rattle.event_log.specs.Alignments.{AreAligned}
 use Rattle.event_log.specs.Columns.{columns_of}
 use Rattle.event_log.specs.Events.{seen}
-use Rattle.event_log.specs.Imports.{IsImportOf, IsMadeOfLog, IsRead, clock_in, limit_in, lost_of, moved_in}
+use Rattle.event_log.specs.Imports.{IsImportOf, IsMadeOfLog, IsRead, clock_in, kept_count, limit_in, moved_in, removed_by}
 use Rattle.event_log.specs.LogRecords.{Said, accepted, are_messages, are_nodes_by, bad_node_by, is_node, moment_as, name_in, said_by, said_of, verb_of}
 use Rattle.event_log.specs.Logs.{SeenLog, resolved_log}
 use Rattle.event_log.specs.Names.{has_name}
 use Rattle.event_log.specs.Stages.{header_stage, names_stage, rules, says_of, staged_log, with_said}
 use Rattle.event_log.specs.Times.{settled}
 use Rattle.event_log.proofs.OneAlignment.{aligned-once}
-use Rattle.event_log.proofs.LeftEvents.{left-once}
+use Rattle.event_log.proofs.LeftEvents.{places-same}
+use Rattle.event_log.proofs.MergedOnce.{taken-once}
 use Rattle.event_log.proofs.SeenEvents.{lateness-same, lengths}
 use Rattle.event_log.proofs.SeenSilences.{made-as-seen, made-once}
 
@@ -92,25 +93,36 @@ IsRead-unique o text a b s t = sym s.staged ∙ staged-same o.unit s.listed t.li
 same-Ok : {A : Type 0} {x y : A} → ◌≡◌ {A = Result A LogError} (Ok x) (Ok y) → x ≡ y
 same-Ok e = cc e
 
-same-import : (a b : Import) → a.trace ≡ b.trace → a.nodes ≡ b.nodes → a.moved ≡ b.moved → a.lateness ≡ b.lateness → a.offsets ≡ b.offsets → a.idle ≡ b.idle → a.lost ≡ b.lost → a ≡ b
-same-import a b t n m l o i k =
-    ap₂ (λ (trace : Recorded) (nodes : List (List ℕ)). let z : Import = record { trace = trace; nodes = nodes; moved = a.moved; lateness = a.lateness; offsets = a.offsets; idle = a.idle; lost = a.lost } in z) t n
-    ∙ ap₂ (λ (moved : Moved) (lateness : Lateness). let z : Import = record { trace = b.trace; nodes = b.nodes; moved = moved; lateness = lateness; offsets = a.offsets; idle = a.idle; lost = a.lost } in z) m l
-    ∙ ap₂ (λ (offsets : Option (List ℤ)) (idle : Option IdleReceives). let z : Import = record { trace = b.trace; nodes = b.nodes; moved = b.moved; lateness = b.lateness; offsets = offsets; idle = idle; lost = a.lost } in z) o i
-    ∙ ap (λ (lost : Option ℕ). let z : Import = record { trace = b.trace; nodes = b.nodes; moved = b.moved; lateness = b.lateness; offsets = b.offsets; idle = b.idle; lost = lost } in z) k
+same-import : (a b : Import) → a.trace ≡ b.trace → a.nodes ≡ b.nodes → a.moved ≡ b.moved → a.lateness ≡ b.lateness → a.offsets ≡ b.offsets → a.idle ≡ b.idle → a.lost ≡ b.lost → a.merged ≡ b.merged → a ≡ b
+same-import a b t n m l o i k j =
+    ap₂ (λ (trace : Recorded) (nodes : List (List ℕ)). let z : Import = record { trace = trace; nodes = nodes; moved = a.moved; lateness = a.lateness; offsets = a.offsets; idle = a.idle; lost = a.lost; merged = a.merged } in z) t n
+    ∙ ap₂ (λ (moved : Moved) (lateness : Lateness). let z : Import = record { trace = b.trace; nodes = b.nodes; moved = moved; lateness = lateness; offsets = a.offsets; idle = a.idle; lost = a.lost; merged = a.merged } in z) m l
+    ∙ ap₂ (λ (offsets : Option (List ℤ)) (idle : Option IdleReceives). let z : Import = record { trace = b.trace; nodes = b.nodes; moved = b.moved; lateness = b.lateness; offsets = offsets; idle = idle; lost = a.lost; merged = a.merged } in z) o i
+    ∙ ap₂ (λ (lost merged : Option ℕ). let z : Import = record { trace = b.trace; nodes = b.nodes; moved = b.moved; lateness = b.lateness; offsets = b.offsets; idle = b.idle; lost = lost; merged = merged } in z) k j
 
--- events of a log that are seen as the same make the same trace, without lost sends or with them
-log-once : (drop : Bool) (limit : Option ℕ) (spread : Bool) (n : ℕ) (xs ys : List Event) (clock : Clock) (a b : Import) → map seen xs ≡ map seen ys → IsMadeOfLog drop limit spread n xs clock a → IsMadeOfLog drop limit spread n ys clock b → (a.trace ≡ b.trace) × (a.moved ≡ b.moved) × (a.idle ≡ b.idle) × (a.lost ≡ b.lost)
-log-once drop limit spread n xs ys clock a b same s t =
-    (made.0, s.moved_is ∙ ap₂ (λ (at : Option (List ℕ)) (m : Moved). moved_in at m) left.0 made.1 ∙ sym t.moved_is, made.2, s.lost ∙ ap₂ (λ (count : ℕ) (at : Option (List ℕ)). lost_of count at) (lengths xs ys same) left.0 ∙ sym t.lost) where
-      left : (s.left_at ≡ t.left_at) × (map seen t.left ≡ map seen s.left)
-      left = left-once xs ys same drop s.left t.left s.left_at t.left_at s.are_left t.are_left
+-- as many of them are left, if lost sends are left out
+kept-same : (drop : Bool) (xs ys : List Event) → map seen xs ≡ map seen ys → kept_count drop xs ≡ kept_count drop ys
+kept-same false xs ys same = lengths xs ys same
+kept-same true xs ys same = ap (λ (ps : List ℕ). length ps) (places-same xs ys same)
 
-      made : (a.trace ≡ b.trace) × (s.moved ≡ t.moved) × (a.idle ≡ b.idle)
-      made = made-once limit spread n s.left clock a.trace b.trace s.moved t.moved a.idle b.idle s.made (made-as-seen t.left s.left left.1 limit spread n clock b.trace t.moved b.idle t.made)
+-- events of a log that are seen as the same make the same trace, without lost sends or with them, merged or not
+log-once : (drop merge : Bool) (limit : Option ℕ) (spread : Bool) (n : ℕ) (xs ys : List Event) (clock : Clock) (a b : Import) → map seen xs ≡ map seen ys → IsMadeOfLog drop merge limit spread n xs clock a → IsMadeOfLog drop merge limit spread n ys clock b
+    → (a.trace ≡ b.trace) × (a.moved ≡ b.moved) × (a.idle ≡ b.idle) × (a.lost ≡ b.lost) × (a.merged ≡ b.merged)
+log-once drop merge limit spread n xs ys clock a b same s t = (
+  made.0,
+  s.moved_is ∙ ap₂ (λ (at : Option (List ℕ)) (m : Moved). moved_in at m) left.0 made.1 ∙ sym t.moved_is,
+  made.2,
+  s.lost ∙ ap₂ (λ (before after : ℕ). removed_by drop before after) (lengths xs ys same) (kept-same drop xs ys same) ∙ sym t.lost,
+  s.merged ∙ ap₂ (λ (before after : ℕ). removed_by merge before after) (kept-same drop xs ys same) (lengths s.left t.left (sym left.1)) ∙ sym t.merged,
+) where
+  left : (s.left_at ≡ t.left_at) × (map seen t.left ≡ map seen s.left)
+  left = taken-once xs ys same drop merge clock s.left t.left s.left_at t.left_at s.parts t.parts s.are_left t.are_left
+
+  made : (a.trace ≡ b.trace) × (s.moved ≡ t.moved) × (a.idle ≡ b.idle)
+  made = made-once limit spread n s.left clock a.trace b.trace s.moved t.moved a.idle b.idle s.made (made-as-seen t.left s.left left.1 limit spread n clock b.trace t.moved b.idle t.made)
 
 pub IsImportOf-unique : (o : Options) (text : List ℕ) (a b : Import) → IsImportOf o text a → IsImportOf o text b → a ≡ b
-IsImportOf-unique o text a b s t = same-import a b made.0 (s.nodes ∙ ap (λ l. l.nodes) log ∙ sym t.nodes) made.1 late one.0 made.2 made.3 where
+IsImportOf-unique o text a b s t = same-import a b made.0 (s.nodes ∙ ap (λ l. l.nodes) log ∙ sym t.nodes) made.1 late one.0 made.2 made.3 made.4 where
   log : s.log ≡ t.log
   log = same-Ok (IsRead-unique o text (Ok s.log) (Ok t.log) s.told.read t.told.read)
 
@@ -130,11 +142,11 @@ IsImportOf-unique o text a b s t = same-import a b made.0 (s.nodes ∙ ap (λ l.
   limit : s.limit ≡ t.limit
   limit = same-Ok (sym s.fits_idle ∙ ap₂ (λ (l : SeenLog) (c : Clock). limit_in o l.kind c) log clock ∙ t.fits_idle)
 
-  other : IsMadeOfLog o.drop_lost s.limit o.spread (length s.log.nodes) t.aligned s.clock b
+  other : IsMadeOfLog o.drop_lost o.merge s.limit o.spread (length s.log.nodes) t.aligned s.clock b
   other =
-      subst (λ (l : SeenLog). IsMadeOfLog o.drop_lost s.limit o.spread (length l.nodes) t.aligned s.clock b) (sym log)
-      (subst (λ (c : Clock). IsMadeOfLog o.drop_lost s.limit o.spread (length t.log.nodes) t.aligned c b) (sym clock)
-      (subst (λ (m : Option ℕ). IsMadeOfLog o.drop_lost m o.spread (length t.log.nodes) t.aligned t.clock b) (sym limit) t.made))
+      subst (λ (l : SeenLog). IsMadeOfLog o.drop_lost o.merge s.limit o.spread (length l.nodes) t.aligned s.clock b) (sym log)
+      (subst (λ (c : Clock). IsMadeOfLog o.drop_lost o.merge s.limit o.spread (length t.log.nodes) t.aligned c b) (sym clock)
+      (subst (λ (m : Option ℕ). IsMadeOfLog o.drop_lost o.merge m o.spread (length t.log.nodes) t.aligned t.clock b) (sym limit) t.made))
 
-  made : (a.trace ≡ b.trace) × (a.moved ≡ b.moved) × (a.idle ≡ b.idle) × (a.lost ≡ b.lost)
-  made = log-once o.drop_lost s.limit o.spread (length s.log.nodes) s.aligned t.aligned s.clock a b (sym one.1) s.made other
+  made : (a.trace ≡ b.trace) × (a.moved ≡ b.moved) × (a.idle ≡ b.idle) × (a.lost ≡ b.lost) × (a.merged ≡ b.merged)
+  made = log-once o.drop_lost o.merge s.limit o.spread (length s.log.nodes) s.aligned t.aligned s.clock a b (sym one.1) s.made other

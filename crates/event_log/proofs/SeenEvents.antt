@@ -114,7 +114,7 @@ module _ (xs ys : List Event) (same : map seen xs ≡ map seen ys) where
   times : (i : ℕ) → time_at xs i ≡ time_at ys i
   times i = looks-same (λ e. e.time) (λ s. s.time) (λ e. refl) i (pos 0)
 
-  messages : (i : ℕ) → messages_at xs i ≡ messages_at ys i
+  pub messages : (i : ℕ) → messages_at xs i ≡ messages_at ys i
   messages i = looks-same (λ e. received_in e.act) (λ s. received_by s.act) (λ e. received-seen e.act) i []
 
   receivers : (s p : ℕ) → is_for xs s p ≡ is_for ys s p
@@ -223,7 +223,7 @@ module _ (xs ys : List Event) (same : map seen xs ≡ map seen ys) where
       first-same (event_refusal xs ticks) (event_refusal ys ticks) (λ i. ap₂ (λ a b. option_or a b) (messages-refused ticks i) (second-same ticks i)) (length xs)
       ∙ ap (first_of (event_refusal ys ticks)) lengths
 
-  earlier : (j i : ℕ) → is_earlier xs j i ≡ is_earlier ys j i
+  pub earlier : (j i : ℕ) → is_earlier xs j i ≡ is_earlier ys j i
   earlier j i = ap₂ (λ (x y : ℤ). int_lt x y || (not (int_lt y x) && nat_lt j i)) (times j) (times i)
 
   -- the messages that are late

@@ -28,7 +28,8 @@ use Rattle.event_log.specs.LogRecords.{Said, said_of}
 use Rattle.event_log.specs.Logs.{SeenLog, events_in, resolved_log, seen_log}
 use Rattle.event_log.specs.Reading.{after_told, at_end_by, enough_nodes, named_at_end, named_by, named_of, next_by, next_reading, nothing_read, rules_of, with_event}
 use Rattle.event_log.specs.Names.{has_name, with_name}
-use Rattle.event_log.specs.Naming.{Named, is_memory, act_after_by, after_said, nodes_after_by, number_of, number_to_by}
+use Rattle.event_log.specs.Naming.{Named, is_memory, act_after_by, after_said, nodes_after_by, number_of, number_to_by, was_sent}
+use Rattle.event_log.specs.SentMessages.{Sent}
 use Rattle.event_log.specs.SoundLogs.{IsNumber, IsSound, IsWithin, SendsWithin}
 
 -- a name that is there has a place, and any other the next one
@@ -102,10 +103,10 @@ unfolding KeptWithin
 send-go true at to messages act count h e = cc e
 send-go false at to messages act count h e = let same : kept.Send to ≡ act = cc e in rw (← same) h
 
-act-within : (v : Verb) (at to : ℕ) (messages : List (List ℕ)) (s : Said) (act : KeptAct) (count : ℕ) → IsNumber count to → act_after_by v at to messages s ≡ Ok act → KeptWithin count act
+act-within : (v : Verb) (at to : ℕ) (sent : Sent) (events : List KeptEvent) (s : Said) (act : KeptAct) (count : ℕ) → IsNumber count to → act_after_by v at to sent events s ≡ Ok act → KeptWithin count act
 unfolding KeptWithin
-act-within verb.Send at to messages s act count h e = send-go (has_name messages s.messages) at to s.messages act count h e
-act-within verb.Receive at to messages s act count h e = let same : kept.Receive s.messages ≡ act = cc e in rw (← same) tt
+act-within verb.Send at to sent events s act count h e = send-go (was_sent sent events to s.messages) at to s.messages act count h e
+act-within verb.Receive at to sent events s act count h e = let same : kept.Receive s.messages ≡ act = cc e in rw (← same) tt
 
 -- the parts of an answer that is no refusal
 bound : {A B : Type 0} (r : Result A LogError) (f : A → Result B LogError) (x : B) → r >>= f ≡ Ok x → (a : A) × (r ≡ Ok a) × (f a ≡ Ok x)
@@ -125,12 +126,12 @@ pub record IsNamed (count : ℕ) (n : Named) : Type 0 where
 one-more : (place : ℕ) (n m : Named) (s : Said) → IsNamed place n → after_said place n s ≡ Ok m → IsNamed (place + 1) m
 one-more place n m s h e =
     let few = over (nat_lt 64 (length (nodes_after_by s.verb n.nodes s))) (TooManyNodes (place + 2)) _ m e in
-    let act = bound (act_after_by s.verb (place + 2) (number_to_by s.verb n.nodes s) n.messages s) _ m few.1 in
+    let act = bound (act_after_by s.verb (place + 2) (number_to_by s.verb n.nodes s) n.sent n.events s) _ m few.1 in
     let nodes = nodes_after_by s.verb n.nodes s in
     let count = length nodes in
     let event : KeptEvent = record { time = s.moment.time; processor = number_of n.nodes s.node; act = act.0 } in
     let own : IsNumber count (number_of n.nodes s.node) = (omega arith, own-number s.verb n.nodes s) in
-    let to = act-within s.verb (place + 2) (number_to_by s.verb n.nodes s) n.messages s act.0 count (to-above s.verb n.nodes s, to-number s.verb n.nodes s) act.1 in
+    let to = act-within s.verb (place + 2) (number_to_by s.verb n.nodes s) n.sent n.events s act.0 count (to-above s.verb n.nodes s, to-number s.verb n.nodes s) act.1 in
     let old = All-weaker (EventWithin (length n.nodes)) (EventWithin count) (λ x w. later (length n.nodes) count x (nodes-grow s.verb n.nodes s) w) n.events h.within in
     let new : All (EventWithin count) (event ∷ []) = All-cons (EventWithin count) event [] (own, to) (All-nil (EventWithin count)) in
     let len = h.events in
@@ -226,25 +227,25 @@ whole unit listed nodes text x e =
     whole-end r.0.columns r.0 x (reached (nothing_read unit listed nodes) r.0 (records_of_text text) (begins unit listed nodes) r.1) r.2
 
 -- the same with the places of sends in place of the names of messages
-act-resolved : (messages : List (List ℕ)) (sends : List ℕ) (act : KeptAct) (count : ℕ) → KeptWithin count act → SendsWithin count (resolved_act messages sends act)
+act-resolved : (sent : Sent) (processor : ℕ) (act : KeptAct) (count : ℕ) → KeptWithin count act → SendsWithin count (resolved_act sent processor act)
 unfolding KeptWithin
-act-resolved messages sends (kept.Send to) count h = h
-act-resolved messages sends (kept.Receive names) count h = tt
+act-resolved sent processor (kept.Send to) count h = h
+act-resolved sent processor (kept.Receive names) count h = tt
 
-all-resolved : (messages : List (List ℕ)) (sends : List ℕ) (count : ℕ) (events : List KeptEvent) → All (EventWithin count) events → All (IsWithin count) (map (resolved messages sends) events)
-all-resolved messages sends count [] h = All-nil (IsWithin count)
-all-resolved messages sends count (x ∷ xs) h =
+all-resolved : (sent : Sent) (count : ℕ) (events : List KeptEvent) → All (EventWithin count) events → All (IsWithin count) (map (resolved sent) events)
+all-resolved sent count [] h = All-nil (IsWithin count)
+all-resolved sent count (x ∷ xs) h =
     let first = All-head (EventWithin count) x xs h in
-    All-cons (IsWithin count) (resolved messages sends x) (map (resolved messages sends) xs)
-    (first.0, act-resolved messages sends x.act count first.1)
-    (all-resolved messages sends count xs (All-tail (EventWithin count) x xs h))
+    All-cons (IsWithin count) (resolved sent x) (map (resolved sent) xs)
+    (first.0, act-resolved sent x.processor x.act count first.1)
+    (all-resolved sent count xs (All-tail (EventWithin count) x xs h))
 
 sound-log : (unit : Option TimeUnit) (listed : Option (Bor (List (List ℕ)))) (nodes : List (List ℕ)) (text : List ℕ) (log : SeenLog) → events_in unit listed nodes text ≡ Ok log → IsSound log
 sound-log unit listed nodes text log e =
     let x = bound (named_of unit listed nodes text) (λ r. Ok (resolved_log r.0 r.1)) log e in
     let h = whole unit listed nodes text x.0 x.1 in
     let n = x.0.1 in
-    let len = length-map n.events (resolved n.messages n.sends) in
+    let len = length-map n.events (resolved n.sent) in
     let some = h.some in
     let few = h.few_events in
     rw (← same-ok x.2) (record {
@@ -252,7 +253,7 @@ sound-log unit listed nodes text log e =
       few_nodes = h.few_nodes;
       some = omega (arith, some, len);
       few_events = omega (arith, few, len);
-      within = all-resolved n.messages n.sends (length n.nodes) n.events h.within;
+      within = all-resolved n.sent (length n.nodes) n.events h.within;
     })
 
 -- so an answer that is no refusal is sound

@@ -1,5 +1,5 @@
 -- The places of the steps of a trace of events.
-use Rattle.std.proofs.Common.{ℕ, ◌≡◌, ◌∙◌, ℤ, Bool, List, Option, ap₂, length, subst, sym}
+use Rattle.std.proofs.Common.{ℕ, ◌≡◌, ◌∙◌, ℤ, Bool, List, Option, ap, ap₂, length, subst, sym}
 use Rattle.std.proofs.lemmas.Slice.Zip.{AllZip-long}
 use Rattle.timed_events.specs.declared.events.Clock.{Clock}
 use Rattle.timed_events.specs.declared.events.Event.{Event}
@@ -27,13 +27,14 @@ pub filled-long : (spread : Bool) (n : ℕ) (events : List Event) (clock : Clock
 filled-long spread n events clock limit timed filled places t p = one-each n filled places timed.trace (steps-filled spread n events clock limit timed filled places t p)
 
 -- the table of an import whose events, clock and places are known
-pub table-made : (o : Options) (text : List ℕ) (import : Import) (filled : List Event) (logged : ℕ) (left_at : Option (List ℕ)) (first : ℤ) (clock : Clock) (places table : List ℕ) → IsPlacedImport o text import filled logged left_at first clock places → table ≡ table_text text import.nodes filled logged left_at first clock.width import.trace.ticks places → IsTableOf o text import table
-table-made o text import filled logged left_at first clock places table h e = record {
+pub table-made : (o : Options) (text : List ℕ) (import : Import) (filled : List Event) (logged : ℕ) (left_at : Option (List ℕ)) (parts : Option (List (List ℕ))) (first : ℤ) (clock : Clock) (places table : List ℕ) → IsPlacedImport o text import filled logged left_at parts first clock places → table ≡ table_text text import.nodes filled logged left_at parts first clock.width import.trace.ticks places → IsTableOf o text import table
+table-made o text import filled logged left_at parts first clock places table h e = record {
   is = h.is;
   filled = filled;
   places = places;
   placed = subst (λ (c : Clock). ArePlacedBy h.is.limit o.spread (length h.is.log.nodes) h.is.made.left c filled places) (sym h.clock_is) h.placed;
   written = e
-      ∙ ap₂ (λ (n : ℕ) (at : Option (List ℕ)). table_text text import.nodes filled n at first clock.width import.trace.ticks places) h.so_many h.at
-      ∙ ap₂ (λ (z : ℤ) (c : Clock). table_text text import.nodes filled (length h.is.made.left) h.is.made.left_at z c.width import.trace.ticks places) h.begins (sym h.clock_is);
+      ∙ ap₂ (λ (n : ℕ) (at : Option (List ℕ)). table_text text import.nodes filled n at parts first clock.width import.trace.ticks places) h.so_many h.at
+      ∙ ap (λ (ps : Option (List (List ℕ))). table_text text import.nodes filled (length h.is.made.left) h.is.made.left_at ps first clock.width import.trace.ticks places) h.parts_are
+      ∙ ap₂ (λ (z : ℤ) (c : Clock). table_text text import.nodes filled (length h.is.made.left) h.is.made.left_at h.is.made.parts z c.width import.trace.ticks places) h.begins (sym h.clock_is);
 }

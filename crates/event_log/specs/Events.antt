@@ -1,7 +1,5 @@
 -- The events of a log, with numbers in place of names.
-use Rattle.std.specs.Prelude.{ℕ, ℤ, List, Option, map, position, slice_get}
-use Rattle.std.specs.Option.{option_and_then}
-use Rattle.std.specs.Str.{bytes_eq}
+use Rattle.std.specs.Prelude.{ℕ, ℤ, List, Option, map}
 use Rattle.timed_events.specs.declared.events.Event.{Event}
 use Rattle.timed_events.specs.declared.events.EventAct.{EventAct}
 use Rattle.timed_events.specs.declared.events.EventAct.TheVariants as act
@@ -9,6 +7,7 @@ use Rattle.event_log.specs.declared.naming.KeptEvent.{KeptEvent}
 use Rattle.event_log.specs.declared.naming.KeptAct.{KeptAct}
 use Rattle.event_log.specs.declared.naming.KeptAct.TheVariants as kept
 use Rattle.event_log.specs.Names.{parts_of}
+use Rattle.event_log.specs.SentMessages.{Sent, place_for}
 
 -- what an event does: it sends to a processor, or receives messages, each by the place of the event that sent it
 pub data SeenAct : Type 0 where
@@ -29,14 +28,10 @@ seen_act (act.Receive messages) = Receives messages.items
 abbrev pub seen : Event → Seen
 seen event = record { time = event.time; processor = event.processor; act = seen_act event.act }
 
--- the place of the event that sent a message, if one did
-abbrev pub place_of_send : List (List ℕ) → List ℕ → List ℕ → Option ℕ
-place_of_send messages sends name = option_and_then (λ i. slice_get sends i) (position (bytes_eq name) messages)
-
-abbrev pub resolved_act : List (List ℕ) → List ℕ → KeptAct → SeenAct
-resolved_act messages sends (kept.Send to) = Sends to
-resolved_act messages sends (kept.Receive names) = Receives (map (place_of_send messages sends) (parts_of names))
+abbrev pub resolved_act : Sent → ℕ → KeptAct → SeenAct
+resolved_act sent processor (kept.Send to) = Sends to
+resolved_act sent processor (kept.Receive names) = Receives (map (place_for sent processor) (parts_of names))
 
 -- an event with the places of the sends in place of the names of messages
-abbrev pub resolved : List (List ℕ) → List ℕ → KeptEvent → Seen
-resolved messages sends event = record { time = event.time; processor = event.processor; act = resolved_act messages sends event.act }
+abbrev pub resolved : Sent → KeptEvent → Seen
+resolved sent event = record { time = event.time; processor = event.processor; act = resolved_act sent event.processor event.act }

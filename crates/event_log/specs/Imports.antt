@@ -1,5 +1,5 @@
 -- Logs read as traces.
-use Rattle.std.specs.Prelude.{ℕ, ◌≡◌, ◌+◌, ◌-◌, ◌*◌, ◌/◌, ◌⊎◌, Bool, false, List, [], map, length, Option, Some, None, Result, Ok, Err, option_map, nat_lt, if◌then◌else◌, slice_get, slice_index_or, unwrap_or, ℤ, pos, true, IfSome, MatchBool, ⊤}
+use Rattle.std.specs.Prelude.{ℕ, ◌≡◌, ◌+◌, ◌-◌, ◌*◌, ◌/◌, ◌⊎◌, Bool, false, List, [], ◌∷◌, map, length, Option, Some, None, Result, Ok, Err, option_map, nat_lt, if◌then◌else◌, slice_get, slice_index, slice_index_or, unwrap_or, ℤ, pos, true, IfSome, MatchBool, ⊤}
 use Rattle.std.specs.Borrow.{Bor}
 use Rattle.std.specs.Option.{option_map_or}
 use Rattle.timed_events.specs.declared.cause_cycles.Hop.{Hop}
@@ -13,7 +13,7 @@ use Rattle.timed_events.specs.Causes.{IsFirstUnplaceable}
 use Rattle.timed_events.specs.Checks.{first_fault, processor_at, messages_at}
 use Rattle.timed_events.specs.CauseCycles.{BeginsAtLeast, IsCauseCycle}
 use Rattle.timed_events.specs.Lateness.{lateness_of}
-use Rattle.timed_events.specs.Times.{least_time}
+use Rattle.timed_events.specs.Times.{least_time, times_refusal}
 use Rattle.timed_events.specs.declared.idle_traces.IdleError.{IdleError}
 use Rattle.timed_events.specs.declared.idle_traces.IdleError.TheVariants as filled
 use Rattle.timed_events.specs.declared.spread_traces.Moved.{Moved}
@@ -41,6 +41,7 @@ use Rattle.event_log.specs.Events.{seen}
 use Rattle.event_log.specs.HopLines.{hop_lines}
 use Rattle.event_log.specs.Logs.{SeenLog}
 use Rattle.event_log.specs.LostSends.{AreLeft, left_places}
+use Rattle.event_log.specs.Merges.{AreJoined}
 use Rattle.event_log.specs.Naming.{is_memory}
 use Rattle.event_log.specs.Stages.{staged_log}
 use Rattle.event_log.specs.Times.{nanoseconds_in}
@@ -233,22 +234,60 @@ abbrev pub log_place : Option (List ℕ) → ℕ → ℕ
 log_place None i = i
 log_place (Some places) i = place_in places i
 
+-- what becomes of these events if receives are merged, and of which of them each is made then
+abbrev pub AreMergedBy : Bool → List Event → Clock → List Event → Option (List (List ℕ)) → Type 0
+AreMergedBy false events clock left parts = (left ≡ events) × (parts ≡ None)
+AreMergedBy true events clock left None = ⊥
+AreMergedBy true events clock left (Some parts) = AreJoined events clock left parts
+
+-- the same by the places in the log
+abbrev pub log_parts : Option (List ℕ) → Option (List (List ℕ)) → Option (List (List ℕ))
+log_parts places parts = option_map (map (map (log_place places))) parts
+
+-- where events are in the log, of which each is made of the events at these places, if any is made of several
+abbrev pub first_places : Option (List ℕ) → Option (List (List ℕ)) → Option (List ℕ)
+first_places places None = places
+first_places places (Some parts) = Some (map (λ part. slice_index part 0) parts)
+
+-- `left` are the events of a log of which its trace is made: without lost sends if these are left out, then with merged
+-- receives if that is asked for. They are at the places `left_at` of the log, the first if they are made of several, whose
+-- places are `parts`.
+pub record AreTaken (drop merge : Bool) (events : List Event) (clock : Clock) (left : List Event) (left_at : Option (List ℕ)) (parts : Option (List (List ℕ))) : Type 0 where
+  pub kept : List Event
+  pub kept_at : Option (List ℕ)
+  pub are_kept : AreLeftBy drop events kept kept_at
+  pub own_parts : Option (List (List ℕ))
+  pub are_merged : AreMergedBy merge kept clock left own_parts
+  pub parts_are : parts ≡ log_parts kept_at own_parts
+  pub at : left_at ≡ first_places kept_at parts
+
 -- how far events moved, by the place of the farthest in the log
 abbrev pub moved_in : Option (List ℕ) → Moved → Moved
 moved_in None moved = moved
 moved_in (Some places) moved = record { events = moved.events; ticks = moved.ticks; farthest = option_map (place_in places) moved.farthest }
 
--- a reason by the place of its event in the log
-abbrev pub reason_in : List ℕ → EventError → EventError
-reason_in places refused.UntilTooEarly = refused.UntilTooEarly
-reason_in places refused.TooManyTicks = refused.TooManyTicks
-reason_in places (refused.NeverSent i k) = refused.NeverSent (place_in places i) k
-reason_in places (refused.WrongReceiver i k) = refused.WrongReceiver (place_in places i) k
-reason_in places (refused.ReceivedBefore i k) = refused.ReceivedBefore (place_in places i) k
-reason_in places (refused.NotLater i k hint) = refused.NotLater (place_in places i) k hint
-reason_in places (refused.SecondEvent i tick hint) = refused.SecondEvent (place_in places i) tick hint
-reason_in places (refused.Cycle i) = refused.Cycle (place_in places i)
-reason_in places refused.Memory = refused.Memory
+-- the place in the log of the event that received message k of an event that is made of the events at these places, and
+-- which of its messages it is
+abbrev pub source_of : List Event → List ℕ → ℕ → ℕ × ℕ
+source_of events [] k = (0, k)
+source_of events (p ∷ ps) k = if nat_lt k (length (messages_at events p)) then (p, k) else source_of events ps (k - length (messages_at events p))
+
+-- the same of message k of event i
+abbrev pub source_in : List Event → List ℕ → Option (List (List ℕ)) → ℕ → ℕ → ℕ × ℕ
+source_in events places None i k = (place_in places i, k)
+source_in events places (Some parts) i k = source_of events (slice_index_or parts i []) k
+
+-- a reason by the place of its event in the log: against a message by that of the event that received it
+abbrev pub reason_in : List Event → List ℕ → Option (List (List ℕ)) → EventError → EventError
+reason_in events places parts refused.UntilTooEarly = refused.UntilTooEarly
+reason_in events places parts refused.TooManyTicks = refused.TooManyTicks
+reason_in events places parts (refused.NeverSent i k) = refused.NeverSent (source_in events places parts i k).0 (source_in events places parts i k).1
+reason_in events places parts (refused.WrongReceiver i k) = refused.WrongReceiver (source_in events places parts i k).0 (source_in events places parts i k).1
+reason_in events places parts (refused.ReceivedBefore i k) = refused.ReceivedBefore (source_in events places parts i k).0 (source_in events places parts i k).1
+reason_in events places parts (refused.NotLater i k hint) = refused.NotLater (source_in events places parts i k).0 (source_in events places parts i k).1 hint
+reason_in events places parts (refused.SecondEvent i tick hint) = refused.SecondEvent (place_in places i) tick hint
+reason_in events places parts (refused.Cycle i) = refused.Cycle (place_in places i)
+reason_in events places parts refused.Memory = refused.Memory
 
 -- a hop by the places of its events in the log
 abbrev pub hop_in : List ℕ → Hop → Hop
@@ -262,19 +301,19 @@ pub record IsLeftCycleError (text : List ℕ) (nodes : List (List ℕ)) (events 
   pub first : BeginsAtLeast hops
   pub is : error ≡ Cycle (place_in places i + 2) (hop_lines text nodes events (map (hop_in places) hops))
 
--- the refusal of a log for a reason against the events that are left, which are at these places
-abbrev pub IsPlacedErrorOf : List ℕ → List (List ℕ) → List Event → List Event → List ℕ → IdleError → LogError → Type 0
-IsPlacedErrorOf text nodes events left places (filled.Events (refused.Cycle i)) error = IsLeftCycleError text nodes events left places i error
-IsPlacedErrorOf text nodes events left places (filled.Events why) error = IsErrorOf text nodes events (reason_in places why) error
-IsPlacedErrorOf text nodes events left places filled.TooManySteps error = error ≡ TooManySteps
+-- the refusal of a log for a reason against the events that are left, which are at these places and made of those
+abbrev pub IsPlacedErrorOf : List ℕ → List (List ℕ) → List Event → List Event → List ℕ → Option (List (List ℕ)) → IdleError → LogError → Type 0
+IsPlacedErrorOf text nodes events left places parts (filled.Events (refused.Cycle i)) error = IsLeftCycleError text nodes events left places i error
+IsPlacedErrorOf text nodes events left places parts (filled.Events why) error = IsErrorOf text nodes events (reason_in events places parts why) error
+IsPlacedErrorOf text nodes events left places parts filled.TooManySteps error = error ≡ TooManySteps
 
-abbrev pub IsLeftErrorOf : List ℕ → List (List ℕ) → List Event → List Event → Option (List ℕ) → IdleError → LogError → Type 0
-IsLeftErrorOf text nodes events left None why error = IsIdleErrorOf text nodes events why error
-IsLeftErrorOf text nodes events left (Some places) why error = IsPlacedErrorOf text nodes events left places why error
+abbrev pub IsLeftErrorOf : List ℕ → List (List ℕ) → List Event → List Event → Option (List ℕ) → Option (List (List ℕ)) → IdleError → LogError → Type 0
+IsLeftErrorOf text nodes events left None parts why error = IsIdleErrorOf text nodes events why error
+IsLeftErrorOf text nodes events left (Some places) parts why error = IsPlacedErrorOf text nodes events left places parts why error
 
 -- the same, or out of memory
-abbrev pub IsPlacedErrorUnlessMemory : List ℕ → List (List ℕ) → List Event → List Event → List ℕ → IdleError → LogError → Type 0
-IsPlacedErrorUnlessMemory text nodes events left places why error = MatchBool (is_memory error) ⊤ (IsPlacedErrorOf text nodes events left places why error)
+abbrev pub IsPlacedErrorUnlessMemory : List ℕ → List (List ℕ) → List Event → List Event → List ℕ → Option (List (List ℕ)) → IdleError → LogError → Type 0
+IsPlacedErrorUnlessMemory text nodes events left places parts why error = MatchBool (is_memory error) ⊤ (IsPlacedErrorOf text nodes events left places parts why error)
 
 -- events and a clock, which a text and options give
 pub record AreEventsOf (o : Options) (text : List ℕ) (log : SeenLog) (events : List Event) (clock : Clock) : Type 0 where
@@ -282,24 +321,29 @@ pub record AreEventsOf (o : Options) (text : List ℕ) (log : SeenLog) (events :
   pub same : map seen events ≡ log.events
   pub fits : clock_in o log.kind ≡ Ok clock
 
--- how many lost sends are left out of so many events, if they are
-abbrev pub lost_of : ℕ → Option (List ℕ) → Option ℕ
-lost_of count None = None
-lost_of count (Some places) = Some (count - length places)
+-- how many events are left, if lost sends are left out or not
+abbrev pub kept_count : Bool → List Event → ℕ
+kept_count drop events = if drop then length (left_places events) else length events
 
--- The trace is that of the events of a log, without lost sends if these are left out. How far they moved is reported by
--- their places in the log.
-pub record IsMadeOfLog (drop : Bool) (limit : Option ℕ) (spread : Bool) (n : ℕ) (events : List Event) (clock : Clock) (import : Import) : Type 0 where
+-- how many events a step takes away of so many, if it is asked for
+abbrev pub removed_by : Bool → ℕ → ℕ → Option ℕ
+removed_by asked before after = if asked then Some (before - after) else None
+
+-- The trace is that of the events of a log, without lost sends if these are left out, and with merged receives if that is
+-- asked for. How far they moved is reported by their places in the log.
+pub record IsMadeOfLog (drop merge : Bool) (limit : Option ℕ) (spread : Bool) (n : ℕ) (events : List Event) (clock : Clock) (import : Import) : Type 0 where
   pub left : List Event
   pub left_at : Option (List ℕ)
-  pub are_left : AreLeftBy drop events left left_at
+  pub parts : Option (List (List ℕ))
+  pub are_left : AreTaken drop merge events clock left left_at parts
   pub moved : Moved
   pub made : IsMadeBy limit spread n left clock import.trace moved import.idle
   pub moved_is : import.moved ≡ moved_in left_at moved
-  pub lost : import.lost ≡ lost_of (length events) left_at
+  pub lost : import.lost ≡ removed_by drop (length events) (kept_count drop events)
+  pub merged : import.merged ≡ removed_by merge (kept_count drop events) (length left)
 
--- The trace is that of the events that the text gives by the options, with aligned clocks and without lost sends if
--- that is asked for. The nodes are the processors, in their order. So many messages of the events are late.
+-- The trace is that of the events that the text gives by the options, with aligned clocks, without lost sends and with
+-- merged receives, if these are asked for. The nodes are the processors, in their order. So many messages of the events are late.
 pub record IsImportOf (o : Options) (text : List ℕ) (import : Import) : Type 0 where
   pub log : SeenLog
   pub events : List Event
@@ -309,26 +353,28 @@ pub record IsImportOf (o : Options) (text : List ℕ) (import : Import) : Type 0
   pub clocks : AreAligned o.align (length log.nodes) events import.offsets aligned
   pub limit : Option ℕ
   pub fits_idle : limit_in o log.kind clock ≡ Ok limit
-  pub made : IsMadeOfLog o.drop_lost limit o.spread (length log.nodes) aligned clock import
+  pub made : IsMadeOfLog o.drop_lost o.merge limit o.spread (length log.nodes) aligned clock import
   pub nodes : import.nodes ≡ log.nodes
   pub lateness : import.lateness ≡ lateness_of aligned
 
 -- The import is that of a log's events. `filled` has those that are left, so many, in the order of their records, and
--- behind them the receives of nothing that were added. The events are at the places `left_at` of the log. Tick 1 begins
--- at the time `first`, and the steps are those of the list at these places.
-pub record IsPlacedOfLog (drop : Bool) (limit : Option ℕ) (spread : Bool) (n : ℕ) (events : List Event) (clock : Clock) (import : Import) (filled : List Event) (logged : ℕ) (left_at : Option (List ℕ)) (first : ℤ) (places : List ℕ) : Type 0 where
-  pub is : IsMadeOfLog drop limit spread n events clock import
+-- behind them the receives of nothing that were added. The events are at the places `left_at` of the log, or made of those
+-- at the places `parts`. Tick 1 begins at the time `first`, and the steps are those of the list at these places.
+pub record IsPlacedOfLog (drop merge : Bool) (limit : Option ℕ) (spread : Bool) (n : ℕ) (events : List Event) (clock : Clock) (import : Import) (filled : List Event) (logged : ℕ) (left_at : Option (List ℕ)) (parts : Option (List (List ℕ))) (first : ℤ) (places : List ℕ) : Type 0 where
+  pub is : IsMadeOfLog drop merge limit spread n events clock import
   pub so_many : logged ≡ length is.left
   pub at : left_at ≡ is.left_at
+  pub parts_are : parts ≡ is.parts
   pub begins : first ≡ least_time is.left
   pub placed : ArePlacedBy limit spread n is.left clock filled places
 
 -- The import is that of the text by the options, and its events are placed so.
-pub record IsPlacedImport (o : Options) (text : List ℕ) (import : Import) (filled : List Event) (logged : ℕ) (left_at : Option (List ℕ)) (first : ℤ) (clock : Clock) (places : List ℕ) : Type 0 where
+pub record IsPlacedImport (o : Options) (text : List ℕ) (import : Import) (filled : List Event) (logged : ℕ) (left_at : Option (List ℕ)) (parts : Option (List (List ℕ))) (first : ℤ) (clock : Clock) (places : List ℕ) : Type 0 where
   pub is : IsImportOf o text import
   pub clock_is : is.clock ≡ clock
   pub so_many : logged ≡ length is.made.left
   pub at : left_at ≡ is.made.left_at
+  pub parts_are : parts ≡ is.made.parts
   pub begins : first ≡ least_time is.made.left
   pub placed : ArePlacedBy is.limit o.spread (length is.log.nodes) is.made.left clock filled places
 
@@ -339,25 +385,43 @@ pub record IsUnfit (o : Options) (text : List ℕ) (why : LogError) : Type 0 whe
   pub unfit : (clock_in o log.kind ≡ Err why) ⊎ ((clock : Clock) × (clock_in o log.kind ≡ Ok clock) × (limit_in o log.kind clock ≡ Err why))
 
 -- there is a reason against those of a log's events that are left
-pub record IsUntimedOf (drop : Bool) (limit : Option ℕ) (spread : Bool) (text : List ℕ) (nodes : List (List ℕ)) (events : List Event) (clock : Clock) (why : LogError) : Type 0 where
+pub record IsUntimedOf (drop merge : Bool) (limit : Option ℕ) (spread : Bool) (text : List ℕ) (nodes : List (List ℕ)) (events : List Event) (clock : Clock) (why : LogError) : Type 0 where
   pub left : List Event
   pub left_at : Option (List ℕ)
-  pub are_left : AreLeftBy drop events left left_at
+  pub parts : Option (List (List ℕ))
+  pub are_left : AreTaken drop merge events clock left left_at parts
   pub reason : IdleError
   pub untimed : IsUnmadeFor limit spread (length nodes) left clock reason
-  pub is : IsLeftErrorOf text nodes events left left_at reason why
+  pub is : IsLeftErrorOf text nodes events left left_at parts reason why
 
 -- all events are lost sends, which are left out
 abbrev pub IsEmptied : Bool → List Event → LogError → Type 0
 IsEmptied drop events why = (drop ≡ true) × (left_places events ≡ []) × (why ≡ NoEvents)
 
+-- the refusal of a log for a reason against the times of its events
+abbrev pub IsTimesError : EventError → LogError → Type 0
+IsTimesError refused.UntilTooEarly error = error ≡ UntilUnfit
+IsTimesError refused.TooManyTicks error = error ≡ TooManyTicks
+IsTimesError why error = ⊥
+
+-- receives are to be merged, and there is a reason against the times of the events that are left
+pub record IsUnmergedOf (drop merge : Bool) (events : List Event) (clock : Clock) (why : LogError) : Type 0 where
+  pub asked : merge ≡ true
+  pub kept : List Event
+  pub kept_at : Option (List ℕ)
+  pub are_kept : AreLeftBy drop events kept kept_at
+  pub reason : EventError
+  pub refused : times_refusal kept clock ≡ Some reason
+  pub is : IsTimesError reason why
+
 -- why the events of a log make no trace
-abbrev pub IsUnmadeOfLog : Bool → Option ℕ → Bool → List ℕ → List (List ℕ) → List Event → Clock → LogError → Type 0
-IsUnmadeOfLog drop limit spread text nodes events clock why = IsEmptied drop events why ⊎ IsUntimedOf drop limit spread text nodes events clock why
+abbrev pub IsUnmadeOfLog : Bool → Bool → Option ℕ → Bool → List ℕ → List (List ℕ) → List Event → Clock → LogError → Type 0
+IsUnmadeOfLog drop merge limit spread text nodes events clock why =
+    IsEmptied drop events why ⊎ (IsUnmergedOf drop merge events clock why ⊎ IsUntimedOf drop merge limit spread text nodes events clock why)
 
 -- the same, or out of memory
-abbrev pub IsUnmadeUnlessMemory : Bool → Option ℕ → Bool → List ℕ → List (List ℕ) → List Event → Clock → LogError → Type 0
-IsUnmadeUnlessMemory drop limit spread text nodes events clock why = MatchBool (is_memory why) ⊤ (IsUnmadeOfLog drop limit spread text nodes events clock why)
+abbrev pub IsUnmadeUnlessMemory : Bool → Bool → Option ℕ → Bool → List ℕ → List (List ℕ) → List Event → Clock → LogError → Type 0
+IsUnmadeUnlessMemory drop merge limit spread text nodes events clock why = MatchBool (is_memory why) ⊤ (IsUnmadeOfLog drop merge limit spread text nodes events clock why)
 
 -- the events are read, and they make no trace
 pub record IsUntimed (o : Options) (text : List ℕ) (why : LogError) : Type 0 where
@@ -370,7 +434,7 @@ pub record IsUntimed (o : Options) (text : List ℕ) (why : LogError) : Type 0 w
   pub clocks : AreAligned o.align (length log.nodes) events offsets aligned
   pub limit : Option ℕ
   pub fits_idle : limit_in o log.kind clock ≡ Ok limit
-  pub unmade : IsUnmadeOfLog o.drop_lost limit o.spread text log.nodes aligned clock why
+  pub unmade : IsUnmadeOfLog o.drop_lost o.merge limit o.spread text log.nodes aligned clock why
 
 -- the events are read, and their clocks aren't aligned, though that is asked for
 pub record IsUnaligned (o : Options) (text : List ℕ) (why : LogError) : Type 0 where

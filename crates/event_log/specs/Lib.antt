@@ -4,6 +4,8 @@ pub mod RefusalTexts
 pub mod Results
 pub mod Names
 pub mod LogRecords
+pub mod SentMessages
+pub mod SentLaws
 pub mod Naming
 pub mod Reading
 pub mod Events
@@ -14,8 +16,12 @@ pub mod Options
 pub mod ToldNames
 pub mod HopLines
 pub mod LostSends
+pub mod Merges
 pub mod Imports
+pub mod MergedLogs
 pub mod Given
 pub mod Alignments
 pub mod ClockLines
 pub mod StepTables
+pub mod TickRows
+pub mod TickTables

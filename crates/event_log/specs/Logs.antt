@@ -22,7 +22,7 @@ seen_log log = record { kind = log.kind; nodes = log.nodes; events = map seen lo
 
 -- the events of a log once all its records were read: each received message by the place of its send
 abbrev pub resolved_log : TimeKind → Named → SeenLog
-resolved_log kind names = record { kind = kind; nodes = names.nodes; events = map (resolved names.messages names.sends) names.events }
+resolved_log kind names = record { kind = kind; nodes = names.nodes; events = map (resolved names.sent) names.events }
 
 -- the events of a log, or the first refusal
 abbrev pub events_in : Option TimeUnit → Option (Bor (List (List ℕ))) → List (List ℕ) → List ℕ → Result SeenLog LogError

@@ -62,7 +62,7 @@ IsIdleIn None idle = idle ≡ None
 IsIdleIn (Some text) idle = (width : Width) × IsWidth text width × (idle ≡ Some width)
 
 -- the options that the five texts give
-pub record AreOptions (nodes unit tick until idle : Option (List ℕ)) (spread align drop_lost : Bool) (o : Options) : Type 0 where
+pub record AreOptions (nodes unit tick until idle : Option (List ℕ)) (spread align drop_lost merge : Bool) (o : Options) : Type 0 where
   pub nodes_are : AreNodesIn nodes o.nodes
   pub unit_is : IsUnitIn unit o.unit
   pub width_is : IsWidthIn tick o.width
@@ -71,6 +71,7 @@ pub record AreOptions (nodes unit tick until idle : Option (List ℕ)) (spread a
   pub spread_is : o.spread ≡ spread
   pub align_is : o.align ≡ align
   pub drop_is : o.drop_lost ≡ drop_lost
+  pub merge_is : o.merge ≡ merge
 
 -- a text that lists no nodes; one that names no unit; one that gives no length of a tick or of a silence; and one that
 -- gives no end

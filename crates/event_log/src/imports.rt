@@ -7,6 +7,7 @@ ghost use Rattle.timed_events.specs.Times.{least_time};
 ghost use Rattle.event_log.specs.Imports.{ArePlacedBy, IsBehindCycle, IsIdleErrorUnlessMemory, IsImportOf, IsLogRefusal, IsMadeBy, IsPlacedImport, IsPlacedOfLog, IsRead, IsReadRefusal, IsUnmadeFor, IsUnmadeUnlessMemory, above_zero, clock_in, end_in, idle_place, units_in, until_in, width_in};
 ghost use Rattle.event_log.specs.Given.{AreGiven};
 ghost use Rattle.event_log.specs.Logs.{seen_log};
+ghost use Rattle.event_log.specs.MergedLogs.{parts_seen};
 ghost use Rattle.event_log.specs.SoundLogs.{IsSound};
 ghost use Rattle.event_log.specs.Times.{nanoseconds_in, nanoseconds_of};
 
@@ -47,6 +48,8 @@ pub struct Import {
     pub idle: Option<IdleReceives>,
     /// How many sends of messages that no record receives were left out, if that was asked for.
     pub lost: Option<u64>,
+    /// How many receives were merged into others, if that was asked for.
+    pub merged: Option<u64>,
 }
 
 /// Receives of nothing that were added to a trace.
@@ -72,7 +75,8 @@ pub(crate) struct LogTrace {
 /// as need be.
 ///
 /// If clocks are to be aligned, each is moved first, and the end of the log is one by the moved times. If lost sends
-/// are left out, they are no steps, and take no time; all else is named by its place in the whole log.
+/// are left out, they are no steps, and take no time; all else is named by its place in the whole log. If receives are
+/// merged, those of a node in one tick become one step, which is named by the first of them.
 ///
 /// Refuses in the order of `LogError`. If events may be spread, none is NotLater or SecondEvent. Cycle then comes after
 /// the other refusals of events, and TooManyTicks last if an event came too far. Memory comes only for a text that
@@ -89,13 +93,15 @@ pub fn read_log(alloc: Global, text: &[u8], options: &Options) -> Result<Import,
 #[derive(Drop)]
 pub(crate) struct PlacedImport {
     pub(crate) import: Import,
-    /// The events of the log in the order of their records, with aligned clocks and without lost sends if that was
-    /// asked for. Behind them are the receives of nothing that were added.
+    /// The events of the log in the order of their records, with aligned clocks, without lost sends and with merged
+    /// receives if that was asked for. Behind them are the receives of nothing that were added.
     pub(crate) events: Vec<Event>,
     /// How many of the events are the log's.
     pub(crate) logged: usize,
-    /// Where these are in the log.
+    /// Where these are in the log: the first ones if they are made of several.
     pub(crate) left_at: LogPlaces,
+    /// Where the events are in the log of which each is made, if receives were merged.
+    pub(crate) parts: Option<Vec<Vec<u32>>>,
     /// When tick 1 begins.
     pub(crate) first: i128,
     /// How long ticks are.
@@ -112,7 +118,7 @@ pub(crate) fn placed_import(
     text: &[u8],
     options: &Options,
 ) -> Result<PlacedImport, LogError>
-    ensures import { IfOk result (λ p. IsPlacedImport options.now text.now p.import p.events.items p.logged p.left_at p.first p.clock p.places.items) }
+    ensures import { IfOk result (λ p. IsPlacedImport options.now text.now p.import p.events.items p.logged p.left_at (parts_seen p.parts) p.first p.clock p.places.items) }
     ensures long { IfOk result (λ p. length p.places.items ≡ length p.import.trace.steps) }
     ensures short { IfOk result (λ p. p.clock.width < 2 ^ 94) }
     ensures refused { IfErr result (λ why. IsLogRefusal options.now text.now why) }
@@ -126,10 +132,19 @@ pub(crate) fn placed_import(
     let limit = limit_for(options, log.kind, &clock)?;
     let aligned = aligned_log(alloc, text, log, options.align)?;
     let lateness = lateness_in(alloc, &aligned.log)?;
+    let spread = options.spread;
+    let merge = options.merge;
     if options.drop_lost {
-        return left_import(alloc, text, aligned, lateness, clock, limit, options.spread);
+        return left_import(
+            alloc, text, aligned, lateness, clock, limit, spread, true, merge,
+        );
     }
-    whole_import(alloc, text, aligned, lateness, clock, limit, options.spread)
+    if merge {
+        return left_import(
+            alloc, text, aligned, lateness, clock, limit, spread, false, true,
+        );
+    }
+    whole_import(alloc, text, aligned, lateness, clock, limit, spread)
 }
 
 /// The import of all events of an aligned log.
@@ -146,10 +161,10 @@ fn whole_import(
 ) -> Result<PlacedImport, LogError>
     requires sound { IsSound (seen_log aligned.log) }
     requires width { 0 < clock.width }
-    ensures made { IfOk result (λ p. IsPlacedOfLog false limit spread (length aligned.log.nodes) aligned.log.events.items clock p.import p.events.items p.logged p.left_at p.first p.places.items) }
+    ensures made { IfOk result (λ p. IsPlacedOfLog false false limit spread (length aligned.log.nodes) aligned.log.events.items clock p.import p.events.items p.logged p.left_at (parts_seen p.parts) p.first p.places.items) }
     ensures given { IfOk result (λ p. AreGiven aligned lateness clock p) }
     ensures long { IfOk result (λ p. length p.places.items ≡ length p.import.trace.steps) }
-    ensures refused { IfErr result (IsUnmadeUnlessMemory false limit spread text.now aligned.log.nodes aligned.log.events.items clock) }
+    ensures refused { IfErr result (IsUnmadeUnlessMemory false false limit spread text.now aligned.log.nodes aligned.log.events.items clock) }
 {
     let mut aligned = aligned;
     let n = aligned.log.nodes.len() as u64;
@@ -171,10 +186,11 @@ fn import_of(
     first: i128,
     clock: Clock,
 ) -> PlacedImport
-    ensures import { result.import ≡ record { trace = made.trace; nodes = aligned.log.nodes; moved = made.moved; lateness = lateness; offsets = aligned.offsets; idle = made.idle; lost = None } }
+    ensures import { result.import ≡ record { trace = made.trace; nodes = aligned.log.nodes; moved = made.moved; lateness = lateness; offsets = aligned.offsets; idle = made.idle; lost = None; merged = None } }
     ensures events { result.events.items ≡ aligned.log.events.items }
     ensures logged { result.logged ≡ logged }
     ensures at { result.left_at ≡ None }
+    ensures parts { result.parts ≡ None }
     ensures first { result.first ≡ first }
     ensures clock { result.clock ≡ clock }
     ensures places { result.places.items ≡ made.places.items }
@@ -195,10 +211,12 @@ fn import_of(
             offsets,
             idle,
             lost: None,
+            merged: None,
         },
         events: log.events,
         logged,
         left_at: LogPlaces::all(),
+        parts: None,
         first,
         clock,
         places,
@@ -208,7 +226,7 @@ fn import_of(
 /// The refusal of a log for a reason against its events, or Memory.
 ///
 /// Asks for the same as `error_of`.
-fn log_error(alloc: Global, text: &[u8], log: &NamedEvents, why: IdleError) -> LogError
+pub(crate) fn log_error(alloc: Global, text: &[u8], log: &NamedEvents, why: IdleError) -> LogError
     requires place { idle_place why < MAX_EVENTS }
     requires few { length log.now.events.items ≤ MAX_EVENTS }
     requires processors { AreOfProcessors log.now.events.items }
@@ -222,7 +240,11 @@ fn log_error(alloc: Global, text: &[u8], log: &NamedEvents, why: IdleError) -> L
 }
 
 /// The events that a log records; if nodes are listed, its nodes are listed ones.
-fn events_by(alloc: Global, text: &[u8], options: &Options) -> Result<NamedEvents, LogError>
+pub(crate) fn events_by(
+    alloc: Global,
+    text: &[u8],
+    options: &Options,
+) -> Result<NamedEvents, LogError>
     ensures read { IfOk result (λ log. IsRead options.now text.now (Ok (seen_log log))) }
     ensures sound { IfOk result (λ log. IsSound (seen_log log)) }
     ensures refused { IfErr result (IsReadRefusal options.now text.now) }
@@ -304,7 +326,7 @@ fn above_zero(units: u128) -> Result<u128, LogError>
 }
 
 /// When a log with times of this kind ends, if that is given.
-fn until_for(kind: TimeKind, until: Option<LogEnd>) -> Result<Option<i128>, LogError>
+pub(crate) fn until_for(kind: TimeKind, until: Option<LogEnd>) -> Result<Option<i128>, LogError>
     ensures { result ≡ until_in kind until }
 {
     let Some(end) = until else {

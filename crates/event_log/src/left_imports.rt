@@ -1,11 +1,11 @@
-//! Logs read as traces without the sends of messages that no record receives.
+//! Logs read as traces without lost sends, or with merged receives.
 
-ghost use Rattle.std.specs.Prelude.{◌≡◌, ◌<◌, ◌≤◌, ◌-◌, ℕ, [], Err, IfErr, IfOk, MatchBool, Some, ⊤, length, option_map, slice_index, true};
+ghost use Rattle.std.specs.Prelude.{◌≡◌, ◌<◌, ◌≤◌, ℕ, IfErr, IfOk, MatchBool, Some, ⊤, false, length, slice_index, true};
 ghost use Rattle.timed_events.specs.Checks.{AreOfProcessors};
 ghost use Rattle.event_log.specs.Given.{AreGiven};
-ghost use Rattle.event_log.specs.Imports.{IsBehindCycle, IsErrorUnlessMemory, IsLeftCycleError, IsPlacedErrorUnlessMemory, IsPlacedOfLog, IsUnmadeUnlessMemory, moved_in, reason_in};
+ghost use Rattle.event_log.specs.Imports.{IsBehindCycle, IsErrorUnlessMemory, IsLeftCycleError, IsPlacedErrorUnlessMemory, IsPlacedOfLog, IsUnmadeUnlessMemory, moved_in, reason_in, removed_by};
 ghost use Rattle.event_log.specs.Logs.{seen_log};
-ghost use Rattle.event_log.specs.LostSends.{AreLeft, left_places};
+ghost use Rattle.event_log.specs.MergedLogs.{ArePartsWithin, parts_seen};
 ghost use Rattle.event_log.specs.Naming.{is_memory};
 ghost use Rattle.event_log.specs.SoundLogs.{IsSound};
 
@@ -15,15 +15,17 @@ use crate::hop_lines::hop_lines;
 use crate::imports::{Import, LogTrace, PlacedImport, trace_of_log};
 use crate::log_places::{LogPlaces, hops_in, moved_in, place_in, reason_in};
 use crate::logs::NamedEvents;
-use crate::lost_sends::{LeftEvents, events_left};
 use crate::reading::MAX_EVENTS;
 use crate::refusals::LogError;
+use crate::taken_events::{TakenEvents, taken_events};
 use std::alloc::{AllocError, Global};
 use timed_events::{Clock, EventError, IdleError, Lateness, cycle_of_causes, least_time};
 
-/// The import of the events of an aligned log but lost sends.
+/// The import of the events of an aligned log without lost sends, if `drop`, and then with merged receives, if `merge`.
+/// Asks for one of the two.
 ///
-/// Refuses NoEvents if none is left, else the first reason against those that are. Memory may come at any step.
+/// Refuses NoEvents if none is left; UntilUnfit and TooManyTicks before receives are merged; then the first reason against
+/// the events that are left. Memory may come at any step.
 pub(crate) fn left_import(
     alloc: Global,
     text: &[u8],
@@ -32,66 +34,81 @@ pub(crate) fn left_import(
     clock: Clock,
     limit: Option<u128>,
     spread: bool,
+    drop: bool,
+    merge: bool,
 ) -> Result<PlacedImport, LogError>
     requires sound { IsSound (seen_log aligned.log) }
     requires width { 0 < clock.width }
-    ensures made { IfOk result (λ p. IsPlacedOfLog true limit spread (length aligned.log.nodes) aligned.log.events.items clock p.import p.events.items p.logged p.left_at p.first p.places.items) }
+    requires asked { drop ≡ false → merge ≡ true }
+    ensures made { IfOk result (λ p. IsPlacedOfLog drop merge limit spread (length aligned.log.nodes) aligned.log.events.items clock p.import p.events.items p.logged p.left_at (parts_seen p.parts) p.first p.places.items) }
     ensures given { IfOk result (λ p. AreGiven aligned lateness clock p) }
     ensures long { IfOk result (λ p. length p.places.items ≡ length p.import.trace.steps) }
-    ensures refused { IfErr result (IsUnmadeUnlessMemory true limit spread text.now aligned.log.nodes aligned.log.events.items clock) }
+    ensures refused { IfErr result (IsUnmadeUnlessMemory drop merge limit spread text.now aligned.log.nodes aligned.log.events.items clock) }
 {
-    let mut left = left_of(alloc, &aligned.log)?;
+    let mut left = taken_events(alloc, &aligned.log, &clock, drop, merge)?;
     let n = aligned.log.nodes.len() as u64;
+    let all = aligned.log.events.len();
     let logged = left.events.len();
+    let lost = removed(drop, all, left.kept);
+    let merged = removed(merge, left.kept, logged);
+    let counts = Counts {
+        lost,
+        merged,
+        logged,
+    };
     let first = least_time(left.events.as_slice());
     match trace_of_log(alloc, n, &mut left.events, &clock, spread, limit) {
-        Ok(made) => Ok(left_import_of(aligned, left, made, lateness, logged, first, clock)),
+        Ok(made) => Ok(left_import_of(aligned, left, made, lateness, counts, first, clock)),
         Err(why) => Err(left_error(alloc, text, &aligned.log, &left, why)),
     }
 }
 
-/// The events of a log but lost sends.
-///
-/// Refuses NoEvents if none is left, and Memory.
-fn left_of(alloc: Global, log: &NamedEvents) -> Result<LeftEvents, LogError>
-    requires sound { IsSound (seen_log log.now) }
-    ensures left { IfOk result (λ left. AreLeft log.now.events.items left.events.items left.places.items) }
-    ensures within { IfOk result (λ left. (k : ℕ) → k < length left.places.items → slice_index left.places.items k < MAX_EVENTS) }
-    ensures some { IfOk result (λ left. 0 < length left.places.items) }
-    ensures refused { IfErr result (λ why. MatchBool (is_memory why) ⊤ ((left_places log.now.events.items ≡ []) × (why ≡ LogError.NoEvents))) }
-{
-    let Ok(left) = events_left(alloc, log.events.as_slice()) else {
-        return Err(LogError::Memory);
-    };
-    if left.places.len() == 0 {
-        return Err(LogError::NoEvents);
-    }
-    Ok(left)
+/// How many events are lost sends and how many receives are merged into others, if these are counted, and how many are left.
+#[derive(Clone, Copy)]
+struct Counts {
+    lost: Option<u64>,
+    merged: Option<u64>,
+    logged: usize,
 }
 
-/// The import of an aligned log, of the events that are left of it, of their trace and its late messages, by a clock. So many
-/// events are left, the first of them at a time.
+/// How many events a step takes away, if it is asked for.
+fn removed(asked: bool, before: usize, after: usize) -> Option<u64>
+    ensures { result ≡ removed_by asked before after }
+{
+    if asked {
+        return Some(before.saturating_sub(after) as u64);
+    }
+    None
+}
+
+/// The import of an aligned log, of the events that are left of it, of their trace and its late messages, by a clock. The
+/// first of them is at a time.
 fn left_import_of(
     aligned: AlignedLog,
-    left: LeftEvents,
+    left: TakenEvents,
     made: LogTrace,
     lateness: Lateness,
-    logged: usize,
+    counts: Counts,
     first: i128,
     clock: Clock,
 ) -> PlacedImport
-    ensures import { result.import ≡ record { trace = made.trace; nodes = aligned.log.nodes; moved = moved_in (Some left.places.items) made.moved; lateness = lateness; offsets = aligned.offsets; idle = made.idle; lost = Some (length aligned.log.events.items - length left.places.items) } }
+    ensures import { result.import ≡ record { trace = made.trace; nodes = aligned.log.nodes; moved = moved_in (Some left.places.items) made.moved; lateness = lateness; offsets = aligned.offsets; idle = made.idle; lost = counts.lost; merged = counts.merged } }
     ensures events { result.events.items ≡ left.events.items }
-    ensures logged { result.logged ≡ logged }
+    ensures logged { result.logged ≡ counts.logged }
     ensures at { result.left_at ≡ Some left.places.items }
+    ensures parts { parts_seen result.parts ≡ parts_seen left.parts }
     ensures first { result.first ≡ first }
     ensures clock { result.clock ≡ clock }
     ensures places { result.places.items ≡ made.places.items }
 {
     let AlignedLog { log, offsets } = aligned;
-    let LeftEvents { events, places } = left;
+    let TakenEvents {
+        events,
+        places,
+        parts,
+        ..
+    } = left;
     let moved = moved_in(&places, made.moved);
-    let lost = log.events.len().saturating_sub(places.len()) as u64;
     PlacedImport {
         import: Import {
             trace: made.trace,
@@ -100,11 +117,13 @@ fn left_import_of(
             lateness,
             offsets,
             idle: made.idle,
-            lost: Some(lost),
+            lost: counts.lost,
+            merged: counts.merged,
         },
         events,
-        logged,
+        logged: counts.logged,
         left_at: LogPlaces::of(places),
+        parts,
         first,
         clock,
         places: made.places,
@@ -112,19 +131,20 @@ fn left_import_of(
 }
 
 /// The refusal of a log for a reason against the events that are left of it, or Memory.
-fn left_error(
+pub(crate) fn left_error(
     alloc: Global,
     text: &[u8],
     log: &NamedEvents,
-    left: &LeftEvents,
+    left: &TakenEvents,
     why: IdleError,
 ) -> LogError
     requires sound { IsSound (seen_log log.now) }
     requires within { (k : ℕ) → k < length left.now.places.items → slice_index left.now.places.items k < MAX_EVENTS }
+    requires parts { ArePartsWithin left.now.parts (length log.now.events.items) }
     requires few { length left.now.events.items ≤ MAX_EVENTS }
     requires processors { AreOfProcessors left.now.events.items }
     requires behind { (i : ℕ) → why ≡ IdleError.Events (EventError.Cycle i) → IsBehindCycle left.now.events.items i }
-    ensures { IsPlacedErrorUnlessMemory text.now log.now.nodes log.now.events.items left.now.events.items left.now.places.items why result }
+    ensures { IsPlacedErrorUnlessMemory text.now log.now.nodes log.now.events.items left.now.events.items left.now.places.items (parts_seen left.now.parts) why result }
 {
     match why {
         IdleError::Events(why) => event_error(alloc, text, log, left, why),
@@ -137,36 +157,38 @@ fn event_error(
     alloc: Global,
     text: &[u8],
     log: &NamedEvents,
-    left: &LeftEvents,
+    left: &TakenEvents,
     why: EventError,
 ) -> LogError
     requires sound { IsSound (seen_log log.now) }
     requires within { (k : ℕ) → k < length left.now.places.items → slice_index left.now.places.items k < MAX_EVENTS }
+    requires parts { ArePartsWithin left.now.parts (length log.now.events.items) }
     requires few { length left.now.events.items ≤ MAX_EVENTS }
     requires processors { AreOfProcessors left.now.events.items }
     requires behind { (i : ℕ) → why ≡ EventError.Cycle i → IsBehindCycle left.now.events.items i }
-    ensures { IsPlacedErrorUnlessMemory text.now log.now.nodes log.now.events.items left.now.events.items left.now.places.items (IdleError.Events why) result }
+    ensures { IsPlacedErrorUnlessMemory text.now log.now.nodes log.now.events.items left.now.events.items left.now.places.items (parts_seen left.now.parts) (IdleError.Events why) result }
 {
     match why {
         EventError::Cycle { event } => cycle_error(alloc, text, log, left, event),
-        _ => placed_error(alloc, text, log, &left.places, why),
+        _ => placed_error(alloc, text, log, left, why),
     }
 }
 
-/// The refusal of a log for a reason, other than a cycle, against the events that are left of it at these places, or Memory.
+/// The refusal of a log for a reason, other than a cycle, against the events that are left of it, or Memory.
 fn placed_error(
     alloc: Global,
     text: &[u8],
     log: &NamedEvents,
-    places: &[u32],
+    left: &TakenEvents,
     why: EventError,
 ) -> LogError
     requires sound { IsSound (seen_log log.now) }
-    requires within { (k : ℕ) → k < length places.now → slice_index places.now k < MAX_EVENTS }
+    requires within { (k : ℕ) → k < length left.now.places.items → slice_index left.now.places.items k < MAX_EVENTS }
+    requires parts { ArePartsWithin left.now.parts (length log.now.events.items) }
     requires other { (i : ℕ) → ¬ (why ≡ EventError.Cycle i) }
-    ensures { IsErrorUnlessMemory text.now log.now.nodes log.now.events.items (reason_in places.now why) result }
+    ensures { IsErrorUnlessMemory text.now log.now.nodes log.now.events.items (reason_in log.now.events.items left.now.places.items (parts_seen left.now.parts) why) result }
 {
-    let why = reason_in(places, why);
+    let why = reason_in(log.events.as_slice(), &left.places, &left.parts, why);
     error_of(alloc, text, &log.nodes, log.events.as_slice(), why)
 }
 
@@ -175,7 +197,7 @@ fn cycle_error(
     alloc: Global,
     text: &[u8],
     log: &NamedEvents,
-    left: &LeftEvents,
+    left: &TakenEvents,
     event: usize,
 ) -> LogError
     requires within { (k : ℕ) → k < length left.now.places.items → slice_index left.now.places.items k < MAX_EVENTS }
@@ -194,7 +216,7 @@ fn told_cycle(
     alloc: Global,
     text: &[u8],
     log: &NamedEvents,
-    left: &LeftEvents,
+    left: &TakenEvents,
     event: usize,
 ) -> Result<LogError, AllocError>
     requires within { (k : ℕ) → k < length left.now.places.items → slice_index left.now.places.items k < MAX_EVENTS }

@@ -10,6 +10,7 @@ mod events;
 mod hop_lines;
 mod idle_limits;
 mod imports;
+mod joined_receives;
 mod laws;
 mod left_imports;
 mod log_places;
@@ -26,7 +27,11 @@ mod records;
 mod refusal_texts;
 mod refusals;
 mod results;
+mod sent_messages;
 mod step_tables;
+mod taken_events;
+mod tick_rows;
+mod tick_tables;
 mod times;
 
 pub use columns::Column;
@@ -41,6 +46,8 @@ pub use reading::MAX_EVENTS;
 pub use refusal_texts::printed;
 pub use refusals::LogError;
 pub use step_tables::{LogTable, read_table};
+pub use tick_rows::{Placing, TickRow};
+pub use tick_tables::{TickTable, read_ticks};
 pub use times::{
     LogEnd, Moment, TimeKind, TimeUnit, Width, read_end, read_moment, read_unit, read_width,
 };

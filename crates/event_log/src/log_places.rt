@@ -1,12 +1,14 @@
 //! Where the events that are left of a log are in it.
 
-ghost use Rattle.std.specs.Prelude.{◌≡◌, ◌<◌, ◌^◌, ℕ, IfOk, None, Some, length, map, option_map, slice_index};
+ghost use Rattle.std.specs.Prelude.{◌≡◌, ◌<◌, ◌^◌, ℕ, [], IfOk, None, Some, length, map, option_map, slice_index, slice_index_or};
 ghost use Rattle.timed_events.specs.declared.cause_cycles.Hop.{Hop};
-ghost use Rattle.event_log.specs.Imports.{hop_in, log_place, moved_in, place_in, reason_in};
+ghost use Rattle.merged_receives.specs.MergeWalks.{AreParts, lists_of};
+ghost use Rattle.event_log.specs.Imports.{hop_in, log_place, moved_in, place_in, reason_in, source_in, source_of};
+ghost use Rattle.event_log.specs.MergedLogs.{ArePartsWithin, parts_seen};
 
 use std::alloc::{AllocError, Global};
 use std::marker::Model;
-use timed_events::{EventError, Hop, Moved};
+use timed_events::{Event, EventError, Hop, Moved};
 
 /// Where the events that are left of a log are in it: each at its own place, or at these.
 #[derive(Drop)]
@@ -77,32 +79,93 @@ pub(crate) fn moved_in(places: &[u32], moved: Moved) -> Moved
     }
 }
 
-/// A reason by the place of its event in the log.
-pub(crate) fn reason_in(places: &[u32], why: EventError) -> EventError
-    ensures { result ≡ reason_in places.now why }
+/// The list at a place; an empty one if there is no such place.
+pub(crate) fn part_at(parts: &[Vec<u32>], place: usize) -> &[u32]
+    ensures { result.now ≡ slice_index_or (lists_of parts.now) place [] }
+{
+    if place >= parts.len() {
+        return &[];
+    }
+    parts[place].as_slice()
+}
+
+/// The place in the log of the event that received message `message` of the event at a place, and which of its messages it is.
+fn source_in(
+    events: &[Event],
+    places: &[u32],
+    parts: &Option<Vec<Vec<u32>>>,
+    event: usize,
+    message: usize,
+) -> (usize, usize)
+    requires { ArePartsWithin parts.now (length events.now) }
+    ensures { result ≡ source_in events.now places.now (parts_seen parts.now) event message }
+{
+    match parts {
+        None => (place_in(places, event) as usize, message),
+        Some(parts) => source_at(events, parts, event, message),
+    }
+}
+
+/// The same if each event is made of events of the log.
+fn source_at(events: &[Event], parts: &[Vec<u32>], event: usize, message: usize) -> (usize, usize)
+    requires { AreParts (length events.now) (lists_of parts.now) }
+    ensures { result ≡ source_of events.now (slice_index_or (lists_of parts.now) event []) message }
+{
+    source_of(events, part_at(parts, event), message)
+}
+
+/// The same of an event that is made of these events of the log.
+fn source_of(events: &[Event], part: &[u32], message: usize) -> (usize, usize)
+    requires { (k : ℕ) → k < length part.now → slice_index part.now k < length events.now }
+    ensures { result ≡ source_of events.now part.now message }
+{
+    let mut message = message;
+    for place in part {
+        let place = *place as usize;
+        let count = events[place].act.messages().len();
+        if message < count {
+            return (place, message);
+        }
+        message -= count;
+    }
+    (0, message)
+}
+
+/// A reason by the place of its event in the log: against a message by that of the event that received it.
+pub(crate) fn reason_in(
+    events: &[Event],
+    places: &[u32],
+    parts: &Option<Vec<Vec<u32>>>,
+    why: EventError,
+) -> EventError
+    requires { ArePartsWithin parts.now (length events.now) }
+    ensures { result ≡ reason_in events.now places.now (parts_seen parts.now) why }
 {
     match why {
-        EventError::NeverSent { event, message } => EventError::NeverSent {
-            event: place_in(places, event) as usize,
-            message,
-        },
-        EventError::WrongReceiver { event, message } => EventError::WrongReceiver {
-            event: place_in(places, event) as usize,
-            message,
-        },
-        EventError::ReceivedBefore { event, message } => EventError::ReceivedBefore {
-            event: place_in(places, event) as usize,
-            message,
-        },
+        EventError::NeverSent { event, message } => {
+            let (event, message) = source_in(events, places, parts, event, message);
+            EventError::NeverSent { event, message }
+        }
+        EventError::WrongReceiver { event, message } => {
+            let (event, message) = source_in(events, places, parts, event, message);
+            EventError::WrongReceiver { event, message }
+        }
+        EventError::ReceivedBefore { event, message } => {
+            let (event, message) = source_in(events, places, parts, event, message);
+            EventError::ReceivedBefore { event, message }
+        }
         EventError::NotLater {
             event,
             message,
             hint,
-        } => EventError::NotLater {
-            event: place_in(places, event) as usize,
-            message,
-            hint,
-        },
+        } => {
+            let (event, message) = source_in(events, places, parts, event, message);
+            EventError::NotLater {
+                event,
+                message,
+                hint,
+            }
+        }
         EventError::SecondEvent { event, tick, hint } => EventError::SecondEvent {
             event: place_in(places, event) as usize,
             tick,

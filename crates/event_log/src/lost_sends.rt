@@ -175,7 +175,7 @@ fn left_messages(
 }
 
 /// A message by the new place of its send.
-fn left_message(message: Option<u32>, places: &[u32]) -> Option<u32>
+pub(crate) fn left_message(message: Option<u32>, places: &[u32]) -> Option<u32>
     ensures { result ≡ left_message places.now message }
 {
     let sent = message?;

@@ -1,8 +1,9 @@
 //! The nodes and the messages of a log, numbered as its events name them.
 
-ghost use Rattle.std.specs.Prelude.{◌≡◌, ◌+◌, ℕ, IfOk, OnOk, length, map};
+ghost use Rattle.std.specs.Prelude.{◌≡◌, ◌+◌, ℕ, true, IfOk, OnOk, length, map, not};
 ghost use Rattle.trace_text.specs.Records.{GivesUnless, ReachesUnless};
-ghost use Rattle.event_log.specs.Naming.{IsUnless, Named, act_after, after_said, begun, is_memory, messages_after, nodes_after, number_of, number_to, sends_after};
+ghost use Rattle.event_log.specs.Naming.{IsUnless, Named, act_after, after_said, begun, is_memory, is_send_to, nodes_after, number_of, number_to, sends_to, sent_after, was_sent, was_sent_to};
+ghost use Rattle.event_log.specs.SentMessages.{with_send};
 ghost use Rattle.event_log.specs.Events.{resolved, seen};
 ghost use Rattle.event_log.specs.LogRecords.{said};
 ghost use Rattle.event_log.specs.Names.{with_name};
@@ -12,6 +13,7 @@ use crate::names::{MAX_NODES, Name, NameSet};
 use crate::records::{Told, Verb};
 use crate::refusals::LogError;
 use crate::results::both;
+use crate::sent_messages::SentMessages;
 use std::alloc::{AllocError, Global};
 use std::marker::Model;
 use timed_events::Event;
@@ -36,17 +38,15 @@ pub(crate) enum KeptAct {
 pub(crate) struct Naming {
     /// The nodes: one's number is its place and 1.
     nodes: NameSet,
-    /// The messages that were sent, in the order of their sends.
-    messages: NameSet,
-    /// The place of the event that sent each of these messages.
-    sends: Vec<u32>,
+    /// The messages that they sent.
+    sent: SentMessages,
     events: Vec<KeptEvent>,
 }
 
 impl Model for Naming {
     ghost Value = { Named };
 
-    ghost view = { λ n. record { nodes = n.nodes; messages = n.messages; sends = n.sends.items; events = n.events.items } };
+    ghost view = { λ n. record { nodes = n.nodes; sent = n.sent; events = n.events.items } };
 }
 
 impl Naming {
@@ -56,8 +56,7 @@ impl Naming {
     {
         Naming {
             nodes,
-            messages: NameSet::new(alloc),
-            sends: Vec::new(alloc),
+            sent: SentMessages::new(alloc),
             events: Vec::new(alloc),
         }
     }
@@ -72,14 +71,9 @@ impl Naming {
     /// The nodes, and the events with the places of sends in place of the names of messages.
     pub(crate) fn into_events(self, alloc: Global) -> Result<(NameSet, Vec<Event>), AllocError>
         ensures nodes { IfOk result (λ r. r.0 ≡ self.nodes) }
-        ensures events { IfOk result (λ r. map seen r.1.items ≡ map (resolved self.messages self.sends) self.events) }
+        ensures events { IfOk result (λ r. map seen r.1.items ≡ map (resolved self.sent) self.events) }
     {
-        let events = events_of(
-            alloc,
-            &self.messages,
-            self.sends.as_slice(),
-            self.events.as_slice(),
-        );
+        let events = events_of(alloc, &self.sent, self.events.as_slice());
         both(Ok(self.nodes), events)
     }
 
@@ -102,10 +96,8 @@ impl Naming {
         if numbers.count > MAX_NODES {
             return Err(LogError::TooManyNodes(at));
         }
-        let Ok(()) = put_send(&mut self.sends, told.verb, place) else {
-            return Err(LogError::Memory);
-        };
-        let act = name_act(alloc, &mut self.messages, at, numbers.to, told)?;
+        let events = self.events.as_slice();
+        let act = name_act(alloc, &mut self.sent, events, place, numbers.to, told)?;
         let event = KeptEvent {
             time: told.moment.time,
             processor: numbers.processor,
@@ -116,17 +108,6 @@ impl Naming {
             Err(_) => Err(LogError::Memory),
         }
     }
-}
-
-/// Keeps the place of a send.
-fn put_send(sends: &mut Vec<u32>, verb: Verb, place: u32) -> Result<(), AllocError>
-    ensures { OnOk result (sends.new.items ≡ sends_after verb place sends.old.items) }
-{
-    match verb {
-        Verb::Send => sends.push(place)?,
-        Verb::Receive => {}
-    }
-    Ok(())
 }
 
 /// The numbers of the nodes that an event names.
@@ -173,16 +154,17 @@ fn name_node(alloc: Global, nodes: &mut NameSet, name: &[u8]) -> Result<(u64, us
     Ok((place as u64 + 1, count))
 }
 
-/// Takes in the message of a send, and gives what is kept of what the event of a record does.
+/// Takes in the message of a send, and gives what is kept of what the event at a place does.
 fn name_act(
     alloc: Global,
-    messages: &mut NameSet,
-    at: u64,
+    sent: &mut SentMessages,
+    events: &[KeptEvent],
+    place: u32,
     to: u64,
     told: &Told<'_>,
 ) -> Result<KeptAct, LogError>
-    ensures messages { OnOk result (messages.new ≡ messages_after messages.old (said told.now)) }
-    ensures act { GivesUnless is_memory (λ act. act) result (act_after at to messages.old (said told.now)) }
+    ensures sent { OnOk result (sent.new ≡ sent_after place to sent.old (said told.now)) }
+    ensures act { GivesUnless is_memory (λ act. act) result (act_after (place + 2) to sent.old events.now (said told.now)) }
 {
     if let Verb::Receive = told.verb {
         let Ok(messages) = Name::new(alloc, told.messages) else {
@@ -190,13 +172,71 @@ fn name_act(
         };
         return Ok(KeptAct::Receive { messages });
     }
-    let Ok((_, is_new)) = messages.add_new(alloc, told.messages) else {
-        return Err(LogError::Memory);
-    };
-    if !is_new {
-        return Err(sent_before(alloc, at, told.messages));
+    match put_send(alloc, sent, events, place, to, told.messages) {
+        Ok(true) => Ok(KeptAct::Send { to }),
+        Ok(false) => Err(sent_before(alloc, u64::from(place) + 2, told.messages)),
+        Err(_) => Err(LogError::Memory),
     }
-    Ok(KeptAct::Send { to })
+}
+
+/// Takes in a message that the event at a place sends to a node, unless its name was sent to this node before. Gives
+/// whether it is new.
+fn put_send(
+    alloc: Global,
+    sent: &mut SentMessages,
+    events: &[KeptEvent],
+    place: u32,
+    to: u64,
+    name: &[u8],
+) -> Result<bool, AllocError>
+    ensures is_new { IfOk result (λ is_new. was_sent sent.old events.now to name.now ≡ not is_new) }
+    ensures sent { IfOk result (λ is_new. is_new ≡ true → sent.new ≡ with_send place to name.now sent.old) }
+{
+    if sent.add_first(alloc, name, place)? {
+        return Ok(true);
+    }
+    if was_sent_to(alloc, sent, events, to, name)? {
+        return Ok(false);
+    }
+    sent.add_copy(alloc, to, name, place)?;
+    Ok(true)
+}
+
+/// Whether the send that is looked up for a name and a node is for this node.
+fn was_sent_to(
+    alloc: Global,
+    sent: &SentMessages,
+    events: &[KeptEvent],
+    to: u64,
+    name: &[u8],
+) -> Result<bool, AllocError>
+    ensures { IfOk result (λ was. was ≡ was_sent_to sent.now events.now to name.now) }
+{
+    match sent.place_for(alloc, to, name)? {
+        Some(place) => Ok(is_send_to(events, place as usize, to)),
+        None => Ok(false),
+    }
+}
+
+/// Whether the event at a place is a send to a node.
+fn is_send_to(events: &[KeptEvent], place: usize, to: u64) -> bool
+    ensures { result ≡ is_send_to events.now place to }
+{
+    match events.get(place) {
+        Some(event) => event.act.sends_to(to),
+        None => false,
+    }
+}
+
+impl KeptAct {
+    fn sends_to(&self, node: u64) -> bool
+        ensures { result ≡ sends_to self.now node }
+    {
+        match self {
+            KeptAct::Send { to } => *to == node,
+            KeptAct::Receive { .. } => false,
+        }
+    }
 }
 
 /// The refusal of a message that was sent before.

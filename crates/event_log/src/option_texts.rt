@@ -28,8 +28,9 @@ pub fn read_options(
     spread: bool,
     align: bool,
     drop_lost: bool,
+    merge: bool,
 ) -> Result<Options, OptionError>
-    ensures options { IfOk result (λ o. AreOptions (option_map (λ t. t.now) nodes.entry) (option_map (λ t. t.now) unit.entry) (option_map (λ t. t.now) tick.entry) (option_map (λ t. t.now) until.entry) (option_map (λ t. t.now) idle.entry) spread align drop_lost o) }
+    ensures options { IfOk result (λ o. AreOptions (option_map (λ t. t.now) nodes.entry) (option_map (λ t. t.now) unit.entry) (option_map (λ t. t.now) tick.entry) (option_map (λ t. t.now) until.entry) (option_map (λ t. t.now) idle.entry) spread align drop_lost merge o) }
     ensures refused { IfErr result (λ why. IsOptionFault (option_map (λ t. t.now) nodes.entry) (option_map (λ t. t.now) unit.entry) (option_map (λ t. t.now) tick.entry) (option_map (λ t. t.now) until.entry) (option_map (λ t. t.now) idle.entry) why) }
     ensures more { result ≡ Err OptionError.Memory → IsSome nodes.entry }
 {
@@ -45,6 +46,7 @@ pub fn read_options(
         spread,
         align,
         drop_lost,
+        merge,
     })
 }
 

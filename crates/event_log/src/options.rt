@@ -25,6 +25,8 @@ pub struct Options {
     pub align: bool,
     /// Whether the sends of messages that no record receives are left out.
     pub drop_lost: bool,
+    /// Whether the receives of a node in one tick become one, if it sends nothing between them.
+    pub merge: bool,
     ghost short: { nanoseconds_of width < 2 ^ 94 },
 }
 

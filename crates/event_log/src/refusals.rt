@@ -35,7 +35,7 @@ pub enum LogError {
     NoEvents,
     /// The record names a 65th node.
     TooManyNodes(u64),
-    /// The message was sent by an earlier record.
+    /// An earlier record sent a message of this name to the same node.
     SentBefore(u64, Name),
     /// All events together name fewer than two nodes.
     TooFewNodes,
@@ -49,7 +49,7 @@ pub enum LogError {
     TooManyTicks,
     /// No record sent the message.
     NeverSent(u64, Name),
-    /// The message was sent to another node, which is named last.
+    /// Messages of this name were sent to other nodes alone. The node of the first is named last.
     WrongReceiver(u64, Name, Name),
     /// The message was received by an earlier record, or earlier in this one.
     ReceivedBefore(u64, Name),

@@ -8,11 +8,13 @@ ghost use Rattle.csv.specs.Writing.{row_text};
 ghost use Rattle.timed_events.specs.Checks.{processor_at, time_at};
 ghost use Rattle.trace_text.specs.RecordWriting.{IsReady, our_writer, written};
 ghost use Rattle.event_log.specs.Imports.{IsLogRefusal, log_place};
-ghost use Rattle.event_log.specs.StepTables.{IsTableOf, begin_of, if_logged, message_fields, receiver_name_at, record_of_step, step_record, table_header, table_text, word_at};
+ghost use Rattle.event_log.specs.MergedLogs.{parts_seen};
+ghost use Rattle.event_log.specs.StepTables.{IsTableOf, begin_of, field_at, if_logged, joined_fields, message_fields, receiver_name_at, record_of_step, step_record, table_header, table_text, with_field, word_at};
 ghost use Rattle.event_log.specs.ToldNames.{node_name};
 
 use crate::event_refusals::processor_at;
 use crate::imports::{Import, PlacedImport, placed_import};
+use crate::log_places::part_at;
 use crate::message_fields::message_fields;
 use crate::names::{Name, NameSet};
 use crate::options::Options;
@@ -61,7 +63,7 @@ pub fn read_table(alloc: Global, text: &[u8], options: &Options) -> Result<LogTa
 fn table_of(alloc: Global, text: &[u8], placed: &PlacedImport) -> Result<Vec<u8>, AllocError>
     requires long { length placed.now.places.items ≡ length placed.now.import.trace.steps }
     requires short { placed.now.clock.width < 2 ^ 94 }
-    ensures { IfOk result (λ table. table.items ≡ table_text text.now placed.now.import.nodes placed.now.events.items placed.now.logged placed.now.left_at placed.now.first placed.now.clock.width placed.now.import.trace.ticks placed.now.places.items) }
+    ensures { IfOk result (λ table. table.items ≡ table_text text.now placed.now.import.nodes placed.now.events.items placed.now.logged placed.now.left_at (parts_seen placed.now.parts) placed.now.first placed.now.clock.width placed.now.import.trace.ticks placed.now.places.items) }
 {
     let messages = message_fields(alloc, text)?;
     let mut writer = record_writer(alloc);
@@ -99,7 +101,7 @@ fn write_step(
     requires short { placed.now.clock.width < 2 ^ 94 }
     ensures ready { OnOk result (IsReady writer.new) }
     ensures text { OnOk result (written writer.new ≡ written writer.old ++ row_text our_writer
-        (record_of_step messages.now placed.now.import.nodes placed.now.events.items placed.now.logged placed.now.left_at placed.now.first placed.now.clock.width placed.now.import.trace.ticks placed.now.places.items k)) }
+        (record_of_step messages.now placed.now.import.nodes placed.now.events.items placed.now.logged placed.now.left_at (parts_seen placed.now.parts) placed.now.first placed.now.clock.width placed.now.import.trace.ticks placed.now.places.items k)) }
 {
     let place = placed.places[k] as usize;
     let tick = tick_of(&placed.import.trace, k);
@@ -109,12 +111,12 @@ fn write_step(
     push_begin(alloc, &mut fields, placed.first, placed.clock.width, tick)?;
     push_source(alloc, &mut fields, placed, place)?;
     push_event(&mut fields, &placed.import.nodes, &placed.events, place)?;
-    fields.push_field(message_at(messages, placed, place))?;
+    push_message(alloc, &mut fields, messages, placed, place)?;
     write_fields(writer, &fields)
 }
 
 /// The tick of step `k`, counted from 0.
-fn tick_of(trace: &Trace, k: usize) -> u64
+pub(crate) fn tick_of(trace: &Trace, k: usize) -> u64
     requires inside { k < length trace.now.steps }
     requires few { k < MAX_STEPS }
     ensures tick { result ≡ slice_index trace.now.ticks k }
@@ -249,18 +251,67 @@ fn receiver_name_at<'a>(nodes: &'a NameSet, events: &[Event], place: usize) -> &
     }
 }
 
-/// What the record of the event at a place has as messages, if it is one of the log's events.
-fn message_at<'a>(messages: &'a [Name], placed: &PlacedImport, place: usize) -> &'a [u8]
-    requires { place < 2 ^ 32 }
-    ensures { result.now ≡ if_logged placed.now.logged place (slice_index_or messages.now (log_place placed.now.left_at place + 1) []) }
+/// Puts last what the record of the event at a place has as messages, or the records of which it is made: nothing for a
+/// receive that was added, behind the log's events.
+fn push_message(
+    alloc: Global,
+    fields: &mut ByteRecord,
+    messages: &[Name],
+    placed: &PlacedImport,
+    place: usize,
+) -> Result<(), AllocError>
+    requires whole { partial_of fields.old ≡ [] }
+    requires small { place < 2 ^ 32 }
+    ensures whole { OnOk result (partial_of fields.new ≡ []) }
+    ensures fields { OnOk result (fields_of fields.new ≡ fields_of fields.old ++ if_logged placed.now.logged place (field_at messages.now placed.now.left_at (parts_seen placed.now.parts) place) ∷ []) }
 {
     if place >= placed.logged {
-        return &[];
+        return fields.push_field(&[]);
     }
-    match messages.get(placed.left_at.at(place) + 1) {
+    match &placed.parts {
+        None => fields.push_field(message_at(messages, placed.left_at.at(place) + 1)),
+        Some(parts) => {
+            let text = joined_fields(alloc, messages, part_at(parts, place))?;
+            fields.push_field(&text)
+        }
+    }
+}
+
+/// What a record has as messages; nothing if there is no such record.
+fn message_at(messages: &[Name], row: usize) -> &[u8]
+    ensures { result.now ≡ slice_index_or messages.now row [] }
+{
+    match messages.get(row) {
         Some(name) => name.as_bytes(),
         None => &[],
     }
+}
+
+/// What the records of these events have as messages, with a space between them.
+fn joined_fields(alloc: Global, messages: &[Name], part: &[u32]) -> Result<Vec<u8>, AllocError>
+    ensures { IfOk result (λ text. text.items ≡ joined_fields messages.now part.now) }
+{
+    let mut text = Vec::new(alloc);
+    for place in part {
+        push_words(&mut text, message_at(messages, *place as usize + 1))?;
+    }
+    Ok(text)
+}
+
+/// Puts words last, with a space before them if there are any on both sides.
+fn push_words(text: &mut Vec<u8>, words: &[u8]) -> Result<(), AllocError>
+    ensures { OnOk result (text.new.items ≡ with_field text.old.items words.now) }
+{
+    if words.len() == 0 {
+        return Ok(());
+    }
+    if text.len() == 0 {
+        text.extend_from_slice(words)?;
+        return Ok(());
+    }
+    text.push(b' ')?;
+    text.extend_from_slice(words)?;
+    Ok(())
 }
 
 /// Writes a record, with quotes if they are needed.

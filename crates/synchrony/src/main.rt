@@ -229,6 +229,7 @@ fn import(rt: &HostRuntime, job: ImportJob) -> Result<u8, Fault> {
         job.options.spread,
         job.options.align,
         job.options.drop_lost,
+        job.options.merge,
     )?;
     let mut log = Input::open(rt, job.file)?;
     let mut output = Output::new(rt.stdout());

@@ -90,6 +90,17 @@ abbrev pub lost_notes : Option ℕ → List ℕ
 lost_notes None = []
 lost_notes (Some lost) = lost_line lost
 
+-- the line that says how many receives are merged into others
+abbrev pub merged_line : ℕ → List ℕ
+merged_line merged =
+    if merged == 1 then codes "synchrony: 1 receive is merged into another" ++ 10 ∷ []
+    else codes "synchrony: " ++ (decimal merged ++ (codes " receives are merged into others" ++ 10 ∷ []))
+
+-- this line, if they are merged
+abbrev pub merged_notes : Option ℕ → List ℕ
+merged_notes None = []
+merged_notes (Some merged) = merged_line merged
+
 -- so many receives of nothing
 abbrev pub receives_words : ℕ → List ℕ
 receives_words count = if count == 1 then codes "1 receive of nothing" else decimal count ++ codes " receives of nothing"
@@ -111,4 +122,4 @@ event_count steps (Some idle) = steps - idle.count
 
 -- the notes on a log that was read as a trace
 abbrev pub notes_of : Options → Import → List ℕ
-notes_of o import = node_notes o.nodes import.nodes ++ (clock_notes import.nodes import.offsets ++ (lost_notes import.lost ++ (moved_notes o.spread (event_count (length import.trace.steps) import.idle) import.moved import.lateness ++ idle_notes import.idle)))
+notes_of o import = node_notes o.nodes import.nodes ++ (clock_notes import.nodes import.offsets ++ (lost_notes import.lost ++ (merged_notes import.merged ++ (moved_notes o.spread (event_count (length import.trace.steps) import.idle) import.moved import.lateness ++ idle_notes import.idle))))

@@ -8,10 +8,14 @@ use Rattle.trace_text.specs.TextWriting.{Wrote}
 use Rattle.event_log.specs.declared.imports.Import.{Import}
 use Rattle.event_log.specs.declared.options.OptionError.TheVariants as no_options
 use Rattle.event_log.specs.declared.options.Options.{Options}
+use Rattle.event_log.specs.declared.refusals.LogError.{LogError}
 use Rattle.event_log.specs.declared.refusals.LogError.TheVariants as no_log
+use Rattle.event_log.specs.declared.tick_rows.TickRow.{TickRow}
+use Rattle.event_log.specs.declared.times.TimeKind.{TimeKind}
 use Rattle.event_log.specs.Imports.{IsImportOf, IsLogRefusal}
 use Rattle.event_log.specs.Options.{IsOptionFault}
 use Rattle.event_log.specs.StepTables.{IsTableOf}
+use Rattle.event_log.specs.TickTables.{IsTickRefusal, IsTickTable}
 use Rattle.command_options.specs.declared.ImportForm.{ImportForm}
 use Rattle.command_options.specs.declared.ImportForm.TheVariants as forms
 use Rattle.command_faults.specs.declared.faults.Fault.{Fault}
@@ -19,6 +23,7 @@ use Rattle.command_faults.specs.declared.faults.Fault.TheVariants as fault
 use Rattle.command_faults.specs.declared.faults.ImportOption.{ImportOption}
 use Rattle.command_faults.specs.declared.faults.ImportOption.TheVariants as option
 use Rattle.text_commands.specs.ImportLines.{notes_of}
+use Rattle.text_commands.specs.TickLines.{tick_notes, ticks_text}
 use Rattle.text_commands.specs.Upgrades.{IsUpgradeOf}
 
 -- the fault that what an option says, which is this text, is no length of time; or out of memory
@@ -42,20 +47,42 @@ IsImportOptionFault nodes unit tick until idle _ = ⊥
 abbrev pub IsImportText : ImportForm → Options → List ℕ → Import → List ℕ → Type 0
 IsImportText forms.Trace o text import out = IsUpgradeOf import.trace out
 IsImportText forms.Table o text import out = IsTableOf o text import out
+IsImportText forms.Ticks o text import out = ⊥
 
 -- The first text is a log that is read as a trace by these options, and the second is what is printed of it. `Told`
 -- holds of the notes on it.
-pub record IsImportTold (form : ImportForm) (o : Options) (Told : List ℕ → Type 0) (text out : List ℕ) : Type 0 where
+pub record IsTraceTold (form : ImportForm) (o : Options) (Told : List ℕ → Type 0) (text out : List ℕ) : Type 0 where
   pub import : Import
   pub exact : IsImportOf o text import
   pub written : IsImportText form o text import out
   pub told : Told (notes_of o import)
 
+-- The first text is a log that is read by these options, and the second is the table of the lengths of a tick. `Told`
+-- holds of the note on it.
+pub record AreTicksTold (o : Options) (Told : List ℕ → Type 0) (text out : List ℕ) : Type 0 where
+  pub kind : TimeKind
+  pub rows : List TickRow
+  pub exact : IsTickTable o text kind rows
+  pub written : out ≡ ticks_text kind rows
+  pub told : Told (tick_notes kind rows)
+
+-- the second text is what is printed of the first
+abbrev pub IsImportTold : ImportForm → Options → (List ℕ → Type 0) → List ℕ → List ℕ → Type 0
+IsImportTold forms.Trace o Told text out = IsTraceTold forms.Trace o Told text out
+IsImportTold forms.Table o Told text out = IsTraceTold forms.Table o Told text out
+IsImportTold forms.Ticks o Told text out = AreTicksTold o Told text out
+
+-- the log is refused for this reason, with ticks of the options' length, or in the table of lengths with some length
+abbrev pub IsRefusalFor : ImportForm → Options → List ℕ → LogError → Type 0
+IsRefusalFor forms.Trace o text reason = IsLogRefusal o text reason
+IsRefusalFor forms.Table o text reason = IsLogRefusal o text reason
+IsRefusalFor forms.Ticks o text reason = IsTickRefusal o text reason
+
 -- The fault has its cause in the log: its first refusal; or it is out of memory, which is a fault of its own.
-abbrev pub IsUnimported : Options → List ℕ → Fault → Type 0
-IsUnimported o text (fault.Log reason) = IsLogRefusal o text reason × (reason ≢ no_log.Memory)
-IsUnimported o text fault.Memory = ⊤
-IsUnimported o text _ = ⊥
+abbrev pub IsUnimported : ImportForm → Options → List ℕ → Fault → Type 0
+IsUnimported form o text (fault.Log reason) = IsRefusalFor form o text reason × (reason ≢ no_log.Memory)
+IsUnimported form o text fault.Memory = ⊤
+IsUnimported form o text _ = ⊥
 
 -- the fault of a command that reads logs, and no trace text: a refusal of a log
 abbrev pub IsToldOfLogs : Fault → Type 0

@@ -1,4 +1,5 @@
 pub mod ImportLines
+pub mod TickLines
 pub mod Serving
 pub mod Answers
 pub mod Texts

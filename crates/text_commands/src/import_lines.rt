@@ -5,6 +5,7 @@ ghost use Rattle.text_commands.specs.ImportLines.{clock_line_at, clock_lines, cl
 
 use crate::idle_lines::{event_count, idle_notes};
 use crate::lost_lines::lost_notes;
+use crate::merged_lines::merged_notes;
 use crate::tick_words::Ticks;
 use clock_offsets::Offsets;
 use event_log::{Import, NameSet, Options, printed};
@@ -14,7 +15,7 @@ use timed_events::{LateMessage, Lateness, Moved};
 
 /// The notes on a log that was read as a trace:
 /// - which processor each node is, if the nodes weren't listed;
-/// - by how much clocks moved and how many lost sends are left out, if that was asked for;
+/// - by how much clocks moved, how many lost sends are left out and how many receives are merged, if that was asked for;
 /// - how far events moved, if they might;
 /// - how many receives of nothing were added, if they might be.
 pub(crate) fn notes_text(
@@ -32,6 +33,8 @@ pub(crate) fn notes_text(
     notes.push_str(clocks.as_str())?;
     let lost = lost_notes(alloc, import.lost)?;
     notes.push_str(lost.as_str())?;
+    let merged = merged_notes(alloc, import.merged)?;
+    notes.push_str(merged.as_str())?;
     let moved = moved_notes(alloc, options.spread, import)?;
     notes.push_str(moved.as_str())?;
     let idle = idle_notes(alloc, import.idle)?;

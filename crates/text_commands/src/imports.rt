@@ -1,20 +1,23 @@
-//! The trace of a log, or the table of its steps, from a reader to a writer.
+//! The trace of a log, the table of its steps, or the table of the lengths of a tick, from a reader to a writer.
 
 ghost use Rattle.std.specs.Prelude.{◌≡◌, IfOk, IfErr, option_map, string_bytes};
 ghost use Rattle.command_faults.specs.Printing.{WentOut};
 ghost use Rattle.event_log.specs.Imports.{IsImportOf};
 ghost use Rattle.event_log.specs.StepTables.{IsTableOf};
+ghost use Rattle.event_log.specs.TickTables.{IsTickTable};
 ghost use Rattle.event_log.specs.Options.{AreOptions};
 ghost use Rattle.text_commands.specs.Imports.{IsImportOptionFault, IsImportTold, IsNoLength, IsQuietFault, IsToldOfLogs, IsUnimported};
 ghost use Rattle.text_commands.specs.Serving.{Serves};
 
 use crate::import_lines::notes_text;
 use crate::texts::read_whole;
+use crate::tick_lines::{tick_notes, ticks_text};
 use crate::upgrades::text_2_of;
 use command_faults::{Fault, ImportOption, print_notes};
 use command_options::ImportForm;
 use event_log::{
-    Import, LogError, LogTable, OptionError, Options, read_log, read_options, read_table,
+    Import, LogError, LogTable, OptionError, Options, TickTable, read_log, read_options,
+    read_table, read_ticks,
 };
 use std::alloc::Global;
 use std::io::{Read, Write};
@@ -39,12 +42,13 @@ pub fn import_options(
     spread: bool,
     align: bool,
     drop_lost: bool,
+    merge: bool,
 ) -> Result<Options, Fault>
-    ensures options { IfOk result (λ o. AreOptions (option_map (λ t. t.now) nodes.entry) (option_map (λ t. t.now) unit.entry) (option_map (λ t. t.now) tick.entry) (option_map (λ t. t.now) until.entry) (option_map (λ t. t.now) idle.entry) spread align drop_lost o) }
+    ensures options { IfOk result (λ o. AreOptions (option_map (λ t. t.now) nodes.entry) (option_map (λ t. t.now) unit.entry) (option_map (λ t. t.now) tick.entry) (option_map (λ t. t.now) until.entry) (option_map (λ t. t.now) idle.entry) spread align drop_lost merge o) }
     ensures refused { IfErr result (IsImportOptionFault (option_map (λ t. t.now) nodes.entry) (option_map (λ t. t.now) unit.entry) (option_map (λ t. t.now) tick.entry) (option_map (λ t. t.now) until.entry) (option_map (λ t. t.now) idle.entry)) }
 {
     match read_options(
-        alloc, nodes, unit, tick, until, idle, spread, align, drop_lost,
+        alloc, nodes, unit, tick, until, idle, spread, align, drop_lost, merge,
     ) {
         Ok(options) => Ok(options),
         Err(OptionError::Tick) => Err(no_length(alloc, ImportOption::Tick, tick.unwrap_or(""))),
@@ -64,9 +68,9 @@ fn no_length(alloc: Global, option: ImportOption, text: &str) -> Fault
 }
 
 /// Reads a log to its end and writes the notes on it. Then it writes the text of its trace in version 2, or the table
-/// of its steps. The notes are which processor each node is, if the nodes aren't listed; how many lost sends are left
-/// out, if they are; and how far events moved, if they may be spread. Nothing is written before both texts are
-/// complete. That the notes can't be written stops nothing.
+/// of its steps, or that of the lengths of a tick. The notes are which processor each node is, if the nodes aren't listed; how many lost sends are left
+/// out, if they are; and how far events moved, if they may be spread. With the table of lengths the note is which of them
+/// moves few events. Nothing is written before both texts are complete. That the notes can't be written stops nothing.
 ///
 /// Refuses, in this order: Read, or Log for a text that is too large; Log for any other refusal of the log; Write with
 /// the number of bytes that went out before. Memory may come at any step before the notes are written.
@@ -78,7 +82,7 @@ pub fn run_import<R: Read, W: Write, N: Write>(
     writer: &mut Counting<W>,
     notes: &mut Counting<N>,
 ) -> Result<(), Fault>
-    ensures served { Serves (IsImportTold form options.now (WentOut N.contents notes.old notes.new)) (IsUnimported options.now) IsToldOfLogs
+    ensures served { Serves (IsImportTold form options.now (WentOut N.contents notes.old notes.new)) (IsUnimported form options.now) IsToldOfLogs
         R.remaining W.contents reader.old reader.new writer.old writer.new result }
     ensures quiet { IfErr result (IsQuietFault notes.old notes.new) }
 {
@@ -105,18 +109,19 @@ fn texts_of(
     form: ImportForm,
 ) -> Result<ImportTexts, Fault>
     ensures texts { IfOk result (λ texts. IsImportTold form options.now (λ notes. string_bytes texts.notes ≡ notes) text.items texts.out.items) }
-    ensures refused { IfErr result (IsUnimported options.now text.items) }
+    ensures refused { IfErr result (IsUnimported form options.now text.items) }
 {
     match form {
         ImportForm::Trace => trace_texts(alloc, text, options),
         ImportForm::Table => table_texts(alloc, text, options),
+        ImportForm::Ticks => tick_texts(alloc, text, options),
     }
 }
 
 /// The text of the trace of a log, and the notes. The log is freed before they are made.
 fn trace_texts(alloc: Global, text: Vec<u8>, options: &Options) -> Result<ImportTexts, Fault>
     ensures texts { IfOk result (λ texts. IsImportTold ImportForm.Trace options.now (λ notes. string_bytes texts.notes ≡ notes) text.items texts.out.items) }
-    ensures refused { IfErr result (IsUnimported options.now text.items) }
+    ensures refused { IfErr result (IsUnimported ImportForm.Trace options.now text.items) }
 {
     let import = import_of(alloc, text, options)?;
     let notes = notes_text(alloc, options, &import)?;
@@ -127,17 +132,28 @@ fn trace_texts(alloc: Global, text: Vec<u8>, options: &Options) -> Result<Import
 /// The table of the steps of a log, and the notes.
 fn table_texts(alloc: Global, text: Vec<u8>, options: &Options) -> Result<ImportTexts, Fault>
     ensures texts { IfOk result (λ texts. IsImportTold ImportForm.Table options.now (λ notes. string_bytes texts.notes ≡ notes) text.items texts.out.items) }
-    ensures refused { IfErr result (IsUnimported options.now text.items) }
+    ensures refused { IfErr result (IsUnimported ImportForm.Table options.now text.items) }
 {
     let LogTable { import, table } = log_table(alloc, text, options)?;
     let notes = notes_text(alloc, options, &import)?;
     Ok(ImportTexts { out: table, notes })
 }
 
+/// The table of the lengths of a tick for a log, and the note on it.
+fn tick_texts(alloc: Global, text: Vec<u8>, options: &Options) -> Result<ImportTexts, Fault>
+    ensures texts { IfOk result (λ texts. IsImportTold ImportForm.Ticks options.now (λ notes. string_bytes texts.notes ≡ notes) text.items texts.out.items) }
+    ensures refused { IfErr result (IsUnimported ImportForm.Ticks options.now text.items) }
+{
+    let table = tick_table(alloc, text, options)?;
+    let notes = tick_notes(alloc, &table)?;
+    let out = ticks_text(alloc, &table)?;
+    Ok(ImportTexts { out, notes })
+}
+
 /// A log read as a trace. The text, which takes much memory for a long log, is freed.
 fn import_of(alloc: Global, text: Vec<u8>, options: &Options) -> Result<Import, Fault>
     ensures import { IfOk result (λ import. IsImportOf options.now text.items import) }
-    ensures refused { IfErr result (IsUnimported options.now text.items) }
+    ensures refused { IfErr result (IsUnimported ImportForm.Trace options.now text.items) }
 {
     Ok(read_log(alloc, &text, options)?)
 }
@@ -145,7 +161,15 @@ fn import_of(alloc: Global, text: Vec<u8>, options: &Options) -> Result<Import, 
 /// A log read as a trace, with the table of its steps. The text is freed.
 fn log_table(alloc: Global, text: Vec<u8>, options: &Options) -> Result<LogTable, Fault>
     ensures table { IfOk result (λ t. IsTableOf options.now text.items t.import t.table.items) }
-    ensures refused { IfErr result (IsUnimported options.now text.items) }
+    ensures refused { IfErr result (IsUnimported ImportForm.Table options.now text.items) }
 {
     Ok(read_table(alloc, &text, options)?)
+}
+
+/// What lengths of a tick make of a log. The text is freed.
+fn tick_table(alloc: Global, text: Vec<u8>, options: &Options) -> Result<TickTable, Fault>
+    ensures table { IfOk result (λ t. IsTickTable options.now text.items t.kind t.rows.items) }
+    ensures refused { IfErr result (IsUnimported ImportForm.Ticks options.now text.items) }
+{
+    Ok(read_ticks(alloc, &text, options)?)
 }

@@ -33,5 +33,6 @@ pub use message_checks::check_messages;
 pub use orders::{numbers_of, order_of};
 pub use received::hops_of;
 pub use spread_traces::{Moved, PlacedTrace, TimedTrace, placed_trace, trace_of_events};
+pub use time_orders::time_order_of;
 pub use timed_traces::trace_in_time;
 pub use times::{Span, least_time, span_of, ticks_of};

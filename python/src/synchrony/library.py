@@ -270,11 +270,14 @@ def import_log(
     idle: Union[int, str, None] = None,
     table: bool = False,
     drop_lost: bool = False,
+    merge: bool = False,
+    ticks: bool = False,
 ) -> bytes:
-    """The trace of a log, as a text of version 2, or the `table` of its steps. Nodes are numbered in the order of `nodes`,
-    or else as the log names them. With `unit`, one of s, ms, us and ns, the times are whole numbers of it. With `idle`, a
-    node without an event for at most so long gets a receive of nothing. With `drop_lost`, sends of messages that no record
-    receives are left out."""
+    """The trace of a log, as a text of version 2; or the `table` of its steps; or, with `ticks`, a table of lengths of a tick
+    to choose from. Nodes are numbered in the order of `nodes`, or else as the log names them. With `unit`, one of s, ms, us
+    and ns, the times are whole numbers of it. With `idle`, a node without an event for at most so long gets a receive of
+    nothing. With `drop_lost`, sends of messages that no record receives are left out. With `merge`, receives of a node in one
+    tick are one, if it sends nothing between them."""
     return _asked(
         "import",
         log,
@@ -286,7 +289,9 @@ def import_log(
         align=align,
         idle=idle,
         drop_lost=drop_lost,
+        merge=merge,
         table=table,
+        ticks=ticks,
     )
 
 
@@ -353,7 +358,9 @@ OPTIONS: Dict[str, Tuple[str, Optional[Callable[[Any], str]]]] = {
     "spread": ("--spread", None),
     "align": ("--align", None),
     "drop_lost": ("--drop-lost", None),
+    "merge": ("--merge", None),
     "table": ("--table", None),
+    "ticks": ("--ticks", None),
     "within": ("--within", str),
     "start": ("--start", str),
     "valid": ("--valid", None),

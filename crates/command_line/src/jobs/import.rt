@@ -3,7 +3,7 @@
 ghost use Rattle.std.specs.Prelude.{◌≡◌, IfOk, IfErr, codes, option_map};
 ghost use Rattle.clap.specs.Words.{found_of, rows_of};
 ghost use Rattle.command_line.specs.Arguments.{IsArgument, IsCommand, IsMemory, flag_rule};
-ghost use Rattle.command_line.specs.Commands.Import.{IsImport, form_of, import_app, import_given};
+ghost use Rattle.command_line.specs.Commands.Import.{IsImport, IsImportFault, IsImportOf, IsOneLengthRefusal, form_of, import_app, import_given, is_for_one_length};
 
 use crate::jobs::Job;
 use crate::jobs::arguments::{
@@ -51,7 +51,9 @@ pub fn command<'a>(alloc: Global) -> Result<Command<'a>, AllocError>
         spread_argument(alloc),
         align_argument(alloc),
         drop_lost_argument(alloc),
+        merge_argument(alloc),
         table_argument(alloc),
+        ticks_argument(alloc),
     ]?;
     new_command(alloc, "import", ABOUT, help(), arguments)
 }
@@ -86,6 +88,16 @@ fn drop_lost_argument<'a>(alloc: Global) -> Arg<'a>
         .action(ArgAction::SetTrue)
 }
 
+/// The flag --merge.
+fn merge_argument<'a>(alloc: Global) -> Arg<'a>
+    ensures { IsArgument (flag_rule (codes "merge")) result }
+{
+    Arg::new(alloc, "merge")
+        .long("merge")
+        .help("Makes one receive of those of a node in one tick")
+        .action(ArgAction::SetTrue)
+}
+
 /// The flag --table.
 fn table_argument<'a>(alloc: Global) -> Arg<'a>
     ensures { IsArgument (flag_rule (codes "table")) result }
@@ -96,8 +108,20 @@ fn table_argument<'a>(alloc: Global) -> Arg<'a>
         .action(ArgAction::SetTrue)
 }
 
+/// The flag --ticks.
+fn ticks_argument<'a>(alloc: Global) -> Arg<'a>
+    ensures { IsArgument (flag_rule (codes "ticks")) result }
+{
+    Arg::new(alloc, "ticks")
+        .long("ticks")
+        .help("Prints a table of lengths of a tick, to choose W by")
+        .action(ArgAction::SetTrue)
+}
+
 /// The job that the words after `import` ask for; None if one is missing. The texts of its options are read
-/// elsewhere. Memory is the only refusal.
+/// elsewhere.
+///
+/// Refuses options that go with ticks of one length, if the table of lengths is asked for. Memory may come instead.
 pub fn job(alloc: Global, found: &ArgMatches<'_>) -> Option<Result<Job, LineError>>
     ensures { import_given (rows_of (found_of found.now)) result }
 {
@@ -105,15 +129,69 @@ pub fn job(alloc: Global, found: &ArgMatches<'_>) -> Option<Result<Job, LineErro
     let spread = flag(found, "spread")?;
     let align = flag(found, "align")?;
     let drop_lost = flag(found, "drop-lost")?;
-    let form = form_of(flag(found, "table")?);
+    let merge = flag(found, "merge")?;
+    let table = flag(found, "table")?;
+    let ticks = flag(found, "ticks")?;
     let nodes = text(found, "nodes");
     let unit = text(found, "unit");
     let tick = text(found, "tick");
     let until = text(found, "until");
     let idle = text(found, "idle");
-    Some(import(
-        alloc, log, nodes, unit, tick, until, idle, spread, align, drop_lost, form,
+    Some(import_of(
+        alloc, ticks, log, nodes, unit, tick, until, idle, spread, align, drop_lost, merge, table,
     ))
+}
+
+/// The job of an import, or of the table of the lengths of a tick.
+fn import_of(
+    alloc: Global,
+    ticks: bool,
+    log: &str,
+    nodes: Option<&str>,
+    unit: Option<&str>,
+    tick: Option<&str>,
+    until: Option<&str>,
+    idle: Option<&str>,
+    spread: bool,
+    align: bool,
+    drop_lost: bool,
+    merge: bool,
+    table: bool,
+) -> Result<Job, LineError>
+    ensures job { IfOk result (IsImportOf ticks log.now (option_map (λ t. t.now) nodes.entry) (option_map (λ t. t.now) unit.entry) (option_map (λ t. t.now) tick.entry) (option_map (λ t. t.now) until.entry) (option_map (λ t. t.now) idle.entry) spread align drop_lost merge table) }
+    ensures refused { IfErr result (IsImportFault ticks (option_map (λ t. t.now) tick.entry) (option_map (λ t. t.now) idle.entry) merge table) }
+{
+    if ticks {
+        if is_for_one_length(tick, idle, merge, table) {
+            return Err(for_one_length(alloc)?);
+        }
+        let form = ImportForm::Ticks;
+        return import(
+            alloc, log, nodes, unit, tick, until, idle, spread, align, drop_lost, merge, form,
+        );
+    }
+    let form = form_of(table);
+    import(
+        alloc, log, nodes, unit, tick, until, idle, spread, align, drop_lost, merge, form,
+    )
+}
+
+/// Whether something is asked for that goes with ticks of one length.
+fn is_for_one_length(tick: Option<&str>, idle: Option<&str>, merge: bool, table: bool) -> bool
+    ensures { result ≡ is_for_one_length (option_map (λ t. t.now) tick.entry) (option_map (λ t. t.now) idle.entry) merge table }
+{
+    tick.is_some() || idle.is_some() || merge || table
+}
+
+/// The refusal of what goes with ticks of one length.
+fn for_one_length(alloc: Global) -> Result<LineError, AllocError>
+    ensures { IfOk result IsOneLengthRefusal }
+{
+    let text = String::from_str(
+        alloc,
+        "synchrony: import --ticks takes no --tick, --idle, --merge or --table",
+    )?;
+    Ok(LineError::Refused(text))
 }
 
 /// What is printed, by whether the table is asked for.
@@ -138,9 +216,10 @@ fn import(
     spread: bool,
     align: bool,
     drop_lost: bool,
+    merge: bool,
     form: ImportForm,
 ) -> Result<Job, LineError>
-    ensures job { IfOk result (IsImport log.now (option_map (λ t. t.now) nodes.entry) (option_map (λ t. t.now) unit.entry) (option_map (λ t. t.now) tick.entry) (option_map (λ t. t.now) until.entry) (option_map (λ t. t.now) idle.entry) spread align drop_lost form) }
+    ensures job { IfOk result (IsImport log.now (option_map (λ t. t.now) nodes.entry) (option_map (λ t. t.now) unit.entry) (option_map (λ t. t.now) tick.entry) (option_map (λ t. t.now) until.entry) (option_map (λ t. t.now) idle.entry) spread align drop_lost merge form) }
     ensures refused { IfErr result IsMemory }
 {
     let file = String::from_str(alloc, log)?;
@@ -153,6 +232,7 @@ fn import(
         spread,
         align,
         drop_lost,
+        merge,
         form,
     };
     Ok(Job::Import(ImportJob { file, options }))
@@ -207,8 +287,17 @@ version 2, whose tick 1 begins at the least time.
   --drop-lost    the sends of messages that no record receives are left out,
                  after --align, as if LOG hadn't their records; standard error
                  tells how many. Records keep their numbers
+  --merge        receives of a node whose times are in one tick become one, with
+                 the messages of all, if it sends nothing between them; after
+                 --drop-lost and before --spread. The first record is named, and
+                 standard error tells how many are merged into others
   --table        in place of the trace, a table of its steps: which record each
                  is, when its tick begins, and the event, with names
+  --ticks        in place of the trace, a table of lengths of a tick, by which to
+                 choose W: what W makes of the trace with --spread. Standard
+                 error names the longest W with which at most one in a hundred
+                 events moves by more than one tick. It goes without --tick,
+                 --idle, --merge and --table
 
 --align puts the fastest message of a way at one unit, so delays that way look
 shorter than they were, and those back longer by as much: the communication
@@ -240,6 +329,14 @@ Times are whole numbers of what the times are counted in, by the moved clocks
 with --align. An event whose time is before its tick begins was moved. A receive
 of nothing that --idle added has no record, no time and no message.
 
+With --ticks the output is CSV, with a record for each W of 1, 2, 5, 10 and so
+on units of the times, up to the first that is longer than LOG. W with which
+the trace would have more than 1000000 ticks have none:
+  tick   the length of a tick, as --tick takes it
+  last   the last tick of the trace
+  moved  how many events are in a later tick than that of their time
+  most   by how many ticks at most
+
 Example, at the top of the repository:
   ./synchrony import examples/heartbeats.log --tick 5 >heartbeats.trace
 tells on standard error
@@ -249,7 +346,7 @@ tells on standard error
   synchrony: processor 4 is c
 
 Exit status:
-  0  the trace or the table is printed, or this text
+  0  the trace or a table is printed, or this text
   2  the command line is refused; --nodes isn't 2 to 64 different names; --unit
      is another word; --tick is neither a number nor a duration above 0, or is a
      duration if the times are numbers of no unit; --until is neither a time nor

@@ -10,7 +10,7 @@ text-for : (given : ImportOptions) (o : Options) (log : List ℕ) (r : Result (V
 text-for given o log (Ok out) a h = (o, a, h)
 text-for given o log (Err w) a h = tt
 
-refused-for : (given : ImportOptions) (o : Options) (log : List ℕ) (r : Result (Vec ℕ Global) Fault) → AreImportOptions given o → IfErr r (IsUnimported o log) → IfErr r (IsUnimportedFor given log)
+refused-for : (given : ImportOptions) (o : Options) (log : List ℕ) (r : Result (Vec ℕ Global) Fault) → AreImportOptions given o → IfErr r (IsUnimported given.form o log) → IfErr r (IsUnimportedFor given log)
 refused-for given o log (Ok out) a h = tt
 refused-for given o log (Err w) a h = inr (o, a, h)
 

@@ -2,8 +2,10 @@ use Rattle.std.proofs.Common.{◌<◌, ◌^◌, inl, inr, refl, sym, subst, true
 use Rattle.timed_events.specs.declared.events.Clock.{Clock}
 use Rattle.std.proofs.lemmas.Result.{err_from_is_err_and}
 use Rattle.event_log.specs.Logs.{seen_log}
+use Rattle.event_log.specs.MergedLogs.{parts_seen}
 use Rattle.event_log.proofs.LogRefusals.{large-text, unaligned-refusal, unfit-refusal}
-use Rattle.event_log.proofs.PlacedImports.{err-weaker, ok-both, placed-import, unmade-refusal}
+use Rattle.event_log.proofs.Outcomes.{err-weaker, ok-both}
+use Rattle.event_log.proofs.PlacedImports.{placed-import, unmade-refusal}
 use Rattle.event_log.proofs.imports.placed_import.Goals as goal
 
 pub returns-then-text-gt-MAX_TEXT_BYTES-clause-refused : goal.returns-then-text-gt-MAX_TEXT_BYTES-clause-refused
@@ -46,8 +48,8 @@ returns-then-options-clause-import c =
     let log = c.in_ok-log.log in
     ok-both c.left_import.result _ _ _ (λ p made given.
     placed-import c.args.options.now c.args.text.now (seen_log log) log.events.items c.in_ok-clock.clock (record { read = c.in_ok-log.ensures.read; same = refl; fits = sym c.in_ok-clock.ensures.clock }) c.in_ok-aligned.aligned
-    c.in_ok-aligned.ensures.aligned c.in_ok-aligned.ensures.nodes c.in_ok-limit.limit (sym c.in_ok-limit.ensures) true c.if-options.true c.in_ok-lateness.lateness c.in_ok-lateness.ensures.lateness
-    p.import p.events.items p.logged p.left_at p.first p.clock p.places.items made given.nodes given.offsets given.lateness_is given.clock_is) c.left_import.ensures.made c.left_import.ensures.given
+    c.in_ok-aligned.ensures.aligned c.in_ok-aligned.ensures.nodes c.in_ok-limit.limit (sym c.in_ok-limit.ensures) true c.args.options.now.merge c.if-options.true refl c.in_ok-lateness.lateness c.in_ok-lateness.ensures.lateness
+    p.import p.events.items p.logged p.left_at (parts_seen p.parts) p.first p.clock p.places.items made given.nodes given.offsets given.lateness_is given.clock_is) c.left_import.ensures.made c.left_import.ensures.given
 
 pub returns-then-options-clause-short : goal.returns-then-options-clause-short
 returns-then-options-clause-short c =
@@ -58,18 +60,40 @@ returns-then-options-clause-refused c =
     let log = c.in_ok-log.log in
     err-weaker c.left_import.result _ _
     (unmade-refusal c.args.options.now c.args.text.now (seen_log log) log.events.items c.in_ok-clock.clock (record { read = c.in_ok-log.ensures.read; same = refl; fits = sym c.in_ok-clock.ensures.clock }) c.in_ok-aligned.aligned
-    c.in_ok-aligned.ensures.aligned c.in_ok-aligned.ensures.nodes c.in_ok-limit.limit (sym c.in_ok-limit.ensures) true c.if-options.true) c.left_import.ensures.refused
+    c.in_ok-aligned.ensures.aligned c.in_ok-aligned.ensures.nodes c.in_ok-limit.limit (sym c.in_ok-limit.ensures) true c.args.options.now.merge c.if-options.true refl) c.left_import.ensures.refused
 
 pub returns-then-options-clause-more : goal.returns-then-options-clause-more
 returns-then-options-clause-more c = λ e. c.if-text-gt-MAX_TEXT_BYTES.false
+
+pub returns-then-merge-clause-import : goal.returns-then-merge-clause-import
+returns-then-merge-clause-import c =
+    let log = c.in_ok-log.log in
+    ok-both c.left_import-then-merge.result _ _ _ (λ p made given.
+    placed-import c.args.options.now c.args.text.now (seen_log log) log.events.items c.in_ok-clock.clock (record { read = c.in_ok-log.ensures.read; same = refl; fits = sym c.in_ok-clock.ensures.clock }) c.in_ok-aligned.aligned
+    c.in_ok-aligned.ensures.aligned c.in_ok-aligned.ensures.nodes c.in_ok-limit.limit (sym c.in_ok-limit.ensures) false true c.if-options.false c.if-merge.true c.in_ok-lateness.lateness c.in_ok-lateness.ensures.lateness
+    p.import p.events.items p.logged p.left_at (parts_seen p.parts) p.first p.clock p.places.items made given.nodes given.offsets given.lateness_is given.clock_is) c.left_import-then-merge.ensures.made c.left_import-then-merge.ensures.given
+
+pub returns-then-merge-clause-short : goal.returns-then-merge-clause-short
+returns-then-merge-clause-short c =
+    ok-both c.left_import-then-merge.result _ _ _ (λ p given same. subst (λ (clock : Clock). clock.width < 2 ^ 94) (sym given.clock_is) c.in_ok-clock.ensures.short) c.left_import-then-merge.ensures.given c.left_import-then-merge.ensures.given
+
+pub returns-then-merge-clause-refused : goal.returns-then-merge-clause-refused
+returns-then-merge-clause-refused c =
+    let log = c.in_ok-log.log in
+    err-weaker c.left_import-then-merge.result _ _
+    (unmade-refusal c.args.options.now c.args.text.now (seen_log log) log.events.items c.in_ok-clock.clock (record { read = c.in_ok-log.ensures.read; same = refl; fits = sym c.in_ok-clock.ensures.clock }) c.in_ok-aligned.aligned
+    c.in_ok-aligned.ensures.aligned c.in_ok-aligned.ensures.nodes c.in_ok-limit.limit (sym c.in_ok-limit.ensures) false true c.if-options.false c.if-merge.true) c.left_import-then-merge.ensures.refused
+
+pub returns-then-merge-clause-more : goal.returns-then-merge-clause-more
+returns-then-merge-clause-more c = λ e. c.if-text-gt-MAX_TEXT_BYTES.false
 
 pub returns-clause-import : goal.returns-clause-import
 returns-clause-import c =
     let log = c.in_ok-log.log in
     ok-both c.whole_import.result _ _ _ (λ p made given.
     placed-import c.args.options.now c.args.text.now (seen_log log) log.events.items c.in_ok-clock.clock (record { read = c.in_ok-log.ensures.read; same = refl; fits = sym c.in_ok-clock.ensures.clock }) c.in_ok-aligned.aligned
-    c.in_ok-aligned.ensures.aligned c.in_ok-aligned.ensures.nodes c.in_ok-limit.limit (sym c.in_ok-limit.ensures) false c.if-options.false c.in_ok-lateness.lateness c.in_ok-lateness.ensures.lateness
-    p.import p.events.items p.logged p.left_at p.first p.clock p.places.items made given.nodes given.offsets given.lateness_is given.clock_is) c.whole_import.ensures.made c.whole_import.ensures.given
+    c.in_ok-aligned.ensures.aligned c.in_ok-aligned.ensures.nodes c.in_ok-limit.limit (sym c.in_ok-limit.ensures) false false c.if-options.false c.if-merge.false c.in_ok-lateness.lateness c.in_ok-lateness.ensures.lateness
+    p.import p.events.items p.logged p.left_at (parts_seen p.parts) p.first p.clock p.places.items made given.nodes given.offsets given.lateness_is given.clock_is) c.whole_import.ensures.made c.whole_import.ensures.given
 
 pub returns-clause-short : goal.returns-clause-short
 returns-clause-short c =
@@ -80,7 +104,7 @@ returns-clause-refused c =
     let log = c.in_ok-log.log in
     err-weaker c.whole_import.result _ _
     (unmade-refusal c.args.options.now c.args.text.now (seen_log log) log.events.items c.in_ok-clock.clock (record { read = c.in_ok-log.ensures.read; same = refl; fits = sym c.in_ok-clock.ensures.clock }) c.in_ok-aligned.aligned
-    c.in_ok-aligned.ensures.aligned c.in_ok-aligned.ensures.nodes c.in_ok-limit.limit (sym c.in_ok-limit.ensures) false c.if-options.false) c.whole_import.ensures.refused
+    c.in_ok-aligned.ensures.aligned c.in_ok-aligned.ensures.nodes c.in_ok-limit.limit (sym c.in_ok-limit.ensures) false false c.if-options.false c.if-merge.false) c.whole_import.ensures.refused
 
 pub returns-clause-more : goal.returns-clause-more
 returns-clause-more c = λ e. c.if-text-gt-MAX_TEXT_BYTES.false

@@ -8,6 +8,7 @@ use Rattle.event_log.specs.declared.imports.Import.{Import}
 use Rattle.event_log.specs.declared.reading.TheConstants.{MAX_EVENTS}
 use Rattle.event_log.specs.Imports.{ArePlacedBy, IsBehindCycle, IsIdleErrorUnlessMemory, IsMadeBy, IsUnmadeFor}
 use Rattle.event_log.proofs.PlacedImports.{whole-unmade}
+use Rattle.event_log.proofs.TakenEvents.{whole-taken}
 use Rattle.event_log.proofs.UnmadeLogs.{few-events, meant-events, processors-events, some-events, unmade-behind, unmade-place}
 use Rattle.event_log.proofs.imports.whole_import.Goals as goal
 
@@ -27,18 +28,21 @@ returns-in-Ok-clause-made c =
     let clock = c.args.clock in
     let made = c.in-Ok.made in
     let fits : SFits w128 c.least_time-first.result = search rules in
-    rw (c.import_of.ensures.import, c.import_of.ensures.events, c.import_of.ensures.logged, c.import_of.ensures.at, c.import_of.ensures.first, c.import_of.ensures.places) (record {
+    rw (c.import_of.ensures.import, c.import_of.ensures.events, c.import_of.ensures.logged, c.import_of.ensures.at, c.import_of.ensures.parts, c.import_of.ensures.first, c.import_of.ensures.places) (record {
       is = record {
         left = log.events.items;
         left_at = None;
-        are_left = (refl, refl);
+        parts = None;
+        are_left = whole-taken log.events.items clock;
         moved = made.moved;
         made = subst (λ n. IsMadeBy limit spread n log.events.items clock made.trace made.moved made.idle) c.len-n.ensures c.in-Ok.ensures.trace;
         moved_is = refl;
         lost = refl;
+        merged = refl;
       };
       so_many = c.len-logged.ensures ∙ sym c.as_slice.ensures.len ∙ ap length c.as_slice.ensures.value;
       at = refl;
+      parts_are = refl;
       begins = to_z-of_z w128 c.least_time-first.result fits ∙ c.least_time-first.ensures ∙ ap least_time c.as_slice.ensures.value;
       placed = subst (λ n. ArePlacedBy limit spread n log.events.items clock c.trace_of_log.new.events.items made.places.items) c.len-n.ensures c.in-Ok.ensures.places;
     })

@@ -1,5 +1,4 @@
-use Rattle.std.proofs.Common.{ℕ, List, subst}
-use Rattle.event_log.specs.Imports.{IsErrorUnlessMemory, reason_in}
+use Rattle.event_log.specs.MergedLogs.{parts_seen}
 use Rattle.event_log.proofs.PlacedErrors.{placed-error}
 use Rattle.event_log.proofs.left_imports.event_error.Goals as goal
 
@@ -13,5 +12,4 @@ pub returns-in_default : goal.returns-in_default
 returns-in_default c =
     let log = c.args.log.now in
     let left = c.args.left.now in
-    placed-error c.args.text.now log.nodes log.events.items left.events.items left.places.items c.args.why c.placed_error.result c.in_default.not-Cycle
-    (subst (λ (places : List ℕ). IsErrorUnlessMemory c.args.text.now log.nodes log.events.items (reason_in places c.args.why) c.placed_error.result) c.deref.ensures.value c.placed_error.ensures)
+    placed-error c.args.text.now log.nodes log.events.items left.events.items left.places.items (parts_seen left.parts) c.args.why c.placed_error.result c.in_default.not-Cycle c.placed_error.ensures

@@ -1,4 +1,4 @@
-use Rattle.std.proofs.Common.{◌<◌, ◌≤◌, ◌∙◌, Some, refl, sym, ap, subst, length, arith, rules}
+use Rattle.std.proofs.Common.{ℕ, ◌<◌, ◌≤◌, ◌∙◌, Some, refl, sym, ap, ap₂, subst, length, arith, rules}
 use mir.Val.{SFits}
 use mir.Syntax.{w128}
 use Rattle.std.proofs.lemmas.Int.{to_z-of_z}
@@ -7,9 +7,10 @@ use Rattle.timed_events.specs.Checks.{AreMeant, AreOfProcessors}
 use Rattle.timed_events.specs.Times.{least_time}
 use Rattle.event_log.specs.declared.imports.Import.{Import}
 use Rattle.event_log.specs.declared.reading.TheConstants.{MAX_EVENTS}
-use Rattle.event_log.specs.Imports.{ArePlacedBy, IsBehindCycle, IsMadeBy, IsPlacedErrorUnlessMemory, IsUnmadeFor}
-use Rattle.event_log.proofs.LeftEvents.{few-left, left-long, meant-left, processors-left}
-use Rattle.event_log.proofs.PlacedImports.{left-unmade, none-unmade}
+use Rattle.event_log.specs.Imports.{ArePlacedBy, IsBehindCycle, IsMadeBy, IsPlacedErrorUnlessMemory, IsUnmadeFor, removed_by}
+use Rattle.event_log.specs.MergedLogs.{parts_seen}
+use Rattle.event_log.proofs.PlacedImports.{left-unmade, untaken-unmade}
+use Rattle.event_log.proofs.TakenEvents.{taken-few, taken-long, taken-meant, taken-processors}
 use Rattle.event_log.proofs.UnmadeLogs.{unmade-behind}
 use Rattle.event_log.proofs.left_imports.left_import.Goals as goal
 
@@ -17,16 +18,16 @@ pub returns-in_err-left-clause-refused : goal.returns-in_err-left-clause-refused
 returns-in_err-left-clause-refused c =
     let p = err_from_is_err_and c.from_residual.result c.from_residual.ensures.1 in
     let log = c.args.aligned.log in
-    rw (p.1, p.2) (none-unmade c.args.limit c.args.spread c.args.text.now log.nodes log.events.items c.args.clock c.in_err-left.field-0.0 c.in_err-left.ensures.refused)
+    rw (p.1, p.2) (untaken-unmade c.args.drop c.args.merge c.args.limit c.args.spread c.args.text.now log.nodes log.events.items c.args.clock c.in_err-left.field-0.0 c.in_err-left.ensures.refused)
 
 pub returns-in-Err-clause-refused : goal.returns-in-Err-clause-refused
 returns-in-Err-clause-refused c =
     let log = c.args.aligned.log in
     let left = c.in_ok-left.left in
     let why = c.in-Err.why in
-    left-unmade c.args.limit c.args.spread c.args.text.now log.nodes log.events.items left.events.items left.places.items c.args.clock why c.left_error.result c.in_ok-left.ensures.left
+    left-unmade c.args.drop c.args.merge c.args.limit c.args.spread c.args.text.now log.nodes log.events.items left.events.items left.places.items (parts_seen left.parts) c.args.clock why c.left_error.result c.in_ok-left.ensures.taken
     (subst (λ n. IsUnmadeFor c.args.limit c.args.spread n left.events.items c.args.clock why) c.len-n.ensures c.in-Err.ensures.refused)
-    (subst (λ events. IsPlacedErrorUnlessMemory c.args.text.now log.nodes log.events.items events left.places.items why c.left_error.result) c.in-Err.ensures.unchanged c.left_error.ensures)
+    (subst (λ events. IsPlacedErrorUnlessMemory c.args.text.now log.nodes log.events.items events left.places.items (parts_seen left.parts) why c.left_error.result) c.in-Err.ensures.unchanged c.left_error.ensures)
 
 pub returns-in-Ok-clause-made : goal.returns-in-Ok-clause-made
 returns-in-Ok-clause-made c =
@@ -36,18 +37,21 @@ returns-in-Ok-clause-made c =
     let clock = c.args.clock in
     let made = c.in-Ok.made in
     let fits : SFits w128 c.least_time-first.result = search rules in
-    rw (c.left_import_of.ensures.import, c.left_import_of.ensures.events, c.left_import_of.ensures.logged, c.left_import_of.ensures.at, c.left_import_of.ensures.first, c.left_import_of.ensures.places) (record {
+    rw (c.left_import_of.ensures.import, c.left_import_of.ensures.events, c.left_import_of.ensures.logged, c.left_import_of.ensures.at, c.left_import_of.ensures.parts, c.left_import_of.ensures.first, c.left_import_of.ensures.places) (record {
       is = record {
         left = left.events.items;
         left_at = Some left.places.items;
-        are_left = c.in_ok-left.ensures.left;
+        parts = parts_seen left.parts;
+        are_left = c.in_ok-left.ensures.taken;
         moved = made.moved;
         made = subst (λ n. IsMadeBy limit spread n left.events.items clock made.trace made.moved made.idle) c.len-n.ensures c.in-Ok.ensures.trace;
         moved_is = refl;
-        lost = refl;
+        lost = c.removed-lost.ensures ∙ ap₂ (λ (before after : ℕ). removed_by c.args.drop before after) (let ok = c.args.aligned.log.events.ok in let len = c.len-all.ensures in omega (arith, ok, len)) c.in_ok-left.ensures.kept;
+        merged = c.removed-merged.ensures ∙ ap₂ (λ (before after : ℕ). removed_by c.args.merge before after) c.in_ok-left.ensures.kept (let ok = left.events.ok in let len = c.len-logged.ensures in omega (arith, ok, len));
       };
       so_many = c.len-logged.ensures ∙ sym c.as_slice.ensures.len ∙ ap length c.as_slice.ensures.value;
       at = refl;
+      parts_are = refl;
       begins = to_z-of_z w128 c.least_time-first.result fits ∙ c.least_time-first.ensures ∙ ap least_time c.as_slice.ensures.value;
       placed = subst (λ n. ArePlacedBy limit spread n left.events.items clock c.trace_of_log.new.events.items made.places.items) c.len-n.ensures c.in-Ok.ensures.places;
     })
@@ -66,8 +70,8 @@ returns-in-Ok-clause-long c = ap (λ xs. length xs) c.left_import_of.ensures.pla
 pub least_time-first-requires : goal.least_time-first-requires
 least_time-first-requires c =
     let left = c.in_ok-left.left in
-    let log = c.args.aligned.log in
-    subst (λ events. 0 < length events) (sym c.as_slice.ensures.value) (subst (λ n. 0 < n) (sym (left-long log.events.items left.events.items left.places.items c.in_ok-left.ensures.left)) c.in_ok-left.ensures.some)
+    let long = taken-long c.args.drop c.args.merge c.args.aligned.log.events.items left.events.items c.args.clock left.places.items (parts_seen left.parts) c.in_ok-left.ensures.taken in
+    subst (λ events. 0 < length events) (sym c.as_slice.ensures.value) (subst (λ n. 0 < n) (sym long) c.in_ok-left.ensures.some)
 
 pub trace_of_log-requires-clause-least : goal.trace_of_log-requires-clause-least
 trace_of_log-requires-clause-least c = let two = c.requires.sound.two in let n = c.len-n.ensures in omega arith
@@ -78,25 +82,30 @@ trace_of_log-requires-clause-most c = let few = c.requires.sound.few_nodes in le
 pub trace_of_log-requires-clause-some : goal.trace_of_log-requires-clause-some
 trace_of_log-requires-clause-some c =
     let left = c.in_ok-left.left in
-    subst (λ n. 0 < n) (sym (left-long c.args.aligned.log.events.items left.events.items left.places.items c.in_ok-left.ensures.left)) c.in_ok-left.ensures.some
+    subst (λ n. 0 < n) (sym (taken-long c.args.drop c.args.merge c.args.aligned.log.events.items left.events.items c.args.clock left.places.items (parts_seen left.parts) c.in_ok-left.ensures.taken)) c.in_ok-left.ensures.some
 
 pub trace_of_log-requires-clause-few : goal.trace_of_log-requires-clause-few
-trace_of_log-requires-clause-few c = let left = c.in_ok-left.left in few-left c.args.aligned.log c.requires.sound left.events.items left.places.items c.in_ok-left.ensures.left
+trace_of_log-requires-clause-few c =
+    let left = c.in_ok-left.left in
+    taken-few c.args.aligned.log c.requires.sound c.args.drop c.args.merge c.args.clock left.events.items (Some left.places.items) (parts_seen left.parts) c.in_ok-left.ensures.taken
 
 pub trace_of_log-requires-clause-meant : goal.trace_of_log-requires-clause-meant
 trace_of_log-requires-clause-meant c =
     let left = c.in_ok-left.left in
-    subst (λ n. AreMeant left.events.items n) (sym c.len-n.ensures) (meant-left c.args.aligned.log c.requires.sound left.events.items left.places.items c.in_ok-left.ensures.left)
+    subst (λ n. AreMeant left.events.items n) (sym c.len-n.ensures)
+    (taken-meant c.args.aligned.log c.requires.sound c.args.drop c.args.merge c.args.clock left.events.items (Some left.places.items) (parts_seen left.parts) c.in_ok-left.ensures.taken)
 
 pub left_error-requires-clause-few : goal.left_error-requires-clause-few
 left_error-requires-clause-few c =
     let left = c.in_ok-left.left in
-    subst (λ events. length events ≤ MAX_EVENTS) (sym c.in-Err.ensures.unchanged) (few-left c.args.aligned.log c.requires.sound left.events.items left.places.items c.in_ok-left.ensures.left)
+    subst (λ events. length events ≤ MAX_EVENTS) (sym c.in-Err.ensures.unchanged)
+    (taken-few c.args.aligned.log c.requires.sound c.args.drop c.args.merge c.args.clock left.events.items (Some left.places.items) (parts_seen left.parts) c.in_ok-left.ensures.taken)
 
 pub left_error-requires-clause-processors : goal.left_error-requires-clause-processors
 left_error-requires-clause-processors c =
     let left = c.in_ok-left.left in
-    subst AreOfProcessors (sym c.in-Err.ensures.unchanged) (processors-left c.args.aligned.log c.requires.sound left.events.items left.places.items c.in_ok-left.ensures.left)
+    subst AreOfProcessors (sym c.in-Err.ensures.unchanged)
+    (taken-processors c.args.aligned.log c.requires.sound c.args.drop c.args.merge c.args.clock left.events.items (Some left.places.items) (parts_seen left.parts) c.in_ok-left.ensures.taken)
 
 pub left_error-requires-clause-behind : goal.left_error-requires-clause-behind
 left_error-requires-clause-behind c =

@@ -1,0 +1,200 @@
+//! The events of a log of which its trace is made, if lost sends are left out or receives are merged.
+
+ghost use Rattle.std.specs.Prelude.{◌≡◌, ◌<◌, ◌≤◌, ◌⊎◌, ℕ, [], Err, IfErr, IfOk, MatchBool, None, Some, ⊤, false, length, map, option_map, slice_index, true};
+ghost use Rattle.timed_events.specs.Checks.{AreOfProcessors, IsEventRefusal};
+ghost use Rattle.timed_events.specs.Times.{times_refusal};
+ghost use Rattle.event_log.specs.Imports.{AreTaken, IsEmptied, IsTimesError, IsUnmergedOf, kept_count, log_place};
+ghost use Rattle.event_log.specs.Logs.{seen_log};
+ghost use Rattle.event_log.specs.LostSends.{AreLeft, left_places};
+ghost use Rattle.merged_receives.specs.MergeWalks.{lists_of};
+ghost use Rattle.event_log.specs.MergedLogs.{AreMergedIn, ArePartsWithin, parts_seen};
+ghost use Rattle.event_log.specs.Naming.{is_memory};
+ghost use Rattle.event_log.specs.SoundLogs.{IsSound};
+
+use crate::joined_receives::{MergedEvents, merged_events};
+use crate::log_places::{LogPlaces, place_in};
+use crate::logs::NamedEvents;
+use crate::lost_sends::{LeftEvents, events_left};
+use crate::reading::MAX_EVENTS;
+use crate::refusals::LogError;
+use std::alloc::{AllocError, Global};
+use timed_events::{Clock, Event, EventError};
+
+/// The events of a log of which its trace is made.
+#[derive(Drop)]
+pub(crate) struct TakenEvents {
+    /// Their messages are by the places of the sends among these events.
+    pub(crate) events: Vec<Event>,
+    /// Where they are in the log: the first ones if they are made of several.
+    pub(crate) places: Vec<u32>,
+    /// Where the events are in the log of which each is made, if receives are merged.
+    pub(crate) parts: Option<Vec<Vec<u32>>>,
+    /// How many events are left before receives are merged.
+    pub(crate) kept: usize,
+}
+
+/// The events of a log without lost sends, if `drop`, and then with merged receives, if `merge`. Asks for one of the two.
+///
+/// Refuses NoEvents if none is left; UntilUnfit and TooManyTicks before receives are merged; and Memory.
+pub(crate) fn taken_events(
+    alloc: Global,
+    log: &NamedEvents,
+    clock: &Clock,
+    drop: bool,
+    merge: bool,
+) -> Result<TakenEvents, LogError>
+    requires sound { IsSound (seen_log log.now) }
+    requires width { 0 < clock.now.width }
+    requires asked { drop ≡ false → merge ≡ true }
+    ensures taken { IfOk result (λ t. AreTaken drop merge log.now.events.items clock.now t.events.items (Some t.places.items) (parts_seen t.parts)) }
+    ensures kept { IfOk result (λ t. t.kept ≡ kept_count drop log.now.events.items) }
+    ensures within { IfOk result (λ t. (k : ℕ) → k < length t.places.items → slice_index t.places.items k < MAX_EVENTS) }
+    ensures parts { IfOk result (λ t. ArePartsWithin t.parts (length log.now.events.items)) }
+    ensures some { IfOk result (λ t. 0 < length t.places.items) }
+    ensures refused { IfErr result (λ why. MatchBool (is_memory why) ⊤ (IsEmptied drop log.now.events.items why ⊎ IsUnmergedOf drop merge log.now.events.items clock.now why)) }
+{
+    if !drop {
+        return merged_in(alloc, log.events.as_slice(), clock, &LogPlaces::all());
+    }
+    let kept = kept_events(alloc, log)?;
+    if !merge {
+        return Ok(unmerged(kept));
+    }
+    let LeftEvents { events, places } = kept;
+    merged_in(alloc, events.as_slice(), clock, &LogPlaces::of(places))
+}
+
+/// The events of a log but lost sends.
+///
+/// Refuses NoEvents if none is left, and Memory.
+fn kept_events(alloc: Global, log: &NamedEvents) -> Result<LeftEvents, LogError>
+    requires sound { IsSound (seen_log log.now) }
+    ensures left { IfOk result (λ left. AreLeft log.now.events.items left.events.items left.places.items) }
+    ensures within { IfOk result (λ left. (k : ℕ) → k < length left.places.items → slice_index left.places.items k < length log.now.events.items) }
+    ensures some { IfOk result (λ left. 0 < length left.places.items) }
+    ensures refused { IfErr result (λ why. MatchBool (is_memory why) ⊤ ((left_places log.now.events.items ≡ []) × (why ≡ LogError.NoEvents))) }
+{
+    let Ok(left) = events_left(alloc, log.events.as_slice()) else {
+        return Err(LogError::Memory);
+    };
+    if left.places.len() == 0 {
+        return Err(LogError::NoEvents);
+    }
+    Ok(left)
+}
+
+/// Events of which none is made of several.
+fn unmerged(left: LeftEvents) -> TakenEvents
+    ensures events { result.events.items ≡ left.events.items }
+    ensures places { result.places.items ≡ left.places.items }
+    ensures parts { result.parts ≡ None }
+    ensures kept { result.kept ≡ length left.events.items }
+{
+    let LeftEvents { events, places } = left;
+    let kept = events.len();
+    TakenEvents {
+        events,
+        places,
+        parts: None,
+        kept,
+    }
+}
+
+/// Events of a log, where they are at these places, with merged receives.
+///
+/// Refuses UntilUnfit and TooManyTicks, in this order, and Memory.
+fn merged_in(
+    alloc: Global,
+    events: &[Event],
+    clock: &Clock,
+    at: &LogPlaces,
+) -> Result<TakenEvents, LogError>
+    requires some { 0 < length events.now }
+    requires few { length events.now ≤ MAX_EVENTS }
+    requires processors { AreOfProcessors events.now }
+    requires width { 0 < clock.now.width }
+    ensures merged { IfOk result (λ t. AreMergedIn events.now clock.now at.now t.events.items t.places.items (parts_seen t.parts)) }
+    ensures kept { IfOk result (λ t. t.kept ≡ length events.now) }
+    ensures refused { IfErr result (λ why. MatchBool (is_memory why) ⊤ ((reason : EventError) × (times_refusal events.now clock.now ≡ Some reason) × IsTimesError reason why)) }
+{
+    let merged = match merged_events(alloc, events, clock) {
+        Ok(merged) => merged,
+        Err(why) => return Err(times_error(why)),
+    };
+    match placed_in(alloc, merged, events.len(), at) {
+        Ok(taken) => Ok(taken),
+        Err(_) => Err(LogError::Memory),
+    }
+}
+
+/// The refusal of a log for a reason against the times of its events, or Memory.
+fn times_error(why: EventError) -> LogError
+    ensures { MatchBool (is_memory result) ⊤ (IsTimesError why result) }
+{
+    match why {
+        EventError::UntilTooEarly => LogError::UntilUnfit,
+        EventError::TooManyTicks => LogError::TooManyTicks,
+        _ => LogError::Memory,
+    }
+}
+
+/// Events with merged receives, of so many, by their places in the log.
+fn placed_in(
+    alloc: Global,
+    merged: MergedEvents,
+    kept: usize,
+    at: &LogPlaces,
+) -> Result<TakenEvents, AllocError>
+    ensures events { IfOk result (λ t. t.events.items ≡ merged.events.items) }
+    ensures parts { IfOk result (λ t. parts_seen t.parts ≡ Some (map (map (log_place at.now)) (lists_of merged.parts.items))) }
+    ensures places { IfOk result (λ t. t.places.items ≡ map (λ part. slice_index part 0) (map (map (log_place at.now)) (lists_of merged.parts.items))) }
+    ensures kept { IfOk result (λ t. t.kept ≡ kept) }
+{
+    let MergedEvents { events, parts } = merged;
+    let parts = placed_parts(alloc, &parts, at)?;
+    let places = first_places(alloc, &parts)?;
+    Ok(TakenEvents {
+        events,
+        places,
+        parts: Some(parts),
+        kept,
+    })
+}
+
+/// Lists of places among the events by the places in the log.
+fn placed_parts(
+    alloc: Global,
+    parts: &[Vec<u32>],
+    at: &LogPlaces,
+) -> Result<Vec<Vec<u32>>, AllocError>
+    ensures { IfOk result (λ placed. lists_of placed.items ≡ map (map (log_place at.now)) (lists_of parts.now)) }
+{
+    let mut placed = Vec::with_capacity(alloc, parts.len())?;
+    for part in parts {
+        let own = placed_part(alloc, part, at)?;
+        placed.push(own)?;
+    }
+    Ok(placed)
+}
+
+/// Places among the events by those in the log.
+fn placed_part(alloc: Global, part: &[u32], at: &LogPlaces) -> Result<Vec<u32>, AllocError>
+    ensures { IfOk result (λ placed. placed.items ≡ map (log_place at.now) part.now) }
+{
+    let mut placed = Vec::with_capacity(alloc, part.len())?;
+    for place in part {
+        placed.push(at.at(*place as usize) as u32)?;
+    }
+    Ok(placed)
+}
+
+/// The first place of each list; 0 if it is empty.
+fn first_places(alloc: Global, parts: &[Vec<u32>]) -> Result<Vec<u32>, AllocError>
+    ensures { IfOk result (λ places. places.items ≡ map (λ part. slice_index part 0) (lists_of parts.now)) }
+{
+    let mut places = Vec::with_capacity(alloc, parts.len())?;
+    for part in parts {
+        places.push(place_in(part, 0))?;
+    }
+    Ok(places)
+}

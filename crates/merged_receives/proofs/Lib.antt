@@ -1,0 +1,4 @@
+pub mod JoinedReceives
+pub mod MergeWalks
+pub mod OwnParts
+pub mod OneMerge

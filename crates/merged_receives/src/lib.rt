@@ -1,0 +1,6 @@
+//! Receives of a processor in one tick of their times that are one, since it sends nothing between them.
+#![tactic(auto)]
+
+mod merges;
+
+pub use merges::{MergedParts, merged_parts};
