@@ -1,1 +1,3 @@
 pub mod EvidenceWindows
+pub mod SilenceTimes
+pub mod TickSearches

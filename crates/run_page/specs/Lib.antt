@@ -4,3 +4,5 @@ pub mod EvidenceTicks
 pub mod LongNames
 pub mod Pens
 pub mod Pieces
+pub mod Spreads
+pub mod TickSteps

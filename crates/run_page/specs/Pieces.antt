@@ -1,14 +1,15 @@
 -- What the pieces of a phrase are as HTML (own).
-use Rattle.std.specs.Prelude.{ℕ, ◌==◌, ◌-◌, ◌/◌, ◌%◌, ◌++◌, ◌||◌, List, [], Option, Some, None, codes, decimal, if◌then◌else◌, is_none, nat_lt, length}
+use Rattle.std.specs.Prelude.{ℕ, ◌==◌, ◌-◌, ◌/◌, ◌%◌, ◌++◌, ◌||◌, List, [], Option, Some, None, codes, decimal, if◌then◌else◌, is_none, nat_lt, length, min}
 use Rattle.std.specs.List.{flat_map}
 use Rattle.std.specs.Option.{option_map_or}
 use Rattle.run_picture.specs.Names.{name_at}
 use Rattle.run_picture.specs.ShortNames.{short_text}
 use Rattle.step_tables.specs.Records.{message_at, source_at}
 use Rattle.step_tables.specs.Told.{Said}
-use Rattle.run_page.specs.Clocks.{amount_text, begin_text, from_text, time_of}
+use Rattle.run_page.specs.Clocks.{amount_text, begin_text, from_text, limited, point_text, time_of}
 use Rattle.run_page.specs.Digits.{count_text, digits_text}
 use Rattle.run_page.specs.LongNames.{long_text}
+use Rattle.run_page.specs.declared.clocks.TheConstants.{LONGEST}
 use Rattle.run_page.specs.declared.clocks.Clock.{Clock}
 use Rattle.run_page.specs.declared.pieces.Piece.{Piece}
 use Rattle.run_page.specs.declared.pieces.Piece.TheVariants as piece
@@ -129,6 +130,8 @@ piece_text names said clock (piece.Ticks n) = ticks_text clock n
 piece_text names said clock (piece.Late n) = bound_text clock (codes "<b class=\"dl\">") n
 piece_text names said clock (piece.Silent n) = bound_text clock (codes "<b class=\"phi\">") n
 piece_text names said clock (piece.Short n) = short_ticks_text clock n
+piece_text names said clock (piece.Time n) = amount_text (min n LONGEST)
+piece_text names said clock (piece.Moment u part n) = point_text u (limited part) n
 piece_text names said clock (piece.Begin t) = begins_text clock t
 piece_text names said clock (piece.Tick t) = told_tick_text clock t
 piece_text names said clock (piece.In t) = in_tick_text clock t

@@ -1,6 +1,6 @@
 //! Ticks as time: amounts, and points of time.
 
-ghost use Rattle.std.specs.Prelude.{◌≡◌, ◌≤◌, ◌<◌, ◌++◌, OnOk};
+ghost use Rattle.std.specs.Prelude.{◌≡◌, ◌≤◌, ◌<◌, ◌++◌, OnOk, min};
 ghost use Rattle.run_page.specs.Clocks.{amount_text, begin_text, fraction_text, from_text, hundredths_text, limited, nanoseconds_in, point_text, tenths_text, three_text, time_of, unit_of, unit_text};
 ghost use Rattle.run_page.specs.declared.clocks.TheConstants.{LONGEST};
 
@@ -10,6 +10,10 @@ use std::alloc::AllocError;
 
 /// The longest time that is told, in nanoseconds; a longer one counts as this.
 const LONGEST: u64 = 1_000_000_000_000_000_000;
+
+/// How many ticks a run has at most by the shorter tick that the page names. A trace may have `step_trace::MAX_TICKS`; the rest
+/// is room for events that move.
+const MOST_TICKS: u64 = 990_000;
 
 /// A unit of time.
 #[derive(Clone, Copy, Debug, PartialEq, Eq)]
@@ -36,7 +40,7 @@ impl Unit {
         }
     }
 
-    fn nanoseconds(self) -> u64
+    pub(crate) fn nanoseconds(self) -> u64
         ensures value { result ≡ nanoseconds_in self }
         ensures some { 1 ≤ result }
         ensures most { result ≤ 1000000000 }
@@ -88,11 +92,22 @@ impl Clock {
     }
 
     /// How long so many ticks are, in nanoseconds.
-    fn time_of(self, ticks: u64) -> u64
+    pub(crate) fn time_of(self, ticks: u64) -> u64
         ensures value { result ≡ time_of self ticks }
         ensures limit { result ≤ LONGEST }
     {
         ticks.saturating_mul(self.width).min(LONGEST)
+    }
+
+    /// Where a run has so many ticks, the least round length of a tick that is short enough for it, in nanoseconds, if it is
+    /// shorter than this one: then the run has `MOST_TICKS` at most.
+    pub(crate) fn finer(self, ticks: u64) -> Option<u64> {
+        let width = round_from(self.time_of(ticks).div_ceil(MOST_TICKS));
+        if width < self.width {
+            Some(width)
+        } else {
+            None
+        }
     }
 
     /// Appends so many ticks as time.
@@ -131,7 +146,7 @@ fn limited(part: u64) -> u64
 }
 
 /// The greatest power of ten that isn't above a number; 1 if there is none.
-fn power_within(number: u64) -> u64 {
+pub(crate) fn power_within(number: u64) -> u64 {
     let mut power = 1;
     for _more in 0..18 {
         if power <= number / 10 {
@@ -139,6 +154,50 @@ fn power_within(number: u64) -> u64 {
         }
     }
     power
+}
+
+/// The least of 1, 2 and 5 times the powers of ten that isn't below a number; from `LONGEST` on it may be.
+pub(crate) fn round_from(number: u64) -> u64
+    ensures { 1 ≤ result }
+{
+    let power = power_within(number).max(1);
+    if number <= power {
+        power
+    } else if number <= power.saturating_mul(2) {
+        power.saturating_mul(2)
+    } else if number <= power.saturating_mul(5) {
+        power.saturating_mul(5)
+    } else {
+        power.saturating_mul(10)
+    }
+}
+
+/// The power of ten of this exponent, but at most that of 18.
+pub(crate) fn power_of_ten(exponent: u64) -> u64 {
+    let mut power = 1_u64;
+    for _more in 0..exponent.min(18) {
+        power = power.saturating_mul(10);
+    }
+    power
+}
+
+/// Appends a time of so many nanoseconds, at most `LONGEST`, in three digits, with its unit.
+pub(crate) fn push_time(out: &mut Vec<u8>, time: u64) -> Result<(), AllocError>
+    ensures { OnOk result (out.new.items ≡ out.old.items ++ amount_text (min time LONGEST)) }
+{
+    push_amount(out, time.min(LONGEST))
+}
+
+/// Appends a point of time: so many times a part of a unit.
+pub(crate) fn push_moment(
+    out: &mut Vec<u8>,
+    unit: Unit,
+    part: u64,
+    count: u64,
+) -> Result<(), AllocError>
+    ensures { OnOk result (out.new.items ≡ out.old.items ++ point_text unit (limited part) count) }
+{
+    push_point(out, unit, limited(part), count)
 }
 
 /// Appends a time of so many nanoseconds, in three digits, with its unit.

@@ -4,6 +4,7 @@ use crate::headlines::was;
 use crate::pens::Pen;
 use crate::pieces::Piece::{Late, Many, Message, Node, Stepped, Text, Tick, Ticks};
 use crate::runs::Run;
+use crate::spreads::put_miss_by_clock;
 use run_story::{Delay, Stall};
 use step_trace::Act;
 
@@ -22,6 +23,7 @@ pub(crate) fn put_delay_words(
     }
     put_ruled_out(pen, run, delay);
     put_later_ones(pen, run, delay);
+    put_miss_by_clock(pen, run, delay);
     pen.text("</p>");
 }
 

@@ -18,7 +18,7 @@ const LATE_PINS: usize = 3;
 /// Writes the first section of a page.
 pub(crate) fn put_glance(pen: &mut Pen<'_>, run: &Run<'_>) {
     let heights = Heights::of(run);
-    put_glance_key(pen, heights);
+    put_glance_key(pen, run, heights);
     pen.put(&[
         Text("<div class=\"pic\"><div class=\"nms ys\" style=\"height:"),
         Number(HEIGHT),
@@ -35,7 +35,7 @@ pub(crate) fn put_glance(pen: &mut Pen<'_>, run: &Run<'_>) {
     pen.text("</section>");
 }
 
-fn put_glance_key(pen: &mut Pen<'_>, heights: Heights) {
+fn put_glance_key(pen: &mut Pen<'_>, run: &Run<'_>, heights: Heights) {
     pen.put(&[
         Text(
             "<section aria-labelledby=\"h-run\"><h2 id=\"h-run\">The run at a glance</h2><p class=\"key\"><span class=\"k dlk\"></span><b class=\"dl\">Δ</b> how late a message may be <span class=\"k phik\"></span><b class=\"phi\">Φ</b> how long a node may take no step: the least that hold from each tick to the end",
@@ -45,7 +45,12 @@ fn put_glance_key(pen: &mut Pen<'_>, heights: Heights) {
         } else {
             ""
         }),
-        Text(", in ticks</p>"),
+        Text(if run.clock.is_none() {
+            ", in ticks"
+        } else {
+            ""
+        }),
+        Text("</p>"),
     ]);
 }
 

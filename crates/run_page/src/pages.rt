@@ -10,12 +10,14 @@ use crate::glances::put_glance;
 use crate::headlines::put_headline;
 use crate::leads::put_lead;
 use crate::node_bounds::NodeBounds;
+use crate::notes::put_notes;
 use crate::pens::Pen;
 use crate::pieces::Piece::{Count, Many, Node, Number, Short, Text};
 use crate::row_table::put_row_table;
 use crate::runs::{Found, Run, row_at};
 use crate::scans::Scan;
 use crate::styles::{COLOURS, PICTURES, PLACES, TABLES, WORDS};
+use crate::timings::Timing;
 use crate::titles::put_title;
 use crate::who::put_who;
 use run_picture::takers::takers;
@@ -24,7 +26,7 @@ use run_story::{
     named_evidence,
 };
 use std::alloc::{AllocError, Global};
-use step_tables::{StepRow, tick_times};
+use step_tables::StepRow;
 use step_trace::{ProcSet, Row, Trace};
 
 /// What a log calls things, as far as that is known.
@@ -58,13 +60,16 @@ pub fn page_text(
     let story = Story::of(alloc, trace, rows)?;
     let bounds = Bounds::of(alloc, trace, set, row_at(rows, 0), found.calm)?;
     let steps = Steps::of(alloc, trace, set)?;
+    let timing = Timing::of(trace, words.said, words.unit);
+    let clock = clock_of(trace, timing);
     let run = Run {
         trace,
         set,
         rows,
         names: words.names,
         said: words.said,
-        clock: clock_of(trace, words),
+        timing,
+        clock,
         evidence: &story.evidence,
         named: &story.named,
         brief: &story.brief,
@@ -78,18 +83,9 @@ pub fn page_text(
     written(alloc, &run)
 }
 
-/// So many nanoseconds had passed from the start of 1970 on in September 2001.
-const STAMPS: u64 = 1_000_000_000_000_000_000;
-
 /// The clock of a run, if the length of its ticks is known, and in which unit.
-fn clock_of(trace: &Trace, words: &LogWords<'_>) -> Option<Clock> {
-    let times = tick_times(trace, words.said)?;
-    let unit = match words.unit {
-        Some(unit) => unit,
-        None if times.first >= STAMPS => 1,
-        None => return None,
-    };
-    Clock::of(times.width.checked_mul(unit)?, trace.last_tick())
+fn clock_of(trace: &Trace, timing: Option<Timing>) -> Option<Clock> {
+    timing?.clock(trace.last_tick())
 }
 
 /// Where the run is calm, and its headline.
@@ -237,19 +233,10 @@ fn put_header(pen: &mut Pen<'_>, run: &Run<'_>) {
     pen.text("</h1><p class=\"lead\">");
     put_lead(pen, run);
     pen.text("</p>");
-    put_note(pen, run);
+    put_notes(pen, run);
     pen.text("<p class=\"facts\">");
     put_facts(pen, run);
     pen.text("</p></header>");
-}
-
-/// Writes a warning if no Receive shows that there was nothing yet.
-fn put_note(pen: &mut Pen<'_>, run: &Run<'_>) {
-    if run.scan.full > 0 && run.scan.empty == 0 && run.is_shown() {
-        pen.text(
-            "<p class=\"note\"><b>No receive of nothing is in this trace.</b> A receive that found nothing is what shows a message to be late; without them Δ is too low. <code>import --idle</code> adds them where a node only waited.</p>",
-        );
-    }
 }
 
 /// Writes how much there is of everything.

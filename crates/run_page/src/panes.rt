@@ -122,7 +122,8 @@ fn put_plot(pen: &mut Pen<'_>, pane: &Pane<'_>) {
     if let Some(stall) = pane.scene.evidence.stall {
         put_gap_label(pen, pane, stall);
     }
-    put_axis(pen, pane.span, if pane.is_part() { 3 } else { 5 });
+    let numbers = if pane.is_part() { 3 } else { 5 };
+    put_axis(pen, pane.run.clock, pane.span, numbers);
     pen.text("</div>");
 }
 

@@ -4,7 +4,7 @@ ghost use Rattle.std.specs.Prelude.{◌≡◌, ◌≤◌, ◌<◌, ◌++◌, OnO
 ghost use Rattle.run_page.specs.Digits.{digits_text};
 ghost use Rattle.run_page.specs.Pieces.{aside_text, begins_text, both_aside_text, bound_text, from_tick_text, in_tick_text, known_text, label_text, made_text, many_text, message_text, name_of, node_text, percent_text, piece_text, pieces_text, place_text, short_ticks_text, source_text, step_at_text, step_text, stepped_text, tick_aside_text, tick_text, ticks_text, told_tick_text};
 
-use crate::clocks::Clock;
+use crate::clocks::{Clock, Unit, push_moment, push_time};
 use crate::digits::{push_count, push_digits, push_number};
 use crate::long_names::push_long;
 use crate::scales::Place;
@@ -31,6 +31,10 @@ pub(crate) enum Piece {
     Silent(u64),
     /// So many ticks where there is little room: as time, or else the ticks.
     Short(u64),
+    /// A time of so many nanoseconds; of a longer one as many as are told.
+    Time(u64),
+    /// A point of time: so many times a part of a unit, which is a power of ten.
+    Moment { unit: Unit, part: u64, count: u64 },
     /// When a tick begins, or else the tick.
     Begin(u64),
     /// When a tick begins, with the tick in parentheses; or else the tick alone.
@@ -95,6 +99,8 @@ fn push_piece(
         Piece::Late(count) => push_bound(out, clock, b"<b class=\"dl\">", count),
         Piece::Silent(count) => push_bound(out, clock, b"<b class=\"phi\">", count),
         Piece::Short(count) => push_short_ticks(out, clock, count),
+        Piece::Time(time) => push_time(out, time),
+        Piece::Moment { unit, part, count } => push_moment(out, unit, part, count),
         Piece::Begin(tick) => push_begins(out, clock, tick),
         Piece::Tick(tick) => push_told_tick(out, clock, tick),
         Piece::In(tick) => push_in_tick(out, clock, tick),

@@ -82,7 +82,7 @@ fn put_lanes(pen: &mut Pen<'_>, run: &Run<'_>, shown: ProcSet, high: u64) {
     put_lane_names(pen, run, shown, high);
     pen.text("<div class=\"plot\">");
     put_strokes(pen, run, shown, high);
-    put_axis(pen, whole(run), 7);
+    put_axis(pen, run.clock, whole(run), 7);
     pen.text("</div></div>");
 }
 

@@ -6,6 +6,8 @@ use crate::clocks::Clock;
 use crate::node_bounds::NodeBounds;
 use crate::pieces::Piece;
 use crate::scans::{Scan, tick_at};
+use crate::tick_steps::steps_before;
+use crate::timings::Timing;
 use run_picture::takers::taker_in;
 use run_story::{Evidence, Headline, MessageCounts, Named};
 use step_tables::StepRow;
@@ -20,7 +22,8 @@ pub(crate) struct Run<'a> {
     pub names: &'a [&'a str],
     /// What a table says about the steps; nothing without one.
     pub said: &'a [StepRow],
-    /// How long ticks are, if that is known.
+    /// What the table says about times, if that fits ticks of one length; and how long they are, if that is known.
+    pub timing: Option<Timing>,
     pub clock: Option<Clock>,
     /// Evidence in the order of the page, and for each row which it names.
     pub evidence: &'a [Evidence],
@@ -113,20 +116,7 @@ impl Run<'_> {
 
     /// The least number of a step in this tick or later; one after the last if there is none.
     pub(crate) fn first_from(&self, tick: u64) -> u64 {
-        let mut low = 1;
-        let mut high = self.trace.len() as u64 + 1;
-        for _halving in 0..64 {
-            if low >= high {
-                return low;
-            }
-            let middle = low + (high - low) / 2;
-            if self.tick(middle) < tick {
-                low = middle + 1;
-            } else {
-                high = middle;
-            }
-        }
-        low
+        steps_before(self.trace, tick).saturating_add(1)
     }
 
     /// The row at this place; bounds of 1 from tick 1 on if there is none.

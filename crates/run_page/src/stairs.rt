@@ -2,8 +2,10 @@
 
 ghost use Rattle.std.specs.Prelude.{◌≤◌};
 
+use crate::clocks::{Clock, power_of_ten, round_from};
 use crate::pens::Pen;
-use crate::pieces::Piece::{Count, From, Number, Percent, Short, Text, Tick, Ticks};
+use crate::pieces::Piece;
+use crate::pieces::Piece::{Count, From, Number, Percent, Short, Text, Tick, Ticks, Time};
 use crate::runs::Run;
 use crate::scales::{Span, WIDE};
 use run_picture::BoundScale;
@@ -50,17 +52,33 @@ impl Bound {
     }
 }
 
+/// How many lines are tried.
+const LINES: u64 = 20;
+
 /// How high bounds are.
 #[derive(Clone, Copy)]
 pub(crate) struct Heights {
     scale: BoundScale,
+    /// The greatest bound.
+    most: u64,
+    clock: Option<Clock>,
+}
+
+/// A line at a round bound, and what stands beside it.
+#[derive(Clone, Copy)]
+struct Line {
+    y: u64,
+    label: Piece,
 }
 
 impl Heights {
     pub(crate) fn of(run: &Run) -> Self {
         let first = run.row(0);
+        let most = first.delta.max(first.phi);
         Heights {
-            scale: BoundScale::up_to(first.delta.max(first.phi)),
+            scale: BoundScale::up_to(most),
+            most,
+            clock: run.clock,
         }
     }
 
@@ -73,6 +91,45 @@ impl Heights {
         ensures { result ≤ BOTTOM }
     {
         BOTTOM.saturating_sub(self.scale.rise(bound, FALL))
+    }
+
+    /// The line of this number from 0 on, if there is one: at a round time if ticks have a known length, and else at a round
+    /// number of ticks.
+    fn line(self, number: u64) -> Option<Line> {
+        if let Some(clock) = self.clock {
+            return self.time_line(clock, number);
+        }
+        let bound = self.scale.line(number, MOST_LINES)?;
+        Some(Line {
+            y: self.y(bound),
+            label: Count(bound),
+        })
+    }
+
+    fn time_line(self, clock: Clock, number: u64) -> Option<Line> {
+        let most = clock.time_of(self.most);
+        let time = if self.is_log() {
+            power_of_ten(number)
+        } else {
+            round_from((most / (MOST_LINES + 1)).saturating_add(1)).checked_mul(number)?
+        };
+        if time > most || self.is_log() && (time < clock.width || number > 18) {
+            return None;
+        }
+        Some(Line {
+            y: self.y_at(clock, time),
+            label: if time == 0 { Number(0) } else { Time(time) },
+        })
+    }
+
+    /// The height of a time, from the top: straight between whole numbers of ticks.
+    fn y_at(self, clock: Clock, time: u64) -> u64 {
+        let width = clock.width.max(1);
+        let (bound, rest) = (time / width, time % width);
+        let y = self.y(bound);
+        let fall = y.saturating_sub(self.y(bound.saturating_add(1)));
+        let part = u128::from(fall) * u128::from(rest) / u128::from(width);
+        y.saturating_sub(part as u64)
     }
 }
 
@@ -116,11 +173,11 @@ fn put_stairs_head(pen: &mut Pen<'_>, run: &Run<'_>) {
 
 /// Writes lines at round bounds.
 fn put_grid(pen: &mut Pen<'_>, heights: Heights) {
-    for k in 0..8 {
-        if let Some(bound) = heights.scale.line(k, MOST_LINES) {
+    for k in 0..LINES {
+        if let Some(line) = heights.line(k) {
             pen.put(&[
                 Text("<path class=\"gr\" d=\"M0 "),
-                Number(heights.y(bound)),
+                Number(line.y),
                 Text("H"),
                 Number(WIDE),
                 Text("\"/>"),
@@ -131,13 +188,13 @@ fn put_grid(pen: &mut Pen<'_>, heights: Heights) {
 
 /// Writes the numbers at the lines of round bounds.
 pub(crate) fn put_numbers(pen: &mut Pen<'_>, heights: Heights) {
-    for k in 0..8 {
-        if let Some(bound) = heights.scale.line(k, MOST_LINES) {
+    for k in 0..LINES {
+        if let Some(line) = heights.line(k) {
             pen.put(&[
                 Text("<span style=\"top:"),
-                Number(heights.y(bound)),
+                Number(line.y),
                 Text("px\">"),
-                Count(bound),
+                line.label,
                 Text("</span>"),
             ]);
         }

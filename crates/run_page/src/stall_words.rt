@@ -3,6 +3,8 @@
 use crate::pens::Pen;
 use crate::pieces::Piece::{In, Message, Node, Number, Silent, Step, Text, Tick, Ticks};
 use crate::runs::Run;
+use crate::spreads::put_silence_by_clock;
+use crate::tick_steps::step_in;
 use crate::titles::gap_ticks;
 use run_story::Stall;
 use step_trace::Act;
@@ -16,6 +18,7 @@ pub(crate) fn put_stall_words(pen: &mut Pen<'_>, run: &Run<'_>, stall: Stall) {
     put_just_before(pen, run, stall);
     put_just_after(pen, run, stall);
     put_ruled_out(pen, run, stall);
+    put_silence_by_clock(pen, run, stall);
     pen.text("</p>");
 }
 
@@ -28,37 +31,14 @@ pub(crate) fn put_stretch(pen: &mut Pen<'_>, from: u64, to: u64) {
     }
 }
 
-/// The last step of the silent processor before its silence, which is in the tick before.
+/// The step of the silent processor right before its silence, in the tick before.
 fn step_before(run: &Run, stall: Stall) -> Option<u64> {
-    last_in(run, stall.gap.proc, stall.gap.from.checked_sub(1)?)
+    step_in(run.trace, stall.gap.proc, stall.gap.from.checked_sub(1)?)
 }
 
-/// Its first step after it, which is in the tick after.
+/// Its step right after it, in the tick after.
 fn step_after(run: &Run, stall: Stall) -> Option<u64> {
-    first_in(run, stall.gap.proc, stall.gap.to.checked_add(1)?)
-}
-
-/// The last step of a processor in this tick.
-fn last_in(run: &Run, proc: u64, tick: u64) -> Option<u64> {
-    let mut last = None;
-    let next = run.first_from(tick.checked_add(1)?);
-    for no in run.first_from(tick)..next {
-        if run.proc(no) == proc {
-            last = Some(no);
-        }
-    }
-    last
-}
-
-/// The first step of a processor in this tick.
-fn first_in(run: &Run, proc: u64, tick: u64) -> Option<u64> {
-    let next = run.first_from(tick.checked_add(1)?);
-    for no in run.first_from(tick)..next {
-        if run.proc(no) == proc {
-            return Some(no);
-        }
-    }
-    None
+    step_in(run.trace, stall.gap.proc, stall.gap.to.checked_add(1)?)
 }
 
 fn put_just_before(pen: &mut Pen<'_>, run: &Run<'_>, stall: Stall) {

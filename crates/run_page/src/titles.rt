@@ -1,5 +1,7 @@
 //! Evidence in one line.
 
+ghost use Rattle.std.specs.Prelude.{◌≡◌, ◌-◌};
+
 use crate::pens::Pen;
 use crate::pieces::Piece::{Message, Node, Text, Ticks};
 use crate::runs::Run;
@@ -28,7 +30,9 @@ fn put_stall_title(pen: &mut Pen<'_>, stall: Stall) {
 }
 
 /// How many ticks a silence has.
-pub(crate) fn gap_ticks(from: u64, to: u64) -> u64 {
+pub(crate) fn gap_ticks(from: u64, to: u64) -> u64
+    ensures { result ≡ to - (from - 1) }
+{
     to.saturating_sub(from.saturating_sub(1))
 }
 

@@ -56,7 +56,12 @@ message_of (act.Receive ends ids) fields = []
 
 -- what a record says about a step
 abbrev pub said_of : Act → List (List ℕ) → Said
-said_of a fields = record { source = number_of (field_of fields 3); message = message_of a fields; begins = number_of (field_of fields 2) }
+said_of a fields = record {
+  source = number_of (field_of fields 3);
+  message = message_of a fields;
+  begins = number_of (field_of fields 2);
+  time = number_of (field_of fields 4);
+}
 
 -- what is known once the record says what a step does
 abbrev pub with_deed : ℕ → Told → Act → List (List ℕ) → Result Told TableError
@@ -79,3 +84,7 @@ after_record trace told fields = with_record (length told.rows + 2) trace told (
 -- the number of the record of this step
 abbrev pub source_at : List Said → ℕ → Option ℕ
 source_at rows number = option_and_then (λ row. row.source) (slice_get rows (number - 1))
+
+-- when this step was made by the clock
+abbrev pub time_at : List Said → ℕ → Option ℕ
+time_at rows number = option_and_then (λ row. row.time) (slice_get rows (number - 1))

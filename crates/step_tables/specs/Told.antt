@@ -3,11 +3,12 @@ use Rattle.std.specs.Prelude.{ℕ, List, Option}
 use Rattle.step_trace.specs.Traces.{Recorded}
 
 -- what it says about a step: the number of its record in the log, if it has one; what its message is called, if it is a
--- Send; and when its tick begins, if that is a number of 64 bits
+-- Send; when its tick begins, and when it was made by the clock, each if that is a number of 64 bits
 pub record Said : Type 0 where
   pub source : Option ℕ
   pub message : List ℕ
   pub begins : Option ℕ
+  pub time : Option ℕ
 
 -- what the processors are called, in their order, with an empty name for one that no record names; and what is said
 -- about each step

@@ -2,6 +2,7 @@
 //! definitions that the contracts cite.
 #![tactic(auto)]
 
+mod moves;
 mod names;
 mod reading;
 mod records;
@@ -10,7 +11,8 @@ mod refusals;
 mod tables;
 mod tick_begins;
 
+pub use moves::{Moves, count_moves};
 pub use reading::table_of_text;
 pub use refusals::TableError;
-pub use tables::{StepRow, StepTable, message_at, source_at};
+pub use tables::{StepRow, StepTable, message_at, source_at, time_at};
 pub use tick_begins::{TickTimes, tick_times};

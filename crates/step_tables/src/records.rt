@@ -240,10 +240,12 @@ fn push_row(
     };
     let source = number(field(fields, 3));
     let begins = number(field(fields, 2));
+    let time = number(field(fields, 4));
     let row = StepRow {
         source,
         message,
         begins,
+        time,
     };
     match rows.push(row) {
         Ok(()) => Ok(()),

@@ -1,7 +1,7 @@
 //! What a table says about a trace, to be looked up.
 
 ghost use Rattle.std.specs.Prelude.{◌≡◌, ◌-◌, IfOk, [], length, map, slice_index_or};
-ghost use Rattle.step_tables.specs.Records.{message_at, source_at};
+ghost use Rattle.step_tables.specs.Records.{message_at, source_at, time_at};
 
 use std::alloc::{AllocError, Global};
 use std::marker::Model;
@@ -15,6 +15,8 @@ pub struct StepRow {
     pub message: Vec<u8>,
     /// When its tick begins, in what the times of the table are counted in, if that is a number of 64 bits.
     pub begins: Option<u64>,
+    /// When it was made by the clock, counted alike, if that is a number of 64 bits.
+    pub time: Option<u64>,
 }
 
 impl Model for StepRow {
@@ -22,7 +24,7 @@ impl Model for StepRow {
 
     ghost Value = { Said };
 
-    ghost view = { λ row. record { source = row.source; message = row.message.items; begins = row.begins } };
+    ghost view = { λ row. record { source = row.source; message = row.message.items; begins = row.begins; time = row.time } };
 }
 
 impl StepRow {
@@ -42,6 +44,12 @@ impl StepRow {
         ensures { result ≡ self.now.begins }
     {
         self.begins
+    }
+
+    pub(crate) fn time(&self) -> Option<u64>
+        ensures { result ≡ self.now.time }
+    {
+        self.time
     }
 }
 
@@ -95,6 +103,17 @@ pub fn source_at(rows: &[StepRow], no: u64) -> Option<u64>
 {
     match rows.get(place_of(no)) {
         Some(row) => row.source(),
+        None => None,
+    }
+}
+
+/// When a step was made by the clock, in what the times of the table are counted in, by what a table says about the steps;
+/// None if the table doesn't say it, or there is no such step.
+pub fn time_at(rows: &[StepRow], no: u64) -> Option<u64>
+    ensures { result ≡ time_at rows.now no }
+{
+    match rows.get(place_of(no)) {
+        Some(row) => row.time(),
         None => None,
     }
 }
