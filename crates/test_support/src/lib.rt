@@ -1,7 +1,6 @@
-//! What tests of several crates share: worked texts, traces and levels from plain numbers, and random traces of a fixed seed.
+//! What tests of several crates share: worked texts, and traces and levels from plain numbers.
 #![tactic(auto)]
 
-pub mod random_traces;
 pub mod stair_levels;
 pub mod texts;
 pub mod traces;

@@ -5,7 +5,7 @@ use step_trace::{Gap, Miss, Row};
 use suffix_staircase::{Level, Stairs};
 
 /// The level that is so written.
-pub fn level_of(numbers: [u64; 7]) -> Level {
+fn level_of(numbers: [u64; 7]) -> Level {
     let [delta, sent, missed, phi, proc, from, to] = numbers;
     Level {
         delta,
@@ -16,7 +16,7 @@ pub fn level_of(numbers: [u64; 7]) -> Level {
 }
 
 /// The row that is so written.
-pub fn row_of(numbers: [u64; 8]) -> Row {
+fn row_of(numbers: [u64; 8]) -> Row {
     let [gst, delta, phi, sent, missed, proc, from, to] = numbers;
     Row {
         gst,
@@ -25,15 +25,6 @@ pub fn row_of(numbers: [u64; 8]) -> Row {
         miss: (sent != 0).then_some(Miss { sent, missed }),
         gap: (proc != 0).then_some(Gap { proc, from, to }),
     }
-}
-
-/// The rows of the report of one-miss if both processors are correct.
-pub fn one_miss_rows() -> [Row; 3] {
-    [
-        row_of([1, 2, 3, 1, 2, 1, 2, 3]),
-        row_of([2, 1, 3, 0, 0, 1, 2, 3]),
-        row_of([3, 1, 2, 0, 0, 1, 3, 3]),
-    ]
 }
 
 /// The rows of the report of never-delivered if both processors are correct.
@@ -45,43 +36,10 @@ pub fn never_delivered_rows() -> [Row; 3] {
     ]
 }
 
-/// Whether the stairs have exactly these levels.
-pub fn has_levels(stairs: &Stairs, levels: &[[u64; 7]]) -> bool {
-    if stairs.len() != levels.len() {
-        return false;
-    }
-    for i in 0..levels.len() {
-        if stairs.at(i as u64 + 1) != level_of(levels[i]) {
-            return false;
-        }
-    }
-    true
-}
-
 /// Whether the stairs have these levels at these ticks.
 pub fn has_levels_at(stairs: &Stairs, levels: &[(u64, [u64; 7])]) -> bool {
     for &(g, level) in levels {
         if g == 0 || g > stairs.len() as u64 || stairs.at(g) != level_of(level) {
-            return false;
-        }
-    }
-    true
-}
-
-/// Whether there are so many levels, all of them this one.
-pub fn has_one_level(stairs: &Stairs, count: usize, level: [u64; 7]) -> bool {
-    for g in 1..stairs.len() as u64 + 1 {
-        if stairs.at(g) != level_of(level) {
-            return false;
-        }
-    }
-    stairs.len() == count
-}
-
-/// Whether the stairs have exactly these starts.
-pub fn has_starts(stairs: &Stairs, starts: &[u64]) -> bool {
-    for i in 0..starts.len() + 2 {
-        if stairs.start(i) != starts.get(i).copied() {
             return false;
         }
     }

@@ -3,7 +3,7 @@
 use bound_witness::gaps;
 use std::alloc::{AllocError, Global};
 use std::test::Fail;
-use step_trace::{Act, Gap, MAX_STEPS, MessageIds, PushError, Step, Trace};
+use step_trace::{Act, Gap, MAX_STEPS, MessageIds, Trace};
 use test_support::traces::{both, empty_trace, step_of};
 
 /// Two processors take turns, but for 20,000 steps in the middle, which are all of processor 1.
@@ -22,18 +22,6 @@ fn turns(alloc: Global, count: u64) -> Result<Trace, Fail> {
         trace.push(step_of(alloc, processor_of(before + 1), 0, &[])?)?;
     }
     Ok(trace)
-}
-
-fn is_full(alloc: Global, trace: &mut Trace) -> Result<bool, AllocError> {
-    let next = trace.push(step_of(alloc, 1, 0, &[])?);
-    Ok(next == Err(PushError::Full))
-}
-
-#[test]
-fn greatest_trace(rt: HostRuntime) -> Result<(), Fail> {
-    let mut trace = turns(rt.alloc(), MAX_STEPS as u64)?;
-    assert!(rt; trace.len() == MAX_STEPS && is_full(rt.alloc(), &mut trace)?);
-    Ok(())
 }
 
 fn is_copied(alloc: Global, trace: &Trace) -> Result<bool, AllocError> {

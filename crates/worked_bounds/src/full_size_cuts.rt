@@ -1,12 +1,11 @@
 //! Calls that take memory, at full size: what no clause says is that they succeed.
 
-use crate::cut_pieces::{are_stairs_of, is_whole_cut_after, piece_of};
-use crate::following::new_analyst;
-use chunk_join::{Analyst, Piece};
+use chunk_join::{Analyst, Joined, Piece};
 use std::alloc::Global;
 use std::test::Fail;
 use step_trace::Trace;
-use test_support::stair_levels::has_levels_at;
+use suffix_staircase::Stairs;
+use test_support::stair_levels::{has_levels_at, same_stairs};
 use test_support::traces::{both, empty_trace, step_of};
 
 /// So many steps, in which 1 and 2 take turns to send to each other.
@@ -30,7 +29,7 @@ fn sent(alloc: Global, count: u64) -> Result<Trace, Fail> {
 }
 
 /// So many messages go from 1 to 2, which then takes one after the other.
-pub(crate) fn sent_and_then_taken(alloc: Global, count: u64) -> Result<Trace, Fail> {
+fn sent_and_then_taken(alloc: Global, count: u64) -> Result<Trace, Fail> {
     let mut trace = sent(alloc, count)?;
     take_all(alloc, &mut trace, count)?;
     Ok(trace)
@@ -43,6 +42,40 @@ fn take_all(alloc: Global, trace: &mut Trace, count: u64) -> Result<(), Fail> {
     Ok(())
 }
 
+/// The piece of these ticks for 1 and 2, if the trace has them.
+fn piece_of(alloc: Global, trace: &Trace, from: u64, to: u64) -> Result<Piece, Fail> {
+    if from == 0 || from - 1 > to || to > trace.last_tick() {
+        return Err(Fail::new("no part of the trace"));
+    }
+    Ok(Piece::of(alloc, trace, both(), from, to)?)
+}
+
+/// Whether the stairs of a piece are those of the trace.
+fn are_stairs_of(alloc: Global, whole: &Piece, trace: &Trace) -> Result<bool, Fail> {
+    let set = both();
+    if !set.within(trace.config().n()) {
+        return Ok(false);
+    }
+    let stairs = Stairs::of_trace(alloc, trace, set)?;
+    match whole.finish(alloc) {
+        Ok(finished) => Ok(same_stairs(&finished, &stairs)),
+        Err(_) => Ok(false),
+    }
+}
+
+/// Whether a trace that is cut in two after this tick has its stairs.
+fn is_whole_cut_after(alloc: Global, trace: &Trace, cut: u64) -> Result<bool, Fail> {
+    if cut > trace.last_tick() {
+        return Ok(false);
+    }
+    let left = piece_of(alloc, trace, 1, cut)?;
+    let right = piece_of(alloc, trace, cut + 1, trace.last_tick())?;
+    match left.join(right) {
+        Ok(whole) => are_stairs_of(alloc, &whole, trace),
+        Err(_) => Ok(false),
+    }
+}
+
 fn climbs_at(alloc: Global, whole: &Piece, levels: &[(u64, [u64; 7])]) -> bool {
     match whole.finish(alloc) {
         Ok(stairs) => has_levels_at(&stairs, levels),
@@ -52,8 +85,8 @@ fn climbs_at(alloc: Global, whole: &Piece, levels: &[(u64, [u64; 7])]) -> bool {
 
 /// Whether the piece of all its ticks has the stairs of a trace, and these levels at these ticks.
 fn is_summarised(alloc: Global, trace: &Trace, levels: &[(u64, [u64; 7])]) -> Result<bool, Fail> {
-    let whole = piece_of(alloc, trace, both(), 1, trace.last_tick())?;
-    Ok(are_stairs_of(alloc, &whole, trace, both())? && climbs_at(alloc, &whole, levels))
+    let whole = piece_of(alloc, trace, 1, trace.last_tick())?;
+    Ok(are_stairs_of(alloc, &whole, trace)? && climbs_at(alloc, &whole, levels))
 }
 
 /// No message is missed, since nobody receives. Both are silent in every other tick, and 1 in the last one.
@@ -91,6 +124,12 @@ fn pieces_of_half_a_million_messages(rt: HostRuntime) -> Result<(), Fail> {
     assert!(rt; is_summarised(rt.alloc(), &trace, BY_HALVES)?);
     assert!(rt; is_whole_cut_after(rt.alloc(), &trace, 500_000)?);
     Ok(())
+}
+
+/// An analyst for processors 1 and 2 of two, who was fed nothing yet.
+fn new_analyst(alloc: Global) -> Result<Analyst, Fail> {
+    let opening = empty_trace(alloc, 2)?;
+    Ok(Analyst::new(alloc, opening.config().copy(alloc)?, both()))
 }
 
 /// Nobody receives, and 2 doesn't step.

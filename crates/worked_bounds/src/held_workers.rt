@@ -7,7 +7,7 @@ use std::test::Fail;
 use std::thread::Threads;
 use step_trace::Gate;
 use step_trace::meeting::MeetingGate;
-use test_support::traces::{both, never_delivered};
+use test_support::traces::{both, ticked};
 
 /// A gate that holds one worker back.
 #[derive(Drop)]
@@ -19,14 +19,23 @@ impl Gate for GateShutTo {
     }
 }
 
-/// Why never-delivered is not analysed.
+/// Message 1 goes from 1 to 2, which receives three times, but never that message.
+const NEVER_DELIVERED: &[(u64, u64, u64, &[u64])] = &[
+    (1, 1, 2, &[]),
+    (2, 2, 0, &[]),
+    (3, 1, 2, &[]),
+    (4, 2, 0, &[3]),
+    (5, 2, 0, &[]),
+];
+
+/// Why that is not analysed.
 fn why<R: Threads + Wait + Sync, G: Gate>(
     rt: &R,
     alloc: Global,
     workers: u64,
     gate: &G,
 ) -> Result<Option<AnalyseError>, Fail> {
-    let (trace, set) = (never_delivered(alloc)?, both());
+    let (trace, set) = (ticked(alloc, 2, NEVER_DELIVERED, 5)?, both());
     if !set.within(trace.config().n()) {
         return Err(Fail::new("a processor that the trace hasn't"));
     }

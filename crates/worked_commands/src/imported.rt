@@ -37,6 +37,7 @@ fn imported(
         spread: true,
         align: false,
         drop_lost: false,
+        merge: false,
     };
     let device = FailingReader::new(LOG.as_bytes(), 7, AfterBytes::End);
     let mut reader = Counting::new(device);

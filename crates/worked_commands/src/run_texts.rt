@@ -1,4 +1,4 @@
-//! What is written of a run: the text of its trace, and the lines about it.
+//! What is written of a run: the text of its trace.
 
 use std::alloc::Global;
 use step_buffers::replay;
@@ -9,9 +9,4 @@ pub(crate) fn steps_of(alloc: Global, text: &[u8]) -> Option<usize> {
     let trace = read_trace(alloc, text).ok()?;
     let world = replay(alloc, &trace).ok()?;
     Some(world.trace().len())
-}
-
-/// The last line of a text, without its line feed.
-pub(crate) fn last_line(text: &[u8]) -> Option<&str> {
-    std::str::from_utf8(text).ok()?.lines().last()
 }

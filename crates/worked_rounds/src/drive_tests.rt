@@ -1,6 +1,6 @@
 //! Drives of one seat.
 
-use crate::seats::{did, opened};
+use crate::seats::opened;
 use locked_recorder::{DriveError, DriveStop, RecordError, Recorder, Seat};
 use std::alloc::Global;
 use std::sync::Wait;
@@ -8,15 +8,6 @@ use std::sync::atomic::{AtomicU64, Ordering};
 use std::test::Fail;
 use step_buffers::{Done, StepError};
 use step_trace::{Act, Gate};
-
-/// A gate that holds everybody back.
-struct ClosedGate;
-
-impl Gate for ClosedGate {
-    fn enter(&self, _who: u64) -> bool {
-        false
-    }
-}
 
 /// A gate that lets everybody in, and counts how often it is entered.
 #[derive(Drop)]
@@ -84,25 +75,5 @@ fn a_drive_goes_round(rt: HostRuntime) -> Result<(), Fail> {
     assert!(rt; stops(&rt, alloc, &recorder, &mut seats[0], &gate, 3, full));
     assert!(rt; gate.entered.load(Ordering::SeqCst) == 1);
     assert!(rt; went_round(&seats[0]));
-    Ok(())
-}
-
-#[test]
-fn a_drive_is_held(rt: HostRuntime) -> Result<(), Fail> {
-    let alloc = rt.alloc();
-    let (recorder, mut seats) = opened(&rt, alloc, 1, 0, &[5, 7], 3)?;
-    assert!(rt; !seats.is_empty());
-    assert!(rt;
-        stops(
-            &rt,
-            alloc,
-            &recorder,
-            &mut seats[0],
-            &ClosedGate,
-            0,
-            DriveStop::Held
-        )
-    );
-    assert!(rt; did(&seats[0], 0));
     Ok(())
 }

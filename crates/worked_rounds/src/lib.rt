@@ -5,8 +5,6 @@
 #![tactic(auto)]
 
 #[cfg(test)]
-mod copy_tests;
-#[cfg(test)]
 mod decision_tests;
 #[cfg(test)]
 mod drive_tests;
@@ -28,8 +26,6 @@ mod quorum_tests;
 mod refusal_tests;
 #[cfg(test)]
 mod refused_recordings;
-#[cfg(test)]
-mod replay_tests;
 #[cfg(test)]
 mod run_tests;
 #[cfg(test)]

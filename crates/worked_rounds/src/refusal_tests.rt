@@ -5,7 +5,6 @@ use std::alloc::Global;
 use std::process::Abort;
 use std::test::Fail;
 use step_buffers::{Move, StepError, Take, World};
-use step_trace::Config;
 
 /// Whether a move is refused for this reason, by `step` and by `advance`, and the trace is unchanged.
 fn refuses(alloc: Global, world: &mut World, p: u64, step: Move, why: StepError) -> bool {
@@ -97,14 +96,5 @@ fn the_oldest_are_taken(rt: HostRuntime) -> Result<(), Fail> {
     for &(take, no, left) in TAKES {
         assert!(rt; leaves(&rt, alloc, &mut world, take, no, left), "step {no}");
     }
-    Ok(())
-}
-
-#[test]
-fn no_step_is_made_without_room(rt: HostRuntime) -> Result<(), Fail> {
-    let alloc = rt.alloc();
-    let config = Config::new(2, 0, vec![in alloc; 5, 7]?)?;
-    let mut world = World::new(alloc, config, 0)?;
-    assert!(rt; refuses(alloc, &mut world, 3, Move::Send, StepError::Full));
     Ok(())
 }

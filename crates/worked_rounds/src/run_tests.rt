@@ -1,7 +1,7 @@
 //! Worked runs, and what becomes of their nodes.
 
 use crate::long_scripts::{DECIDES_SEVEN, LOST_LOCK, NO_PROPOSAL};
-use crate::scripts::{E, R, Row, S, Stand, advances, all_hold, all_stand, copy_holds, ran, world};
+use crate::scripts::{E, R, Row, S, Stand, all_hold, all_stand, ran};
 use std::test::Fail;
 
 /// Message 1 is of 2, and comes after the end of round 1; message 2 is of 1 itself.
@@ -105,24 +105,5 @@ fn runs_end_so(rt: HostRuntime) -> Result<(), Fail> {
         assert!(rt; all_stand(&rt, &world, stands), "{stands:?}");
         assert!(rt; all_hold(&rt, &world, proper, locks), "{proper:?}");
     }
-    Ok(())
-}
-
-#[test]
-fn a_copy_goes_on_alone(rt: HostRuntime) -> Result<(), Fail> {
-    let alloc = rt.alloc();
-    let world = ran(&rt, alloc, 0, &[5, 7], &[&EARLY])?;
-    assert!(rt; copy_holds(&rt, alloc, &world, &EARLY_HEARD, 1, &[5, 7])?);
-    assert!(rt; all_stand(&rt, &world, &[(1, 4, None), (2, 4, None)]));
-    Ok(())
-}
-
-#[test]
-fn steps_that_are_not_told_are_the_same(rt: HostRuntime) -> Result<(), Fail> {
-    let alloc = rt.alloc();
-    let told = ran(&rt, alloc, 1, &[5, 7, 7], &[&DECIDES_SEVEN])?;
-    let mut world = world(alloc, 1, &[5, 7, 7])?;
-    assert!(rt; advances(&rt, alloc, &mut world, &DECIDES_SEVEN));
-    assert!(rt; world.trace().begins(told.trace()) && told.trace().begins(world.trace()));
     Ok(())
 }

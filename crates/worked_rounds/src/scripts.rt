@@ -1,11 +1,10 @@
-//! Lists of steps, how a World makes them or a trace records them, and the states of a World's processors
-//! afterwards.
+//! Lists of steps, how a World makes them, and the states of its processors afterwards.
 
-use std::alloc::{AllocError, Global};
+use std::alloc::Global;
 use std::process::Abort;
 use std::test::Fail;
 use step_buffers::{Move, Take, World};
-use step_trace::{Act, Config, MessageIds, Step, Trace};
+use step_trace::Config;
 
 /// What a processor does: a Send; a Receive; or a Receive that ends its round.
 pub const S: u64 = 0;
@@ -14,15 +13,14 @@ pub const R: u64 = 1;
 
 pub const E: u64 = 2;
 
-/// A step to be made: the processor, what it does, and how many of these ids it takes. A Send that is to be
-/// recorded has its destination in their place.
+/// A step to be made: the processor, what it does, and how many of these ids it takes.
 pub type Row = (u64, u64, usize, [u64; 3]);
 
 /// The state of a processor: its round and its decision.
 pub type Stand = (u64, u64, Option<u64>);
 
 /// The World of this configuration, which may make a hundred steps.
-pub fn world(alloc: Global, t: u64, init: &[u64]) -> Result<World, Fail> {
+fn world(alloc: Global, t: u64, init: &[u64]) -> Result<World, Fail> {
     let init = Vec::from_slice(alloc, init)?;
     let config = Config::new(init.len() as u64, t, init)?;
     Ok(World::new(alloc, config, 100)?)
@@ -42,19 +40,9 @@ fn move_of<'a>(rt: &impl Abort, row: &'a Row) -> Move<'a> {
 }
 
 /// Makes these steps, and says whether all were made.
-pub fn makes(rt: &impl Abort, alloc: Global, world: &mut World, rows: &[Row]) -> bool {
+fn makes(rt: &impl Abort, alloc: Global, world: &mut World, rows: &[Row]) -> bool {
     for row in rows {
         if world.step(alloc, row.0, move_of(rt, row)).is_err() {
-            return false;
-        }
-    }
-    true
-}
-
-/// Makes these steps without asking what was done, and says whether all were made.
-pub fn advances(rt: &impl Abort, alloc: Global, world: &mut World, rows: &[Row]) -> bool {
-    for row in rows {
-        if world.advance(alloc, row.0, move_of(rt, row)).is_err() {
             return false;
         }
     }
@@ -76,59 +64,6 @@ pub fn ran(
     Ok(world)
 }
 
-/// Appends these steps to a trace, and says whether they all fit.
-pub fn records(
-    rt: &impl Abort,
-    alloc: Global,
-    trace: &mut Trace,
-    rows: &[Row],
-) -> Result<bool, AllocError> {
-    for (p, does, count, numbers) in rows {
-        assert!(rt; *count <= 3);
-        let act = if *does == S {
-            Act::Send { to: numbers[0] }
-        } else {
-            Act::Receive {
-                ends: *does == E,
-                ids: MessageIds::new(alloc, Vec::from_slice(alloc, &numbers[..*count])?)?,
-            }
-        };
-        if trace.push(Step { proc: *p, act }).is_err() {
-            return Ok(false);
-        }
-    }
-    Ok(true)
-}
-
-/// The trace of this configuration with the steps of these scripts.
-pub fn recorded(
-    rt: &impl Abort,
-    alloc: Global,
-    t: u64,
-    init: &[u64],
-    scripts: &[&[Row]],
-) -> Result<Trace, Fail> {
-    let init = Vec::from_slice(alloc, init)?;
-    let mut trace = Trace::new(alloc, Config::new(init.len() as u64, t, init)?);
-    for rows in scripts {
-        assert!(rt; records(rt, alloc, &mut trace, *rows)?);
-    }
-    Ok(trace)
-}
-
-/// Whether a copy of a World makes these steps, and then holds these values for a processor.
-pub fn copy_holds(
-    rt: &impl Abort,
-    alloc: Global,
-    world: &World,
-    rows: &[Row],
-    p: u64,
-    proper: &[u64],
-) -> Result<bool, Fail> {
-    let mut copy = world.copy(alloc)?;
-    Ok(makes(rt, alloc, &mut copy, rows) && holds(rt, &copy, p, proper, &[]))
-}
-
 /// Whether each of these processors has this state.
 pub fn all_stand(rt: &impl Abort, world: &World, rows: &[Stand]) -> bool {
     for (p, round, decision) in rows {
@@ -141,7 +76,7 @@ pub fn all_stand(rt: &impl Abort, world: &World, rows: &[Stand]) -> bool {
 }
 
 /// Whether the node of a processor has these proper values and these locks.
-pub fn holds(rt: &impl Abort, world: &World, p: u64, proper: &[u64], locks: &[(u64, u64)]) -> bool {
+fn holds(rt: &impl Abort, world: &World, p: u64, proper: &[u64], locks: &[(u64, u64)]) -> bool {
     assert!(rt; world.trace().config().is_processor(p));
     let node = world.node(p);
     node.proper() == proper && node.locks() == locks

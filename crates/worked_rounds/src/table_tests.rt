@@ -1,9 +1,9 @@
 //! Worked tables. There are three processors of which one may be faulty.
 
 use crate::tables::{
-    all_decide, all_heard, have_decisions, hear, heard_by_three, hold, pair_in_touch, run,
+    all_decide, all_heard, have_decisions, heard_by_three, hold, pair_in_touch, run,
 };
-use round_model::{Heard, MAX_ROUNDS};
+use round_model::MAX_ROUNDS;
 use std::alloc::Global;
 use std::process::Abort;
 use std::test::Fail;
@@ -158,24 +158,4 @@ fn a_pair_decides_by_the_bound(rt: HostRuntime) -> Result<(), Fail> {
         assert!(rt; all_decide(&rt, rt.alloc(), (1, DIFFERENT), &heard, &decisions)?);
     }
     Ok(())
-}
-
-#[test]
-fn sets_of_a_table(rt: HostRuntime) -> Result<(), Fail> {
-    let mut heard = Heard::new(rt.alloc(), 3, 2)?;
-    assert!(rt; heard.n() == 3 && heard.rounds() == 2);
-    hear(&rt, &mut heard, 2, 1, &[3]);
-    for (round, proc) in [(1, 1), (1, 2), (1, 3), (2, 1), (2, 2), (2, 3)] {
-        assert!(rt; hears(&heard, round, proc, 3) == ((round, proc) == (2, 1)));
-        assert!(rt; !hears(&heard, round, proc, 1));
-    }
-    Ok(())
-}
-
-fn hears(heard: &Heard, round: u64, proc: u64, sender: u64) -> bool {
-    1 <= round
-        && round <= heard.rounds()
-        && 1 <= proc
-        && proc <= heard.n()
-        && heard.get(round, proc).contains(sender)
 }

@@ -21,7 +21,7 @@ fn all_of(n: u64) -> ProcSet
 }
 
 /// Makes these the senders that a processor hears in a round.
-pub fn hear(rt: &impl Abort, heard: &mut Heard, round: u64, proc: u64, senders: &[u64]) {
+fn hear(rt: &impl Abort, heard: &mut Heard, round: u64, proc: u64, senders: &[u64]) {
     let mut set = ProcSet::empty();
     for p in senders {
         assert!(rt; 1 <= *p && *p <= heard.n());
