@@ -21,7 +21,7 @@ def main():
     words.add_argument("page")
     words.add_argument("picture")
     words.add_argument("--width", type=int, default=1280)
-    words.add_argument("--height", type=int, default=920)
+    words.add_argument("--height", type=int, default=790)
     words = words.parse_args()
     command = installed()
     if not command:
