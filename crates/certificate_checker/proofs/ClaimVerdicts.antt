@@ -6,18 +6,10 @@ use Rattle.std.proofs.lemmas.Bool.{eqb-true}
 use Rattle.std.proofs.lemmas.Bool.Decides.{nat_tests}
 use Rattle.std.proofs.lemmas.List.{append-nil, length-append}
 use Rattle.std.proofs.lemmas.Option.{none-some}
-use Rattle.step_trace.specs.declared.rows.Row.{Row}
-use Rattle.step_trace.specs.Traces.{Recorded}
+use Rattle.certificate_checker.proofs.Common.{Row, Recorded, Reason, FirstNotOne, NotRising, BeyondEnd, No, row_at, IsFirst, IsFirstReason, HasRow, HasTwoRows, IsVerdict, slice_get-push_cases, slice_get-push_old, slice_get-last}
 use Rattle.certificate_checker.specs.declared.claims.ClaimedRows.{ClaimedRows}
 use Rattle.certificate_checker.specs.declared.claims.ClaimedRows.TheVariants.{InOrder, Beyond, Refuted}
-use Rattle.certificate_checker.specs.declared.verdicts.Reason.{Reason}
-use Rattle.certificate_checker.specs.declared.verdicts.Reason.TheVariants.{FirstNotOne, NotRising, BeyondEnd}
-use Rattle.certificate_checker.specs.declared.verdicts.Verdict.TheVariants.{No}
-use Rattle.certificate_checker.specs.Certificates.{row_at}
 use Rattle.certificate_checker.specs.Claims.{claimed, count_of, last_gst, next_beyond, next_in_order, risen, with_row, with_rows}
-use Rattle.certificate_checker.specs.Searches.{IsFirst, IsFirstReason}
-use Rattle.certificate_checker.specs.Verdicts.{HasRow, HasTwoRows, IsVerdict}
-use Rattle.step_trace.proofs.StepPositions.{slice_get-push_cases, slice_get-push_old, slice_get-last}
 use Rattle.certificate_checker.proofs.ReasonOrder.{first_after, first_in, none_in, some_rows, verdict_some}
 use Rattle.certificate_checker.proofs.RowSearches.{no_row, row_at_next, row_at_within}
 

@@ -2,12 +2,7 @@
 use Rattle.std.proofs.Common.{ℕ, ◌≡◌, ◌+◌, ◌<◌, ◌≤◌, inl, inr, List, IsTrue, length, get_or, sym, subst, ◌∙◌, arith}
 use Rattle.std.proofs.lemmas.Bool.{cases_eq, cases_lt, lt-ltb, le-ltb}
 use Rattle.std.proofs.lemmas.List.{get_or_default}
-use Rattle.step_trace.specs.Processors.{has_proc, IsWithin}
-use Rattle.step_trace.specs.Traces.{Recorded}
-use Rattle.step_trace.specs.Ticks.{IsTimed, StepsIn}
-use Rattle.certificate_checker.specs.declared.silences.Silence.{Silence}
-use Rattle.certificate_checker.specs.Silences.{IsNextStep, IsSilence}
-use Rattle.certificate_checker.specs.Closings.{HasSilent, AreClosings, IsReached, PutsEnds, KnowsEnds, IsRaised, IsCarried}
+use Rattle.certificate_checker.proofs.Common.{has_proc, IsWithin, Recorded, IsTimed, StepsIn, Silence, IsNextStep, IsSilence, HasSilent, AreClosings, IsReached, PutsEnds, KnowsEnds, IsRaised, IsCarried}
 use Rattle.certificate_checker.proofs.NextSteps.{ArePassed, IsNextStep-at, IsNextStep-none}
 
 -- what is reached is reached if no end is taken away
@@ -53,14 +48,12 @@ AreBefore s i from = (k : ℕ) → k < i → get_or s.ticks.items k 0 < from
 passed_from : (t : Recorded) (p i from x : ℕ) (s : Silence) → IsSilence t p s → AreBefore s i from → i ≤ length s.ticks.items → from ≤ x → (i < length s.ticks.items → x ≤ get_or s.ticks.items i 0) → ArePassed x i s
 passed_from t p i from x s known before size late upto = (
   (λ k d low below.
-      let l = before k below in
       let e = get_or_default s.ticks.items k 0 d (omega (arith, below, size)) in
-      lt-ltb _ _ (omega (arith, l, e, late))),
+      lt-ltb _ _ (omega (arith, before k below, e, late))),
   (λ k d low inside.
-      let rising = known.rising i k d low inside in
       let e = get_or_default s.ticks.items i 0 d (omega (arith, low, inside)) in
       let high = upto (omega (arith, low, inside)) in
-      le-ltb _ _ (omega (arith, rising, e, high))),
+      le-ltb _ _ (omega (arith, known.rising i k d low inside, e, high))),
 )
 
 -- with the end of the silence before the next tick
@@ -69,12 +62,11 @@ pub PutsEnds-tick : (t : Recorded) (p i from tick : ℕ) (s : Silence) (old mid 
 PutsEnds-tick t p i from tick s old mid new time known size before inside at k raised =
     let own = known.own i 0 inside in
     let limit = (time.inside own.place _ own.step.1).1 in
-    let e = own.tick in
     let next = λ (x : ℕ) (late : from ≤ x) (below : x < tick + 1).
     subst (λ (y : ℕ). IsNextStep t p x y) (sym at) (IsNextStep-at t p x i s time known (passed_from t p i from x s known before (omega (arith, inside)) late (λ _. omega (arith, below, at))) inside) in
-    PutsEnds-raise t p from tick (tick + 1) old mid new size k raised (omega (arith, limit, e, at))
+    PutsEnds-raise t p from tick (tick + 1) old mid new size k raised (omega (arith, limit, own.tick, at))
     (λ z a b. elim (cases_lt from tick) [
-      | inl some ↦ (next from (omega arith) (omega (arith, some))).silent z a b
+      | inl some ↦ (next from (omega (arith, own.tick)) (omega (arith, some))).silent z a b
       | inr none ↦ absurd (omega (arith, none, a, b))
     ])
     (λ x late below _. next x late below)
@@ -124,10 +116,8 @@ AreClosings-carried set t number ends new within all k carried = record {
         from = latest.from;
         until = elim (cases_lt x (get_or new x 0)) [
           | inl some ↦ (let o = latest.own some in
-              let low = o.1 in
-              let e = o.2 in
-              let limit = (k.silent o.0 (omega (arith, low, e, some))).1 in
-              omega (arith, limit, e))
+              let limit = (k.silent o.0 (omega (arith, o.1, o.2, some))).1 in
+              omega (arith, limit, o.2))
           | inr none ↦ omega (arith, none, inside)
         ];
         full = λ high p member. (let r = k.reach p member (let range = within p member in omega (arith, range, all)) x inside in

@@ -1,19 +1,7 @@
 -- No reason holds against the report.
-use Rattle.std.proofs.Common.{ℕ, ◌≡◌, ◌+◌, ◌-◌, ◌≤◌, ◌⊎◌, inl, inr, List, Option, Some, None, arith}
+use Rattle.std.proofs.Common.{ℕ, ◌≡◌, ◌+◌, ◌-◌, ◌<◌, ◌≤◌, inl, inr, List, Option, Some, None, arith}
 use Rattle.std.proofs.lemmas.Bool.{cases_lt}
-use Rattle.step_trace.specs.declared.rows.Miss.{Miss}
-use Rattle.step_trace.specs.declared.rows.Gap.{Gap}
-use Rattle.step_trace.specs.declared.rows.Row.{Row}
-use Rattle.step_trace.specs.Traces.{Recorded}
-use Rattle.step_trace.specs.Ticks.{tick_of}
-use Rattle.step_trace.specs.Bounds.{DeltaHolds, PhiHolds, IsDelta, IsPhi}
-use Rattle.step_trace.specs.Witnesses.{NamesMiss, NamesGap, MissRefutes, GapRefutes}
-use Rattle.step_trace.specs.Fronts.{IsReport}
-use Rattle.step_trace.proofs.BoundLaws.{MissRefutes-sound, GapRefutes-sound}
-use Rattle.certificate_checker.specs.declared.verdicts.Reason.{Reason}
-use Rattle.certificate_checker.specs.Certificates.{row_at, after_stretch, ShowsDelta, ShowsPhi, IsLongestMiss, IsLongestGap}
-use Rattle.certificate_checker.specs.Verdicts.{Stands}
-use Rattle.certificate_checker.proofs.DecidedBounds.{delta_or_longest, phi_or_longest}
+use Rattle.certificate_checker.proofs.Common.{Miss, Gap, Row, Recorded, tick_of, DeltaHolds, PhiHolds, IsDelta, IsPhi, NamesMiss, NamesGap, IsReport, MissRefutes-sound, GapRefutes-sound, DeltaHolds-unrefuted, PhiHolds-unrefuted, Reason, row_at, after_stretch, ShowsDelta, ShowsPhi, Stands}
 use Rattle.certificate_checker.proofs.RowPlaces.{Contains-row_at}
 use Rattle.certificate_checker.proofs.FrontRows.{AreTheFront, last_served, least_served, IsUnopposed-front}
 
@@ -23,33 +11,43 @@ AreTheFront-report set trace rows report = record { rising = report.rising; soun
 -- the named miss of a row is of a message that is sent at the end of its stretch or later
 ShowsDelta-named : (set : ℕ) (trace : Recorded) (g h d : ℕ) (o : Option Miss) → g ≤ h → IsDelta set trace h d → NamesMiss set trace g d o → ShowsDelta set trace (h + 1) d o
 ShowsDelta-named set trace g h d None l least names = names
-ShowsDelta-named set trace g h d (Some m) l least names = (names.0, names.1.miss, names.1.long, reaches (delta_or_longest set trace h (d - 1) (omega (arith, names.0)))) where
-  reaches : DeltaHolds set trace h (d - 1) ⊎ ((x : Miss) × IsLongestMiss set trace h x × MissRefutes set trace h (d - 1) x) → h + 1 ≤ tick_of trace m.sent + 1
-  reaches (inl holds) = absurd (let e = least.least (d - 1) (omega (arith, names.0)) holds in omega (arith, e, names.0))
-  reaches (inr (x, longest, refutes)) =
+ShowsDelta-named set trace g h d (Some m) l least names = (names.0, names.1.miss, names.1.long, reaches) where
+  holds : tick_of trace m.sent < h → DeltaHolds set trace h (d - 1)
+  holds early = DeltaHolds-unrefuted set trace h (d - 1) (omega (arith, names.0)) (λ x refutes.
       let from = refutes.from in
       let long = refutes.long in
       elim (cases_lt (tick_of trace x.missed) (tick_of trace x.sent + d)) [
-        | inr longer ↦ absurd (MissRefutes-sound set trace h d x (record { miss = refutes.miss; from = from; long = longer }) least.holds)
+        | inr longer ↦ MissRefutes-sound set trace h d x (record { miss = refutes.miss; from = from; long = longer }) least.holds
         | inl short ↦ (
             let latest = names.1.latest x refutes.miss (omega (arith, l, from)) (omega (arith, short, long, names.0)) in
-            omega (arith, latest, from))
-      ]
+            omega (arith, latest, from, early))
+      ])
+
+  reaches : h + 1 ≤ tick_of trace m.sent + 1
+  reaches = elim (cases_lt (tick_of trace m.sent) h) [
+    | inl early ↦ absurd (omega (arith, least.least (d - 1) (omega (arith, names.0)) (holds early), names.0))
+    | inr late ↦ omega (arith, late)
+  ]
 
 ShowsPhi-named : (set : ℕ) (trace : Recorded) (g h f : ℕ) (o : Option Gap) → 1 ≤ g → g ≤ h → IsPhi set trace h f → NamesGap set trace g f o → ShowsPhi set trace (h + 1) f o
 ShowsPhi-named set trace g h f None start l least names = names
-ShowsPhi-named set trace g h f (Some w) start l least names = (names.0, names.1.gap, names.1.long, reaches (phi_or_longest set trace h (f - 1) (omega (arith, start, l)) (omega (arith, names.0)))) where
-  reaches : PhiHolds set trace h (f - 1) ⊎ ((x : Gap) × IsLongestGap set trace h x × GapRefutes set trace h (f - 1) x) → h + 1 ≤ w.from + 1
-  reaches (inl holds) = absurd (let e = least.least (f - 1) (omega (arith, names.0)) holds in omega (arith, e, names.0))
-  reaches (inr (x, longest, refutes)) =
+ShowsPhi-named set trace g h f (Some w) start l least names = (names.0, names.1.gap, names.1.long, reaches) where
+  holds : w.from < h → PhiHolds set trace h (f - 1)
+  holds early = PhiHolds-unrefuted set trace h (f - 1) (omega (arith, start, l)) (omega (arith, names.0)) (λ x refutes.
       let from = refutes.from in
       let long = refutes.long in
       elim (cases_lt (x.to + 1) (x.from + f)) [
-        | inr longer ↦ absurd (GapRefutes-sound set trace h f x (record { gap = refutes.gap; from = from; long = longer }) least.holds)
+        | inr longer ↦ GapRefutes-sound set trace h f x (record { gap = refutes.gap; from = from; long = longer }) least.holds
         | inl short ↦ (
             let latest = names.1.greatest x refutes.gap (omega (arith, l, from)) (omega (arith, short, long, names.0)) in
-            omega (arith, latest, from))
-      ]
+            omega (arith, latest, from, early))
+      ])
+
+  reaches : h + 1 ≤ w.from + 1
+  reaches = elim (cases_lt w.from h) [
+    | inl early ↦ absurd (omega (arith, least.least (f - 1) (omega (arith, names.0)) (holds early), names.0))
+    | inr late ↦ omega (arith, late)
+  ]
 
 -- the witnesses of a report show, all over each stretch, that no smaller positive bounds hold
 ShowsDelta-report : (set : ℕ) (trace : Recorded) (rows : List Row) (k : ℕ) (r : Row) → IsReport set trace rows → row_at rows k ≡ Some r → ShowsDelta set trace (after_stretch rows trace.last k) r.delta r.miss

@@ -1,17 +1,7 @@
 -- Rows that no reason refutes are the certificates that name nothing beside the bound 1.
 use Rattle.std.proofs.Common.{ℕ, ◌≡◌, ◌+◌, ◌-◌, ◌<◌, inl, inr, List, Option, Some, None, refl, arith}
 use Rattle.std.proofs.lemmas.Bool.{cases_lt, cases_eq}
-use Rattle.step_trace.specs.declared.rows.Miss.{Miss}
-use Rattle.step_trace.specs.declared.rows.Gap.{Gap}
-use Rattle.step_trace.specs.declared.rows.Row.{Row}
-use Rattle.step_trace.specs.Traces.{Recorded}
-use Rattle.step_trace.specs.Ticks.{tick_of}
-use Rattle.step_trace.specs.Bounds.{IsDelta, IsPhi}
-use Rattle.step_trace.specs.Witnesses.{MissRefutes, GapRefutes}
-use Rattle.step_trace.proofs.BoundLaws.{MissRefutes-sound, GapRefutes-sound}
-use Rattle.certificate_checker.specs.declared.verdicts.Reason.{Reason}
-use Rattle.certificate_checker.specs.Certificates.{row_at, after_stretch, ShowsDelta, ShowsPhi, Certifies, NamesNothingBesideOne}
-use Rattle.certificate_checker.specs.Verdicts.{Stands}
+use Rattle.certificate_checker.proofs.Common.{Miss, Gap, Row, Recorded, tick_of, IsDelta, IsPhi, MissRefutes, GapRefutes, MissRefutes-sound, GapRefutes-sound, Reason, row_at, after_stretch, ShowsDelta, ShowsPhi, Certifies, NamesNothingBesideOne, Stands}
 use Rattle.certificate_checker.proofs.RowPlaces.{Contains-row_at, row_at-from_Contains}
 use Rattle.certificate_checker.proofs.FrontRows.{AreTheFront, last_served, least_served, IsUnopposed-front}
 use Rattle.certificate_checker.proofs.Soundness.{IsSupported-unopposed}
@@ -40,23 +30,21 @@ NamesNothingBesideOne-unopposed set trace rows nothing = record {
 ShowsDelta-refuting : (set : ℕ) (trace : Recorded) (h d : ℕ) (m : Miss) → 1 < d → IsDelta set trace h d → MissRefutes set trace h (d - 1) m → ShowsDelta set trace (h + 1) d (Some m)
 ShowsDelta-refuting set trace h d m more least refutes =
     let from = refutes.from in
-    let long = refutes.long in
     let short : tick_of trace m.missed < tick_of trace m.sent + d = elim (cases_lt (tick_of trace m.missed) (tick_of trace m.sent + d)) [
       | inl l ↦ l
       | inr longer ↦ absurd (MissRefutes-sound set trace h d m (record { miss = refutes.miss; from = from; long = longer }) least.holds)
     ] in
-    (more, refutes.miss, omega (arith, long, short, more), omega (arith, from))
+    (more, refutes.miss, omega (arith, refutes.long, short, more), omega (arith, from))
 
 -- and so does a gap
 ShowsPhi-refuting : (set : ℕ) (trace : Recorded) (h f : ℕ) (w : Gap) → 1 < f → IsPhi set trace h f → GapRefutes set trace h (f - 1) w → ShowsPhi set trace (h + 1) f (Some w)
 ShowsPhi-refuting set trace h f w more least refutes =
     let from = refutes.from in
-    let long = refutes.long in
     let short : w.to + 1 < w.from + f = elim (cases_lt (w.to + 1) (w.from + f)) [
       | inl l ↦ l
       | inr longer ↦ absurd (GapRefutes-sound set trace h f w (record { gap = refutes.gap; from = from; long = longer }) least.holds)
     ] in
-    (more, refutes.gap, omega (arith, long, short, more), omega (arith, from))
+    (more, refutes.gap, omega (arith, refutes.long, short, more), omega (arith, from))
 
 AreTheFront-certified : (set : ℕ) (trace : Recorded) (rows : List Row) → Certifies set trace rows → AreTheFront set trace rows
 AreTheFront-certified set trace rows certified = record { rising = certified.rising; sound = certified.sound; complete = certified.complete }

@@ -1,18 +1,7 @@
 -- Rows of which a bound doesn't hold, scanned from the last one back.
 use Rattle.std.proofs.Common.{ℕ, ◌≡◌, ◌+◌, ◌<◌, ◌≤◌, inl, inr, List, length, get_or, Option, Some, None, ap, subst, arith}
 use Rattle.std.proofs.lemmas.Bool.{cases_eq, cases_lt}
-use Rattle.step_trace.specs.declared.rows.Miss.{Miss}
-use Rattle.step_trace.specs.declared.rows.Row.{Row}
-use Rattle.step_trace.specs.Traces.{Recorded}
-use Rattle.step_trace.specs.Ticks.{tick_of}
-use Rattle.step_trace.specs.Bounds.{DeltaHolds}
-use Rattle.step_trace.proofs.BoundLaws.{MissRefutes-sound}
-use Rattle.step_trace.proofs.BoundDecisions.{DeltaHolds-unrefuted}
-use Rattle.certificate_checker.specs.declared.verdicts.Reason.TheVariants.{DeltaFails}
-use Rattle.certificate_checker.specs.Certificates.{row_at}
-use Rattle.certificate_checker.specs.Verdicts.{Stands}
-use Rattle.certificate_checker.specs.Searches.{IsFirstWith, AreInOrder}
-use Rattle.certificate_checker.specs.LongestWitnesses.{HasNoMissAfter, IsLongestMissAfter, span_of, AreFrom, AreBefore}
+use Rattle.certificate_checker.proofs.Common.{Miss, Row, IsMiss, Recorded, tick_of, DeltaHolds, MissRefutes-sound, DeltaHolds-unrefuted, DeltaFails, row_at, Stands, IsFirstWith, AreInOrder, HasNoMissAfter, IsLongestMissAfter, span_of, AreFrom, AreBefore}
 use Rattle.certificate_checker.proofs.RowSearches.{no_row, row_at_within, row_at_next, row_at_same}
 
 -- the first number after k of which this is so, with what it is so of
@@ -61,23 +50,26 @@ from_below t rows i after order inside from j r l e = AreFrom-earlier t after r.
 pub delta_row_low : (set : ℕ) (t : Recorded) (rows : List Row) (j : ℕ) (m : Miss) → Stands set t rows (DeltaFails j m) → 0 < j
 delta_row_low set t rows j m s = let w = row_at_within rows j s.0.row s.0.here in omega (arith, w)
 
+-- a miss of a message sent from tick g on is of one after the steps that are before it
+sent_after : (set : ℕ) (t : Recorded) (done g : ℕ) (o : Miss) → AreBefore t done g → IsMiss set t o
+    → g ≤ tick_of t o.sent → done < o.sent
+sent_after set t done g o below m from = elim (cases_lt done o.sent) [
+  | inl h ↦ h
+  | inr h ↦ absurd (omega (arith, below o.sent _ m.message.sent h, from))
+]
+
 -- the bound doesn't hold if the longest miss is as long
 pub delta_fails : (set : ℕ) (t : Recorded) (rows : List Row) (i done : ℕ) (w : Miss) → i < length rows → IsLongestMissAfter set t done w → AreFrom t done (get_or rows i no_row).gst → AreBefore t done (get_or rows i no_row).gst
     → (get_or rows i no_row).delta ≤ span_of t w → Stands set t rows (DeltaFails (i + 1) w)
 delta_fails set t rows i done w inside l above below long =
-    let from = above w.sent _ l.miss.message.sent l.after in
-    let late = l.miss.late in
-    let after = λ (o : ℕ) (x : _) (at : _) (g : (get_or rows i no_row).gst ≤ tick_of t o). elim (cases_lt done o) as (λ _. done < o) [
-      | inl h ↦ h
-      | inr h ↦ absurd (let b = below o x at h in omega (arith, b, g))
-    ] in (
+    let from = above w.sent _ l.miss.message.sent l.after in (
       record { row = get_or rows i no_row; here = row_at_next rows i no_row inside },
-      MissRefutes-sound set t _ _ w (record { miss = l.miss; from = from; long = omega (arith, long, late) }),
+      MissRefutes-sound set t _ _ w (record { miss = l.miss; from = from; long = omega (arith, long, l.miss.late) }),
       record {
         miss = l.miss;
         from = from;
-        longest = λ o m g. l.longest o m (after o.sent _ m.message.sent g);
-        greatest = λ o m g. l.greatest o m (after o.sent _ m.message.sent g);
+        longest = λ o m g. l.longest o m (sent_after set t done _ o below m g);
+        greatest = λ o m g. l.greatest o m (sent_after set t done _ o below m g);
       },
     )
 
@@ -85,11 +77,7 @@ delta_fails set t rows i done w inside l above below long =
 pub delta_stands_none : (set : ℕ) (t : Recorded) (rows : List Row) (i done : ℕ) → HasNoMissAfter set t done → AreBefore t done (get_or rows i no_row).gst → (m : Miss) → ¬ Stands set t rows (DeltaFails (i + 1) m)
 delta_stands_none set t rows i done none below m s =
     let same = ap (λ (r : Row). r.gst) (row_at_same rows i s.0.row no_row s.0.here) in
-    let from = s.2.from in
-    none m s.2.miss (elim (cases_lt done m.sent) [
-      | inl h ↦ h
-      | inr h ↦ absurd (let b = below m.sent _ s.2.miss.message.sent h in omega (arith, b, from, same))
-    ])
+    none m s.2.miss (sent_after set t done _ m below s.2.miss (omega (arith, s.2.from, same)))
 
 -- or if the longest is shorter than the bound
 pub delta_stands_short : (set : ℕ) (t : Recorded) (rows : List Row) (i done : ℕ) (w : Miss) → IsLongestMissAfter set t done w → AreBefore t done (get_or rows i no_row).gst → span_of t w < (get_or rows i no_row).delta
@@ -97,11 +85,5 @@ pub delta_stands_short : (set : ℕ) (t : Recorded) (rows : List Row) (i done : 
 delta_stands_short set t rows i done w l below short m s =
     let fails = subst (λ (r : Row). ¬ DeltaHolds set t r.gst r.delta) (row_at_same rows i s.0.row no_row s.0.here) s.1 in
     fails (DeltaHolds-unrefuted set t _ _ (omega (arith, short)) (λ o r.
-    let from = r.from in
-    let long = r.long in
-    let late = l.miss.late in
-    let most = l.longest o r.miss (elim (cases_lt done o.sent) [
-      | inl h ↦ h
-      | inr h ↦ absurd (let b = below o.sent _ r.miss.message.sent h in omega (arith, b, from))
-    ]) in
-    omega (arith, long, late, most, short)))
+    let most = l.longest o r.miss (sent_after set t done _ o below r.miss r.from) in
+    omega (arith, r.long, l.miss.late, most, short)))

@@ -2,20 +2,10 @@
 -- against them.
 use Rattle.std.proofs.Common.{ℕ, ◌≡◌, ◌+◌, ◌-◌, ◌<◌, ◌≤◌, inl, inr, List, [], ◌∷◌, map, Contains, Some, refl, ap, sym, ◌∙◌, subst, suc, zero, arith}
 use Rattle.std.specs.List.Sorted.{IsStrictlyIncreasing}
-use Rattle.std.proofs.lemmas.Bool.{cases_eq}
+use Rattle.std.proofs.lemmas.Bool.{cases_eq, cases_lt}
 use Rattle.std.proofs.lemmas.Option.{none-some, same_Some}
-use Rattle.step_trace.specs.declared.rows.Row.{Row}
-use Rattle.step_trace.specs.Traces.{Recorded}
-use Rattle.step_trace.specs.Bounds.{DeltaHolds, PhiHolds, IsDelta, IsPhi}
-use Rattle.step_trace.specs.Fronts.{Triple, IsOnFront, triple_of}
-use Rattle.step_trace.proofs.ListMembers.{Contains-nil, Contains-from_map}
-use Rattle.step_trace.proofs.BoundLaws.{DeltaHolds-later, PhiHolds-later, IsLeastBound-unique}
-use Rattle.step_trace.proofs.FrontCriterion.{IsDelta-on_front, IsPhi-on_front, on_front-changes, IsOnFront-from_change}
-use Rattle.certificate_checker.specs.declared.verdicts.Reason.{Reason}
-use Rattle.certificate_checker.specs.declared.verdicts.Reason.TheVariants.{NoRows, FirstNotOne, NotRising, BeyondEnd, NotNonIncreasing, SameAsBefore, BadMiss, BadGap, DeltaFails, PhiFails}
-use Rattle.certificate_checker.specs.Certificates.{row_at, after_stretch, Serves, ShowsDelta, ShowsPhi}
-use Rattle.certificate_checker.specs.Verdicts.{HasTwoRows, Stands}
-use Rattle.certificate_checker.proofs.DecidedBounds.{least_delta, least_phi}
+use Rattle.certificate_checker.proofs.Common.{Row, Recorded, DeltaHolds, PhiHolds, IsDelta, IsPhi, Triple, IsOnFront, triple_of, Contains-nil, Contains-from_map, DeltaHolds-later, PhiHolds-later, IsLeastBound-unique, IsDelta-on_front, IsPhi-on_front, on_front-changes, IsOnFront-from_change, Reason, NoRows, FirstNotOne, NotRising, BeyondEnd, NotNonIncreasing, SameAsBefore, BadMiss, BadGap, DeltaFails, PhiFails, row_at, after_stretch, Serves, ShowsDelta, ShowsPhi, HasTwoRows, Stands}
+use Rattle.certificate_checker.proofs.LeastBounds.{least_bounds}
 use Rattle.certificate_checker.proofs.RowPlaces.{Contains-row_at, row_at-from_Contains, later_above}
 use Rattle.certificate_checker.proofs.Stretches.{AreInOrder, begins_within, served_within, begins_outside}
 
@@ -36,12 +26,13 @@ row_of_front set trace rows t are front =
     (place.0, member.0, place.1, ap (λ (x : Triple). x.gst) member.2)
 
 -- if there are ticks, a row begins in the first
-row_of_one : (set : ℕ) (trace : Recorded) (rows : List Row) → AreTheFront set trace rows → 1 ≤ trace.last → (k : ℕ) × (r : Row) × (row_at rows k ≡ Some r) × (r.gst ≡ 1)
-row_of_one set trace rows are some =
-    let delta = least_delta set trace 1 in
-    let phi = least_phi set trace 1 (omega arith) in
-    row_of_front set trace rows (record { gst = 1; delta = delta.0; phi = phi.0 }) are
-    (IsOnFront-from_change set trace (record { gst = 1; delta = delta.0; phi = phi.0 }) (omega arith) some delta.1 phi.1 (λ later d f. absurd (omega (arith, later))))
+row_of_one : (set : ℕ) (trace : Recorded) (rows : List Row) → AreTheFront set trace rows → 1 ≤ trace.last
+    → ((k : ℕ) (r : Row) → row_at rows k ≡ Some r → r.gst ≡ 1 → ⊥) → ⊥
+row_of_one set trace rows are some none = least_bounds set trace 1 (omega arith) (λ d f delta phi.
+    let t : Triple = record { gst = 1; delta = d; phi = f } in
+    let row = row_of_front set trace rows t are
+    (IsOnFront-from_change set trace t (omega arith) some delta phi (λ later a b. absurd (omega (arith, later)))) in
+    none row.0 row.1 row.2 row.3)
 
 AreInOrder-front : (set : ℕ) (trace : Recorded) (rows : List Row) → AreTheFront set trace rows → AreInOrder trace.last rows
 AreInOrder-front set trace rows are = record {
@@ -50,19 +41,24 @@ AreInOrder-front set trace rows are = record {
       let feasible = (front_row set trace rows 1 r are here).feasible in
       let start = feasible.start in
       let end = feasible.end in
-      first r here start (row_of_one set trace rows are (omega (arith, start, end)));
+      elim (cases_eq r.gst 1) [
+        | inl one ↦ one
+        | inr other ↦ absurd (row_of_one set trace rows are (omega (arith, start, end))
+            (λ k o there one. other (first r here start k o there one)))
+      ];
   rising = are.rising;
   end = λ k r here. (front_row set trace rows k r are here).feasible.end;
 } where
-  some : (rs : List Row) → ((k : ℕ) × (r : Row) × (row_at rs k ≡ Some r) × (r.gst ≡ 1)) → (r : Row) × (row_at rs 1 ≡ Some r)
-  some [] (zero, r, here, one) = absurd (none-some r here)
-  some [] (suc k, r, here, one) = absurd (none-some r here)
+  some : (rs : List Row) → (((k : ℕ) (r : Row) → row_at rs k ≡ Some r → r.gst ≡ 1 → ⊥) → ⊥) → (r : Row) × (row_at rs 1 ≡ Some r)
+  some [] found = absurd (found (λ k r here one. Contains-nil r (Contains-row_at [] k r here)))
   some (x ∷ rest) found = (x, refl)
 
-  first : (r : Row) → row_at rows 1 ≡ Some r → 1 ≤ r.gst → ((k : ℕ) × (o : Row) × (row_at rows k ≡ Some o) × (o.gst ≡ 1)) → r.gst ≡ 1
-  first r here start (zero, o, there, one) = absurd (none-some o there)
-  first r here start (suc zero, o, there, one) = ap (λ (x : Row). x.gst) (same_Some r o (sym here ∙ there)) ∙ one
-  first r here start (suc (suc k), o, there, one) = absurd (let l = later_above rows 1 (suc (suc k)) r o are.rising here there (omega arith) in omega (arith, l, one, start))
+  first : (r : Row) → row_at rows 1 ≡ Some r → 1 ≤ r.gst → (k : ℕ) (o : Row) → row_at rows k ≡ Some o → o.gst ≡ 1 → r.gst ≡ 1
+  first r here start zero o there one = absurd (none-some o there)
+  first r here start (suc zero) o there one = ap (λ (x : Row). x.gst) (same_Some r o (sym here ∙ there)) ∙ one
+  first r here start (suc (suc k)) o there one =
+      let l = later_above rows 1 (suc (suc k)) r o are.rising here there (omega arith) in
+      absurd (omega (arith, l, one, start))
 
 -- the least bounds of a row are those of each tick of its stretch
 pub record AreLeast (set : ℕ) (trace : Recorded) (r : Row) (g : ℕ) : Type 0 where
@@ -71,7 +67,26 @@ pub record AreLeast (set : ℕ) (trace : Recorded) (r : Row) (g : ℕ) : Type 0 
 
 -- they are those of the tick after g too, since no row begins there
 least_after : (set : ℕ) (trace : Recorded) (rows : List Row) (k : ℕ) (r : Row) (g : ℕ) → AreTheFront set trace rows → Serves rows trace.last k r (suc g) → r.gst ≤ g → AreLeast set trace r g → AreLeast set trace r (suc g)
-least_after set trace rows k r g are serves begun least = go (least_delta set trace (suc g)) (least_phi set trace (suc g) (omega arith)) where
+least_after set trace rows k r g are serves begun least = record {
+  delta = record {
+    positive = least.delta.positive;
+    holds = DeltaHolds-later set trace g (suc g) r.delta (omega arith) least.delta.holds;
+    least = λ e p h. elim (cases_lt e r.delta) [
+      | inl l ↦ absurd (least_bounds set trace (suc g) (omega arith) (λ d f delta phi.
+          no_other d f delta phi (λ same. omega (arith, same.0, delta.least e p h, l))))
+      | inr l ↦ l
+    ];
+  };
+  phi = record {
+    positive = least.phi.positive;
+    holds = PhiHolds-later set trace g (suc g) r.phi (omega arith) least.phi.holds;
+    least = λ e p h. elim (cases_lt e r.phi) [
+      | inl l ↦ absurd (least_bounds set trace (suc g) (omega arith) (λ d f delta phi.
+          no_other d f delta phi (λ same. omega (arith, same.1, phi.least e p h, l))))
+      | inr l ↦ l
+    ];
+  };
+} where
   order : AreInOrder trace.last rows
   order = AreInOrder-front set trace rows are
 
@@ -88,20 +103,10 @@ least_after set trace rows k r g are serves begun least = go (least_delta set tr
       let until = serves.until in
       begins_outside rows trace.last k row.0 r row.1 order serves.row row.2 (omega (arith, gst, begun)) (omega (arith, gst, until))
 
-  go : ((d : ℕ) × IsDelta set trace (suc g) d) → ((f : ℕ) × IsPhi set trace (suc g) f) → AreLeast set trace r (suc g)
-  go (d, delta) (f, phi) = elim (cases_eq d r.delta) [
-    | inr n ↦ absurd (no_other d f delta phi (λ same. n same.0))
-    | inl a ↦ elim (cases_eq f r.phi) [
-      | inr n ↦ absurd (no_other d f delta phi (λ same. n same.1))
-      | inl b ↦ record { delta = subst (IsDelta set trace (suc g)) a delta; phi = subst (IsPhi set trace (suc g)) b phi }
-    ]
-  ]
-
 pub least_served : (set : ℕ) (trace : Recorded) (rows : List Row) (k : ℕ) (r : Row) (g : ℕ) → AreTheFront set trace rows → Serves rows trace.last k r g → AreLeast set trace r g
 least_served set trace rows k r zero are serves = absurd (
     let start = (front_row set trace rows k r are serves.row).feasible.start in
-    let from = serves.from in
-    omega (arith, start, from))
+    omega (arith, start, serves.from))
 least_served set trace rows k r (suc g) are serves = elim (cases_eq r.gst (suc g)) [
   | inl e ↦ (let front = front_row set trace rows k r are serves.row in
       record {
@@ -109,9 +114,8 @@ least_served set trace rows k r (suc g) are serves = elim (cases_eq r.gst (suc g
         phi = subst (λ x. IsPhi set trace x r.phi) e (IsPhi-on_front set trace (triple_of r) front);
       })
   | inr d ↦ (
-      let from = serves.from in
       let until = serves.until in
-      let begun : r.gst ≤ g = omega (arith, from, d) in
+      let begun : r.gst ≤ g = omega (arith, serves.from, d) in
       let before : Serves rows trace.last k r g = record { row = serves.row; from = begun; until = omega (arith, until) } in
       least_after set trace rows k r g are serves begun (least_served set trace rows k r g are before))
 ]
@@ -134,7 +138,8 @@ pub IsUnopposed-front : (set : ℕ) (trace : Recorded) (rows : List Row) → Are
     → ((k : ℕ) (r : Row) → row_at rows k ≡ Some r → ShowsDelta set trace (after_stretch rows trace.last k) r.delta r.miss)
     → ((k : ℕ) (r : Row) → row_at rows k ≡ Some r → ShowsPhi set trace (after_stretch rows trace.last k) r.phi r.gap)
     → (w : Reason) → ¬ Stands set trace rows w
-IsUnopposed-front set trace rows are misses gaps NoRows s = absurd (let row = row_of_one set trace rows are s.1 in Contains-nil row.1 (subst (λ (rs : List Row). Contains rs row.1) s.0 (Contains-row_at rows row.0 row.1 row.2)))
+IsUnopposed-front set trace rows are misses gaps NoRows s = row_of_one set trace rows are s.1
+    (λ k r here one. Contains-nil r (subst (λ (rs : List Row). Contains rs r) s.0 (Contains-row_at rows k r here)))
 IsUnopposed-front set trace rows are misses gaps FirstNotOne s = s.1 ((AreInOrder-front set trace rows are).first s.0.row s.0.here)
 IsUnopposed-front set trace rows are misses gaps (NotRising k) s = let l = follows set trace rows k s.0 are in let m = s.1 in absurd (omega (arith, l, m))
 IsUnopposed-front set trace rows are misses gaps (BeyondEnd k) s = let l = (AreInOrder-front set trace rows are).end k s.0.row s.0.here in let m = s.1 in absurd (omega (arith, l, m))

@@ -1,3 +1,4 @@
+pub mod Common
 pub mod RowSearches
 pub mod ReasonOrder
 pub mod StepFacts
@@ -10,10 +11,9 @@ pub mod ClosedTicks
 pub mod LongestSilences
 pub mod LongerWitnesses
 pub mod FailingRows
-pub mod BestCandidates
 pub mod WitnessDecisions
 pub mod LongestOrNone
-pub mod DecidedBounds
+pub mod LeastBounds
 pub mod RowPlaces
 pub mod Stretches
 pub mod ShownBounds

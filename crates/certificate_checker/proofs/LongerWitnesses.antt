@@ -2,25 +2,19 @@
 use Rattle.std.proofs.Common.{ℕ, ◌≡◌, ◌+◌, ◌-◌, ◌<◌, ◌≤◌, inl, inr, Option, Some, None, Bool, true, false, cond, refl, ap, sym, ◌∙◌, arith}
 use Rattle.std.specs.Prelude.{MatchOption, nat_lt, IfSome}
 use Rattle.std.proofs.lemmas.Bool.{cases_eq, ltb-true, ltb-false}
-use Rattle.step_trace.specs.declared.rows.Miss.{Miss}
-use Rattle.step_trace.specs.Traces.{Recorded}
-use Rattle.step_trace.specs.Ticks.{tick_of}
-use Rattle.step_trace.specs.Witnesses.{IsMiss}
-use Rattle.step_trace.proofs.StepPositions.{step_at_within}
-use Rattle.certificate_checker.specs.LongestWitnesses.{HasNoMiss, IsLastMiss, HasNoMissAfter, IsLongestMissAfter, KnowsMissesAfter, HasSpan, span_of, longer_miss}
+use Rattle.certificate_checker.proofs.Common.{Miss, Recorded, tick_of, IsMiss, step_at_within, HasNoMiss, IsLastMiss, HasNoMissAfter, IsLongestMissAfter, KnowsMissesAfter, HasSpan, span_of, longer_miss}
 
 -- a miss has a length
 pub HasSpan-of_miss : (set : ℕ) (t : Recorded) (m : Miss) → IsMiss set t m → HasSpan t m
 HasSpan-of_miss set t m i =
     let sent = step_at_within t.steps m.sent _ i.message.sent in
     let missed = step_at_within t.steps m.missed _ i.receive.step in
-    let late = i.late in
     record {
       sent_low = omega (arith, sent);
       sent_high = sent.1;
       missed_low = omega (arith, missed);
       missed_high = missed.1;
-      order = omega (arith, late);
+      order = omega (arith, i.late);
     }
 
 -- none after s and none of s
@@ -58,21 +52,11 @@ KnowsMissesAfter-earlier set t s (Some v) None low here later = misses_new set t
 KnowsMissesAfter-earlier set t s (Some v) (Some w) low here later = go (nat_lt (span_of t w) (span_of t v)) refl where
   go : (b : Bool) → nat_lt (span_of t w) (span_of t v) ≡ b → KnowsMissesAfter set t (s - 1) (cond b (Some v) (Some w))
   go true e = misses_new set t s v low (λ o i l.
-      let short = ltb-true _ _ e in
-      let most = later.longest o i l in
-      let a = i.late in
-      let b = later.miss.late in
-      let c = here.miss.late in
-      omega (arith, short, most, a, b, c)) here
+      omega (arith, ltb-true _ _ e, later.longest o i l, i.late, later.miss.late, here.miss.late)) here
   go false e = misses_kept set t s w (λ o i q.
-      let long = ltb-false _ _ e in
-      let most = here.last o i q in
       let at = ap (tick_of t) here.sent in
       let same = ap (tick_of t) q in
-      let a = i.late in
-      let b = later.miss.late in
-      let c = here.miss.late in
-      omega (arith, long, most, at, same, a, b, c)) later
+      omega (arith, ltb-false _ _ e, here.last o i q, at, same, i.late, later.miss.late, here.miss.late)) later
 
 -- the misses that are found have a length
 pub span_of_last : (set : ℕ) (t : Recorded) (s : ℕ) (o : Option Miss) → MatchOption o (HasNoMiss set t s) (IsLastMiss set t s) → IfSome o (HasSpan t)

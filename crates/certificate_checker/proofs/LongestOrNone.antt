@@ -1,21 +1,63 @@
--- From each tick there is no miss, or there is a longest one, and only one is named so; and so it is with gaps.
-use Rattle.std.proofs.Common.{ℕ, ◌≡◌, ◌-◌, ◌<◌, ◌≤◌, ◌⊎◌, inl, inr, length, refl, ap, sym, subst, arith}
+-- If no miss from a tick on is the longest there is none from there on, and only one is named so; likewise with gaps.
+use Rattle.std.proofs.Common.{ℕ, ◌≡◌, ◌+◌, ◌-◌, ◌≤◌, inl, inr, length, refl, ap, sym, subst, suc, zero, arith}
 use Rattle.std.specs.Prelude.{IsTrue, nat_le, nat_lt, ◌&&◌}
-use Rattle.std.proofs.lemmas.Bool.{cases_lt, and_parts, leb-true}
+use Rattle.std.proofs.lemmas.Bool.{cases_eq, cases_lt, and_parts, leb-true}
 use Rattle.step_trace.specs.declared.processors.TheConstants.{MAX_MEMBER}
-use Rattle.step_trace.specs.declared.rows.Miss.{Miss}
-use Rattle.step_trace.specs.declared.rows.Gap.{Gap}
-use Rattle.step_trace.specs.Processors.{has_proc}
-use Rattle.step_trace.specs.Traces.{Recorded}
-use Rattle.step_trace.specs.Ticks.{tick_of, IsTimed}
-use Rattle.step_trace.specs.Bounds.{IsMessage}
-use Rattle.step_trace.specs.Witnesses.{IsMiss, IsGap}
-use Rattle.step_trace.proofs.StepPositions.{step_at_within}
-use Rattle.step_trace.proofs.TickOrder.{one_in_tick}
-use Rattle.step_trace.proofs.BoundLaws.{IsMessage-receiver, Miss-same, Gap-same}
-use Rattle.certificate_checker.specs.Certificates.{IsLongestMiss, IsLongestGap}
-use Rattle.certificate_checker.proofs.BestCandidates.{Rank, Best, BestOrNone, best_of_one, best_of_all}
-use Rattle.certificate_checker.proofs.WitnessDecisions.{miss_or_not, gap_or_not}
+use Rattle.certificate_checker.proofs.Common.{Miss, Gap, has_proc, Recorded, tick_of, IsTimed, IsMessage, IsMiss, IsGap, step_at_within, one_in_tick, IsMessage-receiver, Miss-same, Gap-same, IsLongestMiss, IsLongestGap, span_of}
+
+-- ranks are bounded: if nothing that passes has the greatest, nothing passes that is n below the bound
+none_near : (X : Type 0) (Passes : X → Type 0) (rank : X → ℕ) (most : ℕ) → ((x : X) → Passes x → rank x ≤ most)
+    → ((x : X) → Passes x → ((o : X) → Passes o → rank o ≤ rank x) → ⊥) → (n : ℕ) (x : X) → Passes x → most ≤ rank x + n → ⊥
+none_near X Passes rank most bound none zero x p far = none x p (λ o q. let b = bound o q in omega (arith, b, far))
+none_near X Passes rank most bound none (suc n) x p far = none x p (λ o q. elim (cases_lt (rank x) (rank o)) [
+  | inl l ↦ absurd (none_near X Passes rank most bound none n o q (omega (arith, l, far)))
+  | inr l ↦ l
+])
+
+-- so nothing passes
+none_greatest : (X : Type 0) (Passes : X → Type 0) (rank : X → ℕ) (most : ℕ) → ((x : X) → Passes x → rank x ≤ most)
+    → ((x : X) → Passes x → ((o : X) → Passes o → rank o ≤ rank x) → ⊥) → (x : X) → Passes x → ⊥
+none_greatest X Passes rank most bound none x p = none_near X Passes rank most bound none most x p (omega arith)
+
+-- What passes and is no worse than all that pass: first by length, then by where it begins, of which the greatest is
+-- best; then by owner, of which the least is.
+record Best (X : Type 0) (Passes : X → Type 0) (long from owner : X → ℕ) (x : X) : Type 0 where
+  passes : Passes x
+  longest : (o : X) → Passes o → long o ≤ long x
+  greatest : (o : X) → Passes o → long o ≡ long x → from o ≤ from x
+  least : (o : X) → Passes o → long o ≡ long x → from o ≡ from x → owner x ≤ owner o
+
+-- if nothing is the best, nothing passes
+none_best : (X : Type 0) (Passes : X → Type 0) (long from owner : X → ℕ) (most : ℕ)
+    → ((x : X) → Passes x → (long x ≤ most) × (from x ≤ most) × (owner x ≤ most))
+    → ((x : X) → ¬ Best X Passes long from owner x) → (x : X) → Passes x → ⊥
+none_best X Passes long from owner most bound none = none_greatest X Passes long most (λ x p. (bound x p).0) (λ u p far.
+    none_greatest X (λ o. Passes o × (long o ≡ long u)) from most (λ x q. (bound x q.0).1) (λ v q late.
+    none_greatest X (λ o. Passes o × (long o ≡ long u) × (from o ≡ from v)) (λ o. most - owner o) most
+    (λ x r. omega arith) (λ w r low.
+    none w (record {
+      passes = r.0;
+      longest = λ o s. (let h = far o s in omega (arith, h, r.1));
+      greatest = λ o s e. (let h = late o (s, omega (arith, e, r.1)) in omega (arith, h, r.2));
+      least = λ o s e f. (let h = low o (s, omega (arith, e, r.1), omega (arith, f, r.2)) in
+          let b = (bound o s).2 in
+          let c = (bound w r.0).2 in
+          omega (arith, h, b, c));
+    })) v (q.0, q.1, refl)) u (p, refl))
+
+-- the ticks of the steps are bounded
+pub ticks_bound : (trace : Recorded) (n : ℕ) → (most : ℕ) × ((k : ℕ) → k ≤ n → tick_of trace k ≤ most)
+ticks_bound trace zero = (
+  tick_of trace 0,
+  λ k l. (let e : k ≡ 0 = omega (arith, l) in let h = ap (tick_of trace) e in omega (arith, h)),
+)
+ticks_bound trace (suc n) = (
+  (ticks_bound trace n).0 + tick_of trace (suc n),
+  λ k l. elim (cases_eq k (suc n)) [
+    | inl e ↦ (let h = ap (tick_of trace) e in omega (arith, h))
+    | inr d ↦ (let h = (ticks_bound trace n).1 k (omega (arith, l, d)) in omega (arith, h))
+  ],
+)
 
 -- misses of messages sent in g or later, and gaps that begin in g or later
 abbrev IsMissFrom : ℕ → Recorded → ℕ → Miss → Type 0
@@ -24,63 +66,32 @@ IsMissFrom set trace g m = IsMiss set trace m × (g ≤ tick_of trace m.sent)
 abbrev IsGapFrom : ℕ → Recorded → ℕ → Gap → Type 0
 IsGapFrom set trace g w = IsGap set trace w × (g ≤ w.from)
 
--- what passes from g on, if it may be decided what passes, may be decided
-also_from : (P : Type 0) (g x : ℕ) → P ⊎ (¬ P) → (P × (g ≤ x)) ⊎ (¬ (P × (g ≤ x)))
-also_from P g x (inr n) = inr (λ h. n h.0)
-also_from P g x (inl p) = elim (cases_lt x g) [ inl l ↦ inr (λ h. let m = h.1 in absurd (omega (arith, l, m))) | inr m ↦ inl (p, m) ]
+-- if no miss is the longest from tick g on, there is none
+pub no_miss : (set : ℕ) (trace : Recorded) (g : ℕ) → ((m : Miss) → ¬ IsLongestMiss set trace g m)
+    → (m : Miss) → IsMiss set trace m → g ≤ tick_of trace m.sent → ⊥
+no_miss set trace g none m i l = none_best Miss (IsMissFrom set trace g) (span_of trace) (λ o. o.sent) (λ o. 0)
+    (ticks.0 + length trace.steps) bound longest m (i, l) where
+      ticks : (most : ℕ) × ((k : ℕ) → k ≤ length trace.steps → tick_of trace k ≤ most)
+      ticks = ticks_bound trace (length trace.steps)
 
--- the length of a miss or a gap comes first
-abbrev length_of : Recorded → Miss → ℕ
-length_of trace m = tick_of trace m.missed - tick_of trace m.sent
+      bound : (o : Miss) → IsMissFrom set trace g o → (span_of trace o ≤ ticks.0 + length trace.steps)
+          × (o.sent ≤ ticks.0 + length trace.steps) × (0 ≤ ticks.0 + length trace.steps)
+      bound o p =
+          let sent = (step_at_within trace.steps o.sent _ p.0.message.sent).1 in
+          let tick = ticks.1 o.missed (step_at_within trace.steps o.missed _ p.0.receive.step).1 in
+          (omega (arith, tick), omega (arith, sent), omega arith)
 
-abbrev rank_of_miss : Recorded → Miss → Rank
-rank_of_miss trace m = record { length = length_of trace m; from = m.sent; owner = 0 }
-
-abbrev rank_of_gap : Gap → Rank
-rank_of_gap w = record { length = w.to - w.from; from = w.from; owner = w.proc }
-
--- the misses of message s up to number n, and those up to number n
-abbrev IsMissOf : ℕ → ℕ → Miss → Type 0
-IsMissOf n s m = (r : ℕ) × (r ≤ n) × (m ≡ record { sent = s; missed = r })
-
-abbrev IsMissUpTo : ℕ → Miss → Type 0
-IsMissUpTo n m = (s : ℕ) × (s ≤ n) × IsMissOf n s m
-
-best_miss : (set : ℕ) (trace : Recorded) (g n : ℕ) → BestOrNone Miss (IsMissFrom set trace g) (IsMissUpTo n) (rank_of_miss trace)
-best_miss set trace g n = best_of_all Miss (IsMissFrom set trace g) (IsMissOf n) (rank_of_miss trace) (λ s.
-    best_of_all Miss (IsMissFrom set trace g) (λ r m. m ≡ record { sent = s; missed = r }) (rank_of_miss trace) (λ r.
-    let m : Miss = record { sent = s; missed = r } in
-    best_of_one Miss (IsMissFrom set trace g) (rank_of_miss trace) m (also_from (IsMiss set trace m) g (tick_of trace s) (miss_or_not set trace m))) n) n
-
--- the numbers of a miss are those of steps
-miss_within : (set : ℕ) (trace : Recorded) (m : Miss) → IsMiss set trace m → IsMissUpTo (length trace.steps) m
-miss_within set trace m i =
-    let sent = step_at_within trace.steps m.sent _ i.message.sent in
-    let missed = step_at_within trace.steps m.missed _ i.receive.step in
-    (m.sent, sent.1, (m.missed, missed.1, refl))
-
-IsLongestMiss-from_best : (set : ℕ) (trace : Recorded) (g : ℕ) (b : Best Miss (IsMissFrom set trace g) (IsMissUpTo (length trace.steps)) (rank_of_miss trace)) → IsLongestMiss set trace g b.best
-IsLongestMiss-from_best set trace g b = record {
-  miss = b.passes.0;
-  from = b.passes.1;
-  longest = λ o i l.
-      let h : length_of trace o ≤ length_of trace b.best = (b.no_worse o (miss_within set trace o i) (i, l)).longest in
-      let late = i.late in
-      omega (arith, h, own, late);
-  greatest = λ o i l e.
-      let late = i.late in
-      let same : length_of trace o ≡ length_of trace b.best = omega (arith, e, own, late) in
-      (b.no_worse o (miss_within set trace o i) (i, l)).greatest same;
-} where
-  own : tick_of trace b.best.sent < tick_of trace b.best.missed
-  own = b.passes.0.late
-
--- from each tick on there is no miss, or there is a longest
-pub longest_miss_or_none : (set : ℕ) (trace : Recorded) (g : ℕ) → ((m : Miss) → IsMiss set trace m → g ≤ tick_of trace m.sent → ⊥) ⊎ ((m : Miss) × IsLongestMiss set trace g m)
-longest_miss_or_none set trace g = elim (best_miss set trace g (length trace.steps)) [
-  | inl none ↦ inl (λ m i l. none m (miss_within set trace m i) (i, l))
-  | inr b ↦ inr (b.best, IsLongestMiss-from_best set trace g b)
-]
+      longest : (v : Miss) → ¬ Best Miss (IsMissFrom set trace g) (span_of trace) (λ o. o.sent) (λ o. 0) v
+      longest v best =
+          let own = best.passes.0.late in
+          none v (record {
+            miss = best.passes.0;
+            from = best.passes.1;
+            longest = λ o j f. (let h : span_of trace o ≤ span_of trace v = best.longest o (j, f) in
+                let late = j.late in
+                omega (arith, h, late, own));
+            greatest = λ o j f e. (let late = j.late in best.greatest o (j, f) (omega (arith, e, late, own)));
+          })
 
 -- one miss is named as the longest
 pub IsLongestMiss-unique : (set : ℕ) (trace : Recorded) (g : ℕ) (m o : Miss) → IsTimed trace → IsLongestMiss set trace g m → IsLongestMiss set trace g o → m ≡ o
@@ -94,56 +105,33 @@ IsLongestMiss-unique set trace g m o time a b =
     let to = IsMessage-receiver set trace.steps o.sent a.miss.to b.miss.to (subst (λ s. IsMessage set trace.steps s a.miss.to) sent a.miss.message) b.miss.message in
     Miss-same m o sent (one_in_tick trace time m.missed o.missed _ _ a.miss.receive.step b.miss.receive.step to (omega (arith, tick, below, above)))
 
--- the gaps of processor p that begin at x, up to tick n; those of p up to tick n; and those up to tick n
-abbrev IsGapAt : ℕ → ℕ → ℕ → Gap → Type 0
-IsGapAt n p x w = (y : ℕ) × (y ≤ n) × (w ≡ record { proc = p; from = x; to = y })
-
-abbrev IsGapOf : ℕ → ℕ → Gap → Type 0
-IsGapOf n p w = (x : ℕ) × (x ≤ n) × IsGapAt n p x w
-
-abbrev IsGapUpTo : ℕ → Gap → Type 0
-IsGapUpTo n w = (p : ℕ) × (p ≤ MAX_MEMBER) × IsGapOf n p w
-
-best_gap : (set : ℕ) (trace : Recorded) (g n : ℕ) → BestOrNone Gap (IsGapFrom set trace g) (IsGapUpTo n) rank_of_gap
-best_gap set trace g n = best_of_all Gap (IsGapFrom set trace g) (IsGapOf n) rank_of_gap (λ p.
-    best_of_all Gap (IsGapFrom set trace g) (IsGapAt n p) rank_of_gap (λ x.
-    best_of_all Gap (IsGapFrom set trace g) (λ y w. w ≡ record { proc = p; from = x; to = y }) rank_of_gap (λ y.
-    let w : Gap = record { proc = p; from = x; to = y } in
-    best_of_one Gap (IsGapFrom set trace g) rank_of_gap w (also_from (IsGap set trace w) g x (gap_or_not set trace w))) n) n) MAX_MEMBER
-
 -- members are numbered up to MAX_MEMBER
 member_within : (set p : ℕ) → IsTrue (has_proc set p) → p ≤ MAX_MEMBER
 member_within set p m = leb-true p MAX_MEMBER (and_parts (nat_lt 0 p) (nat_le p MAX_MEMBER) (and_parts (nat_lt 0 p && nat_le p MAX_MEMBER) _ m).0).1
 
-gap_within : (set : ℕ) (trace : Recorded) (w : Gap) → IsGap set trace w → IsGapUpTo trace.last w
-gap_within set trace w i = let order = i.order in let inside = i.inside in (w.proc, member_within set w.proc i.member, (w.from, omega (arith, order, inside), (w.to, inside, refl)))
+-- if no gap is the longest from tick g on, there is none
+pub no_gap : (set : ℕ) (trace : Recorded) (g : ℕ) → ((w : Gap) → ¬ IsLongestGap set trace g w)
+    → (w : Gap) → IsGap set trace w → g ≤ w.from → ⊥
+no_gap set trace g none w i l = none_best Gap (IsGapFrom set trace g) (λ o. o.to - o.from) (λ o. o.from) (λ o. o.proc)
+    (trace.last + MAX_MEMBER) bound longest w (i, l) where
+      bound : (o : Gap) → IsGapFrom set trace g o → (o.to - o.from ≤ trace.last + MAX_MEMBER)
+          × (o.from ≤ trace.last + MAX_MEMBER) × (o.proc ≤ trace.last + MAX_MEMBER)
+      bound o p =
+          let order = p.0.order in
+          (omega (arith, p.0.inside), omega (arith, order, p.0.inside), omega (arith, member_within set o.proc p.0.member))
 
-IsLongestGap-from_best : (set : ℕ) (trace : Recorded) (g : ℕ) (b : Best Gap (IsGapFrom set trace g) (IsGapUpTo trace.last) rank_of_gap) → IsLongestGap set trace g b.best
-IsLongestGap-from_best set trace g b = record {
-  gap = b.passes.0;
-  from = b.passes.1;
-  longest = λ o i l.
-      let h : o.to - o.from ≤ b.best.to - b.best.from = (b.no_worse o (gap_within set trace o i) (i, l)).longest in
-      let order = i.order in
-      omega (arith, h, own, order);
-  greatest = λ o i l e.
-      let order = i.order in
-      let same : o.to - o.from ≡ b.best.to - b.best.from = omega (arith, e, own, order) in
-      (b.no_worse o (gap_within set trace o i) (i, l)).greatest same;
-  least = λ o i e f.
-      let l = b.passes.1 in
-      let same : o.to - o.from ≡ b.best.to - b.best.from = omega (arith, e, f) in
-      (b.no_worse o (gap_within set trace o i) (i, omega (arith, e, l))).least same e;
-} where
-  own : b.best.from ≤ b.best.to
-  own = b.passes.0.order
-
--- from each tick on there is no gap, or there is a longest
-pub longest_gap_or_none : (set : ℕ) (trace : Recorded) (g : ℕ) → ((w : Gap) → IsGap set trace w → g ≤ w.from → ⊥) ⊎ ((w : Gap) × IsLongestGap set trace g w)
-longest_gap_or_none set trace g = elim (best_gap set trace g trace.last) [
-  | inl none ↦ inl (λ w i l. none w (gap_within set trace w i) (i, l))
-  | inr b ↦ inr (b.best, IsLongestGap-from_best set trace g b)
-]
+      longest : (v : Gap) → ¬ Best Gap (IsGapFrom set trace g) (λ o. o.to - o.from) (λ o. o.from) (λ o. o.proc) v
+      longest v best =
+          let own = best.passes.0.order in
+          none v (record {
+            gap = best.passes.0;
+            from = best.passes.1;
+            longest = λ o j f. (let h : o.to - o.from ≤ v.to - v.from = best.longest o (j, f) in
+                let order = j.order in
+                omega (arith, h, order, own));
+            greatest = λ o j f e. (let order = j.order in best.greatest o (j, f) (omega (arith, e, order, own)));
+            least = λ o j a b. best.least o (j, omega (arith, a, best.passes.1)) (omega (arith, a, b)) a;
+          })
 
 -- one gap is named as the longest
 pub IsLongestGap-unique : (set : ℕ) (trace : Recorded) (g : ℕ) (v w : Gap) → IsLongestGap set trace g v → IsLongestGap set trace g w → v ≡ w
@@ -154,6 +142,4 @@ IsLongestGap-unique set trace g v w a b =
     let high = b.greatest v a.gap a.from (omega (arith, below, above)) in
     let from : w.from ≡ v.from = omega (arith, low, high) in
     let to : w.to ≡ v.to = omega (arith, from, below, above) in
-    let less = a.least w b.gap from to in
-    let more = b.least v a.gap (sym from) (sym to) in
-    Gap-same v w (omega (arith, less, more)) (sym from) (sym to)
+    Gap-same v w (omega (arith, a.least w b.gap from to, b.least v a.gap (sym from) (sym to))) (sym from) (sym to)

@@ -2,20 +2,8 @@
 use Rattle.std.proofs.Common.{ℕ, ◌≡◌, ◌+◌, ◌-◌, ◌<◌, ◌≤◌, inl, inr, List, length, get_or, refl, ap, subst, arith}
 use Rattle.std.specs.Prelude.{slice_index}
 use Rattle.std.proofs.lemmas.Bool.{cases_lt}
-use Rattle.step_trace.specs.declared.rows.Gap.{Gap}
-use Rattle.step_trace.specs.declared.rows.Row.{Row}
-use Rattle.step_trace.specs.Traces.{Recorded}
-use Rattle.step_trace.specs.Witnesses.{IsGap}
-use Rattle.step_trace.proofs.BoundLaws.{GapRefutes-sound}
-use Rattle.step_trace.proofs.BoundDecisions.{PhiHolds-unrefuted}
+use Rattle.certificate_checker.proofs.Common.{Gap, Row, Recorded, IsGap, GapRefutes-sound, PhiHolds-unrefuted, PhiFails, IsLongestGap, Stands, AreInOrder, AreClosings, HasNoGapAt, IsLongestGapAt, IsLongestSilence, IsTooShort}
 use Rattle.certificate_checker.specs.declared.bounds.LongestSilence.{LongestSilence}
-use Rattle.certificate_checker.specs.declared.verdicts.Reason.TheVariants.{PhiFails}
-use Rattle.certificate_checker.specs.Certificates.{IsLongestGap}
-use Rattle.certificate_checker.specs.Verdicts.{Stands}
-use Rattle.certificate_checker.specs.Searches.{AreInOrder}
-use Rattle.certificate_checker.specs.Closings.{AreClosings}
-use Rattle.certificate_checker.specs.LongestWitnesses.{HasNoGapAt, IsLongestGapAt}
-use Rattle.certificate_checker.specs.LongestSilences.{IsLongestSilence, IsTooShort}
 use Rattle.certificate_checker.proofs.RowSearches.{no_row, row_at_within, row_at_next, row_at_same}
 
 -- a row that is too short has a number from 1 on
@@ -34,11 +22,7 @@ too_short_here closings rows i s inside longest some short = record {
 
 -- two that are longest are equally long
 as_long : (closings : List ℕ) (g : ℕ) (s v : LongestSilence) → IsLongestSilence closings g s → IsLongestSilence closings g v → v.start < v.end → v.end - v.start ≤ s.end - s.start
-as_long closings g s v l h some =
-    let most = l.longest v.start h.from (h.inside some) in
-    let closed = h.closed some in
-    let order = l.order in
-    omega (arith, most, closed, order, some)
+as_long closings g s v l h some = omega (arith, l.longest v.start h.from (h.inside some), h.closed some, l.order, some)
 
 -- no row is too short if it isn't by the longest silence
 pub too_short_not : (closings : List ℕ) (rows : List Row) (i : ℕ) (s : LongestSilence) → IsLongestSilence closings (get_or rows i no_row).gst s → (0 < s.end - s.start → s.end - s.start < (get_or rows i no_row).phi)
@@ -48,10 +32,8 @@ too_short_not closings rows i s longest not v h =
     let own = subst (λ (r : Row). IsLongestSilence closings r.gst v) same h.longest in
     let bound = ap (λ (r : Row). r.phi) same in
     let most = as_long closings (get_or rows i no_row).gst s v longest own h.some in
-    let some = h.some in
-    let short = h.short in
-    let late = not (omega (arith, most, some)) in
-    omega (arith, most, some, short, late, bound)
+    let late = not (omega (arith, most, h.some)) in
+    omega (arith, most, h.some, h.short, late, bound)
 
 -- in a tick that isn't closed by itself a gap begins that ends before the tick that closes it
 gap_of_closing : (set : ℕ) (t : Recorded) (closings : List ℕ) (x : ℕ) → AreClosings set t closings → 1 ≤ x → x ≤ t.last → x < slice_index closings x
@@ -75,9 +57,8 @@ gap_of_closing set t closings x c low high some =
 -- no gap lasts longer
 gap_closes : (set : ℕ) (t : Recorded) (closings : List ℕ) (o : Gap) → AreClosings set t closings → IsGap set t o → o.to < slice_index closings o.from
 gap_closes set t closings o c g =
-    let order = g.order in
     let inside = g.inside in
-    let at = c.each o.from (omega (arith, order, inside)) in
+    let at = c.each o.from (omega (arith, g.order, inside)) in
     elim (cases_lt o.to (slice_index closings o.from)) [
       | inl l ↦ l
       | inr l ↦ absurd (let s = at.full (omega (arith, l, inside)) o.proc g.member in let until = s.until in g.silent s.tick s.from (omega (arith, until, l)) s.step)
@@ -104,10 +85,8 @@ IsLongestGap-from_silence set t closings g s w c low l some at =
     let here = at.from in
     let v = gap_of_closing set t closings s.start c (omega (arith, low, from)) (omega (arith, inside, long)) (omega (arith, closed, some)) in
     let least = at.longest v.0 v.1 v.2 in
-    let v_to = v.3 in
-    let most = gap_closes set t closings w c at.gap in
     let w_at = ap (λ (x : ℕ). slice_index closings x) here in
-    let end : w.to + 1 ≡ s.end = omega (arith, least, v_to, most, w_at, closed) in
+    let end : w.to + 1 ≡ s.end = omega (arith, least, v.3, gap_closes set t closings w c at.gap, w_at, closed) in
     let longest : (o : Gap) → IsGap set t o → g ≤ o.from → (slice_index closings o.from + s.start ≤ s.end + o.from) = λ o i f. (let order = i.order in let last = i.inside in l.longest o.from f (omega (arith, order, last, long))) in (
       record {
         gap = at.gap;
@@ -133,28 +112,22 @@ IsLongestSilence-from_gap set t closings g w c low l =
     let from = l.from in
     let most = gap_closes set t closings w c l.gap in
     let v = gap_of_closing set t closings w.from c (omega (arith, low, from)) (omega (arith, order, last)) (omega (arith, most, order)) in
-    let v_from = v.2 in
-    let v_to = v.3 in
-    let least = l.longest v.0 v.1 (omega (arith, v_from, from)) in
+    let least = l.longest v.0 v.1 (omega (arith, v.2, from)) in
     record {
       order = omega (arith, order);
       from = from;
       inside = λ _. omega (arith, order, last, long);
-      closed = λ _. omega (arith, most, least, v_from, v_to);
+      closed = λ _. omega (arith, most, least, v.2, v.3);
       longest = λ x f inside. elim (cases_lt x (slice_index closings x)) [
         | inl some ↦ (let o = gap_of_closing set t closings x c (omega (arith, low, f)) (omega (arith, inside, long)) some in
-            let o_from = o.2 in
-            let o_to = o.3 in
-            let m = l.longest o.0 o.1 (omega (arith, o_from, f)) in
-            omega (arith, m, o_from, o_to))
+            let m = l.longest o.0 o.1 (omega (arith, o.2, f)) in
+            omega (arith, m, o.2, o.3))
         | inr none ↦ omega (arith, none, order)
       ];
       latest = λ x f inside same. elim (cases_lt x (slice_index closings x)) [
         | inl some ↦ (let o = gap_of_closing set t closings x c (omega (arith, low, f)) (omega (arith, inside, long)) some in
-            let o_from = o.2 in
-            let o_to = o.3 in
-            let m = l.greatest o.0 o.1 (omega (arith, o_from, f)) (omega (arith, o_from, o_to, same)) in
-            omega (arith, m, o_from))
+            let m = l.greatest o.0 o.1 (omega (arith, o.2, f)) (omega (arith, o.2, o.3, same)) in
+            omega (arith, m, o.2))
         | inr none ↦ absurd (omega (arith, none, order, same))
       ];
     }
@@ -165,10 +138,9 @@ pub PhiFails-from_silence : (set : ℕ) (t : Recorded) (closings : List ℕ) (ro
 PhiFails-from_silence set t closings rows k s w c order h at =
     let l = IsLongestGap-from_silence set t closings h.row.row.gst s w c (order.start k h.row.row h.row.here) h.longest h.some at in
     let here = at.from in
-    let end = l.1 in
     let short = h.short in (
       h.row,
-      GapRefutes-sound set t _ _ w (record { gap = at.gap; from = l.0.from; long = omega (arith, short, here, end) }),
+      GapRefutes-sound set t _ _ w (record { gap = at.gap; from = l.0.from; long = omega (arith, short, here, l.1) }),
       l.0,
     )
 
@@ -177,16 +149,13 @@ pub too_short-from_PhiFails : (set : ℕ) (t : Recorded) (closings : List ℕ) (
     → IsTooShort closings rows k (record { start = w.from; end = w.to + 1 })
 too_short-from_PhiFails set t closings rows k w c order s =
     let low = order.start k s.0.row s.0.here in
-    let inside = s.2.gap.order in
     record {
       row = s.0;
       longest = IsLongestSilence-from_gap set t closings s.0.row.gst w c low s.2;
-      some = omega (arith, inside);
+      some = omega (arith, s.2.gap.order);
       short = elim (cases_lt (w.to + 1) (s.0.row.phi + w.from)) [
-        | inl short ↦ absurd (s.1 (PhiHolds-unrefuted set t _ _ low (omega (arith, short, inside)) (λ o r.
-            let long = r.long in
-            let most = s.2.longest o r.gap r.from in
-            omega (arith, long, most, short))))
+        | inl short ↦ absurd (s.1 (PhiHolds-unrefuted set t _ _ low (omega (arith, short, s.2.gap.order)) (λ o r.
+            omega (arith, r.long, s.2.longest o r.gap r.from, short))))
         | inr long ↦ long
       ];
     }

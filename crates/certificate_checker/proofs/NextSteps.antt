@@ -3,10 +3,7 @@ use Rattle.std.proofs.Common.{ℕ, ◌≡◌, ◌+◌, ◌<◌, ◌≤◌, inl, 
 use Rattle.std.specs.List.Sorted.{IsPartitionPoint}
 use Rattle.std.proofs.lemmas.Bool.{cases_lt, ltb-true, ltb-false}
 use Rattle.std.proofs.lemmas.List.{get_or_default}
-use Rattle.step_trace.specs.Traces.{Recorded}
-use Rattle.step_trace.specs.Ticks.{IsTimed, StepsIn}
-use Rattle.certificate_checker.specs.declared.silences.Silence.{Silence}
-use Rattle.certificate_checker.specs.Silences.{IsNextStep, IsSilence}
+use Rattle.certificate_checker.proofs.Common.{Recorded, IsTimed, StepsIn, Silence, IsNextStep, IsSilence}
 
 -- the first i of these ticks are those below x
 abbrev pub ArePassed : ℕ → ℕ → Silence → Type 0

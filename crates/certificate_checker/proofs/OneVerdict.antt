@@ -1,17 +1,7 @@
 -- Rows have one verdict.
 use Rattle.std.proofs.Common.{ℕ, ◌≡◌, inl, inr, List, refl, ap, sym, ◌∙◌, subst, arith}
 use Rattle.std.proofs.lemmas.Option.{same_Some}
-use Rattle.step_trace.specs.declared.rows.Row.{Row}
-use Rattle.step_trace.specs.declared.rows.Miss.{Miss}
-use Rattle.step_trace.specs.declared.rows.Gap.{Gap}
-use Rattle.step_trace.specs.Traces.{Recorded}
-use Rattle.step_trace.specs.Ticks.{IsTrace, IsTimed}
-use Rattle.certificate_checker.specs.declared.verdicts.Reason.{Reason}
-use Rattle.certificate_checker.specs.declared.verdicts.Reason.TheVariants.{NoRows, FirstNotOne, NotRising, BeyondEnd, NotNonIncreasing, SameAsBefore, BadMiss, BadGap, DeltaFails, PhiFails}
-use Rattle.certificate_checker.specs.declared.verdicts.Verdict.{Verdict}
-use Rattle.certificate_checker.specs.declared.verdicts.Verdict.TheVariants.{Yes, No}
-use Rattle.certificate_checker.specs.Certificates.{row_at, IsLongestMiss, IsLongestGap}
-use Rattle.certificate_checker.specs.Verdicts.{HasRow, Stands, place_of, row_of, IsNotAfter, IsVerdict}
+use Rattle.certificate_checker.proofs.Common.{Row, Miss, Gap, Recorded, IsTrace, IsTimed, Reason, NoRows, FirstNotOne, NotRising, BeyondEnd, NotNonIncreasing, SameAsBefore, BadMiss, BadGap, DeltaFails, PhiFails, Verdict, Yes, No, row_at, IsLongestMiss, IsLongestGap, HasRow, Stands, place_of, row_of, IsNotAfter, IsVerdict}
 use Rattle.certificate_checker.proofs.LongestOrNone.{IsLongestMiss-unique, IsLongestGap-unique}
 
 -- one row has a number

@@ -1,16 +1,8 @@
 -- The first reason that holds, put together from the searches for each kind of reason.
-use Rattle.std.proofs.Common.{ℕ, Bool, true, false, ◌==◌, ◌≡◌, ◌+◌, ◌<◌, ◌≤◌, inl, inr, List, length, get_or, ◌-◌, Option, Some, None, refl, ap, subst, ◌∙◌, suc, zero, arith}
+use Rattle.std.proofs.Common.{ℕ, Bool, true, false, ◌==◌, ◌≡◌, ◌+◌, ◌<◌, ◌≤◌, inl, inr, List, length, get_or, Option, Some, None, refl, ap, subst, ◌∙◌, suc, arith}
 use Rattle.std.proofs.lemmas.Bool.{cases_lt, cases_eq}
-use Rattle.step_trace.specs.declared.rows.Miss.{Miss}
-use Rattle.step_trace.specs.declared.rows.Gap.{Gap}
-use Rattle.step_trace.specs.declared.rows.Row.{Row}
-use Rattle.step_trace.specs.Traces.{Recorded}
-use Rattle.certificate_checker.specs.declared.verdicts.Reason.{Reason}
-use Rattle.certificate_checker.specs.declared.verdicts.Reason.TheVariants.{NoRows, FirstNotOne, NotRising, BeyondEnd, NotNonIncreasing, SameAsBefore, BadMiss, BadGap, DeltaFails, PhiFails}
-use Rattle.certificate_checker.specs.declared.verdicts.Verdict.TheVariants.{No}
-use Rattle.certificate_checker.specs.Certificates.{row_at}
-use Rattle.certificate_checker.specs.Verdicts.{Stands, place_of, row_of, IsVerdict}
-use Rattle.certificate_checker.specs.Searches.{IsFirstReason, AreInOrder}
+use Rattle.certificate_checker.proofs.Common.{Miss, Gap, Row, Recorded, Reason, NoRows, FirstNotOne, NotRising, BeyondEnd, NotNonIncreasing, SameAsBefore, BadMiss, BadGap, DeltaFails, PhiFails, No, row_at, Stands, place_of, row_of, IsVerdict, IsFirstReason, AreInOrder}
+use Rattle.certificate_checker.proofs.RowPlaces.{two_rows, later_above, rising-from_next}
 use Rattle.certificate_checker.proofs.RowSearches.{no_row, row_at_within, row_at_next, row_at_same}
 
 -- if none of the first kinds holds, the first of the next kinds is the first of all
@@ -93,49 +85,34 @@ first_in set t rows w s least = (
 )
 
 -- if none of the first six kinds holds, the rows are in order
-rising_next : (set : ℕ) (t : Recorded) (rows : List Row) → IsFirstReason set t rows 1 6 None → (k : ℕ) (a b : Row) → row_at rows k ≡ Some a → row_at rows (k + 1) ≡ Some b → a.gst < b.gst
-rising_next set t rows none k a b p q = elim (cases_lt a.gst b.gst) [
-  | inl l ↦ l
-  | inr l ↦ absurd (let back : k + 1 - 1 ≡ k = omega arith in none (NotRising (k + 1)) (omega arith) (omega arith) (record { before = a; row = b; there = rw back p; here = q }, l))
-]
-
-rising_later : (set : ℕ) (t : Recorded) (rows : List Row) → IsFirstReason set t rows 1 6 None → (d j : ℕ) (a b : Row) → row_at rows j ≡ Some a → row_at rows (j + 1 + d) ≡ Some b → a.gst < b.gst
-rising_later set t rows none zero j a b p q = let e : j + 1 + 0 ≡ j + 1 = omega arith in rising_next set t rows none j a b p (rw e at q)
-rising_later set t rows none (suc d) j a b p q =
-    let e : j + 1 + suc d ≡ j + 1 + d + 1 = omega arith in
-    let w = row_at_within rows (j + 1 + suc d) b q in
-    let here = row_at_next rows (j + d) no_row (omega (arith, w.1)) in
-    let f : j + d + 1 ≡ j + 1 + d = omega arith in
-    let middle = subst (λ (i : ℕ). row_at rows i ≡ Some (get_or rows (j + d) no_row)) f here in
-    let before = rising_later set t rows none d j a (get_or rows (j + d) no_row) p middle in
-    let after = rising_next set t rows none (j + 1 + d) (get_or rows (j + d) no_row) b middle (subst (λ (i : ℕ). row_at rows i ≡ Some b) e q) in
-    omega (arith, before, after)
-
 pub AreInOrder-from_none : (set : ℕ) (t : Recorded) (rows : List Row) → IsFirstReason set t rows 1 6 None → AreInOrder rows t.last
 AreInOrder-from_none set t rows none = record {
   rising = rising;
-  start = start;
-  end = λ k r e. elim (cases_lt t.last r.gst) [
-    | inl l ↦ absurd (none (BeyondEnd k) (omega arith) (omega arith) (record { row = r; here = e }, l))
-    | inr l ↦ l
-  ];
-} where
-  rising : (j k : ℕ) (a b : Row) → j < k → row_at rows j ≡ Some a → row_at rows k ≡ Some b → a.gst < b.gst
-  rising j k a b l p q = let e : k ≡ j + 1 + (k - (j + 1)) = omega (arith, l) in rising_later set t rows none (k - (j + 1)) j a b p (subst (λ (i : ℕ). row_at rows i ≡ Some b) e q)
-
-  first : (r : Row) → row_at rows 1 ≡ Some r → 1 ≤ r.gst
-  first r e = elim (cases_eq r.gst 1) [
-    | inl h ↦ omega (arith, h)
-    | inr h ↦ absurd (none FirstNotOne (omega arith) (omega arith) (record { row = r; here = e }, h))
-  ]
-
-  start : (k : ℕ) (r : Row) → row_at rows k ≡ Some r → 1 ≤ r.gst
-  start k r e = elim (cases_eq k 1) [
+  start = λ k r e. elim (cases_eq k 1) [
     | inl h ↦ first r (subst (λ (i : ℕ). row_at rows i ≡ Some r) h e)
     | inr h ↦ (let w = row_at_within rows k r e in
         let one = row_at_next rows 0 no_row (omega (arith, w, h)) in
         let above = rising 1 k (get_or rows 0 no_row) r (omega (arith, w, h)) one e in
         omega (arith, above))
+  ];
+  end = λ k r e. elim (cases_lt t.last r.gst) [
+    | inl l ↦ absurd (none (BeyondEnd k) (omega arith) (omega arith) (record { row = r; here = e }, l))
+    | inr l ↦ l
+  ];
+} where
+  next : (k : ℕ) (a b : Row) → row_at rows k ≡ Some a → row_at rows (suc k) ≡ Some b → a.gst < b.gst
+  next k a b p q = elim (cases_lt a.gst b.gst) [
+    | inl l ↦ l
+    | inr l ↦ absurd (none (NotRising (suc k)) (omega arith) (omega arith) (two_rows rows k a b p q, l))
+  ]
+
+  rising : (j k : ℕ) (a b : Row) → j < k → row_at rows j ≡ Some a → row_at rows k ≡ Some b → a.gst < b.gst
+  rising j k a b l p q = later_above rows j k a b (rising-from_next rows next) p q l
+
+  first : (r : Row) → row_at rows 1 ≡ Some r → 1 ≤ r.gst
+  first r e = elim (cases_eq r.gst 1) [
+    | inl h ↦ omega (arith, h)
+    | inr h ↦ absurd (none FirstNotOne (omega arith) (omega arith) (record { row = r; here = e }, h))
   ]
 
 -- there are rows

@@ -5,14 +5,7 @@ use Rattle.std.specs.List.{list_any}
 use Rattle.std.proofs.lemmas.List.{length-set}
 use Rattle.std.proofs.lemmas.List.Folds.{list_any_more}
 use Rattle.std.proofs.lemmas.Bool.{cases_eq, eqb-true, eqb-false}
-use Rattle.step_trace.specs.declared.steps.Act.TheVariants.{Send, Receive}
-use Rattle.step_trace.specs.declared.steps.Step.{Step}
-use Rattle.step_trace.specs.Steps.{act_ids}
-use Rattle.step_trace.specs.Traces.{Recorded, step_at, TakesAt, IsReceiveOf, IsWellFormed}
-use Rattle.step_trace.proofs.StepPositions.{Contains-from_takes, act_takes-from_Contains}
-use Rattle.certificate_checker.specs.declared.receives.TheConstants.{UNTAKEN}
-use Rattle.certificate_checker.specs.declared.receives.Receives.{Receives}
-use Rattle.certificate_checker.specs.Receives.{IsLastBefore, KnowsReceives, NotesTakes}
+use Rattle.certificate_checker.proofs.Common.{Send, Receive, Step, act_ids, Recorded, step_at, TakesAt, IsReceiveOf, IsWellFormed, Contains-from_takes, act_takes-from_Contains, UNTAKEN, Receives, IsLastBefore, KnowsReceives, NotesTakes}
 use Rattle.certificate_checker.proofs.StepFacts.{same_step, receive_unique}
 
 -- one id more, as at a step of a loop
@@ -53,8 +46,7 @@ KnowsReceives-send t x a b r low h k =
       taken = λ j s within takes. elim (cases_eq j x) [
         | inl e ↦ absurd (let same = same_step t.steps x _ _ (subst (λ (i : ℕ). step_at t.steps i ≡ Some takes.0) e takes.1) h in
             let none = subst (λ (z : Step). Contains (act_ids z.act) s) same takes.2 in
-            let l = none.1 in
-            omega arith)
+            omega (arith, none.1))
         | inr e ↦ k.taken j s (omega (arith, e, within)) takes
       ];
       known = λ s some within. (let f = k.known s some within in let u = f.2 in (f.0, f.1, omega (arith, u)));

@@ -1,13 +1,11 @@
 -- Rows by their numbers.
-use Rattle.std.proofs.Common.{ℕ, ◌≡◌, ◌+◌, ◌<◌, inl, inr, List, map, get_or, Contains, Some, None, option_map, ap, sym, ◌∙◌, suc, zero, arith}
+use Rattle.std.proofs.Common.{ℕ, ◌≡◌, ◌+◌, ◌-◌, ◌<◌, inl, inr, List, map, get_or, Contains, Some, None, option_map, ap, sym, ◌∙◌, suc, zero, arith}
 use Rattle.std.specs.Prelude.{slice_get}
 use Rattle.std.specs.List.Sorted.{IsStrictlyIncreasing}
 use Rattle.std.proofs.lemmas.Bool.{cases_eq}
 use Rattle.std.proofs.lemmas.Option.{none-some, same_Some, slice_get-map, slice_get_within, slice_get-get_or, get_or_from_slice_get}
 use Rattle.std.proofs.lemmas.List.{length-map}
-use Rattle.step_trace.specs.declared.rows.Row.{Row}
-use Rattle.step_trace.proofs.ListMembers.{Contains-slice_get}
-use Rattle.certificate_checker.specs.Certificates.{row_at}
+use Rattle.certificate_checker.proofs.Common.{Row, Contains-slice_get, row_at, HasTwoRows}
 
 -- a row with a number is one of the rows
 pub Contains-row_at : (rows : List Row) (k : ℕ) (r : Row) → row_at rows k ≡ Some r → Contains rows r
@@ -20,9 +18,12 @@ row_at-from_Contains rows r c = (suc c.0, slice_get-get_or rows c.0 r c.1 ∙ ap
 
 -- another row comes before a row with a number above 1
 pub row_before : (rows : List Row) (k : ℕ) (r : Row) → row_at rows (suc (suc k)) ≡ Some r → (b : Row) × (row_at rows (suc k) ≡ Some b)
-row_before rows k r e =
-    let within = slice_get_within rows (suc k) r e in
-    (get_or rows k r, slice_get-get_or rows k r (omega (arith, within)))
+row_before rows k r e = (get_or rows k r, slice_get-get_or rows k r (omega (arith, slice_get_within rows (suc k) r e)))
+
+-- a row and the one after it
+abbrev pub two_rows : (rows : List Row) (k : ℕ) (a b : Row) → row_at rows k ≡ Some a → row_at rows (suc k) ≡ Some b
+    → HasTwoRows rows (suc k)
+two_rows rows k a b p q = record { before = a; row = b; there = (let e : suc k - 1 ≡ k = omega arith in rw e p); here = q }
 
 -- the stabilization time of a row, in the list of stabilization times
 gst_at : (rows : List Row) (k : ℕ) (r : Row) → slice_get rows k ≡ Some r → get_or (map (λ x. x.gst) rows) k 0 ≡ r.gst
@@ -31,9 +32,8 @@ gst_at rows k r e = get_or_from_slice_get (map (λ x. x.gst) rows) k r.gst 0 (sl
 -- if the rows rise, each stabilization time is below that of the next row
 next_above : (rows : List Row) (k : ℕ) (a b : Row) → IsStrictlyIncreasing (map (λ x. x.gst) rows) → slice_get rows k ≡ Some a → slice_get rows (k + 1) ≡ Some b → a.gst < b.gst
 next_above rows k a b rising p q =
-    let within = slice_get_within rows (k + 1) b q in
     let size = length-map rows (λ (x : Row). x.gst) in
-    let l = rising k (omega (arith, size, within)) in
+    let l = rising k (omega (arith, size, slice_get_within rows (k + 1) b q)) in
     rw (gst_at rows k a p, gst_at rows (k + 1) b q) at l
 
 -- and below that of each later one

@@ -3,10 +3,7 @@ use Rattle.std.proofs.Common.{ℕ, ◌≡◌, ◌+◌, ◌-◌, ◌<◌, ◌≤�
 use Rattle.std.proofs.lemmas.Bool.{cases_eq}
 use Rattle.std.proofs.lemmas.Option.{none-some, same_Some, slice_get-get_or, slice_get_past}
 use Rattle.std.proofs.lemmas.Bool.{cases_lt}
-use Rattle.step_trace.specs.declared.rows.Row.{Row}
-use Rattle.certificate_checker.specs.Certificates.{row_at}
-use Rattle.certificate_checker.specs.Verdicts.{HasRow, HasTwoRows}
-use Rattle.certificate_checker.specs.Searches.{IsFirst}
+use Rattle.certificate_checker.proofs.Common.{Row, row_at, HasRow, HasTwoRows, IsFirst}
 
 -- what is read if there is no row
 abbrev pub no_row : Row

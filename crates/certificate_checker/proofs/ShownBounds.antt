@@ -1,14 +1,7 @@
 -- Whether the witness beside a bound shows that no smaller positive bound holds: this is decided, and it does.
 use Rattle.std.proofs.Common.{ℕ, ◌≡◌, ◌+◌, ◌<◌, ◌≤◌, ◌⊎◌, inl, inr, Option, Some, None, refl, arith}
 use Rattle.std.proofs.lemmas.Bool.{cases_lt, cases_eq}
-use Rattle.step_trace.specs.declared.rows.Miss.{Miss}
-use Rattle.step_trace.specs.declared.rows.Gap.{Gap}
-use Rattle.step_trace.specs.Traces.{Recorded}
-use Rattle.step_trace.specs.Ticks.{tick_of}
-use Rattle.step_trace.specs.Bounds.{DeltaHolds, PhiHolds, IsDelta, IsPhi}
-use Rattle.step_trace.specs.Witnesses.{MissRefutes, GapRefutes}
-use Rattle.step_trace.proofs.BoundLaws.{MissRefutes-sound, GapRefutes-sound}
-use Rattle.certificate_checker.specs.Certificates.{ShowsDelta, ShowsPhi}
+use Rattle.certificate_checker.proofs.Common.{Miss, Gap, Recorded, tick_of, DeltaHolds, PhiHolds, IsDelta, IsPhi, MissRefutes, GapRefutes, MissRefutes-sound, GapRefutes-sound, ShowsDelta, ShowsPhi}
 use Rattle.certificate_checker.proofs.WitnessDecisions.{all_or_not, below_or_not, at_most_or_not, miss_or_not, gap_or_not}
 
 pub ShowsDelta-or_not : (set : ℕ) (trace : Recorded) (after d : ℕ) (o : Option Miss) → ShowsDelta set trace after d o ⊎ (¬ ShowsDelta set trace after d o)
@@ -36,17 +29,13 @@ pub ShowsDelta-refutes : (set : ℕ) (trace : Recorded) (after d : ℕ) (o : Opt
     → (m : Miss) × (o ≡ Some m) × MissRefutes set trace g e m
 ShowsDelta-refutes set trace after d None s g e before positive smaller = absurd (omega (arith, s, positive, smaller))
 ShowsDelta-refutes set trace after d (Some m) s g e before positive smaller =
-    let long = s.2 in
-    let reaches = s.3 in
-    (m, refl, record { miss = s.1; from = omega (arith, reaches, before); long = omega (arith, long, smaller) })
+    (m, refl, record { miss = s.1; from = omega (arith, s.3, before); long = omega (arith, s.2, smaller) })
 
 pub ShowsPhi-refutes : (set : ℕ) (trace : Recorded) (after f : ℕ) (o : Option Gap) → ShowsPhi set trace after f o → (g e : ℕ) → g < after → 1 ≤ e → e < f
     → (w : Gap) × (o ≡ Some w) × GapRefutes set trace g e w
 ShowsPhi-refutes set trace after f None s g e before positive smaller = absurd (omega (arith, s, positive, smaller))
 ShowsPhi-refutes set trace after f (Some w) s g e before positive smaller =
-    let long = s.2 in
-    let reaches = s.3 in
-    (w, refl, record { gap = s.1; from = omega (arith, reaches, before); long = omega (arith, long, smaller) })
+    (w, refl, record { gap = s.1; from = omega (arith, s.3, before); long = omega (arith, s.2, smaller) })
 
 -- so from each tick before `after` the bound is the least, if it holds there
 pub IsDelta-shown : (set : ℕ) (trace : Recorded) (after d g : ℕ) (o : Option Miss) → ShowsDelta set trace after d o → g < after → DeltaHolds set trace g d → IsDelta set trace g d

@@ -7,14 +7,7 @@ use Rattle.std.proofs.lemmas.List.{length-set}
 use Rattle.std.proofs.lemmas.List.Elements.{All-nil, All-push, Contains-push, Contains-append_left}
 use Rattle.std.proofs.lemmas.List.Sorted.{IsNonDecreasingBy-short, IsNonDecreasingBy-push}
 use Rattle.std.proofs.lemmas.Option.{slice_get_within, slice_get_read, get_or_from_slice_get}
-use Rattle.step_trace.specs.declared.steps.Step.{Step}
-use Rattle.step_trace.specs.Processors.{has_proc}
-use Rattle.step_trace.specs.Traces.{Recorded, IsStepOf}
-use Rattle.step_trace.specs.Ticks.{tick_of, IsTimed, StepsIn}
-use Rattle.step_trace.proofs.StepPositions.{step_at_within}
-use Rattle.step_trace.proofs.TickOrder.{ticks_rise}
-use Rattle.certificate_checker.specs.declared.silences.Silence.{Silence}
-use Rattle.certificate_checker.specs.Silences.{IsSilence, AreSilences, KnowsSilence, KnowsSilences}
+use Rattle.certificate_checker.proofs.Common.{Step, has_proc, Recorded, IsStepOf, tick_of, IsTimed, StepsIn, step_at_within, ticks_rise, Silence, IsSilence, AreSilences, KnowsSilence, KnowsSilences}
 use Rattle.certificate_checker.proofs.StepFacts.{same_step}
 
 -- before the first step

@@ -4,13 +4,7 @@ use Rattle.std.specs.Prelude.{slice_get}
 use Rattle.std.proofs.lemmas.Bool.{cases_eq, cases_lt}
 use Rattle.std.proofs.lemmas.Option.{slice_get_read}
 use Rattle.std.proofs.lemmas.List.{length-append}
-use Rattle.step_trace.specs.declared.rows.Gap.{Gap}
-use Rattle.step_trace.specs.Processors.{has_proc}
-use Rattle.step_trace.specs.Traces.{Recorded}
-use Rattle.step_trace.specs.Witnesses.{IsGap}
-use Rattle.certificate_checker.specs.declared.silences.Silence.{Silence}
-use Rattle.certificate_checker.specs.Silences.{IsNextStep, IsSilence, AreSilences}
-use Rattle.step_trace.proofs.StepPositions.{slice_get-push_cases}
+use Rattle.certificate_checker.proofs.Common.{Gap, has_proc, Recorded, IsGap, Silence, IsNextStep, IsSilence, AreSilences, slice_get-push_cases}
 
 -- the silence of a member, if it is read
 pub silence_of : (set : ℕ) (t : Recorded) (silences : List Silence) (p : ℕ) (s : Silence) → AreSilences set t silences → IsTrue (has_proc set p) → p ≤ t.config.n → s ≡ get_or silences p s → IsSilence t p s
@@ -95,11 +89,10 @@ KnowsLongest-passed set t x p proc end next n early k = record {
 pub KnowsLongest-taken : (set : ℕ) (t : Recorded) (x p proc end next : ℕ) → IsNextStep t p x next → IsTrue (has_proc set p) → 1 ≤ x → end < next → KnowsLongest set t x p proc end → KnowsLongest set t x (p + 1) p next
 KnowsLongest-taken set t x p proc end next n member low later k =
     let within = k.within in
-    let positive = member_low set p member in
     record {
       within = omega (arith, within, later);
       inside = n.until;
-      alone = λ e. absurd (omega (arith, e, positive));
+      alone = λ e. absurd (omega (arith, e, member_low set p member));
       found = λ _. (gap_before set t p x (next - 1) next n member low (omega (arith, within, later)) (omega (arith, later)), omega (arith, within, later));
       shorter = λ o g e l. elim (cases_eq o.proc p) [
         | inl same ↦ own_end set t x p next o n g e same

@@ -2,29 +2,15 @@
 use Rattle.std.proofs.Common.{ℕ, ◌≡◌, ◌-◌, ◌<◌, ◌≤◌, inl, inr, List, [], ◌∷◌, map, Contains, Some, refl, subst, suc, zero, arith}
 use Rattle.std.proofs.lemmas.Bool.{cases_lt, cases_eq}
 use Rattle.std.proofs.lemmas.Option.{none-some}
-use Rattle.step_trace.specs.declared.rows.Row.{Row}
-use Rattle.step_trace.specs.Traces.{Recorded}
-use Rattle.step_trace.specs.Bounds.{DeltaHolds, PhiHolds, IsDelta, IsPhi}
-use Rattle.step_trace.specs.Fronts.{Triple, IsOnFront, triple_of}
-use Rattle.step_trace.proofs.ListMembers.{Contains-map}
-use Rattle.step_trace.proofs.BoundLaws.{DeltaHolds-later, PhiHolds-later, MissRefutes-sound, GapRefutes-sound, IsLeastBound-unique}
-use Rattle.step_trace.proofs.FrontCriterion.{IsDelta-on_front, IsPhi-on_front, on_front-changes, IsOnFront-from_change}
-use Rattle.certificate_checker.specs.declared.verdicts.Reason.{Reason}
-use Rattle.certificate_checker.specs.declared.verdicts.Reason.TheVariants.{NoRows, FirstNotOne, NotRising, BeyondEnd, SameAsBefore, BadMiss, BadGap, DeltaFails, PhiFails}
-use Rattle.certificate_checker.specs.Certificates.{row_at, after_stretch, Serves, ShowsDelta, ShowsPhi, Certifies}
-use Rattle.certificate_checker.specs.Verdicts.{HasRow, HasTwoRows, Stands}
-use Rattle.certificate_checker.proofs.DecidedBounds.{delta_or_longest, phi_or_longest}
-use Rattle.certificate_checker.proofs.RowPlaces.{Contains-row_at, row_at-from_Contains, row_before, later_above, rising-from_next}
+use Rattle.certificate_checker.proofs.Common.{Row, Recorded, DeltaHolds, PhiHolds, IsDelta, IsPhi, Triple, IsOnFront, triple_of, Contains-map, DeltaHolds-unrefuted, PhiHolds-unrefuted, DeltaHolds-later, PhiHolds-later, MissRefutes-sound, GapRefutes-sound, IsLeastBound-unique, IsDelta-on_front, IsPhi-on_front, on_front-changes, IsOnFront-from_change, Reason, NoRows, FirstNotOne, NotRising, BeyondEnd, SameAsBefore, BadMiss, BadGap, DeltaFails, PhiFails, row_at, after_stretch, Serves, ShowsDelta, ShowsPhi, Certifies, HasRow, Stands}
+use Rattle.certificate_checker.proofs.LongestOrNone.{no_miss, no_gap}
+use Rattle.certificate_checker.proofs.RowPlaces.{Contains-row_at, row_at-from_Contains, row_before, two_rows, later_above, rising-from_next}
 use Rattle.certificate_checker.proofs.Stretches.{AreInOrder, begins_within, serving_row, serves_before}
 use Rattle.certificate_checker.proofs.ShownBounds.{ShowsDelta-or_not, ShowsPhi-or_not, ShowsDelta-positive, ShowsPhi-positive, ShowsDelta-refutes, ShowsPhi-refutes, IsDelta-shown, IsPhi-shown}
 
 -- no reason holds against the rows
 abbrev IsUnopposed : ℕ → Recorded → List Row → Type 0
 IsUnopposed set trace rows = (w : Reason) → ¬ Stands set trace rows w
-
--- a row and the one after it
-abbrev two_rows : (rows : List Row) (k : ℕ) (a b : Row) → row_at rows k ≡ Some a → row_at rows (suc k) ≡ Some b → HasTwoRows rows (suc k)
-two_rows rows k a b p q = record { before = a; row = b; there = (let e : suc k - 1 ≡ k = omega arith in rw e p); here = q }
 
 AreInOrder-unopposed : (set : ℕ) (trace : Recorded) (rows : List Row) → IsUnopposed set trace rows → AreInOrder trace.last rows
 AreInOrder-unopposed set trace rows nothing = record {
@@ -57,17 +43,20 @@ pub IsSupported-unopposed : (set : ℕ) (trace : Recorded) (rows : List Row) (k 
 IsSupported-unopposed set trace rows k r nothing here = record {
   miss = miss;
   gap = gap;
-  delta = elim (delta_or_longest set trace r.gst r.delta (ShowsDelta-positive set trace after r.delta r.miss miss)) [
-    | inl holds ↦ holds
-    | inr (m, longest, refutes) ↦ absurd (nothing (DeltaFails k m) (row, MissRefutes-sound set trace r.gst r.delta m refutes, longest))
-  ];
-  phi = elim (phi_or_longest set trace r.gst r.phi (begins_late set trace rows k r (AreInOrder-unopposed set trace rows nothing) here) (ShowsPhi-positive set trace after r.phi r.gap gap)) [
-    | inl holds ↦ holds
-    | inr (w, longest, refutes) ↦ absurd (nothing (PhiFails k w) (row, GapRefutes-sound set trace r.gst r.phi w refutes, longest))
-  ];
+  delta = DeltaHolds-unrefuted set trace r.gst r.delta (ShowsDelta-positive set trace after r.delta r.miss miss) (λ m refutes.
+      no_miss set trace r.gst
+      (λ o longest. nothing (DeltaFails k o) (row, MissRefutes-sound set trace r.gst r.delta m refutes, longest))
+      m refutes.miss refutes.from);
+  phi = PhiHolds-unrefuted set trace r.gst r.phi late (ShowsPhi-positive set trace after r.phi r.gap gap) (λ w refutes.
+      no_gap set trace r.gst
+      (λ o longest. nothing (PhiFails k o) (row, GapRefutes-sound set trace r.gst r.phi w refutes, longest))
+      w refutes.gap refutes.from);
 } where
   row : HasRow rows k
   row = record { row = r; here = here }
+
+  late : 1 ≤ r.gst
+  late = begins_late set trace rows k r (AreInOrder-unopposed set trace rows nothing) here
 
   after : ℕ
   after = after_stretch rows trace.last k

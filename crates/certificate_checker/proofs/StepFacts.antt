@@ -3,13 +3,7 @@ use Rattle.std.proofs.Common.{ℕ, ◌≡◌, ◌+◌, ◌<◌, ◌≤◌, List,
 use Rattle.std.specs.Prelude.{All, Contains}
 use Rattle.std.proofs.lemmas.List.{get_or_default}
 use Rattle.std.proofs.lemmas.Option.{same_Some}
-use Rattle.step_trace.specs.declared.steps.Act.{Act}
-use Rattle.step_trace.specs.declared.steps.Act.TheVariants.{Send, Receive}
-use Rattle.step_trace.specs.declared.steps.Step.{Step}
-use Rattle.step_trace.specs.Configurations.{Setup}
-use Rattle.step_trace.specs.Steps.{act_ids}
-use Rattle.step_trace.specs.Traces.{step_at, TakesAt, IsReceiveOf, IsWellFormed}
-use Rattle.step_trace.proofs.StepPositions.{step_at_within}
+use Rattle.certificate_checker.proofs.Common.{Act, Send, Receive, Step, Setup, act_ids, step_at, TakesAt, IsReceiveOf, IsWellFormed, step_at_within}
 use Rattle.step_trace.proofs.TickPositions.{step_exists}
 
 -- a step by its processor and its act
@@ -29,8 +23,7 @@ pub ids_bound : (c : Setup) (steps : List Step) (x p : ℕ) (ids list : List ℕ
     → length list ≡ length steps + 1 → All (λ s. s < length list) ids
 ids_bound c steps x p ids list ends w h long = λ k d l.
     let earlier = (w.earlier x (get_or ids k d) (record { proc = p; act = Receive ends ids }) h (k, l, get_or_default ids k (get_or ids k d) d l)).0 in
-    let inside = step_at_within steps x _ h in
-    omega (arith, earlier, inside, long)
+    omega (arith, earlier, step_at_within steps x _ h, long)
 
 -- who takes a message is its receiver
 pub taker_receives : (c : Setup) (steps : List Step) (s a b place : ℕ) → IsWellFormed c steps → step_at steps s ≡ Some (record { proc = a; act = Send b }) → TakesAt steps place s → IsReceiveOf steps place b

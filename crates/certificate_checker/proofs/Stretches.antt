@@ -4,8 +4,7 @@ use Rattle.std.specs.Option.{option_map_or}
 use Rattle.std.specs.List.Sorted.{IsStrictlyIncreasing}
 use Rattle.std.proofs.lemmas.Bool.{cases_lt, cases_eq}
 use Rattle.std.proofs.lemmas.Option.{none-some, same_Some, slice_get_within, slice_get-get_or}
-use Rattle.step_trace.specs.declared.rows.Row.{Row}
-use Rattle.certificate_checker.specs.Certificates.{row_at, after_stretch, Serves}
+use Rattle.certificate_checker.proofs.Common.{Row, row_at, after_stretch, Serves}
 use Rattle.certificate_checker.proofs.RowPlaces.{later_above}
 
 -- there are rows if there are ticks; they begin in tick 1, rise, and begin in ticks of the trace
@@ -53,8 +52,7 @@ serving_row rows last (suc (suc n)) order start end = more (serving_row rows las
     | inr m ↦ elim (after_cases rows last k) [
       | inr (none, e) ↦ absurd (omega (arith, m, e, end))
       | inl (b, next, e) ↦ (
-          let u = serves.until in
-          let here : b.gst ≡ suc (suc n) = omega (arith, m, e, u) in
+          let here : b.gst ≡ suc (suc n) = omega (arith, m, e, serves.until) in
           (suc k, b, subst (Serves rows last (suc k) b) here (begins_within rows last (suc k) b order next)))
     ]
   ]

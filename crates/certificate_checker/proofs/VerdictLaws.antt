@@ -1,12 +1,6 @@
 -- What a verdict means for rows, and for the report.
 use Rattle.std.proofs.Common.{ℕ, ◌≡◌, List, refl, subst}
-use Rattle.step_trace.specs.declared.rows.Row.{Row}
-use Rattle.step_trace.specs.Traces.{Recorded}
-use Rattle.step_trace.specs.Fronts.{IsReport}
-use Rattle.certificate_checker.specs.declared.verdicts.Verdict.{Verdict}
-use Rattle.certificate_checker.specs.declared.verdicts.Verdict.TheVariants.{Yes, No}
-use Rattle.certificate_checker.specs.Certificates.{Certifies}
-use Rattle.certificate_checker.specs.Verdicts.{IsVerdict}
+use Rattle.certificate_checker.proofs.Common.{Row, Recorded, IsReport, Verdict, Yes, No, Certifies, IsVerdict}
 use Rattle.certificate_checker.proofs.Soundness.{Certifies-unopposed}
 use Rattle.certificate_checker.proofs.Completeness.{IsUnopposed-report}
 

@@ -2,19 +2,7 @@
 use Rattle.std.proofs.Common.{ℕ, ◌≡◌, ◌<◌, ◌≤◌, ◌==◌, inl, inr, List, length, get_or, Bool, true, false, cond, refl, ap, subst, arith}
 use Rattle.std.specs.Prelude.{◌↔◌}
 use Rattle.std.proofs.lemmas.Bool.{cases_lt, eqb-true, eqb-false}
-use Rattle.step_trace.specs.declared.rows.Miss.{Miss}
-use Rattle.step_trace.specs.declared.steps.Step.{Step}
-use Rattle.step_trace.specs.Traces.{Recorded, TakesAt, IsReceiveOf, IsWellFormed}
-use Rattle.step_trace.specs.Ticks.{tick_of, IsTrace}
-use Rattle.step_trace.specs.Bounds.{IsMessage}
-use Rattle.step_trace.specs.Witnesses.{IsMiss}
-use Rattle.step_trace.proofs.StepPositions.{step_at_within}
-use Rattle.step_trace.proofs.TickOrder.{ticks_rise, own_ticks_rise}
-use Rattle.step_trace.proofs.BoundLaws.{IsMessage-receiver}
-use Rattle.certificate_checker.specs.declared.receives.TheConstants.{UNTAKEN}
-use Rattle.certificate_checker.specs.declared.receives.Receives.{Receives}
-use Rattle.certificate_checker.specs.Receives.{IsLastBefore, WaitsAt, IsLastWaited, KnowsReceives, last_waited}
-use Rattle.certificate_checker.specs.LongestWitnesses.{IsLastMiss}
+use Rattle.certificate_checker.proofs.Common.{Miss, Step, Recorded, TakesAt, IsReceiveOf, IsWellFormed, tick_of, IsTrace, IsMessage, IsMiss, step_at_within, ticks_rise, own_ticks_rise, IsMessage-receiver, UNTAKEN, Receives, IsLastBefore, WaitsAt, IsLastWaited, KnowsReceives, last_waited, IsLastMiss}
 use Rattle.certificate_checker.proofs.StepFacts.{taker_receives, same_step}
 
 -- if no note was made of a message it is never taken
@@ -23,8 +11,7 @@ never_taken t s r w k e j takes =
     let inside = step_at_within t.steps j _ takes.1 in
     let last = subst (λ (m : ℕ). IsLastBefore t.steps takes.0.proc j m) e (k.taken j s inside.1 takes) in
     let below = (last.found (omega arith)).0 in
-    let short = w.short in
-    omega (arith, inside, below, short)
+    omega (arith, inside, below, w.short)
 
 -- the note of a message that is never taken, and of one that is
 pub IsLastWaited-from_known : (set : ℕ) (t : Recorded) (s b : ℕ) (r : Receives) → IsWellFormed t.config t.steps → IsMessage set t.steps s b → b ≤ t.config.n → KnowsReceives t (length t.steps) r → IsLastWaited t.steps s b (last_waited r s b)
@@ -76,9 +63,7 @@ waits_miss set t w s b r m receive late waits = record {
   late = late;
   undelivered = λ d. elim (cases_lt r d.place) [
     | inl l ↦ (let taker = taker_receives t.config t.steps s m.from b d.place w.steps m.sent d.takes in
-        let above = own_ticks_rise t w.time r d.place _ _ receive.step taker.step refl l in
-        let until = d.until in
-        omega (arith, above, until))
+        omega (arith, own_ticks_rise t w.time r d.place _ _ receive.step taker.step refl l, d.until))
     | inr l ↦ waits d.place l d.takes
   ];
 }
@@ -89,9 +74,8 @@ pub IsMiss-by_waited : (set : ℕ) (t : Recorded) → IsTrace t → (m : Miss) (
 IsMiss-by_waited set t w m b r message receive l = (
   λ i. (i.late, l.last m.missed receive (miss_waits set t w m i)),
   λ h. (let inside = step_at_within t.steps m.missed _ receive.step in
-      let high = h.1 in
-      let f = l.found (omega (arith, inside, high)) in
-      waits_miss set t w m.sent b m.missed message receive h.0 (λ k u. f.1 k (omega (arith, u, high)))),
+      let f = l.found (omega (arith, inside, h.1)) in
+      waits_miss set t w m.sent b m.missed message receive h.0 (λ k u. f.1 k (omega (arith, u, h.1)))),
 )
 
 -- each miss of the message is at or before it
@@ -114,10 +98,7 @@ IsLastMiss-from_waited set t w s b r message l some late =
 pub HasNoMiss-from_waited : (set : ℕ) (t : Recorded) → IsTrace t → (s b r : ℕ) → IsMessage set t.steps s b → IsLastWaited t.steps s b r → (0 < r → tick_of t r ≤ tick_of t s) → (o : Miss) → IsMiss set t o → o.sent ≡ s → ⊥
 HasNoMiss-from_waited set t w s b r message l early o i e =
     let high = own_last set t w s b r o message l i e in
-    let inside = step_at_within t.steps o.missed _ i.receive.step in
-    let some : 0 < r = omega (arith, inside, high) in
+    let some : 0 < r = omega (arith, step_at_within t.steps o.missed _ i.receive.step, high) in
     let up = ticks_rise t w.time o.missed r _ _ i.receive.step (l.found some).0.step high in
-    let early_r = early some in
-    let late = i.late in
     let same = ap (tick_of t) e in
-    omega (arith, up, early_r, late, same)
+    omega (arith, up, early some, i.late, same)

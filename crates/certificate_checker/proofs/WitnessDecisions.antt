@@ -1,20 +1,9 @@
 -- Whether something is a miss, or a gap, can be decided.
 use Rattle.std.proofs.Common.{ℕ, ◌≡◌, ◌+◌, ◌-◌, ◌<◌, ◌≤◌, ◌⊎◌, inl, inr, List, Option, Some, None, refl, ap, sym, ◌∙◌, subst, arith}
 use Rattle.std.specs.Prelude.{IsTrue}
-use Rattle.std.proofs.lemmas.Bool.{cases_lt, cases_eq, cases_Bool, both_ways}
+use Rattle.std.proofs.lemmas.Bool.{cases_lt, cases_Bool, both_ways}
 use Rattle.std.proofs.lemmas.Option.{none-some, same_Some}
-use Rattle.step_trace.specs.declared.steps.Act.{Act}
-use Rattle.step_trace.specs.declared.steps.Act.TheVariants.{Send, Receive}
-use Rattle.step_trace.specs.declared.steps.Step.{Step}
-use Rattle.step_trace.specs.declared.rows.Miss.{Miss}
-use Rattle.step_trace.specs.declared.rows.Gap.{Gap}
-use Rattle.step_trace.specs.Processors.{has_proc}
-use Rattle.step_trace.specs.Traces.{Recorded, step_at, IsReceiveOf}
-use Rattle.step_trace.specs.Ticks.{tick_of}
-use Rattle.step_trace.specs.Bounds.{IsMessage}
-use Rattle.step_trace.specs.Witnesses.{IsMiss, IsGap}
-use Rattle.step_trace.proofs.BoundLaws.{IsMessage-receiver}
-use Rattle.step_trace.proofs.BoundDecisions.{delivered_or_not, steps_within_or_not}
+use Rattle.certificate_checker.proofs.Common.{Act, Send, Receive, Step, Miss, Gap, has_proc, Recorded, step_at, IsReceiveOf, tick_of, IsMessage, IsMiss, IsGap, IsMessage-receiver, delivered_or_not, step_or_not, steps_within_or_not}
 
 -- what may be decided of each of four may be decided of all
 pub all_or_not : {P Q R S : Type 0} → P ⊎ (¬ P) → Q ⊎ (¬ Q) → R ⊎ (¬ R) → S ⊎ (¬ S) → (P × Q × R × S) ⊎ (¬ (P × Q × R × S))
@@ -56,23 +45,13 @@ message_or_not set steps s = at (step_at steps s) refl where
 
 -- step r is a Receive of p, or it isn't
 receive_or_not : (steps : List Step) (r p : ℕ) → IsReceiveOf steps r p ⊎ (¬ IsReceiveOf steps r p)
-receive_or_not steps r p = at (step_at steps r) refl where
-  at : (o : Option Step) → step_at steps r ≡ o → IsReceiveOf steps r p ⊎ (¬ IsReceiveOf steps r p)
-  at None e = inr (λ m. none-some _ (sym e ∙ m.step))
-  at (Some x) e = by x.act refl where
-    same : (m : IsReceiveOf steps r p) → record { proc = p; act = Receive m.ends m.ids } ≡ x
-    same m = same_Some _ x (sym m.step ∙ e)
-
-    by : (a : Act) → x.act ≡ a → IsReceiveOf steps r p ⊎ (¬ IsReceiveOf steps r p)
-    by (Send b) h = inr (λ m. let q = ap (λ (z : Step). z.act) (same m) ∙ h in cc)
-    by (Receive ends ids) h = elim (cases_eq x.proc p) [
-      | inl q ↦ inl (record {
-        ends = ends;
-        ids = ids;
-        step = e ∙ ap (λ (a : Act). let z : Step = record { proc = x.proc; act = a } in Some z) h ∙ ap (λ (c : ℕ). let z : Step = record { proc = c; act = Receive ends ids } in Some z) q;
-      })
-      | inr n ↦ inr (λ m. n (sym (ap (λ (z : Step). z.proc) (same m))))
-    ]
+receive_or_not steps r p = elim (step_or_not steps r p) [
+  | inr n ↦ inr (λ m. n (Receive m.ends m.ids, m.step))
+  | inl s ↦ by s.0 s.1
+] where
+  by : (a : Act) → step_at steps r ≡ Some (record { proc = p; act = a }) → IsReceiveOf steps r p ⊎ (¬ IsReceiveOf steps r p)
+  by (Receive ends ids) e = inl (record { ends = ends; ids = ids; step = e })
+  by (Send b) e = inr (λ m. let same = ap (λ (z : Step). z.act) (same_Some _ _ (sym m.step ∙ e)) in cc)
 
 -- this is a miss, or it isn't
 pub miss_or_not : (set : ℕ) (trace : Recorded) (m : Miss) → IsMiss set trace m ⊎ (¬ IsMiss set trace m)

@@ -3,9 +3,7 @@ use Rattle.std.proofs.Common.{ℕ, ◌≡◌, ◌+◌, ◌-◌, ◌<◌, List, [
 use Rattle.std.specs.Prelude.{slice_get, slice_index}
 use Rattle.std.proofs.lemmas.List.{get_or-map, get_or_append_left, get_or-append_right, length-append}
 use Rattle.std.proofs.lemmas.Slice.Zip.{AllZip-long}
-use Rattle.timed_events.specs.declared.events.Event.{Event}
-use Rattle.timed_events.specs.declared.idle_ticks.IdleTick.{IdleTick}
-use Rattle.timed_events.specs.IdleTicks.{AreReceives, IsIdleReceive, ticks_of}
+use Rattle.idle_laws.proofs.Common.{Event, IdleTick, AreReceives, IsIdleReceive, ticks_of}
 
 abbrev pub poll_of : ℕ → ℕ → IdleTick
 poll_of p y = record { processor = p; tick = y }

@@ -6,23 +6,10 @@ use Rattle.std.proofs.lemmas.Bool.{cases_lt}
 use Rattle.std.proofs.lemmas.List.Elements.{Contains-get_or}
 use Rattle.std.proofs.lemmas.List.Sorted.{Contains-permutation}
 use Rattle.std.proofs.lemmas.Option.{same_Some, slice_get_within}
-use Rattle.step_trace.specs.declared.steps.Act.{Act}
+use Rattle.idle_laws.proofs.Common.{Act, Step, DeltaHolds, IsDelivered, IsMessage, StepsIn, tick_of, IsReceiveOf, Recorded, step_at, Contains-from_map, Contains-map, Contains-nil, Event, EventAct, Send, Receive, IdleTick, messages_at, received_in, AreReceives, HasEventIn, IsOfNothing, ticks_of, IsActOf, IsTraceOf, sent_number, ids-from}
 use Rattle.step_trace.specs.declared.steps.Act.TheVariants as act
-use Rattle.step_trace.specs.declared.steps.Step.{Step}
-use Rattle.step_trace.specs.Bounds.{DeltaHolds, IsDelivered, IsMessage}
 use Rattle.step_trace.specs.Processors.{has_proc}
 use Rattle.step_trace.specs.Steps.{act_dest, act_ids}
-use Rattle.step_trace.specs.Ticks.{StepsIn, tick_of}
-use Rattle.step_trace.specs.Traces.{IsReceiveOf, Recorded, step_at}
-use Rattle.step_trace.proofs.ListMembers.{Contains-from_map, Contains-map, Contains-nil}
-use Rattle.timed_events.specs.declared.events.Event.{Event}
-use Rattle.timed_events.specs.declared.events.EventAct.{EventAct}
-use Rattle.timed_events.specs.declared.events.EventAct.TheVariants.{Send, Receive}
-use Rattle.timed_events.specs.declared.idle_ticks.IdleTick.{IdleTick}
-use Rattle.timed_events.specs.Checks.{messages_at, received_in}
-use Rattle.timed_events.specs.IdleTicks.{AreReceives, HasEventIn, IsOfNothing, ticks_of}
-use Rattle.timed_events.specs.TimedTraces.{IsActOf, IsTraceOf, sent_number}
-use Rattle.timed_events.proofs.FittingTraces.{ids-from}
 use Rattle.idle_laws.proofs.AddedEvents.{get-left, get-right, long-all, new-tick, old-tick, poll_of, receive-at}
 use Rattle.idle_laws.proofs.EventSteps.{EventOf, event-at, event-of, one-number, place-in, step-of}
 
@@ -153,10 +140,9 @@ module _ (n : ℕ) (events added : List Event) (ticks : List ℕ) (last : ℕ) (
     new : (f : EventOf all all_ticks t.numbers trace k x) → length events ≤ f.place → NewStep t.numbers polls trace k x
     new f l =
         let m = long-all events added ticks polls long r in
-        let inside = f.inside in
         let j = f.place - length events in
-        let at : f.place ≡ length events + j = omega arith in
-        let within : j < length polls = omega arith in
+        let at : f.place ≡ length events + j = omega (arith, f.inside) in
+        let within : j < length polls = omega (arith, f.inside) in
         let d = poll_of 0 0 in
         let w = receive-at polls added j d r within in
         let same = same_Some w.0 f.is.event (sym w.1 ∙ sym (get-right events added f.place j at) ∙ f.is.at) in
@@ -175,8 +161,7 @@ module _ (n : ℕ) (events added : List Event) (ticks : List ℕ) (last : ℕ) (
   old-step : (i : ℕ) (e : Event) → slice_get events i ≡ Some e → StepAt t.numbers trace i e (slice_index ticks i)
   old-step i e at =
       let l = slice_get_within events i e at in
-      let m = long-all events added ticks polls long r in
-      let f = step-of n all all_ticks last trace t i (omega arith) in
+      let f = step-of n all all_ticks last trace t i (omega (arith, long-all events added ticks polls long r)) in
       let same = same_Some f.is.event e (sym f.is.at ∙ get-left events added i l ∙ at) in
       record {
         step = f.step;
@@ -188,13 +173,12 @@ module _ (n : ℕ) (events added : List Event) (ticks : List ℕ) (last : ℕ) (
 
   new-step : (p y : ℕ) → Contains polls (poll_of p y) → PollAt t.numbers trace p y
   new-step p y c =
-      let m = long-all events added ticks polls long r in
       let j = c.0 in
       let d = poll_of p y in
       let i = length events + j in
       let within = c.1 in
       let w = receive-at polls added j d r within in
-      let f = step-of n all all_ticks last trace t i (omega arith) in
+      let f = step-of n all all_ticks last trace t i (omega (arith, long-all events added ticks polls long r)) in
       let same = same_Some f.is.event w.0 (sym f.is.at ∙ get-right events added i j refl ∙ w.1) in
       record {
         place = i;
@@ -307,15 +291,12 @@ module _ (n : ℕ) (events added : List Event) (ticks : List ℕ) (last : ℕ) (
     go : OldStep events ticks t.numbers trace d.place d.takes.0 ⊎ NewStep t.numbers polls trace d.place d.takes.0 → IsTakenBy events ticks i y
     go (inl o) =
         let ms = names i (received_in o.event.act) l (ids-from t.numbers o.event.act d.takes.0.act (slice_index t.numbers i) o.does d.takes.2) in
-        let a = d.after in
-        let b = d.until in
-        let f = o.tick in
         record {
           place = o.place;
           inside = slice_get_within events o.place o.event o.at;
           takes = subst (λ xs. Contains xs (Some i)) (sym (ap (λ v. option_map_or (λ (x : Event). received_in x.act) v []) o.at)) ms;
-          after = omega arith;
-          until = omega arith;
+          after = omega (arith, o.tick, d.after);
+          until = omega (arith, o.tick, d.until);
         }
     go (inr w) =
         let c = ids-from t.numbers w.act d.takes.0.act (slice_index t.numbers i) w.does d.takes.2 in
@@ -328,14 +309,10 @@ module _ (n : ℕ) (events added : List Event) (ticks : List ℕ) (last : ℕ) (
       let s = old-step i e at in
       let ms = subst (λ xs. Contains xs (Some i)) (ap (λ v. option_map_or (λ (z : Event). received_in z.act) v []) x.1) h.takes in
       let ids = ids-of t.numbers x.0.act f.step.act (slice_index t.numbers i) f.does (Contains-map (sent_number t.numbers) (received_in x.0.act) (Some i) ms) in
-      let a = h.after in
-      let b = h.until in
-      let p = f.tick_is in
-      let q = s.tick_is in
       record {
         place = slice_index t.numbers h.place;
-        after = omega arith;
-        until = omega arith;
+        after = omega (arith, s.tick_is, f.tick_is, h.after);
+        until = omega (arith, f.tick_is, h.until);
         takes = (f.step, f.at, ids);
       }
 
@@ -354,9 +331,8 @@ module _ (n : ℕ) (events added : List Event) (ticks : List ℕ) (last : ℕ) (
     each = λ s lo. record {
       on_time = λ k b m w late. (
           let f = sending set s b m in
-          let e = f.3 in
           let y = tick_of trace k in
-          let taken = h.each f.0 b y f.1 (omega arith) (looks-at k b w) (omega arith) in
+          let taken = h.each f.0 b y f.1 (omega (arith, f.3)) (looks-at k b w) (omega (arith, f.3)) in
           subst (λ z. IsDelivered trace z y) f.2 (delivered-by f.0 y f.1.event f.1.at taken));
     };
   }

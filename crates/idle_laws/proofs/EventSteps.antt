@@ -3,13 +3,7 @@ use Rattle.std.proofs.Common.{ℕ, ◌≡◌, ◌<◌, ◌≤◌, ◌⊎◌, inl
 use Rattle.std.specs.Prelude.{slice_get, slice_index}
 use Rattle.std.proofs.lemmas.Bool.{cases_lt}
 use Rattle.std.proofs.lemmas.List.{get_or-map, get_or_past, take_all}
-use Rattle.step_trace.specs.declared.steps.Step.{Step}
-use Rattle.step_trace.specs.Traces.{Recorded, step_at}
-use Rattle.step_trace.specs.Ticks.{tick_of}
-use Rattle.timed_events.specs.declared.events.Event.{Event}
-use Rattle.timed_events.specs.TimedTraces.{HasSteps, IsStepAt, IsTraceOf}
-use Rattle.timed_events.proofs.FittingTraces.{known, zip-step}
-use Rattle.timed_events.proofs.SortedEvents.{place-found, places-inside}
+use Rattle.idle_laws.proofs.Common.{Step, Recorded, step_at, tick_of, Event, HasSteps, IsStepAt, IsTraceOf, known, zip-step, place-found, places-inside}
 
 -- step k, which is x, is that of the event at this place
 pub record EventOf (events : List Event) (ticks numbers : List ℕ) (trace : Recorded) (k : ℕ) (x : Step) : Type 0 where
@@ -76,8 +70,6 @@ module _ (n : ℕ) (events : List Event) (ticks : List ℕ) (last : ℕ) (trace 
         sym b.2 ∙ ap (slice_index t.order) same ∙ a.2
     go (inr past) =
         let a = place-in p l in
-        let long = t.numbered.long in
         let all = (places-inside (length events) t.order t.ordered.places).0 in
-        let none = get_or_past t.numbers q 0 (omega arith) in
-        let x = a.3 in
-        absurd (omega arith)
+        let none = get_or_past t.numbers q 0 (omega (arith, t.numbered.long)) in
+        absurd (omega (arith, a.3, t.numbered.long))

@@ -6,15 +6,7 @@ use Rattle.std.proofs.lemmas.Bool.{cases_lt, eqb-true}
 use Rattle.std.proofs.lemmas.List.{length-map}
 use Rattle.std.proofs.lemmas.List.Elements.{All-contains}
 use Rattle.std.proofs.lemmas.Option.{slice_get_within}
-use Rattle.step_trace.proofs.ListMembers.{Contains-nil}
-use Rattle.timed_events.specs.declared.events.Event.{Event}
-use Rattle.timed_events.specs.declared.events.Clock.{Clock}
-use Rattle.timed_events.specs.declared.idle_ticks.IdleTick.{IdleTick}
-use Rattle.timed_events.specs.Checks.{processor_at, sends_to}
-use Rattle.timed_events.specs.IdleTicks.{AreIdle, HasEventIn, IsIdleTick}
-use Rattle.timed_events.specs.Spreads.{AreTicks, HavePassed}
-use Rattle.timed_events.specs.Times.{time_tick}
-use Rattle.idle_laws.specs.Fillings.{AreSilent, IsInShortSilence, IsSilentTick}
+use Rattle.idle_laws.proofs.Common.{Contains-nil, Event, Clock, IdleTick, processor_at, sends_to, AreIdle, HasEventIn, IsIdleTick, AreTicks, HavePassed, time_tick, AreSilent, IsInShortSilence, IsSilentTick}
 use Rattle.idle_laws.proofs.AddedEvents.{poll_of}
 use Rattle.idle_laws.proofs.EventBounds.{Acts, DeltaOfEvents, IsSending, IsTakenBy, Looks}
 use Rattle.idle_laws.proofs.ReceivedMessages.{received-for}

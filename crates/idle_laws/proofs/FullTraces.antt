@@ -3,22 +3,11 @@ use Rattle.std.proofs.Common.{ℕ, ◌≡◌, ◌+◌, ◌-◌, ◌<◌, ◌≤�
 use Rattle.std.specs.Prelude.{slice_index}
 use Rattle.std.specs.Option.{option_map_or}
 use Rattle.std.proofs.lemmas.Bool.{cases_lt}
-use Rattle.step_trace.specs.declared.configurations.TheConstants.{MAX_PROCESSORS}
-use Rattle.step_trace.specs.Traces.{Recorded}
-use Rattle.timed_events.specs.declared.events.Event.{Event}
-use Rattle.timed_events.specs.declared.events.EventAct.{EventAct}
-use Rattle.timed_events.specs.declared.events.Clock.{Clock}
-use Rattle.timed_events.specs.declared.idle_ticks.IdleTick.{IdleTick}
+use Rattle.idle_laws.proofs.Common.{MAX_PROCESSORS, Recorded, Event, EventAct, Clock, IdleTick, AreReceives, IsOfNothing, ticks_of, AreTicks, HavePassed, last_of, last_tick, time_ticks, times_refusal, or_none, least-moments, moment-parts, IsFull, IsSparse, Log}
 use Rattle.timed_events.specs.Checks.{AreMeant, AreOfProcessors, HaveOwnMoments, events_refusal, moment_at, moment_of, processor_at}
-use Rattle.timed_events.specs.IdleTicks.{AreReceives, IsOfNothing, ticks_of}
-use Rattle.timed_events.specs.Spreads.{AreTicks, HavePassed, last_of}
-use Rattle.timed_events.specs.Times.{last_tick, time_ticks, times_refusal}
-use Rattle.timed_events.proofs.Firsts.{or_none}
 use Rattle.timed_events.proofs.MovedEvents.{greatest-each}
 use Rattle.timed_events.proofs.PassedEvents.{one-at_moment}
-use Rattle.timed_events.proofs.RankedEvents.{least-moments, moment-parts}
 use Rattle.timed_events.proofs.SpreadTraces.{meant-processors}
-use Rattle.idle_laws.specs.Fillings.{IsFull, IsSparse, Log}
 use Rattle.idle_laws.proofs.AddedEvents.{get-left, get-right, long-all, new-tick, old-tick, receive-at}
 use Rattle.idle_laws.proofs.FilledBounds.{ticks-long}
 use Rattle.idle_laws.proofs.MadeTraces.{made}

@@ -1,8 +1,7 @@
 -- Least bounds of which others hold.
 use Rattle.std.proofs.Common.{ℕ, ◌<◌, ◌≤◌, ◌⊎◌, inl, inr, max, arith}
 use Rattle.std.proofs.lemmas.Bool.{cases_lt}
-use Rattle.step_trace.specs.Bounds.{IsLeastBound, PhiHolds}
-use Rattle.step_trace.specs.Traces.{Recorded}
+use Rattle.idle_laws.proofs.Common.{IsLeastBound, PhiHolds, Recorded}
 
 -- bounds that hold alike have one least
 pub least-same : (P Q : ℕ → Type 0) (d : ℕ) → ((e : ℕ) → P e → Q e) → ((e : ℕ) → Q e → P e) → IsLeastBound P d → IsLeastBound Q d
@@ -13,8 +12,7 @@ pub phi-greater : (set : ℕ) (trace : Recorded) (g e f : ℕ) → e ≤ f → P
 phi-greater set trace g e f l h = record {
   each = λ x lo inside p m. (
       let w = h.each x lo (omega arith) p m in
-      let u = w.until in
-      record { tick = w.tick; from = w.from; until = omega arith; step = w.step });
+      record { tick = w.tick; from = w.from; until = omega (arith, w.until); step = w.step });
 }
 
 -- The bounds P imply the bounds Q, and as of a limit they hold alike; each bound Q implies the greater ones.

@@ -1,3 +1,4 @@
+pub mod Common
 mod AddedEvents
 mod EventSteps
 mod ReceivedMessages

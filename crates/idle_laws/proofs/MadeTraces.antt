@@ -4,17 +4,8 @@ use Rattle.std.specs.Prelude.{slice_index}
 use Rattle.std.specs.List.{AllZip, range_with_len}
 use Rattle.std.specs.List.Sorted.{IsNonDecreasingBy, IsPermutation}
 use Rattle.std.proofs.lemmas.Bool.{cases_lt}
-use Rattle.step_trace.specs.declared.steps.Act.{Act}
+use Rattle.idle_laws.proofs.Common.{Act, Step, Recorded, Event, EventAct, Send, Receive, HaveOwnMoments, moment_at, IsOrder, IsActOf, IsStepAt, IsTraceOf, sent_number, setup_of, places-apart, places-inside}
 use Rattle.step_trace.specs.declared.steps.Act.TheVariants as act
-use Rattle.step_trace.specs.declared.steps.Step.{Step}
-use Rattle.step_trace.specs.Traces.{Recorded}
-use Rattle.timed_events.specs.declared.events.Event.{Event}
-use Rattle.timed_events.specs.declared.events.EventAct.{EventAct}
-use Rattle.timed_events.specs.declared.events.EventAct.TheVariants.{Send, Receive}
-use Rattle.timed_events.specs.Checks.{HaveOwnMoments, moment_at}
-use Rattle.timed_events.specs.Orders.{IsOrder}
-use Rattle.timed_events.specs.TimedTraces.{IsActOf, IsStepAt, IsTraceOf, sent_number, setup_of}
-use Rattle.timed_events.proofs.SortedEvents.{places-apart, places-inside}
 use Rattle.idle_laws.proofs.EventSteps.{event-at}
 use Rattle.idle_laws.proofs.SortedPlaces.{numbered, sorted}
 

@@ -2,13 +2,9 @@
 use Rattle.std.proofs.Common.{ℕ, ◌≡◌, ◌<◌, Bool, true, false, List, length, Contains, Option, Some, None, sym, ◌∙◌, subst}
 use Rattle.std.proofs.lemmas.List.{get_or_default}
 use Rattle.std.proofs.lemmas.Option.{same_Some}
-use Rattle.timed_events.specs.declared.events.Event.{Event}
-use Rattle.timed_events.specs.declared.events.Clock.{Clock}
+use Rattle.idle_laws.proofs.Common.{Event, Clock, HavePassed, IsAfterTimes, time_ticks, times_refusal, or_none}
 use Rattle.timed_events.specs.declared.events.EventError.{EventError}
 use Rattle.timed_events.specs.Checks.{events_refusal, first_fault, is_for, messages_at, processor_at}
-use Rattle.timed_events.specs.Spreads.{HavePassed, IsAfterTimes}
-use Rattle.timed_events.specs.Times.{time_ticks, times_refusal}
-use Rattle.timed_events.proofs.Firsts.{or_none}
 use Rattle.timed_events.proofs.FittingEvents.{named-may, names-message}
 use Rattle.timed_events.proofs.MessageFaults.{received-by}
 

@@ -1,15 +1,7 @@
 -- The traces that are made of one log, as traces of its events and of receives of nothing.
 use Rattle.std.proofs.Common.{ℕ, ◌≡◌, ◌+◌, ◌<◌, ◌≤◌, List, [], ◌++◌, length, sym, ◌∙◌, subst, arith, append-nil}
-use Rattle.step_trace.specs.Bounds.{DeltaHolds, PhiHolds}
-use Rattle.step_trace.specs.Ticks.{StepsIn}
-use Rattle.step_trace.specs.Traces.{Recorded}
-use Rattle.timed_events.specs.declared.events.Event.{Event}
-use Rattle.timed_events.specs.declared.idle_ticks.IdleTick.{IdleTick}
-use Rattle.timed_events.specs.IdleTicks.{AreReceives, ticks_of}
-use Rattle.timed_events.specs.Spreads.{last_of}
-use Rattle.timed_events.specs.TimedTraces.{IsTraceOf}
+use Rattle.idle_laws.proofs.Common.{DeltaHolds, PhiHolds, StepsIn, Recorded, Event, IdleTick, AreReceives, ticks_of, last_of, IsTraceOf, AreSilent, IsFull, IsPlain, IsSparse, Log}
 use Rattle.timed_events.proofs.OneSpread.{AreTicks-unique}
-use Rattle.idle_laws.specs.Fillings.{AreSilent, IsFull, IsPlain, IsSparse, Log}
 use Rattle.idle_laws.proofs.EventBounds.{Acts, DeltaOfEvents, acts-in, from-events, steps-in, to-events}
 use Rattle.idle_laws.proofs.FilledBounds.{fewer-polls, full-sparse, more-polls, plain-acts, plain-delta, sparse-full, ticks-long}
 

@@ -4,14 +4,7 @@ use Rattle.std.specs.Prelude.{slice_index, slice_index_or}
 use Rattle.std.specs.List.{All}
 use Rattle.std.proofs.lemmas.Bool.{cases_eq, cases_lt}
 use Rattle.std.proofs.lemmas.List.Elements.{All-cons, All-nil, All-weaker}
-use Rattle.step_trace.specs.declared.configurations.TheConstants.{MAX_PROCESSORS}
-use Rattle.step_trace.proofs.ListMembers.{Contains-head, Contains-rest}
-use Rattle.timed_events.specs.declared.events.Event.{Event}
-use Rattle.timed_events.specs.declared.idle_ticks.IdleTick.{IdleTick}
-use Rattle.timed_events.specs.Checks.{moment_of, processor_at}
-use Rattle.timed_events.specs.IdleTicks.{HasEventIn}
-use Rattle.timed_events.proofs.RankedEvents.{moment-parts}
-use Rattle.idle_laws.specs.Fillings.{AreSilent, IsInShortSilence, IsSilentTick}
+use Rattle.idle_laws.proofs.Common.{MAX_PROCESSORS, Contains-head, Contains-rest, Event, IdleTick, moment_of, processor_at, HasEventIn, moment-parts, AreSilent, IsInShortSilence, IsSilentTick}
 use Rattle.idle_laws.proofs.AddedEvents.{poll_of}
 
 -- what can be decided
@@ -94,16 +87,14 @@ module _ (n : ℕ) (events : List Event) (ticks : List ℕ) (last limit : ℕ) (
         let b = s.1 in
         let c = b.1 in
         let d = c.1 in
-        let e = d.1 in
-        let until = b.0 in
         record {
           end = end;
           is = record {
-            silence = record { since = since; from = d.0; some = omega arith; silent = e.1; short = c.0 };
-            ends = e.0;
+            silence = record { since = since; from = d.0; some = omega (arith, b.0); silent = d.1.1; short = c.0 };
+            ends = d.1.0;
           };
           after = a;
-          until = until;
+          until = b.0;
         }
 
   silent-tick : (x : IdleTick) → Decided (IsSilentTick n events ticks last limit x)

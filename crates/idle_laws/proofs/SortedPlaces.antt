@@ -6,8 +6,7 @@ use Rattle.std.specs.List.Sorted.{IsNonDecreasingBy, IsPermutation}
 use Rattle.std.proofs.lemmas.Bool.{cases_lt}
 use Rattle.std.proofs.lemmas.List.FromFn.{get_or-map-range_with_len, length-map-range_with_len}
 use Rattle.std.proofs.lemmas.List.Sorted.{IsNonDecreasingBy-insert, IsPermutation-cons, IsPermutation-insert, IsPermutation-refl, IsPermutation-trans}
-use Rattle.timed_events.specs.Orders.{AreNumbers}
-use Rattle.timed_events.proofs.SortedEvents.{AreApart, places-apart, places-inside}
+use Rattle.idle_laws.proofs.Common.{AreNumbers, AreApart, places-apart, places-inside}
 
 -- x fits at place i of a list: nothing before it is greater, and nothing from it on is less
 record FitsAt (key : ℕ → ℕ) (x : ℕ) (ys : List ℕ) : Type 0 where
@@ -68,7 +67,6 @@ numbered n order h = (
     each = λ k l. (
         let inside = (places-inside n order h).1 k l in
         let at = get_or-map-range_with_len (λ p. suc (place_of p order)) 0 n (slice_index order k) (slice_index order k) 0 inside (omega arith) in
-        let is = place_of-at order k (places-apart n order h) l in
-        omega arith);
+        omega (arith, place_of-at order k (places-apart n order h) l));
   },
 )

@@ -1,21 +1,8 @@
 -- How long the least rounds take, whoever owes an acknowledgement.
 use Rattle.std.proofs.Common.{ℕ, zero, suc, ◌≡◌, ◌≢◌, ◌+◌, ◌-◌, ◌*◌, ◌%◌, ◌≤◌, inl, inr, Option, Some, None, is_some, Bool, true, false, ◌==◌, ◌&&◌, refl, sym, ap, subst, ◌∙◌, arith}
 use Rattle.std.proofs.lemmas.Bool.{true≢false, cases_eq, eqb-true, and_parts}
-use Rattle.step_trace.specs.Configurations.{Setup, IsProc}
-use Rattle.step_trace.specs.Processors.{has_proc}
-use Rattle.step_trace.specs.Traces.{Recorded}
-use Rattle.lock_phases.specs.declared.bodies.Kind.TheVariants.{Ack, Locks}
-use Rattle.lock_phases.specs.Hearing.{with_proper}
+use Rattle.patience_laws.proofs.Common.{Setup, IsProc, has_proc, Recorded, Ack, Locks, with_proper, part_of, owner, phase_of, Acknowledging, part_at-acknowledging, acknowledgement-sent, locks-sent, member-positive, passed, passed-before, IsInRoundFrom, may_hear_of, KeepsBounds, AreInTouch, AreInRoundFrom, node_in, TakeInOrder, HearThemselves}
 use Rattle.lock_phases.specs.NodeFunctions.{out}
-use Rattle.lock_phases.specs.Rounds.{part_of, owner, phase_of, Acknowledging}
-use Rattle.lock_phases.proofs.RoundLaws.{part_at-acknowledging}
-use Rattle.lock_phases.proofs.SendingLaws.{acknowledgement-sent, locks-sent}
-use Rattle.round_model.proofs.BoundedDecisions.{member-positive}
-use Rattle.step_buffers.specs.HeardTables.{passed}
-use Rattle.step_buffers.proofs.StepPrefixes.{passed-before}
-use Rattle.patience_laws.specs.RoundTicks.{IsInRoundFrom, may_hear_of}
-use Rattle.patience_laws.specs.LeastRounds.{KeepsBounds, AreInTouch, AreInRoundFrom, node_in, TakeInOrder}
-use Rattle.patience_laws.specs.Gatherings.{HearThemselves}
 use Rattle.patience_laws.proofs.RoundSends.{times-more}
 use Rattle.patience_laws.proofs.RoundsHeard.{hears-ends}
 use Rattle.patience_laws.proofs.RoundMessages.{few-all, few-one, IsSentBy, sent-by}
@@ -66,11 +53,8 @@ module _ (patience set : ℕ) (trace : Recorded) (g d f : ℕ) (keeps : KeepsBou
         came : x + f ≤ trace.last → round + 1 ≤ passed trace.steps p + 1
         came last =
             let s = keeps.phi.each x touch.since (omega arith) p m in
-            let from = s.from in
-            let tick = s.step.tick in
-            let l = there p m s.step.place s.step.step (omega arith) in
-            let within = passed-before trace.steps p s.step.place in
-            omega arith
+            let l = there p m s.step.place s.step.step (omega (arith, s.step.tick, s.from)) in
+            omega (arith, passed-before trace.steps p s.step.place, s.step.tick, s.from)
 
         proposes : (o : Option ℕ) → (node_in c trace.steps p (round + 1)).proposal ≡ o → is_some o ≡ true → (v : ℕ) × ((node_in c trace.steps p (round + 1)).proposal ≡ Some v)
         proposes (Some v) e h = (v, e)
@@ -118,9 +102,8 @@ module _ (patience set : ℕ) (trace : Recorded) (g d f : ℕ) (keeps : KeepsBou
                 let s = sent-by trace patience set g f q keeps.run keeps.trace_is.time (keeps.paced q mq) mq keeps.phi (round + 1 + 1) (x + 1 * f + f) (omega arith) (other-goes q mq other) (omega arith)
                 (c.n - 1) p (with_proper (node_in c trace.steps q (round + 1 + 1)) (Locks (node_in c trace.steps q (round + 1 + 1)).locks)) (omega arith) (proc p m)
                 (locks-sent c (node_in c trace.steps q (round + 1 + 1)) q (round + 1 + 1) p fourth) (omega arith) in
-                let by = s.by in
                 let later = s.later in
-                record { message = s.message; sent = s.sent; later = omega arith; by = omega arith }
+                record { message = s.message; sent = s.sent; later = omega (arith, s.by); by = omega (arith, s.by) }
 
   -- how long the least round takes, by its part
   costs : ℕ → ℕ

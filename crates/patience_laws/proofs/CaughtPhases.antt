@@ -4,17 +4,7 @@ use Rattle.std.specs.Prelude.{count_by}
 use Rattle.std.specs.List.{range_with_len}
 use Rattle.std.proofs.lemmas.Bool.{le-leb}
 use Rattle.std.proofs.lemmas.Option.{none-some}
-use Rattle.step_trace.specs.declared.steps.Act.{Act}
-use Rattle.step_trace.specs.Configurations.{IsProc}
-use Rattle.step_trace.specs.Processors.{has_proc}
-use Rattle.step_trace.specs.Traces.{Recorded, step_at, IsStepOf}
-use Rattle.step_trace.specs.Ticks.{tick_of, IsTimed}
-use Rattle.step_trace.specs.Bounds.{PhiHolds}
-use Rattle.lock_phases.specs.Rounds.{part_of}
-use Rattle.step_buffers.specs.Runs.{IsRun}
-use Rattle.step_buffers.proofs.GrownNodes.{count_by-more}
-use Rattle.patience_laws.specs.PacedRuns.{StepsByPace}
-use Rattle.patience_laws.specs.RoundTicks.{IsInRoundFrom, HasHeardFrom, is_step_since, sends_to, steps_since}
+use Rattle.patience_laws.proofs.Common.{Act, IsProc, has_proc, Recorded, step_at, IsStepOf, tick_of, IsTimed, PhiHolds, part_of, IsRun, count_by-more, StepsByPace, IsInRoundFrom, HasHeardFrom, is_step_since, sends_to, steps_since}
 use Rattle.patience_laws.proofs.KnownRounds.{heard-weaker}
 use Rattle.patience_laws.proofs.RoundSends.{one-before, times-more}
 use Rattle.patience_laws.proofs.RoundsHeard.{behind-ends}
@@ -27,9 +17,7 @@ module _ (trace : Recorded) (p x : ℕ) where
   since-rise j zero = let e : j + 0 ≡ j = omega arith in rw e (omega arith)
   since-rise j (suc more) =
       let e : j + suc more ≡ suc (j + more) = omega arith in
-      let last = count_by-more (is_step_since trace p x) (j + more) in
-      let first = since-rise j more in
-      rw e (omega arith)
+      rw e (omega (arith, since-rise j more, count_by-more (is_step_since trace p x) (j + more)))
 
   -- and one of p counts
   since-step : (j k : ℕ) (act : Act) → step_at trace.steps j ≡ Some (record { proc = p; act = act }) → x ≤ tick_of trace j → j < k → steps_since trace p x j < steps_since trace p x k
@@ -54,9 +42,8 @@ module _ (trace : Recorded) (patience set g f p : ℕ) (run : IsRun trace.config
       let e = times-more count f in
       let one = one-before trace patience set g f p run time paced member phi (x + count * f) k (omega arith) is (omega arith) in
       let before = makes-steps count one.place (one.act, one.at) one.from in
-      let from = one.from in
-      let more = since-step trace p x one.place k one.act one.at (omega arith) one.earlier in
-      omega arith
+      let more = since-step trace p x one.place k one.act one.at (omega (arith, one.from)) one.earlier in
+      omega (arith, one.from)
 
   -- Who is left behind through a phase passes it in (2 N + 6) f ticks.
   pub catches-up : (q round : ℕ) → IsInRoundFrom trace p round x → 1 ≤ round → part_of round ≡ 1 → IsProc trace.config q → HasHeardFrom trace p q (round + 8) x

@@ -2,19 +2,8 @@
 use Rattle.std.proofs.Common.{ℕ, zero, suc, ◌≡◌, ◌+◌, ◌*◌, ◌<◌, ◌≤◌, ◌⊎◌, inl, inr, List, take, Some, Bool, true, false, refl, ap, ◌∙◌, arith}
 use Rattle.std.proofs.lemmas.Bool.{cases_lt}
 use Rattle.std.proofs.lemmas.Option.{none-some}
-use Rattle.step_trace.specs.declared.steps.Act.TheVariants.{Send, Receive}
-use Rattle.step_trace.specs.Configurations.{Setup}
-use Rattle.step_trace.specs.Processors.{has_proc}
-use Rattle.step_trace.specs.Traces.{Recorded, step_at}
-use Rattle.step_trace.specs.Ticks.{tick_of}
-use Rattle.step_trace.proofs.TickOrder.{number_below, ticks_rise}
-use Rattle.lock_phases.specs.Rounds.{part_of}
-use Rattle.step_buffers.specs.Runs.{node_before}
-use Rattle.deciding_runs.specs.HeardOut.{HasHeardOf}
-use Rattle.deciding_runs.specs.Paces.{heard_ids, is_complete}
+use Rattle.patience_laws.proofs.Common.{Send, Receive, Setup, has_proc, Recorded, step_at, tick_of, number_below, ticks_rise, part_of, node_before, HasHeardOf, heard_ids, is_complete, KeepsBounds, AreInTouch, AreInRoundFrom, IsHeardOutByAll, TakeInOrder, HearThemselves, NoneBefore}
 use Rattle.patience_laws.specs.PacedRuns.{pace_after}
-use Rattle.patience_laws.specs.LeastRounds.{KeepsBounds, AreInTouch, AreInRoundFrom, IsHeardOutByAll, TakeInOrder}
-use Rattle.patience_laws.specs.Gatherings.{HearThemselves, NoneBefore}
 use Rattle.patience_laws.proofs.PacedSteps.{rounds_after, round-here}
 use Rattle.patience_laws.proofs.RoundSends.{round_at-up}
 use Rattle.patience_laws.proofs.EndedReceives.{Why, Complete, Behind, Impatient, why-ends}
@@ -78,9 +67,8 @@ module _ (patience set : ℕ) (trace : Recorded) (g d f : ℕ) (keeps : KeepsBou
               of e false other = absurd (unheard patience set trace g d f keeps base x0 touch low r x up late first end.proc ahead.proc end.place (rounds_after trace.steps end.proc end.place + 1 + 5) end.ids end.member other ahead.is end.step (omega arith) (omega arith) ahead.heard_of)
               of e true member =
                   let before = ended-before patience set trace g d f keeps base x0 touch low r x up late first end.proc ahead.proc end.place (rounds_after trace.steps end.proc end.place + 1 + 5) ahead.heard_of r (omega arith) (omega arith) in
-                  let inside = before.1 in
                   let begins = end.first ahead.proc (suc before.0.place) before.0.ids member before.0.step (round-here trace.steps ahead.proc before.0.place ∙ before.0.round_is) in
-                  absurd (omega arith)
+                  absurd (omega (arith, before.1))
 
   -- a lock-release round that all hear out, not before this tick
   pub record HeardOutOnce (least most : ℕ) : Type 0 where

@@ -7,30 +7,9 @@ use Rattle.std.proofs.lemmas.Option.{same_Some}
 use Rattle.std.proofs.lemmas.List.Folds.{list_any_at, Any-from_list_any}
 use Rattle.std.proofs.lemmas.List.{get_or_default}
 use Rattle.std.proofs.lemmas.List.Sums.{sum_by-cons}
-use Rattle.step_trace.specs.declared.steps.Act.TheVariants.{Receive}
-use Rattle.step_trace.specs.declared.steps.Step.{Step}
-use Rattle.step_trace.specs.Configurations.{Setup, IsProc}
-use Rattle.step_trace.specs.Steps.{act_ids}
-use Rattle.step_trace.specs.Processors.{has_proc, IsWithin}
-use Rattle.step_trace.specs.Traces.{step_at, IsWellFormed}
-use Rattle.step_trace.proofs.ListMembers.{Contains-head, Contains-rest, Contains-nil}
-use Rattle.lock_phases.proofs.Membership.{Contains-cons_cases}
-use Rattle.round_model.proofs.HeardLists.{Contains-processors}
+use Rattle.patience_laws.proofs.Common.{Receive, Step, Setup, IsProc, act_ids, has_proc, IsWithin, step_at, IsWellFormed, Contains-head, Contains-rest, Contains-nil, Contains-cons_cases, Contains-processors, State, Part, Listing, Locking, Acknowledging, Releasing, part_at, part_of, owner, phase_of, processors, All-range_with_len, act_ends, receiving, node_before, Peer, may_hear, may_hear_in, may_hear_all, may_hear_all_in, HasHeardOf, peer_of, unheard, is_heard_of, is_done_with, is_far_ahead, is_left_behind, is_awaited, awaited_count, heard_count, Paced, heard_ids, is_complete, is_over, Suspects}
 use Rattle.lock_phases.specs.Hearing.{number_of}
-use Rattle.lock_phases.specs.Nodes.{State}
-use Rattle.lock_phases.specs.Rounds.{Part, Listing, Locking, Acknowledging, Releasing, part_at, part_of, owner, phase_of}
-use Rattle.round_model.specs.RoundStates.{processors}
-use Rattle.round_model.proofs.ProcessorRanges.{All-range_with_len}
-use Rattle.step_buffers.specs.HeardTables.{act_ends}
-use Rattle.step_buffers.specs.NextSteps.{receiving}
-use Rattle.step_buffers.specs.Runs.{node_before}
-use Rattle.deciding_runs.specs.declared.peers.Peer.{Peer}
-use Rattle.deciding_runs.specs.Audible.{may_hear, may_hear_in, may_hear_all, may_hear_all_in}
-use Rattle.deciding_runs.specs.HeardOut.{HasHeardOf}
-use Rattle.deciding_runs.specs.Peers.{peer_of, unheard, is_heard_of, is_done_with, is_far_ahead, is_left_behind, is_awaited, awaited_count, heard_count}
-use Rattle.deciding_runs.specs.Paces.{Paced, heard_ids, is_complete, is_over}
 use Rattle.patience_laws.specs.PacedRuns.{pace_after, peer_after, pace_taking, StepsByPace}
-use Rattle.patience_laws.specs.Silence.{Suspects}
 use Rattle.patience_laws.proofs.HeardMessages.{heard-long}
 use Rattle.patience_laws.proofs.HeardPeers.{IsReceivedOf, peer-cases, pace-long, pace-quorum}
 use Rattle.patience_laws.proofs.PacedSteps.{rounds_after, round-here}
@@ -294,9 +273,8 @@ module _ (c : Setup) (patience : ℕ) (steps : List Step) (p : ℕ) (w : IsWellF
               let part = (and_parts (awaited_count c here (rounds_after steps p k + 1) p known.peers == 0) (not (may_hear_all c here (rounds_after steps p k + 1) p) || nat_le known.quorum (heard_count (rounds_after steps p k + 1) known.peers)) done).1 in
               let le : nat_le known.quorum (heard_count (rounds_after steps p k + 1) known.peers) ≡ true =
               sym (ap (λ b. not b || nat_le known.quorum (heard_count (rounds_after steps p k + 1) known.peers)) all) ∙ part in
-              let l = leb-true known.quorum (heard_count (rounds_after steps p k + 1) known.peers) le in
               let e : known.quorum ≡ c.n - c.t = pace-quorum c patience steps p k in
-              omega arith
+              omega (arith, leb-true known.quorum (heard_count (rounds_after steps p k + 1) known.peers) le)
 
           go : (b : Bool) → is_heard_of (rounds_after steps p k + 1) (peer_of known.peers q) ≡ b → HasHeardOf steps p q (rounds_after steps p k + 1) (suc k)
           go true e = known-heard q is (rounds_after steps p k + 1) (omega arith) (leb-true (rounds_after steps p k + 1) (peer_of known.peers q).latest e)

@@ -1,17 +1,7 @@
 -- One lock-release round that all members hear out brings them together.
 use Rattle.std.proofs.Common.{ℕ, zero, suc, ◌≡◌, ◌+◌, ◌-◌, ◌*◌, true, subst, arith}
 use Rattle.std.proofs.lemmas.Option.{none-some}
-use Rattle.step_trace.specs.declared.steps.Act.TheVariants.{Send, Receive}
-use Rattle.step_trace.specs.Processors.{has_proc}
-use Rattle.step_trace.specs.Traces.{Recorded}
-use Rattle.step_trace.proofs.TickOrder.{number_below, ticks_rise}
-use Rattle.lock_phases.specs.Rounds.{part_of}
-use Rattle.round_model.proofs.BoundedDecisions.{member-positive}
-use Rattle.deciding_runs.specs.HeardOut.{HasHeardOf}
-use Rattle.patience_laws.specs.Silence.{Suspects}
-use Rattle.patience_laws.specs.RoundTicks.{IsInRoundFrom}
-use Rattle.patience_laws.specs.LeastRounds.{KeepsBounds, AreInRoundFrom}
-use Rattle.patience_laws.specs.Meetings.{ComesTo, ComeTogether, MeetOnce}
+use Rattle.patience_laws.proofs.Common.{Send, Receive, has_proc, Recorded, number_below, ticks_rise, part_of, member-positive, HasHeardOf, Suspects, IsInRoundFrom, KeepsBounds, AreInRoundFrom, ComesTo, ComeTogether, MeetOnce}
 use Rattle.patience_laws.proofs.PacedSteps.{round-here}
 use Rattle.patience_laws.proofs.RoundSends.{round_at-up}
 use Rattle.patience_laws.proofs.UnheardSuspects.{suspect-unheard}

@@ -3,22 +3,12 @@ use Rattle.std.proofs.Common.{ℕ, zero, suc, ◌≡◌, ◌+◌, ◌-◌, ◌�
 use Rattle.std.specs.Prelude.{slice_get}
 use Rattle.std.proofs.lemmas.Bool.{true≢false}
 use Rattle.std.proofs.Math.Seq.{take-append-le, take-length}
-use Rattle.step_trace.specs.declared.steps.Act.{Act}
-use Rattle.step_trace.specs.declared.steps.Act.TheVariants.{Send, Receive}
-use Rattle.step_trace.specs.declared.steps.Step.{Step}
-use Rattle.step_trace.specs.Configurations.{Setup}
-use Rattle.step_trace.specs.Steps.{act_sends}
-use Rattle.step_trace.specs.Traces.{step_at, IsWellFormed}
+use Rattle.patience_laws.proofs.Common.{Act, Send, Receive, Step, Setup, act_sends, step_at, IsWellFormed, step_at_within, step_at-push_cases, slice_get-last, before-prefix, passed-before, next_destination-prefix, before-now, state_after-prefix, heard_ids, is_over}
 use Rattle.step_trace.proofs.PagePlaces.{slice_get-left}
-use Rattle.step_trace.proofs.StepPositions.{step_at_within, step_at-push_cases, slice_get-last}
 use Rattle.step_buffers.specs.HeardTables.{passed, before, round_at, heard_table}
 use Rattle.step_buffers.specs.Moves.{next_send}
 use Rattle.step_buffers.specs.Runs.{next_destination, node_before}
-use Rattle.step_buffers.proofs.StepPrefixes.{before-prefix, passed-before}
-use Rattle.step_buffers.proofs.GrownNodes.{next_destination-prefix, before-now}
-use Rattle.step_buffers.proofs.HeardSenders.{state_after-prefix}
 use Rattle.round_model.specs.RoundStates.{state_after}
-use Rattle.deciding_runs.specs.Paces.{heard_ids, is_over}
 use Rattle.patience_laws.specs.PacedRuns.{pace_after, pace_taking, pace_stepping, StepsByPace, IsPacedAct, IsPacedStep}
 
 -- the pace after some steps is the same in each longer list

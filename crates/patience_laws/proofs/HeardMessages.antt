@@ -3,13 +3,7 @@ use Rattle.std.proofs.Common.{ℕ, ◌≡◌, ◌≢◌, ◌-◌, ◌≤◌, ◌
 use Rattle.std.specs.Prelude.{Contains, fold, slice_set}
 use Rattle.std.proofs.lemmas.Bool.{cases_lt, cases_eq}
 use Rattle.std.proofs.lemmas.List.{length-set, get_or-set_same, get_or-set_other}
-use Rattle.step_trace.specs.declared.steps.Step.{Step}
-use Rattle.step_trace.proofs.ListMembers.{Contains-head, Contains-rest, Contains-nil}
-use Rattle.lock_phases.proofs.Membership.{Contains-cons_cases}
-use Rattle.step_buffers.specs.Origins.{sender_of, round_ahead}
-use Rattle.deciding_runs.specs.declared.peers.Peer.{Peer}
-use Rattle.deciding_runs.specs.Peers.{peer_of, unheard, after_hearing}
-use Rattle.deciding_runs.specs.Paces.{heard_message}
+use Rattle.patience_laws.proofs.Common.{Step, Contains-head, Contains-rest, Contains-nil, Contains-cons_cases, sender_of, round_ahead, Peer, peer_of, unheard, after_hearing, heard_message}
 
 -- one of these messages is of q
 pub record IsFrom (steps : List Step) (ids : List ℕ) (q : ℕ) : Type 0 where

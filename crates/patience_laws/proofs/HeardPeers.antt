@@ -1,25 +1,12 @@
 -- What a step of a trace does to what a pace has heard of one processor.
 use Rattle.std.proofs.Common.{ℕ, zero, suc, ◌≡◌, ◌+◌, ◌-◌, ◌<◌, ◌≤◌, ◌⊎◌, inl, inr, List, [], ◌∷◌, length, take, Some, Bool, true, false, ◌==◌, ◌&&◌, cond, refl, sym, ap, subst, ◌∙◌, arith}
 use Rattle.std.specs.Prelude.{Contains, slice_get, if◌then◌else◌}
-use Rattle.step_trace.specs.Steps.{act_ids}
+use Rattle.patience_laws.proofs.Common.{act_ids, Send, Receive, Step, Setup, IsProc, step_at, IsWellFormed, part_of, passed, round_at, IsSend, sender_of, round_ahead, Peer, IsTakenAt, peer_of, unheard, after_phase, Paced, heard_ids, after_receive, TakesOf}
 use Rattle.std.proofs.lemmas.Bool.{cases_lt}
 use Rattle.std.proofs.lemmas.Option.{same_Some}
 use Rattle.std.proofs.lemmas.List.{take-take, get_or-map, length-map, length-replicate}
-use Rattle.step_trace.specs.declared.steps.Act.TheVariants.{Send, Receive}
-use Rattle.step_trace.specs.declared.steps.Step.{Step}
-use Rattle.step_trace.specs.Configurations.{Setup, IsProc}
-use Rattle.step_trace.specs.Traces.{step_at, IsWellFormed}
-use Rattle.lock_phases.specs.Rounds.{part_of}
-use Rattle.step_buffers.specs.HeardTables.{passed, round_at}
-use Rattle.step_buffers.specs.Runs.{IsSend}
-use Rattle.step_buffers.specs.Origins.{sender_of, round_ahead}
 use Rattle.step_buffers.proofs.MessageOrigins.{sender_of-sent, round_ahead-ahead, round_ahead-past}
-use Rattle.deciding_runs.specs.declared.peers.Peer.{Peer}
-use Rattle.deciding_runs.specs.HeardOut.{IsTakenAt}
-use Rattle.deciding_runs.specs.Peers.{peer_of, unheard, after_phase}
-use Rattle.deciding_runs.specs.Paces.{Paced, heard_ids, after_receive}
 use Rattle.patience_laws.specs.PacedRuns.{pace_after, peer_after}
-use Rattle.patience_laws.specs.Silence.{TakesOf}
 use Rattle.patience_laws.proofs.HeardMessages.{IsFrom, heard-all, heard-long}
 use Rattle.patience_laws.proofs.PacedSteps.{rounds_after, IsReceived, step-cases}
 
@@ -117,10 +104,8 @@ module _ (c : Setup) (patience : ℕ) (steps : List Step) (p q : ℕ) (w : IsWel
         let e = sent-here s d in
         let from = sender-here s e.1 e.0 e.2 in
         let proc = w.procs s (record { proc = e.1; act = Send p }) e.2 in
-        let low = proc.0 in
-        let high = proc.1 in
         let long = pace-long k in
-        (omega arith, omega arith)
+        (omega (arith, proc.1, proc.0), omega (arith, proc.1, proc.0))
 
     -- of which round it is, as far as p can hear it
     ahead-here : (s : ℕ) → s < suc k → IsSend steps q p s → rounds_after steps p k < round_at steps q s → round_ahead (take k steps) p s ≡ round_at steps q s
@@ -164,9 +149,7 @@ module _ (c : Setup) (patience : ℕ) (steps : List Step) (p q : ℕ) (w : IsWel
         each = λ s at sent ahead.
             let d = same-taken steps p (suc k) s r.ends r.ids r.step at in
             let l = (sent-here s d).0 in
-            let most = t.each s d (sender-here s q l sent) in
-            let e = ahead-here s l sent ahead in
-            omega arith;
+            omega (arith, ahead-here s l sent ahead, t.each s d (sender-here s q l sent));
         origin = elim t.origin [
           | inl e ↦ Kept e
           | inr e ↦ of (takes-from e.0) e.1

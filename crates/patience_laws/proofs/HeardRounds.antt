@@ -2,31 +2,9 @@
 use Rattle.std.proofs.Common.{ℕ, zero, suc, ◌≡◌, ◌≢◌, ◌+◌, ◌-◌, ◌%◌, ◌*◌, ◌<◌, ◌≤◌, ◌⊎◌, inl, inr, List, length, Some, true, refl, sym, ap, subst, ◌∙◌, arith, Bool, false}
 use Rattle.std.proofs.lemmas.Bool.{cases_lt, cases_eq}
 use Rattle.std.proofs.lemmas.Option.{none-some}
-use Rattle.step_trace.specs.declared.steps.Act.{Act}
-use Rattle.step_trace.specs.declared.steps.Act.TheVariants.{Send, Receive}
-use Rattle.step_trace.specs.declared.steps.Step.{Step}
-use Rattle.step_trace.specs.Configurations.{Setup, IsProc}
-use Rattle.step_trace.specs.Processors.{has_proc}
-use Rattle.step_trace.specs.Traces.{Recorded, step_at}
-use Rattle.step_trace.specs.Ticks.{tick_of}
-use Rattle.step_trace.proofs.StepPositions.{step_at_within}
-use Rattle.step_trace.proofs.TickOrder.{number_below, ticks_rise}
-use Rattle.lock_phases.specs.Rounds.{part_of, Releasing}
-use Rattle.lock_phases.proofs.RoundLaws.{part_at-releasing}
-use Rattle.round_model.proofs.BoundedDecisions.{member-positive}
-use Rattle.step_buffers.specs.HeardTables.{passed, before, round_at}
-use Rattle.step_buffers.specs.Runs.{node_before}
-use Rattle.deciding_runs.specs.Audible.{may_hear}
+use Rattle.patience_laws.proofs.Common.{Act, Send, Receive, Step, Setup, IsProc, has_proc, Recorded, step_at, tick_of, step_at_within, number_below, ticks_rise, part_of, Releasing, part_at-releasing, member-positive, passed, before, round_at, node_before, may_hear, HasHeardOf, HearOut, IsHeardOut, deciding_round, HasPassedBy, round_at-passed, Suspects, WasSilent, IsInRoundFrom, may_hear_of, KeepsBounds, AreInRoundFrom, OweAcknowledgements, IsHeardOutByAll, ComesTo, ComeTogether}
 use Rattle.std.proofs.Math.Seq.{take-length}
-use Rattle.deciding_runs.specs.HeardOut.{HasHeardOf, HearOut, IsHeardOut}
-use Rattle.round_model.specs.BoundedDecision.{deciding_round}
-use Rattle.deciding_runs.specs.Together.{HasPassedBy}
-use Rattle.deciding_runs.proofs.CountedRounds.{round_at-passed}
 use Rattle.patience_laws.specs.PacedRuns.{pace_after}
-use Rattle.patience_laws.specs.Silence.{Suspects, WasSilent}
-use Rattle.patience_laws.specs.RoundTicks.{IsInRoundFrom, may_hear_of}
-use Rattle.patience_laws.specs.LeastRounds.{KeepsBounds, AreInRoundFrom, OweAcknowledgements, IsHeardOutByAll}
-use Rattle.patience_laws.specs.Meetings.{ComesTo, ComeTogether}
 use Rattle.patience_laws.proofs.PacedSteps.{rounds_after, round-here}
 use Rattle.patience_laws.proofs.KnownRounds.{rounds-up}
 use Rattle.patience_laws.proofs.SilentPhases.{suspected-silent, silent-suspected}
@@ -179,7 +157,6 @@ module _ (patience set : ℕ) (trace : Recorded) (g d f : ℕ) (keeps : KeepsBou
         | inl early ↦ (
             let low_round = come.later in
             let e = end-of c patience trace.steps p (round - 1) n (omega arith) (omega arith) in
-            let inside = e.1 in
             come.loud p q (suc e.0.place) mp mq (comes p e.0) (silent-suspected c patience trace.steps p q keeps.run.well_formed (proc q mq) (suc e.0.place) (record {
               round = was.round;
               place = was.place;
@@ -188,7 +165,7 @@ module _ (patience set : ℕ) (trace : Recorded) (g d f : ℕ) (keeps : KeepsBou
               round_is = was.round_is;
               last = was.last;
               by = came-before was early e.0;
-              nothing = λ m from by t. was.nothing m from (omega arith) t;
+              nothing = λ m from by t. was.nothing m from (omega (arith, e.1)) t;
               behind = was.behind;
             })))
       ]
@@ -199,13 +176,10 @@ module _ (patience set : ℕ) (trace : Recorded) (g d f : ℕ) (keeps : KeepsBou
             | inr l ↦ l
             | inl l ↦ absurd (
                 let up = round_at-up c patience trace.steps p (suc e.place + 1) was.place (omega arith) in
-                let is = was.round_is in
-                let after = e.after in
-                let low_round = come.later in
                 let here : round_at trace.steps p (suc (suc e.place)) ≡ rounds_after trace.steps p (suc e.place) + 1 = round-here trace.steps p (suc e.place) in
-                let f : suc e.place + 1 ≡ suc (suc e.place) = omega arith in
+                let f : suc e.place + 1 ≡ suc (suc e.place) = omega (arith, come.later, e.after, was.round_is) in
                 let g = ap (round_at trace.steps p) f in
-                omega arith)
+                omega (arith, come.later, e.after, was.round_is))
           ]
 
   -- A round is over so many ticks after one member came to the phase, if those before were heard out.
@@ -270,16 +244,14 @@ module _ (patience set : ℕ) (trace : Recorded) (g d f : ℕ) (keeps : KeepsBou
     -- whom p may hear at a step, by its round
     may-at : (p q n m : ℕ) → rounds_after trace.steps p n + 1 ≡ m → may_hear_of c trace.steps p m q ≡ true → may_hear c (node_before c trace.steps p (suc n)) (rounds_after trace.steps p n + 1) p q ≡ true
     may-at p q n m is may =
-        let here = round-here trace.steps p n in
-        let before_is : passed (before trace.steps (suc n)) p ≡ m - 1 = omega arith in
+        let before_is : passed (before trace.steps (suc n)) p ≡ m - 1 = omega (arith, round-here trace.steps p n) in
         rw (is, before_is) may
 
     -- a message that was taken was sent before
     sent-earlier : (p q s n : ℕ) (h : HasHeardOf trace.steps p q s n) → h.message < n
     sent-earlier p q s n h =
         let earlier = (keeps.run.well_formed.earlier h.place h.message (record { proc = p; act = Receive h.take.ends h.take.ids }) h.take.step h.take.taken).0 in
-        let by = h.by in
-        omega arith
+        omega (arith, h.by)
 
     -- the members heard one another in the round when they ended it, up to step n
     abbrev HeardTo : ℕ → ℕ → Type 0
@@ -325,9 +297,7 @@ module _ (patience set : ℕ) (trace : Recorded) (g d f : ℕ) (keeps : KeepsBou
           heard_p h =
               let earlier = sent-earlier q p (rounds_after trace.steps q k + 1) (suc k) h in
               let up = round_at-up c patience trace.steps p h.message (suc n) (omega arith) in
-              let e = round-here trace.steps p n in
-              let ahead = h.later in
-              omega arith
+              omega (arith, h.later, round-here trace.steps p n)
 
           go : ((k q : ℕ) (ids : List ℕ) → k < bound → suc k ≤ n → has_proc set q ≡ true → step_at trace.steps (suc k) ≡ Some (record { proc = q; act = Receive true ids }) → rounds_after trace.steps q k + 1 ≡ m → ⊥)
               → Why c patience trace.steps q keeps.run.well_formed k ids true there (keeps.paced q mq) → ⊥
@@ -347,8 +317,7 @@ module _ (patience set : ℕ) (trace : Recorded) (g d f : ℕ) (keeps : KeepsBou
                   before end.0.place ahead.proc end.0.ids (omega arith) (omega arith) e end.0.step end.0.round_is
           go before (Impatient out) =
               let over = impatient r low heard fr part first last q k m ids mq there is (omega arith) out p (suc n) act mp at (omega arith) in
-              let e = round-here trace.steps p n in
-              omega arith
+              omega (arith, round-here trace.steps p n)
 
       -- so p is not left behind
       pub nobody-ahead : (z : ℕ) (ids : List ℕ) → IsProc c z → act ≡ Receive true ids → HasHeardOf trace.steps p z (r + 5) (suc n) → ⊥

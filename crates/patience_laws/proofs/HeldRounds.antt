@@ -2,21 +2,8 @@
 use Rattle.std.proofs.Common.{ℕ, zero, suc, ◌≡◌, ◌+◌, ◌-◌, ◌<◌, ◌≤◌, inl, inr, List, take, Some, Bool, true, false, refl, sym, subst, ◌∙◌, arith}
 use Rattle.std.proofs.lemmas.Bool.{cases_lt}
 use Rattle.std.proofs.lemmas.Option.{none-some}
-use Rattle.step_trace.specs.declared.steps.Act.{Act}
-use Rattle.step_trace.specs.declared.steps.Act.TheVariants.{Receive}
-use Rattle.step_trace.specs.Configurations.{Setup, IsProc}
-use Rattle.step_trace.specs.Processors.{has_proc}
-use Rattle.step_trace.specs.Traces.{Recorded, step_at}
-use Rattle.step_trace.specs.Ticks.{tick_of}
-use Rattle.step_trace.proofs.TickOrder.{ticks_rise}
-use Rattle.lock_phases.specs.Rounds.{part_of}
-use Rattle.step_buffers.specs.Runs.{node_before}
-use Rattle.deciding_runs.specs.HeardOut.{HasHeardOf}
-use Rattle.deciding_runs.specs.Paces.{heard_ids, is_complete}
+use Rattle.patience_laws.proofs.Common.{Act, Receive, Setup, IsProc, has_proc, Recorded, step_at, tick_of, ticks_rise, part_of, node_before, HasHeardOf, heard_ids, is_complete, KeepsBounds, AreInTouch, AreInRoundFrom, IsHeardOutByAll, TakeInOrder, MeetOnce, NoneBefore}
 use Rattle.patience_laws.specs.PacedRuns.{pace_after}
-use Rattle.patience_laws.specs.LeastRounds.{KeepsBounds, AreInTouch, AreInRoundFrom, IsHeardOutByAll, TakeInOrder}
-use Rattle.patience_laws.specs.Meetings.{MeetOnce}
-use Rattle.patience_laws.specs.Gatherings.{NoneBefore}
 use Rattle.patience_laws.proofs.PacedSteps.{rounds_after, round-here}
 use Rattle.patience_laws.proofs.KnownRounds.{rounds-up}
 use Rattle.patience_laws.proofs.LeastRounds.{touch-later}
@@ -41,8 +28,7 @@ module _ (patience set : ℕ) (trace : Recorded) (g d f : ℕ) (keeps : KeepsBou
   sent-earlier : (p q s n : ℕ) (h : HasHeardOf trace.steps p q s n) → h.message < n
   sent-earlier p q s n h =
       let earlier = (keeps.run.well_formed.earlier h.place h.message (record { proc = p; act = Receive h.take.ends h.take.ids }) h.take.step h.take.taken).0 in
-      let by = h.by in
-      omega arith
+      omega (arith, h.by)
 
   -- what p heard with step n + 1, which takes these messages, is complete
   abbrev pub IsCompleteAt : ℕ → ℕ → List ℕ → Type 0
@@ -86,10 +72,8 @@ module _ (patience set : ℕ) (trace : Recorded) (g d f : ℕ) (keeps : KeepsBou
     pub ended-before : (q z n s : ℕ) (h : HasHeardOf trace.steps q z s (suc n)) (m : ℕ) → 1 ≤ m → m < s → (e : IsEndOf trace.steps z m) × (suc e.place ≤ n)
     ended-before q z n s h m positive below =
         let earlier = sent-earlier q z s (suc n) h in
-        let far = h.later in
-        let e = end-of c patience trace.steps z m (h.message - 1) positive (omega arith) in
-        let inside = e.1 in
-        (e.0, omega arith)
+        let e = end-of c patience trace.steps z m (h.message - 1) positive (omega (arith, h.later)) in
+        (e.0, omega (arith, e.1, h.later))
 
     -- Who ends the round as complete heard of all; and so does who ends the next lock-release round, if it did in this one.
     module _ (part : part_of r ≡ 4) (over : AreInRoundFrom set trace (r + 1) (x + patience))
@@ -113,9 +97,7 @@ module _ (patience set : ℕ) (trace : Recorded) (g d f : ℕ) (keeps : KeepsBou
           heard_p h =
               let earlier = sent-earlier q p (rounds_after trace.steps q k + 1) (suc k) h in
               let rise = round_at-up c patience trace.steps p h.message (suc n) (omega arith) in
-              let e = round-here trace.steps p n in
-              let ahead = h.later in
-              omega arith
+              omega (arith, h.later, round-here trace.steps p n)
 
           -- it heard of p when it ended the round itself
           heard-then : (e : IsEndOf trace.steps q r) → suc e.place ≤ k
@@ -133,8 +115,7 @@ module _ (patience set : ℕ) (trace : Recorded) (g d f : ℕ) (keeps : KeepsBou
                   let long = impatient q e.place (Receive true e.ids) mq e.step (omega arith) out in
                   let rise = ticks_rise trace keeps.trace_is.time (suc e.place) (suc n) (record { proc = q; act = Receive true e.ids }) (record { proc = p; act = act }) e.step at (omega arith) in
                   let past = over p mp (suc n) (act, at) (omega arith) in
-                  let h = round-here trace.steps p n in
-                  absurd (omega arith)
+                  absurd (omega (arith, round-here trace.steps p n))
               why (Behind ahead) = let same = ended in of same (has_proc set ahead.proc) refl
                 where
                   of : rounds_after trace.steps q e.place + 1 ≡ r → (b : Bool) → has_proc set ahead.proc ≡ b → HasHeardOf trace.steps q p r (suc e.place)
@@ -154,8 +135,7 @@ module _ (patience set : ℕ) (trace : Recorded) (g d f : ℕ) (keeps : KeepsBou
               let long = impatient q k (Receive true ids) mq there (omega arith) out in
               let rise = ticks_rise trace keeps.trace_is.time (suc k) (suc n) (record { proc = q; act = Receive true ids }) (record { proc = p; act = act }) there at (omega arith) in
               let past = over p mp (suc n) (act, at) (omega arith) in
-              let e = round-here trace.steps p n in
-              omega arith
+              omega (arith, round-here trace.steps p n)
           go before (Behind ahead) = of (has_proc set ahead.proc) refl
             where
               of : (b : Bool) → has_proc set ahead.proc ≡ b → ⊥
@@ -174,8 +154,7 @@ module _ (patience set : ℕ) (trace : Recorded) (g d f : ℕ) (keeps : KeepsBou
           is = sym (round-here trace.steps p n) ∙ here
 
           go : Why c patience trace.steps p keeps.run.well_formed n ids true at (keeps.paced p mp) → HasHeardOf trace.steps p q r (suc n)
-          go (Complete done) =
-              subst (λ s. HasHeardOf trace.steps p q s (suc n)) is (now p q n ids mp mq at is done)
+          go (Complete done) = subst (λ s. HasHeardOf trace.steps p q s (suc n)) is (now p q n ids mp mq at is done)
           go (Impatient out) =
               let e = is in
               let long = impatient p n (Receive true ids) mp at (omega arith) out in

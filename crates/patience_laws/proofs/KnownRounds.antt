@@ -2,17 +2,8 @@
 use Rattle.std.proofs.Common.{ℕ, zero, suc, ◌≡◌, ◌+◌, ◌-◌, ◌<◌, ◌≤◌, ◌⊎◌, inl, inr, List, Bool, true, false, ◌==◌, ◌&&◌, refl, sym, ap, subst, ◌∙◌, arith}
 use Rattle.std.proofs.lemmas.Bool.{cases_lt}
 use Rattle.std.proofs.lemmas.List.{get_or-replicate}
-use Rattle.step_trace.specs.declared.steps.Step.{Step}
-use Rattle.step_trace.specs.Configurations.{Setup, IsProc}
-use Rattle.step_trace.specs.Traces.{IsWellFormed}
-use Rattle.step_trace.proofs.StepPositions.{step_at_within}
-use Rattle.lock_phases.specs.Rounds.{part_of}
-use Rattle.step_buffers.specs.HeardTables.{round_at}
-use Rattle.deciding_runs.specs.declared.peers.Peer.{Peer}
-use Rattle.deciding_runs.specs.HeardOut.{HasHeardOf, IsTakenAt}
-use Rattle.deciding_runs.specs.Peers.{unheard}
+use Rattle.patience_laws.proofs.Common.{Step, Setup, IsProc, IsWellFormed, step_at_within, part_of, round_at, Peer, HasHeardOf, IsTakenAt, unheard, TakesOf}
 use Rattle.patience_laws.specs.PacedRuns.{pace_after, peer_after}
-use Rattle.patience_laws.specs.Silence.{TakesOf}
 use Rattle.patience_laws.proofs.PacedSteps.{rounds_after, step-cases}
 use Rattle.patience_laws.proofs.HeardPeers.{Latest, Kept, Past, Taken, peer_received, IsStillOf, IsReceivedOf, peer-cases}
 
@@ -36,9 +27,7 @@ module _ (c : Setup) (patience : ℕ) (steps : List Step) (p : ℕ) where
   rounds-rise j zero = let e : j + 0 ≡ j = omega arith in rw e (omega arith)
   rounds-rise j (suc more) =
       let e : j + suc more ≡ suc (j + more) = omega arith in
-      let last = rounds-step (j + more) in
-      let first = rounds-rise j more in
-      rw e (omega arith)
+      rw e (omega (arith, rounds-rise j more, rounds-step (j + more)))
 
   pub rounds-up : (j k : ℕ) → j ≤ k → rounds_after steps p j ≤ rounds_after steps p k
   rounds-up j k l = let e : j + (k - j) ≡ k = omega arith in subst (λ n. rounds_after steps p j ≤ rounds_after steps p n) e (rounds-rise j (k - j))
@@ -56,8 +45,7 @@ module _ (c : Setup) (patience : ℕ) (steps : List Step) (p q : ℕ) (w : IsWel
   heard-cases r k h = elim (cases_lt h.place (suc k)) [
     | inl l ↦ inl (record { message = h.message; sent = h.sent; later = h.later; place = h.place; take = h.take; by = omega arith })
     | inr l ↦
-        let by = h.by in
-        let e : h.place ≡ suc k = omega arith in
+        let e : h.place ≡ suc k = omega (arith, h.by) in
         let m : TakesOf steps p q (suc k) = record { message = h.message; sent = h.sent; take = subst (λ n. IsTakenAt steps p n h.message) e h.take } in
         inr (m, h.later)
   ]
@@ -88,9 +76,8 @@ module _ (c : Setup) (patience : ℕ) (steps : List Step) (p q : ℕ) (w : IsWel
             | inl deaf ↦ absurd (deaf.none m.0)
             | inr listening ↦ (
                 let e = earlier in
-                let round = m.1 in
-                let most = listening.each m.0.message m.0.take m.0.sent (omega arith) in
-                omega arith)
+                let most = listening.each m.0.message m.0.take m.0.sent (omega (arith, m.1)) in
+                omega (arith, m.1))
           ]
 
   -- and what is known was taken

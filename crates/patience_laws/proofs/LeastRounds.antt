@@ -1,28 +1,12 @@
 -- By which tick the least round of the members is over.
 use Rattle.std.proofs.Common.{ℕ, suc, ◌≡◌, ◌+◌, ◌-◌, ◌*◌, ◌<◌, ◌≤◌, inl, inr, List, length, Option, Some, None, is_some, Bool, true, false, ◌==◌, ◌&&◌, ◌||◌, not, refl, sym, ap, subst, ◌∙◌, arith, eq-eqb}
 use Rattle.std.proofs.lemmas.Bool.{true≢false, eqb-true, and_parts}
-use Rattle.step_trace.specs.declared.steps.Act.TheVariants.{Receive}
-use Rattle.step_trace.specs.declared.steps.Step.{Step}
-use Rattle.step_trace.specs.Configurations.{Setup, IsProc}
-use Rattle.step_trace.specs.Processors.{has_proc}
-use Rattle.step_trace.specs.Traces.{Recorded}
-use Rattle.lock_phases.specs.declared.bodies.Body.{Body}
+use Rattle.patience_laws.proofs.Common.{Receive, Step, Setup, IsProc, has_proc, Recorded, Body, with_proper, State, part_of, owner, phase_of, Part, Listing, Locking, Acknowledging, part_at, locking-keeps, part_at-listing, part_at-locking, part_at-acknowledging, list-sent, lock-sent, acknowledgement-sent, locks-sent, member-positive, passed-before, may_hear_in, IsInRoundFrom, sends_to, may_hear_of, KeepsBounds, AreInTouch, AreInRoundFrom, node_in, OweAcknowledgements}
 use Rattle.lock_phases.specs.declared.bodies.Kind.TheVariants.{List as Listed, Lock, Ack, Locks}
-use Rattle.lock_phases.specs.Hearing.{with_proper}
-use Rattle.lock_phases.specs.Nodes.{State}
 use Rattle.lock_phases.specs.NodeFunctions.{out, next, values_to_list}
-use Rattle.lock_phases.specs.Rounds.{part_of, owner, phase_of, Part, Listing, Locking, Acknowledging, part_at}
-use Rattle.lock_phases.proofs.LockingLaws.{locking-keeps}
-use Rattle.lock_phases.proofs.RoundLaws.{part_at-listing, part_at-locking, part_at-acknowledging}
-use Rattle.lock_phases.proofs.SendingLaws.{list-sent, lock-sent, acknowledgement-sent, locks-sent}
 use Rattle.round_model.specs.RoundStates.{state_after, messages_heard}
-use Rattle.round_model.proofs.BoundedDecisions.{member-positive}
 use Rattle.round_model.proofs.RoundEquations.{state_after-next}
 use Rattle.step_buffers.specs.HeardTables.{passed, heard_table}
-use Rattle.step_buffers.proofs.StepPrefixes.{passed-before}
-use Rattle.deciding_runs.specs.Audible.{may_hear_in}
-use Rattle.patience_laws.specs.RoundTicks.{IsInRoundFrom, sends_to, may_hear_of}
-use Rattle.patience_laws.specs.LeastRounds.{KeepsBounds, AreInTouch, AreInRoundFrom, node_in, OweAcknowledgements}
 use Rattle.patience_laws.proofs.RoundSends.{times-more}
 use Rattle.patience_laws.proofs.RoundsHeard.{taken-by, hears-ends}
 use Rattle.patience_laws.proofs.RoundMessages.{few-all, few-one, few-none, IsSentBy, sent-by}
@@ -104,8 +88,7 @@ module _ (patience set : ℕ) (trace : Recorded) (g d f : ℕ) (keeps : KeepsBou
           let e = times-more 0 f in
           let s = says 0 p q (with_proper (node_in c trace.steps q round) (Listed (values_to_list (node_in c trace.steps q round)))) mq (proc p m) (few-one c trace.steps q round (inl part))
           (subst (λ to. out c (node_in c trace.steps q round) q round to ≡ Some (with_proper (node_in c trace.steps q round) (Listed (values_to_list (node_in c trace.steps q round))))) (sym own) (list-sent c (node_in c trace.steps q round) q round part)) (omega arith) in
-          let by = s.by in
-          record { message = s.message; sent = s.sent; later = s.later; by = omega arith }
+          record { message = s.message; sent = s.sent; later = s.later; by = omega (arith, s.by) }
 
   -- a lock-release round: each sends its locks to all
   pub releasing-ends : part_of round ≡ 4 → AreInRoundFrom set trace (round + 1) (x + c.n * f + d + f)
@@ -121,8 +104,7 @@ module _ (patience set : ℕ) (trace : Recorded) (g d f : ℕ) (keeps : KeepsBou
           let product : suc (c.n - 1) * f ≡ c.n * f = ap (λ n. n * f) e in
           let s = says (c.n - 1) p q (with_proper (node_in c trace.steps q round) (Locks (node_in c trace.steps q round).locks)) mq (proc p m) (omega arith)
           (locks-sent c (node_in c trace.steps q round) q round p part) (omega arith) in
-          let by = s.by in
-          record { message = s.message; sent = s.sent; later = s.later; by = omega arith }
+          record { message = s.message; sent = s.sent; later = s.later; by = omega (arith, s.by) }
 
   -- an acknowledging round in which all that are asked owe an acknowledgement
   pub acknowledging-ends : part_of round ≡ 3 → OweAcknowledgements set trace round → AreInRoundFrom set trace (round + 1) (x + f + d + f)
@@ -131,11 +113,8 @@ module _ (patience set : ℕ) (trace : Recorded) (g d f : ℕ) (keeps : KeepsBou
       came : (q : ℕ) → has_proc set q ≡ true → x + f ≤ trace.last → round ≤ passed trace.steps q + 1
       came q mq last =
           let s = keeps.phi.each x touch.since (omega arith) q mq in
-          let from = s.from in
-          let tick = s.step.tick in
-          let l = there q mq s.step.place s.step.step (omega arith) in
-          let within = passed-before trace.steps q s.step.place in
-          omega arith
+          let l = there q mq s.step.place s.step.step (omega (arith, s.step.tick, s.from)) in
+          omega (arith, passed-before trace.steps q s.step.place, s.step.tick, s.from)
 
       proposes : (o : Option ℕ) → (node_in c trace.steps p round).proposal ≡ o → is_some o ≡ true → (v : ℕ) × ((node_in c trace.steps p round).proposal ≡ Some v)
       proposes (Some v) e h = (v, e)
@@ -150,8 +129,7 @@ module _ (patience set : ℕ) (trace : Recorded) (g d f : ℕ) (keeps : KeepsBou
           let e = times-more 0 f in
           let s = says 0 p q (with_proper (node_in c trace.steps q round) Ack) mq (proc p m) (few-one c trace.steps q round (inr part))
           (subst (λ to. out c (node_in c trace.steps q round) q round to ≡ Some (with_proper (node_in c trace.steps q round) Ack)) (sym own) (acknowledgement-sent c (node_in c trace.steps q round) q round part owes)) (omega arith) in
-          let by = s.by in
-          record { message = s.message; sent = s.sent; later = s.later; by = omega arith }
+          record { message = s.message; sent = s.sent; later = s.later; by = omega (arith, s.by) }
 
   -- an owner without a proposal waits for nobody, until it sends its locks
   idle-owner : (o : ℕ) → has_proc set o ≡ true → o ≡ owner c.n (phase_of round) → part_of round ≡ 2 → (node_in c trace.steps o round).proposal ≡ None
@@ -205,8 +183,7 @@ module _ (patience set : ℕ) (trace : Recorded) (g d f : ℕ) (keeps : KeepsBou
           let few = few-all c trace.steps o round in
           let s = says (c.n - 1) p o (with_proper (node_in c trace.steps o round) (Lock v)) mo (proc p m) (omega arith)
           (subst (λ j. out c (node_in c trace.steps o round) j round p ≡ Some (with_proper (node_in c trace.steps o round) (Lock v))) (sym own) (lock-sent c (node_in c trace.steps o round) round p v part e)) (omega arith) in
-          let by = s.by in
-          record { message = s.message; sent = s.sent; later = s.later; by = omega arith }
+          record { message = s.message; sent = s.sent; later = s.later; by = omega (arith, s.by) }
       of o mo own last None e =
           let times = product in
           let l = low_n in
@@ -218,8 +195,7 @@ module _ (patience set : ℕ) (trace : Recorded) (g d f : ℕ) (keeps : KeepsBou
           (c.n - 1) p (with_proper (node_in c trace.steps o (round + 1 + 1)) (Locks (node_in c trace.steps o (round + 1 + 1)).locks)) (omega arith) (proc p m)
           (locks-sent c (node_in c trace.steps o (round + 1 + 1)) o (round + 1 + 1) p fourth) (omega arith) in
           let by = s.by in
-          let later = s.later in
-          record { message = s.message; sent = s.sent; later = omega arith; by = omega arith }
+          record { message = s.message; sent = s.sent; later = omega (arith, s.later); by = omega (arith, s.later) }
 
       told : AreTold p (x + 3 * f + c.n * f)
       told q mq may last =

@@ -1,3 +1,4 @@
+pub mod Common
 mod HeardMessages
 mod PacedSteps
 mod GrownPaces

@@ -1,23 +1,8 @@
 -- Members that need one another meet.
 use Rattle.std.proofs.Common.{ℕ, suc, ◌≡◌, ◌+◌, ◌-◌, ◌*◌, ◌%◌, ◌<◌, ◌≤◌, inl, inr, List, take, Some, true, false, sym, ap, subst, ◌∙◌, arith}
 use Rattle.std.proofs.lemmas.Bool.{cases_lt}
-use Rattle.step_trace.specs.declared.steps.Act.TheVariants.{Receive}
-use Rattle.step_trace.specs.Configurations.{Setup, IsProc}
-use Rattle.step_trace.specs.Processors.{has_proc}
-use Rattle.step_trace.specs.Traces.{Recorded, step_at}
-use Rattle.step_trace.specs.Ticks.{tick_of}
-use Rattle.step_trace.proofs.TickOrder.{ticks_rise}
-use Rattle.lock_phases.specs.Rounds.{part_of, owner, phase_of}
-use Rattle.lock_phases.proofs.RoundLaws.{part_at-releasing}
-use Rattle.round_model.proofs.BoundedDecisions.{member-positive}
-use Rattle.step_buffers.specs.Runs.{node_before}
-use Rattle.deciding_runs.specs.Audible.{may_hear_in, may_hear_all_in}
-use Rattle.deciding_runs.specs.HeardOut.{HasHeardOf}
-use Rattle.deciding_runs.specs.Paces.{heard_ids, is_complete}
+use Rattle.patience_laws.proofs.Common.{Receive, Setup, IsProc, has_proc, Recorded, step_at, tick_of, ticks_rise, part_of, owner, phase_of, part_at-releasing, member-positive, node_before, may_hear_in, may_hear_all_in, HasHeardOf, heard_ids, is_complete, KeepsBounds, AreInTouch, AreInRoundFrom, IsHeardOutByAll, TakeInOrder, ComesTo, AreAlone, HearThemselves, NeedAll, longest_round, met_round, met_tick, HaveMet}
 use Rattle.patience_laws.specs.PacedRuns.{pace_after}
-use Rattle.patience_laws.specs.LeastRounds.{KeepsBounds, AreInTouch, AreInRoundFrom, IsHeardOutByAll, TakeInOrder}
-use Rattle.patience_laws.specs.Meetings.{ComesTo}
-use Rattle.patience_laws.specs.Gatherings.{AreAlone, HearThemselves, NeedAll, longest_round, met_round, met_tick, HaveMet}
 use Rattle.patience_laws.proofs.PacedSteps.{rounds_after, round-here}
 use Rattle.patience_laws.proofs.UnheardSuspects.{suspect-unheard}
 use Rattle.patience_laws.proofs.EndedReceives.{complete-heard, quorum-heard}

@@ -1,21 +1,7 @@
 -- Members within a phase of one another that suspect none of their own hear out the next lock-release round.
 use Rattle.std.proofs.Common.{ℕ, zero, suc, ◌≡◌, ◌+◌, ◌-◌, ◌*◌, ◌<◌, ◌≤◌, inl, inr, List, Some, true, sym, ap, subst, ◌∙◌, arith}
 use Rattle.std.proofs.lemmas.Bool.{cases_lt}
-use Rattle.step_trace.specs.declared.steps.Act.TheVariants.{Receive}
-use Rattle.step_trace.specs.Configurations.{Setup, IsProc}
-use Rattle.step_trace.specs.Processors.{has_proc}
-use Rattle.step_trace.specs.Traces.{Recorded, step_at}
-use Rattle.lock_phases.specs.Rounds.{part_of, owner, phase_of}
-use Rattle.lock_phases.proofs.RoundLaws.{part_at-releasing}
-use Rattle.round_model.proofs.BoundedDecisions.{member-positive}
-use Rattle.step_buffers.specs.HeardTables.{round_at}
-use Rattle.step_buffers.specs.Runs.{node_before}
-use Rattle.deciding_runs.specs.Audible.{may_hear, may_hear_in}
-use Rattle.deciding_runs.specs.HeardOut.{HasHeardOf}
-use Rattle.patience_laws.specs.PacedRuns.{peer_after}
-use Rattle.patience_laws.specs.Silence.{Suspects, WasSilent}
-use Rattle.patience_laws.specs.LeastRounds.{KeepsBounds, AreInTouch, AreInRoundFrom, IsHeardOutByAll, TakeInOrder}
-use Rattle.patience_laws.specs.Gatherings.{HearThemselves, HaveMet, NoneBefore, SuspectNoneIn}
+use Rattle.patience_laws.proofs.Common.{Receive, Setup, IsProc, has_proc, Recorded, step_at, part_of, owner, phase_of, part_at-releasing, member-positive, round_at, node_before, may_hear, may_hear_in, HasHeardOf, peer_after, Suspects, WasSilent, KeepsBounds, AreInTouch, AreInRoundFrom, IsHeardOutByAll, TakeInOrder, HearThemselves, HaveMet, NoneBefore, SuspectNoneIn, ticks_rise, tick_of}
 use Rattle.patience_laws.proofs.PacedSteps.{rounds_after, round-here}
 use Rattle.patience_laws.proofs.KnownRounds.{rounds-up, heard-weaker}
 use Rattle.patience_laws.proofs.SilentPhases.{suspected-silent, silent-suspected}
@@ -24,8 +10,6 @@ use Rattle.patience_laws.proofs.PatienceTicks.{IsEndOf, rounds-ended, end-of}
 use Rattle.patience_laws.proofs.AskedAcknowledgements.{five-rounds}
 use Rattle.patience_laws.proofs.HeldRounds.{IsCompleteAt, since, hear-out-round, meet-once}
 use Rattle.patience_laws.proofs.FirstEnds.{FirstEnd, first-end}
-use Rattle.step_trace.proofs.TickOrder.{ticks_rise}
-use Rattle.step_trace.specs.Ticks.{tick_of}
 
 module _ (patience set : ℕ) (trace : Recorded) (g d f : ℕ) (keeps : KeepsBounds patience set trace g d f) (order : TakeInOrder set trace) (itself : HearThemselves set trace)
     (enough : 5 * d + (4 * trace.config.n + 14) * f ≤ patience) (s x : ℕ) (touch : AreInTouch patience set trace g s x) (low : 1 < s) (there : AreInRoundFrom set trace s x)
@@ -82,9 +66,7 @@ module _ (patience set : ℕ) (trace : Recorded) (g d f : ℕ) (keeps : KeepsBou
           bounded zero w last here by at = let e0 = here in omega arith
           bounded (suc k) w last here by at =
               let ended = rounds-ended c patience trace.steps p k was.ids at in
-              let h = round-here trace.steps p k in
-              let rise = rounds-up c patience trace.steps p (suc k) n by in
-              omega arith
+              omega (arith, rounds-up c patience trace.steps p (suc k) n by, round-here trace.steps p k)
 
   next : (p q n : ℕ) (ids : List ℕ) → has_proc set p ≡ true → has_proc set q ≡ true → (at : step_at trace.steps (suc n) ≡ Some (record { proc = p; act = Receive true ids }))
       → rounds_after trace.steps p n + 1 ≡ r + 4 → (e : IsEndOf trace.steps p r) → suc e.place ≤ n → HasHeardOf trace.steps p q r (suc e.place)
@@ -113,9 +95,8 @@ module _ (patience set : ℕ) (trace : Recorded) (g d f : ℕ) (keeps : KeepsBou
           early = elim (cases_lt (tick_of trace (suc own.place)) (x + patience)) [
             | inl l ↦ l
             | inr l ↦ absurd (
-                let past = over one mo (suc own.place) (Receive true own.ids, own.step) l in
                 let is = round-here trace.steps one own.place ∙ own.round_is in
-                omega arith)
+                omega (arith, over one mo (suc own.place) (Receive true own.ids, own.step) l))
           ]
 
           of : FirstEnd set trace.steps r → HaveMet patience set trace g (r + 1) (x + patience)

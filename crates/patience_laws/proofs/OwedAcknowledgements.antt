@@ -2,33 +2,12 @@
 use Rattle.std.proofs.Common.{ℕ, zero, suc, ◌≡◌, ◌+◌, ◌-◌, ◌≤◌, inl, inr, List, length, Some, is_some, Bool, true, false, ◌==◌, ◌&&◌, ◌||◌, not, refl, sym, ap, subst, ◌∙◌, arith, eq-eqb}
 use Rattle.std.proofs.lemmas.Bool.{cases_lt, cases_eq, eqb-true, true≢false}
 use Rattle.std.proofs.lemmas.Option.{none-some, same_Some}
-use Rattle.step_trace.specs.Steps.{act_sends}
-use Rattle.step_trace.specs.declared.steps.Step.{Step}
-use Rattle.patience_laws.specs.Gatherings.{HearThemselves}
+use Rattle.patience_laws.proofs.Common.{act_sends, Step, HearThemselves, Send, Receive, Setup, IsProc, has_proc, Recorded, step_at, step_at_within, Body, Lock, with_proper, IsToldToLock, State, part_of, owner, phase_of, Locking, locking-told, part_at-locking, lock-sent, messages_heard-has, IsRun, IsSend, sent_before, heard_table-from_heard, HasHeardOf, IsTakenAt, may_hear_of, sends_to, node_in, OweAcknowledgements, IsHeardOutByAll, TakeInOrder}
 use Rattle.std.proofs.Math.Seq.{take-length}
-use Rattle.step_trace.specs.declared.steps.Act.TheVariants.{Send, Receive}
-use Rattle.step_trace.specs.Configurations.{Setup, IsProc}
-use Rattle.step_trace.specs.Processors.{has_proc}
-use Rattle.step_trace.specs.Traces.{Recorded, step_at}
-use Rattle.step_trace.proofs.StepPositions.{step_at_within}
-use Rattle.lock_phases.specs.declared.bodies.Body.{Body}
-use Rattle.lock_phases.specs.declared.bodies.Kind.TheVariants.{Lock}
-use Rattle.lock_phases.specs.Hearing.{with_proper, IsToldToLock}
-use Rattle.lock_phases.specs.Nodes.{State}
-use Rattle.lock_phases.specs.Rounds.{part_of, owner, phase_of, Locking}
-use Rattle.lock_phases.proofs.LockingLaws.{locking-told}
-use Rattle.lock_phases.proofs.RoundLaws.{part_at-locking}
-use Rattle.lock_phases.proofs.SendingLaws.{lock-sent}
 use Rattle.round_model.specs.RoundStates.{state_after, messages_heard}
-use Rattle.round_model.proofs.HeardLists.{messages_heard-has}
 use Rattle.round_model.proofs.SendersHeard.{messages_heard-rise}
 use Rattle.step_buffers.specs.HeardTables.{passed, round_at, heard_table}
 use Rattle.lock_phases.specs.NodeFunctions.{out}
-use Rattle.step_buffers.specs.Runs.{IsRun, IsSend, sent_before}
-use Rattle.step_buffers.proofs.HeardSenders.{heard_table-from_heard}
-use Rattle.deciding_runs.specs.HeardOut.{HasHeardOf, IsTakenAt}
-use Rattle.patience_laws.specs.RoundTicks.{may_hear_of, sends_to}
-use Rattle.patience_laws.specs.LeastRounds.{node_in, OweAcknowledgements, IsHeardOutByAll, TakeInOrder}
 use Rattle.patience_laws.proofs.PacedSteps.{rounds_after, round-here}
 use Rattle.patience_laws.proofs.RoundSends.{round_at-up}
 use Rattle.patience_laws.proofs.SentInRounds.{sent-to}
@@ -88,14 +67,13 @@ module _ (trace : Recorded) (patience set : ℕ) (run : IsRun trace.config trace
             go : HasHeardOf trace.steps q o round k → IsTold
             go h = elim (cases_lt round (round_at trace.steps o h.message)) [
               | inr same ↦ (
-                  let later = h.later in
                   record {
                     message = h.message;
                     sent = h.sent;
-                    round_is = omega arith;
+                    round_is = omega (arith, h.later);
                     place = h.place;
                     take = h.take;
-                    in_time = let up = round_at-up c patience trace.steps q h.place k h.by in omega arith;
+                    in_time = let up = round_at-up c patience trace.steps q h.place k h.by in omega (arith, h.later);
                   })
               | inl passed_it ↦ (
                   let within = step_at_within trace.steps h.message _ h.sent in

@@ -4,15 +4,7 @@ use Rattle.std.specs.Prelude.{slice_get}
 use Rattle.std.proofs.Common.{eq-eqb}
 use Rattle.std.proofs.lemmas.Bool.{eqb-true, and_right, and_left, true≢false}
 use Rattle.std.proofs.lemmas.Option.{none-some, same_Some}
-use Rattle.step_trace.specs.Steps.{act_sends}
-use Rattle.step_trace.specs.declared.steps.Act.{Act}
-use Rattle.step_trace.specs.declared.steps.Act.TheVariants.{Send, Receive}
-use Rattle.step_trace.specs.declared.steps.Step.{Step}
-use Rattle.step_trace.specs.Configurations.{Setup}
-use Rattle.step_trace.specs.Traces.{step_at}
-use Rattle.step_buffers.specs.HeardTables.{passed, round_at, act_ends}
-use Rattle.deciding_runs.specs.Paces.{heard_ids, after_receive}
-use Rattle.deciding_runs.proofs.CountedRounds.{round_at-ended, round_at-stays}
+use Rattle.patience_laws.proofs.Common.{act_sends, Act, Send, Receive, Step, Setup, step_at, passed, round_at, act_ends, heard_ids, after_receive, round_at-ended, round_at-stays}
 use Rattle.patience_laws.specs.PacedRuns.{pace_after, pace_stepping}
 
 -- the rounds of p after the first k steps
@@ -54,18 +46,12 @@ take-past (x ∷ steps) (suc k) l = ap (λ rest. x ∷ rest) (take-past steps k 
 
 module _ (c : Setup) (patience : ℕ) (steps : List Step) (p k : ℕ) where
   stays : (x : Step) → slice_get steps k ≡ Some x → (x.proc == p && act_ends x.act) ≡ false → rounds_after steps p (suc k) ≡ rounds_after steps p k
-  stays x h other =
-      let same = round_at-stays steps (suc k) x p h other in
-      let here = round-here steps p k in
-      let next = round-next steps p k in
-      omega arith
+  stays x h other = omega (arith, round-next steps p k, round-here steps p k, round_at-stays steps (suc k) x p h other)
 
   ends-round : (x : Step) → slice_get steps k ≡ Some x → x.proc ≡ p → act_ends x.act ≡ true → rounds_after steps p (suc k) ≡ rounds_after steps p k + 1
   ends-round x h own ends =
       let more : round_at steps p (suc k + 1) ≡ round_at steps p (suc k) + 1 = subst (λ q. round_at steps q (suc k + 1) ≡ round_at steps q (suc k) + 1) own (round_at-ended steps (suc k) x h ends) in
-      let here = round-here steps p k in
-      let next = round-next steps p k in
-      omega arith
+      omega (arith, round-next steps p k, round-here steps p k)
 
   pub step-cases : IsStill c patience steps p k ⊎ IsReceived c patience steps p k
   step-cases = go (slice_get steps k) refl

@@ -2,19 +2,8 @@
 use Rattle.std.proofs.Common.{ℕ, zero, suc, ◌≡◌, ◌+◌, ◌-◌, ◌*◌, ◌<◌, ◌≤◌, List, take, length, Some, Bool, true, false, cond, refl, sym, ap, subst, ◌∙◌, arith, inl, inr}
 use Rattle.std.proofs.lemmas.Bool.{cases_lt, true≢false}
 use Rattle.std.proofs.lemmas.Option.{none-some, same_Some}
-use Rattle.step_trace.specs.declared.steps.Act.TheVariants.{Receive}
-use Rattle.step_trace.specs.declared.steps.Step.{Step}
-use Rattle.step_trace.specs.Configurations.{Setup}
-use Rattle.step_trace.specs.Processors.{has_proc}
-use Rattle.step_trace.specs.Traces.{Recorded, step_at, IsStepOf}
-use Rattle.step_trace.specs.Ticks.{tick_of, IsTimed}
-use Rattle.step_trace.specs.Bounds.{PhiHolds}
-use Rattle.step_buffers.specs.HeardTables.{round_at, act_ends}
-use Rattle.step_buffers.specs.NextSteps.{receiving}
-use Rattle.step_buffers.specs.Runs.{IsRun, sent_before}
-use Rattle.deciding_runs.specs.Paces.{Paced, heard_ids, after_receive}
+use Rattle.patience_laws.proofs.Common.{Receive, Step, Setup, has_proc, Recorded, step_at, IsStepOf, tick_of, IsTimed, PhiHolds, round_at, act_ends, receiving, IsRun, sent_before, Paced, heard_ids, after_receive, IsInRoundFrom, EachEnds, sends_to}
 use Rattle.patience_laws.specs.PacedRuns.{pace_after, StepsByPace}
-use Rattle.patience_laws.specs.RoundTicks.{IsInRoundFrom, EachEnds, sends_to}
 use Rattle.patience_laws.proofs.PacedSteps.{rounds_after, round-here, step-cases}
 use Rattle.patience_laws.proofs.KnownRounds.{rounds-step, rounds-up}
 use Rattle.patience_laws.proofs.RoundSends.{times-more, one-before, same-round, sends-in, receives, round-ends}
@@ -97,10 +86,8 @@ module _ (trace : Recorded) (patience set g f p : ℕ) (run : IsRun trace.config
         of : (b : Bool) → ends ≡ b → remains (k - 1) + 1 ≤ remains (suc j - 1)
         of true e =
             let is = left-received trace.config patience trace.steps p j ids true (at ∙ ap (λ b. Some (record { proc = p; act = Receive b ids })) e) in
-            let next = is.1 in
             let up = within in
-            let a = round-here trace.steps p j in
-            absurd (omega arith)
+            absurd (omega (arith, round-here trace.steps p j, is.1))
         of false e =
             let is = left-received trace.config patience trace.steps p j ids false (at ∙ ap (λ b. Some (record { proc = p; act = Receive b ids })) e) in
             let next = is.0 in
@@ -134,9 +121,7 @@ module _ (trace : Recorded) (patience set g f p : ℕ) (run : IsRun trace.config
         ] in
         let r = receives trace patience set g f p run time paced member phi round x since there one.place one.act one.at same sent in
         let at : step_at trace.steps one.place ≡ Some (record { proc = p; act = Receive r.1 r.0 }) = subst (λ a. step_at trace.steps one.place ≡ Some (record { proc = p; act = a })) r.2 one.at in
-        let used = uses one.place k r.0 r.1 at same l here in
-        let before = uses-in i one.place (one.act, one.at) from same in
-        omega arith
+        omega (arith, uses-in i one.place (one.act, one.at) from same, uses one.place k r.0 r.1 at same l here)
 
     -- So its patience ends the round, if nothing else does.
     pub patience-ends : IsInRoundFrom trace p (round + 1) (x + most * f + patience * f + f)

@@ -2,16 +2,7 @@
 use Rattle.std.proofs.Common.{ℕ, zero, suc, ◌≡◌, ◌+◌, ◌-◌, ◌<◌, ◌≤◌, inl, inr, List, take, Some, Bool, true, false, cond, refl, sym, ap, subst, ◌∙◌, arith}
 use Rattle.std.proofs.lemmas.Bool.{cases_lt}
 use Rattle.std.proofs.lemmas.Option.{same_Some}
-use Rattle.step_trace.specs.declared.steps.Act.{Act}
-use Rattle.step_trace.specs.declared.steps.Act.TheVariants.{Receive}
-use Rattle.step_trace.specs.declared.steps.Step.{Step}
-use Rattle.step_trace.specs.Configurations.{Setup}
-use Rattle.step_trace.specs.Traces.{Recorded, step_at}
-use Rattle.step_trace.specs.Ticks.{tick_of, IsTimed}
-use Rattle.step_trace.proofs.TickOrder.{own_ticks_rise}
-use Rattle.step_buffers.specs.HeardTables.{act_ends}
-use Rattle.step_buffers.specs.NextSteps.{receiving}
-use Rattle.deciding_runs.specs.Paces.{Paced, heard_ids, after_receive}
+use Rattle.patience_laws.proofs.Common.{Act, Receive, Step, Setup, Recorded, step_at, tick_of, IsTimed, own_ticks_rise, act_ends, receiving, Paced, heard_ids, after_receive}
 use Rattle.patience_laws.specs.PacedRuns.{pace_after}
 use Rattle.patience_laws.proofs.PacedSteps.{rounds_after, IsReceived, step-cases}
 use Rattle.patience_laws.proofs.KnownRounds.{rounds-step, rounds-up}
@@ -85,8 +76,7 @@ module _ (trace : Recorded) (patience p : ℕ) (time : IsTimed trace) (round : �
         let x = heard_ids (take end.place trace.steps) p r.ids (pace_after trace.config patience trace.steps p end.place) in
         let renewed : left (suc end.place) ≡ patience =
         ap (λ (y : Paced). y.left) r.pace ∙ ap (λ b. (after_receive b (rounds_after trace.steps p end.place + 1) x).left) ends ∙ pace-patience trace.config patience trace.steps p end.place in
-        let up = later (suc end.place) k (Receive true end.ids) act end.step at l in
-        omega arith)
+        omega (arith, later (suc end.place) k (Receive true end.ids) act end.step at l))
   ]
 
   lasts-step : (n : ℕ) → rounds_after trace.steps p (suc n) ≡ rounds_after trace.steps p n → Lasts n → Lasts (suc n)
@@ -101,8 +91,7 @@ module _ (trace : Recorded) (patience p : ℕ) (time : IsTimed trace) (round : �
           let x = heard_ids (take n trace.steps) p r.ids (pace_after trace.config patience trace.steps p n) in
           let less : left (suc n) ≡ left n - 1 = ap (λ (y : Paced). y.left) r.pace ∙ ap (λ b. (after_receive b (rounds_after trace.steps p n + 1) x).left) e in
           let before = lasts (suc n) (Receive r.ends r.ids) (omega arith) r.step in
-          let up = later (suc n) k (Receive r.ends r.ids) act r.step at l in
-          omega arith
+          omega (arith, later (suc n) k (Receive r.ends r.ids) act r.step at l)
 
   lasts-on : (more : ℕ) → rounds_after trace.steps p (suc end.place + more) ≡ round → Lasts (suc end.place + more)
   lasts-on zero same = let e : suc end.place + 0 ≡ suc end.place = omega arith in subst Lasts (sym e) lasts-first

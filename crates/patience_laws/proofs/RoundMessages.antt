@@ -5,29 +5,10 @@ use Rattle.std.specs.List.{range_with_len}
 use Rattle.std.proofs.lemmas.Bool.{cases_lt, cases_eq, true≢false, eq-eqb}
 use Rattle.std.proofs.lemmas.Option.{slice_get-get_or, none-some}
 use Rattle.std.proofs.lemmas.List.Sums.{sum_by-cons, length-filter}
-use Rattle.step_trace.specs.declared.steps.Act.{Act}
-use Rattle.step_trace.specs.declared.steps.Act.TheVariants.{Send, Receive}
-use Rattle.step_trace.specs.declared.steps.Step.{Step}
-use Rattle.step_trace.specs.Configurations.{Setup, IsProc}
-use Rattle.step_trace.specs.Processors.{has_proc}
-use Rattle.step_trace.specs.Traces.{Recorded, step_at}
-use Rattle.step_trace.specs.Ticks.{tick_of, IsTimed}
-use Rattle.step_trace.specs.Bounds.{PhiHolds}
-use Rattle.step_trace.proofs.ListMembers.{Contains-filter}
-use Rattle.step_trace.proofs.TickOrder.{ticks_rise}
-use Rattle.lock_phases.specs.declared.bodies.Body.{Body}
+use Rattle.patience_laws.proofs.Common.{Act, Send, Receive, Step, Setup, IsProc, has_proc, Recorded, step_at, tick_of, IsTimed, PhiHolds, Contains-filter, ticks_rise, Body, part_of, owner, phase_of, Locking, out-in, part_at-locking, processors, Contains-processors, All-range_with_len, round_at, StepsByPace, IsInRoundFrom, sends_to, node_in}
 use Rattle.lock_phases.specs.NodeFunctions.{out}
-use Rattle.lock_phases.specs.Rounds.{part_of, owner, phase_of, Locking}
-use Rattle.lock_phases.proofs.RoundLaws.{out-in, part_at-locking}
-use Rattle.round_model.specs.RoundStates.{processors}
-use Rattle.round_model.proofs.HeardLists.{Contains-processors}
-use Rattle.round_model.proofs.ProcessorRanges.{All-range_with_len}
-use Rattle.step_buffers.specs.HeardTables.{round_at}
 use Rattle.step_buffers.specs.Runs.{IsRun, IsSend, next_destination, sent_before}
 use Rattle.step_buffers.proofs.NextSends.{sent-to_owner}
-use Rattle.patience_laws.specs.PacedRuns.{StepsByPace}
-use Rattle.patience_laws.specs.RoundTicks.{IsInRoundFrom, sends_to}
-use Rattle.patience_laws.specs.LeastRounds.{node_in}
 use Rattle.patience_laws.proofs.PacedSteps.{rounds_after, round-here, step-cases}
 use Rattle.patience_laws.proofs.EndedReceives.{count_by-none}
 use Rattle.patience_laws.proofs.RoundSends.{next_destination-in, sent_before-up, sends-in, sends-first, times-more}
@@ -37,10 +18,8 @@ use Rattle.patience_laws.proofs.SentInRounds.{sent-to}
 count-few : (test : ℕ → Bool) (a n : ℕ) → count_by test (range_with_len a n) ≤ n
 count-few test a zero = omega arith
 count-few test a (suc n) =
-    let rest = count-few test (a + 1) n in
     let first = sum_by-cons (λ z. cond {A = ℕ} (test z) 1 0) a (range_with_len (a + 1) n) in
-    let one = at-most (test a) in
-    omega arith
+    omega (arith, at-most (test a), count-few test (a + 1) n)
   where
     at-most : (b : Bool) → cond {A = ℕ} b 1 0 ≤ 1
     at-most true = omega arith
@@ -63,16 +42,13 @@ count-one test o a (suc n) only = go (count-one test o (a + 1) n only) (test a) 
             let r = All-range_with_len (a + 1) n d.0 x d.1 in
             let is : _ ≡ x = d.2 in
             let low : a + 1 ≤ x = subst (λ m. a + 1 ≤ m) is r.0 in
-            let here = only a t in
-            let there = only x e in
-            absurd (omega arith)
+            absurd (omega (arith, only x e, only a t))
 
     go : count_by test (range_with_len (a + 1) n) ≤ 1 → (b : Bool) → test a ≡ b → count_by test (range_with_len a (suc n)) ≤ 1
     go few true t =
-        let none = count_by-none test (range_with_len (a + 1) n) (later t) in
         let f : cond {A = ℕ} (test a) 1 0 ≡ 1 = ap (λ b. cond {A = ℕ} b 1 0) t in
         let e = first in
-        omega arith
+        omega (arith, count_by-none test (range_with_len (a + 1) n) (later t))
     go few false t =
         let f : cond {A = ℕ} (test a) 1 0 ≡ 0 = ap (λ b. cond {A = ℕ} b 1 0) t in
         let e = first in
@@ -103,9 +79,8 @@ module _ (c : Setup) (steps : List Step) (p round : ℕ) where
 
   pub few-none : part_of round ≡ 2 → p ≡ owner c.n (phase_of round) → (node_in c steps p round).proposal ≡ None → length (sends_to c steps p round) ≤ 0
   few-none part is none =
-      let e = length-filter sends (processors c) in
       let l = count_by-none sends (processors c) (λ to d. says-none part is none to) in
-      omega arith
+      omega (arith, length-filter sends (processors c))
 
   -- who is told something in a round is among those
   pub told-place : (to : ℕ) (body : Body) → IsProc c to → out c (node_in c steps p round) p round to ≡ Some body

@@ -4,22 +4,8 @@ use Rattle.std.specs.Prelude.{slice_get, count_by, get_or}
 use Rattle.std.specs.List.{range_with_len}
 use Rattle.std.proofs.lemmas.Bool.{cases_lt}
 use Rattle.std.proofs.lemmas.Option.{slice_get-get_or, slice_get_past, none-some}
-use Rattle.step_trace.specs.declared.steps.Act.{Act}
-use Rattle.step_trace.specs.declared.steps.Act.TheVariants.{Send, Receive}
-use Rattle.step_trace.specs.declared.steps.Step.{Step}
-use Rattle.step_trace.specs.Configurations.{Setup}
-use Rattle.step_trace.specs.Processors.{has_proc}
-use Rattle.step_trace.specs.Traces.{Recorded, step_at, IsStepOf}
-use Rattle.step_trace.specs.Ticks.{tick_of, IsTimed}
-use Rattle.step_trace.specs.Bounds.{PhiHolds}
-use Rattle.step_trace.proofs.TickOrder.{number_below}
-use Rattle.step_buffers.specs.HeardTables.{passed, before, round_at, is_sent_in}
+use Rattle.patience_laws.proofs.Common.{Act, Send, Receive, Step, Setup, has_proc, Recorded, step_at, IsStepOf, tick_of, IsTimed, PhiHolds, number_below, passed, before, round_at, is_sent_in, count_by-more, is_sent_in-from_send, round_at-ended, StepsByPace, IsInRoundFrom, sends_to, EachEnds}
 use Rattle.step_buffers.specs.Runs.{IsRun, next_destination, sent_before}
-use Rattle.step_buffers.proofs.GrownNodes.{count_by-more}
-use Rattle.step_buffers.proofs.HeardSenders.{is_sent_in-from_send}
-use Rattle.deciding_runs.proofs.CountedRounds.{round_at-ended}
-use Rattle.patience_laws.specs.PacedRuns.{StepsByPace}
-use Rattle.patience_laws.specs.RoundTicks.{IsInRoundFrom, sends_to, EachEnds}
 use Rattle.patience_laws.proofs.PacedSteps.{rounds_after, step-cases}
 use Rattle.patience_laws.proofs.KnownRounds.{rounds-up}
 
@@ -60,8 +46,7 @@ module _ (steps : List Step) (p r : ℕ) where
   count-rise j (suc more) =
       let e : j + suc more ≡ suc (j + more) = omega arith in
       let last = count_by-more (λ s. is_sent_in steps p r s) (j + more) in
-      let first = count-rise j more in
-      rw e (omega arith)
+      rw e (omega (arith, count-rise j more))
 
   pub sent_before-up : (j k : ℕ) → j ≤ k → sent_before steps p r j ≤ sent_before steps p r k
   unfolding count
@@ -115,9 +100,7 @@ module _ (trace : Recorded) (patience set g f p : ℕ) (run : IsRun trace.config
     -- a step between is in the round
     pub same-round : (j k : ℕ) (act : Act) → step_at trace.steps j ≡ Some (record { proc = p; act = act }) → x ≤ tick_of trace j → j ≤ k → round_at trace.steps p k ≡ round → round_at trace.steps p j ≡ round
     same-round j k act at from l here =
-        let low = there j (act, at) from in
-        let up = round_at-up trace.config patience trace.steps p j k l in
-        omega arith
+        omega (arith, round_at-up trace.config patience trace.steps p j k l, there j (act, at) from)
 
     -- p sends first, as long as it has something to send
     pub sends-first : (j k : ℕ) (act : Act) → step_at trace.steps j ≡ Some (record { proc = p; act = act }) → round_at trace.steps p j ≡ round

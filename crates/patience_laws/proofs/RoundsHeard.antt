@@ -3,23 +3,8 @@ use Rattle.std.proofs.Common.{ℕ, zero, suc, ◌≡◌, ◌+◌, ◌-◌, ◌*�
 use Rattle.std.specs.Prelude.{Contains}
 use Rattle.std.proofs.lemmas.Bool.{cases_lt}
 use Rattle.std.proofs.lemmas.Option.{none-some, same_Some}
-use Rattle.step_trace.specs.declared.steps.Act.{Act}
-use Rattle.step_trace.specs.declared.steps.Act.TheVariants.{Send, Receive}
-use Rattle.step_trace.specs.declared.steps.Step.{Step}
-use Rattle.step_trace.specs.Configurations.{IsProc}
-use Rattle.step_trace.specs.Steps.{act_ids, act_dest}
-use Rattle.step_trace.specs.Processors.{has_proc, IsWithin}
-use Rattle.step_trace.specs.Traces.{Recorded, step_at, IsReceiveOf}
-use Rattle.step_trace.specs.Ticks.{tick_of, IsTimed, IsTrace}
-use Rattle.step_trace.specs.Bounds.{DeltaHolds, PhiHolds}
-use Rattle.step_trace.proofs.TickOrder.{own_ticks_rise}
+use Rattle.patience_laws.proofs.Common.{Act, Send, Receive, Step, IsProc, act_ids, act_dest, has_proc, IsWithin, Recorded, step_at, IsReceiveOf, tick_of, IsTimed, IsTrace, DeltaHolds, PhiHolds, own_ticks_rise, passed, before, IsRun, IsSend, node_before, may_hear, HasHeardOf, IsTakenAt, IsTakenBefore, StepsByPace, IsInRoundFrom, sends_to, EachEnds, HasHeardFrom, HearsMembers, may_hear_of}
 use Rattle.lock_phases.specs.Hearing.{number_of}
-use Rattle.step_buffers.specs.HeardTables.{passed, before}
-use Rattle.step_buffers.specs.Runs.{IsRun, IsSend, node_before}
-use Rattle.deciding_runs.specs.Audible.{may_hear}
-use Rattle.deciding_runs.specs.HeardOut.{HasHeardOf, IsTakenAt, IsTakenBefore}
-use Rattle.patience_laws.specs.PacedRuns.{StepsByPace}
-use Rattle.patience_laws.specs.RoundTicks.{IsInRoundFrom, sends_to, EachEnds, HasHeardFrom, HearsMembers, may_hear_of}
 use Rattle.patience_laws.proofs.PacedSteps.{rounds_after, round-here}
 use Rattle.patience_laws.proofs.RoundSends.{round-ends, round-grows}
 use Rattle.patience_laws.proofs.EndedReceives.{ends-behind, ends-complete}

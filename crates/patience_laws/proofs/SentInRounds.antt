@@ -4,17 +4,8 @@ use Rattle.std.specs.Prelude.{slice_get, count_by}
 use Rattle.std.specs.List.{range_with_len}
 use Rattle.std.proofs.lemmas.Bool.{cases_lt, true≢false}
 use Rattle.std.proofs.lemmas.Option.{same_Some}
-use Rattle.step_trace.specs.declared.steps.Act.{Act}
-use Rattle.step_trace.specs.declared.steps.Act.TheVariants.{Send, Receive}
-use Rattle.step_trace.specs.declared.steps.Step.{Step}
-use Rattle.step_trace.specs.Configurations.{Setup}
-use Rattle.step_trace.specs.Steps.{act_sends}
-use Rattle.step_trace.specs.Traces.{step_at}
-use Rattle.step_buffers.specs.HeardTables.{round_at, is_sent_in}
+use Rattle.patience_laws.proofs.Common.{Act, Send, Receive, Step, Setup, act_sends, step_at, round_at, is_sent_in, count_by-more, IsSentIn, IsSentIn-from_test, sends_to}
 use Rattle.step_buffers.specs.Runs.{IsDue, IsRun, IsSend, next_destination, sent_before}
-use Rattle.step_buffers.proofs.GrownNodes.{count_by-more}
-use Rattle.step_buffers.proofs.HeardSenders.{IsSentIn, IsSentIn-from_test}
-use Rattle.patience_laws.specs.RoundTicks.{sends_to}
 use Rattle.patience_laws.proofs.RoundSends.{next_destination-in}
 
 -- q sent a message to p in its round before step k

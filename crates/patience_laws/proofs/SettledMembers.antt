@@ -2,19 +2,7 @@
 use Rattle.std.proofs.Common.{ℕ, zero, suc, ◌≡◌, ◌+◌, ◌-◌, ◌<◌, ◌≤◌, inl, inr, Some, true, false, refl, ◌∙◌, arith}
 use Rattle.std.proofs.lemmas.Bool.{cases_lt}
 use Rattle.std.proofs.lemmas.Option.{none-some}
-use Rattle.step_trace.specs.declared.steps.Act.{Act}
-use Rattle.step_trace.specs.declared.steps.Act.TheVariants.{Send, Receive}
-use Rattle.step_trace.specs.Configurations.{IsProc}
-use Rattle.step_trace.specs.Processors.{has_proc}
-use Rattle.step_trace.specs.Traces.{Recorded, step_at, IsReceiveOf}
-use Rattle.step_trace.specs.Ticks.{tick_of}
-use Rattle.step_trace.proofs.TickOrder.{own_ticks_rise}
-use Rattle.lock_phases.specs.Rounds.{part_of}
-use Rattle.step_buffers.specs.HeardTables.{round_at}
-use Rattle.deciding_runs.specs.HeardOut.{HasHeardOf}
-use Rattle.patience_laws.specs.Silence.{Suspects, WasSilent}
-use Rattle.patience_laws.specs.LeastRounds.{KeepsBounds, AreInTouch, AreInRoundFrom}
-use Rattle.patience_laws.specs.Gatherings.{AreAlone}
+use Rattle.patience_laws.proofs.Common.{Act, Send, Receive, IsProc, has_proc, Recorded, step_at, IsReceiveOf, tick_of, own_ticks_rise, part_of, round_at, HasHeardOf, Suspects, WasSilent, KeepsBounds, AreInTouch, AreInRoundFrom, AreAlone}
 use Rattle.patience_laws.proofs.PacedSteps.{rounds_after, round-here, step-cases}
 use Rattle.patience_laws.proofs.KnownRounds.{rounds-step}
 use Rattle.patience_laws.proofs.RoundSends.{round-grows}
@@ -28,8 +16,7 @@ module _ (patience set : ℕ) (trace : Recorded) (g d f : ℕ) (keeps : KeepsBou
       let early = alone.quiet p q h.place mp is other (record { message = h.message; sent = h.sent; take = h.take }) in
       let sent = keeps.trace_is.time.later h.place h.message (record { proc = p; act = Receive h.take.ends h.take.ids }, h.take.step, h.take.taken) in
       let low = alone.early q h.message (Send p, h.sent) (omega arith) in
-      let later = h.later in
-      omega arith
+      omega (arith, h.later)
 
   -- who passed a phase since then suspects all others
   suspects : (p q r k : ℕ) → has_proc set p ≡ true → IsProc trace.config q → has_proc set q ≡ false → most < r → part_of r ≡ 1 → r + 4 ≤ rounds_after trace.steps p k + 1
@@ -50,8 +37,7 @@ module _ (patience set : ℕ) (trace : Recorded) (g d f : ℕ) (keeps : KeepsBou
         by = by;
         nothing = λ m from until t. (
             let early = alone.quiet p q m mp is other t in
-            let low = alone.early p m (Receive t.take.ends t.take.ids, t.take.step) early in
-            omega arith);
+            omega (arith, alone.early p m (Receive t.take.ends t.take.ids, t.take.step) early));
         behind = unheard-late p q (r + 3) (suc e.place) mp is other (omega arith);
       }
 
@@ -73,9 +59,8 @@ module _ (patience set : ℕ) (trace : Recorded) (g d f : ℕ) (keeps : KeepsBou
       silent p q mp is other zero receive by = absurd (none-some _ receive.step)
       silent p q mp is other (suc k) receive by =
           let low = there p mp (suc k) (Receive receive.ends receive.ids, receive.step) by in
-          let e = round-here trace.steps p k in
           let up = rounds-step trace.config patience trace.steps p k in
-          suspects p q r (suc k) mp is other late part (omega arith)
+          suspects p q r (suc k) mp is other late part (omega (arith, round-here trace.steps p k))
 
   -- rounds rise no faster than ticks
   grown : (p n k : ℕ) (act : Act) → n < k → step_at trace.steps k ≡ Some (record { proc = p; act = act }) → g ≤ tick_of trace k → rounds_after trace.steps p n + g ≤ most + tick_of trace k

@@ -4,17 +4,8 @@ use Rattle.std.specs.Prelude.{nat_lt}
 use Rattle.std.proofs.lemmas.Bool.{cases_lt, cases_eq, true≢false, eqb-true, eqb-false, and_parts, lt-ltb, ltb-true}
 use Rattle.std.proofs.lemmas.Option.{same_Some}
 use Rattle.std.proofs.lemmas.List.{get_or-replicate}
-use Rattle.step_trace.specs.declared.steps.Act.TheVariants.{Receive}
-use Rattle.step_trace.specs.declared.steps.Step.{Step}
-use Rattle.step_trace.specs.Configurations.{Setup, IsProc}
-use Rattle.step_trace.specs.Traces.{IsWellFormed, step_at}
-use Rattle.step_trace.proofs.StepPositions.{step_at_within}
-use Rattle.lock_phases.specs.Rounds.{part_of}
-use Rattle.step_buffers.specs.HeardTables.{round_at, act_ends}
-use Rattle.deciding_runs.specs.declared.peers.Peer.{Peer}
-use Rattle.deciding_runs.specs.Peers.{after_phase, unheard}
+use Rattle.patience_laws.proofs.Common.{Receive, Step, Setup, IsProc, IsWellFormed, step_at, step_at_within, part_of, round_at, act_ends, Peer, after_phase, unheard, Suspects, TakesOf, TakesNothingOf, WasSilent}
 use Rattle.patience_laws.specs.PacedRuns.{pace_after, peer_after}
-use Rattle.patience_laws.specs.Silence.{Suspects, TakesOf, TakesNothingOf, WasSilent}
 use Rattle.patience_laws.proofs.PacedSteps.{rounds_after, round-here}
 use Rattle.patience_laws.proofs.HeardPeers.{IsDeaf, IsListening, peer_received, IsStillOf, IsReceivedOf, peer-cases}
 use Rattle.patience_laws.proofs.KnownRounds.{rounds-up, noted, heard, heard-cases, heard-weaker}
@@ -123,8 +114,7 @@ module _ (c : Setup) (patience : ℕ) (steps : List Step) (p q : ℕ) (w : IsWel
         | inr part ↦ (
             let spoke : (peer_after c patience steps p q (suc k)).spoke ≡ false = ap (λ (y : Peer). y.spoke) (x.new ∙ part.2) in
             let ends : rounds_after steps p (suc k) ≡ rounds_after steps p k + 1 = x.round ∙ ap (λ b. rounds_after steps p k + cond b 1 0) part.0 in
-            let three = part.1 in
-            subst (IsSpoken (suc k)) (sym spoke) (λ m from by t. let up = round-up m k by in omega arith))
+            subst (IsSpoken (suc k)) (sym spoke) (λ m from by t. let up = round-up m k by in omega (arith, part.1)))
       ]
 
   -- what was silent is so with one step more
@@ -221,12 +211,10 @@ module _ (c : Setup) (patience : ℕ) (steps : List Step) (p q : ℕ) (w : IsWel
         | inr listening ↦ absurd (none listening.one)
       ]
       go before (inr l) (inl x) =
-          let by = s.by in
-          let e : s.place ≡ suc k = omega arith in
+          let e : s.place ≡ suc k = omega (arith, s.by) in
           absurd (x.no_receive true s.ids (subst (λ n. step_at steps n ≡ Some (record { proc = p; act = Receive true s.ids })) e s.step))
       go before (inr l) (inr x) =
-          let by = s.by in
-          let e : s.place ≡ suc k = omega arith in
+          let e : s.place ≡ suc k = omega (arith, s.by) in
           let stands : step_at steps (suc k) ≡ Some (record { proc = p; act = Receive true s.ids }) = subst (λ n. step_at steps n ≡ Some (record { proc = p; act = Receive true s.ids })) e s.step in
           let same : record { proc = p; act = Receive x.ends x.ids } ≡ record { proc = p; act = Receive true s.ids } = same_Some _ _ (sym x.step ∙ stands) in
           let ends : x.ends ≡ true = ap (λ (y : Step). act_ends y.act) same in

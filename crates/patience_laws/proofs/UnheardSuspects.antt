@@ -2,13 +2,7 @@
 use Rattle.std.proofs.Common.{ℕ, zero, suc, ◌≡◌, ◌≤◌, inl, inr, List, Some, true, arith}
 use Rattle.std.proofs.lemmas.Bool.{cases_lt}
 use Rattle.std.proofs.lemmas.Option.{none-some}
-use Rattle.step_trace.specs.declared.steps.Act.TheVariants.{Receive}
-use Rattle.step_trace.specs.declared.steps.Step.{Step}
-use Rattle.step_trace.specs.Configurations.{Setup, IsProc}
-use Rattle.step_trace.specs.Traces.{IsWellFormed, step_at}
-use Rattle.step_buffers.specs.HeardTables.{round_at}
-use Rattle.deciding_runs.specs.HeardOut.{HasHeardOf}
-use Rattle.patience_laws.specs.Silence.{Suspects, WasSilent}
+use Rattle.patience_laws.proofs.Common.{Receive, Step, Setup, IsProc, IsWellFormed, step_at, round_at, HasHeardOf, Suspects, WasSilent}
 use Rattle.patience_laws.proofs.PacedSteps.{rounds_after, round-here}
 use Rattle.patience_laws.proofs.KnownRounds.{rounds-up}
 use Rattle.patience_laws.proofs.SilentPhases.{suspected-silent}
@@ -30,7 +24,4 @@ suspect-unheard c patience steps p q n s w is late suspects h = go (suspected-si
         passed-by zero at here l = absurd (none-some _ at)
         passed-by (suc k) at here l =
             let after = rounds-ended c patience steps p k was.ids at in
-            let e = round-here steps p k in
-            let up = rounds-up c patience steps p (suc k) n l in
-            let later = h.later in
-            omega arith
+            omega (arith, h.later, rounds-up c patience steps p (suc k) n l, round-here steps p k)

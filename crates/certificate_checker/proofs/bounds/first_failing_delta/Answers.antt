@@ -1,10 +1,5 @@
 use Rattle.std.proofs.Common.{ℕ, ◌≡◌, ◌+◌, ◌-◌, ◌<◌, List, length, get_or, Option, subst, arith}
-use Rattle.step_trace.specs.declared.rows.Miss.{Miss}
-use Rattle.step_trace.specs.declared.rows.Row.{Row}
-use Rattle.step_trace.specs.Traces.{Recorded}
-use Rattle.certificate_checker.specs.declared.verdicts.Reason.TheVariants.{DeltaFails}
-use Rattle.certificate_checker.specs.Verdicts.{Stands}
-use Rattle.certificate_checker.specs.LongestWitnesses.{KnowsMissesAfter}
+use Rattle.certificate_checker.proofs.Common.{Miss, Row, Recorded, DeltaFails, Stands, KnowsMissesAfter}
 use Rattle.certificate_checker.proofs.RowSearches.{no_row, row_at_next}
 use Rattle.certificate_checker.proofs.LongerWitnesses.{HasSpan-of_miss}
 use Rattle.certificate_checker.proofs.FailingRows.{FoundAfter, found_here, found_passed, found_all, from_below, delta_row_low, delta_fails, delta_stands_none, delta_stands_short}
@@ -28,17 +23,13 @@ span-requires c = HasSpan-of_miss c.args.set c.args.trace.now c.in-Some.miss
 pub loop-k-preserved-then-rows-k : goal.loop-k-preserved-then-rows-k
 loop-k-preserved-then-rows-k c =
     let i = c.loop-k.k - 1 in
-    let some = c.loop-k-test.true in
-    let end = c.loop-k.invariant.end in
-    let inside : i < length c.args.rows.now = omega (arith, some, end) in
-    let before = c.misses_from-longest.ensures.high in
-    let high = c.loop-k.invariant.high in
+    let inside : i < length c.args.rows.now = omega (arith, c.loop-k-test.true, c.loop-k.invariant.end) in
     let long = c.if-rows-k.true in
     let span = c.span.ensures in
     let longest = subst (λ (o : Option Miss). KnowsMissesAfter c.args.set c.args.trace.now c.misses_from-longest.result.after o) c.in-Some.is c.misses_from-longest.ensures.known in
     record {
-      end = omega (arith, end);
-      high = omega (arith, before, high);
+      end = omega (arith, c.loop-k.invariant.end);
+      high = omega (arith, c.misses_from-longest.ensures.high, c.loop-k.invariant.high);
       known = c.misses_from-longest.ensures.known;
       above = from_below c.args.trace.now c.args.rows.now i c.misses_from-longest.result.after c.requires.order inside c.misses_from-longest.ensures.above;
       found = found_here (Fails c.args.set c.args.trace.now c.args.rows.now) i c.in-Some.miss
@@ -48,18 +39,14 @@ loop-k-preserved-then-rows-k c =
 pub loop-k-preserved-else-rows-k : goal.loop-k-preserved-else-rows-k
 loop-k-preserved-else-rows-k c =
     let i = c.loop-k.k - 1 in
-    let some = c.loop-k-test.true in
-    let end = c.loop-k.invariant.end in
-    let inside : i < length c.args.rows.now = omega (arith, some, end) in
-    let next : c.loop-k.k ≡ i + 1 = omega (arith, some) in
-    let before = c.misses_from-longest.ensures.high in
-    let high = c.loop-k.invariant.high in
+    let inside : i < length c.args.rows.now = omega (arith, c.loop-k-test.true, c.loop-k.invariant.end) in
+    let next : c.loop-k.k ≡ i + 1 = omega (arith, c.loop-k-test.true) in
     let short = c.if-rows-k.false in
     let span = c.span.ensures in
     let longest = subst (λ (o : Option Miss). KnowsMissesAfter c.args.set c.args.trace.now c.misses_from-longest.result.after o) c.in-Some.is c.misses_from-longest.ensures.known in
     record {
-      end = omega (arith, end);
-      high = omega (arith, before, high);
+      end = omega (arith, c.loop-k.invariant.end);
+      high = omega (arith, c.misses_from-longest.ensures.high, c.loop-k.invariant.high);
       known = c.misses_from-longest.ensures.known;
       above = from_below c.args.trace.now c.args.rows.now i c.misses_from-longest.result.after c.requires.order inside c.misses_from-longest.ensures.above;
       found = found_passed (Fails c.args.set c.args.trace.now c.args.rows.now) i c.loop-k.found
@@ -70,16 +57,12 @@ loop-k-preserved-else-rows-k c =
 pub loop-k-preserved : goal.loop-k-preserved
 loop-k-preserved c =
     let i = c.loop-k.k - 1 in
-    let some = c.loop-k-test.true in
-    let end = c.loop-k.invariant.end in
-    let inside : i < length c.args.rows.now = omega (arith, some, end) in
-    let next : c.loop-k.k ≡ i + 1 = omega (arith, some) in
-    let before = c.misses_from-longest.ensures.high in
-    let high = c.loop-k.invariant.high in
+    let inside : i < length c.args.rows.now = omega (arith, c.loop-k-test.true, c.loop-k.invariant.end) in
+    let next : c.loop-k.k ≡ i + 1 = omega (arith, c.loop-k-test.true) in
     let none = subst (λ (o : Option Miss). KnowsMissesAfter c.args.set c.args.trace.now c.misses_from-longest.result.after o) c.in_default.is c.misses_from-longest.ensures.known in
     record {
-      end = omega (arith, end);
-      high = omega (arith, before, high);
+      end = omega (arith, c.loop-k.invariant.end);
+      high = omega (arith, c.misses_from-longest.ensures.high, c.loop-k.invariant.high);
       known = c.misses_from-longest.ensures.known;
       above = from_below c.args.trace.now c.args.rows.now i c.misses_from-longest.result.after c.requires.order inside c.misses_from-longest.ensures.above;
       found = found_passed (Fails c.args.set c.args.trace.now c.args.rows.now) i c.loop-k.found
@@ -89,7 +72,6 @@ loop-k-preserved c =
 
 pub returns : goal.returns
 returns c =
-    let end = c.loop-k-test.false in
-    let zero_left : c.loop-k.k ≡ 0 = omega (arith, end) in
+    let zero_left : c.loop-k.k ≡ 0 = omega (arith, c.loop-k-test.false) in
     found_all (Fails c.args.set c.args.trace.now c.args.rows.now) c.loop-k.found (delta_row_low c.args.set c.args.trace.now c.args.rows.now)
     (subst (λ (k : ℕ). FoundAfter (Fails c.args.set c.args.trace.now c.args.rows.now) k c.loop-k.found) zero_left c.loop-k.invariant.found)

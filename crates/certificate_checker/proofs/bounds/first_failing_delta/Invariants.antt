@@ -1,9 +1,5 @@
 use Rattle.std.proofs.Common.{ℕ, ◌≡◌, ◌≤◌, length, Some}
-use Rattle.step_trace.specs.declared.rows.Row.{Row}
-use Rattle.certificate_checker.specs.declared.verdicts.Reason.TheVariants.{DeltaFails}
-use Rattle.certificate_checker.specs.Certificates.{row_at}
-use Rattle.certificate_checker.specs.Verdicts.{Stands}
-use Rattle.certificate_checker.specs.LongestWitnesses.{KnowsMissesAfter, AreFrom}
+use Rattle.certificate_checker.proofs.Common.{Row, DeltaFails, row_at, Stands, KnowsMissesAfter, AreFrom}
 use Rattle.certificate_checker.proofs.FailingRows.{FoundAfter}
 use Rattle.certificate_checker.proofs.bounds.first_failing_delta.Given as goal
 

@@ -1,7 +1,5 @@
 use Rattle.std.proofs.Common.{ℕ, ◌≡◌, ◌≤◌, length, Some}
-use Rattle.step_trace.specs.declared.rows.Row.{Row}
-use Rattle.certificate_checker.specs.Certificates.{row_at}
-use Rattle.certificate_checker.specs.LongestSilences.{IsLongestSilence, IsTooShort}
+use Rattle.certificate_checker.proofs.Common.{Row, row_at, IsLongestSilence, IsTooShort}
 use Rattle.certificate_checker.proofs.FailingRows.{FoundAfter}
 use Rattle.certificate_checker.proofs.bounds.first_too_short.Given as goal
 

@@ -1,8 +1,6 @@
 use Rattle.std.proofs.Common.{inl, inr, ◌≡◌, ◌+◌, ◌-◌, ap, arith}
 use Rattle.std.proofs.lemmas.Bool.{cases_eq}
-use Rattle.step_trace.specs.Ticks.{tick_of}
-use Rattle.step_trace.proofs.StepPositions.{step_at_within}
-use Rattle.step_trace.proofs.TickOrder.{ticks_rise}
+use Rattle.certificate_checker.proofs.Common.{tick_of, step_at_within, ticks_rise}
 use Rattle.certificate_checker.proofs.StepFacts.{step_there}
 use Rattle.certificate_checker.proofs.LongerWitnesses.{KnowsMissesAfter-earlier, span_of_last, span_of_longest}
 use Rattle.certificate_checker.proofs.bounds.misses_from.Goals as goal
@@ -36,31 +34,25 @@ longer_miss-miss-requires-clause-miss c = span_of_longest c.args.set c.args.trac
 pub loop-s-preserved : goal.loop-s-preserved
 loop-s-preserved c =
     let below = c.loop-s-test.true in
-    let high = c.loop-s.invariant.high in
     let late = c.if-tick-from.false in
-    let value = c.tick.ensures.value in
     record {
       low = omega (arith, below);
-      high = omega (arith, high);
+      high = omega (arith, c.loop-s.invariant.high);
       known = rw c.longer_miss-miss.ensures (KnowsMissesAfter-earlier c.args.set c.args.trace.now (c.loop-s.s - 1) c.last_miss.result c.loop-s.miss (omega (arith, below)) c.last_miss.ensures c.loop-s.invariant.known);
       above = λ k x e l. elim (cases_eq k (c.loop-s.s - 1)) [
-        | inl same ↦ (let at = ap (tick_of c.args.trace.now) same in omega (arith, at, late, value))
+        | inl same ↦ (let at = ap (tick_of c.args.trace.now) same in omega (arith, at, late, c.tick.ensures.value))
         | inr other ↦ c.loop-s.invariant.above k x e (omega (arith, other, l))
       ];
     }
 
 pub returns-clause-known : goal.returns-clause-known
 returns-clause-known c =
-    let low = c.loop-s.invariant.low in
-    let end = c.loop-s-test.false in
-    let e : c.loop-s.s - 1 ≡ 0 = omega (arith, low, end) in
+    let e : c.loop-s.s - 1 ≡ 0 = omega (arith, c.loop-s.invariant.low, c.loop-s-test.false) in
     rw e at c.loop-s.invariant.known
 
 pub returns-clause-above : goal.returns-clause-above
 returns-clause-above c =
-    let low = c.loop-s.invariant.low in
-    let end = c.loop-s-test.false in
-    let e : c.loop-s.s - 1 ≡ 0 = omega (arith, low, end) in
+    let e : c.loop-s.s - 1 ≡ 0 = omega (arith, c.loop-s.invariant.low, c.loop-s-test.false) in
     rw e at c.loop-s.invariant.above
 
 pub returns-clause-below : goal.returns-clause-below

@@ -1,8 +1,6 @@
 use Rattle.std.proofs.Common.{List, IfOk, length, ◌<◌, ◌≤◌, sym, subst, ◌∙◌}
 use Rattle.std.specs.Prelude.{OnErr}
-use Rattle.step_trace.specs.declared.rows.Row.{Row}
-use Rattle.certificate_checker.specs.declared.verdicts.Reason.{Reason}
-use Rattle.certificate_checker.specs.Verdicts.{IsVerdict, Stands, place_of}
+use Rattle.certificate_checker.proofs.Common.{Row, Reason, IsVerdict, Stands, place_of}
 use Rattle.certificate_checker.proofs.ClaimVerdicts.{claimed-in_order, claimed-beyond, claimed-refuted}
 use Rattle.certificate_checker.proofs.claims.check_claimed.Goals as goal
 

@@ -1,6 +1,5 @@
 use Rattle.std.proofs.Common.{◌≤◌, IsTrue, ◌∙◌, sym, ap, arith}
-use Rattle.step_trace.specs.Configurations.{Setup}
-use Rattle.step_trace.specs.Processors.{has_proc}
+use Rattle.certificate_checker.proofs.Common.{Setup, has_proc}
 use Rattle.certificate_checker.proofs.SilentGaps.{silence_of}
 use Rattle.certificate_checker.proofs.ClosedTicks.{KnowsEnds-member, KnowsEnds-other, AreClosings-carried}
 use Rattle.certificate_checker.proofs.closings.closings.Goals as goal
@@ -11,8 +10,7 @@ loop-p-preserved c =
     let t = c.args.trace.now in
     let p = c.loop-p.p in
     let n = c.n-p-end.ensures.value ∙ ap (λ (s : Setup). s.n) c.config.ensures in
-    let below = c.loop-p-test.true in
-    let within : p ≤ t.config.n = omega (arith, below, n) in
+    let within : p ≤ t.config.n = omega (arith, c.loop-p-test.true, n) in
     record {
       end = omega (arith, within);
       known = elim c.if-contains.branch [

@@ -1,6 +1,5 @@
 use Rattle.std.proofs.Common.{ℕ, get_or, Some, None, refl, arith}
-use Rattle.step_trace.specs.Traces.{Recorded}
-use Rattle.certificate_checker.specs.declared.verdicts.Reason.TheVariants.{FirstNotOne, NotRising, BeyondEnd, NotNonIncreasing, SameAsBefore}
+use Rattle.certificate_checker.proofs.Common.{Recorded, FirstNotOne, NotRising, BeyondEnd, NotNonIncreasing, SameAsBefore}
 use Rattle.certificate_checker.proofs.RowSearches.{no_row, row_at_next}
 use Rattle.certificate_checker.proofs.ReasonOrder.{first_after, some_rows, first_is_one, none_in, first_in}
 use Rattle.certificate_checker.proofs.first_reasons.order_reason.Goals as goal

@@ -1,6 +1,5 @@
 use Rattle.std.proofs.Common.{◌≤◌, IsTrue, ◌∙◌, sym, ap, arith}
-use Rattle.step_trace.specs.Configurations.{Setup}
-use Rattle.step_trace.specs.Processors.{has_proc}
+use Rattle.certificate_checker.proofs.Common.{Setup, has_proc}
 use Rattle.certificate_checker.proofs.SilentGaps.{silence_of, KnowsLongest-other, KnowsLongest-passed, KnowsLongest-taken}
 use Rattle.certificate_checker.proofs.gaps.longest_gap_at.Goals as goal
 use Rattle.certificate_checker.proofs.gaps.longest_gap_at.Goals.{then-contains+then-end-next, then-contains+else-end-next, else-contains}
@@ -9,8 +8,7 @@ pub loop-p-preserved : goal.loop-p-preserved
 loop-p-preserved c =
     let t = c.args.trace.now in
     let n = c.n-p-end.ensures.value ∙ ap (λ (s : Setup). s.n) c.config.ensures in
-    let below = c.loop-p-test.true in
-    let within : c.loop-p.p ≤ t.config.n = omega (arith, below, n) in
+    let within : c.loop-p.p ≤ t.config.n = omega (arith, c.loop-p-test.true, n) in
     elim c.if-contains.branch [
       | then-contains+then-end-next w ↦ (let member : IsTrue (has_proc c.args.set c.loop-p.p) = sym c.contains.ensures ∙ w.if-contains.true in
           let silence = silence_of c.args.set t c.args.silences.now c.loop-p.p w.index-silences-p.result c.requires.known member within w.index-silences-p.is in

@@ -1,7 +1,6 @@
 use Rattle.std.proofs.Common.{ℕ, ◌≡◌, ◌+◌, ◌≤◌, length, Some}
 use Rattle.std.specs.Prelude.{slice_get}
-use Rattle.certificate_checker.specs.declared.silences.Silence.{Silence}
-use Rattle.certificate_checker.specs.Silences.{KnowsSilence}
+use Rattle.certificate_checker.proofs.Common.{Silence, KnowsSilence}
 use Rattle.certificate_checker.proofs.silences.before_all.Given as goal
 
 -- this many silences were added

@@ -1,7 +1,5 @@
 use Rattle.std.proofs.Common.{ℕ, ◌≡◌, ◌+◌, ◌∙◌, List, get_or, sym, ap, subst}
-use Rattle.step_trace.specs.declared.rows.Row.{Row}
-use Rattle.step_trace.specs.Traces.{Recorded}
-use Rattle.certificate_checker.specs.Certificates.{after_stretch, ShowsPhi}
+use Rattle.certificate_checker.proofs.Common.{Row, Recorded, after_stretch, ShowsPhi}
 use Rattle.certificate_checker.proofs.RowSearches.{no_row, row_found, row_passed, row_none, row_first}
 use Rattle.certificate_checker.proofs.witnesses.first_bad_gap.Goals as goal
 use Rattle.certificate_checker.proofs.witnesses.first_bad_gap.Goals.{After-after_stretch-after}

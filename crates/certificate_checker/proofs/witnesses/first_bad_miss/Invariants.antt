@@ -1,6 +1,5 @@
 use Rattle.std.proofs.Common.{ℕ, ◌<◌}
-use Rattle.certificate_checker.specs.Certificates.{after_stretch, ShowsDelta}
-use Rattle.certificate_checker.specs.Verdicts.{HasRow}
+use Rattle.certificate_checker.proofs.Common.{after_stretch, ShowsDelta, HasRow}
 use Rattle.certificate_checker.proofs.witnesses.first_bad_miss.Given as goal
 
 -- no row up to number k is one

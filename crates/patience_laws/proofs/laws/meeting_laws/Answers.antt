@@ -1,7 +1,5 @@
 use Rattle.std.proofs.Common.{ℕ, ◌≡◌, ◌+◌, ◌*◌, sym, ◌∙◌, subst, arith}
-use Rattle.deciding_runs.specs.Together.{HasPassedBy}
-use Rattle.round_model.specs.BoundedDecision.{deciding_round}
-use Rattle.patience_laws.specs.RoundTicks.{IsInRoundFrom}
+use Rattle.patience_laws.proofs.Common.{HasPassedBy, deciding_round, IsInRoundFrom}
 use Rattle.patience_laws.proofs.FirstMeetings.{come-together}
 use Rattle.patience_laws.proofs.HeardRounds.{heard-all, phases-on, hear-out, passes-by, passed-by}
 use Rattle.patience_laws.proofs.laws.meeting_laws.Goals as goal
@@ -29,8 +27,7 @@ returns-clause-passed c patience set trace g d f round y x keeps come enough is 
 
 pub returns-clause-decided : goal.returns-clause-decided
 returns-clause-decided c patience set trace g d f round y setup keeps come enough long =
-    let e = deadline trace.config.n d f y in
     c.heard_out_laws.ensures.decided trace.config trace.steps set round setup keeps.run
     (hear-out patience set trace g d f keeps round y come enough (deciding_round trace.config round)
     (λ p m. passed-by patience set trace g d f keeps round y come enough p (deciding_round trace.config round) (y + (trace.config.n * f + d + f) + (trace.config.n + 1) * (4 * d + 2 * (trace.config.n * f) + 9 * f) + f)
-    (passes-by patience set trace g d f keeps round y come enough p m (omega arith))))
+    (passes-by patience set trace g d f keeps round y come enough p m (omega (arith, deadline trace.config.n d f y)))))

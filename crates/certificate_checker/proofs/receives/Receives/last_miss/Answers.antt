@@ -1,7 +1,5 @@
 use Rattle.std.proofs.Common.{ℕ, sym, subst, arith}
-use Rattle.step_trace.specs.Bounds.{IsMessage}
-use Rattle.step_trace.proofs.StepPositions.{step_at_within}
-use Rattle.certificate_checker.specs.Receives.{IsLastWaited}
+use Rattle.certificate_checker.proofs.Common.{IsMessage, step_at_within, IsLastWaited}
 use Rattle.certificate_checker.proofs.WaitedReceives.{IsLastWaited-from_known, last_waited_bound, HasNoMiss-from_waited, IsLastMiss-from_waited}
 use Rattle.certificate_checker.proofs.receives.Receives.last_miss.Goals as goal
 use Rattle.certificate_checker.proofs.receives.Receives.last_miss.Goals.{After-last_waited-missed, then-missed-eq0-via-then-missed-eq0, then-missed-eq0-via-else-missed-eq0+then-tick-start}
@@ -15,8 +13,7 @@ tick-start-requires-clause-high c = (step_at_within c.args.trace.now.steps c.arg
 pub last_waited-missed-requires-clause-sent : goal.last_waited-missed-requires-clause-sent
 last_waited-missed-requires-clause-sent c =
     let inside = step_at_within c.args.trace.now.steps c.args.sent _ c.in_ok-to.ensures.sent in
-    let long = c.requires.known.before_long in
-    omega (arith, inside, long)
+    omega (arith, inside, c.requires.known.before_long)
 
 -- the last Receive that the message waits through
 waited : (c : After-last_waited-missed) → IsLastWaited c.args.trace.now.steps c.args.sent c.in_ok-to.to c.last_waited-missed.result

@@ -8,11 +8,9 @@ loop-tick-preserved c =
     let s = c.args.self.now in
     let i = c.loop-tick.tick-index in
     let known = c.loop-tick.invariant in
-    let items = c.deref-tick-items.ensures.value in
-    let at = ap (λ (xs : List ℕ). get_or xs i 0) items in
-    let size = ap (λ (xs : List ℕ). length xs) items in
-    let below = c.loop-tick-test.true in
-    let inside : i < length s.ticks.items = omega (arith, below, size) in
+    let at = ap (λ (xs : List ℕ). get_or xs i 0) c.deref-tick-items.ensures.value in
+    let size = ap (λ (xs : List ℕ). length xs) c.deref-tick-items.ensures.value in
+    let inside : i < length s.ticks.items = omega (arith, c.loop-tick-test.true, size) in
     let tick = c.from-from.ensures in
     record {
       long = c.raise.ensures.long ∙ known.long;
@@ -22,9 +20,7 @@ loop-tick-preserved c =
 
 pub returns : goal.returns
 returns c = λ p own.
-    let known = c.loop-tick.invariant in
     let size = ap (λ (xs : List ℕ). length xs) c.deref-tick-items.ensures.value in
-    let all = c.loop-tick-test.false in
     PutsEnds-last c.args.trace.now p c.loop-tick.from c.args.self.now c.args.ends.now.items c.loop-tick.ends.items c.raise-2.new.ends.items own c.requires
-    (λ k below. known.before p own k (omega (arith, below, size, all)))
-    (known.puts p own) (rw c.last_tick.ensures.value at c.raise-2.ensures)
+    (λ k below. c.loop-tick.invariant.before p own k (omega (arith, below, size, c.loop-tick-test.false)))
+    (c.loop-tick.invariant.puts p own) (rw c.last_tick.ensures.value at c.raise-2.ensures)

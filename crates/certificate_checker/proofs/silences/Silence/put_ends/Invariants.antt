@@ -1,6 +1,5 @@
 use Rattle.std.proofs.Common.{ℕ, ◌≡◌, ◌+◌, length}
-use Rattle.certificate_checker.specs.Closings.{PutsEnds}
-use Rattle.certificate_checker.specs.Silences.{IsSilence}
+use Rattle.certificate_checker.proofs.Common.{PutsEnds, IsSilence}
 use Rattle.certificate_checker.proofs.ClosedTicks.{AreBefore}
 use Rattle.certificate_checker.proofs.silences.Silence.put_ends.Given as goal
 
