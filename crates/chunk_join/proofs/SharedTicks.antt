@@ -163,6 +163,13 @@ IsSummary-cut set t cut k s sound is at low h =
     subst (λ n. IsSummary set cut 0 n s) (sym at.last)
     (IsSummary-shared t cut k (back cut t k (ShareTicks-extended t cut k at.extends is.time at.after)) sound is low (omega (arith, at.last)) set s h)
 
+-- and so is the digest
+pub IsDigestUpTo-cut : (set : ℕ) (t cut : Recorded) (k : ℕ) (digest : Option Summary) → IsTrace t → IsTrace cut → IsCutAt t k cut → IsDigestUpTo set t k digest → IsDigestUpTo set cut cut.last digest
+IsDigestUpTo-cut set t cut k None sound is at h = λ w. h sound ∙ sym at.last
+IsDigestUpTo-cut set t cut k (Some d) sound is at h = λ w. (
+    let own = h sound in
+    (omega (arith, at.last, own.0), omega arith, (own.2.0, IsSummary-cut set t cut k own.2.0 sound is at own.1 own.2.1, own.2.2)))
+
 -- the digest of ticks before the one that was last
 pub IsDigestUpTo-extended : (set : ℕ) (t seen : Recorded) (k : ℕ) (digest : Option Summary) → IsTrace seen → Extends t seen → k ≤ seen.last - 1 → IsDigestUpTo set seen k digest → IsDigestUpTo set t k digest
 IsDigestUpTo-extended set t seen k None w e l h = λ sound. h w

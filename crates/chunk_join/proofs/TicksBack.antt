@@ -6,9 +6,9 @@ use Rattle.step_trace.specs.Traces.{Recorded}
 use Rattle.step_trace.specs.Ticks.{IsTrace}
 use Rattle.suffix_staircase.specs.declared.levels.Level.{Level}
 use Rattle.suffix_staircase.specs.Levels.{StandsBefore, CanStandBefore, repeated}
-use Rattle.suffix_staircase.specs.Analysis.{KnowsGaps, AreLevels}
+use Rattle.suffix_staircase.specs.Analysis.{KnowsGaps}
 use Rattle.suffix_staircase.proofs.GapBounds.{GapsLowered}
-use Rattle.suffix_staircase.proofs.LevelBounds.{StandsBefore-itself, CanStandBefore-through, IsLevelAt-from_known, AreLevelsFrom-before, AreLevelsFrom-after_all, AreLevels-from_first, KnowsGaps-after_all}
+use Rattle.suffix_staircase.proofs.LevelBounds.{StandsBefore-itself, CanStandBefore-through, IsLevelAt-from_known, AreLevelsFrom-before, AreLevelsFrom-after_all, KnowsGaps-after_all}
 use Rattle.chunk_join.specs.declared.summaries.Message.{Message}
 use Rattle.chunk_join.specs.Summaries.{Summary}
 use Rattle.chunk_join.specs.Sufficient.{Suffices}
@@ -124,7 +124,3 @@ IsGoneOver-repeated part k low m s level levels known quiet = down k low (omega 
   down (suc n) x above here =
       let next : x + suc n ≡ x + 1 + n = omega arith in
       IsGoneOver-quiet part x low m s level (replicate n level ++ level ∷ levels) above (down n (x + 1) (omega (arith, above)) (rw next at here)) quiet
-
--- From the first tick on they are the levels of the trace.
-pub AreLevels-gone_over : (part : Summary) (messages silences : ℕ) (level : Level) (levels : List Level) → IsGoneOver part 1 messages silences level levels → (set : ℕ) (t : Recorded) → IsTrace t → Suffices set t part → AreLevels set t levels
-AreLevels-gone_over part messages silences level levels known set t sound a = AreLevels-from_first set t levels (known.ticks.each set t sound a)

@@ -94,7 +94,7 @@ impl Joined for Digest {
 impl Digest {
     ghost use Rattle.std.specs.Prelude.{◌≡◌, ◌+◌, ◌-◌, ◌≤◌, ◌↔◌, ℕ, None, IfOk, IfErr, OnOk, OnErr};
     ghost use Rattle.step_trace.specs.Ticks.{IsTrace};
-    ghost use Rattle.suffix_staircase.specs.Analysis.{AreLevels};
+    ghost use Rattle.suffix_staircase.specs.Analysis.{AreLevels, AreLevelsFrom};
     ghost use Rattle.chunk_join.specs.declared.finishes.FinishError.TheVariants.{NotWhole};
     ghost use Rattle.chunk_join.specs.Summaries.{Whole};
     ghost use Rattle.chunk_join.specs.Digests.{IsDigestOf, KeepsUndominated};
@@ -156,11 +156,22 @@ impl Digest {
                 if part.from != 1 {
                     return Err(FinishError::NotWhole);
                 }
-                match stairs_of(alloc, part) {
+                match stairs_of(alloc, part, 1) {
                     Ok(stairs) => Ok(stairs),
                     Err(_) => Err(FinishError::Memory),
                 }
             }
+        }
+    }
+
+    /// The levels from tick `from` on, of a digest of the ticks of a whole trace.
+    pub(crate) fn last_stairs(&self, alloc: Global, from: u64) -> Result<Stairs, AllocError>
+        requires { 1 ≤ from }
+        ensures { IfOk result (λ stairs. (whole : Whole) → IsDigestOf whole 0 whole.trace.last self.now → from ≤ whole.trace.last + 1 → AreLevelsFrom whole.set whole.trace from stairs) }
+    {
+        match &self.part {
+            None => Ok(StairBuilder::new(alloc).build()),
+            Some(part) => stairs_of(alloc, part, from),
         }
     }
 }

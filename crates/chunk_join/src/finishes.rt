@@ -5,7 +5,7 @@ ghost use Rattle.step_trace.specs.declared.rows.Gap.{Gap};
 ghost use Rattle.step_trace.specs.declared.traces.TheConstants.{MAX_TICKS};
 ghost use Rattle.step_trace.specs.Ticks.{IsTrace};
 ghost use Rattle.step_trace.specs.Traces.{Recorded};
-ghost use Rattle.suffix_staircase.specs.Analysis.{AreLevels};
+ghost use Rattle.suffix_staircase.specs.Analysis.{AreLevels, AreLevelsFrom};
 ghost use Rattle.suffix_staircase.specs.Levels.{StandsBefore};
 ghost use Rattle.chunk_join.specs.declared.summaries.Message.{Message};
 ghost use Rattle.chunk_join.specs.declared.finishes.FinishError.TheVariants.{NotWhole};
@@ -48,7 +48,7 @@ impl Piece {
                 if part.from != 1 {
                     return Err(FinishError::NotWhole);
                 }
-                match stairs_of(alloc, part) {
+                match stairs_of(alloc, part, 1) {
                     Ok(stairs) => Ok(stairs),
                     Err(_) => Err(FinishError::Memory),
                 }
@@ -57,10 +57,11 @@ impl Piece {
     }
 }
 
-/// The stairs of a part that has what the levels of a whole trace need: its messages and its silences are scanned from
-/// the last ones back.
-pub(crate) fn stairs_of(alloc: Global, part: &Part) -> Result<Stairs, AllocError>
-    ensures { IfOk result (λ stairs. (set : ℕ) (trace : Recorded) → IsTrace trace → Suffices set trace part.now → AreLevels set trace stairs) }
+/// The levels from tick `from` on of a part that has what the levels of a whole trace need: its messages and its
+/// silences are scanned from the last ones back.
+pub(crate) fn stairs_of(alloc: Global, part: &Part, from: u64) -> Result<Stairs, AllocError>
+    requires { 1 ≤ from }
+    ensures { IfOk result (λ stairs. (set : ℕ) (trace : Recorded) → IsTrace trace → Suffices set trace part.now → from ≤ trace.last + 1 → AreLevelsFrom set trace from stairs) }
 {
     let mut builder = StairBuilder::new(alloc);
     let mut level = Level {
@@ -72,29 +73,31 @@ pub(crate) fn stairs_of(alloc: Global, part: &Part) -> Result<Stairs, AllocError
     let mut messages = part.sent.len();
     let mut silences = part.silent.len();
     let mut next = part.to + 1;
-    while next > 1 {
+    while next > from {
         let g = next - 1;
         messages = note_messages(&mut level, part, messages, g);
         silences = begun_by(&part.silent, silences, g);
         note_silence(&mut level, last_at(&part.silent, silences), g);
         builder.lower(level)?;
-        next = quiet_from(part, messages, silences, level.phi, g);
+        next = quiet_from(part, from, messages, silences, level.phi, g);
         builder.repeat(g - next);
     }
     Ok(builder.build())
 }
 
-/// The least tick such that, from there to tick `g`, no message or silence that is left changes the level of `g`, which
-/// has this processor bound.
-fn quiet_from(part: &Part, messages: usize, silences: usize, phi: u64, g: u64) -> u64
+/// The least tick, but not before `from`, such that from there to tick `g` no message or silence that is left changes
+/// the level of `g`, which has this processor bound.
+fn quiet_from(part: &Part, from: u64, messages: usize, silences: usize, phi: u64, g: u64) -> u64
+    requires from { from ≤ g }
     requires messages { messages ≤ length part.now.sent }
     requires silences { silences ≤ length part.now.silent }
     requires end { (w : Gap) → last_at part.now.silent silences ≡ Some w → w.to ≤ MAX_TICKS }
     requires here { IsQuietFrom part.now g messages silences phi }
     ensures quiet { IsQuietFrom part.now result messages silences phi }
+    ensures low { from ≤ result }
     ensures high { result ≤ g }
 {
-    let after = after_last(&part.sent, messages, g);
+    let after = after_last(&part.sent, messages, g).max(from);
     match last_at(&part.silent, silences) {
         Some(silence) => {
             let short = (silence.to + 2).saturating_sub(phi);

@@ -51,6 +51,19 @@ pub AllKept-refuted : (set : ℕ) (trace : Recorded) (rows : List Row) (decision
 AllKept-refuted set trace rows decisions due w late all =
     IsKept-refuted set trace decisions w.deadline w.proc late.due late.proc (subst (IsKept set trace decisions) (sym late.by) (all.each late.place w.row late.row))
 
+-- the row at place k is the first one, if a member hadn't decided by its deadline
+pub late_at : (set : ℕ) (run : Recorded) (rows : List Row) (decisions : List Decision) (due : Triple → ℕ) (k y p end : ℕ) → k < length rows → run.last ≡ end
+    → (y ≡ due (triple_of (get_or rows k no_row))) × (y ≤ end) → IsLeastUndecided set decisions y p → KeptBefore set run rows decisions due k
+    → IsFirstLate set run rows decisions due (record { row = get_or rows k no_row; deadline = y; proc = p })
+late_at set run rows decisions due k y p end inside ends of_row undecided before = record {
+  place = k;
+  row = slice_get-get_or rows k no_row inside;
+  by = of_row.0;
+  due = (let l = of_row.1 in omega (arith, l, ends));
+  proc = undecided;
+  before = before;
+}
+
 -- the rows before place k have their deadlines after the last tick
 pub record AreLaterBefore (trace : Recorded) (rows : List Row) (due : Triple → ℕ) (k : ℕ) : Type 0 where
   pub each : (j : ℕ) (r : Row) → j < k → slice_get rows j ≡ Some r → trace.last < due (triple_of r)

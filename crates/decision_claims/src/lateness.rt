@@ -3,6 +3,7 @@
 ghost use Rattle.std.specs.Prelude.{◌≡◌, ◌+◌, ◌*◌, ◌≤◌, ◌<◌, ◌↔◌, ℕ, length, max, min, IfSome, IfNone, IsNone, MatchOption};
 ghost use Rattle.std.specs.List.{count_by};
 ghost use Rattle.step_trace.specs.Fronts.{triple_of, IsReport};
+ghost use Rattle.step_trace.specs.Traces.{Recorded};
 ghost use Rattle.decision_claims.specs.Formulas.{deadline};
 ghost use Rattle.decision_claims.specs.Decisions.{HaveDecidedBy, IsFrom};
 ghost use Rattle.decision_claims.specs.Claims.{KeepsClaim, IsKept};
@@ -21,24 +22,27 @@ pub struct Late {
 }
 
 /// The first row that refutes the claim that each member decides by the deadline of a formula, in an instance of
-/// agreement that started in this tick; None if each row keeps it.
+/// agreement that started in this tick, if the run ends in tick `end`; None if each row keeps it. That is the last tick
+/// of the trace, or an earlier one.
 ///
 /// Takes time that grows with the rows and, for each member, with the decisions; no memory.
 pub fn first_late(
     trace: &Trace,
+    end: u64,
     set: ProcSet,
     rows: &[Row],
     decisions: &[Decision],
     start: u64,
     formula: &Formula,
 ) -> Option<Late>
-    ensures late { IfSome result (IsFirstLate set trace.now rows.now decisions.now (deadline trace.now.config start formula.now)) }
-    ensures kept { IfNone result (AllKept set trace.now rows.now decisions.now (deadline trace.now.config start formula.now)) }
-    ensures claim { IsReport set trace.now rows.now → IsNone result ↔ KeepsClaim set trace.now decisions.now (deadline trace.now.config start formula.now) }
+    requires { end ≤ trace.now.last }
+    ensures late { IfSome result (λ w. (run : Recorded) → run.last ≡ end → IsFirstLate set run rows.now decisions.now (deadline trace.now.config start formula.now) w) }
+    ensures kept { IfNone result ((run : Recorded) → run.last ≡ end → AllKept set run rows.now decisions.now (deadline trace.now.config start formula.now)) }
+    ensures claim { (run : Recorded) → run.last ≡ end → IsReport set run rows.now → IsNone result ↔ KeepsClaim set run decisions.now (deadline trace.now.config start formula.now) }
 {
     let latest = latest_decision(set, decisions);
     for k in 0..rows.len() {
-        if let Some(deadline) = due_deadline(trace, start, formula, rows[k]) {
+        if let Some(deadline) = due_by(trace, end, start, formula, rows[k]) {
             if let Some(proc) = undecided_at(set, decisions, latest, deadline) {
                 return Some(Late {
                     row: rows[k],
@@ -49,6 +53,21 @@ pub fn first_late(
         }
     }
     None
+}
+
+/// The deadline of a row, if it is no later than tick `end`.
+fn due_by(trace: &Trace, end: u64, start: u64, formula: &Formula, row: Row) -> Option<u64>
+    requires { end ≤ trace.now.last }
+    ensures { MatchOption result
+        (end < deadline trace.now.config start formula.now (triple_of row))
+        (λ y. (y ≡ deadline trace.now.config start formula.now (triple_of row)) × (y ≤ end)) }
+{
+    let deadline = due_deadline(trace, start, formula, row)?;
+    if deadline <= end {
+        Some(deadline)
+    } else {
+        None
+    }
 }
 
 /// The deadline of a row, if it is no later than the last tick.

@@ -17,7 +17,8 @@ use Rattle.decision_claims.specs.Decisions.{HaveDecidedBy}
 use Rattle.decision_claims.specs.LateRows.{IsFirstLate}
 use Rattle.decision_claims.proofs.FrontClaims.{front-below, KeepsClaim-rows}
 use Rattle.decision_claims.proofs.PrefixClaims.{has_cut, IsCutAt-twice, IsFeasible-cut}
-use Rattle.judged_runs.specs.LateInTime.{IsLateInTime, IsNextLook, KeepsBefore, begun_after}
+use Rattle.judged_runs.specs.LateInTime.{AreNoEarlier, AreNoneDue, AreOldLater, IsLateInTime, IsNextLook, KeepsBefore, begun_after}
+use Rattle.judged_runs.specs.LaterRows.{AreRowsAfter}
 
 -- what is kept before a tick is kept before each earlier one
 pub before_less : (set : ℕ) (trace : Recorded) (decisions : List Decision) (due : Triple → ℕ) (x y : ℕ) → y ≤ x → KeepsBefore set trace decisions due x → KeepsBefore set trace decisions due y
@@ -44,24 +45,32 @@ feasible_before set trace cut other x y t sound at timed there l begun feasible 
     let same = one_cut trace d.cut cut x d.sound.time sound.time (IsCutAt-twice trace other y timed.time there x d.cut d.sound.time l d.at) at in
     subst (λ (c : Recorded). IsFeasible set c t) same (IsFeasible-cut other d.cut x d.sound.time d.at set t begun feasible)
 
--- no row of a report has an earlier deadline, so no feasible triple has
-none_earlier : (set : ℕ) (cut : Recorded) (rows : List Row) (due : Triple → ℕ) (next : ℕ) (t : Triple) → IsMonotone due → IsReport set cut rows
-    → ((k : ℕ) (r : Row) → slice_get rows k ≡ Some r → next ≤ due (triple_of r)) → IsFeasible set cut t → due t < next → ⊥
-none_earlier set cut rows due next t monotone report none feasible early =
+-- no row of a report that begins by a tick has an earlier deadline, so no feasible triple has
+none_earlier : (set : ℕ) (cut : Recorded) (rows : List Row) (due : Triple → ℕ) (until next : ℕ) (t : Triple) → IsMonotone due → IsReport set cut rows
+    → ((k : ℕ) (r : Row) → slice_get rows k ≡ Some r → r.gst ≤ until → next ≤ due (triple_of r)) → IsFeasible set cut t → t.gst ≤ until → due t < next → ⊥
+none_earlier set cut rows due until next t monotone report none feasible begun early =
     front-below set cut (t.gst + t.delta + t.phi) t (omega arith) feasible (λ o on g d f.
     let m = Contains-from_map triple_of rows o (report.complete o on) in
     let c = m.1 in
-    let above = none c.0 m.0 (slice_get-get_or rows c.0 m.0 c.1 ∙ ap (λ (x : Row). Some x) c.2) in
+    let gst : (m.0).gst ≡ o.gst = ap (λ (x : Triple). x.gst) m.2 in
+    let above = none c.0 m.0 (slice_get-get_or rows c.0 m.0 c.1 ∙ ap (λ (x : Row). Some x) c.2) (omega (arith, gst, g, begun)) in
     let rises = monotone.rises o t g d f in
     let same : due (triple_of m.0) ≡ due o = ap due m.2 in
     omega (arith, above, rises, same, early))
 
 -- a prefix none of whose rows is due keeps the claim
-pub none_due : (set : ℕ) (cut : Recorded) (rows : List Row) (decisions : List Decision) (due : Triple → ℕ) (next : ℕ) → IsMonotone due → IsReport set cut rows → cut.last < next
-    → ((k : ℕ) (r : Row) → slice_get rows k ≡ Some r → next ≤ due (triple_of r)) → KeepsClaim set cut decisions due
-none_due set cut rows decisions due next monotone report beyond later =
+pub none_due : (set : ℕ) (cut : Recorded) (rows : List Row) (decisions : List Decision) (due : Triple → ℕ) (x next : ℕ) → IsMonotone due → IsReport set cut rows → cut.last ≡ x → x < next
+    → ((k : ℕ) (r : Row) → slice_get rows k ≡ Some r → r.gst ≤ x → next ≤ due (triple_of r)) → KeepsClaim set cut decisions due
+none_due set cut rows decisions due x next monotone report last beyond later =
     (KeepsClaim-rows set cut rows decisions due monotone report).1
-    (record { each = λ k r at. record { when_due = λ l. absurd (let m = later k r at in omega (arith, m, l, beyond)) } })
+    (record {
+      each = λ k r at. record {
+        when_due = λ l. absurd (
+            let inside = (report.sound r (Contains-slice_get rows k r at)).front.feasible.end in
+            let m = later k r at (omega (arith, inside, last)) in
+            omega (arith, m, l, last, beyond));
+      };
+    })
 
 -- So the search goes on at a tick before which each deadline is kept.
 pub before_jump : (set : ℕ) (trace cut : Recorded) (rows : List Row) (decisions : List Decision) (due : Triple → ℕ) (x next : ℕ) → IsMonotone due → IsTrace cut → IsCutAt trace x cut
@@ -78,9 +87,59 @@ before_jump set trace cut rows decisions due x next monotone sound at report kep
               let rises = monotone.rises (begun_after x) t (omega (arith, late)) delta phi in
               let least = look.of_others beyond in
               absurd (omega (arith, rises, least, l)))
-          | inr begun ↦ absurd (none_earlier set cut rows due next t monotone report (look.of_rows beyond)
-              (feasible_before set trace cut other x (due t) t sound at timed there (omega (arith, m)) begun feasible) l)
+          | inr begun ↦ absurd (none_earlier set cut rows due x next t monotone report (look.of_rows beyond)
+              (feasible_before set trace cut other x (due t) t sound at timed there (omega (arith, m)) begun feasible) begun l)
         ])
+  ];
+}
+
+-- the rows that begin by a tick set the least deadline of old bounds
+pub old_later : (set : ℕ) (trace cut : Recorded) (rows : List Row) (due : Triple → ℕ) (x next after y : ℕ) → IsMonotone due → IsTrace cut → IsCutAt trace x cut
+    → IsReport set cut rows → AreNoEarlier rows due after y → after ≤ x → x ≤ next → AreOldLater set trace due next after y
+old_later set trace cut rows due x next after y monotone sound at report none order later = record {
+  each = λ t z other l timed there feasible old. elim (cases_lt (due t) y) [
+    | inr m ↦ m
+    | inl early ↦ absurd (none_earlier set cut rows due after y t monotone report none.each
+        (feasible_before set trace cut other x z t sound at timed there (omega (arith, later, l)) (omega (arith, old, order)) feasible) old early)
+  ];
+}
+
+-- what is so at a tick is so at each later one
+pub old_still : (set : ℕ) (trace : Recorded) (due : Triple → ℕ) (x z after y : ℕ) → x ≤ z → AreOldLater set trace due x after y → AreOldLater set trace due z after y
+old_still set trace due x z after y l old = record { each = λ t w cut m. old.each t w cut (omega (arith, l, m)) }
+
+-- The rows of the last ticks, what begins later, and old bounds have no deadline before y.
+pub none_in_sight : (set : ℕ) (trace cut : Recorded) (rows : List Row) (due : Triple → ℕ) (x after old of_rows of_others y : ℕ) → IsMonotone due → IsTrace cut → IsCutAt trace x cut
+    → AreRowsAfter set cut after rows → AreNoEarlier rows due x of_rows → of_others ≤ due (begun_after x) → AreOldLater set trace due x after old
+    → y ≤ of_rows → y ≤ of_others → y ≤ old → AreNoneDue set trace due x y
+none_in_sight set trace cut rows due x after old of_rows of_others y monotone sound at last none others earlier a b c = record {
+  each = λ t other low high timed there feasible. elim (cases_lt after t.gst) [
+    | inr aged ↦ (let m = earlier.each t (due t) other low timed there feasible aged in omega (arith, m, c, high))
+    | inl young ↦ elim (cases_lt x t.gst) [
+      | inl late ↦ (
+          let delta = feasible.delta_positive in
+          let phi = feasible.phi_positive in
+          let rises = monotone.rises (begun_after x) t (omega (arith, late)) delta phi in
+          omega (arith, rises, others, b, high))
+      | inr begun ↦ (
+          let row = last.served t (feasible_before set trace cut other x (due t) t sound at timed there low begun feasible) young in
+          let rises = monotone.rises (triple_of row.row) t row.gst row.delta row.phi in
+          let gst = row.gst in
+          let m = none.each row.place row.row row.there (omega (arith, gst, begun)) in
+          omega (arith, rises, m, a, high))
+    ]
+  ];
+}
+
+pub none_at : (set : ℕ) (trace : Recorded) (due : Triple → ℕ) (x : ℕ) → AreNoneDue set trace due x x
+none_at set trace due x = record { each = λ t cut low high. absurd (omega (arith, low, high)) }
+
+-- so each deadline before y is kept
+pub before_sight : (set : ℕ) (trace : Recorded) (decisions : List Decision) (due : Triple → ℕ) (x y : ℕ) → AreNoneDue set trace due x y → KeepsBefore set trace decisions due x → KeepsBefore set trace decisions due y
+before_sight set trace decisions due x y none before = record {
+  each = λ t cut l sound at feasible. elim (cases_lt (due t) x) [
+    | inl m ↦ before.each t cut m sound at feasible
+    | inr m ↦ absurd (none.each t cut m l sound at feasible)
   ];
 }
 

@@ -15,7 +15,7 @@ use Rattle.decision_claims.specs.Formulas.{Terms, deadline}
 use Rattle.decision_claims.proofs.FrontClaims.{deadline-monotone}
 use Rattle.judged_runs.specs.LateInTime.{AreFalling}
 
-gst_below : (rows : List Row) (j k : ℕ) (a b : Row) → IsStrictlyIncreasing (map (λ r. r.gst) rows) → j < k → slice_get rows j ≡ Some a → slice_get rows k ≡ Some b → a.gst ≤ b.gst
+pub gst_below : (rows : List Row) (j k : ℕ) (a b : Row) → IsStrictlyIncreasing (map (λ r. r.gst) rows) → j < k → slice_get rows j ≡ Some a → slice_get rows k ≡ Some b → a.gst ≤ b.gst
 gst_below rows j k a b rising l p q =
     let rise = IsNonDecreasingBy-rising rows rising j k a (omega (arith, l)) (slice_get_within rows k b q) in
     rw (get_or_from_slice_get rows j a a p, get_or_from_slice_get rows k b a q) at rise

@@ -55,7 +55,7 @@ next_look_times config start terms product c x next rows times look =
     let same = λ (t : Triple). ap (λ v. max t.gst start + v) (times.each (words_of config t)) in
     record {
       later = look.later;
-      of_rows = λ l k r at. subst (λ y. next ≤ y) (same (triple_of r)) (look.of_rows l k r at);
+      of_rows = λ l k r at begun. subst (λ y. next ≤ y) (same (triple_of r)) (look.of_rows l k r at begun);
       of_others = λ l. subst (λ y. next ≤ y) (same (begun_after x)) (look.of_others l);
     }
 

@@ -2,7 +2,6 @@
 
 ghost use Rattle.std.specs.Prelude.{ℕ, ◌≡◌, ◌≤◌, ◌<◌, IfOk, OnErr, OnOk, Some, max};
 ghost use Rattle.step_trace.specs.Processors.{IsWithin};
-ghost use Rattle.step_trace.specs.Cuts.{IsCutAt};
 ghost use Rattle.decision_claims.specs.Claims.{KeepsClaim, KeepsClaimInTime, deadline_times};
 ghost use Rattle.decision_claims.specs.Decisions.{HaveDecidedBy, IsFrom};
 ghost use Rattle.judged_runs.specs.Factors.{IsMeasured};
@@ -11,7 +10,7 @@ ghost use Rattle.judged_runs.specs.LateInTime.{KeepsBefore};
 
 use crate::prefix_reports::report_until;
 use crate::prefixes::{next_look, undecided_until};
-use chunk_join::Analyst;
+use chunk_join::PrefixAnalyst;
 use decision_claims::{Decision, Formula, least_factor};
 use front::front;
 use std::alloc::{AllocError, Global};
@@ -61,7 +60,8 @@ fn least_factor_in_whole(
 {
     let stairs = Stairs::of_trace(alloc, trace, set)?;
     let report = front(alloc, &stairs)?;
-    Ok(least_factor(trace, set, report.rows(), decisions, start, formula))
+    let end = trace.last_tick();
+    Ok(least_factor(trace, end, set, report.rows(), decisions, start, formula))
 }
 
 /// The least factor c such that each member decides in time within c times a formula, in an instance of agreement that
@@ -81,23 +81,11 @@ pub fn least_factor_in_time(
     ensures more { OnErr result (¬ HaveDecidedBy set decisions.now 0) }
 {
     let end = undecided_until(set, decisions, trace.last_tick());
+    let mut analyst = PrefixAnalyst::new(trace, set);
     let mut factor = 0u64;
-    if end == 0 {
-        return Ok(Some(factor));
-    }
-    let mut analyst = Analyst::new(alloc, trace.config().copy(alloc)?, set);
     let mut x = 0u64;
     while x < end {
-        match measure_at(
-            alloc,
-            &mut analyst,
-            trace,
-            decisions,
-            start,
-            formula,
-            factor,
-            x,
-        )? {
+        match measure_at(alloc, &mut analyst, decisions, start, formula, factor, x)? {
             Some(
                 Measured {
                     factor: needed,
@@ -114,35 +102,25 @@ pub fn least_factor_in_time(
 }
 
 /// What the prefix that ends in this tick needs besides those before it, which need this factor. None if no factor is
-/// enough. The analyst goes on to it.
+/// enough.
 fn measure_at(
     alloc: Global,
-    analyst: &mut Analyst,
-    trace: &Trace,
+    analyst: &mut PrefixAnalyst<'_>,
     decisions: &[Decision],
     start: u64,
     formula: &Formula,
     factor: u64,
     x: u64,
 ) -> Result<Option<Measured>, AllocError>
-    requires seen { IsCutAt trace.now analyst.old.seen.last analyst.old.seen }
-    requires order { analyst.old.seen.last ≤ x }
-    requires inside { x ≤ trace.now.last }
-    requires before { IsFrom (λ c. KeepsBefore analyst.old.set trace.now decisions.now (deadline_times trace.now.config start formula.now c) x) (Some factor) }
-    ensures measured { IfOk result (IsMeasured analyst.old.set trace.now decisions.now (deadline_times trace.now.config start formula.now) x) }
-    ensures seen { OnOk result (IsCutAt trace.now x analyst.new.seen) }
-    ensures set { OnOk result (analyst.new.set ≡ analyst.old.set) }
+    requires inside { x ≤ analyst.old.seen.last }
+    requires before { IsFrom (λ c. KeepsBefore analyst.old.set analyst.old.seen decisions.now (deadline_times analyst.old.seen.config start formula.now c) x) (Some factor) }
+    ensures measured { IfOk result (IsMeasured analyst.old.set analyst.old.seen decisions.now (deadline_times analyst.old.seen.config start formula.now) x) }
+    ensures same { analyst.new ≡ analyst.old }
 {
-    let report = report_until(alloc, analyst, trace, x)?;
+    let report = report_until(alloc, analyst, x)?;
+    let trace = analyst.trace();
     let rows = report.rows();
-    match least_factor(
-        analyst.seen(),
-        analyst.set(),
-        rows,
-        decisions,
-        start,
-        formula,
-    ) {
+    match least_factor(trace, x, analyst.set(), rows, decisions, start, formula) {
         Some(own) => {
             let both = greater(own, factor);
             let times = formula.times(alloc, both)?;

@@ -116,7 +116,8 @@ fn late_by(
     ensures rows { IfOk result (λ found. IsNone found → AllKept set trace.now rows.now decisions.now (deadline trace.now.config demands.start formula.now)) }
 {
     if demands.whole {
-        Ok(first_late(trace, set, rows, decisions, demands.start, formula))
+        let end = trace.last_tick();
+        Ok(first_late(trace, end, set, rows, decisions, demands.start, formula))
     } else {
         first_late_in_time(alloc, trace, set, decisions, demands.start, formula)
     }

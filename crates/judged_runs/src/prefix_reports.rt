@@ -1,101 +1,78 @@
-//! Reports of a run's prefixes, each longer than the one before.
+//! Reports of a run's prefixes.
 
-ghost use Rattle.std.specs.Prelude.{ℕ, ◌≡◌, ◌≤◌, ◌<◌, ◌-◌, IfOk, OnOk, length};
-ghost use Rattle.step_trace.specs.Ticks.{IsTrace, tick_of};
-ghost use Rattle.step_trace.specs.Cuts.{IsCutAt, first_steps, front_to};
+ghost use Rattle.std.specs.Prelude.{◌≡◌, ◌≤◌, ◌<◌, ◌+◌, length, map, IfOk};
+ghost use Rattle.step_trace.specs.Ticks.{IsTrace};
+ghost use Rattle.step_trace.specs.Traces.{Recorded};
+ghost use Rattle.step_trace.specs.Cuts.{IsCutAt};
 ghost use Rattle.step_trace.specs.Fronts.{IsReport};
+ghost use Rattle.step_trace.specs.declared.traces.TheConstants.{MAX_TICKS};
+ghost use Rattle.suffix_staircase.specs.Levels.{rows_of};
+ghost use Rattle.judged_runs.specs.LaterRows.{AreRowsAfter, later_by};
 
-use chunk_join::Analyst;
+use chunk_join::PrefixAnalyst;
 use front::{Report, front};
 use std::alloc::{AllocError, Global};
-use step_trace::{Step, Trace};
+use step_trace::Row;
+use suffix_staircase::Stairs;
 
-/// The report of the prefix that ends in this tick, by an analyst that has followed the trace up to this tick or an
-/// earlier one.
+/// The report of the prefix that ends in this tick.
 ///
-/// Takes time that grows with the steps between these ticks, the rows, and what is under way. Fails only if out of
+/// Takes time that grows with the steps since the prefix before, the rows, and what is under way. Fails only if out of
 /// memory.
 pub(crate) fn report_until(
     alloc: Global,
-    analyst: &mut Analyst,
-    trace: &Trace,
+    analyst: &mut PrefixAnalyst<'_>,
     tick: u64,
 ) -> Result<Report, AllocError>
-    requires before { IsCutAt trace.now analyst.old.seen.last analyst.old.seen }
-    requires order { analyst.old.seen.last ≤ tick }
-    requires inside { tick ≤ trace.now.last }
-    ensures report { IfOk result (λ report. IsReport analyst.old.set analyst.new.seen report.rows) }
-    ensures cut { OnOk result (IsCutAt trace.now tick analyst.new.seen) }
-    ensures sound { OnOk result (IsTrace analyst.new.seen) }
-    ensures set { OnOk result (analyst.new.set ≡ analyst.old.set) }
+    requires { tick ≤ analyst.old.seen.last }
+    ensures report { IfOk result (λ report. (cut : Recorded) → IsTrace cut → IsCutAt analyst.old.seen tick cut → IsReport analyst.old.set cut report.rows) }
+    ensures same { analyst.new ≡ analyst.old }
+    ensures sound { IsTrace analyst.old.seen }
 {
-    follow_until(analyst, trace, tick)?;
-    let stairs = analyst.stairs(alloc)?;
+    let stairs = analyst.stairs_until(alloc, 1, tick)?;
     front(alloc, &stairs)
 }
 
-/// Follows the trace on to this tick.
-fn follow_until(analyst: &mut Analyst, trace: &Trace, tick: u64) -> Result<(), AllocError>
-    requires before { IsCutAt trace.now analyst.old.seen.last analyst.old.seen }
-    requires order { analyst.old.seen.last ≤ tick }
-    requires inside { tick ≤ trace.now.last }
-    ensures cut { OnOk result (IsCutAt trace.now tick analyst.new.seen) }
-    ensures sound { OnOk result (IsTrace analyst.new.seen) }
-    ensures set { OnOk result (analyst.new.set ≡ analyst.old.set) }
+/// The rows of the prefix that ends in this tick, from the tick after `after` on: the least bounds of each stretch of
+/// these ticks.
+///
+/// Takes time that grows with the steps since the prefix before, these ticks, and what is under way. Fails only if out
+/// of memory.
+pub(crate) fn rows_after(
+    alloc: Global,
+    analyst: &mut PrefixAnalyst<'_>,
+    after: u64,
+    tick: u64,
+) -> Result<Vec<Row>, AllocError>
+    requires order { after < tick }
+    requires inside { tick ≤ analyst.old.seen.last }
+    ensures rows { IfOk result (λ rows. (cut : Recorded) → IsTrace cut → IsCutAt analyst.old.seen tick cut → AreRowsAfter analyst.old.set cut after rows.items) }
+    ensures same { analyst.new ≡ analyst.old }
+    ensures sound { IsTrace analyst.old.seen }
 {
-    // (these say that both are traces)
-    let _seen = analyst.seen().last_tick();
-    let _whole = trace.last_tick();
-    let from = analyst.seen().len() as u64;
-    let to = steps_until(trace, from, tick);
-    for so_far in from..to {
-        push_next(analyst, trace, so_far + 1)?;
-    }
-    match analyst.idle_to(tick) {
-        Ok(()) => Ok(()),
-        Err(_) => unreachable!(),
-    }
+    let stairs = analyst.stairs_until(alloc, after + 1, tick)?;
+    later_rows(alloc, &stairs, after)
 }
 
-/// How many steps of a trace are in this tick or before it, if so many at least are.
-fn steps_until(trace: &Trace, from: u64, tick: u64) -> u64
-    requires few { from ≤ length trace.now.steps }
-    requires early { tick_of trace.now from ≤ tick }
-    ensures low { from ≤ result }
-    ensures inside { result ≤ length trace.now.steps }
-    ensures before { (k : ℕ) → from ≤ k → k ≤ result → tick_of trace.now k ≤ tick }
-    ensures after { (k : ℕ) → result < k → k ≤ length trace.now.steps → tick < tick_of trace.now k }
+/// The rows of stairs, so many ticks later.
+fn later_rows(alloc: Global, stairs: &Stairs, after: u64) -> Result<Vec<Row>, AllocError>
+    requires { length stairs.now + after ≤ MAX_TICKS }
+    ensures { IfOk result (λ rows. rows.items ≡ map (later_by after) (rows_of stairs.now)) }
 {
-    let end = trace.len() as u64;
-    for before in from..end {
-        if trace.tick(before + 1) > tick {
-            return before;
-        }
+    let mut rows = Vec::new(alloc);
+    while let Some(row) = stairs.row(rows.len()) {
+        rows.push(later_by(after, row))?;
     }
-    end
+    Ok(rows)
 }
 
-/// Pushes the step of this number of a trace, of which the analyst has seen the ones before.
-fn push_next(analyst: &mut Analyst, trace: &Trace, no: u64) -> Result<(), AllocError>
-    requires low { 1 ≤ no }
-    requires high { no ≤ length trace.now.steps }
-    requires before { analyst.old.seen ≡ front_to trace.now (no - 1) analyst.old.seen.last }
-    ensures seen { OnOk result (analyst.new.seen ≡ first_steps trace.now no) }
-    ensures set { OnOk result (analyst.new.set ≡ analyst.old.set) }
+/// A row, so many ticks later.
+fn later_by(after: u64, row: Row) -> Row
+    requires { row.gst + after ≤ MAX_TICKS }
+    ensures { result ≡ later_by after row }
 {
-    let Some(step) = trace.step(no) else {
-        unreachable!();
-    };
-    // (what a trace has next is refused for want of memory alone)
-    match analyst.push_at(trace.tick(no), copy_of(step)?) {
-        Ok(()) => Ok(()),
-        Err(_) => Err(AllocError),
+    Row {
+        gst: row.gst + after,
+        ..row
     }
-}
-
-/// A copy of a step.
-fn copy_of(step: &Step) -> Result<Step, AllocError>
-    ensures { IfOk result (λ copy. copy ≡ step.now) }
-{
-    step.clone()
 }

@@ -1,26 +1,42 @@
 //! The search for a deadline that wasn't kept in time, by the prefixes of a run.
 
 ghost use Rattle.std.specs.Prelude.{ℕ, ◌≡◌, ◌≤◌, ◌<◌, ◌+◌, ◌↔◌, IfOk, IfSome, IsNone, MatchOption, OnErr, OnOk, max, min};
-ghost use Rattle.step_trace.specs.Cuts.{IsCutAt};
 ghost use Rattle.step_trace.specs.Fronts.{triple_of};
 ghost use Rattle.step_trace.specs.declared.traces.TheConstants.{MAX_TICKS};
 ghost use Rattle.decision_claims.specs.Decisions.{HaveDecidedBy};
 ghost use Rattle.decision_claims.specs.Formulas.{deadline};
 ghost use Rattle.decision_claims.specs.Claims.{KeepsClaim, KeepsClaimInTime};
-ghost use Rattle.judged_runs.specs.LateInTime.{AreFalling, AreNoEarlier, IsLateInTime, IsLook, IsNextLook, KeepsBefore, begun_after};
+ghost use Rattle.judged_runs.specs.LateInTime.{AreFalling, AreNoEarlier, AreNoneDue, AreOldLater, IsAhead, IsLateInTime, IsLook, IsNextLook, KeepsBefore, begun_after};
 
-use crate::prefix_reports::report_until;
-use chunk_join::Analyst;
+use crate::prefix_reports::{report_until, rows_after};
+use chunk_join::PrefixAnalyst;
 use decision_claims::{Decision, Formula, Late, due_deadline, first_late, latest_decision};
 use std::alloc::{AllocError, Global};
 use step_trace::{ProcSet, Row, Trace};
+
+/// How many ticks of a prefix are its last ones, of which the bounds still rise from look to look.
+const LAST: u64 = 64;
+
+/// How many ticks may be looked at without the others.
+const MOST: u64 = 5 * LAST;
+
+/// Where a search goes on.
+#[derive(Clone, Copy)]
+struct Ahead {
+    /// The tick in which the next prefix ends. No prefix that ends before it refutes the claim.
+    tick: u64,
+    /// The bounds that hold from this tick or an earlier one on are old.
+    after: u64,
+    /// A tick that is no later than the deadline of any old bounds.
+    old: u64,
+}
 
 /// What a look at a prefix finds.
 enum Looked {
     /// A row of it refutes the claim.
     LateBy(Late),
-    /// None does, nor one of a longer prefix that ends before this tick.
-    GoOn(u64),
+    /// None does, nor one of a longer prefix that ends before the search goes on.
+    GoOn(Ahead),
 }
 
 /// The least deadline that wasn't kept in time. It is of the shortest prefix of the run that refutes the claim that
@@ -29,8 +45,8 @@ enum Looked {
 ///
 /// Finds the bounds of some of the prefixes that end before all members have decided. After one that ends in tick x, it
 /// goes on at the least deadline of its rows, or of bounds of 1 from the next tick on if that is less. No prefix
-/// between has a deadline that is due. One analyst follows the trace from prefix to prefix, so each takes time for its
-/// new steps and its rows. Memory may come only if there is such a prefix.
+/// between has a deadline that is due. Of most prefixes it finds the bounds of the last ticks alone, since those of
+/// earlier ticks are not due for long. Memory may come only if there is such a prefix.
 pub fn first_late_in_time(
     alloc: Global,
     trace: &Trace,
@@ -45,16 +61,17 @@ pub fn first_late_in_time(
     ensures more { OnErr result (¬ HaveDecidedBy set decisions.now 0) }
 {
     let end = undecided_until(set, decisions, trace.last_tick());
-    if end == 0 {
-        return Ok(None);
-    }
-    let mut analyst = Analyst::new(alloc, trace.config().copy(alloc)?, set);
-    let mut x = 0u64;
-    while x < end {
-        match look_at(alloc, &mut analyst, trace, decisions, start, formula, x)? {
+    let mut analyst = PrefixAnalyst::new(trace, set);
+    let mut ahead = Ahead {
+        tick: 0,
+        after: 0,
+        old: 0,
+    };
+    while ahead.tick < end {
+        match look_at(alloc, &mut analyst, decisions, start, formula, ahead)? {
             Looked::LateBy(late) => return Ok(Some(late)),
             Looked::GoOn(next) => {
-                x = next;
+                ahead = next;
             }
         }
     }
@@ -82,39 +99,83 @@ fn up_to_end(tick: Option<u64>, last: u64) -> u64
     }
 }
 
-/// Looks at the prefix that ends in this tick, if each deadline before it was kept. The analyst goes on to it.
+/// Looks at the prefix with which the search goes on: at its last ticks, and at all if that isn't enough.
 fn look_at(
     alloc: Global,
-    analyst: &mut Analyst,
-    trace: &Trace,
+    analyst: &mut PrefixAnalyst<'_>,
+    decisions: &[Decision],
+    start: u64,
+    formula: &Formula,
+    ahead: Ahead,
+) -> Result<Looked, AllocError>
+    requires inside { ahead.tick ≤ analyst.old.seen.last }
+    requires ahead { IsAhead analyst.old.set analyst.old.seen decisions.now (deadline analyst.old.seen.config start formula.now) ahead }
+    ensures look { IfOk result (IsLook analyst.old.set analyst.old.seen decisions.now (deadline analyst.old.seen.config start formula.now) ahead.tick) }
+    ensures same { analyst.new ≡ analyst.old }
+{
+    let tick = glance_at(alloc, analyst, start, formula, ahead)?;
+    if ahead.tick < tick {
+        return Ok(Looked::GoOn(Ahead { tick, ..ahead }));
+    }
+    look_at_all(alloc, analyst, decisions, start, formula, ahead.tick)
+}
+
+/// A tick before which no deadline is due from the next prefix on, by its last ticks. If they may say too little, it is
+/// the one in which that prefix ends.
+fn glance_at(
+    alloc: Global,
+    analyst: &mut PrefixAnalyst<'_>,
+    start: u64,
+    formula: &Formula,
+    ahead: Ahead,
+) -> Result<u64, AllocError>
+    requires inside { ahead.tick ≤ analyst.old.seen.last }
+    requires order { ahead.after ≤ ahead.tick }
+    requires old { AreOldLater analyst.old.set analyst.old.seen (deadline analyst.old.seen.config start formula.now) ahead.tick ahead.after ahead.old }
+    ensures none { IfOk result (AreNoneDue analyst.old.set analyst.old.seen (deadline analyst.old.seen.config start formula.now) ahead.tick) }
+    ensures same { analyst.new ≡ analyst.old }
+{
+    let x = ahead.tick;
+    if x <= ahead.after || MOST < x - ahead.after {
+        return Ok(x);
+    }
+    if ahead.old <= x {
+        return Ok(x);
+    }
+    let rows = rows_after(alloc, analyst, ahead.after, x)?;
+    let trace = analyst.trace();
+    let of_rows = before_deadlines(trace, start, formula, &rows, x);
+    let of_others = others_deadline(trace, start, formula, x);
+    Ok(lesser(lesser(of_rows, of_others), ahead.old))
+}
+
+/// Looks at the prefix that ends in this tick, if each deadline before it was kept.
+fn look_at_all(
+    alloc: Global,
+    analyst: &mut PrefixAnalyst<'_>,
     decisions: &[Decision],
     start: u64,
     formula: &Formula,
     x: u64,
 ) -> Result<Looked, AllocError>
-    requires seen { IsCutAt trace.now analyst.old.seen.last analyst.old.seen }
-    requires order { analyst.old.seen.last ≤ x }
-    requires inside { x ≤ trace.now.last }
-    requires before { KeepsBefore analyst.old.set trace.now decisions.now (deadline trace.now.config start formula.now) x }
-    ensures look { IfOk result (IsLook analyst.old.set trace.now decisions.now (deadline trace.now.config start formula.now) x) }
-    ensures seen { OnOk result (IsCutAt trace.now x analyst.new.seen) }
-    ensures set { OnOk result (analyst.new.set ≡ analyst.old.set) }
+    requires inside { x ≤ analyst.old.seen.last }
+    requires before { KeepsBefore analyst.old.set analyst.old.seen decisions.now (deadline analyst.old.seen.config start formula.now) x }
+    ensures look { IfOk result (IsLook analyst.old.set analyst.old.seen decisions.now (deadline analyst.old.seen.config start formula.now) x) }
+    ensures same { analyst.new ≡ analyst.old }
 {
-    let report = report_until(alloc, analyst, trace, x)?;
+    let report = report_until(alloc, analyst, x)?;
+    let trace = analyst.trace();
+    let set = analyst.set();
     let rows = report.rows();
-    let next = next_look(trace, start, formula, rows, x);
-    if x + 1 < next {
+    let tick = next_look(trace, start, formula, rows, x);
+    let after = x.saturating_sub(LAST);
+    let old = before_deadlines(trace, start, formula, rows, after);
+    let next = Ahead { tick, after, old };
+    if x + 1 < tick {
         // No deadline is due yet.
         return Ok(Looked::GoOn(next));
     }
-    match first_late(
-        analyst.seen(),
-        analyst.set(),
-        rows,
-        decisions,
-        start,
-        formula,
-    ) {
+    match first_late(trace, x, set, rows, decisions, start, formula) {
         Some(late) => Ok(Looked::LateBy(late)),
         None => Ok(Looked::GoOn(next)),
     }
@@ -126,11 +187,21 @@ pub(crate) fn next_look(trace: &Trace, start: u64, formula: &Formula, rows: &[Ro
     requires falling { AreFalling rows.now }
     ensures { IsNextLook rows.now (deadline trace.now.config start formula.now) x result }
 {
-    let last = trace.last_tick();
-    let of_rows = before_deadlines(trace, start, formula, rows);
-    let of_others = up_to_end(due_deadline(trace, start, formula, begun_after(x)), last);
+    let of_rows = before_deadlines(trace, start, formula, rows, x);
+    let of_others = others_deadline(trace, start, formula, x);
     let next = lesser(of_rows, of_others);
     if next <= x { x + 1 } else { next }
+}
+
+/// A tick that is no later than the deadline of any bounds that hold from a tick after x on, nor than the one after the
+/// last tick.
+fn others_deadline(trace: &Trace, start: u64, formula: &Formula, x: u64) -> u64
+    requires { x ≤ trace.now.last }
+    ensures early { result ≤ deadline trace.now.config start formula.now (begun_after x) }
+    ensures limit { x ≤ MAX_TICKS }
+{
+    let last = trace.last_tick();
+    up_to_end(due_deadline(trace, start, formula, begun_after(x)), last)
 }
 
 /// What the rows from one on say of their deadlines.
@@ -142,32 +213,43 @@ struct Nearest {
     time: u64,
 }
 
-/// A tick that is no later than the deadline of any of these rows, nor than the one after the last tick.
+/// A tick that is no later than the deadline of any of these rows that begins by tick `until`, nor than the one after
+/// the last tick.
 ///
 /// Bounds fall from row to row, so an earlier row has a time that is no shorter. It is asked for its deadline only if
 /// that may be the least.
-fn before_deadlines(trace: &Trace, start: u64, formula: &Formula, rows: &[Row]) -> u64
+fn before_deadlines(trace: &Trace, start: u64, formula: &Formula, rows: &[Row], until: u64) -> u64
     requires { AreFalling rows.now }
     ensures end { result ≤ trace.now.last + 1 }
-    ensures rows { AreNoEarlier rows.now (deadline trace.now.config start formula.now) result }
+    ensures rows { AreNoEarlier rows.now (deadline trace.now.config start formula.now) until result }
 {
     let mut nearest = Nearest {
         least: trace.last_tick() + 1,
         time: 0,
     };
     for k in (0..rows.len()).rev() {
-        nearest = nearer(trace, start, formula, &rows[k], nearest);
+        nearest = nearer(trace, start, formula, &rows[k], until, nearest);
     }
     nearest.least
 }
 
 /// The same with one row before, whose time is known to be at least that long.
-fn nearer(trace: &Trace, start: u64, formula: &Formula, row: &Row, nearest: Nearest) -> Nearest
+fn nearer(
+    trace: &Trace,
+    start: u64,
+    formula: &Formula,
+    row: &Row,
+    until: u64,
+    nearest: Nearest,
+) -> Nearest
     requires time { max row.now.gst start + nearest.time ≤ deadline trace.now.config start formula.now (triple_of row.now) }
     ensures least { result.least ≤ nearest.least }
-    ensures row { result.least ≤ deadline trace.now.config start formula.now (triple_of row.now) }
+    ensures row { row.now.gst ≤ until → result.least ≤ deadline trace.now.config start formula.now (triple_of row.now) }
     ensures time { max row.now.gst start + result.time ≤ deadline trace.now.config start formula.now (triple_of row.now) }
 {
+    if until < row.gst {
+        return nearest;
+    }
     let begin = begin_of(start, row.gst);
     if nearest.least <= begin.saturating_add(nearest.time) {
         return nearest;

@@ -5,7 +5,7 @@ use Rattle.step_trace.specs.declared.rows.Gap.{Gap}
 use Rattle.chunk_join.specs.Summaries.{Summary}
 use Rattle.chunk_join.specs.Finishes.{last_at, with_silence, IsGoneOver}
 use Rattle.chunk_join.proofs.MessagesBack.{last_at-Contains}
-use Rattle.chunk_join.proofs.TicksBack.{IsGoneOver-none, IsGoneOver-repeated, IsTickBack, IsTickBack-read, AreLevels-gone_over}
+use Rattle.chunk_join.proofs.TicksBack.{IsGoneOver-none, IsGoneOver-repeated, IsTickBack, IsTickBack-read}
 use Rattle.chunk_join.proofs.finishes.stairs_of.Goals as goal
 use Rattle.chunk_join.proofs.finishes.stairs_of.Goals.{After-note_silence}
 
@@ -17,6 +17,7 @@ loop-next-init c =
     let silences : c.len-silences.result ≡ length part.silent = search rules in
     record {
       low = omega arith;
+      from = λ l. omega (arith, l, end);
       known = rw (end, messages, silences, c.new-builder.ensures) (IsGoneOver-none part _ refl refl refl refl);
     }
 
@@ -74,11 +75,14 @@ loop-next-preserved c =
     let known = (back (goal.at.loop-next-preserved c).After-note_silence).known in
     record {
       low = quiet.start;
+      from = λ l. c.quiet_from-next.ensures.low;
       known = rw (c.repeat.ensures, c.in_ok-lower.ensures.ok)
           (IsGoneOver-repeated part (c.loop-next.next - 1 - c.quiet_from-next.result) c.quiet_from-next.result _ _ _ c.loop-next.builder (rw g known) quiet);
     }
 
 pub returns : goal.returns
-returns c = λ set t sound a.
-    (let first : c.loop-next.next ≡ 1 = omega (arith, c.loop-next.invariant.low, c.loop-next-test.false) in
-    rw c.build.ensures (AreLevels-gone_over c.args.part.now _ _ c.loop-next.level c.loop-next.builder (rw first at c.loop-next.invariant.known) set t sound a))
+returns c = λ set t sound a inside.
+    (let to = a.to in
+    let low = c.loop-next.invariant.from (omega (arith, inside, to)) in
+    let first : c.loop-next.next ≡ c.args.from = omega (arith, low, c.loop-next-test.false) in
+    rw c.build.ensures ((rw first at c.loop-next.invariant.known).ticks.each set t sound a))

@@ -1,6 +1,5 @@
-use Rattle.std.proofs.Common.{arith, ◌∙◌}
+use Rattle.std.proofs.Common.{ap, arith}
 use Rattle.decision_claims.specs.Claims.{deadline_times}
-use Rattle.judged_runs.proofs.PrefixFronts.{opening_cut}
 use Rattle.judged_runs.proofs.MeasuredFactors.{factor_in_time}
 use Rattle.judged_runs.proofs.factors.least_factor_in_time.Goals as goal
 
@@ -12,12 +11,8 @@ returns-clause-factor c =
     (λ y l m. c.undecided_until-end.ensures.decided y (omega (arith, past, l)) (omega (arith, m, last))) c.loop-x.invariant.least
 
 pub loop-x-init : goal.loop-x-init
-loop-x-init c =
-    let config = c.in_ok-copy.ensures.copied ∙ c.config.ensures in
-    let opening = opening_cut c.args.trace.now c.args.set c.in_ok-copy.field-0 c.new-analyst.result c.last_tick.ensures.timed config c.new-analyst.ensures in
-    record {
-      least = λ y. ((λ kept. omega arith), (λ any. record { each = λ t cut l. absurd (omega (arith, l)) }));
-      seen = opening.0;
-      early = opening.1.0;
-      set = opening.1.1;
-    }
+loop-x-init c = record {
+  least = λ y. ((λ kept. omega arith), (λ any. record { each = λ t cut l. absurd (omega (arith, l)) }));
+  set = ap (λ a. a.set) c.new-analyst.ensures;
+  seen = ap (λ a. a.seen) c.new-analyst.ensures;
+}

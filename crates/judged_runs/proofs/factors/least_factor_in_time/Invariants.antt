@@ -1,18 +1,15 @@
-use Rattle.std.proofs.Common.{◌≡◌, ◌≤◌, ◌-◌, Some}
-use Rattle.step_trace.specs.Cuts.{IsCutAt}
+use Rattle.std.proofs.Common.{◌≡◌, ◌-◌, Some}
 use Rattle.decision_claims.specs.Claims.{deadline_times}
 use Rattle.decision_claims.specs.Decisions.{IsFrom}
 use Rattle.judged_runs.specs.LateInTime.{KeepsBefore}
 use Rattle.judged_runs.proofs.factors.least_factor_in_time.Given as goal
 
--- the least factor with which each deadline before tick x is kept; the analyst has seen an earlier prefix, or the one that
--- ends there
+-- the least factor with which each deadline before tick x is kept
 abbrev pub invariant-loop-x : goal.invariant-loop-x
 invariant-loop-x l = record {
   least : IsFrom (λ c. KeepsBefore l.fn.set l.trace l.decisions (deadline_times l.trace.config l.start l.formula c) l.x) (Some l.factor);
-  seen : IsCutAt l.trace l.analyst.seen.last l.analyst.seen;
-  early : l.analyst.seen.last ≤ l.x;
   set : l.analyst.set ≡ l.fn.set;
+  seen : l.analyst.seen ≡ l.trace;
 }
 
 abbrev pub decreases-loop-x : goal.decreases-loop-x
